@@ -19,3 +19,8 @@ unfoldable pub PutCause : {T : Type 0} → ℕ → ℕ → Result T PutFault →
 PutCause before after (Ok answer) = NeverFalls before after
 PutCause before after (Err Failed) = Rose before after
 PutCause before after (Err NoMemory) = NeverFalls before after
+
+-- all octets are put, or after a refusal a front of them
+unfoldable pub PutsAll : {T : Type 0} → Option (List ℕ) → List ℕ → Result T PutFault → Option (List ℕ) → Type 0
+PutsAll old octets (Ok answer) new = new ≡ appended old octets
+PutsAll old octets (Err fault) new = (count : ℕ) × (new ≡ appended old (take count octets))

@@ -1,5 +1,11 @@
 //! The answers and faults of the outside.
 
+ghost use Rattle.std.specs.Prelude.{◌≡◌};
+ghost use Rattle.wire_io.specs.declared.answers.FetchFault.TheVariants as fetch_fault;
+ghost use Rattle.wire_io.specs.declared.answers.PutFault.TheVariants as put_fault;
+ghost use Rattle.wire_io.specs.declared.answers.NextFault.TheVariants as next_fault;
+ghost use Rattle.wire_io.specs.declared.answers.ReadFault.TheVariants as read_fault;
+
 use std::alloc::AllocError;
 use thiserror::Error;
 
@@ -42,6 +48,24 @@ pub enum NextFault {
     NoMemory,
 }
 
+/// Why a file was not read whole.
+#[derive(Clone, Copy, Debug, PartialEq, Error)]
+pub enum ReadFault {
+    /// The shelf knows its files, and has none of this name.
+    #[error("no such file")]
+    Absent,
+    /// The shelf could not read; its count of faults rose.
+    #[error("the file could not be read")]
+    Failed,
+    /// The file has more octets than the limit; `line` is the line, counted from 1, of the first
+    /// octet past it.
+    #[error("the file is too long from line {line} on")]
+    TooLong { line: u64 },
+    /// There was no memory.
+    #[error("no memory")]
+    NoMemory,
+}
+
 /// An event that a link gives. Connections have numbers, each opened at most once.
 #[derive(Clone, Copy, Debug, PartialEq)]
 pub enum Heard {
@@ -70,4 +94,36 @@ pub enum Took {
     Gone,
     /// There was no memory, and it took none.
     NoMemory,
+}
+
+impl From<AllocError> for FetchFault {
+    ghost from_gives = { λ _ fault. fault ≡ fetch_fault.NoMemory };
+
+    fn from(_error: AllocError) -> FetchFault {
+        FetchFault::NoMemory
+    }
+}
+
+impl From<AllocError> for PutFault {
+    ghost from_gives = { λ _ fault. fault ≡ put_fault.NoMemory };
+
+    fn from(_error: AllocError) -> PutFault {
+        PutFault::NoMemory
+    }
+}
+
+impl From<AllocError> for NextFault {
+    ghost from_gives = { λ _ fault. fault ≡ next_fault.NoMemory };
+
+    fn from(_error: AllocError) -> NextFault {
+        NextFault::NoMemory
+    }
+}
+
+impl From<AllocError> for ReadFault {
+    ghost from_gives = { λ _ fault. fault ≡ read_fault.NoMemory };
+
+    fn from(_error: AllocError) -> ReadFault {
+        ReadFault::NoMemory
+    }
 }
