@@ -3,9 +3,11 @@
 #![tactic(auto)]
 
 mod answers;
+mod copying;
 mod event;
 mod journal;
 mod link;
+mod memory_shelf;
 mod memory_sink;
 mod reading;
 mod shelf;
@@ -16,6 +18,7 @@ pub use answers::{FetchFault, Heard, NextFault, NoMemory, PutFault, ReadFault, T
 pub use event::ScriptEvent;
 pub use journal::{Event, Item};
 pub use link::Link;
+pub use memory_shelf::MemShelf;
 pub use memory_sink::MemSink;
 pub use reading::read_all;
 pub use shelf::Shelf;
