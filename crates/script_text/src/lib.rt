@@ -1,0 +1,11 @@
+//! Script files: lines that open connections, send octets on them and end them.
+#![tactic(auto)]
+
+mod event;
+mod lines;
+mod reading;
+mod script;
+mod words;
+
+pub use event::{ScriptEvent, ScriptFault};
+pub use script::read_script;
