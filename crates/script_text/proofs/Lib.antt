@@ -1,3 +1,4 @@
 pub mod WordLemmas
 pub mod LinesLemmas
 pub mod ConnectionsLemmas
+pub mod ScriptLemmas
