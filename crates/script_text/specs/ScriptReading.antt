@@ -32,8 +32,12 @@ after_lines before number (line ∷ rest) = after_line before number line >>= λ
 unfoldable pub script_of : List ℕ → Result (List ScriptEvent) ℕ
 script_of text = after_lines [] 1 (lines text)
 
+-- the fault is that of reading; want of memory may come anywhere
+abbrev pub IsCause : ScriptFault → Result (List ScriptEvent) ℕ → Type 0
+IsCause (Bad line) read = read ≡ Err line
+IsCause NoMemory read = Unit {0}
+
 -- what a call answered is what reading gives, unless memory ran out
 abbrev pub Gives : Result (List ScriptEvent) ScriptFault → Result (List ScriptEvent) ℕ → Type 0
 Gives (Ok events) read = read ≡ Ok events
-Gives (Err (Bad line)) read = read ≡ Err line
-Gives (Err NoMemory) read = Unit {0}
+Gives (Err fault) read = IsCause fault read

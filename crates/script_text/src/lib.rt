@@ -2,10 +2,12 @@
 #![tactic(auto)]
 
 mod event;
+mod laws;
 mod lines;
 mod reading;
 mod script;
 mod words;
 
 pub use event::{ScriptEvent, ScriptFault};
+pub use laws::{lines_are_texts, scripts_are_read};
 pub use script::read_script;
