@@ -1,8 +1,7 @@
 -- Lemmas on the state of each connection after one more event.
-use Rattle.std.proofs.Common.{◌≡◌, ℕ, ◌==◌, ◌||◌, ◌&&◌, not, sym, ◌∙◌, ap, refl, arith, Bool, true, false, List, [], ◌∷◌, ◌++◌, Option, Some, None, if◌then◌else◌}
-use Rattle.std.specs.BTreeMap.{BTreeMap, get}
-use Rattle.std.specs.List.{filter_map, list_any, cons_option}
-use Rattle.std.specs.Ordering.{nat_cmp}
+use Rattle.std.proofs.Common.{◌≡◌, ℕ, ◌==◌, ◌||◌, not, sym, ◌∙◌, ap, refl, arith, Bool, true, false, List, [], ◌∷◌, ◌++◌, Option, Some, None, if◌then◌else◌}
+use Rattle.std.specs.BTreeMap.{BTreeMap}
+use Rattle.std.specs.List.{filter_map, cons_option}
 use Rattle.std.proofs.lemmas.Bool.Decides.{nat_tests}
 use Rattle.std.proofs.lemmas.Bool.{eqb-true, not-true, and_parts}
 use Rattle.std.proofs.lemmas.List.{append-nil}
@@ -113,6 +112,6 @@ ended-push events (Ended number) other may none closed =
 pub tracks_next : (connections after : BTreeMap ℕ Bool) (events : List ScriptEvent) (event : ScriptEvent) → Tracks connections events → may_follow events event ≡ true → Follows connections event after
     → Tracks after (events ++ event ∷ [])
 tracks_next connections after events event tracks may follows = record {
-      states = λ other. follows other ∙ ap (λ state. state_after event other state) (tracks.states other) ∙ state_of-push events event other may (tracks.ended other);
-      ended = λ other closed. ended-push events event other may (tracks.ended other) closed;
-    }
+  states = λ other. follows other ∙ ap (λ state. state_after event other state) (tracks.states other) ∙ state_of-push events event other may (tracks.ended other);
+  ended = λ other closed. ended-push events event other may (tracks.ended other) closed;
+}

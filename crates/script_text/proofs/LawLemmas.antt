@@ -1,11 +1,13 @@
 -- Lemmas on the laws of scripts: each text has one outcome.
-use Rattle.std.proofs.Common.{◌≡◌, ℕ, ◌+◌, ◌<◌, ◌≤◌, sym, ◌∙◌, ap, subst, refl, arith, Bool, true, false, List, [], ◌∷◌, ◌++◌, length, take, drop, Result, Ok, Err, inl, inr}
+use Rattle.std.proofs.Common.{◌≡◌, ℕ, ◌<◌, ◌≤◌, sym, ◌∙◌, ap, subst, arith, true, List, [], length, take, drop, Result, Ok, Err, inl, inr}
 use Rattle.std.specs.Str.Lines.{lines}
 use Rattle.std.proofs.lemmas.Bool.{cases_order}
 use Rattle.std.proofs.lemmas.List.{take-append-drop, length-take-le}
 use Rattle.script_text.specs.declared.event.ScriptEvent.{ScriptEvent}
+use Rattle.script_text.specs.declared.event.ScriptFault.{ScriptFault}
+use Rattle.script_text.specs.declared.event.ScriptFault.TheVariants.{Bad}
 use Rattle.script_text.specs.Script.{is_good_at, AreGood, events_of, IsScript, IsFirstBadLine}
-use Rattle.script_text.specs.ScriptReading.{script_of}
+use Rattle.script_text.specs.ScriptReading.{IsCause, script_of}
 use Rattle.script_text.proofs.OutcomeLemmas.{IsFirstBad, Outcome, is_good_at-append, decided}
 
 -- no line is in front of the first
@@ -56,7 +58,7 @@ bad_read lines (Err found) number outcome first = ap Err (one_first lines found 
 pub script_of-ok : (text : List ℕ) (events : List ScriptEvent) → script_of text ≡ Ok events → IsScript text events
 script_of-ok text events is =
     let outcome = subst (λ (read : Result (List ScriptEvent) ℕ). Outcome (lines text) read) is (outcome_of text) in
-    record { good = outcome.0; given = outcome.1; }
+    record { good = outcome.0; given = outcome.1 }
 
 -- a script is read
 pub IsScript-read : (text : List ℕ) (events : List ScriptEvent) → IsScript text events → script_of text ≡ Ok events
@@ -66,10 +68,17 @@ IsScript-read text events is = good_read (lines text) (script_of text) (outcome_
 pub script_of-err : (text : List ℕ) (number : ℕ) → script_of text ≡ Err number → IsFirstBadLine text number
 script_of-err text number is =
     let first = subst (λ (read : Result (List ScriptEvent) ℕ). Outcome (lines text) read) is (outcome_of text) in
-    record { index = first.index; counted = first.counted; within = first.within; bad = first.bad; earlier = first.earlier; }
+    record { index = first.index; counted = first.counted; within = first.within; bad = first.bad; earlier = first.earlier }
 
 -- the first bad line is found
 pub IsFirstBadLine-read : (text : List ℕ) (number : ℕ) → IsFirstBadLine text number → script_of text ≡ Err number
 IsFirstBadLine-read text number is =
     bad_read (lines text) (script_of text) number (outcome_of text)
-      record { index = is.index; counted = is.counted; within = is.within; bad = is.bad; earlier = is.earlier; }
+    record { index = is.index; counted = is.counted; within = is.within; bad = is.bad; earlier = is.earlier }
+
+-- a fault that names a line names the first bad one
+pub bad_line : {R : Type 0} (text : List ℕ) (line : ℕ) (result : Result R ScriptFault) (found given : ScriptFault) → result ≡ Err found → found ≡ given → IsCause given (script_of text)
+    → result ≡ Err (Bad line) → IsFirstBadLine text line
+bad_line text line result found given answered same cause is =
+    let named : given ≡ Bad line = cc in
+    script_of-err text line (subst (λ (fault : ScriptFault). IsCause fault (script_of text)) named cause)

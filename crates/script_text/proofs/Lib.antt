@@ -1,8 +1,11 @@
-pub mod WordLemmas
-pub mod LinesLemmas
-pub mod ConnectionsLemmas
-pub mod ScriptLemmas
-pub mod LineLemmas
-pub mod TextLemmas
-pub mod OutcomeLemmas
-pub mod LawLemmas
+pub mod Theorems
+mod Examples
+mod WordLemmas
+mod LineLemmas
+mod TextLemmas
+mod LinesLemmas
+mod ConnectionsLemmas
+mod ScriptLemmas
+mod OutcomeLemmas
+mod LawLemmas
+mod OrderlyLemmas

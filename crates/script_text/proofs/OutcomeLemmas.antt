@@ -1,13 +1,13 @@
 -- Lemmas on the outcome of reading: good lines give their events, and the first bad line its number.
-use Rattle.std.proofs.Common.{◌≡◌, ℕ, ◌+◌, ◌<◌, ◌≤◌, ◌==◌, ◌||◌, sym, ◌∙◌, ap, subst, refl, arith, add-one, Bool, true, false, List, [], ◌∷◌, ◌++◌, length, take, drop, get_or, Option, Some, None, Result, Ok, Err, if◌then◌else◌, inl, inr}
-use Rattle.std.specs.List.{filter_map, cons_option}
-use Rattle.std.proofs.lemmas.Bool.{cases_Bool, cases_order, eqb-true, true≢false}
-use Rattle.std.proofs.lemmas.List.{append-nil, append_assoc, length-append, take_at, take_all, take-append-le, take-append-drop, length-take-le, get_or_at, get_or_append_left}
+use Rattle.std.proofs.Common.{◌≡◌, ℕ, ◌+◌, ◌<◌, ◌≤◌, ◌||◌, sym, ◌∙◌, ap, subst, refl, arith, true, false, List, [], ◌∷◌, ◌++◌, length, take, get_or, Option, Some, None, Result, Ok, Err, if◌then◌else◌, inl, inr}
+use Rattle.std.specs.List.{cons_option}
+use Rattle.std.proofs.lemmas.Bool.{cases_Bool, cases_order, eqb-true}
+use Rattle.std.proofs.lemmas.List.{append-nil, append_assoc, length-append, take_at, take-append-le, get_or_at, get_or_append_left}
 use Rattle.std.proofs.lemmas.List.Elements.{filter_map-append}
 use Rattle.script_text.specs.declared.event.ScriptEvent.{ScriptEvent}
 use Rattle.script_text.specs.LineText.{is_silent}
 use Rattle.script_text.specs.LineReading.{event_of}
-use Rattle.script_text.specs.Script.{may_follow, gives_next, is_good_line, events_of, is_good_at, AreGood}
+use Rattle.script_text.specs.Script.{gives_next, is_good_line, events_of, is_good_at, AreGood}
 use Rattle.script_text.specs.ScriptReading.{admitted, after_line, after_lines}
 use Rattle.script_text.proofs.ScriptLemmas.{after_lines-nil, after_lines-good, after_lines-bad}
 
@@ -95,16 +95,16 @@ decided front (line ∷ rest) good =
           let numbers : length front + 1 + 1 ≡ length (front ++ line ∷ []) + 1 = omega (arith, length-append front (line ∷ [])) in
           let read = after_lines-good (events_of front) (events_of (front ++ line ∷ [])) (length front + 1) line rest step ∙ ap (λ n. after_lines (events_of (front ++ line ∷ [])) n rest) numbers in
           subst (λ (r : Result (List ScriptEvent) ℕ). Outcome (front ++ line ∷ rest) r) (sym read)
-            (subst (λ (ls : List (List ℕ)). Outcome ls (after_lines (events_of (front ++ line ∷ [])) (length (front ++ line ∷ []) + 1) rest)) (append_assoc front (line ∷ []) rest)
-              (decided (front ++ line ∷ []) rest (AreGood-push front line good next)))
+          (subst (λ (ls : List (List ℕ)). Outcome ls (after_lines (events_of (front ++ line ∷ [])) (length (front ++ line ∷ []) + 1) rest)) (append_assoc front (line ∷ []) rest)
+          (decided (front ++ line ∷ []) rest (AreGood-push front line good next)))
       | inr bad ↦
           let read = after_lines-bad (events_of front) (length front + 1) (length front + 1) line rest (after_line-bad (events_of front) (length front + 1) line bad) in
           subst (λ (r : Result (List ScriptEvent) ℕ). Outcome (front ++ line ∷ rest) r) (sym read)
-            record {
-              index = length front;
-              counted = refl;
-              within = omega (arith, length-append front (line ∷ rest));
-              bad = is_good_at-seam front line rest ∙ bad;
-              earlier = subst AreGood (sym (take_at front (line ∷ rest) (length front) refl)) good;
-            }
+          record {
+            index = length front;
+            counted = refl;
+            within = omega (arith, length-append front (line ∷ rest));
+            bad = is_good_at-seam front line rest ∙ bad;
+            earlier = subst AreGood (sym (take_at front (line ∷ rest) (length front) refl)) good;
+          }
     ]

@@ -1,5 +1,5 @@
 -- Lemmas on the text of a line: the event that is read from it, and the text of an event.
-use Rattle.std.proofs.Common.{◌≡◌, ◌≢◌, ℕ, ◌+◌, ◌<◌, ◌≤◌, ◌==◌, sym, ◌∙◌, ap, subst, refl, arith, Bool, true, false, List, [], ◌∷◌, ◌++◌, length, take, drop, get_or, Option, Some, None, if◌then◌else◌, nat_eq, inl, inr}
+use Rattle.std.proofs.Common.{◌≡◌, ℕ, ◌+◌, ◌<◌, sym, ◌∙◌, ap, subst, refl, arith, true, false, List, [], ◌∷◌, ◌++◌, length, take, drop, get_or, Option, Some, None, nat_eq, inl, inr}
 use Rattle.std.specs.Prelude.{codes}
 use Rattle.std.specs.Char.{is_ascii_digit}
 use Rattle.std.specs.List.{AllPass, starts_with, position_or_len, before_first, after_first}
@@ -89,9 +89,9 @@ event_of-some line event is =
 first_space : (digits pairs : List ℕ) → AllPass is_ascii_digit digits → position_or_len is_space (digits ++ (32 ∷ pairs)) ≡ length digits
 first_space digits pairs all =
     position_or_len_is is_space (digits ++ (32 ∷ pairs)) (length digits) 0
-      (omega (arith, length-append digits (32 ∷ pairs)))
-      (λ k below. ap is_space (get_or_append_left digits (32 ∷ pairs) 0 k below) ∙ no_space (get_or digits k 0) (all k 0 below))
-      (λ _. ap is_space (get_or_at digits 32 pairs 0 (length digits) refl))
+    (omega (arith, length-append digits (32 ∷ pairs)))
+    (λ k below. ap is_space (get_or_append_left digits (32 ∷ pairs) 0 k below) ∙ no_space (get_or digits k 0) (all k 0 below))
+    (λ _. ap is_space (get_or_at digits 32 pairs 0 (length digits) refl))
   where
     no_space : (octet : ℕ) → is_ascii_digit octet ≡ true → is_space octet ≡ false
     no_space octet digit = ne_eqb octet 32 (λ same. absurd (omega (arith, is_ascii_digit-from octet digit)))
@@ -103,9 +103,9 @@ sent_by-text digits pairs octets number written read =
     let space = first_space digits pairs written.digits_alone in
     let before : before_first is_space (digits ++ (32 ∷ pairs)) ≡ digits = ap (λ n. take n (digits ++ (32 ∷ pairs))) space ∙ take_at digits (32 ∷ pairs) (length digits) refl in
     let after : after_first is_space (digits ++ (32 ∷ pairs)) ≡ pairs =
-          ap (λ n. drop (n + 1) (digits ++ (32 ∷ pairs))) space
-          ∙ sym (drop-drop 1 (length digits) (digits ++ (32 ∷ pairs)))
-          ∙ ap (λ xs. drop 1 xs) (drop_at digits (32 ∷ pairs) (length digits) refl) in
+    ap (λ n. drop (n + 1) (digits ++ (32 ∷ pairs))) space
+    ∙ sym (drop-drop 1 (length digits) (digits ++ (32 ∷ pairs)))
+    ∙ ap (λ xs. drop 1 xs) (drop_at digits (32 ∷ pairs) (length digits) refl) in
     ap (λ n. sent n (octets_of (after_first is_space (digits ++ (32 ∷ pairs))))) (ap number_of before ∙ IsNumber-read digits number written)
     ∙ ap (λ o. sent (Some number) o) (ap octets_of after ∙ IsHexadecimal-read pairs octets read)
 

@@ -1,5 +1,5 @@
 -- Scripts: the events that a text of lines gives, or the first line that breaks the grammar.
-use Rattle.std.specs.Prelude.{◌≡◌, ℕ, ◌+◌, ◌<◌, ◌==◌, ◌&&◌, ◌||◌, nat_eq, not, Bool, true, false, if◌then◌else◌, List, [], ◌∷◌, ◌++◌, length, take, slice_index_or, Option, Some, None, Result, Ok, Err}
+use Rattle.std.specs.Prelude.{◌≡◌, ℕ, ◌+◌, ◌<◌, ◌==◌, ◌&&◌, ◌||◌, nat_eq, not, Bool, true, false, List, [], length, take, slice_index_or, Option, Some, None}
 use Rattle.std.specs.List.{filter_map, list_any, IsDistinct, AllByRecursion}
 use Rattle.std.specs.Str.Lines.{lines}
 use Rattle.script_text.specs.declared.event.ScriptEvent.{ScriptEvent}

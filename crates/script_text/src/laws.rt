@@ -10,13 +10,11 @@ ghost use Rattle.script_text.specs.ScriptReading.{script_of};
 /// A line gives an event exactly where it is the text of the event.
 pub fn lines_are_texts()
     ensures exact { (line : List ℕ) (event : ScriptEvent) → (event_of line ≡ Some event) ↔ Spells line event }
-{
-}
+{}
 
 /// A text gives events exactly where it is a script of them, and the number of a line exactly where
 /// that is its first bad line.
 pub fn scripts_are_read()
     ensures ok { (text : List ℕ) (events : List ScriptEvent) → (script_of text ≡ Ok events) ↔ IsScript text events }
     ensures bad { (text : List ℕ) (number : ℕ) → (script_of text ≡ Err number) ↔ IsFirstBadLine text number }
-{
-}
+{}

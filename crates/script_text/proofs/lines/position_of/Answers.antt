@@ -1,4 +1,4 @@
-use Rattle.std.proofs.Common.{◌==◌, sym, arith, length, ◌≤◌, ◌<◌, eq-eqb}
+use Rattle.std.proofs.Common.{◌==◌, sym, arith, length, eq-eqb}
 use Rattle.std.proofs.lemmas.List.Sums.{position_or_len_is}
 use Rattle.script_text.proofs.lines.position_of.Goals as goal
 

@@ -1,4 +1,4 @@
-use Rattle.std.proofs.Common.{◌+◌, ◌-◌, ◌*◌, ◌<◌, ◌≤◌, ◌^◌, arith, get_or}
+use Rattle.std.proofs.Common.{◌≤◌, arith, get_or}
 use Rattle.script_text.proofs.WordLemmas.{is_ascii_digit-to, pow_ten-le, below_more_digits, value_more}
 use Rattle.script_text.proofs.words.value.Goals as goal
 

@@ -1,6 +1,5 @@
-use Rattle.std.proofs.Common.{◌≡◌, ◌∷◌, ◌++◌, [], ◌∙◌, ap}
+use Rattle.std.proofs.Common.{◌∙◌, ap}
 use Rattle.script_text.proofs.ConnectionsLemmas.{tracks_next}
-use Rattle.script_text.specs.Connections.{Tracks}
 use Rattle.script_text.specs.Script.{may_follow}
 use Rattle.script_text.proofs.reading.Reading.with.Goals as goal
 
