@@ -73,12 +73,13 @@ impl Shelf for MemShelf {
 }
 
 /// The octets of the first file of the name.
+#[tactic(auto, unfolding(crate::specs::Files::file_of))]
 fn find<'a>(files: &'a [(String, Vec<u8>)], name: &str) -> Option<&'a [u8]>
     ensures found { IfSome result (λ content. file_of name.now (files_view files.now) ≡ Some content.now) }
     ensures empty { IfNone result (file_of name.now (files_view files.now) ≡ None) }
 {
     for file in files {
-        if file.0.as_str() == name {
+        if name == file.0.as_str() {
             return Some(file.1.as_slice());
         }
     }
