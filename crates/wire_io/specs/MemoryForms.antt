@@ -24,9 +24,9 @@ pub record SinkState : Type 0 where
 -- the sink takes the piece whole, or fails exactly at a listed call
 unfoldable pub SinkWrites : SinkState → List ℕ → Result ℕ PutFault → SinkState → Type 0
 SinkWrites old octets (Ok count) new = (is_listed old.calls old.failing ≡ false) × (count ≡ length octets)
-  × (new ≡ record old { put = old.put ++ octets; calls = next_count old.calls })
+    × (new ≡ record old { put = old.put ++ octets; calls = next_count old.calls })
 SinkWrites old octets (Err Failed) new = (is_listed old.calls old.failing ≡ true)
-  × (new ≡ record old { calls = next_count old.calls; faults = next_count old.faults })
+    × (new ≡ record old { calls = next_count old.calls; faults = next_count old.faults })
 SinkWrites old octets (Err NoMemory) new = (is_listed old.calls old.failing ≡ false) × (new ≡ record old { calls = next_count old.calls })
 
 -- files as contracts see them, each a name and its octets
@@ -49,9 +49,9 @@ GivesAll (Some content) from room count = count ≡ min (length content - from) 
 -- the shelf reads, or lacks the file, or fails exactly at a listed call; it never wants memory
 unfoldable pub ShelfFetches : ShelfState → List ℕ → ℕ → ℕ → Result ℕ FetchFault → ShelfState → Type 0
 ShelfFetches old name from room (Ok count) new = (is_listed old.calls old.failing ≡ false) × GivesAll (file_of name old.files) from room count
-  × (new ≡ record old { calls = next_count old.calls })
+    × (new ≡ record old { calls = next_count old.calls })
 ShelfFetches old name from room (Err fetch.Absent) new = (is_listed old.calls old.failing ≡ false) × (file_of name old.files ≡ None)
-  × (new ≡ record old { calls = next_count old.calls })
+    × (new ≡ record old { calls = next_count old.calls })
 ShelfFetches old name from room (Err fetch.Failed) new = (is_listed old.calls old.failing ≡ true)
-  × (new ≡ record old { calls = next_count old.calls; faults = next_count old.faults })
+    × (new ≡ record old { calls = next_count old.calls; faults = next_count old.faults })
 ShelfFetches old name from room (Err fetch.NoMemory) new = ⊥

@@ -1,7 +1,7 @@
 -- The events of a script in pieces of one buffer's length, and how far events heard have come in it.
 use Rattle.std.specs.Prelude.{◌≡◌, ℕ, zero, suc, List, [], ◌∷◌, ◌++◌, map, take, drop, length}
-use Rattle.wire_io.specs.declared.event.ScriptEvent.{ScriptEvent}
-use Rattle.wire_io.specs.declared.event.ScriptEvent.TheVariants as script
+use Rattle.script_text.specs.declared.event.ScriptEvent.{ScriptEvent}
+use Rattle.script_text.specs.declared.event.ScriptEvent.TheVariants as script
 use Rattle.wire_io.specs.declared.journal.Event.{Event}
 use Rattle.wire_io.specs.declared.journal.Event.TheVariants.{Opened, Bytes, Ended, Ready, Idle, Stop}
 

@@ -1,6 +1,6 @@
 -- What a link that gives the events of a script has planned.
 use Rattle.std.specs.Prelude.{ℕ, List}
-use Rattle.wire_io.specs.declared.event.ScriptEvent.{ScriptEvent}
+use Rattle.script_text.specs.declared.event.ScriptEvent.{ScriptEvent}
 
 -- the events still to come, and the calls at which the link fails or takes nothing: `open` and `next`
 -- are numbered in one count from 0, `write` in another

@@ -3,8 +3,8 @@
 use Rattle.std.specs.Prelude.{◌≡◌, ℕ, Bool, false, List, [], ◌∷◌, take, drop, length, Option, Some, None, Result, Ok, Err, if◌then◌else◌}
 use Rattle.wire_io.specs.declared.answers.Heard.{Heard}
 use Rattle.wire_io.specs.declared.answers.NextFault.{NextFault}
-use Rattle.wire_io.specs.declared.event.ScriptEvent.{ScriptEvent}
-use Rattle.wire_io.specs.declared.event.ScriptEvent.TheVariants as script
+use Rattle.script_text.specs.declared.event.ScriptEvent.{ScriptEvent}
+use Rattle.script_text.specs.declared.event.ScriptEvent.TheVariants as script
 use Rattle.wire_io.specs.declared.journal.Event.{Event}
 use Rattle.wire_io.specs.declared.journal.Event.TheVariants.{Opened, Bytes, Ended, Ready, Stop}
 use Rattle.wire_io.specs.declared.journal.Item.{Item}

@@ -8,6 +8,8 @@ pub(crate) fn copy_front(octets: &[u8], buf: &mut [u8]) -> usize
     ensures exact { take result buf.new ≡ take result octets.now }
 {
     let count = octets.len().min(buf.len());
-    buf.split_at_mut(count).0.copy_from_slice(octets.split_at(count).0);
+    buf.split_at_mut(count)
+        .0
+        .copy_from_slice(octets.split_at(count).0);
     count
 }

@@ -65,10 +65,10 @@ impl Shelf for MemShelf {
             self.faults = raised(self.faults);
             return Err(FetchFault::Failed);
         }
-        match find(self.files.as_slice(), name) {
-            Some(content) => Ok(copy_from(content, from, buf)),
-            None => Err(FetchFault::Absent),
-        }
+        let Some(content) = find(self.files.as_slice(), name) else {
+            return Err(FetchFault::Absent);
+        };
+        Ok(copy_from(content, from, buf))
     }
 }
 

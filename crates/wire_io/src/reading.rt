@@ -10,7 +10,12 @@ const PIECE: usize = 65_536;
 
 #[tactic(auto, unfolding(crate::specs::ReadWhole::PieceGives, crate::specs::ReadWhole::PieceCause, crate::specs::ReadWhole::ReadCause))]
 /// Reads the file of the name, of at most `limit` octets.
-pub fn read_all<H: Shelf>(alloc: Global, shelf: &mut H, name: &str, limit: u64) -> Result<Vec<u8>, ReadFault>
+pub fn read_all<H: Shelf>(
+    alloc: Global,
+    shelf: &mut H,
+    name: &str,
+    limit: u64,
+) -> Result<Vec<u8>, ReadFault>
     ensures fits { IfOk result (λ content. vec_len content ≤ limit) }
     ensures ok { IfOk result (λ content. GivesFile (H.files shelf.old) name.now content.items) }
     // each refusal
