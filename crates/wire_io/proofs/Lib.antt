@@ -1,2 +1,4 @@
+mod JournalLemmas
 mod PuttingLemmas
 mod ReadLemmas
+mod RisingLemmas

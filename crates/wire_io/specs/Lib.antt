@@ -2,9 +2,11 @@ pub mod Answers
 pub mod Files
 pub mod Journal
 pub mod MemoryForms
+pub mod Peers
 pub mod Pieces
 pub mod Plan
 pub mod Playing
 pub mod Putting
 pub mod ReadWhole
+pub mod Rising
 pub mod Telling

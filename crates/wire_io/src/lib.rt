@@ -9,9 +9,12 @@ mod journal;
 mod link;
 mod memory_shelf;
 mod memory_sink;
+mod peers;
 mod reading;
+mod rising;
 mod shelf;
 mod sink;
+mod told;
 mod writing;
 
 pub use answers::{FetchFault, Heard, NextFault, NoMemory, PutFault, ReadFault, Took};
