@@ -10,9 +10,13 @@ or_assoc : (first second third : Bool) → (first || second) || third ≡ first 
 or_assoc true second third = refl
 or_assoc false second third = refl
 
-or-false : (test : Bool) → test || false ≡ test
+pub or-false : (test : Bool) → test || false ≡ test
 or-false true = refl
 or-false false = refl
+
+pub or-true : (test : Bool) → test || true ≡ true
+or-true true = refl
+or-true false = refl
 
 -- the octets taken with one more item
 pub taken_of-push : (conn : ℕ) (journal : List Item) (item : Item) → taken_of conn (journal ++ item ∷ []) ≡ taken_of conn journal ++ taken_at conn item
@@ -53,3 +57,39 @@ hold_after_all-push conn before (first ∷ journal) item = hold_after_all-push c
 pub is_held-push : (conn : ℕ) (journal : List Item) (item : Item) → is_held conn (journal ++ item ∷ []) ≡ hold_after conn (is_held conn journal) item
 unfolding is_held
 is_held-push conn journal item = hold_after_all-push conn false journal item
+
+-- the numbers opened, with one more item
+pub opened_by-opened : (journal : List Item) (conn : ℕ) → opened_by (journal ++ Heard (Opened conn) ∷ []) ≡ opened_by journal ++ conn ∷ []
+unfolding opened_by
+opened_by-opened [] conn = refl
+opened_by-opened (Heard (Opened number) ∷ journal) conn = ap (λ rest. number ∷ rest) (opened_by-opened journal conn)
+opened_by-opened (Heard (Bytes number octets) ∷ journal) conn = opened_by-opened journal conn
+opened_by-opened (Heard (Ended number) ∷ journal) conn = opened_by-opened journal conn
+opened_by-opened (Heard (Ready number) ∷ journal) conn = opened_by-opened journal conn
+opened_by-opened (Heard Idle ∷ journal) conn = opened_by-opened journal conn
+opened_by-opened (Heard Stop ∷ journal) conn = opened_by-opened journal conn
+opened_by-opened (OpenedAt address sessions done ∷ journal) conn = opened_by-opened journal conn
+opened_by-opened (Taken number octets ∷ journal) conn = opened_by-opened journal conn
+opened_by-opened (Later number ∷ journal) conn = opened_by-opened journal conn
+opened_by-opened (Gone number ∷ journal) conn = opened_by-opened journal conn
+opened_by-opened (Held number ∷ journal) conn = opened_by-opened journal conn
+opened_by-opened (Released number ∷ journal) conn = opened_by-opened journal conn
+opened_by-opened (HungUp number ∷ journal) conn = opened_by-opened journal conn
+
+-- the item opens no connection
+pub opened_by-other : (journal : List Item) (item : Item) → opened_by (item ∷ []) ≡ [] → opened_by (journal ++ item ∷ []) ≡ opened_by journal
+unfolding opened_by
+opened_by-other [] item none = none
+opened_by-other (Heard (Opened number) ∷ journal) item none = ap (λ rest. number ∷ rest) (opened_by-other journal item none)
+opened_by-other (Heard (Bytes number octets) ∷ journal) item none = opened_by-other journal item none
+opened_by-other (Heard (Ended number) ∷ journal) item none = opened_by-other journal item none
+opened_by-other (Heard (Ready number) ∷ journal) item none = opened_by-other journal item none
+opened_by-other (Heard Idle ∷ journal) item none = opened_by-other journal item none
+opened_by-other (Heard Stop ∷ journal) item none = opened_by-other journal item none
+opened_by-other (OpenedAt address sessions done ∷ journal) item none = opened_by-other journal item none
+opened_by-other (Taken number octets ∷ journal) item none = opened_by-other journal item none
+opened_by-other (Later number ∷ journal) item none = opened_by-other journal item none
+opened_by-other (Gone number ∷ journal) item none = opened_by-other journal item none
+opened_by-other (Held number ∷ journal) item none = opened_by-other journal item none
+opened_by-other (Released number ∷ journal) item none = opened_by-other journal item none
+opened_by-other (HungUp number ∷ journal) item none = opened_by-other journal item none

@@ -1,4 +1,7 @@
 mod JournalLemmas
+mod PeersLemmas
+mod PlayingLemmas
 mod PuttingLemmas
 mod ReadLemmas
 mod RisingLemmas
+mod TrackedLemmas

@@ -1,7 +1,8 @@
 -- What a journal says of one connection, and a map that keeps it for each.
-use Rattle.std.specs.Prelude.{◌≡◌, ℕ, ◌==◌, Bool, true, false, List, [], ◌∷◌, ◌++◌, if◌then◌else◌, Option, Some, None, Result, Ok, Err}
+use Rattle.std.specs.Prelude.{◌≡◌, ℕ, ◌==◌, Bool, true, false, List, [], ◌∷◌, ◌++◌, if◌then◌else◌, Option, Some, None}
 use Rattle.std.specs.Ordering.{nat_cmp}
 use Rattle.std.specs.BTreeMap.{BTreeMap, get}
+use Rattle.wire_io.specs.declared.journal.Event.TheVariants.{Opened}
 use Rattle.wire_io.specs.declared.journal.Item.{Item}
 use Rattle.wire_io.specs.declared.journal.Item.TheVariants.{Heard, OpenedAt, Taken, Later, Gone, Held, Released, HungUp}
 use Rattle.wire_io.specs.declared.peers.Peer.{Peer}
@@ -52,7 +53,11 @@ pub record IsTracked (journal : List Item) (peers : BTreeMap ℕ Peer) (opened :
   pub states : TracksPeers peers journal
   pub numbers : opened ≡ rising (opened_by journal)
 
--- the item is added, or after a refusal nothing
-unfoldable pub Notes : {T E : Type 0} → List Item → Item → Result T E → List Item → Type 0
-Notes old item (Ok answer) new = new ≡ old ++ item ∷ []
-Notes old item (Err fault) new = new ≡ old
+-- the item opens no connection, and says nothing of what was taken, held or hung up
+abbrev pub IsQuiet : Item → Type 0
+IsQuiet (Heard (Opened conn)) = ⊥
+IsQuiet (Taken conn octets) = ⊥
+IsQuiet (Held conn) = ⊥
+IsQuiet (Released conn) = ⊥
+IsQuiet (HungUp conn) = ⊥
+IsQuiet _ = Unit {0}

@@ -34,11 +34,16 @@ first_turn len (script.Opened conn) events = record { event = Opened conn; left 
 first_turn len (script.Bytes conn octets) events = record { event = Bytes conn (take len octets); left = left_over conn (drop len octets) events }
 first_turn len (script.Ended conn) events = record { event = Ended conn; left = events }
 
--- the next event: Ready where the first planned one is of a connection on hold, Stop after the last
+-- the first planned event, or Stop after the last
+unfoldable pub front_turn : ℕ → List ScriptEvent → Turn
+front_turn len [] = record { event = Stop; left = [] }
+front_turn len (event ∷ events) = first_turn len event events
+
+-- the next event: Ready where the first planned one is of a connection on hold
 unfoldable pub next_turn : (ℕ → Bool) → ℕ → List ScriptEvent → Turn
-next_turn on_hold len [] = record { event = Stop; left = [] }
+next_turn on_hold len [] = front_turn len []
 next_turn on_hold len (event ∷ events) =
-    if on_hold (conn_of event) then record { event = Ready (conn_of event); left = event ∷ events } else first_turn len event events
+    if on_hold (conn_of event) then record { event = Ready (conn_of event); left = event ∷ events } else front_turn len (event ∷ events)
 
 -- which connections the journal, if it is told, has on hold
 unfoldable pub holds_of : Option (List Item) → ℕ → Bool
@@ -52,3 +57,15 @@ NextPlays journal None buf (Ok given) new = new ≡ None
 NextPlays journal (Some plan) buf (Ok given) new =
     let turn = next_turn (holds_of journal) (length buf) plan.to_come in
     (event_of buf given ≡ turn.event) × (new ≡ Some (record plan { to_come = turn.left }))
+
+-- the connection of the first planned event
+abbrev pub first_conn : List ScriptEvent → Option ℕ
+first_conn [] = None
+first_conn (event ∷ events) = Some (conn_of event)
+
+-- the planned events without so many octets of the first one
+abbrev pub without_front : ℕ → List ScriptEvent → List ScriptEvent
+without_front given [] = []
+without_front given (script.Opened conn ∷ events) = script.Opened conn ∷ events
+without_front given (script.Bytes conn octets ∷ events) = script.Bytes conn (drop given octets) ∷ events
+without_front given (script.Ended conn ∷ events) = script.Ended conn ∷ events

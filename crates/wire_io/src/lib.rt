@@ -12,6 +12,7 @@ mod memory_sink;
 mod peers;
 mod reading;
 mod rising;
+mod script;
 mod shelf;
 mod sink;
 mod told;

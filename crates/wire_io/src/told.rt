@@ -1,9 +1,9 @@
 //! A journal as it is told, with what it says of each connection.
 
-ghost use Rattle.std.specs.Prelude.{◌≡◌, [], length, slice_get, IfOk};
+ghost use Rattle.std.specs.Prelude.{◌≡◌, ◌<◌, [], ◌∷◌, ◌++◌, length, slice_get, IfOk, OnOk, OnErr, vec_len, vec_capacity};
 ghost use Rattle.wire_io.specs.Answers.{HeardFits};
 ghost use Rattle.wire_io.specs.Journal.{is_held, is_hung_up, opened_by, taken_of};
-ghost use Rattle.wire_io.specs.Peers.{Notes};
+ghost use Rattle.wire_io.specs.Peers.{IsQuiet};
 ghost use Rattle.wire_io.specs.Rising.{rising};
 ghost use Rattle.wire_io.specs.Telling.{event_of};
 
@@ -88,102 +88,123 @@ impl Told {
 
     /// The octets were taken for the connection.
     pub(crate) fn take(&mut self, conn: u32, octets: &[u8]) -> Result<(), AllocError>
-        ensures exact { Notes self.old (Item.Taken conn octets.now) result self.new }
+        ensures ok { OnOk result (self.new ≡ self.old ++ Item.Taken conn octets.now ∷ []) }
+        ensures err { OnErr result (self.new ≡ self.old) }
     {
-        let copy = Octets::from_vec(octets.to_vec(self.alloc)?);
+        let copy = copy_of(self.alloc, octets)?;
         self.items.reserve(1)?;
         add_peer(self.alloc, &mut self.peers, conn)?;
         take(&mut self.peers, conn, octets)?;
-        self.items.push(Item::Taken(conn, copy)).unwrap();
+        push(&mut self.items, Item::Taken(conn, copy));
         Ok(())
     }
 
     /// The connection was put on hold.
     pub(crate) fn hold(&mut self, conn: u32) -> Result<(), AllocError>
-        ensures exact { Notes self.old (Item.Held conn) result self.new }
+        ensures ok { OnOk result (self.new ≡ self.old ++ Item.Held conn ∷ []) }
+        ensures err { OnErr result (self.new ≡ self.old) }
     {
         self.items.reserve(1)?;
         add_peer(self.alloc, &mut self.peers, conn)?;
         set_held(&mut self.peers, conn, true);
-        self.items.push(Item::Held(conn)).unwrap();
+        push(&mut self.items, Item::Held(conn));
         Ok(())
     }
 
     /// The connection was released from its hold.
     pub(crate) fn release(&mut self, conn: u32) -> Result<(), AllocError>
-        ensures exact { Notes self.old (Item.Released conn) result self.new }
+        ensures ok { OnOk result (self.new ≡ self.old ++ Item.Released conn ∷ []) }
+        ensures err { OnErr result (self.new ≡ self.old) }
     {
         self.items.reserve(1)?;
         add_peer(self.alloc, &mut self.peers, conn)?;
         set_held(&mut self.peers, conn, false);
-        self.items.push(Item::Released(conn)).unwrap();
+        push(&mut self.items, Item::Released(conn));
         Ok(())
     }
 
     /// The connection was hung up.
     pub(crate) fn hang_up(&mut self, conn: u32) -> Result<(), AllocError>
-        ensures exact { Notes self.old (Item.HungUp conn) result self.new }
+        ensures ok { OnOk result (self.new ≡ self.old ++ Item.HungUp conn ∷ []) }
+        ensures err { OnErr result (self.new ≡ self.old) }
     {
         self.items.reserve(1)?;
         add_peer(self.alloc, &mut self.peers, conn)?;
         set_hung_up(&mut self.peers, conn);
-        self.items.push(Item::HungUp(conn)).unwrap();
+        push(&mut self.items, Item::HungUp(conn));
         Ok(())
     }
 
-    /// Nothing was taken for the connection now.
-    pub(crate) fn later(&mut self, conn: u32) -> Result<(), AllocError>
-        ensures exact { Notes self.old (Item.Later conn) result self.new }
+    /// The connection was opened.
+    pub(crate) fn opened(&mut self, conn: u32) -> Result<(), AllocError>
+        ensures ok { OnOk result (self.new ≡ self.old ++ Item.Heard (Event.Opened conn) ∷ []) }
+        ensures err { OnErr result (self.new ≡ self.old) }
     {
-        self.items.push(Item::Later(conn))?;
+        self.items.reserve(1)?;
+        let place = place_of(self.opened.as_slice(), conn);
+        self.opened.insert(place, conn)?;
+        push(&mut self.items, Item::Heard(Event::Opened(conn)));
         Ok(())
     }
 
-    /// The connection was found lost.
-    pub(crate) fn gone(&mut self, conn: u32) -> Result<(), AllocError>
-        ensures exact { Notes self.old (Item.Gone conn) result self.new }
+    /// An item that says nothing of what was opened, taken, held or hung up.
+    pub(crate) fn note(&mut self, item: Item) -> Result<(), AllocError>
+        requires { IsQuiet item }
+        ensures ok { OnOk result (self.new ≡ self.old ++ item ∷ []) }
+        ensures err { OnErr result (self.new ≡ self.old) }
     {
-        self.items.push(Item::Gone(conn))?;
+        self.items.reserve(1)?;
+        push(&mut self.items, item);
         Ok(())
     }
 
     /// The address was to be opened.
     pub(crate) fn open(&mut self, address: &str, sessions: u64, done: bool) -> Result<(), AllocError>
-        ensures exact { Notes self.old (Item.OpenedAt address.now sessions done) result self.new }
+        ensures ok { OnOk result (self.new ≡ self.old ++ Item.OpenedAt address.now sessions done ∷ []) }
+        ensures err { OnErr result (self.new ≡ self.old) }
     {
         let address = Text::from_string(String::from_str(self.alloc, address)?);
-        self.items.push(Item::OpenedAt(address, sessions, done))?;
-        Ok(())
+        self.note(Item::OpenedAt(address, sessions, done))
     }
 
+    #[tactic(auto, unfolding(crate::specs::Telling::event_of))]
     /// The event was heard, with octets at the front of the buffer.
     pub(crate) fn hear(&mut self, heard: Heard, buf: &[u8]) -> Result<(), AllocError>
         requires { HeardFits (length buf.now) heard }
-        ensures exact { Notes self.old (Item.Heard (event_of buf.now heard)) result self.new }
+        ensures ok { OnOk result (self.new ≡ self.old ++ Item.Heard (event_of buf.now heard) ∷ []) }
+        ensures err { OnErr result (self.new ≡ self.old) }
     {
-        let event = event(self.alloc, heard, buf)?;
-        self.items.reserve(1)?;
-        if let Heard::Opened(conn) = heard {
-            let place = place_of(self.opened.as_slice(), conn);
-            self.opened.insert(place, conn)?;
+        match heard {
+            Heard::Opened(conn) => self.opened(conn),
+            Heard::Bytes(conn, count) => self.bytes(conn, buf.split_at(count).0),
+            Heard::Ended(conn) => self.note(Item::Heard(Event::Ended(conn))),
+            Heard::Ready(conn) => self.note(Item::Heard(Event::Ready(conn))),
+            Heard::Idle => self.note(Item::Heard(Event::Idle)),
+            Heard::Stop => self.note(Item::Heard(Event::Stop)),
         }
-        self.items.push(Item::Heard(event)).unwrap();
-        Ok(())
+    }
+
+    /// The octets came on the connection.
+    fn bytes(&mut self, conn: u32, octets: &[u8]) -> Result<(), AllocError>
+        ensures ok { OnOk result (self.new ≡ self.old ++ Item.Heard (Event.Bytes conn octets.now) ∷ []) }
+        ensures err { OnErr result (self.new ≡ self.old) }
+    {
+        let copy = copy_of(self.alloc, octets)?;
+        self.note(Item::Heard(Event::Bytes(conn, copy)))
     }
 }
 
-#[tactic(auto, unfolding(crate::specs::Telling::event_of))]
-/// The event, with octets copied from the front of the buffer.
-fn event(alloc: Global, heard: Heard, buf: &[u8]) -> Result<Event, AllocError>
-    requires { HeardFits (length buf.now) heard }
-    ensures ok { IfOk result (λ event. event ≡ event_of buf.now heard) }
+/// The octets in memory of their own.
+fn copy_of(alloc: Global, octets: &[u8]) -> Result<Octets, AllocError>
+    ensures ok { IfOk result (λ copy. copy ≡ octets.now) }
 {
-    Ok(match heard {
-        Heard::Opened(conn) => Event::Opened(conn),
-        Heard::Bytes(conn, count) => Event::Bytes(conn, Octets::from_vec(buf.split_at(count).0.to_vec(alloc)?)),
-        Heard::Ended(conn) => Event::Ended(conn),
-        Heard::Ready(conn) => Event::Ready(conn),
-        Heard::Idle => Event::Idle,
-        Heard::Stop => Event::Stop,
-    })
+    Ok(Octets::from_vec(octets.to_vec(alloc)?))
+}
+
+/// Adds the item, for which there is room.
+fn push(items: &mut Vec<Item>, item: Item)
+    requires { vec_len items.old < vec_capacity items.old }
+    ensures exact { items.new.items ≡ items.old.items ++ item ∷ [] }
+{
+    items.push(item).unwrap();
 }
