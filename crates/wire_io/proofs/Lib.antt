@@ -1,7 +1,9 @@
 mod JournalLemmas
 mod PeersLemmas
+mod PlayableLemmas
 mod PlayingLemmas
 mod PuttingLemmas
 mod ReadLemmas
 mod RisingLemmas
 mod TrackedLemmas
+mod TurnLemmas

@@ -9,4 +9,5 @@ pub mod Playing
 pub mod Putting
 pub mod ReadWhole
 pub mod Rising
+pub mod Scripted
 pub mod Telling

@@ -2,7 +2,7 @@
 -- Ready in place of an event whose connection is on hold.
 use Rattle.std.specs.Prelude.{◌≡◌, ℕ, Bool, false, List, [], ◌∷◌, take, drop, length, Option, Some, None, Result, Ok, Err, if◌then◌else◌}
 use Rattle.wire_io.specs.declared.answers.Heard.{Heard}
-use Rattle.wire_io.specs.declared.answers.NextFault.{NextFault}
+use Rattle.wire_io.specs.declared.answers.Heard.TheVariants as answer
 use Rattle.script_text.specs.declared.event.ScriptEvent.{ScriptEvent}
 use Rattle.script_text.specs.declared.event.ScriptEvent.TheVariants as script
 use Rattle.wire_io.specs.declared.journal.Event.{Event}
@@ -50,14 +50,6 @@ unfoldable pub holds_of : Option (List Item) → ℕ → Bool
 holds_of None conn = false
 holds_of (Some journal) conn = is_held conn journal
 
--- the answer is the next event, and the plan goes on; a fault takes no event
-unfoldable pub NextPlays : Option (List Item) → Option Plan → List ℕ → Result Heard NextFault → Option Plan → Type 0
-NextPlays journal old buf (Err fault) new = new ≡ old
-NextPlays journal None buf (Ok given) new = new ≡ None
-NextPlays journal (Some plan) buf (Ok given) new =
-    let turn = next_turn (holds_of journal) (length buf) plan.to_come in
-    (event_of buf given ≡ turn.event) × (new ≡ Some (record plan { to_come = turn.left }))
-
 -- the connection of the first planned event
 abbrev pub first_conn : List ScriptEvent → Option ℕ
 first_conn [] = None
@@ -69,3 +61,20 @@ without_front given [] = []
 without_front given (script.Opened conn ∷ events) = script.Opened conn ∷ events
 without_front given (script.Bytes conn octets ∷ events) = script.Bytes conn (drop given octets) ∷ events
 without_front given (script.Ended conn ∷ events) = script.Ended conn ∷ events
+
+-- what is left where the answer is that event: Ready and Stop bring the script on by nothing
+abbrev pub left_by : Heard → ℕ → List ScriptEvent → List ScriptEvent
+left_by (answer.Opened conn) len events = (front_turn len events).left
+left_by (answer.Bytes conn count) len events = (front_turn len events).left
+left_by (answer.Ended conn) len events = (front_turn len events).left
+left_by (answer.Ready conn) len events = events
+left_by answer.Idle len events = events
+left_by answer.Stop len events = events
+
+-- the answer is the next event, and the plan goes on; a fault takes no event
+unfoldable pub NextPlays : {E : Type 0} → Option (List Item) → Option Plan → List ℕ → Result Heard E → Option Plan → Type 0
+NextPlays journal old buf (Err fault) new = new ≡ old
+NextPlays journal None buf (Ok given) new = new ≡ None
+NextPlays journal (Some plan) buf (Ok given) new =
+    let turn = next_turn (holds_of journal) (length buf) plan.to_come in
+    (event_of buf given ≡ turn.event) × (new ≡ Some (record plan { to_come = turn.left }))

@@ -1,12 +1,13 @@
 //! The events of a script that are still to come.
 
-ghost use Rattle.std.specs.Prelude.{◌≡◌, ◌<◌, ◌-◌, min, take, drop, length};
+ghost use Rattle.std.specs.Prelude.{◌≡◌, ◌<◌, ◌-◌, min, take, drop, length, Some};
 ghost use Rattle.script_text.specs.Script.{AreFilled};
 ghost use Rattle.wire_io.specs.Answers.{HeardFits};
-ghost use Rattle.wire_io.specs.Playing.{first_conn, front_turn};
+ghost use Rattle.wire_io.specs.Playing.{first_conn, front_turn, next_turn, holds_of, left_by};
 ghost use Rattle.wire_io.specs.Telling.{event_of};
 
 use crate::copying::copy_front;
+use crate::told::Told;
 use crate::{Heard, ScriptEvent};
 use std::marker::Model;
 
@@ -60,6 +61,7 @@ impl Script {
         requires filled { AreFilled self.now }
         ensures fits { HeardFits (length buf.new) result }
         ensures exact { event_of buf.new result ≡ (front_turn (length buf.old) self.now).event }
+        ensures left { left_by result (length buf.old) self.now ≡ (front_turn (length buf.old) self.now).left }
     {
         match self.events.get(self.place) {
             Some(ScriptEvent::Opened(conn)) => Heard::Opened(*conn),
@@ -71,9 +73,19 @@ impl Script {
         }
     }
 
+    /// Goes past the event that was given in a buffer of the length.
+    pub(crate) fn pass(&mut self, heard: Heard, len: usize)
+        ensures exact { self.new ≡ left_by heard len self.old }
+    {
+        match heard {
+            Heard::Opened(_) | Heard::Bytes(_, _) | Heard::Ended(_) => self.advance(len),
+            Heard::Ready(_) | Heard::Idle | Heard::Stop => {}
+        }
+    }
+
     #[tactic(auto, unfolding(crate::specs::Playing::front_turn, crate::specs::Playing::first_turn, crate::specs::Playing::left_over))]
     /// Goes past what was given of the first event in a buffer of the length.
-    pub(crate) fn advance(&mut self, len: usize)
+    fn advance(&mut self, len: usize)
         ensures exact { self.new ≡ (front_turn len self.old).left }
     {
         match self.events.get(self.place) {
@@ -87,6 +99,25 @@ impl Script {
             None => {}
         }
     }
+}
+
+/// The next event, with octets at the front of the buffer: Ready where the first planned one is of a
+/// connection on hold.
+#[tactic(auto, unfolding(crate::specs::Playing::next_turn, crate::specs::Playing::front_turn, crate::specs::Playing::holds_of, crate::specs::Telling::event_of))]
+pub(crate) fn turn(script: &Script, told: &Told, buf: &mut [u8]) -> Heard
+    requires room { 0 < length buf.old }
+    requires filled { AreFilled script.now }
+    ensures fits { HeardFits (length buf.new) result }
+    ensures event { event_of buf.new result ≡ (next_turn (holds_of (Some told.now)) (length buf.old) script.now).event }
+    ensures left { left_by result (length buf.old) script.now ≡ (next_turn (holds_of (Some told.now)) (length buf.old) script.now).left }
+{
+    let Some(conn) = script.conn() else {
+        return Heard::Stop;
+    };
+    if told.held(conn) {
+        return Heard::Ready(conn);
+    }
+    script.give(buf)
 }
 
 /// Copies the octets that were not given yet, as many as the buffer has room for.
