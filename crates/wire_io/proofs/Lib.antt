@@ -1,4 +1,5 @@
 mod JournalLemmas
+mod NotingLemmas
 mod PeersLemmas
 mod PlayableLemmas
 mod PlayingLemmas
