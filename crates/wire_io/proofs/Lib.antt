@@ -1,6 +1,7 @@
 mod JournalLemmas
 mod NotingLemmas
 mod PeersLemmas
+mod PiecesLemmas
 mod PlayableLemmas
 mod PlayingLemmas
 mod PuttingLemmas

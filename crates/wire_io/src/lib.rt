@@ -5,6 +5,7 @@
 
 mod answers;
 mod copying;
+mod file_shelf;
 mod journal;
 mod link;
 mod memory_shelf;
@@ -16,10 +17,12 @@ mod script;
 mod script_link;
 mod shelf;
 mod sink;
+mod standard_sink;
 mod told;
 mod writing;
 
 pub use answers::{FetchFault, Heard, NextFault, NoMemory, PutFault, ReadFault, Took};
+pub use file_shelf::FileShelf;
 pub use journal::{Event, Item};
 pub use link::Link;
 pub use memory_shelf::MemShelf;
@@ -29,4 +32,5 @@ pub use script_link::ScriptLink;
 pub use script_text::{ScriptEvent, ScriptFault};
 pub use shelf::Shelf;
 pub use sink::Sink;
+pub use standard_sink::StdSink;
 pub use writing::write_all;
