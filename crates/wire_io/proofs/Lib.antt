@@ -1,4 +1,6 @@
 mod JournalLemmas
+mod LawLemmas
+mod LinkLemmas
 mod NotingLemmas
 mod PeersLemmas
 mod PiecesLemmas
@@ -9,3 +11,4 @@ mod ReadLemmas
 mod RisingLemmas
 mod TrackedLemmas
 mod TurnLemmas
+pub mod Theorems

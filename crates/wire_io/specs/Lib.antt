@@ -1,6 +1,7 @@
 pub mod Answers
 pub mod Files
 pub mod Journal
+pub mod Laws
 pub mod MemoryForms
 pub mod Peers
 pub mod Pieces
