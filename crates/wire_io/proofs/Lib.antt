@@ -1,7 +1,9 @@
+mod Examples
 mod JournalLemmas
 mod LawLemmas
 mod LinkLemmas
 mod NotingLemmas
+mod OrderLemmas
 mod PeersLemmas
 mod PiecesLemmas
 mod PlayableLemmas

@@ -1,5 +1,6 @@
 -- Laws of the definitions, each the contract of a public function without parameters.
 use Rattle.std.specs.Prelude.{◌≡◌, ℕ, zero, suc, ◌<◌, ◌≤◌, Bool, false, List, [], ◌∷◌, ◌++◌, take, replicate, length, Option, Some, Ok}
+use Rattle.std.specs.List.Sorted.{IsPermutation}
 use Rattle.script_text.specs.declared.event.ScriptEvent.{ScriptEvent}
 use Rattle.wire_io.specs.declared.answers.Heard.{Heard}
 use Rattle.wire_io.specs.declared.answers.NextFault.{NextFault}
@@ -9,6 +10,7 @@ use Rattle.wire_io.specs.declared.journal.Item.{Item}
 use Rattle.wire_io.specs.Pieces.{pieces, Plays}
 use Rattle.wire_io.specs.Plan.{Plan}
 use Rattle.wire_io.specs.Playing.{next_turn, NextPlays}
+use Rattle.wire_io.specs.Rising.{IsRising, rising}
 use Rattle.wire_io.specs.Telling.{event_of}
 
 -- so many events, one after another, while no connection is on hold
@@ -27,3 +29,7 @@ abbrev pub EventsBringScriptsOn : Type 0
 EventsBringScriptsOn =
     (journal : Option (List Item)) (plan after : Plan) (buf : List ℕ) (given : Heard) → 0 < length buf
     → NextPlays {E = NextFault} journal (Some plan) buf (Ok given) (Some after) → Plays (length buf) plan.to_come (event_of buf given ∷ []) after.to_come
+
+-- numbers put in rising order are the same numbers, each at most those after it
+abbrev pub NumbersArePutInOrder : Type 0
+NumbersArePutInOrder = (numbers : List ℕ) → IsRising (rising numbers) × IsPermutation numbers (rising numbers)

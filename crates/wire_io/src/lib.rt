@@ -25,7 +25,7 @@ mod writing;
 pub use answers::{FetchFault, Heard, NextFault, NoMemory, PutFault, ReadFault, Took};
 pub use file_shelf::FileShelf;
 pub use journal::{Event, Item};
-pub use laws::{events_bring_scripts_on, scripts_come_in_pieces};
+pub use laws::{events_bring_scripts_on, numbers_are_put_in_order, scripts_come_in_pieces};
 pub use link::Link;
 pub use memory_shelf::MemShelf;
 pub use memory_sink::MemSink;
