@@ -1,13 +1,13 @@
 -- The definitions on known cases.
-use Rattle.std.proofs.Common.{◌≡◌, ℕ, true, false, List, [], ◌∷◌, Some, None, refl}
+use Rattle.std.proofs.Common.{◌≡◌, true, false, List, [], ◌∷◌, Some, None, refl}
 use Rattle.script_text.specs.declared.event.ScriptEvent.TheVariants as script
-use Rattle.wire_io.specs.declared.journal.Event.TheVariants.{Opened, Bytes, Ended, Ready, Idle, Stop}
+use Rattle.wire_io.specs.declared.journal.Event.TheVariants.{Opened, Bytes, Ended, Ready, Stop}
 use Rattle.wire_io.specs.declared.journal.Item.{Item}
-use Rattle.wire_io.specs.declared.journal.Item.TheVariants.{Heard, OpenedAt, Taken, Later, Gone, Held, Released, HungUp}
+use Rattle.wire_io.specs.declared.journal.Item.TheVariants.{Heard, Taken, Later, Held, Released, HungUp}
 use Rattle.wire_io.specs.Files.{file_of}
-use Rattle.wire_io.specs.Journal.{heard, opened_by, taken_at, taken_of, hangs_up, is_hung_up, hold_after, hold_after_all, is_held, opens, was_opened, stops, was_stopped}
+use Rattle.wire_io.specs.Journal.{heard, opened_by, taken_at, taken_of, hangs_up, is_hung_up, hold_after, hold_after_all, is_held}
 use Rattle.wire_io.specs.Laws.{first_events}
-use Rattle.wire_io.specs.Pieces.{cut, pieces_of, pieces, step_of, steps_of}
+use Rattle.wire_io.specs.Pieces.{cut, pieces_of, pieces}
 use Rattle.wire_io.specs.Playing.{left_over, first_turn, front_turn, next_turn}
 use Rattle.wire_io.specs.ReadWhole.{line_past}
 use Rattle.wire_io.specs.Rising.{are_above, put_rising, rising_after, rising}

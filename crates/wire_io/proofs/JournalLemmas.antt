@@ -1,9 +1,9 @@
 -- Lemmas on a journal to which one item is added.
-use Rattle.std.proofs.Common.{◌≡◌, ℕ, Bool, true, false, List, [], ◌∷◌, ◌++◌, ◌||◌, refl, ap, sym, ◌∙◌, append_assoc, append-nil, if◌then◌else◌}
+use Rattle.std.proofs.Common.{◌≡◌, ℕ, Bool, true, false, List, [], ◌∷◌, ◌++◌, ◌||◌, refl, ap, sym, ◌∙◌, append_assoc, append-nil}
 use Rattle.wire_io.specs.declared.journal.Event.TheVariants.{Opened, Bytes, Ended, Ready, Idle, Stop}
 use Rattle.wire_io.specs.declared.journal.Item.{Item}
 use Rattle.wire_io.specs.declared.journal.Item.TheVariants.{Heard, OpenedAt, Taken, Later, Gone, Held, Released, HungUp}
-use Rattle.wire_io.specs.Journal.{heard, opened_by, opens, was_opened, stops, was_stopped, taken_at, taken_of, hangs_up, is_hung_up, hold_after, hold_after_all, is_held}
+use Rattle.wire_io.specs.Journal.{opened_by, opens, was_opened, stops, was_stopped, taken_at, taken_of, hangs_up, is_hung_up, hold_after, hold_after_all, is_held}
 
 -- a test of either of two, and then a third
 or_assoc : (first second third : Bool) → (first || second) || third ≡ first || (second || third)

@@ -1,7 +1,6 @@
 -- Lemmas on the events of a script, one after another.
-use Rattle.std.proofs.Common.{◌≡◌, ℕ, zero, suc, ◌<◌, ◌≤◌, Bool, false, List, [], ◌∷◌, ◌++◌, take, replicate, refl, ap, sym, ◌∙◌, arith}
+use Rattle.std.proofs.Common.{◌≡◌, ℕ, zero, suc, ◌<◌, ◌≤◌, List, [], ◌∷◌, ◌++◌, take, replicate, refl, ap, sym, ◌∙◌, arith}
 use Rattle.script_text.specs.declared.event.ScriptEvent.{ScriptEvent}
-use Rattle.wire_io.specs.declared.journal.Event.{Event}
 use Rattle.wire_io.specs.declared.journal.Event.TheVariants.{Stop}
 use Rattle.wire_io.specs.Laws.{first_events}
 use Rattle.wire_io.specs.Pieces.{pieces}

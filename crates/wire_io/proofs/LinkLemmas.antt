@@ -1,5 +1,5 @@
 -- Lemmas on what the answers of a link say, one answer at a time.
-use Rattle.std.proofs.Common.{◌≡◌, ℕ, ◌<◌, Bool, true, false, List, [], ◌∷◌, ◌++◌, length, take, Option, Some, None, Result, Ok, Err, refl, ap, sym, ◌∙◌, subst, if◌then◌else◌}
+use Rattle.std.proofs.Common.{◌≡◌, ℕ, ◌<◌, Bool, true, false, List, [], ◌∷◌, ◌++◌, length, Option, Some, Result, Ok, Err, refl, ap, sym, ◌∙◌, subst, if◌then◌else◌}
 use Rattle.plain_values.specs.Counts.{Rose, NeverFalls}
 use Rattle.plain_values.proofs.Theorems.{Rose-never_falls}
 use Rattle.script_text.specs.declared.event.ScriptEvent.{ScriptEvent}
@@ -14,10 +14,10 @@ use Rattle.wire_io.specs.declared.journal.Event.TheVariants.{Opened, Bytes, Ende
 use Rattle.wire_io.specs.declared.journal.Item.{Item}
 use Rattle.wire_io.specs.declared.journal.Item.TheVariants.{Heard, OpenedAt, Taken, Later, Gone, Held, Released, HungUp}
 use Rattle.wire_io.specs.Answers.{IsPlanned, LinkCause, WriteCause}
-use Rattle.wire_io.specs.Journal.{heard, is_held}
+use Rattle.wire_io.specs.Journal.{heard}
 use Rattle.wire_io.specs.Pieces.{Plays}
 use Rattle.wire_io.specs.Plan.{Plan}
-use Rattle.wire_io.specs.Playing.{Turn, conn_of, first_turn, front_turn, next_turn, holds_of, NextPlays}
+use Rattle.wire_io.specs.Playing.{conn_of, first_turn, front_turn, next_turn, holds_of, NextPlays}
 use Rattle.wire_io.specs.Telling.{event_of}
 use Rattle.wire_io.proofs.PiecesLemmas.{Plays-turn}
 
@@ -56,7 +56,7 @@ pub Plays-heard :
     → NextPlays {E = E} journal (Some plan) buf (Ok given) (Some after) → Plays (length buf) plan.to_come (event_of buf given ∷ []) after.to_come
 Plays-heard E journal plan after buf given some plays =
     let turned : (event_of buf given ≡ (next_turn (holds_of journal) (length buf) plan.to_come).event) × (after ≡ record plan { to_come = (next_turn (holds_of journal) (length buf) plan.to_come).left }) =
-      NextPlays-ok E journal plan after buf given plays in
+    NextPlays-ok E journal plan after buf given plays in
     let P : Event → Type 0 = λ event. Plays (length buf) plan.to_come (event ∷ []) after.to_come in
     let Q : List ScriptEvent → Type 0 = λ left. Plays (length buf) plan.to_come ((next_turn (holds_of journal) (length buf) plan.to_come).event ∷ []) left in
     subst P (sym turned.0) (subst Q (sym (ap (λ told. told.to_come) turned.1)) (Plays-turn (holds_of journal) (length buf) plan.to_come some))
@@ -110,7 +110,7 @@ pub NextPlays-says :
     → NextPlays {E = E} journal (Some plan) buf (Ok given) (Some after) → SaysOf (holds_of journal) (event_of buf given) plan.to_come
 NextPlays-says E journal plan after buf given plays =
     let turned : (event_of buf given ≡ (next_turn (holds_of journal) (length buf) plan.to_come).event) × (after ≡ record plan { to_come = (next_turn (holds_of journal) (length buf) plan.to_come).left }) =
-      NextPlays-ok E journal plan after buf given plays in
+    NextPlays-ok E journal plan after buf given plays in
     let P : Event → Type 0 = λ event. SaysOf (holds_of journal) event plan.to_come in
     subst P (sym turned.0) (SaysOf-turn (holds_of journal) (length buf) plan.to_come)
 
@@ -121,7 +121,7 @@ pub NextPlays-stop :
 unfolding next_turn front_turn
 NextPlays-stop E journal plan after buf given none plays =
     let turned : (event_of buf given ≡ (next_turn (holds_of journal) (length buf) plan.to_come).event) × (after ≡ record plan { to_come = (next_turn (holds_of journal) (length buf) plan.to_come).left }) =
-      NextPlays-ok E journal plan after buf given plays in
+    NextPlays-ok E journal plan after buf given plays in
     turned.0 ∙ ap (λ events. (next_turn (holds_of journal) (length buf) events).event) none
 
 -- the count of faults never falls, whatever the answer

@@ -1,14 +1,10 @@
 -- Lemmas on what is kept of each connection while a journal grows.
-use Rattle.std.proofs.Common.{◌≡◌, ℕ, Bool, true, false, List, [], ◌∷◌, ◌++◌, ◌||◌, nat_eq, refl, ap, sym, ◌∙◌, subst, append-nil, arith, if◌then◌else◌}
-use Rattle.std.specs.BTreeMap.{BTreeMap}
+use Rattle.std.proofs.Common.{◌≡◌, ℕ, Bool, true, false, List, [], ◌∷◌, ◌++◌, ◌||◌, nat_eq, ap, sym, ◌∙◌, subst, append-nil, if◌then◌else◌}
 use Rattle.wire_io.specs.declared.journal.Event.{Event}
-use Rattle.wire_io.specs.declared.journal.Event.TheVariants.{Opened, Bytes, Ended, Ready, Idle, Stop}
 use Rattle.wire_io.specs.declared.journal.Item.{Item}
 use Rattle.wire_io.specs.declared.journal.Item.TheVariants.{Heard, OpenedAt, Taken, Later, Gone, Held, Released, HungUp}
-use Rattle.wire_io.specs.declared.peers.Peer.{Peer}
-use Rattle.wire_io.specs.Journal.{opened_by, taken_at, taken_of, hangs_up, is_hung_up, hold_after, is_held}
-use Rattle.wire_io.specs.Peers.{PeerState, state_in, state_after, state_of, KeepsPeers, ChangesPeer, TracksPeers, IsTracked, IsQuiet}
-use Rattle.wire_io.specs.Rising.{rising, put_rising}
+use Rattle.wire_io.specs.Journal.{taken_at, taken_of, hangs_up, is_hung_up, hold_after, is_held}
+use Rattle.wire_io.specs.Peers.{PeerState, state_in, state_after, IsQuiet}
 use Rattle.wire_io.proofs.JournalLemmas.{taken_of-push, is_hung_up-push, is_held-push, or-false, or-true}
 
 -- a state by its parts

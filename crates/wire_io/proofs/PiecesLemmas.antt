@@ -1,9 +1,9 @@
 -- Lemmas on the pieces in which a script's events come.
-use Rattle.std.proofs.Common.{◌≡◌, ℕ, zero, suc, ◌+◌, ◌-◌, ◌<◌, ◌≤◌, Bool, true, false, List, [], ◌∷◌, ◌++◌, length, take, drop, map, Option, Some, None, Ok, refl, ap, sym, ◌∙◌, subst, arith, append_assoc, length-drop, if◌then◌else◌}
+use Rattle.std.proofs.Common.{◌≡◌, ℕ, zero, suc, ◌-◌, ◌<◌, ◌≤◌, Bool, true, false, List, [], ◌∷◌, ◌++◌, length, take, drop, map, refl, ap, sym, ◌∙◌, subst, arith, append_assoc, length-drop, if◌then◌else◌}
 use Rattle.script_text.specs.declared.event.ScriptEvent.{ScriptEvent}
 use Rattle.script_text.specs.declared.event.ScriptEvent.TheVariants as script
 use Rattle.wire_io.specs.declared.journal.Event.{Event}
-use Rattle.wire_io.specs.declared.journal.Event.TheVariants.{Opened, Bytes, Ended, Ready, Idle, Stop}
+use Rattle.wire_io.specs.declared.journal.Event.TheVariants.{Bytes, Ready}
 use Rattle.wire_io.specs.Pieces.{cut, pieces_of, pieces, step_of, steps_of, Plays}
 use Rattle.wire_io.specs.Playing.{Turn, conn_of, left_over, first_turn, front_turn, next_turn}
 

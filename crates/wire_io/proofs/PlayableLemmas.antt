@@ -1,18 +1,11 @@
 -- Lemmas on events that may still come while a journal grows.
-use Rattle.std.proofs.Common.{◌≡◌, ℕ, ◌<◌, Bool, true, false, ◌||◌, List, [], ◌∷◌, ◌++◌, length, take, drop, nat_eq, Result, Ok, Err, OnOk, OnErr, Some, refl, ap, sym, ◌∙◌, subst, arith, if◌then◌else◌, ◌⊎◌, inl, inr}
-use Rattle.std.specs.List.{IsDistinct, AllByRecursion, list_any}
-use Rattle.std.proofs.lemmas.Bool.{cases_Bool}
+use Rattle.std.proofs.Common.{◌≡◌, ℕ, false, ◌||◌, List, [], ◌∷◌, ◌++◌, Result, Ok, Err, OnOk, OnErr, refl, ap, sym, ◌∙◌, subst}
 use Rattle.script_text.specs.declared.event.ScriptEvent.{ScriptEvent}
-use Rattle.script_text.specs.declared.event.ScriptEvent.TheVariants as script
-use Rattle.script_text.specs.Script.{OpensOnce, AreFilled, opened_by, has}
-use Rattle.wire_io.specs.declared.journal.Event.{Event}
-use Rattle.wire_io.specs.declared.journal.Event.TheVariants.{Opened, Bytes, Ended, Ready, Idle, Stop}
+use Rattle.script_text.specs.Script.{OpensOnce, AreFilled}
 use Rattle.wire_io.specs.declared.journal.Item.{Item}
 use Rattle.wire_io.specs.declared.journal.Item.TheVariants.{Heard, OpenedAt, Taken, Later, Gone, Held, Released, HungUp}
-use Rattle.wire_io.specs.Journal.{opens, was_opened, stops, was_stopped, is_held}
-use Rattle.wire_io.specs.Playing.{Turn, conn_of, left_over, first_turn, front_turn, next_turn, holds_of}
+use Rattle.wire_io.specs.Journal.{opens, was_opened, stops, was_stopped}
 use Rattle.wire_io.specs.Scripted.{IsPlayable}
-use Rattle.wire_io.specs.Telling.{MayCome, StaysStopped}
 use Rattle.wire_io.proofs.JournalLemmas.{was_opened-push, was_stopped-push, or-false}
 
 -- the item is no event

@@ -28,6 +28,6 @@ pub front_turn-part :
 unfolding front_turn first_turn
 front_turn-part events place given len conn octets event within is_item is_bytes part =
     let split : drop place events ≡ script.Bytes conn octets ∷ drop (suc place) events =
-      drop-cons events place event within ∙ ap (λ first. first ∷ drop (suc place) events) (sym is_item ∙ is_bytes) in
+    drop-cons events place event within ∙ ap (λ first. first ∷ drop (suc place) events) (sym is_item ∙ is_bytes) in
     let P : List ScriptEvent → Type 0 = λ rest. without_front (given + len) rest ≡ (front_turn len (without_front given rest)).left in
     subst P (sym split) (sym (left_over_part conn len given octets (drop (suc place) events) part))

@@ -1,7 +1,7 @@
 -- Lemmas on what a sink was given over several calls.
-use Rattle.std.proofs.Common.{◌≡◌, ℕ, ◌+◌, ◌≤◌, List, [], ◌++◌, length, take, drop, Option, Some, None, Result, Ok, Err, refl, ap, append_assoc, append-nil, sym, ◌∙◌, arith}
+use Rattle.std.proofs.Common.{◌≡◌, ℕ, ◌+◌, List, [], ◌++◌, length, take, drop, Option, Some, None, Ok, Err, refl, ap, append_assoc, append-nil, sym, ◌∙◌}
 use Rattle.std.proofs.Math.Seq.{take-add, take-length}
-use Rattle.plain_values.specs.Counts.{Rose, NeverFalls}
+use Rattle.plain_values.specs.Counts.{NeverFalls}
 use Rattle.plain_values.proofs.Theorems.{NeverFalls-trans, Rose-after-never_falls}
 use Rattle.wire_io.specs.declared.answers.PutFault.{PutFault}
 use Rattle.wire_io.specs.declared.answers.PutFault.TheVariants.{Failed, NoMemory}

@@ -1,5 +1,5 @@
 -- Lemmas on a file that is read piece by piece.
-use Rattle.std.proofs.Common.{◌≡◌, ℕ, ◌+◌, ◌<◌, ◌≤◌, List, [], ◌++◌, length, take, drop, Option, Some, None, Result, Ok, Err, Bool, true, false, refl, ap, sym, ◌∙◌, subst, min, arith, length-append}
+use Rattle.std.proofs.Common.{◌≡◌, ℕ, ◌+◌, ◌<◌, ◌≤◌, List, [], ◌++◌, length, take, drop, Option, Some, None, Ok, Err, Bool, true, false, refl, ap, sym, ◌∙◌, subst, min, arith, length-append}
 use Rattle.std.proofs.Math.Seq.{take-add}
 use Rattle.std.proofs.lemmas.List.{take_all, length-take, length-take-le, take-append-le, take-append-drop}
 use Rattle.wire_io.specs.Files.{Files, file_of, FetchGives, ReadsFile, ReadsFrom}

@@ -1,19 +1,19 @@
 -- Lemmas on the next event of a script: it may come, and those left may come after it.
-use Rattle.std.proofs.Common.{◌≡◌, ℕ, ◌<◌, Bool, true, false, ◌||◌, List, [], ◌∷◌, ◌++◌, length, take, drop, nat_eq, Option, Some, None, Ok, refl, ap, sym, ◌∙◌, subst, arith, if◌then◌else◌, ◌⊎◌, inl, inr, eq-eqb}
-use Rattle.std.specs.List.{IsDistinct, AllByRecursion, list_any}
+use Rattle.std.proofs.Common.{◌≡◌, ℕ, Bool, true, false, ◌||◌, List, [], ◌∷◌, ◌++◌, take, drop, nat_eq, Some, Ok, refl, ap, sym, ◌∙◌, subst, arith, if◌then◌else◌, eq-eqb}
+use Rattle.std.specs.List.{IsDistinct, AllByRecursion}
 use Rattle.script_text.specs.declared.event.ScriptEvent.{ScriptEvent}
 use Rattle.script_text.specs.declared.event.ScriptEvent.TheVariants as script
-use Rattle.script_text.specs.Script.{OpensOnce, AreFilled, opened_by, has}
+use Rattle.script_text.specs.Script.{opened_by, has}
 use Rattle.wire_io.specs.declared.journal.Event.{Event}
-use Rattle.wire_io.specs.declared.journal.Event.TheVariants.{Opened, Bytes, Ended, Ready, Idle, Stop}
+use Rattle.wire_io.specs.declared.journal.Event.TheVariants.{Opened, Bytes, Ended, Ready, Stop}
 use Rattle.wire_io.specs.declared.journal.Item.{Item}
-use Rattle.wire_io.specs.declared.journal.Item.TheVariants.{Heard, OpenedAt, Taken, Later, Gone, Held, Released, HungUp}
+use Rattle.wire_io.specs.declared.journal.Item.TheVariants.{Heard}
 use Rattle.wire_io.specs.Journal.{opens, was_opened, stops, was_stopped, is_held}
 use Rattle.wire_io.specs.Playing.{Turn, conn_of, left_over, first_turn, front_turn, next_turn, holds_of}
 use Rattle.wire_io.specs.Scripted.{IsPlayable}
 use Rattle.wire_io.specs.Telling.{MayCome, StaysStopped, NextTells, event_of}
 use Rattle.wire_io.specs.declared.answers.Heard.{Heard as Answer}
-use Rattle.wire_io.proofs.JournalLemmas.{was_opened-push, was_stopped-push}
+use Rattle.wire_io.proofs.JournalLemmas.{was_opened-push}
 use Rattle.wire_io.proofs.PlayableLemmas.{was_opened-quiet, was_stopped-quiet}
 
 -- the turn's event may come, and the events left may come after it
@@ -94,7 +94,7 @@ good_bytes journal conn len octets events free playable = record {
   may = free;
   stays = λ stopped. absurd (not_stopped playable stopped);
   playable = IsPlayable-heard journal (Bytes conn (take len octets)) (left_over conn (drop len octets) events) (λ number. refl) refl
-    (IsPlayable-left_over journal conn octets (drop len octets) events playable);
+      (IsPlayable-left_over journal conn octets (drop len octets) events playable);
 }
 
 -- a connection ends

@@ -1,5 +1,5 @@
 -- Laws of the definitions, each the contract of a public function without parameters.
-use Rattle.std.specs.Prelude.{◌≡◌, ℕ, zero, suc, ◌<◌, ◌≤◌, Bool, false, List, [], ◌∷◌, ◌++◌, take, replicate, length, Option, Some, Ok}
+use Rattle.std.specs.Prelude.{◌≡◌, ℕ, zero, suc, ◌<◌, ◌≤◌, false, List, [], ◌∷◌, ◌++◌, take, replicate, length, Option, Some, Ok}
 use Rattle.std.specs.List.Sorted.{IsPermutation}
 use Rattle.script_text.specs.declared.event.ScriptEvent.{ScriptEvent}
 use Rattle.wire_io.specs.declared.answers.Heard.{Heard}

@@ -1,10 +1,10 @@
 -- What a journal says of one connection, and a map that keeps it for each.
-use Rattle.std.specs.Prelude.{◌≡◌, ℕ, ◌==◌, Bool, true, false, List, [], ◌∷◌, ◌++◌, if◌then◌else◌, Option, Some, None}
+use Rattle.std.specs.Prelude.{◌≡◌, ℕ, ◌==◌, Bool, true, false, List, [], ◌++◌, if◌then◌else◌, Option, Some, None}
 use Rattle.std.specs.Ordering.{nat_cmp}
 use Rattle.std.specs.BTreeMap.{BTreeMap, get}
 use Rattle.wire_io.specs.declared.journal.Event.TheVariants.{Opened}
 use Rattle.wire_io.specs.declared.journal.Item.{Item}
-use Rattle.wire_io.specs.declared.journal.Item.TheVariants.{Heard, OpenedAt, Taken, Later, Gone, Held, Released, HungUp}
+use Rattle.wire_io.specs.declared.journal.Item.TheVariants.{Heard, Taken, Held, Released, HungUp}
 use Rattle.wire_io.specs.declared.peers.Peer.{Peer}
 use Rattle.wire_io.specs.Journal.{taken_of, is_held, is_hung_up, opened_by}
 use Rattle.wire_io.specs.Rising.{rising}

@@ -1,5 +1,5 @@
 -- What reading a file whole gives, and when it refuses.
-use Rattle.std.specs.Prelude.{◌≡◌, ℕ, ◌+◌, ◌<◌, ◌≤◌, ◌==◌, Bool, true, false, List, [], ◌∷◌, take, length, count_by, Option, Some, None, Result, Ok, Err}
+use Rattle.std.specs.Prelude.{◌≡◌, ℕ, ◌+◌, ◌<◌, ◌==◌, Bool, true, false, List, [], take, length, count_by, Option, Some, None, Result, Ok, Err}
 use Rattle.plain_values.specs.Counts.{Rose, NeverFalls}
 use Rattle.wire_io.specs.declared.answers.ReadFault.{ReadFault}
 use Rattle.wire_io.specs.declared.answers.ReadFault.TheVariants.{Absent, Failed, TooLong, NoMemory}

@@ -19,7 +19,11 @@ pub(crate) struct Peer {
 
 #[tactic(auto, unfolding(crate::specs::Peers::KeepsPeers, crate::specs::Peers::ChangesPeer))]
 /// Makes room for the connection, of which nothing may be kept yet.
-pub(crate) fn add_peer(alloc: Global, peers: &mut BTreeMap<u32, Peer>, conn: u32) -> Result<(), AllocError>
+pub(crate) fn add_peer(
+    alloc: Global,
+    peers: &mut BTreeMap<u32, Peer>,
+    conn: u32,
+) -> Result<(), AllocError>
     ensures ok { OnOk result (IsSome (get nat_cmp peers.new conn)) }
     ensures kept { KeepsPeers peers.old peers.new }
 {
@@ -37,7 +41,11 @@ pub(crate) fn add_peer(alloc: Global, peers: &mut BTreeMap<u32, Peer>, conn: u32
 
 #[tactic(auto, unfolding(crate::specs::Peers::KeepsPeers, crate::specs::Peers::ChangesPeer))]
 /// Adds octets taken for the connection, which is kept.
-pub(crate) fn take(peers: &mut BTreeMap<u32, Peer>, conn: u32, octets: &[u8]) -> Result<(), AllocError>
+pub(crate) fn take(
+    peers: &mut BTreeMap<u32, Peer>,
+    conn: u32,
+    octets: &[u8],
+) -> Result<(), AllocError>
     requires { IsSome (get nat_cmp peers.old conn) }
     ensures ok { OnOk result (ChangesPeer peers.old conn (Item.Taken conn octets.now) peers.new) }
     ensures err { OnErr result (KeepsPeers peers.old peers.new) }

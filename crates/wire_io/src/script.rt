@@ -89,9 +89,10 @@ impl Script {
         ensures exact { self.new ≡ (front_turn len self.old).left }
     {
         match self.events.get(self.place) {
-            Some(ScriptEvent::Bytes(_, octets)) if len < octets.len().saturating_sub(self.given) => {
-                self.given += len;
-            }
+            Some(ScriptEvent::Bytes(_, octets)) if len < octets.len().saturating_sub(self.given) =>
+                {
+                    self.given += len;
+                }
             Some(_) => {
                 self.place += 1;
                 self.given = 0;

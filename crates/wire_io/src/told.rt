@@ -159,7 +159,12 @@ impl Told {
     }
 
     /// The address was to be opened.
-    pub(crate) fn open(&mut self, address: &str, sessions: u64, done: bool) -> Result<(), AllocError>
+    pub(crate) fn open(
+        &mut self,
+        address: &str,
+        sessions: u64,
+        done: bool,
+    ) -> Result<(), AllocError>
         ensures ok { OnOk result (self.new ≡ self.old ++ Item.OpenedAt address.now sessions done ∷ []) }
         ensures err { OnErr result (self.new ≡ self.old) }
     {

@@ -1,4 +1,4 @@
-use Rattle.std.proofs.Common.{◌≡◌, ◌<◌, length, take, sym, ap, ◌∙◌, rules, arith}
+use Rattle.std.proofs.Common.{rules, arith}
 use Rattle.std.proofs.lemmas.Grind.{common_steps}
 use Rattle.plain_values.proofs.Theorems.{NeverFalls-refl}
 use Rattle.wire_io.proofs.ReadLemmas.{HasRead-empty, ReadCause-longer}

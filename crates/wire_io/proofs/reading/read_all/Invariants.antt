@@ -1,4 +1,4 @@
-use Rattle.std.proofs.Common.{length, vec_len, ◌-◌, ◌≡◌, ◌≤◌}
+use Rattle.std.proofs.Common.{vec_len, ◌-◌, ◌≡◌, ◌≤◌}
 use Rattle.plain_values.specs.Counts.{NeverFalls}
 use Rattle.wire_io.specs.ReadWhole.{HasRead}
 use Rattle.wire_io.proofs.reading.read_all.Given as goal

@@ -1,4 +1,4 @@
-use Rattle.std.proofs.Common.{◌≡◌, ◌++◌, length, take, arith}
+use Rattle.std.proofs.Common.{arith}
 use Rattle.std.proofs.lemmas.Grind.{common_steps}
 use Rattle.wire_io.proofs.ReadLemmas.{PieceGives-more, PieceGives-whole}
 use Rattle.wire_io.proofs.reading.read_piece.Goals as goal

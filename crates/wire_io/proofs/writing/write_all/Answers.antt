@@ -1,4 +1,4 @@
-use Rattle.std.proofs.Common.{◌≡◌, ℕ, ◌+◌, length, arith}
+use Rattle.std.proofs.Common.{arith}
 use Rattle.plain_values.proofs.Theorems.{NeverFalls-refl}
 use Rattle.wire_io.proofs.PuttingLemmas.{appended-none, tells-more, PutsAll-refused, PutsAll-whole, PutCause-refused, PutCause-more, PutCause-done}
 use Rattle.wire_io.proofs.writing.write_all.Goals as goal

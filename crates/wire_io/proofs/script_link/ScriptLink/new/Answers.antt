@@ -1,4 +1,3 @@
-use Rattle.std.proofs.Common.{◌≡◌, sym, subst}
 use Rattle.wire_io.proofs.PlayableLemmas.{IsPlayable-new}
 use Rattle.wire_io.proofs.script_link.ScriptLink.new.Goals as goal
 

@@ -1,4 +1,4 @@
-use Rattle.std.proofs.Common.{◌≡◌, length, Some, ap, ◌∙◌}
+use Rattle.std.proofs.Common.{length, Some, ap, ◌∙◌}
 use Rattle.wire_io.specs.Playing.{next_turn, holds_of}
 use Rattle.wire_io.specs.Telling.{event_of}
 use Rattle.wire_io.proofs.TurnLemmas.{good_turn, IsPlayable-turned, NextTells-turned}

@@ -1,4 +1,4 @@
-use Rattle.std.proofs.Common.{◌≡◌, ap}
+use Rattle.std.proofs.Common.{ap}
 use Rattle.wire_io.specs.declared.journal.Item.TheVariants.{Released}
 use Rattle.wire_io.proofs.NotingLemmas.{NoteTells-noted, LinkNotes-noted}
 use Rattle.wire_io.proofs.PlayableLemmas.{IsNote, IsPlayable-noted}

@@ -1,4 +1,3 @@
-use Rattle.std.proofs.Common.{◌≡◌, ap}
 use Rattle.wire_io.specs.declared.journal.Item.TheVariants.{Later, Gone, Taken}
 use Rattle.wire_io.proofs.PlayableLemmas.{IsNote, IsPlayable-noted}
 use Rattle.wire_io.proofs.script_link.ScriptLinkLink.write.Goals as goal

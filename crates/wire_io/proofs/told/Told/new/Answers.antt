@@ -1,4 +1,4 @@
-use Rattle.std.proofs.Common.{◌≡◌, refl}
+use Rattle.std.proofs.Common.{refl}
 use Rattle.wire_io.proofs.TrackedLemmas.{IsTracked-nothing}
 use Rattle.wire_io.proofs.told.Told.new.Goals as goal
 

@@ -1,4 +1,3 @@
-use Rattle.std.proofs.Common.{◌≡◌}
 use Rattle.wire_io.proofs.TrackedLemmas.{IsTracked-quiet}
 use Rattle.wire_io.proofs.told.Told.note.Goals as goal
 

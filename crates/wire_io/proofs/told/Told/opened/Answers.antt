@@ -1,5 +1,4 @@
-use Rattle.std.proofs.Common.{◌≡◌, sym, ◌∙◌, insert}
-use Rattle.wire_io.specs.Rising.{put_rising}
+use Rattle.std.proofs.Common.{sym, ◌∙◌}
 use Rattle.wire_io.proofs.TrackedLemmas.{IsTracked-opened}
 use Rattle.wire_io.proofs.told.Told.opened.Goals as goal
 

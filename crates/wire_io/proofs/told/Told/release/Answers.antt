@@ -1,4 +1,4 @@
-use Rattle.std.proofs.Common.{◌≡◌, refl}
+use Rattle.std.proofs.Common.{refl}
 use Rattle.wire_io.specs.declared.journal.Item.TheVariants.{Released}
 use Rattle.wire_io.proofs.PeersLemmas.{IsOf}
 use Rattle.wire_io.proofs.TrackedLemmas.{IsTracked-kept, IsTracked-changed}

@@ -1,4 +1,4 @@
-use Rattle.std.proofs.Common.{◌≡◌, [], ◌∷◌, ◌++◌, refl, ap, ◌∙◌}
+use Rattle.std.proofs.Common.{[], ◌∷◌, ◌++◌, refl, ap, ◌∙◌}
 use Rattle.wire_io.specs.declared.journal.Item.TheVariants.{Taken}
 use Rattle.wire_io.proofs.PeersLemmas.{IsOf}
 use Rattle.wire_io.proofs.TrackedLemmas.{IsTracked-kept, IsTracked-changed}
