@@ -5,7 +5,7 @@ use Rattle.plain_values.specs.Counts.{Rose, NeverFalls}
 use Rattle.wire_io.specs.declared.answers.FetchFault.{FetchFault}
 use Rattle.wire_io.specs.declared.answers.FetchFault.TheVariants.{Absent, Failed, NoMemory}
 
--- files, each a name and its octets; names are distinct
+-- files, each a name and its octets; of two of one name the first counts
 abbrev pub Files : Type 0
 Files = List (List ℕ × List ℕ)
 
