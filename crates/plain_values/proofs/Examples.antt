@@ -1,0 +1,25 @@
+-- A count of faults on known cases.
+use Rattle.std.proofs.Common.{◌≡◌, refl, inl, inr, arith}
+use Rattle.plain_values.specs.Counts.{Rose, NeverFalls, last_count, next_count}
+
+-- from 3 to 4 it rose
+three_to_four : Rose 3 4
+three_to_four = record { never_falls = omega arith; rose = inl (omega arith) }
+
+-- at its last value it is taken to have risen
+stays_at_the_last : Rose last_count last_count
+stays_at_the_last = record { never_falls = omega arith; rose = inr (omega arith) }
+
+-- a count that stays below its last value did not rise
+three_to_three : Rose 3 3 → ⊥
+three_to_three rise = omega arith
+
+-- and one that fell did neither
+four_to_three : NeverFalls 4 3 → ⊥
+four_to_three never = omega arith
+
+next_of_three : next_count 3 ≡ 4
+next_of_three = refl
+
+next_of_the_last : next_count last_count ≡ last_count
+next_of_the_last = refl
