@@ -13,7 +13,8 @@ ghost use Rattle.script_text.specs.ScriptReading.{script_of};
 pub fn lines_are_cut()
     ensures empty { lines [] ≡ [] }
     ensures last { (line : List ℕ) → line ≢ [] → All (λ octet. octet ≢ 10) line → lines line ≡ line ∷ [] }
-    ensures first { (line rest : List ℕ) → All (λ octet. octet ≢ 10) line → lines (line ++ 10 ∷ rest) ≡ strip_carriage_return line ∷ lines rest }
+    ensures first { (line rest : List ℕ) → All (λ octet. octet ≢ 10) line
+        → lines (line ++ 10 ∷ rest) ≡ strip_carriage_return line ∷ lines rest }
 {}
 
 /// A line gives an event exactly where it is the text of the event.
@@ -24,6 +25,7 @@ pub fn lines_are_texts()
 /// A text gives events exactly where it is a script of them, and the number of a line exactly where
 /// that is its first bad line.
 pub fn scripts_are_read()
-    ensures ok { (text : List ℕ) (events : List ScriptEvent) → (script_of text ≡ Ok events) ↔ IsScript text events }
+    ensures ok { (text : List ℕ) (events : List ScriptEvent)
+        → (script_of text ≡ Ok events) ↔ IsScript text events }
     ensures bad { (text : List ℕ) (number : ℕ) → (script_of text ≡ Err number) ↔ IsFirstBadLine text number }
 {}

@@ -3,7 +3,7 @@
 ghost use Rattle.std.specs.Prelude.{◌≡◌, ℕ, Ok, Err, IfOk, MatchResult, Some};
 ghost use Rattle.script_text.specs.LineText.{is_silent};
 ghost use Rattle.script_text.specs.Script.{IsScript, IsFirstBadLine, OpensOnce, AreFilled};
-ghost use Rattle.script_text.specs.ScriptReading.{Gives, IsCause, admitted, after_line, after_lines, script_of};
+ghost use Rattle.script_text.specs.ScriptReading.{Gives, IsCause, admitted, after_line, script_of};
 
 use crate::event::{ScriptEvent, ScriptFault};
 use crate::lines::first_line;
@@ -77,9 +77,11 @@ pub fn read_script(alloc: Global, text: &[u8]) -> Result<Vec<ScriptEvent>, Scrip
     ensures bad { (line : ℕ) → result ≡ Err (ScriptFault.Bad line) → IsFirstBadLine text.now line }
 
     // The same, as it is computed.
-    ensures exact { MatchResult result (λ events. script_of text.now ≡ Ok events.items) (λ fault. IsCause fault (script_of text.now)) }
+    ensures exact { MatchResult result
+        (λ events. script_of text.now ≡ Ok events.items)
+        (λ fault. IsCause fault (script_of text.now)) }
 
-    // What a link that gives these events asks of them.
+    // No number is opened twice, and no octets are empty.
     ensures fits { IfOk result (λ events. OpensOnce events.items × AreFilled events.items) }
 {
     Ok(read(alloc, text)?.into_events())
