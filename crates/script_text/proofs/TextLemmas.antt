@@ -73,14 +73,14 @@ event_of-some line event is =
     elim (cases_Bool (starts_with nat_eq line (codes "open "))) [
       | inl begins ↦ opened_text line event begins (sym (choose _ _ _ begins) ∙ is)
       | inr not_open ↦
-          let is2 = sym (other_choice _ _ _ not_open) ∙ is in
+          let not_opened = sym (other_choice _ _ _ not_open) ∙ is in
           elim (cases_Bool (starts_with nat_eq line (codes "send "))) [
-            | inl begins ↦ sent_text line event begins (sym (choose _ _ _ begins) ∙ is2)
+            | inl begins ↦ sent_text line event begins (sym (choose _ _ _ begins) ∙ not_opened)
             | inr not_send ↦
-                let is3 = sym (other_choice _ _ _ not_send) ∙ is2 in
+                let not_sent = sym (other_choice _ _ _ not_send) ∙ not_opened in
                 elim (cases_Bool (starts_with nat_eq line (codes "end "))) [
-                  | inl begins ↦ ended_text line event begins (sym (choose _ _ _ begins) ∙ is3)
-                  | inr not_end ↦ cc (sym (other_choice _ _ _ not_end) ∙ is3)
+                  | inl begins ↦ ended_text line event begins (sym (choose _ _ _ begins) ∙ not_sent)
+                  | inr not_end ↦ cc (sym (other_choice _ _ _ not_end) ∙ not_sent)
                 ]
           ]
     ]

@@ -29,5 +29,7 @@ pub record IsHexadecimal (digits octets : List ℕ) : Type 0 where
 -- the line is the text of the event
 abbrev pub Spells : List ℕ → ScriptEvent → Type 0
 Spells line (Opened number) = (digits : List ℕ) × (line ≡ codes "open " ++ digits) × IsNumber digits number
-Spells line (Bytes number octets) = (digits : List ℕ) × (pairs : List ℕ) × (line ≡ codes "send " ++ digits ++ codes " " ++ pairs) × IsNumber digits number × IsHexadecimal pairs octets
+Spells line (Bytes number octets) =
+    (digits : List ℕ) × (pairs : List ℕ) × (line ≡ codes "send " ++ digits ++ codes " " ++ pairs)
+    × IsNumber digits number × IsHexadecimal pairs octets
 Spells line (Ended number) = (digits : List ℕ) × (line ≡ codes "end " ++ digits) × IsNumber digits number

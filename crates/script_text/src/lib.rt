@@ -9,5 +9,5 @@ mod script;
 mod words;
 
 pub use event::{ScriptEvent, ScriptFault};
-pub use laws::{lines_are_texts, scripts_are_read};
+pub use laws::{lines_are_cut, lines_are_texts, scripts_are_read};
 pub use script::read_script;

@@ -1,9 +1,9 @@
 //! Scripts, line by line.
 
 ghost use Rattle.std.specs.Prelude.{◌≡◌, ℕ, Ok, Err, IfOk, MatchResult, Some};
-ghost use Rattle.script_text.specs.LineText.{is_silent as spec_is_silent};
+ghost use Rattle.script_text.specs.LineText.{is_silent};
 ghost use Rattle.script_text.specs.Script.{IsScript, IsFirstBadLine, OpensOnce, AreFilled};
-ghost use Rattle.script_text.specs.ScriptReading.{Gives, IsCause, admitted, after_line as spec_after_line, after_lines, script_of};
+ghost use Rattle.script_text.specs.ScriptReading.{Gives, IsCause, admitted, after_line, script_of};
 
 use crate::event::{ScriptEvent, ScriptFault};
 use crate::lines::first_line;
@@ -13,7 +13,7 @@ use std::alloc::Global;
 
 // Whether the line says nothing.
 fn is_silent(line: &[u8]) -> bool
-    ensures { result ≡ spec_is_silent line.now }
+    ensures { result ≡ is_silent line.now }
 {
     match line {
         [] => true,
@@ -39,7 +39,7 @@ fn after_line(
     number: u64,
     line: &[u8],
 ) -> Result<Reading, ScriptFault>
-    ensures { Gives result (spec_after_line reading number line.now) }
+    ensures { Gives result (after_line reading number line.now) }
 {
     if is_silent(line) {
         return Ok(reading);
@@ -77,9 +77,11 @@ pub fn read_script(alloc: Global, text: &[u8]) -> Result<Vec<ScriptEvent>, Scrip
     ensures bad { (line : ℕ) → result ≡ Err (ScriptFault.Bad line) → IsFirstBadLine text.now line }
 
     // The same, as it is computed.
-    ensures exact { MatchResult result (λ events. script_of text.now ≡ Ok events.items) (λ fault. IsCause fault (script_of text.now)) }
+    ensures exact { MatchResult result
+        (λ events. script_of text.now ≡ Ok events.items)
+        (λ fault. IsCause fault (script_of text.now)) }
 
-    // What a link that gives these events asks of them.
+    // No number is opened twice, and no octets are empty.
     ensures fits { IfOk result (λ events. OpensOnce events.items × AreFilled events.items) }
 {
     Ok(read(alloc, text)?.into_events())

@@ -4,7 +4,7 @@ ghost use Rattle.std.specs.Prelude.{◌≡◌, ◌≤◌, ◌&&◌, nat_le, leng
 ghost use Rattle.std.specs.Char.{is_ascii_digit};
 ghost use Rattle.std.specs.List.{AllPass, list_all, before_first, after_first};
 ghost use Rattle.std.specs.Str.Parse.{digits_value};
-ghost use Rattle.script_text.specs.LineReading.{is_space, in_range as spec_in_range, number_of, octets_of, sent_by, event_of};
+ghost use Rattle.script_text.specs.LineReading.{is_space, in_range, number_of, octets_of, sent_by, event_of};
 
 use crate::event::ScriptEvent;
 use crate::lines::position_of;
@@ -41,9 +41,9 @@ fn are_digits(octets: &[u8]) -> bool
 
 // The value where it is the number of a connection.
 fn in_range(value: u64) -> Option<u32>
-    ensures { result ≡ spec_in_range value }
+    ensures { result ≡ in_range value }
 {
-    if value < 1 || value > 4_294_967_295 {
+    if value < 1 || value > u64::from(u32::MAX) {
         return None;
     }
     Some(value as u32)

@@ -15,9 +15,9 @@ loop-rest-init c = record {
 
 -- the line is bad, or there was no memory
 pub returns-in_err-reading : goal.returns-in_err-reading
-returns-in_err-reading c = let p = err_from_is_err_and c.from_residual.result c.from_residual.ensures.1 in
+returns-in_err-reading c = let fault = err_from_is_err_and c.from_residual.result c.from_residual.ensures.1 in
     let whole = ap (λ rest. after_lines c.loop-rest.reading (c.loop-rest.number + 1) rest) (sym c.first_line.ensures.exact) ∙ c.loop-rest.invariant.reads in
-    Gives-same c.from_residual.result p.0 c.in_err-reading.field-0.0 _ (script_of c.args.text.now) p.1 p.2 (sym whole)
+    Gives-same c.from_residual.result fault.0 c.in_err-reading.field-0.0 _ (script_of c.args.text.now) fault.1 fault.2 (sym whole)
     (Gives-bad c.loop-rest.reading (c.loop-rest.number + 1) c.first_line.result.0.now (lines c.first_line.result.1.now) c.in_err-reading.field-0.0 c.in_err-reading.ensures)
 
 -- the line is good

@@ -7,8 +7,8 @@ use Rattle.script_text.proofs.script.read_script.Goals as goal
 -- the fault is that of the reading
 pub returns-in_err-read-clause-bad : goal.returns-in_err-read-clause-bad
 returns-in_err-read-clause-bad c =
-    let p = err_from_is_err_and c.from_residual.result c.from_residual.ensures.1 in
-    λ line is. bad_line c.args.text.now line c.from_residual.result p.0 c.in_err-read.field-0.0 p.1 p.2 c.in_err-read.ensures is
+    let fault = err_from_is_err_and c.from_residual.result c.from_residual.ensures.1 in
+    λ line is. bad_line c.args.text.now line c.from_residual.result fault.0 c.in_err-read.field-0.0 fault.1 fault.2 c.in_err-read.ensures is
 
 -- the events are those of the reading
 pub returns-clause-ok : goal.returns-clause-ok
