@@ -1,5 +1,5 @@
 -- What stands at the front of some octets: a whole header, the front of one, or neither (X.690 8.1.2 and 8.1.3).
-use Rattle.std.specs.Prelude.{◌≡◌, ◌⊎◌, ◌↔◌, ℕ, ◌+◌, ◌-◌, ◌%◌, ◌<◌, ◌≤◌, List, [], ◌∷◌, ◌++◌, length, take, ◌==◌, ◌||◌, nat_lt, if◌then◌else◌}
+use Rattle.std.specs.Prelude.{◌≡◌, ◌⊎◌, ℕ, ◌+◌, ◌-◌, ◌%◌, ◌<◌, ◌≤◌, List, [], ◌∷◌, ◌++◌, length, take, ◌==◌, ◌||◌, nat_lt, if◌then◌else◌}
 use Rattle.ber_core.specs.declared.kinds.Header.{Header}
 use Rattle.ber_core.specs.declared.kinds.Header.TheVariants.{Head, Short, Bad}
 use Rattle.ber_core.specs.Element.{number_after, IsHeader}
@@ -36,7 +36,7 @@ length_at tag (b ∷ octets) =
     if nat_lt b 128 then Head tag 2 b
     else if b == 128 || nat_lt 132 b then Bad
     else if nat_lt (length octets) (b - 128) then Short
-    else Head tag (b - 126) (number_after 0 (take (b - 128) octets))
+    else Head tag (b - 128 + 2) (number_after 0 (take (b - 128) octets))
 
 -- the answer, computed
 unfoldable pub header_at : List ℕ → Header

@@ -1,1 +1,4 @@
+pub mod StreamLemmas
+pub mod WholeLemmas
+pub mod Theorems
 pub mod Examples

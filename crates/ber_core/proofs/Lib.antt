@@ -1,0 +1,3 @@
+pub mod HeadingLemmas
+pub mod ElementLemmas
+pub mod Theorems
