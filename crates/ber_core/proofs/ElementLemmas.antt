@@ -4,14 +4,8 @@ use Rattle.std.proofs.lemmas.List.{append_assoc, append_cancel_left, take_at, dr
 use Rattle.ber_core.specs.declared.kinds.Header.TheVariants.{Head}
 use Rattle.ber_core.specs.Element.{IsHeader, Elem}
 use Rattle.ber_core.specs.Heading.{Begins, IsHeading, header_at}
+use Rattle.ber_core.specs.Laws.{SameElement}
 use Rattle.ber_core.proofs.HeadingLemmas.{heading_sound, begins_again, header_again}
-
--- equal octets that begin with elements begin with one element
-pub record SameElement (tag tag' : ℕ) (content content' bytes bytes' rest rest' : List ℕ) : Type 0 where
-  pub tags : tag ≡ tag'
-  pub contents : content ≡ content'
-  pub elements : bytes ≡ bytes'
-  pub rests : rest ≡ rest'
 
 -- the heading of an element, whatever follows it
 pub element_again : (tag : ℕ) (content bytes rest : List ℕ) (e : Elem tag content bytes) → header_at (bytes ++ rest) ≡ Head tag (length e.header) (length content)

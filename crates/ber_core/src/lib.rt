@@ -1,6 +1,15 @@
 //! The basic encoding rules of X.690, as far as LDAP uses them: headers of elements, and integers.
 #![tactic(auto)]
 
+mod integer;
 mod kinds;
+mod laws;
+mod number;
+mod read;
+mod write;
 
+pub use integer::{put_int, read_int};
 pub use kinds::{Header, NoMemory};
+pub use laws::{one_element, one_heading};
+pub use read::header;
+pub use write::put_header;
