@@ -1,9 +1,9 @@
 -- The integer that is computed is the one that the content stands for.
-use Rattle.std.proofs.Common.{◌≡◌, ℕ, suc, ◌+◌, ◌-◌, ◌<◌, ◌≤◌, Bool, true, false, cond, eqb, ltb, leb, List, [], ◌∷◌, ◌++◌, length, map, drop, Option, Some, None, refl, sym, ap, subst, ◌∙◌, inl, inr, arith}
-use Rattle.std.specs.Prelude.{◌&&◌, not, ℤ, pos, negsuc, int_lt, IfSome}
+use Rattle.std.proofs.Common.{◌≡◌, ℕ, ◌-◌, ◌≤◌, Bool, true, false, cond, leb, List, [], ◌∷◌, length, drop, Some, None, refl, sym, ap, ◌∙◌, inl, inr, arith}
+use Rattle.std.specs.Prelude.{◌&&◌, ℤ, pos, int_lt, IfSome}
 use Rattle.std.specs.Int.{w64, to_be_bytes}
 use Rattle.std.proofs.lemmas.List.{drop-map}
-use Rattle.std.proofs.lemmas.Bool.{cases_Bool, cases_lt, cases_eq, and_parts, and_from, not-true, not_from_false, ltb-true, leb-true, le-leb, lt-ltb, le-ltb, eq-eqb, ne_eqb, eqb-false}
+use Rattle.std.proofs.lemmas.Bool.{cases_lt, and_parts, and_from, not-true, leb-true, le-leb, lt-ltb, le-ltb, ne_eqb, eqb-false}
 use Rattle.ber_core.specs.Integer.{turned, signed_number, IsShortest, IsInteger, is_spare, is_shortest, int_at, trimmed, magnitude, int_octets}
 
 pub shortest_sound : (content : List ℕ) → is_shortest content ≡ true → IsShortest content

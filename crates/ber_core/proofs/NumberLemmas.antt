@@ -1,5 +1,5 @@
 -- How large a number from octets is.
-use Rattle.std.proofs.Common.{◌-◌, List, ◌∷◌, length, get_or, drop, ◌≡◌, ℕ, suc, ◌+◌, ◌*◌, ◌^◌, ◌<◌, ◌≤◌, sym, ap, ◌∙◌, arith, add-one}
+use Rattle.std.proofs.Common.{◌-◌, List, ◌∷◌, length, get_or, drop, ◌≡◌, ℕ, ◌+◌, ◌*◌, ◌^◌, ◌<◌, ◌≤◌, sym, ap, ◌∙◌, arith, add-one}
 use Rattle.std.proofs.lemmas.Nat.{mul-le}
 use Rattle.std.proofs.lemmas.List.{drop_more}
 use Rattle.ber_core.specs.Element.{number_after}

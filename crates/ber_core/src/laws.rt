@@ -1,6 +1,6 @@
 //! Laws over the definitions: each function's clause is the law, and its body does nothing.
 
-ghost use Rattle.ber_core.specs.Laws.{NoElementIsAFront, OneHeading};
+ghost use Rattle.ber_core.specs.Laws.{NoElementIsAFront, OneHeading, HeadersReadAgain, IntegersReadAgain};
 
 /// No element is the front of another (X.690 8.1).
 pub fn one_element()
@@ -10,4 +10,14 @@ pub fn one_element()
 /// Octets have one heading.
 pub fn one_heading()
     ensures { OneHeading }
+{}
+
+/// A written header is read again, whatever follows it.
+pub fn headers_read_again()
+    ensures { HeadersReadAgain }
+{}
+
+/// A written integer is the shortest form of itself, and is read again.
+pub fn integers_read_again()
+    ensures { IntegersReadAgain }
 {}

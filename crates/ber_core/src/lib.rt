@@ -10,6 +10,6 @@ mod write;
 
 pub use integer::{put_int, read_int};
 pub use kinds::{Header, NoMemory};
-pub use laws::{one_element, one_heading};
+pub use laws::{headers_read_again, integers_read_again, one_element, one_heading};
 pub use read::header;
 pub use write::put_header;

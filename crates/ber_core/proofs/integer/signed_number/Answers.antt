@@ -1,5 +1,5 @@
 -- Both numbers are below 2 ^ 63, and the test is the one of the definition.
-use Rattle.std.proofs.Common.{◌≡◌, ◌<◌, ◌^◌, ◌+◌, ◌-◌, arith, zero-add, ap, ◌∙◌, ℕ, w64, pos}
+use Rattle.std.proofs.Common.{◌<◌, ◌^◌, arith, zero-add, ap, ◌∙◌, ℕ, w64, pos}
 use Rattle.std.proofs.lemmas.Bool.{lt-ltb, le-ltb}
 use Rattle.std.proofs.lemmas.Int.{ints, to_z_pos}
 use Rattle.ber_core.proofs.integer.signed_number.Goals as goal
