@@ -1,0 +1,11 @@
+//! Octets and texts for the fields of enums and structs: contracts see each as the list of its
+//! octets. Here too are the words that every crate shares for a count of faults.
+#![tactic(auto)]
+
+mod counts;
+mod octets;
+mod text;
+
+pub use counts::raised;
+pub use octets::Octets;
+pub use text::Text;
