@@ -1,2 +1,4 @@
 -- what public clauses cite
 pub mod Streams
+pub mod Pieces
+pub mod Messages
