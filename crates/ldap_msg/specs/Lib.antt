@@ -2,3 +2,5 @@
 pub mod Streams
 pub mod Pieces
 pub mod Messages
+pub mod Replies
+pub mod Reading

@@ -1,6 +1,7 @@
 //! LDAP messages (RFC 4511): where a message ends in a stream of octets, requests read, and replies written.
 #![tactic(auto)]
 
+mod element;
 mod framing;
 mod kinds;
 
