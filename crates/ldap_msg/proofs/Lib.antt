@@ -1,5 +1,6 @@
 pub mod StreamLemmas
 pub mod WholeLemmas
+pub mod PieceLemmas
 pub mod Theorems
 pub mod Examples
 pub mod ReplyExamples

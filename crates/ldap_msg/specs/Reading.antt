@@ -15,6 +15,11 @@ abbrev pub Gives : {X Y : Type 0} → (X → Y) → Result X ReadFault → Optio
 Gives view (Ok x) read = read ≡ Some (view x)
 Gives view (Err e) read = Fails e read
 
+-- what was returned, seen by view, is what is computed
+abbrev pub Finds : {X Y : Type 0} → (X → Y) → Option X → Option Y → Type 0
+Finds view (Some x) read = read ≡ Some (view x)
+Finds view None read = read ≡ None
+
 -- an element without where it lies in memory
 abbrev pub piece_view : Element → Piece
 piece_view element = record { tag = element.tag; content = element.content.now; rest = element.rest.now }

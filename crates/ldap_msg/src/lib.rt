@@ -4,6 +4,7 @@
 mod element;
 mod framing;
 mod kinds;
+mod read;
 
 pub use framing::frame;
 pub use kinds::{
