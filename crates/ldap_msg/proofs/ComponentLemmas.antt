@@ -1,12 +1,11 @@
 -- A component that is read is the one that stands there, and one that stands there is read.
-use Rattle.std.proofs.Common.{◌≡◌, ℕ, zero, suc, ◌+◌, ◌-◌, ◌^◌, ◌<◌, ◌≤◌, Bool, true, false, cond, eqb, ltb, leb, List, [], ◌∷◌, ◌++◌, length, Option, Some, None, refl, sym, ap, subst, ◌∙◌, inl, inr, arith}
-use Rattle.std.specs.Prelude.{◌&&◌, ℤ, pos, negsuc, IfSome, IsTrue}
-use Rattle.std.proofs.lemmas.Bool.{cases_Bool, cases_eq, and_parts, and_from, leb-true, le-leb, eq-eqb, eqb-true}
-use Rattle.std.proofs.lemmas.List.{append-nil, append_assoc, length-append}
+use Rattle.std.proofs.Common.{◌≡◌, ℕ, zero, suc, ◌^◌, ◌<◌, ◌≤◌, Bool, true, false, cond, eqb, leb, List, [], ◌∷◌, ◌++◌, length, Option, Some, None, refl, sym, ap, subst, ◌∙◌, arith}
+use Rattle.std.specs.Prelude.{◌&&◌, ℤ, pos, negsuc, IfSome}
+use Rattle.std.proofs.lemmas.Bool.{and_parts, and_from, leb-true, le-leb, eq-eqb, eqb-true}
 use Rattle.ber_core.specs.Element.{Elem}
 use Rattle.ber_core.specs.Integer.{IsInteger, int_at}
 use Rattle.ber_core.proofs.Theorems.{int_sound, int_complete, natural_short}
-use Rattle.ldap_msg.specs.Pieces.{IsPiece, ArePieces, IsFurther, IsNumberIn, Piece, ◌>>=◌, piece_at, tagged_at, natural_in, number_in, are_pieces}
+use Rattle.ldap_msg.specs.Pieces.{ArePieces, IsFurther, IsNumberIn, Piece, ◌>>=◌, piece_at, tagged_at, natural_in, number_in, are_pieces}
 use Rattle.ldap_msg.proofs.PieceLemmas.{Takes, piece_sound, piece_again, pieces_nil, pieces_step, pieces_none}
 
 -- the value of a step that gave one
@@ -50,7 +49,7 @@ number_by low high content (Some (pos m)) n stands e =
     record {
       stands = subst (λ (k : ℕ). IsInteger content (pos k)) same stands.0;
       from_low = omega (arith, leb-true low m tests.0, same);
-      to_high = omega (arith, leb-true m high tests.1, same)
+      to_high = omega (arith, leb-true m high tests.1, same);
     }
 number_by low high content (Some (negsuc m)) n stands e = absurd cc
 
@@ -78,7 +77,7 @@ further_by (suc k) allowed (b ∷ bytes) (Some piece) found h e =
     let others = further_by k allowed piece.rest (piece_at piece.rest) refl (omega (arith, takes.shorter)) both.1 in
     record {
       pieces = takes.front ∷ others.pieces;
-      are = (record { tag = piece.tag; content = piece.content; element = takes.element; allows = both.0 }, (piece.rest, takes.joins, others.are))
+      are = (record { tag = piece.tag; content = piece.content; element = takes.element; allows = both.0 }, (piece.rest, takes.joins, others.are));
     }
 
 pub further_sound : (allowed : ℕ → Bool) (bytes : List ℕ) → are_pieces allowed bytes ≡ true → IsFurther allowed bytes

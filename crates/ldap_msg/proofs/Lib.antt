@@ -5,6 +5,7 @@ pub mod ComponentLemmas
 pub mod RequestLemmas
 pub mod OperationLemmas
 pub mod MessageLemmas
+pub mod WritingLemmas
 pub mod Theorems
 pub mod Examples
 pub mod ReplyExamples

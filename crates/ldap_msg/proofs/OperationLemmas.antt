@@ -1,14 +1,13 @@
 -- An operation's element that is read is what the octets say, and what they say is read.
-use Rattle.std.proofs.Common.{◌≡◌, ◌≢◌, ℕ, ◌+◌, ◌^◌, ◌<◌, ◌≤◌, Bool, true, false, cond, eqb, List, [], ◌∷◌, ◌++◌, length, Option, Some, None, refl, sym, ap, subst, ◌∙◌, inl, inr, arith}
-use Rattle.std.specs.Prelude.{◌||◌, IsTrue}
-use Rattle.std.proofs.lemmas.Bool.{cases_Bool, cases_eq, eq-eqb, ne_eqb, eqb-true}
+use Rattle.std.proofs.Common.{◌≡◌, ℕ, true, false, cond, eqb, List, [], ◌++◌, length, Some, None, refl, sym, ap, subst, ◌∙◌, inl, inr, arith}
+use Rattle.std.specs.Prelude.{IsTrue}
+use Rattle.std.proofs.lemmas.Bool.{cases_eq, eq-eqb, ne_eqb, eqb-true}
 use Rattle.std.proofs.lemmas.List.{nil_from_length}
 use Rattle.ber_core.specs.Element.{Elem}
-use Rattle.ldap_msg.specs.declared.kinds.BindRequest.{BindRequest}
 use Rattle.ldap_msg.specs.declared.kinds.Request.{Request}
 use Rattle.ldap_msg.specs.declared.kinds.Request.TheVariants.{Bind, Unbind, Abandon, Unbuilt}
-use Rattle.ldap_msg.specs.Pieces.{IsNumberIn, Piece, ◌>>=◌, piece_at, number_in}
-use Rattle.ldap_msg.specs.Messages.{is_unbuilt, SaysBind, SaysRequest, bind_of, request_of}
+use Rattle.ldap_msg.specs.Pieces.{Piece, ◌>>=◌, piece_at, number_in}
+use Rattle.ldap_msg.specs.Messages.{is_unbuilt, SaysRequest, bind_of, request_of}
 use Rattle.ldap_msg.proofs.PieceLemmas.{piece_again}
 use Rattle.ldap_msg.proofs.ComponentLemmas.{bind_some, guard_some, number_sound, number_again}
 use Rattle.ldap_msg.proofs.RequestLemmas.{retagged, bind_sound, bind_again}
@@ -76,23 +75,23 @@ another tag known unbuilt other is = let same : true ≡ false = sym unbuilt ∙
 pub request_again : (request : Request) (bytes rest : List ℕ) → SaysRequest request bytes → ReadsRequest request bytes rest
 unfolding request_of
 request_again (Bind r) bytes rest says = record {
-    piece = record { tag = 0x60; content = says.0; rest = rest };
-    found = piece_again 0x60 says.0 bytes rest says.1;
-    behind = refl;
-    is = rw (bind_again says.0 r says.2) refl
-  }
+  piece = record { tag = 0x60; content = says.0; rest = rest };
+  found = piece_again 0x60 says.0 bytes rest says.1;
+  behind = refl;
+  is = rw (bind_again says.0 r says.2) refl;
+}
 request_again Unbind bytes rest says = record {
-    piece = record { tag = 0x42; content = []; rest = rest };
-    found = piece_again 0x42 [] bytes rest says;
-    behind = refl;
-    is = refl
-  }
+  piece = record { tag = 0x42; content = []; rest = rest };
+  found = piece_again 0x42 [] bytes rest says;
+  behind = refl;
+  is = refl;
+}
 request_again (Abandon id) bytes rest says = record {
-    piece = record { tag = 0x50; content = says.0; rest = rest };
-    found = piece_again 0x50 says.0 bytes rest says.1;
-    behind = refl;
-    is = rw (number_again 0 2147483647 says.0 id (omega arith) says.2) refl
-  }
+  piece = record { tag = 0x50; content = says.0; rest = rest };
+  found = piece_again 0x50 says.0 bytes rest says.1;
+  behind = refl;
+  is = rw (number_again 0 2147483647 says.0 id (omega arith) says.2) refl;
+}
 request_again (Unbuilt tag) bytes rest says =
     let not_bind = ne_eqb tag 0x60 (another tag 0x60 says.0 refl) in
     let not_unbind = ne_eqb tag 0x42 (another tag 0x42 says.0 refl) in
@@ -101,5 +100,5 @@ request_again (Unbuilt tag) bytes rest says =
       piece = record { tag = tag; content = says.1.0; rest = rest };
       found = piece_again tag says.1.0 bytes rest says.1.1;
       behind = refl;
-      is = rw (not_bind, not_unbind, not_abandon, says.0) refl
+      is = rw (not_bind, not_unbind, not_abandon, says.0) refl;
     }

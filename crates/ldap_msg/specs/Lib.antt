@@ -4,3 +4,4 @@ pub mod Pieces
 pub mod Messages
 pub mod Replies
 pub mod Reading
+pub mod Writing

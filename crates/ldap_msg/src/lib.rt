@@ -5,8 +5,11 @@ mod element;
 mod framing;
 mod kinds;
 mod read;
+mod write;
 
 pub use framing::frame;
 pub use kinds::{
-    Auth, BindRequest, Frame, LdapResult, MAX_CONTENT, Message, ReadFault, Reply, Request,
+    Auth, BindRequest, Frame, LdapResult, MAX_CONTENT, Message, NoMemory, ReadFault, Reply, Request,
 };
+pub use read::read_request;
+pub use write::{put_notice, put_reply};

@@ -153,3 +153,15 @@ fn message(alloc: Global, bytes: &[u8]) -> Result<Message, ReadFault>
     }
     components(alloc, outer.content)
 }
+
+/// The request that the octets say. They are one whole message; `BadMessage` comes exactly where
+/// they aren't a request's (RFC 4511 section 4), `NoMemory` where there was no memory.
+pub fn read_request(alloc: Global, bytes: &[u8]) -> Result<Message, ReadFault>
+    // What is read is what the octets say.
+    ensures found { IfOk result (λ message. Says message bytes.now) }
+    // What they say is read, unless memory runs out.
+    ensures only { (other : Message) → Says other bytes.now → MatchResult result (λ message. message ≡ other) (λ fault. fault ≡ NoMemory) }
+    ensures exact { Gives (λ message. message) result (message_of bytes.now) }
+{
+    message(alloc, bytes)
+}
