@@ -8,6 +8,7 @@ pub mod MessageLemmas
 pub mod WritingLemmas
 pub mod OuterLemmas
 pub mod LongestLemmas
+pub mod WritableLemmas
 pub mod Theorems
 pub mod Examples
 pub mod ReplyExamples

@@ -1,17 +1,17 @@
 -- The computed frame is the one that the stream has.
-use Rattle.std.proofs.Common.{◌≡◌, ◌≢◌, ℕ, zero, suc, ◌+◌, ◌%◌, ◌<◌, ◌≤◌, Bool, true, false, cond, eqb, List, [], ◌∷◌, ◌++◌, length, take, drop, refl, sym, ap, subst, ◌∙◌, inl, inr, arith}
+use Rattle.std.proofs.Common.{◌≡◌, ℕ, zero, suc, ◌+◌, ◌<◌, List, [], ◌∷◌, ◌++◌, length, take, drop, refl, sym, ap, subst, ◌∙◌, inl, inr, arith}
 use Rattle.std.proofs.lemmas.Bool.{cases_lt, cases_eq, lt-ltb, le-ltb, eq-eqb, ne_eqb}
 use Rattle.std.proofs.lemmas.List.{length-append, length-take-le, take-append-drop, length-drop, append_assoc, append-nil}
 use Rattle.ber_core.specs.declared.kinds.Header.{Header}
 use Rattle.ber_core.specs.declared.kinds.Header.TheVariants as header
-use Rattle.ber_core.specs.Element.{SpellsLength, IsTag, IsHeader, Elem}
+use Rattle.ber_core.specs.Element.{SpellsLength, IsHeader, Elem}
 use Rattle.ber_core.specs.Heading.{IsUnreadable, IsHeading, header_at}
 use Rattle.ber_core.proofs.Theorems.{heading_sound, heading_begins, header_again, unreadable_again, element_again, element_there}
 use Rattle.ldap_msg.specs.declared.kinds.Frame.{Frame}
 use Rattle.ldap_msg.specs.declared.kinds.Frame.TheVariants.{Whole, More, Bad}
 use Rattle.ldap_msg.specs.declared.kinds.TheConstants.{MAX_CONTENT}
 use Rattle.ldap_msg.specs.Streams.{IsOuter, SpellsTooMuch, IsBrokenLength, IsBroken, IsFrame, framed, frame_at}
-use Rattle.ldap_msg.proofs.StreamLemmas.{IsFramed, frame_opened, frame_there, frame_bound}
+use Rattle.ldap_msg.proofs.StreamLemmas.{frame_opened, frame_there, frame_bound}
 
 -- ---- whole messages
 
@@ -27,10 +27,14 @@ outer_frame message rest outer =
     let opened = header_tag e.header (outer.content ++ rest) (length outer.content) e.heads in
     let opens : message ++ rest ≡ 48 ∷ opened.0 = ap (λ (s : List ℕ). s ++ rest) e.joined ∙ append_assoc e.header outer.content rest ∙ opened.1 in
     frame_there (message ++ rest) opened.0 (length message) opens (record {
-        tag = 48; head = length e.header; len = length outer.content;
-        heading = element_again 48 outer.content message rest e;
-        size = size; fits = outer.fits; there = omega (arith, length-append message rest)
-      })
+      tag = 48;
+      head = length e.header;
+      len = length outer.content;
+      heading = element_again 48 outer.content message rest e;
+      size = size;
+      fits = outer.fits;
+      there = omega (arith, length-append message rest);
+    })
 
 -- the tag of a header that was found is the first octet
 first_is : (s behind : List ℕ) (tag n len : ℕ) → s ≡ 48 ∷ behind → IsHeader (take n s) tag len → tag ≡ 48
@@ -53,7 +57,7 @@ frame_outer s n e =
     record {
       content = take f.len (drop f.head s);
       element = subst (λ (t : ℕ). Elem t (take f.len (drop f.head s)) (take n s)) tag sized;
-      fits = omega (arith, count, f.fits)
+      fits = omega (arith, count, f.fits);
     }
 
 -- a whole message is one by itself
@@ -94,9 +98,13 @@ broken_frame (tag ∷ octets) broken =
 spelled_there : (octets : List ℕ) (n len : ℕ) → IsHeader (take n (48 ∷ octets)) 48 len → MAX_CONTENT < len → SpellsTooMuch octets
 spelled_there octets zero len h above = absurd h
 spelled_there octets (suc n) len h above = record {
-    spelled = take n octets; after = drop n octets; len = len;
-    joins = sym (take-append-drop n octets); spells = h.2; above = above
-  }
+  spelled = take n octets;
+  after = drop n octets;
+  len = len;
+  joins = sym (take-append-drop n octets);
+  spells = h.2;
+  above = above;
+}
 
 no_spelling : (spelled after : List ℕ) (len : ℕ) → [] ≡ spelled ++ after → SpellsLength spelled len → ⊥
 no_spelling [] after len joins spells = spells
@@ -151,9 +159,10 @@ frame_broken (tag ∷ octets) e =
 
 frame_is : (s : List ℕ) (f : Frame) → frame_at s ≡ f → IsFrame s f
 frame_is s (Whole n) e = ((frame_bound s n e).1, frame_outer s n e)
-frame_is s More e =
-    ((λ message after outer joins. let whole : More ≡ Whole (length message) = sym e ∙ ap frame_at joins ∙ outer_frame message after outer in cc),
-     (λ broken. let bad : More ≡ Bad = sym e ∙ broken_frame s broken in cc))
+frame_is s More e = (
+  (λ message after outer joins. let whole : More ≡ Whole (length message) = sym e ∙ ap frame_at joins ∙ outer_frame message after outer in cc),
+  (λ broken. let bad : More ≡ Bad = sym e ∙ broken_frame s broken in cc),
+)
 frame_is s Bad e = frame_broken s e
 
 -- the computed frame is the one that the stream has
