@@ -12,5 +12,5 @@ pub use Rattle.ldap_msg.proofs.MessageLemmas.{message_sound, message_complete}
 pub use Rattle.ldap_msg.proofs.OuterLemmas.{frame_sound, frame_complete, outer_frame, frame_outer, whole_alone}
 -- the messages are the longest list of outer elements at the front, and the only one
 pub use Rattle.ldap_msg.proofs.LongestLemmas.{whole_parts, whole_longest, whole_only, broken_sound, broken_complete}
--- a plain reply can be written, and no reply is empty
-pub use Rattle.ldap_msg.proofs.WritableLemmas.{plain_content, writable_plain, reply_some}
+-- a reply of short parts can be written, a plain one too, and no reply is empty
+pub use Rattle.ldap_msg.proofs.WritableLemmas.{writable_short, writable_plain, reply_some}

@@ -1,4 +1,4 @@
--- Plain replies are short, so they can be written; no reply is empty.
+-- Replies of short parts can be written, plain ones among them; no reply is empty.
 use Rattle.std.proofs.Common.{◌≡◌, ℕ, ◌+◌, ◌^◌, ◌<◌, ◌≤◌, List, length, Option, Some, None, refl, ap, inl, inr, arith, w64}
 use Rattle.std.specs.Prelude.{pos, FitsSigned}
 use Rattle.std.proofs.lemmas.Bool.{cases_lt, lt-ltb, le-ltb}
@@ -9,7 +9,7 @@ use Rattle.ber_core.proofs.Theorems.{int_spells}
 use Rattle.ldap_msg.specs.declared.kinds.LdapResult.{LdapResult}
 use Rattle.ldap_msg.specs.declared.kinds.Reply.{Reply}
 use Rattle.ldap_msg.specs.declared.kinds.Reply.TheVariants.{Bind, Done, Modify, Add, Delete, Rename, Compare, Extended}
-use Rattle.ldap_msg.specs.Replies.{element_octets, result_octets, optional_octets, operation_tag, operation_content, reply_content, reply_octets, IsWritable, IsBare, IsPlain}
+use Rattle.ldap_msg.specs.Replies.{element_octets, result_octets, optional_octets, operation_tag, operation_content, reply_content, reply_octets, IsWritable, IsShortResult, IsShortValue, IsShort, IsBare, IsPlain}
 use Rattle.ldap_msg.proofs.WritingLemmas.{element_length, result_length, extended_length, content_length}
 
 -- a length has at most five octets
@@ -38,45 +38,63 @@ number_bound n below =
     let fits : FitsSigned w64 (pos n) = search (arith, ints) in
     (int_spells (pos n) fits).1
 
-bare_bound : (r : LdapResult) → IsBare r → length (result_octets r) ≤ 22
-bare_bound r bare =
-    let code = number_bound r.code (omega (arith, bare.code)) in
-    let none : length r.matched ≡ 0 = ap length bare.matched in
-    omega (arith, result_length r, element_bound 0x0a (int_octets (pos r.code)), element_bound 0x04 r.matched, code, none)
+short_result : (r : LdapResult) → IsShortResult r → length (result_octets r) < 2 ^ 30 + 22
+short_result r short =
+    let code = number_bound r.code (omega (arith, short.code)) in
+    omega (arith, result_length r, element_bound 0x0a (int_octets (pos r.code)), element_bound 0x04 r.matched, code, short.matched)
 
-absent : (tag : ℕ) (value : Option (List ℕ)) → value ≡ None → length (optional_octets tag value) ≡ 0
+short_value : (tag : ℕ) (value : Option (List ℕ)) → IsShortValue value → length (optional_octets tag value) < 2 ^ 30 + 6
 unfolding optional_octets
-absent tag None e = refl
-absent tag (Some v) e = absurd cc
+short_value tag None short = omega arith
+short_value tag (Some value) short = omega (arith, element_bound tag value)
 
-plain_bound : (reply : Reply) → IsPlain reply → length (operation_content reply) ≤ 22
+short_content : (reply : Reply) → IsShort reply → length (operation_content reply) < 2 ^ 30 + 22 + (2 ^ 30 + 6 + (2 ^ 30 + 6))
 unfolding operation_content
-plain_bound (Bind r) plain = bare_bound r plain
-plain_bound (Done r) plain = bare_bound r plain
-plain_bound (Modify r) plain = bare_bound r plain
-plain_bound (Add r) plain = bare_bound r plain
-plain_bound (Delete r) plain = bare_bound r plain
-plain_bound (Rename r) plain = bare_bound r plain
-plain_bound (Compare r) plain = bare_bound r plain
-plain_bound (Extended r name value) plain =
-    omega (arith, extended_length r name value, bare_bound r plain.0, absent 0x8a name plain.1, absent 0x8b value plain.2)
+short_content (Bind r) short = omega (arith, short_result r short)
+short_content (Done r) short = omega (arith, short_result r short)
+short_content (Modify r) short = omega (arith, short_result r short)
+short_content (Add r) short = omega (arith, short_result r short)
+short_content (Delete r) short = omega (arith, short_result r short)
+short_content (Rename r) short = omega (arith, short_result r short)
+short_content (Compare r) short = omega (arith, short_result r short)
+short_content (Extended r name value) short =
+    omega (arith, extended_length r name value, short_result r short.0, short_value 0x8a name short.1, short_value 0x8b value short.2)
 
--- the content of a plain reply has at most 42 octets
-pub plain_content : (id : ℕ) (reply : Reply) → id < 2 ^ 32 → IsPlain reply → length (reply_content id reply) ≤ 42
-plain_content id reply below plain =
+-- a reply of short parts can be written
+pub writable_short : (id : ℕ) (reply : Reply) → id < 2 ^ 32 → IsShort reply → IsWritable id reply
+writable_short id reply below short =
     let number = number_bound id (omega arith) in
-    omega (
-      arith,
-      content_length id reply,
-      element_bound 0x02 (int_octets (pos id)),
-      number,
-      element_bound (operation_tag reply) (operation_content reply),
-      plain_bound reply plain,
-    )
+    record {
+      fits = omega (
+        arith,
+        content_length id reply,
+        element_bound 0x02 (int_octets (pos id)),
+        number,
+        element_bound (operation_tag reply) (operation_content reply),
+        short_content reply short,
+      );
+    }
+
+bare_short : (r : LdapResult) → IsBare r → IsShortResult r
+bare_short r bare = let none : length r.matched ≡ 0 = ap length bare.matched in record { code = bare.code; matched = omega arith }
+
+absent : (value : Option (List ℕ)) → value ≡ None → IsShortValue value
+absent None e = tt
+absent (Some value) e = absurd cc
+
+plain_short : (reply : Reply) → IsPlain reply → IsShort reply
+plain_short (Bind r) plain = bare_short r plain
+plain_short (Done r) plain = bare_short r plain
+plain_short (Modify r) plain = bare_short r plain
+plain_short (Add r) plain = bare_short r plain
+plain_short (Delete r) plain = bare_short r plain
+plain_short (Rename r) plain = bare_short r plain
+plain_short (Compare r) plain = bare_short r plain
+plain_short (Extended r name value) plain = (bare_short r plain.0, absent name plain.1, absent value plain.2)
 
 -- a plain reply can be written
 pub writable_plain : (id : ℕ) (reply : Reply) → id < 2 ^ 32 → IsPlain reply → IsWritable id reply
-writable_plain id reply below plain = record { fits = omega (arith, plain_content id reply below plain) }
+writable_plain id reply below plain = writable_short id reply below (plain_short reply plain)
 
 -- no reply is empty
 pub reply_some : (id : ℕ) (reply : Reply) → 0 < length (reply_octets id reply)

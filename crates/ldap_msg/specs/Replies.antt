@@ -54,12 +54,33 @@ reply_octets id reply = element_octets 0x30 (reply_content id reply)
 pub record IsWritable (id : ℕ) (reply : Reply) : Type 0 where
   pub fits : length (reply_content id reply) < 2 ^ 32
 
--- a result with the empty matched name
+-- a code of one octet, and a matched name below 2 ^ 30 octets
+pub record IsShortResult (r : LdapResult) : Type 0 where
+  pub code : r.code < 256
+  pub matched : length r.matched < 2 ^ 30
+
+-- a value below 2 ^ 30 octets, or none
+abbrev pub IsShortValue : Option (List ℕ) → Type 0
+IsShortValue None = Unit {0}
+IsShortValue (Some value) = length value < 2 ^ 30
+
+-- a reply of such parts
+abbrev pub IsShort : Reply → Type 0
+IsShort (Bind r) = IsShortResult r
+IsShort (Done r) = IsShortResult r
+IsShort (Modify r) = IsShortResult r
+IsShort (Add r) = IsShortResult r
+IsShort (Delete r) = IsShortResult r
+IsShort (Rename r) = IsShortResult r
+IsShort (Compare r) = IsShortResult r
+IsShort (Extended r name value) = IsShortResult r × IsShortValue name × IsShortValue value
+
+-- a result with a code of one octet and the empty matched name
 pub record IsBare (r : LdapResult) : Type 0 where
   pub code : r.code < 256
   pub matched : r.matched ≡ []
 
--- a reply with the empty matched name and, where it is extended, no name and no value
+-- a reply with such a result and, where it is extended, no name and no value
 abbrev pub IsPlain : Reply → Type 0
 IsPlain (Bind r) = IsBare r
 IsPlain (Done r) = IsBare r

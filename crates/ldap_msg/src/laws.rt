@@ -6,7 +6,7 @@ ghost use Rattle.ldap_msg.specs.declared.kinds.Message.{Message};
 ghost use Rattle.ldap_msg.specs.declared.kinds.Reply.{Reply};
 ghost use Rattle.ldap_msg.specs.Streams.{IsWhole, IsBroken, frame_at, whole, rest_of, is_broken};
 ghost use Rattle.ldap_msg.specs.Messages.{Says};
-ghost use Rattle.ldap_msg.specs.Replies.{IsPlain, IsWritable, reply_octets};
+ghost use Rattle.ldap_msg.specs.Replies.{IsShort, IsPlain, IsWritable, reply_octets};
 ghost use Rattle.ldap_msg.specs.Laws.{GoesOn, IsDone, StepsOver, StopsAt, OnlyWhole};
 
 /// The messages of a stream are those of its front, and then those of its rest with what came.
@@ -46,8 +46,9 @@ pub fn one_message()
     ensures { (message other : Message) (bytes : List ℕ) → Says message bytes → Says other bytes → message ≡ other }
 {}
 
-/// A plain reply can be written, and no reply is empty.
+/// A reply of short parts can be written, a plain one among them, and no reply is empty.
 pub fn replies_are_writable()
+    ensures short { (id : ℕ) (reply : Reply) → id < 2 ^ 32 → IsShort reply → IsWritable id reply }
     ensures plain { (id : ℕ) (reply : Reply) → id < 2 ^ 32 → IsPlain reply → IsWritable id reply }
     ensures some { (id : ℕ) (reply : Reply) → 0 < length (reply_octets id reply) }
 {}
