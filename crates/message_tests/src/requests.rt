@@ -28,7 +28,7 @@ fn requests_are_read_with_every_form_of_length(rt: HostRuntime) -> Result<(), Fa
         (
             b"\x30\x0c\x02\x01\x01\x60\x07\x02\x01\x03\x04\x00\x80\x00",
             (1, false, 0x60, 3, b"", b""),
-            "an anonymous bind",
+            "a bind of nobody",
         ),
         (
             b"\x30\x0f\x02\x01\x01\x60\x0a\x02\x01\x03\x04\x02dc\x80\x01x",
