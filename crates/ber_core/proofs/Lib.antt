@@ -4,5 +4,7 @@ pub mod HeadingLemmas
 pub mod ElementLemmas
 pub mod SpellingLemmas
 pub mod WrittenIntegers
+pub mod OneForm
+pub mod OneInteger
 pub mod Theorems
 pub mod Examples

@@ -9,3 +9,6 @@ pub use Rattle.ber_core.proofs.SpellingLemmas.{length_spells, header_spells, wri
 pub use Rattle.ber_core.proofs.WrittenIntegers.{int_spells, written_integer}
 -- the integer that is computed is the one that the content stands for
 pub use Rattle.ber_core.proofs.IntegerLemmas.{int_sound, int_complete, natural_short}
+-- the written length is the shortest, and an integer has one content
+pub use Rattle.ber_core.proofs.OneForm.{shortest_length}
+pub use Rattle.ber_core.proofs.OneInteger.{one_form}

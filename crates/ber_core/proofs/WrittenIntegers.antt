@@ -10,17 +10,17 @@ use Rattle.ber_core.specs.Integer.{turned, signed_number, IsShortest, IsInteger,
 use Rattle.ber_core.proofs.IntegerLemmas.{int_complete}
 
 -- there is a first octet, and its first bit is clear
-Clear : List ℕ → Type 0
+unfoldable pub Clear : List ℕ → Type 0
 Clear [] = ⊥
 Clear (b ∷ octets) = b < 128
 
 -- no first octet only repeats a clear sign
-Trim : List ℕ → Type 0
+unfoldable pub Trim : List ℕ → Type 0
 Trim [] = ⊥
 Trim (b ∷ []) = Unit {0}
 Trim (b ∷ c ∷ octets) = b ≡ 0 → c < 128 → ⊥
 
-Octets : List ℕ → Type 0
+unfoldable pub Octets : List ℕ → Type 0
 Octets [] = Unit {0}
 Octets (b ∷ octets) = (b < 256) × Octets octets
 
@@ -53,7 +53,7 @@ trimmed_is (b ∷ c ∷ octets) n clear fits number few =
           })
     ]
 
-turned_turned : (octets : List ℕ) → Octets octets → turned (turned octets) ≡ octets
+pub turned_turned : (octets : List ℕ) → Octets octets → turned (turned octets) ≡ octets
 unfolding Octets
 turned_turned [] h = refl
 turned_turned (b ∷ octets) h =

@@ -1,12 +1,13 @@
 -- The laws over the definitions that this crate's functions of laws state.
-use Rattle.std.specs.Prelude.{◌≡◌, ℕ, ◌<◌, ◌^◌, List, ◌++◌, length, Some, ℤ, FitsSigned}
+use Rattle.std.specs.Prelude.{◌≡◌, ℕ, ◌<◌, ◌≤◌, ◌^◌, List, ◌++◌, length, Some, ℤ, FitsSigned}
 use Rattle.std.specs.Int.{w64}
+use Rattle.std.specs.List.{AllByRecursion}
 use Rattle.ber_core.specs.declared.kinds.Header.{Header}
 use Rattle.ber_core.specs.declared.kinds.Header.TheVariants.{Head}
-use Rattle.ber_core.specs.Element.{IsTag, IsHeader, Elem}
+use Rattle.ber_core.specs.Element.{SpellsLength, IsTag, IsHeader, Elem}
 use Rattle.ber_core.specs.Heading.{IsHeading, header_at}
 use Rattle.ber_core.specs.Integer.{IsInteger, int_at, int_octets}
-use Rattle.ber_core.specs.Spelling.{header_octets}
+use Rattle.ber_core.specs.Spelling.{length_octets, header_octets}
 
 -- equal octets that begin with elements begin with one element
 pub record SameElement (tag tag' : ℕ) (content content' bytes bytes' rest rest' : List ℕ) : Type 0 where
@@ -14,6 +15,10 @@ pub record SameElement (tag tag' : ℕ) (content content' bytes bytes' rest rest
   pub contents : content ≡ content'
   pub elements : bytes ≡ bytes'
   pub rests : rest ≡ rest'
+
+-- each is a number below 256
+abbrev pub AreOctets : List ℕ → Type 0
+AreOctets octets = AllByRecursion (λ b. b < 256) octets
 
 -- no element is the front of another
 abbrev pub NoElementIsAFront : Type 0
@@ -40,3 +45,12 @@ pub record IntegerReadsAgain (value : ℤ) : Type 0 where
 
 abbrev pub IntegersReadAgain : Type 0
 IntegersReadAgain = (value : ℤ) → FitsSigned w64 value → IntegerReadsAgain value
+
+-- no spelling of a length is shorter than the written one
+abbrev pub LengthsAreShortest : Type 0
+LengthsAreShortest = (len : ℕ) (spelled : List ℕ) → AreOctets spelled → SpellsLength spelled len → length (length_octets len) ≤ length spelled
+
+-- an integer has one content
+abbrev pub OneInteger : Type 0
+OneInteger = (content other : List ℕ) (value : ℤ) → AreOctets content → AreOctets other
+    → IsInteger content value → IsInteger other value → content ≡ other

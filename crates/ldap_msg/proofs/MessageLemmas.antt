@@ -54,6 +54,10 @@ marked_again bytes true says =
 
 -- ---- the message
 
+-- two components and what follows them
+two_joined : (content a b rest rest' : List ℕ) → content ≡ a ++ rest → rest ≡ b ++ rest' → content ≡ a ++ (b ++ rest')
+two_joined content a b rest rest' first second = first ∙ ap (λ (s : List ℕ). a ++ s) second
+
 -- the components of a message
 record SaysIn (message : Message) (content : List ℕ) : Type 0 where
   says : (bytes : List ℕ) → Elem 0x30 content bytes → Says message bytes
@@ -85,7 +89,7 @@ components_sound content message e =
         id_stands = number_sound 1 2147483647 a.0.content b.0 b.1;
         operation_element = request_sound c.0 d.0 operation.front operation.element d.1;
         tail_elements = marked_sound c.0.rest f.0 f.1;
-        joins = number.0.joins ∙ ap (λ (s : List ℕ). number.0.front ++ s) operation.joins;
+        joins = two_joined content number.0.front operation.front a.0.rest c.0.rest number.0.joins operation.joins;
       };
     } in
     subst (λ (m : Message). SaysIn m content) same made_says

@@ -46,6 +46,11 @@ auth_again (Other tag) bytes rest says = record {
   is = rw (ne_eqb tag 0x80 says.0) refl;
 }
 
+-- three components and what follows them
+three_joined : (content a b c rest rest' rest3 : List ℕ) → content ≡ a ++ rest → rest ≡ b ++ rest' → rest' ≡ c ++ rest3 → content ≡ a ++ (b ++ (c ++ rest3))
+three_joined content a b c rest rest' rest3 first second third =
+    first ∙ ap (λ (s : List ℕ). a ++ s) second ∙ ap (λ (s : List ℕ). a ++ (b ++ s)) third
+
 -- ---- a bind
 
 pub bind_sound : (content : List ℕ) (r : BindRequest) → bind_of content ≡ Some r → SaysBind r content
@@ -75,9 +80,7 @@ bind_sound content r e =
       name_element = retagged c.0.tag 4 c.0.content name.0.front name.1 name.0.element;
       auth_element = auth_sound d.0 auth.front auth.element;
       further_elements = further_sound any_tag d.0.rest g.0;
-      joins = number.0.joins
-          ∙ ap (λ (s : List ℕ). number.0.front ++ s) name.0.joins
-          ∙ ap (λ (s : List ℕ). number.0.front ++ (name.0.front ++ s)) auth.joins;
+      joins = three_joined content number.0.front name.0.front auth.front a.0.rest c.0.rest d.0.rest number.0.joins name.0.joins auth.joins;
     } in
     subst (λ (x : BindRequest). SaysBind x content) g.1 says
 
