@@ -1,0 +1,6 @@
+-- what public clauses cite
+pub mod Element
+pub mod Heading
+pub mod Integer
+pub mod Spelling
+pub mod Laws

@@ -1,0 +1,14 @@
+pub mod StreamLemmas
+pub mod WholeLemmas
+pub mod PieceLemmas
+pub mod ComponentLemmas
+pub mod RequestLemmas
+pub mod OperationLemmas
+pub mod MessageLemmas
+pub mod WritingLemmas
+pub mod OuterLemmas
+pub mod LongestLemmas
+pub mod WritableLemmas
+pub mod Theorems
+pub mod Examples
+pub mod ReplyExamples

@@ -1,0 +1,10 @@
+-- what public clauses cite
+pub mod Streams
+pub mod Pieces
+pub mod Messages
+pub mod Replies
+pub mod Laws
+pub mod Reading
+
+-- what the crate's inside promises itself
+pub mod Writing

@@ -1,0 +1,138 @@
+//! Replies written (RFC 4511 section 4).
+
+ghost use Rattle.std.specs.Prelude.{◌<◌, ◌^◌, IfOk, length};
+ghost use Rattle.ldap_msg.specs.Replies.{IsBare, IsShort};
+
+use ldap_msg::{LdapResult, NoMemory, Reply, put_notice, put_reply};
+use plain_values::Octets;
+use std::alloc::Global;
+use std::test::Fail;
+
+fn ended(alloc: Global, code: u8) -> LdapResult
+    ensures { IsBare result }
+{
+    LdapResult {
+        code,
+        matched: Octets::from_vec(Vec::new(alloc)),
+    }
+}
+
+fn extended(alloc: Global, name: &[u8], value: &[u8]) -> Result<Reply, NoMemory>
+    requires name { length name.now < 2 ^ 30 }
+    requires value { length value.now < 2 ^ 30 }
+    ensures { IfOk result (λ reply. IsShort reply) }
+{
+    let name = Octets::from_vec(name.to_vec(alloc)?);
+    let value = Octets::from_vec(value.to_vec(alloc)?);
+    Ok(Reply::Extended(ended(alloc, 2), Some(name), Some(value)))
+}
+
+fn missing(alloc: Global, matched: &[u8]) -> Result<Reply, NoMemory>
+    requires { length matched.now < 2 ^ 30 }
+    ensures { IfOk result (λ reply. IsShort reply) }
+{
+    let matched = Octets::from_vec(matched.to_vec(alloc)?);
+    Ok(Reply::Compare(LdapResult { code: 32, matched }))
+}
+
+#[tactic(auto, using(ldap_msg::proofs::Theorems::writable_short))]
+fn written(alloc: Global, id: u32, reply: &Reply) -> Result<Vec<u8>, NoMemory>
+    requires { IsShort reply.now }
+{
+    let mut out = [7].to_vec(alloc)?;
+    put_reply(&mut out, id, reply)?;
+    Ok(out)
+}
+
+/// The plain reply in the nth row of the table below.
+fn plain(alloc: Global, row: usize) -> Reply
+    ensures { IsShort result }
+{
+    match row {
+        0 => Reply::Bind(ended(alloc, 0)),
+        1 => Reply::Done(ended(alloc, 53)),
+        2 => Reply::Modify(ended(alloc, 0)),
+        3 => Reply::Add(ended(alloc, 0)),
+        4 => Reply::Delete(ended(alloc, 0)),
+        5 => Reply::Rename(ended(alloc, 0)),
+        6 => Reply::Compare(ended(alloc, 6)),
+        _ => Reply::Extended(ended(alloc, 128), None, None),
+    }
+}
+
+#[test]
+fn each_reply_has_one_spelling(rt: HostRuntime) -> Result<(), Fail> {
+    let rows: [(u32, &[u8], &str); 8] = [
+        (
+            1,
+            b"\x07\x30\x0c\x02\x01\x01\x61\x07\x0a\x01\x00\x04\x00\x04\x00",
+            "a bind",
+        ),
+        (
+            2,
+            b"\x07\x30\x0c\x02\x01\x02\x65\x07\x0a\x01\x35\x04\x00\x04\x00",
+            "a search's end",
+        ),
+        (
+            127,
+            b"\x07\x30\x0c\x02\x01\x7f\x67\x07\x0a\x01\x00\x04\x00\x04\x00",
+            "a modify",
+        ),
+        (
+            128,
+            b"\x07\x30\x0d\x02\x02\x00\x80\x69\x07\x0a\x01\x00\x04\x00\x04\x00",
+            "an add",
+        ),
+        (
+            1,
+            b"\x07\x30\x0c\x02\x01\x01\x6b\x07\x0a\x01\x00\x04\x00\x04\x00",
+            "a delete",
+        ),
+        (
+            2_147_483_647,
+            b"\x07\x30\x0f\x02\x04\x7f\xff\xff\xff\x6d\x07\x0a\x01\x00\x04\x00\x04\x00",
+            "a rename with the greatest messageID",
+        ),
+        (
+            1,
+            b"\x07\x30\x0c\x02\x01\x01\x6f\x07\x0a\x01\x06\x04\x00\x04\x00",
+            "a compare",
+        ),
+        (
+            1,
+            b"\x07\x30\x0d\x02\x01\x01\x78\x08\x0a\x02\x00\x80\x04\x00\x04\x00",
+            "an extended operation, with a code of two octets",
+        ),
+    ];
+    for (row, (id, want, what)) in rows.iter().enumerate() {
+        let reply = plain(rt.alloc(), row);
+        let out = written(rt.alloc(), *id, &reply)?;
+        assert_eq!(rt; out.as_slice(), *want, "{what}");
+    }
+    Ok(())
+}
+
+#[test]
+fn names_and_values_are_written_where_they_are_given(rt: HostRuntime) -> Result<(), Fail> {
+    let named = extended(rt.alloc(), b"1.2", b"v")?;
+    let out = written(rt.alloc(), 1, &named)?;
+    let want = b"\x07\x30\x14\x02\x01\x01\x78\x0f\x0a\x01\x02\x04\x00\x04\x00\x8a\x031.2\x8b\x01v";
+    assert_eq!(rt; out.as_slice(), want.as_slice());
+    let absent = missing(rt.alloc(), b"dc=t")?;
+    let out = written(rt.alloc(), 1, &absent)?;
+    let want = b"\x07\x30\x10\x02\x01\x01\x6f\x0b\x0a\x01\x20\x04\x04dc=t\x04\x00";
+    assert_eq!(rt; out.as_slice(), want.as_slice());
+    Ok(())
+}
+
+#[test]
+fn the_notice_of_disconnection_is_written_behind_what_was_there(
+    rt: HostRuntime,
+) -> Result<(), Fail> {
+    let mut out = [7].to_vec(rt.alloc())?;
+    put_notice(&mut out)?;
+    let want =
+        b"\x07\x30\x24\x02\x01\x00\x78\x1f\x0a\x01\x02\x04\x00\x04\x00\x8a\x161.3.6.1.4.1.1466.20036";
+    assert_eq!(rt; out.as_slice(), want.as_slice());
+    Ok(())
+}
