@@ -1,0 +1,35 @@
+-- What the words ask for: the commands, and the words that write each.
+use Rattle.std.specs.Prelude.{◌≡◌, ℕ, List, [], ◌∷◌}
+use Rattle.command_words.specs.declared.command.Command.{Command}
+use Rattle.command_words.specs.declared.command.Command.TheVariants as command
+use Rattle.command_words.specs.declared.table.CommandName.{CommandName}
+use Rattle.command_words.specs.declared.table.CommandName.TheVariants as commands
+use Rattle.command_words.specs.declared.table.OptionName.TheVariants as options
+use Rattle.command_words.specs.declared.table.Sought.TheVariants.{Words, Values}
+use Rattle.command_words.specs.Table.{row_of}
+use Rattle.command_words.specs.Line.{Line, IsLine, line_words, texts_of}
+use Rattle.command_words.specs.Number.{SaysNumber}
+
+-- a command with its texts as octets
+pub data CommandView : Type 0 where
+  Replay : (directory script : List ℕ) (turns : ℕ) → CommandView
+
+abbrev pub view : Command → CommandView
+view (command.Replay directory script turns) = Replay directory.now script.now turns
+
+-- how many events are heard where the words don't say
+abbrev pub default_turns : ℕ
+default_turns = 1000000000000
+
+-- the command that a command's line says
+abbrev pub Says : CommandName → Line → CommandView → Type 0
+Says commands.Replay line (Replay directory script turns) =
+  (texts_of Words line ≡ directory ∷ script ∷ []) × SaysNumber default_turns (texts_of (Values options.Turns) line) turns
+
+-- the words are a command's name and a line of it that says this command
+pub record IsCommand (words : List (List ℕ)) (asked : CommandView) : Type 0 where
+  pub name : CommandName
+  pub line : Line
+  pub words_are : words ≡ (row_of name).name ∷ line_words line
+  pub is_line : IsLine (row_of name) line
+  pub says : Says name line asked

@@ -1,0 +1,49 @@
+// The commands, and the words that ask for them.
+
+ghost use Rattle.std.specs.Prelude.{◌≡◌, map, option_map, option_and_then, string_bytes, Some, IfSome};
+ghost use Rattle.command_words.specs.Command.{CommandView, IsCommand, view};
+ghost use Rattle.command_words.specs.Reading.{command_of, command_said, line_of};
+ghost use Rattle.command_words.specs.Table.{row_of};
+
+use crate::number::number_said;
+use crate::scan::{value_of, word_at};
+use crate::table::{CommandName, OptionName, command_named};
+
+/// How many events are heard where `--turns` isn't given.
+const DEFAULT_TURNS: u64 = 1_000_000_000_000;
+
+/// What the words of the program ask for. The texts are parts of the words.
+#[derive(Clone, Copy, Debug, Drop)]
+pub enum Command<'a> {
+    /// `replay DATA SCRIPT [--turns N]`: the names of the two files, and how many events are heard at most.
+    Replay {
+        data: &'a str,
+        script: &'a str,
+        turns: u64,
+    },
+}
+
+/// The command that the words after the program's name ask for, or `None` where they ask for none.
+pub fn read_words(words: &[String]) -> Option<Command<'_>>
+    ensures exact { option_map view result ≡ command_of (map string_bytes words.now) }
+    ensures found { IfSome result (λ command. IsCommand (map string_bytes words.now) (view command)) }
+    ensures only {
+        (asked : CommandView) → IsCommand (map string_bytes words.now) asked
+          → option_map view result ≡ Some asked
+    }
+{
+    let (first, words) = words.split_first()?;
+    match command_named(first.as_str())? {
+        CommandName::Replay => read_replay(words),
+    }
+}
+
+fn read_replay(words: &[String]) -> Option<Command<'_>>
+    ensures { option_map view result ≡ option_and_then (command_said CommandName.Replay) (line_of (row_of CommandName.Replay) (map string_bytes words.now)) }
+{
+    let data = word_at(CommandName::Replay, words, 0)?;
+    let script = word_at(CommandName::Replay, words, 1)?;
+    let text = value_of(CommandName::Replay, words, OptionName::Turns)?;
+    let turns = number_said(text, DEFAULT_TURNS)?;
+    Some(Command::Replay { data, script, turns })
+}
