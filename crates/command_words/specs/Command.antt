@@ -12,10 +12,10 @@ use Rattle.command_words.specs.Number.{SaysNumber}
 
 -- a command with its texts as octets
 pub data CommandView : Type 0 where
-  Replay : (directory script : List ℕ) (turns : ℕ) → CommandView
+  Replay : (file script : List ℕ) (turns : ℕ) → CommandView
 
 abbrev pub view : Command → CommandView
-view (command.Replay directory script turns) = Replay directory.now script.now turns
+view (command.Replay file script turns) = Replay file.now script.now turns
 
 -- how many events are heard where the words don't say
 abbrev pub default_turns : ℕ
@@ -23,8 +23,8 @@ default_turns = 1000000000000
 
 -- the command that a command's line says
 abbrev pub Says : CommandName → Line → CommandView → Type 0
-Says commands.Replay line (Replay directory script turns) =
-  (texts_of Words line ≡ directory ∷ script ∷ []) × SaysNumber default_turns (texts_of (Values options.Turns) line) turns
+Says commands.Replay line (Replay file script turns) =
+  (texts_of Words line ≡ file ∷ script ∷ []) × SaysNumber default_turns (texts_of (Values options.Turns) line) turns
 
 -- the words are a command's name and a line of it that says this command
 pub record IsCommand (words : List (List ℕ)) (asked : CommandView) : Type 0 where

@@ -1,11 +1,12 @@
 -- Numbers among the words: one to twenty decimal digits, with a value that 64 bits hold.
 use Rattle.std.specs.Prelude.{◌≡◌, ◌≤◌, ◌<◌, ◌^◌, ◌&&◌, ℕ, Bool, List, [], ◌∷◌, length, Option, Some, None, IsTrue, nat_le, nat_lt, if◌then◌else◌}
-use Rattle.std.specs.Str.{all_ascii_digits}
+use Rattle.std.specs.Char.{is_ascii_digit}
+use Rattle.std.specs.List.{list_all}
 use Rattle.std.specs.Str.Parse.{digits_value}
 
 -- the text is a number of this value; zeros may lead
 pub record IsNumber (text : List ℕ) (value : ℕ) : Type 0 where
-  pub digits : IsTrue (all_ascii_digits text)
+  pub digits : IsTrue (list_all is_ascii_digit text)
   pub some : 1 ≤ length text
   pub short : length text ≤ 20
   pub exact : digits_value 10 text ≡ value
@@ -13,7 +14,7 @@ pub record IsNumber (text : List ℕ) (value : ℕ) : Type 0 where
 
 -- one to twenty digits
 abbrev pub has_form : List ℕ → Bool
-has_form text = nat_le 1 (length text) && (nat_le (length text) 20 && all_ascii_digits text)
+has_form text = nat_le 1 (length text) && (nat_le (length text) 20 && list_all is_ascii_digit text)
 
 -- the value of a number
 unfoldable pub number_of : List ℕ → Option ℕ

@@ -1,9 +1,9 @@
 // The commands, and the words that ask for them.
 
-ghost use Rattle.std.specs.Prelude.{◌≡◌, map, option_map, option_and_then, string_bytes, Some, IfSome};
+ghost use Rattle.std.specs.Prelude.{◌≡◌, map, option_map, string_bytes, Some, IfSome};
 ghost use Rattle.command_words.specs.Command.{CommandView, IsCommand, view};
-ghost use Rattle.command_words.specs.Reading.{command_of, command_said, line_of};
-ghost use Rattle.command_words.specs.Table.{row_of};
+ghost use Rattle.command_words.specs.Reading.{command_of};
+ghost use Rattle.command_words.specs.Scan.{replay_of};
 
 use crate::number::number_said;
 use crate::scan::{value_of, word_at};
@@ -38,8 +38,9 @@ pub fn read_words(words: &[String]) -> Option<Command<'_>>
     }
 }
 
+#[tactic(auto, unfolding(crate::specs::Scan::replay_from))]
 fn read_replay(words: &[String]) -> Option<Command<'_>>
-    ensures { option_map view result ≡ option_and_then (command_said CommandName.Replay) (line_of (row_of CommandName.Replay) (map string_bytes words.now)) }
+    ensures { option_map view result ≡ replay_of (map string_bytes words.now) }
 {
     let data = word_at(CommandName::Replay, words, 0)?;
     let script = word_at(CommandName::Replay, words, 1)?;

@@ -4,7 +4,7 @@ ghost use Rattle.std.specs.Prelude.{◌≡◌, option_map, option_to_list, optio
 ghost use Rattle.command_words.specs.Table.{row_of};
 ghost use Rattle.command_words.specs.Line.{is_plain, begins_with_dash};
 ghost use Rattle.command_words.specs.Reading.{parts_of, lone_role, joined_role, option_role, after_dashes, dashed_role, role_of};
-ghost use Rattle.command_words.specs.Scan.{role_view, role_texts, place_after};
+ghost use Rattle.command_words.specs.Scan.{role_view, role_texts, place_after, pair_view};
 
 use crate::table::{CommandName, OptionName, Place, Sought};
 
@@ -75,19 +75,35 @@ fn joined_role(name: OptionName, text: &str) -> Option<WordRole<'_>>
     }
 }
 
+/// What stands before the first `=` and after it.
+fn name_and_text(body: &str) -> Option<(&str, &str)>
+    ensures { option_map pair_view result ≡ parts_of body.now }
+{
+    body.split_once('=')
+}
+
+/// What follows two dashes at a word's front.
+fn after_dashes(word: &str) -> Option<&str>
+    ensures { option_copied result ≡ after_dashes word.now }
+{
+    word.strip_prefix("--")
+}
+
+#[tactic(auto, unfolding(crate::specs::Reading::option_role))]
 fn option_role(command: CommandName, body: &str) -> Option<WordRole<'_>>
     ensures { option_map role_view result ≡ option_role (row_of command) body.now (parts_of body.now) }
 {
-    match body.split_once('=') {
+    match name_and_text(body) {
         Some((name, text)) => joined_role(command.option_named(name)?, text),
         None => Some(lone_role(command.option_named(body)?)),
     }
 }
 
+#[tactic(auto, unfolding(crate::specs::Reading::dashed_role))]
 fn dashed_role(command: CommandName, word: &str) -> Option<WordRole<'_>>
     ensures { option_map role_view result ≡ dashed_role (row_of command) (after_dashes word.now) }
 {
-    let body = word.strip_prefix("--")?;
+    let body = after_dashes(word)?;
     if body.is_empty() {
         Some(WordRole::Dashes)
     } else {
@@ -95,6 +111,7 @@ fn dashed_role(command: CommandName, word: &str) -> Option<WordRole<'_>>
     }
 }
 
+#[tactic(auto, unfolding(crate::specs::Reading::role_of))]
 pub fn role_of(command: CommandName, place: Place, word: &str) -> Option<WordRole<'_>>
     ensures { option_map role_view result ≡ role_of (row_of command) place word.now }
 {

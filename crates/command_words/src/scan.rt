@@ -55,7 +55,7 @@ fn pick(command: CommandName, words: &[String], sought: Sought, index: usize) ->
 pub fn word_at(command: CommandName, words: &[String], index: usize) -> Option<&str>
     ensures {
         option_copied result
-          ≡ word_at (row_of command) index (texts_from (row_of command) Sought.Words Place.Open (map string_bytes words.now))
+          ≡ option_and_then (word_at (row_of command) index) (texts_from (row_of command) Sought.Words Place.Open (map string_bytes words.now))
     }
 {
     let picked = pick(command, words, Sought::Words, index)?;
