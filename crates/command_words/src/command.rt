@@ -1,6 +1,6 @@
 // The commands, and the words that ask for them.
 
-ghost use Rattle.std.specs.Prelude.{◌≡◌, map, option_map, string_bytes, Some, IfSome};
+ghost use Rattle.std.specs.Prelude.{◌≡◌, ◌∷◌, map, option_map, string_bytes, Some, IfSome};
 ghost use Rattle.command_words.specs.Command.{CommandView, IsCommand, view};
 ghost use Rattle.command_words.specs.Reading.{command_of};
 ghost use Rattle.command_words.specs.Scan.{replay_of};
@@ -32,8 +32,20 @@ pub fn read_words(words: &[String]) -> Option<Command<'_>>
           → option_map view result ≡ Some asked
     }
 {
+    read_first(words)
+}
+
+fn read_first(words: &[String]) -> Option<Command<'_>>
+    ensures { option_map view result ≡ command_of (map string_bytes words.now) }
+{
     let (first, words) = words.split_first()?;
-    match command_named(first.as_str())? {
+    read_rest(first.as_str(), words)
+}
+
+fn read_rest<'a>(first: &str, words: &'a [String]) -> Option<Command<'a>>
+    ensures { option_map view result ≡ command_of (first.now ∷ map string_bytes words.now) }
+{
+    match command_named(first)? {
         CommandName::Replay => read_replay(words),
     }
 }
