@@ -1,15 +1,13 @@
 -- The command of a line and of words: the function against the relation.
-use Rattle.std.proofs.Common.{◌≡◌, ℕ, suc, ◌+◌, ◌≤◌, Bool, true, false, cond, eqb, leb, ◌&&◌, List, [], ◌∷◌, length, get_or, Option, Some, None, option_map, option_and_then, sym, refl, ap, subst, ◌∙◌, arith, rules}
-use Rattle.std.specs.Prelude.{Contains}
+use Rattle.std.proofs.Common.{◌≡◌, ℕ, ◌≤◌, true, cond, eqb, leb, List, [], ◌∷◌, length, get_or, Option, Some, None, option_map, option_and_then, refl, ap, subst, ◌∙◌, arith}
 use Rattle.std.specs.List.{AllByRecursion, list_all}
 use Rattle.std.proofs.lemmas.Bool.{eqb-true, eq-eqb, leb-true, le-leb}
 use Rattle.std.proofs.lemmas.Option.{same_Some, cond_some}
 use Rattle.command_words.specs.declared.table.CommandName.{CommandName}
 use Rattle.command_words.specs.declared.table.CommandName.TheVariants as commands
-use Rattle.command_words.specs.declared.table.OptionName.{OptionName}
 use Rattle.command_words.specs.declared.table.OptionName.TheVariants as options
-use Rattle.command_words.specs.declared.table.Place.TheVariants.{Open}
-use Rattle.command_words.specs.declared.table.Sought.TheVariants.{Words, Values}
+use Rattle.command_words.specs.declared.table.Place.TheVariants.{BeforeDelimiter}
+use Rattle.command_words.specs.declared.table.Sought.TheVariants.{Operands, Arguments}
 use Rattle.command_words.specs.Table.{Row, row_of, command_named}
 use Rattle.command_words.specs.Line.{Line, IsLine, line_words, texts_of}
 use Rattle.command_words.specs.Number.{number_said}
@@ -17,7 +15,7 @@ use Rattle.command_words.specs.Command.{CommandView, Replay, Says, IsCommand, de
 use Rattle.command_words.specs.Reading.{line_from, is_line, line_of, command_said, command_of}
 use Rattle.command_words.proofs.Numbers.{both_pass, passes_both, number_said-sound, number_said-complete}
 use Rattle.command_words.proofs.Tables.{command_named-sound, command_named-complete, option_named-complete}
-use Rattle.command_words.proofs.Lines.{IsReadable, Written, line_from-sound, line_from-complete}
+use Rattle.command_words.proofs.Lines.{IsReadable, line_from-sound, line_from-complete}
 
 -- the test of each element, and the fact
 all_short : {X : Type 0} (size : X → ℕ) (xs : List X) → list_all (λ x. leb (size x) 1) xs ≡ true → AllByRecursion (λ x. size x ≤ 1) xs
@@ -32,19 +30,19 @@ short_all size (x ∷ xs) all = passes_both (leb (size x) 1) _ (le-leb (size x) 
 
 -- a line that the row takes
 record Taken (row : Row) (line : Line) : Type 0 where
-  words : length (texts_of Words line) ≡ row.positional
-  once : AllByRecursion (λ name. length (texts_of (Values name) line) ≤ 1) row.options
+  operands : length (texts_of Operands line) ≡ row.operands
+  once : AllByRecursion (λ name. length (texts_of (Arguments name) line) ≤ 1) row.options
 
 is_line-sound : (row : Row) (line : Line) → is_line row line ≡ true → Taken row line
 unfolding is_line
 is_line-sound row line passed =
-    let both = both_pass (eqb (length (texts_of Words line)) row.positional) (list_all (λ name. leb (length (texts_of (Values name) line)) 1) row.options) passed in
-    record { words = eqb-true _ _ both.0; once = all_short (λ name. length (texts_of (Values name) line)) row.options both.1 }
+    let both = both_pass (eqb (length (texts_of Operands line)) row.operands) (list_all (λ name. leb (length (texts_of (Arguments name) line)) 1) row.options) passed in
+    record { operands = eqb-true _ _ both.0; once = all_short (λ name. length (texts_of (Arguments name) line)) row.options both.1 }
 
 is_line-complete : (row : Row) (line : Line) → IsLine row line → is_line row line ≡ true
 unfolding is_line
 is_line-complete row line is =
-    passes_both (eqb (length (texts_of Words line)) row.positional) _ (eq-eqb _ _ is.words) (short_all (λ name. length (texts_of (Values name) line)) row.options is.once)
+    passes_both (eqb (length (texts_of Operands line)) row.operands) _ (eq-eqb _ _ is.operands) (short_all (λ name. length (texts_of (Arguments name) line)) row.options is.once)
 
 -- a line of the words that the row takes
 pub record LineOf (row : Row) (words : List (List ℕ)) (line : Line) : Type 0 where
@@ -60,10 +58,10 @@ checked-line row (Some found) line given =
 pub line_of-sound : (row : Row) (words : List (List ℕ)) (line : Line) → line_of row words ≡ Some line → LineOf row words line
 unfolding line_of
 line_of-sound row words line given =
-    let tests = checked-line row (line_from row Open words) line given in
-    let written = line_from-sound row words Open line tt tests.0 in
+    let tests = checked-line row (line_from row BeforeDelimiter words) line given in
+    let written = line_from-sound row words BeforeDelimiter line tt tests.0 in
     let taken = is_line-sound row line tests.1 in
-    record { words_are = written.words_are; is_line = record { items = written.items; words = taken.words; once = taken.once } }
+    record { words_are = written.words_are; is_line = record { items = written.items; operands = taken.operands; once = taken.once } }
 
 pub line_of-complete : (row : Row) → IsReadable row → (line : Line) → IsLine row line → line_of row (line_words line) ≡ Some line
 unfolding line_of
@@ -81,18 +79,18 @@ mapped-some : {A B : Type 0} (f : A → B) (o : Option A) (y : B) → option_map
 mapped-some f None y given = absurd (cc)
 mapped-some f (Some x) y given = (x, refl, same_Some (f x) y given)
 
-pub command_said-sound : (name : CommandName) (line : Line) (asked : CommandView) → length (texts_of Words line) ≡ (row_of name).positional → command_said name line ≡ Some asked → Says name line asked
+pub command_said-sound : (name : CommandName) (line : Line) (asked : CommandView) → length (texts_of Operands line) ≡ (row_of name).operands → command_said name line ≡ Some asked → Says name line asked
 unfolding command_said
 command_said-sound commands.Replay line asked two given =
-    let words = texts_of Words line in
-    let values = texts_of (Values options.Turns) line in
+    let words = texts_of Operands line in
+    let values = texts_of (Arguments options.Turns) line in
     let said = mapped-some (λ (turns : ℕ). Replay (get_or words 0 []) (get_or words 1 []) turns) (number_said default_turns values) asked given in
     subst (Says commands.Replay line) said.2 (two-texts words two, number_said-sound default_turns values said.0 said.1)
 
 pub command_said-complete : (name : CommandName) (line : Line) (asked : CommandView) → Says name line asked → command_said name line ≡ Some asked
 unfolding command_said
-command_said-complete commands.Replay line (Replay file script turns) says =
-    let number = number_said-complete default_turns (texts_of (Values options.Turns) line) turns says.1 in
+command_said-complete commands.Replay line (Replay data_file script turns) says =
+    let number = number_said-complete default_turns (texts_of (Arguments options.Turns) line) turns says.1 in
     rw (says.0, number) refl
 
 -- the rows of the table
@@ -118,7 +116,8 @@ command_of-is (word ∷ words) asked given =
       line = read.0;
       words_are = ap (λ (own : List ℕ). own ∷ words) first ∙ ap (λ (later : List (List ℕ)). (row_of name).name ∷ later) line.words_are;
       is_line = line.is_line;
-      says = command_said-sound name read.0 asked line.is_line.words read.2 }
+      says = command_said-sound name read.0 asked line.is_line.operands read.2;
+    }
 
 pub command_of-more : (word : List ℕ) (words : List (List ℕ)) → command_of (word ∷ words) ≡ option_and_then (λ (name : CommandName). option_and_then (command_said name) (line_of (row_of name) words)) (command_named word)
 unfolding command_of

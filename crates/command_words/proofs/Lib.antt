@@ -8,3 +8,4 @@ mod Commands
 mod Texts
 mod Replays
 pub mod Theorems
+mod Examples

@@ -1,16 +1,16 @@
 -- Lines and the words that write them: the reading gives a line exactly where the words write it.
-use Rattle.std.proofs.Common.{◌≡◌, ℕ, ◌≤◌, Bool, true, false, cond, ◌&&◌, List, [], ◌∷◌, ◌++◌, length, Option, Some, None, option_map, option_and_then, sym, refl, ap, subst, ◌∙◌, arith, rules}
+use Rattle.std.proofs.Common.{◌≡◌, ℕ, true, false, List, [], ◌∷◌, ◌++◌, Option, Some, None, option_and_then, sym, refl, ap, subst, ◌∙◌}
 use Rattle.std.specs.Prelude.{Contains, codes, flat_map}
 use Rattle.std.specs.List.{AllByRecursion}
 use Rattle.std.proofs.lemmas.List.{append_assoc}
 use Rattle.std.proofs.lemmas.Option.{same_Some}
 use Rattle.command_words.specs.declared.table.OptionName.{OptionName}
 use Rattle.command_words.specs.declared.table.Place.{Place}
-use Rattle.command_words.specs.declared.table.Place.TheVariants.{Open, Waiting, Closed}
-use Rattle.command_words.specs.Table.{Row, option_word, takes_value, option_named}
-use Rattle.command_words.specs.Line.{Item, Plain, Flag, Joined, Apart, Line, IsItem, item_words, line_words, rest_words, begins_with_dash, long}
-use Rattle.command_words.specs.Reading.{Role, Itself, Dashes, Names, Alone, Gives, lone_role, put_first, goes_on, line_from, role_of}
-use Rattle.command_words.proofs.Roles.{IsRole, role_of-is, role_of-awaited, role_of-plain, role_of-dashes, role_of-value, role_of-long, role_of-joined}
+use Rattle.command_words.specs.declared.table.Place.TheVariants.{BeforeDelimiter, Awaiting, AfterDelimiter}
+use Rattle.command_words.specs.Table.{Row, option_word, takes_argument, option_named}
+use Rattle.command_words.specs.Line.{Item, Operand, Flag, Joined, Apart, Line, IsItem, item_words, line_words, rest_words, long}
+use Rattle.command_words.specs.Reading.{Role, OperandWord, Delimiter, OptionWord, FlagWord, ArgumentWord, lone_role, put_first, line_by_role, line_from, role_of}
+use Rattle.command_words.proofs.Roles.{IsRole, role_of-is, role_of-awaited, role_of-operand, role_of-delimiter, role_of-argument, role_of-long, role_of-joined}
 
 -- each option of the row is found by its name
 pub record IsReadable (row : Row) : Type 0 where
@@ -18,15 +18,15 @@ pub record IsReadable (row : Row) : Type 0 where
 
 -- the words that a place in a line comes after
 abbrev pub before : Place → List (List ℕ)
-before Open = []
-before (Waiting name) = long name ∷ []
-before Closed = codes "--" ∷ []
+before BeforeDelimiter = []
+before (Awaiting name) = long name ∷ []
+before AfterDelimiter = codes "--" ∷ []
 
 -- the place may be reached
 abbrev pub IsPlace : Row → Place → Type 0
-IsPlace row Open = Unit {0}
-IsPlace row (Waiting name) = Contains row.options name × (takes_value name ≡ true)
-IsPlace row Closed = Unit {0}
+IsPlace row BeforeDelimiter = Unit {0}
+IsPlace row (Awaiting name) = Contains row.options name × (takes_argument name ≡ true)
+IsPlace row AfterDelimiter = Unit {0}
 
 -- the words from a place on write this line
 pub record Written (row : Row) (words : List (List ℕ)) (line : Line) : Type 0 where
@@ -43,7 +43,8 @@ line_words-put item line = append_assoc (item_words item) (flat_map item_words l
 Written-put : (row : Row) (item : Item) (words : List (List ℕ)) (line : Line) → IsItem row item → Written row words line → Written row (item_words item ++ words) (put item line)
 Written-put row item words line is written = record {
   words_are = ap (λ (later : List (List ℕ)). item_words item ++ later) written.words_are ∙ sym (line_words-put item line);
-  items = (is, written.items) }
+  items = (is, written.items);
+}
 
 -- an item that is put before what is read later
 put-is : (row : Row) (item : Item) (words : List (List ℕ)) (later : Option Line) (line : Line) → IsItem row item → ((found : Line) → later ≡ Some found → Written row words found) → put_first item later ≡ Some line → Written row (item_words item ++ words) line
@@ -52,43 +53,43 @@ put-is row item words (Some found) line is reads given =
     subst (Written row (item_words item ++ words)) (same_Some (put item found) line given) (Written-put row item words found is (reads found refl))
 
 -- a word before `--`, by its role
-open-is : (row : Row) (word : List ℕ) (words : List (List ℕ)) (role : Role) (line : Line) → ((place : Place) (found : Line) → IsPlace row place → line_from row place words ≡ Some found → Written row (before place ++ words) found) → IsRole row word role → goes_on Open (λ place. line_from row place words) role ≡ Some line → Written row (word ∷ words) line
-open-is row word words (Itself text) line reads is given =
-    subst (λ (own : List ℕ). Written row (own ∷ words) line) is.0 (put-is row (Plain text) words (line_from row Open words) line (subst (λ (own : List ℕ). IsItem row (Plain own)) (sym is.0) is.1) (λ found e. reads Open found tt e) given)
-open-is row word words Dashes line reads is given = subst (λ (own : List ℕ). Written row (own ∷ words) line) (sym is) (reads Closed line tt given)
-open-is row word words (Names name) line reads is given =
-    subst (λ (own : List ℕ). Written row (own ∷ words) line) (sym is.0) (reads (Waiting name) line (is.1, is.2) given)
-open-is row word words (Alone name) line reads is given =
-    subst (λ (own : List ℕ). Written row (own ∷ words) line) (sym is.0) (put-is row (Flag name) words (line_from row Open words) line (is.1, is.2) (λ found e. reads Open found tt e) given)
-open-is row word words (Gives name text) line reads is given =
-    subst (λ (own : List ℕ). Written row (own ∷ words) line) (sym is.0) (put-is row (Joined name text) words (line_from row Open words) line (is.1, is.2) (λ found e. reads Open found tt e) given)
+before-is : (row : Row) (word : List ℕ) (words : List (List ℕ)) (role : Role) (line : Line) → ((place : Place) (found : Line) → IsPlace row place → line_from row place words ≡ Some found → Written row (before place ++ words) found) → IsRole row word role → line_by_role BeforeDelimiter (λ place. line_from row place words) role ≡ Some line → Written row (word ∷ words) line
+before-is row word words (OperandWord text) line reads is given =
+    subst (λ (own : List ℕ). Written row (own ∷ words) line) is.0 (put-is row (Operand text) words (line_from row BeforeDelimiter words) line (subst (λ (own : List ℕ). IsItem row (Operand own)) (sym is.0) is.1) (λ found e. reads BeforeDelimiter found tt e) given)
+before-is row word words Delimiter line reads is given = subst (λ (own : List ℕ). Written row (own ∷ words) line) (sym is) (reads AfterDelimiter line tt given)
+before-is row word words (OptionWord name) line reads is given =
+    subst (λ (own : List ℕ). Written row (own ∷ words) line) (sym is.0) (reads (Awaiting name) line (is.1, is.2) given)
+before-is row word words (FlagWord name) line reads is given =
+    subst (λ (own : List ℕ). Written row (own ∷ words) line) (sym is.0) (put-is row (Flag name) words (line_from row BeforeDelimiter words) line (is.1, is.2) (λ found e. reads BeforeDelimiter found tt e) given)
+before-is row word words (ArgumentWord name text) line reads is given =
+    subst (λ (own : List ℕ). Written row (own ∷ words) line) (sym is.0) (put-is row (Joined name text) words (line_from row BeforeDelimiter words) line (is.1, is.2) (λ found e. reads BeforeDelimiter found tt e) given)
 
 -- the step of the reading, as an equation of the role
-pub line_from-open : (row : Row) (word : List ℕ) (words : List (List ℕ)) → line_from row Open (word ∷ words) ≡ option_and_then (goes_on Open (λ place. line_from row place words)) (role_of row Open word)
+pub line_from-before : (row : Row) (word : List ℕ) (words : List (List ℕ)) → line_from row BeforeDelimiter (word ∷ words) ≡ option_and_then (line_by_role BeforeDelimiter (λ place. line_from row place words)) (role_of row BeforeDelimiter word)
 unfolding line_from
-line_from-open row word words = refl
+line_from-before row word words = refl
 
-pub line_from-waiting : (row : Row) (name : OptionName) (word : List ℕ) (words : List (List ℕ)) → line_from row (Waiting name) (word ∷ words) ≡ option_and_then (goes_on (Waiting name) (λ place. line_from row place words)) (role_of row (Waiting name) word)
+pub line_from-awaiting : (row : Row) (name : OptionName) (word : List ℕ) (words : List (List ℕ)) → line_from row (Awaiting name) (word ∷ words) ≡ option_and_then (line_by_role (Awaiting name) (λ place. line_from row place words)) (role_of row (Awaiting name) word)
 unfolding line_from
-line_from-waiting row name word words = refl
+line_from-awaiting row name word words = refl
 
-pub line_from-closed : (row : Row) (words : List (List ℕ)) → line_from row Closed words ≡ Some (record { items = []; rest = Some words })
+pub line_from-after : (row : Row) (words : List (List ℕ)) → line_from row AfterDelimiter words ≡ Some (record { items = []; rest = Some words })
 unfolding line_from
-line_from-closed row [] = refl
-line_from-closed row (word ∷ words) = refl
+line_from-after row [] = refl
+line_from-after row (word ∷ words) = refl
 
-line_from-end : (row : Row) → line_from row Open [] ≡ Some (record { items = []; rest = None })
+line_from-end : (row : Row) → line_from row BeforeDelimiter [] ≡ Some (record { items = []; rest = None })
 unfolding line_from
 line_from-end row = refl
 
-line_from-unended : (row : Row) (name : OptionName) → line_from row (Waiting name) [] ≡ None
+line_from-unended : (row : Row) (name : OptionName) → line_from row (Awaiting name) [] ≡ None
 unfolding line_from
 line_from-unended row name = refl
 
 -- after `--` all words are the rest
-closed-is : (row : Row) (words : List (List ℕ)) (line : Line) → line_from row Closed words ≡ Some line → Written row (codes "--" ∷ words) line
-closed-is row words line given =
-    subst (Written row (codes "--" ∷ words)) (same_Some (record { items = []; rest = Some words }) line (sym (line_from-closed row words) ∙ given)) (record { words_are = refl; items = tt })
+after-is : (row : Row) (words : List (List ℕ)) (line : Line) → line_from row AfterDelimiter words ≡ Some line → Written row (codes "--" ∷ words) line
+after-is row words line given =
+    subst (Written row (codes "--" ∷ words)) (same_Some (record { items = []; rest = Some words }) line (sym (line_from-after row words) ∙ given)) (record { words_are = refl; items = tt })
 
 given-role : (A : Type 0) (f : Role → Option A) (role : Option Role) (x : A) → option_and_then f role ≡ Some x → (found : Role) × (role ≡ Some found) × (f found ≡ Some x)
 given-role A f None x given = absurd (cc)
@@ -96,48 +97,48 @@ given-role A f (Some role) x given = (role, refl, given)
 
 -- a line that is read is written by the words
 pub line_from-sound : (row : Row) (words : List (List ℕ)) (place : Place) (line : Line) → IsPlace row place → line_from row place words ≡ Some line → Written row (before place ++ words) line
-line_from-sound row [] Open line is given =
+line_from-sound row [] BeforeDelimiter line is given =
     subst (Written row []) (same_Some (record { items = []; rest = None }) line (sym (line_from-end row) ∙ given)) (record { words_are = refl; items = tt })
-line_from-sound row [] (Waiting name) line is given = absurd (let none : None ≡ Some line = sym (line_from-unended row name) ∙ given in cc)
-line_from-sound row [] Closed line is given = closed-is row [] line given
-line_from-sound row (word ∷ words) Open line is given =
-    let step = given-role Line (goes_on Open (λ place. line_from row place words)) (role_of row Open word) line (sym (line_from-open row word words) ∙ given) in
-    open-is row word words step.0 line (λ place found reached reads. line_from-sound row words place found reached reads) (role_of-is row word step.0 step.1) step.2
-line_from-sound row (word ∷ words) (Waiting name) line is given =
-    let step = given-role Line (goes_on (Waiting name) (λ place. line_from row place words)) (role_of row (Waiting name) word) line (sym (line_from-waiting row name word words) ∙ given) in
+line_from-sound row [] (Awaiting name) line is given = absurd (let none : None ≡ Some line = sym (line_from-unended row name) ∙ given in cc)
+line_from-sound row [] AfterDelimiter line is given = after-is row [] line given
+line_from-sound row (word ∷ words) BeforeDelimiter line is given =
+    let step = given-role Line (line_by_role BeforeDelimiter (λ place. line_from row place words)) (role_of row BeforeDelimiter word) line (sym (line_from-before row word words) ∙ given) in
+    before-is row word words step.0 line (λ place found reached reads. line_from-sound row words place found reached reads) (role_of-is row word step.0 step.1) step.2
+line_from-sound row (word ∷ words) (Awaiting name) line is given =
+    let step = given-role Line (line_by_role (Awaiting name) (λ place. line_from row place words)) (role_of row (Awaiting name) word) line (sym (line_from-awaiting row name word words) ∙ given) in
     let awaited = role_of-awaited row name word step.0 step.1 in
-    let puts : put_first (Apart name word) (line_from row Open words) ≡ Some line = ap (goes_on (Waiting name) (λ place. line_from row place words)) awaited.1 ∙ step.2 in
-    put-is row (Apart name word) words (line_from row Open words) line (is.0, is.1, awaited.0) (λ found reads. line_from-sound row words Open found tt reads) puts
-line_from-sound row (word ∷ words) Closed line is given = closed-is row (word ∷ words) line given
+    let puts : put_first (Apart name word) (line_from row BeforeDelimiter words) ≡ Some line = ap (line_by_role (Awaiting name) (λ place. line_from row place words)) awaited.1 ∙ step.2 in
+    put-is row (Apart name word) words (line_from row BeforeDelimiter words) line (is.0, is.1, awaited.0) (λ found reads. line_from-sound row words BeforeDelimiter found tt reads) puts
+line_from-sound row (word ∷ words) AfterDelimiter line is given = after-is row (word ∷ words) line given
 
 -- the words of an item and of a line after it
-from-role : (row : Row) (word : List ℕ) (words : List (List ℕ)) (role : Role) → role_of row Open word ≡ Some role → line_from row Open (word ∷ words) ≡ goes_on Open (λ place. line_from row place words) role
-from-role row word words role is = line_from-open row word words ∙ ap (option_and_then (goes_on Open (λ place. line_from row place words))) is
+from-role : (row : Row) (word : List ℕ) (words : List (List ℕ)) (role : Role) → role_of row BeforeDelimiter word ≡ Some role → line_from row BeforeDelimiter (word ∷ words) ≡ line_by_role BeforeDelimiter (λ place. line_from row place words) role
+from-role row word words role is = line_from-before row word words ∙ ap (option_and_then (line_by_role BeforeDelimiter (λ place. line_from row place words))) is
 
-lone-names : (name : OptionName) → takes_value name ≡ true → lone_role name ≡ Names name
-lone-names name takes = rw takes refl
+lone-option : (name : OptionName) → takes_argument name ≡ true → lone_role name ≡ OptionWord name
+lone-option name takes = rw takes refl
 
-lone-alone : (name : OptionName) → takes_value name ≡ false → lone_role name ≡ Alone name
-lone-alone name takes = rw takes refl
+lone-flag : (name : OptionName) → takes_argument name ≡ false → lone_role name ≡ FlagWord name
+lone-flag name takes = rw takes refl
 
-item-read : (row : Row) → IsReadable row → (item : Item) (words : List (List ℕ)) → IsItem row item → line_from row Open (item_words item ++ words) ≡ put_first item (line_from row Open words)
-item-read row readable (Plain word) words is = from-role row word words (Itself word) (role_of-plain row word is)
+item-read : (row : Row) → IsReadable row → (item : Item) (words : List (List ℕ)) → IsItem row item → line_from row BeforeDelimiter (item_words item ++ words) ≡ put_first item (line_from row BeforeDelimiter words)
+item-read row readable (Operand word) words is = from-role row word words (OperandWord word) (role_of-operand row word is)
 item-read row readable (Flag name) words is =
-    from-role row (long name) words (Alone name) (role_of-long row name (readable.named name is.0) ∙ ap Some (lone-alone name is.1))
+    from-role row (long name) words (FlagWord name) (role_of-long row name (readable.named name is.0) ∙ ap Some (lone-flag name is.1))
 item-read row readable (Joined name text) words is =
-    from-role row (long name ++ (61 ∷ text)) words (Gives name text) (role_of-joined row name text (readable.named name is.0) is.1)
+    from-role row (long name ++ (61 ∷ text)) words (ArgumentWord name text) (role_of-joined row name text (readable.named name is.0) is.1)
 item-read row readable (Apart name text) words is =
-    from-role row (long name) (text ∷ words) (Names name) (role_of-long row name (readable.named name is.0) ∙ ap Some (lone-names name is.1))
-    ∙ line_from-waiting row name text words
-    ∙ ap (option_and_then (goes_on (Waiting name) (λ place. line_from row place words))) (role_of-value row name text is.2)
+    from-role row (long name) (text ∷ words) (OptionWord name) (role_of-long row name (readable.named name is.0) ∙ ap Some (lone-option name is.1))
+    ∙ line_from-awaiting row name text words
+    ∙ ap (option_and_then (line_by_role (Awaiting name) (λ place. line_from row place words))) (role_of-argument row name text is.2)
 
 -- each written line is read
-pub line_from-complete : (row : Row) → IsReadable row → (items : List Item) (rest : Option (List (List ℕ))) → AllByRecursion (IsItem row) items → line_from row Open (line_words (record { items = items; rest = rest })) ≡ Some (record { items = items; rest = rest })
+pub line_from-complete : (row : Row) → IsReadable row → (items : List Item) (rest : Option (List (List ℕ))) → AllByRecursion (IsItem row) items → line_from row BeforeDelimiter (line_words (record { items = items; rest = rest })) ≡ Some (record { items = items; rest = rest })
 line_from-complete row readable [] None all = line_from-end row
 line_from-complete row readable [] (Some words) all =
-    from-role row (codes "--") words Dashes (role_of-dashes row) ∙ line_from-closed row words
+    from-role row (codes "--") words Delimiter (role_of-delimiter row) ∙ line_from-after row words
 line_from-complete row readable (item ∷ items) rest all =
     let later = line_from-complete row readable items rest all.1 in
-    ap (line_from row Open) (line_words-put item (record { items = items; rest = rest }))
+    ap (line_from row BeforeDelimiter) (line_words-put item (record { items = items; rest = rest }))
     ∙ item-read row readable item (line_words (record { items = items; rest = rest })) all.0
     ∙ ap (put_first item) later

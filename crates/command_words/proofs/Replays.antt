@@ -1,11 +1,11 @@
 -- `replay` read part by part is the command of its line.
-use Rattle.std.proofs.Common.{◌≡◌, ℕ, suc, Bool, true, false, cond, eqb, leb, ◌&&◌, List, [], ◌∷◌, length, map, get_or, Option, Some, None, option_map, option_and_then, sym, refl, ap, ◌∙◌, arith, rules}
+use Rattle.std.proofs.Common.{◌≡◌, ℕ, suc, Bool, true, false, cond, eqb, leb, ◌&&◌, List, [], ◌∷◌, length, map, get_or, Option, Some, None, option_map, option_and_then, sym, refl, ap, ◌∙◌, arith}
 use Rattle.std.proofs.lemmas.Bool.Decides.{nat_tests}
 use Rattle.command_words.specs.declared.table.CommandName.{CommandName}
 use Rattle.command_words.specs.declared.table.CommandName.TheVariants as commands
 use Rattle.command_words.specs.declared.table.OptionName.TheVariants as options
-use Rattle.command_words.specs.declared.table.Place.TheVariants.{Open}
-use Rattle.command_words.specs.declared.table.Sought.TheVariants.{Words, Values}
+use Rattle.command_words.specs.declared.table.Place.TheVariants.{BeforeDelimiter}
+use Rattle.command_words.specs.declared.table.Sought.TheVariants.{Operands, Arguments}
 use Rattle.command_words.specs.Table.{row_of, command_named}
 use Rattle.command_words.specs.Line.{Line, texts_of}
 use Rattle.command_words.specs.Number.{number_of, number_said}
@@ -46,20 +46,20 @@ picked true said line = refl
 picked false said line = refl
 
 -- the command of a line, or of no line
-lines-said : (line : Option Line) → replay_from (option_map (texts_of Words) line) (option_map (texts_of (Values options.Turns)) line) ≡ option_and_then (command_said commands.Replay) (option_and_then (λ (found : Line). cond (is_line (row_of commands.Replay) found) (Some found) None) line)
+lines-said : (line : Option Line) → replay_from (option_map (texts_of Operands) line) (option_map (texts_of (Arguments options.Turns)) line) ≡ option_and_then (command_said commands.Replay) (option_and_then (λ (found : Line). cond (is_line (row_of commands.Replay) found) (Some found) None) line)
 unfolding replay_from is_line command_said
 lines-said None = refl
 lines-said (Some line) =
-    parts-said (texts_of Words line) (texts_of (Values options.Turns) line)
+    parts-said (texts_of Operands line) (texts_of (Arguments options.Turns) line)
     ∙ picked (is_line (row_of commands.Replay) line) (command_said commands.Replay) line
 
 -- `replay` and a line of it
 pub replay_of-said : (words : List (List ℕ)) → replay_of words ≡ option_and_then (command_said commands.Replay) (line_of (row_of commands.Replay) words)
 unfolding line_of
 replay_of-said words =
-    ap (λ (texts : Option (List (List ℕ))). replay_from texts (texts_from (row_of commands.Replay) (Values options.Turns) Open words)) (texts_from-line (row_of commands.Replay) Words words Open)
-    ∙ ap (replay_from (option_map (texts_of Words) (line_from (row_of commands.Replay) Open words))) (texts_from-line (row_of commands.Replay) (Values options.Turns) words Open)
-    ∙ lines-said (line_from (row_of commands.Replay) Open words)
+    ap (λ (texts : Option (List (List ℕ))). replay_from texts (texts_from (row_of commands.Replay) (Arguments options.Turns) BeforeDelimiter words)) (texts_from-line (row_of commands.Replay) Operands words BeforeDelimiter)
+    ∙ ap (replay_from (option_map (texts_of Operands) (line_from (row_of commands.Replay) BeforeDelimiter words))) (texts_from-line (row_of commands.Replay) (Arguments options.Turns) words BeforeDelimiter)
+    ∙ lines-said (line_from (row_of commands.Replay) BeforeDelimiter words)
 
 -- the command that the first word names, and none where it names none
 pub command_of-named : (word : List ℕ) (words : List (List ℕ)) (name : CommandName) → command_named word ≡ Some name → command_of (word ∷ words) ≡ option_and_then (command_said name) (line_of (row_of name) words)

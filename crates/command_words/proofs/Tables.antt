@@ -1,5 +1,5 @@
 -- What is found in the tables of commands and options, and that each name is found.
-use Rattle.std.proofs.Common.{◌≡◌, ◌≢◌, ℕ, suc, ◌+◌, ◌<◌, Bool, true, false, cond, List, [], ◌∷◌, length, get_or, Option, Some, None, sym, refl, ap, subst, ◌∙◌, arith, rules}
+use Rattle.std.proofs.Common.{◌≡◌, ◌≢◌, ℕ, suc, Bool, true, false, cond, List, [], ◌∷◌, Some, None, refl, subst, arith}
 use Rattle.std.specs.Prelude.{Contains, find, bytes_eq}
 use Rattle.std.proofs.lemmas.Option.{same_Some}
 use Rattle.std.proofs.lemmas.Slice.Eq.{bytes_eq-Decides}
@@ -7,8 +7,8 @@ use Rattle.command_words.specs.declared.table.CommandName.{CommandName}
 use Rattle.command_words.specs.declared.table.CommandName.TheVariants as commands
 use Rattle.command_words.specs.declared.table.OptionName.{OptionName}
 use Rattle.command_words.specs.declared.table.OptionName.TheVariants as options
-use Rattle.command_words.specs.Table.{Row, row_of, option_word, takes_value, command_named, option_named, all_commands}
-use Rattle.command_words.specs.Reading.{parts_of}
+use Rattle.command_words.specs.Table.{Row, row_of, option_word, command_named, option_named, all_commands}
+use Rattle.command_words.specs.Reading.{split_at_equals}
 
 -- an element that passes
 pub record Found {X : Type 0} (test : X → Bool) (xs : List X) (x : X) : Type 0 where
@@ -19,9 +19,9 @@ pub find-found : {X : Type 0} (test : X → Bool) (xs : List X) (x : X) → find
 find-found {X} test [] x found = absurd (cc)
 find-found {X} test (y ∷ ys) x found =
     elim (test y) as (λ (b : Bool). test y ≡ b → cond b (Some y) (find test ys) ≡ Some x → Found test (y ∷ ys) x) [
-      true ↦ λ passes first. let is : y ≡ x = same_Some y x first in record { here = (0, omega arith, is); passes = subst (λ (z : X). test z ≡ true) is passes }
-    | false ↦ λ fails rest. let later = find-found test ys x rest in
-        record { here = (suc later.here.0, omega (arith, later.here.1), later.here.2); passes = later.passes }
+      | true ↦ λ passes first. let is : y ≡ x = same_Some y x first in record { here = (0, omega arith, is); passes = subst (λ (z : X). test z ≡ true) is passes }
+      | false ↦ λ fails rest. let later = find-found test ys x rest in
+          record { here = (suc later.here.0, omega (arith, later.here.1), later.here.2); passes = later.passes }
     ] refl found
 
 -- an option that is found is the command's, and the word is its name
@@ -50,5 +50,5 @@ command_named-complete commands.Replay = refl
 pub option_word-some : (name : OptionName) → option_word name ≢ []
 option_word-some options.Turns empty = cc
 
-pub option_word-plain : (name : OptionName) → parts_of (option_word name) ≡ None
-option_word-plain options.Turns = refl
+pub option_word-no_equals : (name : OptionName) → split_at_equals (option_word name) ≡ None
+option_word-no_equals options.Turns = refl

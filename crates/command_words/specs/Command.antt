@@ -5,17 +5,18 @@ use Rattle.command_words.specs.declared.command.Command.TheVariants as command
 use Rattle.command_words.specs.declared.table.CommandName.{CommandName}
 use Rattle.command_words.specs.declared.table.CommandName.TheVariants as commands
 use Rattle.command_words.specs.declared.table.OptionName.TheVariants as options
-use Rattle.command_words.specs.declared.table.Sought.TheVariants.{Words, Values}
+use Rattle.command_words.specs.declared.table.Sought.TheVariants.{Operands, Arguments}
 use Rattle.command_words.specs.Table.{row_of}
 use Rattle.command_words.specs.Line.{Line, IsLine, line_words, texts_of}
 use Rattle.command_words.specs.Number.{SaysNumber}
 
--- a command with its texts as octets
+-- what words may ask for, with texts as octets
 pub data CommandView : Type 0 where
-  Replay : (file script : List ℕ) (turns : ℕ) → CommandView
+  Replay : (data_file script : List ℕ) (turns : ℕ) → CommandView
 
+-- a command as it is read, with its texts as octets
 abbrev pub view : Command → CommandView
-view (command.Replay file script turns) = Replay file.now script.now turns
+view (command.Replay data_file script turns) = Replay data_file.now script.now turns
 
 -- how many events are heard where the words don't say
 abbrev pub default_turns : ℕ
@@ -23,8 +24,8 @@ default_turns = 1000000000000
 
 -- the command that a command's line says
 abbrev pub Says : CommandName → Line → CommandView → Type 0
-Says commands.Replay line (Replay file script turns) =
-  (texts_of Words line ≡ file ∷ script ∷ []) × SaysNumber default_turns (texts_of (Values options.Turns) line) turns
+Says commands.Replay line (Replay data_file script turns) =
+    (texts_of Operands line ≡ data_file ∷ script ∷ []) × SaysNumber default_turns (texts_of (Arguments options.Turns) line) turns
 
 -- the words are a command's name and a line of it that says this command
 pub record IsCommand (words : List (List ℕ)) (asked : CommandView) : Type 0 where

@@ -4,6 +4,5 @@ pub mod Line
 pub mod Number
 pub mod Command
 pub mod Reading
-
 -- what the crate's inside promises itself
 pub mod Scan

@@ -20,13 +20,13 @@ has_form text = nat_le 1 (length text) && (nat_le (length text) 20 && list_all i
 unfoldable pub number_of : List ℕ → Option ℕ
 number_of text = if has_form text && nat_lt (digits_value 10 text) (2 ^ 64) then Some (digits_value 10 text) else None
 
--- the values given for an option say this number: the default where it isn't given
+-- the arguments of an option say this number: the default where the option isn't given
 abbrev pub SaysNumber : ℕ → List (List ℕ) → ℕ → Type 0
 SaysNumber absent [] value = value ≡ absent
 SaysNumber absent (text ∷ []) value = IsNumber text value
 SaysNumber absent (text ∷ again ∷ texts) value = ⊥
 
--- the number that the values of an option say
+-- the number that the arguments of an option say
 abbrev pub number_said : ℕ → List (List ℕ) → Option ℕ
 number_said absent [] = Some absent
 number_said absent (text ∷ []) = number_of text

@@ -1,42 +1,43 @@
 -- The words read from left to right: a function that gives the command of a list of words.
-use Rattle.std.specs.Prelude.{ℕ, Bool, true, false, ◌&&◌, List, [], ◌∷◌, length, Option, Some, None, bytes_eq, codes, option_map, option_and_then, get_or, nat_le, ◌==◌, if◌then◌else◌}
+use Rattle.std.specs.Prelude.{ℕ, Bool, ◌&&◌, List, [], ◌∷◌, length, Option, Some, None, option_map, option_and_then, get_or, nat_le, ◌==◌, if◌then◌else◌}
 use Rattle.std.specs.List.{list_all}
 use Rattle.command_words.specs.declared.table.CommandName.{CommandName}
 use Rattle.command_words.specs.declared.table.CommandName.TheVariants as commands
 use Rattle.command_words.specs.declared.table.OptionName.{OptionName}
 use Rattle.command_words.specs.declared.table.OptionName.TheVariants as options
 use Rattle.command_words.specs.declared.table.Place.{Place}
-use Rattle.command_words.specs.declared.table.Place.TheVariants.{Open, Waiting, Closed}
-use Rattle.command_words.specs.declared.table.Sought.TheVariants.{Words, Values}
-use Rattle.command_words.specs.Table.{Row, row_of, command_named, option_named, takes_value}
-use Rattle.command_words.specs.Line.{Item, Plain, Flag, Joined, Apart, Line, begins_with_dash, is_plain, texts_of}
+use Rattle.command_words.specs.declared.table.Place.TheVariants.{BeforeDelimiter, Awaiting, AfterDelimiter}
+use Rattle.command_words.specs.declared.table.Sought.TheVariants.{Operands, Arguments}
+use Rattle.command_words.specs.Table.{Row, row_of, command_named, option_named, takes_argument}
+use Rattle.command_words.specs.Line.{Item, Operand, Flag, Joined, Apart, Line, begins_with_dash, is_operand, texts_of}
 use Rattle.command_words.specs.Number.{number_said}
 use Rattle.command_words.specs.Command.{CommandView, Replay, default_turns}
 
--- what one word is: for itself, `--`, an option whose value is the next word, an option without a value,
--- or a value
+-- what one word is: an operand, the delimiter, an option whose argument is the next word, an option without
+-- an argument, or an option's argument
 pub data Role : Type 0 where
-  Itself : List ℕ → Role
-  Dashes : Role
-  Names : OptionName → Role
-  Alone : OptionName → Role
-  Gives : OptionName → List ℕ → Role
+  OperandWord : List ℕ → Role
+  Delimiter : Role
+  OptionWord : OptionName → Role
+  FlagWord : OptionName → Role
+  ArgumentWord : OptionName → List ℕ → Role
 
--- what stands before the first `=` and after it
+-- an octet before the first `=`
 abbrev pub before_equals : ℕ → Option (List ℕ × List ℕ) → Option (List ℕ × List ℕ)
 before_equals octet found = option_map (λ parts. (octet ∷ parts.0, parts.1)) found
 
-abbrev pub parts_of : List ℕ → Option (List ℕ × List ℕ)
-parts_of [] = None
-parts_of (octet ∷ octets) = if octet == 61 then Some ([], octets) else before_equals octet (parts_of octets)
+-- what stands before the first `=` and after it
+abbrev pub split_at_equals : List ℕ → Option (List ℕ × List ℕ)
+split_at_equals [] = None
+split_at_equals (octet ∷ octets) = if octet == 61 then Some ([], octets) else before_equals octet (split_at_equals octets)
 
 -- `--name` as a word
 abbrev pub lone_role : OptionName → Role
-lone_role name = if takes_value name then Names name else Alone name
+lone_role name = if takes_argument name then OptionWord name else FlagWord name
 
 -- `--name=text` as a word
 abbrev pub joined_role : List ℕ → OptionName → Option Role
-joined_role text name = if takes_value name then Some (Gives name text) else None
+joined_role text name = if takes_argument name then Some (ArgumentWord name text) else None
 
 -- a word that begins with `--`, by what follows the dashes
 unfoldable pub option_role : Row → List ℕ → Option (List ℕ × List ℕ) → Option Role
@@ -52,54 +53,54 @@ after_dashes (first ∷ second ∷ body) = if first == 45 && second == 45 then S
 -- a word that begins with `-` and isn't `-` alone, by what follows two dashes
 unfoldable pub dashed_role : Row → Option (List ℕ) → Option Role
 dashed_role row None = None
-dashed_role row (Some []) = Some Dashes
-dashed_role row (Some (octet ∷ octets)) = option_role row (octet ∷ octets) (parts_of (octet ∷ octets))
+dashed_role row (Some []) = Some Delimiter
+dashed_role row (Some (octet ∷ octets)) = option_role row (octet ∷ octets) (split_at_equals (octet ∷ octets))
 
--- what a word is: before `--`, where a value is awaited, and after `--`
+-- what a word is: before the delimiter, where an argument is awaited, and after the delimiter
 unfoldable pub role_of : Row → Place → List ℕ → Option Role
-role_of row Open word = if is_plain word then Some (Itself word) else dashed_role row (after_dashes word)
-role_of row (Waiting name) word = if begins_with_dash word then None else Some (Gives name word)
-role_of row Closed word = Some (Itself word)
+role_of row BeforeDelimiter word = if is_operand word then Some (OperandWord word) else dashed_role row (after_dashes word)
+role_of row (Awaiting name) word = if begins_with_dash word then None else Some (ArgumentWord name word)
+role_of row AfterDelimiter word = Some (OperandWord word)
 
 -- an item before the others
 abbrev pub put_first : Item → Option Line → Option Line
 put_first item others = option_map (λ line. record { items = item ∷ line.items; rest = line.rest }) others
 
 -- a word's part of the line, and the reading of the words after it
-abbrev pub goes_on : Place → (Place → Option Line) → Role → Option Line
-goes_on place later (Itself text) = put_first (Plain text) (later Open)
-goes_on place later Dashes = later Closed
-goes_on place later (Names name) = later (Waiting name)
-goes_on place later (Alone name) = put_first (Flag name) (later Open)
-goes_on Open later (Gives name text) = put_first (Joined name text) (later Open)
-goes_on (Waiting awaited) later (Gives name text) = put_first (Apart name text) (later Open)
-goes_on Closed later (Gives name text) = None
+abbrev pub line_by_role : Place → (Place → Option Line) → Role → Option Line
+line_by_role place later (OperandWord text) = put_first (Operand text) (later BeforeDelimiter)
+line_by_role place later Delimiter = later AfterDelimiter
+line_by_role place later (OptionWord name) = later (Awaiting name)
+line_by_role place later (FlagWord name) = put_first (Flag name) (later BeforeDelimiter)
+line_by_role BeforeDelimiter later (ArgumentWord name text) = put_first (Joined name text) (later BeforeDelimiter)
+line_by_role (Awaiting awaited) later (ArgumentWord name text) = put_first (Apart name text) (later BeforeDelimiter)
+line_by_role AfterDelimiter later (ArgumentWord name text) = None
 
 -- the line of these words, from a place in it
 unfoldable pub line_from : Row → Place → List (List ℕ) → Option Line
-line_from row Open [] = Some (record { items = []; rest = None })
-line_from row Open (word ∷ words) = option_and_then (goes_on Open (λ place. line_from row place words)) (role_of row Open word)
-line_from row (Waiting name) [] = None
-line_from row (Waiting name) (word ∷ words) = option_and_then (goes_on (Waiting name) (λ place. line_from row place words)) (role_of row (Waiting name) word)
-line_from row Closed words = Some (record { items = []; rest = Some words })
+line_from row BeforeDelimiter [] = Some (record { items = []; rest = None })
+line_from row BeforeDelimiter (word ∷ words) = option_and_then (line_by_role BeforeDelimiter (λ place. line_from row place words)) (role_of row BeforeDelimiter word)
+line_from row (Awaiting name) [] = None
+line_from row (Awaiting name) (word ∷ words) = option_and_then (line_by_role (Awaiting name) (λ place. line_from row place words)) (role_of row (Awaiting name) word)
+line_from row AfterDelimiter words = Some (record { items = []; rest = Some words })
 
--- the line has the row's number of words, and each option at most once
+-- the line has the row's number of operands, and each option at most once
 unfoldable pub is_line : Row → Line → Bool
-is_line row line = (length (texts_of Words line) == row.positional)
-  && list_all (λ name. nat_le (length (texts_of (Values name) line)) 1) row.options
+is_line row line = (length (texts_of Operands line) == row.operands)
+    && list_all (λ name. nat_le (length (texts_of (Arguments name) line)) 1) row.options
 
 -- the line of these words
 unfoldable pub line_of : Row → List (List ℕ) → Option Line
-line_of row words = option_and_then (λ line. if is_line row line then Some line else None) (line_from row Open words)
+line_of row words = option_and_then (λ line. if is_line row line then Some line else None) (line_from row BeforeDelimiter words)
 
 -- the command that a command's line says
 unfoldable pub command_said : CommandName → Line → Option CommandView
 command_said commands.Replay line =
-  option_map (λ turns. Replay (get_or (texts_of Words line) 0 []) (get_or (texts_of Words line) 1 []) turns)
-    (number_said default_turns (texts_of (Values options.Turns) line))
+    option_map (λ turns. Replay (get_or (texts_of Operands line) 0 []) (get_or (texts_of Operands line) 1 []) turns)
+    (number_said default_turns (texts_of (Arguments options.Turns) line))
 
 -- the command of these words
 unfoldable pub command_of : List (List ℕ) → Option CommandView
 command_of [] = None
 command_of (word ∷ words) =
-  option_and_then (λ name. option_and_then (command_said name) (line_of (row_of name) words)) (command_named word)
+    option_and_then (λ name. option_and_then (command_said name) (line_of (row_of name) words)) (command_named word)

@@ -1,4 +1,5 @@
--- The program's commands, one row each: the name, how many words it takes, and its options.
+-- The program's commands, one row each: the name, how many operands it takes, and its options.
+-- Operands, options and option-arguments are those of POSIX.1, Utility Conventions (12.1); the options are GNU's long ones.
 use Rattle.std.specs.Prelude.{ℕ, Bool, true, List, [], ◌∷◌, Option, bytes_eq, codes, find}
 use Rattle.command_words.specs.declared.table.CommandName.{CommandName}
 use Rattle.command_words.specs.declared.table.CommandName.TheVariants as commands
@@ -8,12 +9,12 @@ use Rattle.command_words.specs.declared.table.OptionName.TheVariants as options
 -- what a command takes after its name
 pub record Row : Type 0 where
   pub name : List ℕ
-  pub positional : ℕ
+  pub operands : ℕ
   pub options : List OptionName
 
 -- the table of commands
 abbrev pub row_of : CommandName → Row
-row_of commands.Replay = record { name = codes "replay"; positional = 2; options = options.Turns ∷ [] }
+row_of commands.Replay = record { name = codes "replay"; operands = 2; options = options.Turns ∷ [] }
 
 -- all commands
 abbrev pub all_commands : List CommandName
@@ -23,9 +24,9 @@ all_commands = commands.Replay ∷ []
 abbrev pub option_word : OptionName → List ℕ
 option_word options.Turns = codes "turns"
 
--- whether a value belongs to the option
-abbrev pub takes_value : OptionName → Bool
-takes_value options.Turns = true
+-- whether the option has an argument
+abbrev pub takes_argument : OptionName → Bool
+takes_argument options.Turns = true
 
 -- the same option
 abbrev pub is_same_option : OptionName → OptionName → Bool

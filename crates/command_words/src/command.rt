@@ -6,7 +6,7 @@ ghost use Rattle.command_words.specs.Reading.{command_of};
 ghost use Rattle.command_words.specs.Scan.{replay_of};
 
 use crate::number::number_said;
-use crate::scan::{value_of, word_at};
+use crate::scan::{argument_of, operand_at};
 use crate::table::{CommandName, OptionName, command_named};
 
 /// How many events are heard where `--turns` isn't given.
@@ -27,10 +27,8 @@ pub enum Command<'a> {
 pub fn read_words(words: &[String]) -> Option<Command<'_>>
     ensures exact { option_map view result ≡ command_of (map string_bytes words.now) }
     ensures found { IfSome result (λ command. IsCommand (map string_bytes words.now) (view command)) }
-    ensures only {
-        (asked : CommandView) → IsCommand (map string_bytes words.now) asked
-          → option_map view result ≡ Some asked
-    }
+    ensures only { (asked : CommandView) → IsCommand (map string_bytes words.now) asked
+        → option_map view result ≡ Some asked }
 {
     read_first(words)
 }
@@ -54,9 +52,13 @@ fn read_rest<'a>(first: &str, words: &'a [String]) -> Option<Command<'a>>
 fn read_replay(words: &[String]) -> Option<Command<'_>>
     ensures { option_map view result ≡ replay_of (map string_bytes words.now) }
 {
-    let data = word_at(CommandName::Replay, words, 0)?;
-    let script = word_at(CommandName::Replay, words, 1)?;
-    let text = value_of(CommandName::Replay, words, OptionName::Turns)?;
+    let data = operand_at(CommandName::Replay, words, 0)?;
+    let script = operand_at(CommandName::Replay, words, 1)?;
+    let text = argument_of(CommandName::Replay, words, OptionName::Turns)?;
     let turns = number_said(text, DEFAULT_TURNS)?;
-    Some(Command::Replay { data, script, turns })
+    Some(Command::Replay {
+        data,
+        script,
+        turns,
+    })
 }

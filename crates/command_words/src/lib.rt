@@ -10,4 +10,3 @@ mod table;
 
 pub use command::{Command, read_words};
 pub use laws::{reading_is_complete, reading_is_sound, words_have_one_command};
-pub use table::{CommandName, OptionName};

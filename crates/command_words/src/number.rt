@@ -30,7 +30,7 @@ fn number_of(text: &str) -> Option<u64>
     }
 }
 
-/// The number that an option's value says, or the default where the option isn't given.
+/// The number that an option's argument says, or the default where the option isn't given.
 pub fn number_said(text: Option<&str>, absent: u64) -> Option<u64>
     ensures { result ≡ number_said absent (option_to_list (option_copied text.entry)) }
 {

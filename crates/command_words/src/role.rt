@@ -2,21 +2,21 @@
 
 ghost use Rattle.std.specs.Prelude.{◌≡◌, option_map, option_to_list, option_copied};
 ghost use Rattle.command_words.specs.Table.{row_of};
-ghost use Rattle.command_words.specs.Line.{is_plain, begins_with_dash};
-ghost use Rattle.command_words.specs.Reading.{parts_of, lone_role, joined_role, option_role, after_dashes, dashed_role, role_of};
+ghost use Rattle.command_words.specs.Line.{is_operand, begins_with_dash};
+ghost use Rattle.command_words.specs.Reading.{split_at_equals, lone_role, joined_role, option_role, after_dashes, dashed_role, role_of};
 ghost use Rattle.command_words.specs.Scan.{role_view, role_texts, place_after, pair_view};
 
 use crate::table::{CommandName, OptionName, Place, Sought};
 
-/// A word for itself, `--`, an option whose value is the next word, an option without a value,
-/// or an option's value.
+/// An operand, the delimiter `--`, an option whose argument is the next word, an option without
+/// an argument, or an option's argument.
 #[derive(Clone, Copy, Debug, Drop)]
 pub enum WordRole<'a> {
-    Itself(&'a str),
-    Dashes,
-    Names(OptionName),
-    Alone(OptionName),
-    Gives(OptionName, &'a str),
+    Operand(&'a str),
+    Delimiter,
+    Option(OptionName),
+    Flag(OptionName),
+    Argument(OptionName, &'a str),
 }
 
 impl<'a> WordRole<'a> {
@@ -24,9 +24,11 @@ impl<'a> WordRole<'a> {
         ensures { option_to_list (option_copied result) ≡ role_texts sought (role_view self.entry) }
     {
         match (sought, self) {
-            (Sought::Words, WordRole::Itself(text)) => Some(text),
-            (Sought::Values(sought), WordRole::Gives(name, text)) if sought.is(name) => Some(text),
-            (Sought::Values(sought), WordRole::Alone(name)) if sought.is(name) => Some(""),
+            (Sought::Operands, WordRole::Operand(text)) => Some(text),
+            (Sought::Arguments(sought), WordRole::Argument(name, text)) if sought.is(name) => Some(
+                text,
+            ),
+            (Sought::Arguments(sought), WordRole::Flag(name)) if sought.is(name) => Some(""),
             _ => None,
         }
     }
@@ -35,10 +37,10 @@ impl<'a> WordRole<'a> {
         ensures { result ≡ place_after place (role_view self.entry) }
     {
         match self {
-            WordRole::Itself(_) => place,
-            WordRole::Dashes => Place::Closed,
-            WordRole::Names(name) => Place::Waiting(name),
-            WordRole::Alone(_) | WordRole::Gives(_, _) => Place::Open,
+            WordRole::Operand(_) => place,
+            WordRole::Delimiter => Place::AfterDelimiter,
+            WordRole::Option(name) => Place::Awaiting(name),
+            WordRole::Flag(_) | WordRole::Argument(_, _) => Place::BeforeDelimiter,
         }
     }
 }
@@ -49,8 +51,8 @@ fn begins_with_dash(word: &str) -> bool
     word.starts_with('-')
 }
 
-fn is_plain(word: &str) -> bool
-    ensures { result ≡ is_plain word.now }
+fn is_operand(word: &str) -> bool
+    ensures { result ≡ is_operand word.now }
 {
     !begins_with_dash(word) || word == "-"
 }
@@ -58,26 +60,26 @@ fn is_plain(word: &str) -> bool
 fn lone_role<'a>(name: OptionName) -> WordRole<'a>
     ensures { role_view result ≡ lone_role name }
 {
-    if name.takes_value() {
-        WordRole::Names(name)
+    if name.takes_argument() {
+        WordRole::Option(name)
     } else {
-        WordRole::Alone(name)
+        WordRole::Flag(name)
     }
 }
 
 fn joined_role(name: OptionName, text: &str) -> Option<WordRole<'_>>
     ensures { option_map role_view result ≡ joined_role text.now name }
 {
-    if name.takes_value() {
-        Some(WordRole::Gives(name, text))
+    if name.takes_argument() {
+        Some(WordRole::Argument(name, text))
     } else {
         None
     }
 }
 
 /// What stands before the first `=` and after it.
-fn name_and_text(body: &str) -> Option<(&str, &str)>
-    ensures { option_map pair_view result ≡ parts_of body.now }
+fn split_at_equals(body: &str) -> Option<(&str, &str)>
+    ensures { option_map pair_view result ≡ split_at_equals body.now }
 {
     body.split_once('=')
 }
@@ -91,9 +93,9 @@ fn after_dashes(word: &str) -> Option<&str>
 
 #[tactic(auto, unfolding(crate::specs::Reading::option_role))]
 fn option_role(command: CommandName, body: &str) -> Option<WordRole<'_>>
-    ensures { option_map role_view result ≡ option_role (row_of command) body.now (parts_of body.now) }
+    ensures { option_map role_view result ≡ option_role (row_of command) body.now (split_at_equals body.now) }
 {
-    match name_and_text(body) {
+    match split_at_equals(body) {
         Some((name, text)) => joined_role(command.option_named(name)?, text),
         None => Some(lone_role(command.option_named(body)?)),
     }
@@ -105,7 +107,7 @@ fn dashed_role(command: CommandName, word: &str) -> Option<WordRole<'_>>
 {
     let body = after_dashes(word)?;
     if body.is_empty() {
-        Some(WordRole::Dashes)
+        Some(WordRole::Delimiter)
     } else {
         option_role(command, body)
     }
@@ -116,10 +118,10 @@ pub fn role_of(command: CommandName, place: Place, word: &str) -> Option<WordRol
     ensures { option_map role_view result ≡ role_of (row_of command) place word.now }
 {
     match place {
-        Place::Open if is_plain(word) => Some(WordRole::Itself(word)),
-        Place::Open => dashed_role(command, word),
-        Place::Waiting(_) if begins_with_dash(word) => None,
-        Place::Waiting(name) => Some(WordRole::Gives(name, word)),
-        Place::Closed => Some(WordRole::Itself(word)),
+        Place::BeforeDelimiter if is_operand(word) => Some(WordRole::Operand(word)),
+        Place::BeforeDelimiter => dashed_role(command, word),
+        Place::Awaiting(_) if begins_with_dash(word) => None,
+        Place::Awaiting(name) => Some(WordRole::Argument(name, word)),
+        Place::AfterDelimiter => Some(WordRole::Operand(word)),
     }
 }

@@ -1,7 +1,7 @@
 // The table of commands and options, and what the reading of a line keeps.
 
 ghost use Rattle.std.specs.Prelude.{◌≡◌};
-ghost use Rattle.command_words.specs.Table.{row_of, command_named, option_named, takes_value, is_same_option};
+ghost use Rattle.command_words.specs.Table.{row_of, command_named, option_named, takes_argument, is_same_option};
 
 /// The commands of the program.
 #[derive(Clone, Copy, Debug, Drop)]
@@ -15,20 +15,20 @@ pub enum OptionName {
     Turns,
 }
 
-/// Where in a line a word stands: before `--`, after the name of an option whose value it must be,
-/// or after `--`.
+/// Where in a line a word stands: before the delimiter `--`, after an option whose argument it must be,
+/// or after the delimiter.
 #[derive(Clone, Copy, Debug, Drop)]
 pub enum Place {
-    Open,
-    Waiting(OptionName),
-    Closed,
+    BeforeDelimiter,
+    Awaiting(OptionName),
+    AfterDelimiter,
 }
 
-/// What a line is read for: the words for themselves, or the values of an option.
+/// What a line is read for: its operands, or the arguments of an option.
 #[derive(Clone, Copy, Debug, Drop)]
 pub enum Sought {
-    Words,
-    Values(OptionName),
+    Operands,
+    Arguments(OptionName),
 }
 
 pub fn command_named(word: &str) -> Option<CommandName>
@@ -41,8 +41,8 @@ pub fn command_named(word: &str) -> Option<CommandName>
 }
 
 impl CommandName {
-    pub fn positional(self) -> usize
-        ensures { result ≡ (row_of self).positional }
+    pub fn operands(self) -> usize
+        ensures { result ≡ (row_of self).operands }
     {
         match self {
             CommandName::Replay => 2,
@@ -60,8 +60,8 @@ impl CommandName {
 }
 
 impl OptionName {
-    pub fn takes_value(self) -> bool
-        ensures { result ≡ takes_value self }
+    pub fn takes_argument(self) -> bool
+        ensures { result ≡ takes_argument self }
     {
         match self {
             OptionName::Turns => true,

@@ -1,4 +1,4 @@
-use Rattle.std.proofs.Common.{ap, ◌∙◌, option_map}
+use Rattle.std.proofs.Common.{◌∙◌}
 use Rattle.command_words.proofs.Theorems.{command_of-complete}
 use Rattle.command_words.proofs.Replays.{found-is}
 use Rattle.command_words.proofs.command.read_words.Goals as goal
