@@ -2,6 +2,7 @@ use command_words::{
     Command, read_words, reading_is_complete, reading_is_sound, words_have_one_command,
 };
 use std::alloc::{AllocError, Global};
+use std::process::Abort;
 use std::test::*;
 
 // The words of a line, with one space between two words.
@@ -25,6 +26,19 @@ fn answer(alloc: Global, words: &[String]) -> Result<String, AllocError> {
         ) => format!(in alloc; "[{data}] [{script}] {turns}"),
         None => String::from_str(alloc, "usage"),
     }
+}
+
+// None of these lines asks for anything.
+fn assert_refused(rt: &impl Abort, alloc: Global, lines: &[&str]) -> Result<(), AllocError> {
+    for line in lines {
+        let words = words_of(alloc, *line)?;
+        assert_eq!(rt;
+            answer(alloc, words.as_slice())?.as_str(),
+            "usage",
+            "{line}"
+        );
+    }
+    Ok(())
 }
 
 #[test]
