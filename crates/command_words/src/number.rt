@@ -18,8 +18,8 @@ fn has_form(text: &str) -> bool
     !text.is_empty() && text.len() <= 20 && all_digits(text)
 }
 
+/// The value of one to twenty decimal digits, where 64 bits hold it. Zeros may lead.
 #[tactic(auto, unfolding(crate::specs::Number::number_of))]
-/// The value of one to twenty decimal digits, where 64 bits hold it.
 fn number_of(text: &str) -> Option<u64>
     ensures { result ≡ number_of text.now }
 {

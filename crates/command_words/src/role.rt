@@ -20,6 +20,7 @@ pub enum WordRole<'a> {
 }
 
 impl<'a> WordRole<'a> {
+    /// What a word of this role gives: an operand, or an option's argument, which is empty for a flag.
     pub fn text(self, sought: Sought) -> Option<&'a str>
         ensures { option_to_list (option_copied result) ≡ role_texts sought (role_view self.entry) }
     {
@@ -57,6 +58,7 @@ fn is_operand(word: &str) -> bool
     !begins_with_dash(word) || word == "-"
 }
 
+/// The role of `--name`.
 fn lone_role<'a>(name: OptionName) -> WordRole<'a>
     ensures { role_view result ≡ lone_role name }
 {
@@ -67,6 +69,7 @@ fn lone_role<'a>(name: OptionName) -> WordRole<'a>
     }
 }
 
+/// The role of `--name=text`.
 fn joined_role(name: OptionName, text: &str) -> Option<WordRole<'_>>
     ensures { option_map role_view result ≡ joined_role text.now name }
 {
@@ -91,6 +94,7 @@ fn after_dashes(word: &str) -> Option<&str>
     word.strip_prefix("--")
 }
 
+/// The role of a word with two dashes and more.
 #[tactic(auto, unfolding(crate::specs::Reading::option_role))]
 fn option_role(command: CommandName, body: &str) -> Option<WordRole<'_>>
     ensures { option_map role_view result ≡ option_role (row_of command) body.now (split_at_equals body.now) }
@@ -101,6 +105,7 @@ fn option_role(command: CommandName, body: &str) -> Option<WordRole<'_>>
     }
 }
 
+/// The role of a word that begins with `-` and isn't `-` alone.
 #[tactic(auto, unfolding(crate::specs::Reading::dashed_role))]
 fn dashed_role(command: CommandName, word: &str) -> Option<WordRole<'_>>
     ensures { option_map role_view result ≡ dashed_role (row_of command) (after_dashes word.now) }
@@ -113,6 +118,7 @@ fn dashed_role(command: CommandName, word: &str) -> Option<WordRole<'_>>
     }
 }
 
+/// What a word is at its place in the line of a command, if it may stand there.
 #[tactic(auto, unfolding(crate::specs::Reading::role_of))]
 pub fn role_of(command: CommandName, place: Place, word: &str) -> Option<WordRole<'_>>
     ensures { option_map role_view result ≡ role_of (row_of command) place word.now }

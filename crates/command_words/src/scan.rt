@@ -35,6 +35,7 @@ impl<'a> Picked<'a> {
     }
 }
 
+/// Reads the words from left to right, and counts what they give.
 fn pick(command: CommandName, words: &[String], sought: Sought, index: usize) -> Option<Picked<'_>>
     ensures { option_map picked_view result
         ≡ option_map (counted index) (texts_from (row_of command) sought Place.BeforeDelimiter (map string_bytes words.now)) }
