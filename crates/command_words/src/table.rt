@@ -1,7 +1,7 @@
 // The table of commands and options, and what the reading of a line keeps.
 
 ghost use Rattle.std.specs.Prelude.{◌≡◌};
-ghost use Rattle.command_words.specs.Table.{row_of, command_named, option_named, takes_argument, is_same_option};
+ghost use Rattle.command_words.specs.Table.{row_of, command_named, option_named, option_word, takes_argument, is_same_option};
 
 /// The commands of the program.
 #[derive(Clone, Copy, Debug, Drop)]
@@ -49,17 +49,32 @@ impl CommandName {
         }
     }
 
+    pub fn options(self) -> &'static [OptionName]
+        ensures { result.now ≡ (row_of self).options }
+    {
+        match self {
+            CommandName::Replay => &[OptionName::Turns],
+        }
+    }
+
+    /// The option of this command that has a name.
     pub fn option_named(self, word: &str) -> Option<OptionName>
         ensures { result ≡ option_named (row_of self) word.now }
     {
-        match (self, word) {
-            (CommandName::Replay, "turns") => Some(OptionName::Turns),
-            (CommandName::Replay, _) => None,
-        }
+        self.options().iter().copied().find(|name| word == name.word())
     }
 }
 
 impl OptionName {
+    /// What follows the two dashes.
+    pub fn word(self) -> &'static str
+        ensures { result.now ≡ option_word self }
+    {
+        match self {
+            OptionName::Turns => "turns",
+        }
+    }
+
     pub fn takes_argument(self) -> bool
         ensures { result ≡ takes_argument self }
     {
