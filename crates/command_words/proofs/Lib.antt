@@ -6,6 +6,5 @@ mod Roles
 mod Lines
 mod Commands
 mod Texts
-mod Replays
 pub mod Theorems
 mod Examples

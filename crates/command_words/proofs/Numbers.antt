@@ -1,5 +1,5 @@
 -- Numbers among the words: the function, the relation, and what std's `parse` gives.
-use Rattle.std.proofs.Common.{◌≡◌, ℕ, ◌<◌, ◌≤◌, ◌^◌, Bool, true, false, ltb, leb, ◌&&◌, List, [], ◌∷◌, length, Option, Some, None, Result, Ok, Err, sym, refl, ap, subst, rules}
+use Rattle.std.proofs.Common.{◌≡◌, ℕ, ◌<◌, ◌≤◌, ◌^◌, Bool, true, false, ltb, leb, ◌&&◌, List, length, Option, Some, None, Result, Ok, Err, sym, refl, subst, rules}
 use Rattle.std.proofs.lemmas.Bool.{ltb-true, lt-ltb, leb-true, le-leb}
 use Rattle.std.proofs.lemmas.Option.{cond_some}
 use Rattle.std.proofs.lemmas.Str.Parse.{IsNumeralModel, numerals_by_value, parse_digits}
@@ -7,7 +7,7 @@ use Rattle.std.specs.Char.{is_ascii_digit}
 use Rattle.std.specs.List.{list_all}
 use Rattle.std.specs.Result.{result_ok}
 use Rattle.std.specs.Str.Parse.{digits_value, ParsesUnsigned}
-use Rattle.command_words.specs.Number.{IsNumber, has_form, number_of, SaysNumber, number_said}
+use Rattle.command_words.specs.Number.{IsNumber, has_form, number_of}
 
 -- two tests that both pass
 pub both_pass : (a b : Bool) → (a && b) ≡ true → (a ≡ true) × (b ≡ true)
@@ -63,14 +63,3 @@ number_of-parsed {E} text (Err fault) has parses =
       | None ↦ λ e. refl
       | Some value ↦ λ e. let is = number_of-sound text value e in absurd (fails (form.some, subst (λ (n : ℕ). n < 2 ^ 64) (sym is.exact) is.small))
     ] refl
-
--- what an option's values say
-pub number_said-sound : (absent : ℕ) (texts : List (List ℕ)) (value : ℕ) → number_said absent texts ≡ Some value → SaysNumber absent texts value
-number_said-sound absent [] value given = cc
-number_said-sound absent (text ∷ []) value given = number_of-sound text value given
-number_said-sound absent (text ∷ again ∷ texts) value given = absurd (cc)
-
-pub number_said-complete : (absent : ℕ) (texts : List (List ℕ)) (value : ℕ) → SaysNumber absent texts value → number_said absent texts ≡ Some value
-number_said-complete absent [] value says = ap Some (sym says)
-number_said-complete absent (text ∷ []) value says = number_of-complete text value says
-number_said-complete absent (text ∷ again ∷ texts) value says = absurd says

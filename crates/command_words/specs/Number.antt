@@ -26,8 +26,7 @@ SaysNumber absent [] value = value ≡ absent
 SaysNumber absent (text ∷ []) value = IsNumber text value
 SaysNumber absent (text ∷ again ∷ texts) value = ⊥
 
--- the number that the arguments of an option say
-abbrev pub number_said : ℕ → List (List ℕ) → Option ℕ
-number_said absent [] = Some absent
-number_said absent (text ∷ []) = number_of text
-number_said absent (text ∷ again ∷ texts) = None
+-- the number that an option's argument says, where there is one
+abbrev pub number_said : ℕ → Option (List ℕ) → Option ℕ
+number_said absent None = Some absent
+number_said absent (Some text) = number_of text

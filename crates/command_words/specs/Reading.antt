@@ -1,5 +1,5 @@
 -- The words read from left to right: a function that gives the command of a list of words.
-use Rattle.std.specs.Prelude.{ℕ, Bool, ◌&&◌, List, [], ◌∷◌, length, Option, Some, None, option_map, option_and_then, get_or, nat_le, ◌==◌, if◌then◌else◌}
+use Rattle.std.specs.Prelude.{ℕ, Bool, ◌&&◌, List, [], ◌∷◌, length, Option, Some, None, option_map, option_and_then, slice_get, nat_le, ◌==◌, if◌then◌else◌}
 use Rattle.std.specs.List.{list_all}
 use Rattle.command_words.specs.declared.table.CommandName.{CommandName}
 use Rattle.command_words.specs.declared.table.CommandName.TheVariants as commands
@@ -7,6 +7,7 @@ use Rattle.command_words.specs.declared.table.OptionName.{OptionName}
 use Rattle.command_words.specs.declared.table.OptionName.TheVariants as options
 use Rattle.command_words.specs.declared.table.Place.{Place}
 use Rattle.command_words.specs.declared.table.Place.TheVariants.{BeforeDelimiter, Awaiting, AfterDelimiter}
+use Rattle.command_words.specs.declared.table.Sought.{Sought}
 use Rattle.command_words.specs.declared.table.Sought.TheVariants.{Operands, Arguments}
 use Rattle.command_words.specs.Table.{Row, row_of, command_named, option_named, takes_argument}
 use Rattle.command_words.specs.Line.{Item, Operand, Flag, Joined, Apart, Line, begins_with_dash, is_operand, texts_of}
@@ -93,14 +94,27 @@ is_line row line = (length (texts_of Operands line) == row.operands)
 unfoldable pub line_of : Row → List (List ℕ) → Option Line
 line_of row words = option_and_then (λ line. if is_line row line then Some line else None) (line_from row BeforeDelimiter words)
 
--- the command that a command's line says
-unfoldable pub command_said : CommandName → Line → Option CommandView
-command_said commands.Replay line =
-    option_map (λ turns. Replay (get_or (texts_of Operands line) 0 []) (get_or (texts_of Operands line) 1 []) turns)
-    (number_said default_turns (texts_of (Arguments options.Turns) line))
+-- the next step, where there is something
+infixl 10 ◌>>=◌
+abbrev pub ◌>>=◌ : {A B : Type 0} → Option A → (A → Option B) → Option B
+found >>= next = option_and_then next found
+
+-- a text that a line gives, if there is a line
+abbrev pub text_in : Option Line → Sought → ℕ → Option (List ℕ)
+text_in found sought index = option_and_then (λ line. slice_get (texts_of sought line) index) found
+
+-- the command that a line says, by its texts: one case a command
+unfoldable pub command_said : CommandName → (Sought → ℕ → Option (List ℕ)) → Option CommandView
+command_said commands.Replay text = do
+  data_file ← text Operands 0
+  script ← text Operands 1
+  turns ← number_said default_turns (text (Arguments options.Turns) 0)
+  Some (Replay data_file script turns)
 
 -- the command of these words
 unfoldable pub command_of : List (List ℕ) → Option CommandView
 command_of [] = None
-command_of (word ∷ words) =
-    option_and_then (λ name. option_and_then (command_said name) (line_of (row_of name) words)) (command_named word)
+command_of (word ∷ words) = do
+  name ← command_named word
+  line ← line_of (row_of name) words
+  command_said name (text_in (Some line))

@@ -1,8 +1,8 @@
 -- The words read for one thing: the operands, or the arguments of an option.
-use Rattle.std.specs.Prelude.{ℕ, List, [], ◌∷◌, ◌++◌, length, Option, Some, None, option_map, option_and_then, option_copied, option_to_list, slice_get, ◌==◌, if◌then◌else◌}
+use Rattle.std.specs.Prelude.{ℕ, List, [], ◌∷◌, ◌++◌, length, Option, Some, None, option_map, option_and_then, option_copied, slice_get, Bool, false, ◌&&◌, nat_le, ◌==◌, if◌then◌else◌}
 use Rattle.std.specs.Borrow.{Bor}
-use Rattle.command_words.specs.declared.table.CommandName.TheVariants as commands
-use Rattle.command_words.specs.declared.table.OptionName.TheVariants as options
+use Rattle.std.specs.List.{list_all}
+use Rattle.command_words.specs.declared.table.OptionName.{OptionName}
 use Rattle.command_words.specs.declared.table.Place.{Place}
 use Rattle.command_words.specs.declared.table.Place.TheVariants.{BeforeDelimiter, Awaiting, AfterDelimiter}
 use Rattle.command_words.specs.declared.table.Sought.{Sought}
@@ -10,15 +10,9 @@ use Rattle.command_words.specs.declared.table.Sought.TheVariants.{Operands, Argu
 use Rattle.command_words.specs.declared.role.WordRole.{WordRole}
 use Rattle.command_words.specs.declared.role.WordRole.TheVariants as words
 use Rattle.command_words.specs.declared.scan.Picked.{Picked}
-use Rattle.command_words.specs.Table.{Row, row_of, is_same_option}
-use Rattle.command_words.specs.Number.{number_said}
-use Rattle.command_words.specs.Command.{CommandView, Replay, default_turns}
+use Rattle.command_words.specs.Table.{Row, is_same_option}
+use Rattle.command_words.specs.Line.{Line, texts_of}
 use Rattle.command_words.specs.Reading.{Role, OperandWord, Delimiter, OptionWord, FlagWord, ArgumentWord, role_of}
-
--- the next step, where there is something
-infixl 10 ◌>>=◌
-abbrev pub ◌>>=◌ : {A B : Type 0} → Option A → (A → Option B) → Option B
-found >>= next = option_and_then next found
 
 -- a role with its text as octets
 abbrev pub role_view : WordRole → Role
@@ -79,26 +73,16 @@ picked_view picked = record { count = picked.count; text = option_copied picked.
 abbrev pub counted : ℕ → List (List ℕ) → Counted
 counted index texts = record { count = length texts; text = slice_get texts index }
 
--- the operand at an index, of as many as the row wants
-abbrev pub operand_at : Row → ℕ → List (List ℕ) → Option (List ℕ)
-operand_at row index texts = if length texts == row.operands then slice_get texts index else None
+-- a line has as many operands as the row wants
+abbrev pub has_operands : Row → Option Line → Bool
+has_operands row None = false
+has_operands row (Some line) = length (texts_of Operands line) == row.operands
 
--- the argument of an option that stands at most once
-abbrev pub at_most_once : List (List ℕ) → Option (Option (List ℕ))
-at_most_once [] = Some None
-at_most_once (text ∷ []) = Some (Some text)
-at_most_once (text ∷ again ∷ texts) = None
+-- a line has an option at most once
+abbrev pub has_once : Option Line → OptionName → Bool
+has_once None name = false
+has_once (Some line) name = nat_le (length (texts_of (Arguments name) line)) 1
 
--- what the words after `replay` ask for, read once for each of its parts
-unfoldable pub replay_from : Option (List (List ℕ)) → Option (List (List ℕ)) → Option CommandView
-replay_from words turns = do
-  data_file ← option_and_then (operand_at (row_of commands.Replay) 0) words
-  script ← option_and_then (operand_at (row_of commands.Replay) 1) words
-  given ← option_and_then at_most_once turns
-  number ← number_said default_turns (option_to_list given)
-  Some (Replay data_file script number)
-
--- the same of the words
-abbrev pub replay_of : List (List ℕ) → Option CommandView
-replay_of words =
-    replay_from (texts_from (row_of commands.Replay) Operands BeforeDelimiter words) (texts_from (row_of commands.Replay) (Arguments options.Turns) BeforeDelimiter words)
+-- a line is there, and the row takes it
+abbrev pub has_line : Row → Option Line → Bool
+has_line row found = has_operands row found && list_all (λ name. has_once found name) row.options

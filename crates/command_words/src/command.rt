@@ -2,12 +2,12 @@
 
 ghost use Rattle.std.specs.Prelude.{◌≡◌, ◌∷◌, map, option_map, string_bytes, Some, IfSome};
 ghost use Rattle.command_words.specs.Command.{CommandView, IsCommand, view};
-ghost use Rattle.command_words.specs.Reading.{command_of};
-ghost use Rattle.command_words.specs.Scan.{replay_of};
+ghost use Rattle.command_words.specs.Reading.{line_from, text_in, command_said, command_of};
+ghost use Rattle.command_words.specs.Table.{row_of};
 
 use crate::number::number_said;
-use crate::scan::{argument_of, operand_at};
-use crate::table::{CommandName, OptionName, command_named};
+use crate::scan::{has_line, text_in};
+use crate::table::{CommandName, OptionName, Place, Sought};
 
 /// How many events are heard where `--turns` isn't given.
 const DEFAULT_TURNS: u64 = 1_000_000_000_000;
@@ -50,20 +50,39 @@ fn read_first(words: &[String]) -> Option<Command<'_>>
 fn read_rest<'a>(first: &str, words: &'a [String]) -> Option<Command<'a>>
     ensures { option_map view result ≡ command_of (first.now ∷ map string_bytes words.now) }
 {
-    match command_named(first)? {
+    let command = CommandName::named(first)?;
+    if has_line(command, words) {
+        read_line(command, words)
+    } else {
+        None
+    }
+}
+
+/// What a line of a command says.
+#[tactic(auto, unfolding(crate::specs::Reading::command_said))]
+fn read_line(command: CommandName, words: &[String]) -> Option<Command<'_>>
+    ensures { option_map view result
+        ≡ command_said command (text_in (line_from (row_of command) Place.BeforeDelimiter (map string_bytes words.now))) }
+{
+    match command {
         CommandName::Replay => read_replay(words),
     }
 }
 
-/// `replay`, each of its parts read from the line by itself.
-#[tactic(auto, unfolding(crate::specs::Scan::replay_from))]
+#[tactic(auto, unfolding(crate::specs::Reading::command_said))]
 fn read_replay(words: &[String]) -> Option<Command<'_>>
-    ensures { option_map view result ≡ replay_of (map string_bytes words.now) }
+    ensures { option_map view result
+        ≡ command_said CommandName.Replay (text_in (line_from (row_of CommandName.Replay) Place.BeforeDelimiter (map string_bytes words.now))) }
 {
-    let data = operand_at(CommandName::Replay, words, 0)?;
-    let script = operand_at(CommandName::Replay, words, 1)?;
-    let text = argument_of(CommandName::Replay, words, OptionName::Turns)?;
-    let turns = number_said(text, DEFAULT_TURNS)?;
+    let data = text_in(CommandName::Replay, words, Sought::Operands, 0)?;
+    let script = text_in(CommandName::Replay, words, Sought::Operands, 1)?;
+    let turns = text_in(
+        CommandName::Replay,
+        words,
+        Sought::Arguments(OptionName::Turns),
+        0,
+    );
+    let turns = number_said(turns, DEFAULT_TURNS)?;
     Some(Command::Replay {
         data,
         script,

@@ -1,6 +1,6 @@
 // Numbers among the words.
 
-ghost use Rattle.std.specs.Prelude.{◌≡◌, option_map, option_to_list, option_copied};
+ghost use Rattle.std.specs.Prelude.{◌≡◌, option_copied};
 ghost use Rattle.std.specs.Char.{is_ascii_digit};
 ghost use Rattle.std.specs.List.{list_all};
 ghost use Rattle.command_words.specs.Number.{number_of, number_said, has_form};
@@ -32,7 +32,7 @@ fn number_of(text: &str) -> Option<u64>
 
 /// The number that an option's argument says, or the default where the option isn't given.
 pub fn number_said(text: Option<&str>, absent: u64) -> Option<u64>
-    ensures { result ≡ number_said absent (option_to_list (option_copied text.entry)) }
+    ensures { result ≡ number_said absent (option_copied text.entry) }
 {
     match text {
         Some(text) => number_of(text),

@@ -1,8 +1,10 @@
 // A line read for one thing: its operands, or the arguments of an option.
 
-ghost use Rattle.std.specs.Prelude.{◌≡◌, ◌+◌, ◌<◌, ◌^◌, ◌++◌, ℕ, List, map, length, option_map, option_and_then, option_to_list, option_copied, string_bytes};
+ghost use Rattle.std.specs.Prelude.{◌≡◌, ◌+◌, ◌<◌, ◌^◌, ◌++◌, ℕ, List, map, length, option_map, option_to_list, option_copied, string_bytes};
 ghost use Rattle.command_words.specs.Table.{row_of};
-ghost use Rattle.command_words.specs.Scan.{counted, texts_from, operand_at, at_most_once, picked_view};
+ghost use Rattle.command_words.specs.Line.{texts_of};
+ghost use Rattle.command_words.specs.Reading.{line_from, text_in};
+ghost use Rattle.command_words.specs.Scan.{counted, picked_view, has_operands, has_once, has_line};
 
 use crate::role::role_of;
 use crate::table::{CommandName, OptionName, Place, Sought};
@@ -38,7 +40,7 @@ impl<'a> Picked<'a> {
 /// Reads the words from left to right, and counts what they give.
 fn pick(command: CommandName, words: &[String], sought: Sought, index: usize) -> Option<Picked<'_>>
     ensures { option_map picked_view result
-        ≡ option_map (counted index) (texts_from (row_of command) sought Place.BeforeDelimiter (map string_bytes words.now)) }
+        ≡ option_map (counted index) (option_map (texts_of sought) (line_from (row_of command) Place.BeforeDelimiter (map string_bytes words.now))) }
 {
     let mut place = Place::BeforeDelimiter;
     let mut picked = Picked {
@@ -56,28 +58,41 @@ fn pick(command: CommandName, words: &[String], sought: Sought, index: usize) ->
     }
 }
 
-/// The operand at an index, where the line has as many as the command wants.
-pub fn operand_at(command: CommandName, words: &[String], index: usize) -> Option<&str>
+/// A text that the line gives, by its index.
+pub fn text_in(command: CommandName, words: &[String], sought: Sought, index: usize) -> Option<&str>
     ensures { option_copied result
-        ≡ option_and_then (operand_at (row_of command) index) (texts_from (row_of command) Sought.Operands Place.BeforeDelimiter (map string_bytes words.now)) }
+        ≡ text_in (line_from (row_of command) Place.BeforeDelimiter (map string_bytes words.now)) sought index }
 {
-    let picked = pick(command, words, Sought::Operands, index)?;
-    if picked.count == command.operands() {
-        picked.text
-    } else {
-        None
+    pick(command, words, sought, index)?.text
+}
+
+/// Whether the line has as many operands as the command wants.
+fn has_operands(command: CommandName, words: &[String]) -> bool
+    ensures { result ≡ has_operands (row_of command) (line_from (row_of command) Place.BeforeDelimiter (map string_bytes words.now)) }
+{
+    match pick(command, words, Sought::Operands, 0) {
+        Some(picked) => picked.count == command.operands(),
+        None => false,
     }
 }
 
-/// The argument of an option, if it is given; the outer `None` where the line is none, or gives it twice.
-pub fn argument_of(command: CommandName, words: &[String], name: OptionName) -> Option<Option<&str>>
-    ensures { option_map (λ text. option_copied text) result
-        ≡ option_and_then at_most_once (texts_from (row_of command) (Sought.Arguments name) Place.BeforeDelimiter (map string_bytes words.now)) }
+/// Whether the line has an option at most once.
+fn has_once(command: CommandName, words: &[String], name: OptionName) -> bool
+    ensures { result ≡ has_once (line_from (row_of command) Place.BeforeDelimiter (map string_bytes words.now)) name }
 {
-    let picked = pick(command, words, Sought::Arguments(name), 0)?;
-    if picked.count <= 1 {
-        Some(picked.text)
-    } else {
-        None
+    match pick(command, words, Sought::Arguments(name), 0) {
+        Some(picked) => picked.count <= 1,
+        None => false,
     }
+}
+
+/// Whether the words are a line that the command takes.
+pub fn has_line(command: CommandName, words: &[String]) -> bool
+    ensures { result ≡ has_line (row_of command) (line_from (row_of command) Place.BeforeDelimiter (map string_bytes words.now)) }
+{
+    has_operands(command, words)
+        && command
+            .options()
+            .iter()
+            .all(|name| has_once(command, words, *name))
 }

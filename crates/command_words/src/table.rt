@@ -1,7 +1,7 @@
 // The table of commands and options, and what the reading of a line keeps.
 
 ghost use Rattle.std.specs.Prelude.{◌≡◌};
-ghost use Rattle.command_words.specs.Table.{row_of, command_named, option_named, option_word, takes_argument, is_same_option};
+ghost use Rattle.command_words.specs.Table.{row_of, all_commands, command_named, option_named, option_word, takes_argument, is_same_option};
 
 /// The commands of the program.
 #[derive(Clone, Copy, Debug, Drop)]
@@ -31,16 +31,31 @@ pub enum Sought {
     Arguments(OptionName),
 }
 
-pub fn command_named(word: &str) -> Option<CommandName>
-    ensures { result ≡ command_named word.now }
-{
-    match word {
-        "replay" => Some(CommandName::Replay),
-        _ => None,
-    }
-}
-
 impl CommandName {
+    pub fn all() -> &'static [CommandName]
+        ensures { result.now ≡ all_commands }
+    {
+        &[CommandName::Replay]
+    }
+
+    /// The command of this name.
+    pub fn named(word: &str) -> Option<CommandName>
+        ensures { result ≡ command_named word.now }
+    {
+        CommandName::all()
+            .iter()
+            .copied()
+            .find(|command| word == command.word())
+    }
+
+    pub fn word(self) -> &'static str
+        ensures { result.now ≡ (row_of self).name }
+    {
+        match self {
+            CommandName::Replay => "replay",
+        }
+    }
+
     pub fn operands(self) -> usize
         ensures { result ≡ (row_of self).operands }
     {
@@ -61,7 +76,10 @@ impl CommandName {
     pub fn option_named(self, word: &str) -> Option<OptionName>
         ensures { result ≡ option_named (row_of self) word.now }
     {
-        self.options().iter().copied().find(|name| word == name.word())
+        self.options()
+            .iter()
+            .copied()
+            .find(|name| word == name.word())
     }
 }
 

@@ -2,7 +2,7 @@ use Rattle.std.proofs.Common.{◌≡◌, ◌∷◌, ℕ, List, Global, map, opti
 use Rattle.std.specs.Prelude.{string_bytes, String}
 use Rattle.command_words.specs.Command.{view}
 use Rattle.command_words.specs.Reading.{command_of}
-use Rattle.command_words.proofs.Replays.{no-words-none}
+use Rattle.command_words.proofs.Commands.{no-words-none}
 use Rattle.command_words.proofs.command.read_first.Goals as goal
 
 -- no words

@@ -1,6 +1,6 @@
 use Rattle.std.proofs.Common.{◌∙◌}
 use Rattle.command_words.proofs.Theorems.{command_of-complete}
-use Rattle.command_words.proofs.Replays.{found-is}
+use Rattle.command_words.proofs.Commands.{found-is}
 use Rattle.command_words.proofs.command.read_words.Goals as goal
 
 -- a command that is read is one that the words are

@@ -1,9 +1,11 @@
-use Rattle.std.proofs.Common.{◌≡◌, Some, None, option_map, option_copied, sym, ap, inl, inr, ◌∙◌, arith, refl}
+use Rattle.std.proofs.Common.{◌≡◌, Some, None, map, option_map, option_copied, sym, ap, inl, inr, ◌∙◌, arith, refl}
 use Rattle.std.specs.Prelude.{string_bytes}
 use Rattle.command_words.specs.Table.{row_of}
 use Rattle.command_words.specs.Reading.{role_of}
 use Rattle.command_words.specs.Scan.{role_view, picked_view, counted}
 use Rattle.command_words.proofs.Scans.{Scanned-at, Scanned-all, Scanned-more, Scanned-none, Scanned-awaiting, Scanned-end}
+use Rattle.command_words.specs.declared.table.Place.TheVariants.{BeforeDelimiter}
+use Rattle.command_words.proofs.Texts.{texts_from-line}
 use Rattle.command_words.proofs.scan.pick.Goals as goal
 
 -- a word that has no role
@@ -13,6 +15,7 @@ returns-in_err-role c =
     let none : role_of (row_of c.args.command) c.loop-word.place (string_bytes c.word-item.result) ≡ None =
     ap (role_of (row_of c.args.command) c.loop-word.place) (sym c.as_str.ensures.value) ∙ sym c.role_of.ensures ∙ ap (option_map role_view) c.in_err-role.was in
     ap (option_map picked_view) c.from_residual.ensures ∙ sym (ap (option_map (counted c.args.index)) (Scanned-none _ _ _ _ _ _ _ _ _ here none))
+    ∙ ap (option_map (counted c.args.index)) (texts_from-line (row_of c.args.command) c.args.sought (map string_bytes c.args.words.now) BeforeDelimiter)
 
 -- the next word
 pub loop-word-preserved : goal.loop-word-preserved
@@ -28,9 +31,11 @@ pub returns-in-Awaiting : goal.returns-in-Awaiting
 returns-in-Awaiting c =
     let all = Scanned-all string_bytes _ _ _ _ c.args.words.now c.loop-word.word-index _ _ (omega arith) c.loop-word.invariant in
     sym (ap (option_map (counted c.args.index)) (Scanned-awaiting _ _ _ _ _ _ _ all (rw c.in-Awaiting.is refl)))
+    ∙ ap (option_map (counted c.args.index)) (texts_from-line (row_of c.args.command) c.args.sought (map string_bytes c.args.words.now) BeforeDelimiter)
 
 -- the line ends
 pub returns-in-BeforeDelimiter : goal.returns-in-BeforeDelimiter
 returns-in-BeforeDelimiter c =
     let all = Scanned-all string_bytes _ _ _ _ c.args.words.now c.loop-word.word-index _ _ (omega arith) c.loop-word.invariant in
-    elim c.in-BeforeDelimiter.is [ inl before ↦ Scanned-end _ _ _ _ _ _ _ all (rw before refl) | inr after ↦ Scanned-end _ _ _ _ _ _ _ all (rw after refl) ]
+    let lines = ap (option_map (counted c.args.index)) (texts_from-line (row_of c.args.command) c.args.sought (map string_bytes c.args.words.now) BeforeDelimiter) in
+    elim c.in-BeforeDelimiter.is [ inl before ↦ Scanned-end _ _ _ _ _ _ _ all (rw before refl) ∙ lines | inr after ↦ Scanned-end _ _ _ _ _ _ _ all (rw after refl) ∙ lines ]
