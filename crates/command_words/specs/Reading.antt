@@ -85,6 +85,10 @@ line_from row (Awaiting name) [] = None
 line_from row (Awaiting name) (word ∷ words) = option_and_then (line_by_role (Awaiting name) (λ place. line_from row place words)) (role_of row (Awaiting name) word)
 line_from row AfterDelimiter words = Some (record { items = []; rest = Some words })
 
+-- the line of all words, whether or not the row takes it
+abbrev pub line_read : Row → List (List ℕ) → Option Line
+line_read row words = line_from row BeforeDelimiter words
+
 -- the line has the row's number of operands, and each option at most once
 unfoldable pub is_line : Row → Line → Bool
 is_line row line = (length (texts_of Operands line) == row.operands)

@@ -2,7 +2,7 @@
 
 ghost use Rattle.std.specs.Prelude.{◌≡◌, ◌∷◌, map, option_map, string_bytes, Some, IfSome};
 ghost use Rattle.command_words.specs.Command.{CommandView, IsCommand, view};
-ghost use Rattle.command_words.specs.Reading.{line_from, text_in, command_said, command_of};
+ghost use Rattle.command_words.specs.Reading.{line_read, text_in, command_said, command_of};
 ghost use Rattle.command_words.specs.Table.{row_of};
 
 use crate::number::number_said;
@@ -62,7 +62,7 @@ fn read_rest<'a>(first: &str, words: &'a [String]) -> Option<Command<'a>>
 #[tactic(auto, unfolding(crate::specs::Reading::command_said))]
 fn read_line(command: CommandName, words: &[String]) -> Option<Command<'_>>
     ensures { option_map view result
-        ≡ command_said command (text_in (line_from (row_of command) Place.BeforeDelimiter (map string_bytes words.now))) }
+        ≡ command_said command (text_in (line_read (row_of command) (map string_bytes words.now))) }
 {
     match command {
         CommandName::Replay => read_replay(words),
@@ -72,7 +72,7 @@ fn read_line(command: CommandName, words: &[String]) -> Option<Command<'_>>
 #[tactic(auto, unfolding(crate::specs::Reading::command_said))]
 fn read_replay(words: &[String]) -> Option<Command<'_>>
     ensures { option_map view result
-        ≡ command_said CommandName.Replay (text_in (line_from (row_of CommandName.Replay) Place.BeforeDelimiter (map string_bytes words.now))) }
+        ≡ command_said CommandName.Replay (text_in (line_read (row_of CommandName.Replay) (map string_bytes words.now))) }
 {
     let data = text_in(CommandName::Replay, words, Sought::Operands, 0)?;
     let script = text_in(CommandName::Replay, words, Sought::Operands, 1)?;

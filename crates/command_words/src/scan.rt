@@ -3,7 +3,7 @@
 ghost use Rattle.std.specs.Prelude.{◌≡◌, ◌+◌, ◌<◌, ◌^◌, ◌++◌, ℕ, List, map, length, option_map, option_to_list, option_copied, string_bytes};
 ghost use Rattle.command_words.specs.Table.{row_of};
 ghost use Rattle.command_words.specs.Line.{texts_of};
-ghost use Rattle.command_words.specs.Reading.{line_from, text_in};
+ghost use Rattle.command_words.specs.Reading.{line_read, text_in};
 ghost use Rattle.command_words.specs.Scan.{counted, picked_view, has_operands, has_once, has_line};
 
 use crate::role::role_of;
@@ -40,7 +40,7 @@ impl<'a> Picked<'a> {
 /// Reads the words from left to right, and counts what they give.
 fn pick(command: CommandName, words: &[String], sought: Sought, index: usize) -> Option<Picked<'_>>
     ensures { option_map picked_view result
-        ≡ option_map (counted index) (option_map (texts_of sought) (line_from (row_of command) Place.BeforeDelimiter (map string_bytes words.now))) }
+        ≡ option_map (counted index) (option_map (texts_of sought) (line_read (row_of command) (map string_bytes words.now))) }
 {
     let mut place = Place::BeforeDelimiter;
     let mut picked = Picked {
@@ -61,14 +61,14 @@ fn pick(command: CommandName, words: &[String], sought: Sought, index: usize) ->
 /// A text that the line gives, by its index.
 pub fn text_in(command: CommandName, words: &[String], sought: Sought, index: usize) -> Option<&str>
     ensures { option_copied result
-        ≡ text_in (line_from (row_of command) Place.BeforeDelimiter (map string_bytes words.now)) sought index }
+        ≡ text_in (line_read (row_of command) (map string_bytes words.now)) sought index }
 {
     pick(command, words, sought, index)?.text
 }
 
 /// Whether the line has as many operands as the command wants.
 fn has_operands(command: CommandName, words: &[String]) -> bool
-    ensures { result ≡ has_operands (row_of command) (line_from (row_of command) Place.BeforeDelimiter (map string_bytes words.now)) }
+    ensures { result ≡ has_operands (row_of command) (line_read (row_of command) (map string_bytes words.now)) }
 {
     match pick(command, words, Sought::Operands, 0) {
         Some(picked) => picked.count == command.operands(),
@@ -78,7 +78,7 @@ fn has_operands(command: CommandName, words: &[String]) -> bool
 
 /// Whether the line has an option at most once.
 fn has_once(command: CommandName, words: &[String], name: OptionName) -> bool
-    ensures { result ≡ has_once (line_from (row_of command) Place.BeforeDelimiter (map string_bytes words.now)) name }
+    ensures { result ≡ has_once (line_read (row_of command) (map string_bytes words.now)) name }
 {
     match pick(command, words, Sought::Arguments(name), 0) {
         Some(picked) => picked.count <= 1,
@@ -88,7 +88,7 @@ fn has_once(command: CommandName, words: &[String], name: OptionName) -> bool
 
 /// Whether the words are a line that the command takes.
 pub fn has_line(command: CommandName, words: &[String]) -> bool
-    ensures { result ≡ has_line (row_of command) (line_from (row_of command) Place.BeforeDelimiter (map string_bytes words.now)) }
+    ensures { result ≡ has_line (row_of command) (line_read (row_of command) (map string_bytes words.now)) }
 {
     has_operands(command, words)
         && command
