@@ -6,7 +6,7 @@ use Rattle.std.specs.Prelude.{ℕ, Bool, ◌==◌, ◌||◌, not, List, filter, 
 use Rattle.match_rules.specs.declared.rules.Rule.{Rule}
 use Rattle.match_rules.specs.declared.rules.Rule.TheVariants.{Text, Ascii, Phone, Country, Octets}
 use Rattle.match_rules.specs.Folding.{folded_octets}
-use Rattle.match_rules.specs.Spaces.{is_space, cut_front, cut_end, single_spaces}
+use Rattle.match_rules.specs.Spaces.{is_space, cut_and_joined}
 use Rattle.match_rules.specs.Syntaxes.{is_of}
 
 -- the octet separates groups of digits in a telephone number: a space or a hyphen
@@ -19,7 +19,7 @@ without_separators = filter (λ octet. not (is_separator octet))
 
 -- a text in its folded form, its spaces cut at both ends and joined within
 unfoldable pub prepared_text : List ℕ → List ℕ
-prepared_text octets = single_spaces (cut_end (cut_front (folded_octets octets)))
+prepared_text octets = cut_and_joined (folded_octets octets)
 
 -- what a rule compares of a value
 abbrev pub prepared : Rule → List ℕ → List ℕ

@@ -1,5 +1,6 @@
 -- what the contracts of public functions cite
 pub mod Keys
+pub mod Laws
 pub mod Parts
 pub mod Substrings
 pub mod Syntaxes

@@ -19,3 +19,7 @@ cut_end octets = reverse (cut_front (reverse octets))
 -- the text with each run of spaces made one: each space that follows a space is left out
 abbrev pub single_spaces : List ℕ → List ℕ
 single_spaces = dedup (λ octet before. is_space octet && is_space before)
+
+-- the text with its spaces cut at both ends and joined within
+abbrev pub cut_and_joined : List ℕ → List ℕ
+cut_and_joined text = single_spaces (cut_end (cut_front text))
