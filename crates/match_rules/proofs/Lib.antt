@@ -1,8 +1,9 @@
+pub mod AsciiLemmas
 pub mod CutLemmas
+pub mod Examples
 pub mod FoldingLemmas
 pub mod JoinLemmas
 pub mod KeysLemmas
-pub mod AsciiLemmas
 pub mod LawsLemmas
 pub mod LowerLemmas
 pub mod OrderLemmas
@@ -10,3 +11,4 @@ pub mod SpaceLawLemmas
 pub mod SpacesLemmas
 pub mod SubstringsLemmas
 pub mod SyntaxesLemmas
+pub mod Theorems
