@@ -46,10 +46,6 @@ front-snoc octet (first ∷ octets) =
 pub cut_end-cons : (octet : ℕ) (octets : List ℕ) → cut_end (octet ∷ octets) ≡ keep octet (cut_end octets)
 cut_end-cons octet octets = ap (λ text. reverse (cut_front text)) (reverse-cons octet octets) ∙ front-snoc octet (reverse octets)
 
--- a text that is kept whole at its end
-pub cut_end-kept : (octet : ℕ) (octets : List ℕ) → cut_end octets ≢ [] → cut_end (octet ∷ octets) ≡ octet ∷ cut_end octets
-cut_end-kept octet octets filled = cut_end-cons octet octets ∙ keep-filled octet (cut_end octets) filled
-
 -- a space at the end more is cut
 pub cut_end-snoc : (octets : List ℕ) → cut_end (octets ++ 0x20 ∷ []) ≡ cut_end octets
 cut_end-snoc [] = refl

@@ -1,19 +1,19 @@
 -- The definitions of keys computed on known cases: the Unicode Standard's own, and each rule's good and bad octets.
-use Rattle.std.proofs.Common.{◌≡◌, ℕ, List, [], ◌∷◌, ◌++◌, Some, None, codes, refl}
+use Rattle.std.proofs.Common.{◌≡◌, [], ◌∷◌, ◌++◌, Some, None, codes, refl}
 use lib.Utf8.{encode}
 use Rattle.std.specs.Str.{chars, is_utf8}
 use Rattle.caseless.proofs.Computing.{caseless}
 use Rattle.match_rules.specs.declared.parts.Part.TheVariants.{First, Middle, Last}
 use Rattle.match_rules.specs.declared.rules.Rule.TheVariants.{Text, Ascii, Phone, Country, Octets}
 use Rattle.match_rules.specs.Folding.{folded_octets}
-use Rattle.match_rules.specs.Keys.{prepared_text, key_of}
-use Rattle.match_rules.specs.Parts.{prepared_part_text, part_key_of}
+use Rattle.match_rules.specs.Keys.{key_of}
+use Rattle.match_rules.specs.Parts.{part_key_of}
 use Rattle.match_rules.specs.Substrings.{IsSubstring}
 use Rattle.match_rules.specs.Syntaxes.{is_of, is_part_of}
 
 -- what computes a key
 unfoldable computed : Unit {0}
-unfolding caseless encode chars is_utf8 folded_octets prepared_text prepared_part_text key_of part_key_of is_of is_part_of
+unfolding caseless encode chars is_utf8 folded_octets key_of part_key_of is_of is_part_of
 computed = tt
 
 -- the sharp s and its capital fold to two letters

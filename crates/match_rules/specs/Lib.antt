@@ -8,4 +8,5 @@ pub mod Syntaxes
 pub mod Folding
 pub mod Spaces
 -- what the inside of the crate promises itself
+pub mod Ends
 pub mod PartsInOrder

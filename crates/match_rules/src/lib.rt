@@ -10,6 +10,7 @@ mod parts;
 mod rules;
 mod spaces;
 mod substrings;
+mod texts;
 
 pub use compare::{equal, order};
 pub use errors::PrepareFault;
