@@ -11,6 +11,7 @@ use Rattle.match_rules.proofs.SpacesLemmas.{cut_front-space, cut_front-other}
 
 -- an ASCII text is prepared by small letters and spaces alone
 pub prepared_text-ascii : (octets : List ℕ) → IsAscii octets → prepared_text octets ≡ cut_and_joined (lower_case octets)
+unfolding prepared_text
 prepared_text-ascii octets ascii = ap cut_and_joined (folded_octets-ascii octets ascii)
 
 -- what is cut and joined once stays so

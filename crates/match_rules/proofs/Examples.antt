@@ -6,14 +6,14 @@ use Rattle.caseless.proofs.Computing.{caseless}
 use Rattle.match_rules.specs.declared.parts.Part.TheVariants.{First, Middle, Last}
 use Rattle.match_rules.specs.declared.rules.Rule.TheVariants.{Text, Ascii, Phone, Country, Octets}
 use Rattle.match_rules.specs.Folding.{folded_octets}
-use Rattle.match_rules.specs.Keys.{key_of}
-use Rattle.match_rules.specs.Parts.{part_key_of}
+use Rattle.match_rules.specs.Keys.{prepared_text, key_of}
+use Rattle.match_rules.specs.Parts.{prepared_part_text, part_key_of}
 use Rattle.match_rules.specs.Substrings.{IsSubstring}
 use Rattle.match_rules.specs.Syntaxes.{is_of, is_part_of}
 
 -- what computes a key
 unfoldable computed : Unit {0}
-unfolding caseless encode chars is_utf8 folded_octets key_of part_key_of is_of is_part_of
+unfolding caseless encode chars is_utf8 folded_octets prepared_text prepared_part_text key_of part_key_of is_of is_part_of
 computed = tt
 
 -- the sharp s and its capital fold to two letters

@@ -1,6 +1,5 @@
 pub mod AsciiLemmas
 pub mod CutLemmas
-pub mod EndsLemmas
 pub mod Examples
 pub mod FoldingLemmas
 pub mod JoinLemmas
@@ -8,7 +7,6 @@ pub mod KeysLemmas
 pub mod LawsLemmas
 pub mod LowerLemmas
 pub mod OrderLemmas
-pub mod PushLemmas
 pub mod SpaceLawLemmas
 pub mod SpacesLemmas
 pub mod SubstringsLemmas

@@ -18,7 +18,7 @@ abbrev pub without_separators : List ℕ → List ℕ
 without_separators = filter (λ octet. not (is_separator octet))
 
 -- a text in its folded form, its spaces cut at both ends and joined within
-abbrev pub prepared_text : List ℕ → List ℕ
+unfoldable pub prepared_text : List ℕ → List ℕ
 prepared_text octets = cut_and_joined (folded_octets octets)
 
 -- what a rule compares of a value

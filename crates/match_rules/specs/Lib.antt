@@ -8,5 +8,4 @@ pub mod Syntaxes
 pub mod Folding
 pub mod Spaces
 -- what the inside of the crate promises itself
-pub mod Ends
 pub mod PartsInOrder

@@ -16,7 +16,7 @@ cut_outer Middle octets = octets
 cut_outer Last octets = cut_end octets
 
 -- a part in its folded form, its outer spaces cut, and each run of spaces that is left made one
-abbrev pub prepared_part_text : Part → List ℕ → List ℕ
+unfoldable pub prepared_part_text : Part → List ℕ → List ℕ
 prepared_part_text part octets = single_spaces (cut_outer part (folded_octets octets))
 
 -- what a rule compares of a part

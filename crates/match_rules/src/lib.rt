@@ -10,7 +10,6 @@ mod parts;
 mod rules;
 mod spaces;
 mod substrings;
-mod texts;
 
 pub use compare::{equal, order};
 pub use errors::PrepareFault;

@@ -1,12 +1,13 @@
-ghost use Rattle.std.specs.Prelude.{◌≡◌, ◌↔◌, ℕ, List, None, Some, IfOk, IsErrOf};
-ghost use Rattle.match_rules.specs.Ends.{cut_ends};
-ghost use Rattle.match_rules.specs.Parts.{cut_outer, prepared_part, part_key_of};
+ghost use Rattle.std.specs.Prelude.{◌≡◌, ◌↔◌, None, Some, IfOk, IsErrOf, IsUtf8};
+ghost use Rattle.match_rules.specs.Keys.{without_separators};
+ghost use Rattle.match_rules.specs.Parts.{cut_outer, prepared_part_text, prepared_part, part_key_of};
 ghost use Rattle.match_rules.specs.Syntaxes.{IsPartOf};
 
 use crate::errors::PrepareFault;
+use crate::folding::fold_octets;
+use crate::keys::remove_separators;
 use crate::rules::{Rule, is_part_of};
-use crate::spaces::Ends;
-use crate::texts::{prepare_phone, prepare_text};
+use crate::spaces::{cut_end_of, cut_front_of, join_spaces};
 use std::alloc::{AllocError, Global};
 
 /// Where a substring part stands in a value.
@@ -48,23 +49,40 @@ fn prepare_piece(
     requires { IsPartOf rule octets.now }
     ensures { IfOk result (λ key. key.items ≡ prepared_part rule part octets.now) }
 {
-    let ends = ends_of(part);
     match rule {
-        Rule::Text => prepare_text(alloc, ends, octets),
-        Rule::Ascii => prepare_text(alloc, ends, octets),
-        Rule::Phone => prepare_phone(alloc, ends, octets),
-        Rule::Country => prepare_text(alloc, ends, octets),
+        Rule::Text => prepare_part_text(alloc, part, octets),
+        Rule::Ascii => prepare_part_text(alloc, part, octets),
+        Rule::Phone => prepare_part_phone(alloc, part, octets),
+        Rule::Country => prepare_part_text(alloc, part, octets),
         Rule::Octets => Vec::from_slice(alloc, octets),
     }
 }
 
-/// The ends of a part that are ends of the value.
-fn ends_of(part: Part) -> Ends
-    ensures { (text : List ℕ) → cut_ends result text ≡ cut_outer part text }
+fn prepare_part_phone(alloc: Global, part: Part, octets: &[u8]) -> Result<Vec<u8>, AllocError>
+    requires { IsUtf8 octets.now }
+    ensures { IfOk result (λ key. key.items ≡ without_separators (prepared_part_text part octets.now)) }
+{
+    let mut key = prepare_part_text(alloc, part, octets)?;
+    remove_separators(&mut key);
+    Ok(key)
+}
+
+fn prepare_part_text(alloc: Global, part: Part, octets: &[u8]) -> Result<Vec<u8>, AllocError>
+    requires { IsUtf8 octets.now }
+    ensures { IfOk result (λ key. key.items ≡ prepared_part_text part octets.now) }
+{
+    let mut key = fold_octets(alloc, octets)?;
+    cut_outer_of(part, &mut key);
+    join_spaces(&mut key);
+    Ok(key)
+}
+
+fn cut_outer_of(part: Part, key: &mut Vec<u8>)
+    ensures { key.new.items ≡ cut_outer part key.old.items }
 {
     match part {
-        Part::First => Ends::Front,
-        Part::Middle => Ends::Neither,
-        Part::Last => Ends::End,
+        Part::First => cut_front_of(key),
+        Part::Middle => {}
+        Part::Last => cut_end_of(key),
     }
 }

@@ -1,82 +1,41 @@
-ghost use Rattle.std.specs.Prelude.{◌≡◌, ◌↔◌, ◌-◌, ℕ, List, [], ◌∷◌, ◌++◌, length, slice_get, Some, IsTrue, IfOk, OnOk};
+ghost use Rattle.std.specs.Prelude.{◌≡◌, ◌≤◌, length, drop};
 ghost use Rattle.match_rules.specs.Spaces.{cut_front, cut_end, single_spaces};
-ghost use Rattle.match_rules.specs.Ends.{cut_ends};
-
-use std::alloc::{AllocError, Global};
 
 const SPACE: u8 = b' ';
 
-/// The ends at which a text loses its spaces.
-#[derive(Clone, Copy, Debug, PartialEq, Eq)]
-pub(crate) enum Ends {
-    Both,
-    Front,
-    Neither,
-    End,
-}
-
-/// A text without the spaces at these ends.
-pub(crate) fn cut(ends: Ends, text: &[u8]) -> &[u8]
-    ensures { result.now ≡ cut_ends ends text.now }
+/// Takes away the spaces at the front of a text.
+pub(crate) fn cut_front_of(text: &mut Vec<u8>)
+    ensures { text.new.items ≡ cut_front text.old.items }
 {
-    match ends {
-        Ends::Both => without_end(without_front(text)),
-        Ends::Front => without_front(text),
-        Ends::Neither => text,
-        Ends::End => without_end(text),
-    }
+    let spaces = front_spaces(text);
+    drop(text.drain(..spaces));
 }
 
-/// A text without the spaces at its front.
-fn without_front(text: &[u8]) -> &[u8]
-    ensures { result.now ≡ cut_front text.now }
+/// How many spaces stand at the front of a text.
+fn front_spaces(text: &[u8]) -> usize
+    ensures fits { result ≤ length text.now }
+    ensures exact { drop result text.now ≡ cut_front text.now }
 {
     for (index, octet) in text.iter().enumerate() {
         if *octet != SPACE {
-            return &text[index..];
+            return index;
         }
     }
-    &[]
+    text.len()
 }
 
-/// A text without the spaces at its end.
-fn without_end(text: &[u8]) -> &[u8]
-    ensures { result.now ≡ cut_end text.now }
+/// Takes away the spaces at the end of a text.
+pub(crate) fn cut_end_of(text: &mut Vec<u8>)
+    ensures { text.new.items ≡ cut_end text.old.items }
 {
-    let mut end = text.len();
-    while end > 0 {
-        if text[end - 1] != SPACE {
-            return &text[..end];
-        }
-        end -= 1;
+    while text.last() == Some(&SPACE) {
+        text.pop();
     }
-    &[]
 }
 
-/// A text with each run of spaces made one, in one pass.
-pub(crate) fn join_spaces(alloc: Global, text: &[u8]) -> Result<Vec<u8>, AllocError>
-    ensures { IfOk result (λ joined. joined.items ≡ single_spaces text.now) }
+/// Makes each run of spaces in a text one space.
+pub(crate) fn join_spaces(text: &mut Vec<u8>)
+    ensures { text.new.items ≡ single_spaces text.old.items }
 {
-    let mut joined = Vec::with_capacity(alloc, text.len())?;
-    for octet in text {
-        push_joined(&mut joined, *octet)?;
-    }
-    Ok(joined)
-}
-
-/// Appends an octet to a text, unless both are spaces where they meet.
-fn push_joined(joined: &mut Vec<u8>, octet: u8) -> Result<(), AllocError>
-    ensures { OnOk result ((text : List ℕ) → joined.old.items ≡ single_spaces text → joined.new.items ≡ single_spaces (text ++ octet ∷ [])) }
-{
-    if octet == SPACE && ends_in_space(joined) {
-        return Ok(());
-    }
-    joined.push(octet)?;
-    Ok(())
-}
-
-fn ends_in_space(text: &[u8]) -> bool
-    ensures { IsTrue result ↔ (slice_get text.now (length text.now - 1) ≡ Some SPACE) }
-{
-    text.last() == Some(&SPACE)
+    text.dedup_by(|octet, before| *octet == SPACE && *before == SPACE);
 }

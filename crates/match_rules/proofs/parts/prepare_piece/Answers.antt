@@ -2,11 +2,11 @@
 use Rattle.match_rules.proofs.SyntaxesLemmas.{IsUtf8-part}
 use Rattle.match_rules.proofs.parts.prepare_piece.Goals as goal
 
-pub prepare_text-requires-in-Ascii : goal.prepare_text-requires-in-Ascii
-prepare_text-requires-in-Ascii c = IsUtf8-part c.args.rule c.args.octets.now c.requires (λ is. cc)
+pub prepare_part_text-requires-in-Ascii : goal.prepare_part_text-requires-in-Ascii
+prepare_part_text-requires-in-Ascii c = IsUtf8-part c.args.rule c.args.octets.now c.requires (λ is. cc)
 
-pub prepare_phone-requires : goal.prepare_phone-requires
-prepare_phone-requires c = IsUtf8-part c.args.rule c.args.octets.now c.requires (λ is. cc)
+pub prepare_part_phone-requires : goal.prepare_part_phone-requires
+prepare_part_phone-requires c = IsUtf8-part c.args.rule c.args.octets.now c.requires (λ is. cc)
 
-pub prepare_text-requires-in-Country : goal.prepare_text-requires-in-Country
-prepare_text-requires-in-Country c = IsUtf8-part c.args.rule c.args.octets.now c.requires (λ is. cc)
+pub prepare_part_text-requires-in-Country : goal.prepare_part_text-requires-in-Country
+prepare_part_text-requires-in-Country c = IsUtf8-part c.args.rule c.args.octets.now c.requires (λ is. cc)
