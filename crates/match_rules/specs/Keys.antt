@@ -1,7 +1,7 @@
 -- Keys of values: what two values must have alike to match.
--- RFC 4518 prepares a text by its own tables. Here the preparation is NFKC, full case folding, NFKC, and then the
--- spaces: the Unicode Standard's own caseless form stands for those tables. It maps no character to nothing and
--- forbids none, so that it is a choice of this profile.
+-- RFC 4518 prepares a text by tables of its own. Here the preparation is NFKC, full case folding, NFKC, and then
+-- the spaces: the Unicode Standard's forms stand for those tables, as a choice of this profile. So no character is
+-- mapped to nothing, controls stay as they are, none is prohibited, and a text of spaces alone has the empty key.
 use Rattle.std.specs.Prelude.{ℕ, Bool, ◌==◌, ◌||◌, not, List, filter, Option, Some, None, if◌then◌else◌}
 use Rattle.match_rules.specs.declared.rules.Rule.{Rule}
 use Rattle.match_rules.specs.declared.rules.Rule.TheVariants.{Text, Ascii, Phone, Country, Octets}
@@ -9,7 +9,7 @@ use Rattle.match_rules.specs.Folding.{folded_octets}
 use Rattle.match_rules.specs.Spaces.{is_space, cut_and_joined}
 use Rattle.match_rules.specs.Syntaxes.{is_of}
 
--- the octet separates groups of digits in a telephone number: a space or a hyphen
+-- the octet separates groups of digits in a telephone number (RFC 4518, section 2.6.3): a space or a hyphen
 abbrev pub is_separator : ℕ → Bool
 is_separator octet = is_space octet || octet == 0x2D
 

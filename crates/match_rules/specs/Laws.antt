@@ -38,12 +38,12 @@ abbrev pub CountryKeyOfAscii : Type 0
 CountryKeyOfAscii = (octets : List ℕ) → IsOf Country octets → key_of Country octets ≡ Some (lower_case octets)
 
 -- the key of an ASCII text is its own key, unless it is empty, as that of spaces alone
-abbrev pub KeyIsItsKey : Type 0
-KeyIsItsKey = (rule : Rule) (octets key : List ℕ) → IsAscii octets → key_of rule octets ≡ Some key → key ≢ [] → key_of rule key ≡ Some key
+abbrev pub KeyIsOwnKey : Type 0
+KeyIsOwnKey = (rule : Rule) (octets key : List ℕ) → IsAscii octets → key_of rule octets ≡ Some key → key ≢ [] → key_of rule key ≡ Some key
 
 -- ASCII texts that differ only in the case of letters have one key
-abbrev pub CaseHasNoKey : Type 0
-CaseHasNoKey = (rule : Rule) (left right : List ℕ) → rule ≢ Octets → IsAscii left → IsAscii right → lower_case left ≡ lower_case right → key_of rule left ≡ key_of rule right
+abbrev pub CaseKeepsKey : Type 0
+CaseKeepsKey = (rule : Rule) (left right : List ℕ) → rule ≢ Octets → IsAscii left → IsAscii right → lower_case left ≡ lower_case right → key_of rule left ≡ key_of rule right
 
 -- the second text has one space more than the first: at its front, at its end, or beside a space within
 abbrev pub HasSpaceMore : List ℕ → List ℕ → Type 0
@@ -52,8 +52,8 @@ HasSpaceMore text more =
     ⊎ ((left right : List ℕ) × (text ≡ left ++ 0x20 ∷ right) × (more ≡ left ++ 0x20 ∷ 0x20 ∷ right))
 
 -- such a space changes no key of an ASCII text
-abbrev pub SpaceHasNoKey : Type 0
-SpaceHasNoKey = (rule : Rule) (text more : List ℕ) → rule ≢ Octets → IsAscii text → IsAscii more → IsOf rule text → IsOf rule more → HasSpaceMore text more → key_of rule text ≡ key_of rule more
+abbrev pub SpaceKeepsKey : Type 0
+SpaceKeepsKey = (rule : Rule) (text more : List ℕ) → rule ≢ Octets → IsAscii text → IsAscii more → IsOf rule text → IsOf rule more → HasSpaceMore text more → key_of rule text ≡ key_of rule more
 
 -- the key of a telephone number has no space and no hyphen
 abbrev pub PhoneKeyIsPlain : Type 0

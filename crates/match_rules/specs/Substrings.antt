@@ -1,4 +1,4 @@
--- Substring matches (RFC 4511, section 4.5.1.7.2; X.520, section 8.1.3), read on keys.
+-- Substring matches (RFC 4511, section 4.5.1.7.2; RFC 4517, section 4.2.13), read on keys.
 use Rattle.std.specs.Prelude.{◌≡◌, ℕ, List, [], ◌∷◌, ◌++◌}
 
 -- the parts stand in the text one behind the other, with any octets before, between and after them

@@ -14,7 +14,8 @@ use std::alloc::{AllocError, Global};
 /// no memory is asked for.
 pub fn prepare(alloc: Global, rule: Rule, octets: &[u8]) -> Result<Vec<u8>, PrepareFault>
     ensures ok { IfOk result (λ key. key_of rule octets.now ≡ Some key.items) }
-    ensures not_of_syntax { IsErrOf result PrepareFault.NotOfSyntax ↔ (key_of rule octets.now ≡ None) }
+    ensures not_of_syntax { IsErrOf result PrepareFault.NotOfSyntax
+        ↔ (key_of rule octets.now ≡ None) }
 {
     if !is_of(rule, octets) {
         return Err(PrepareFault::NotOfSyntax);

@@ -1,5 +1,5 @@
 //! Laws of keys: each function states one and proves it, and does nothing when it is called.
-ghost use Rattle.match_rules.specs.Laws.{KeyNeedsSyntax, PartKeyNeedsSyntax, TextKeyOfAscii, AsciiKeyOfAscii, PhoneKeyOfAscii, CountryKeyOfAscii, KeyIsItsKey, CaseHasNoKey, SpaceHasNoKey, PhoneKeyIsPlain, OrderSaysBefore};
+ghost use Rattle.match_rules.specs.Laws.{KeyNeedsSyntax, PartKeyNeedsSyntax, TextKeyOfAscii, AsciiKeyOfAscii, PhoneKeyOfAscii, CountryKeyOfAscii, KeyIsOwnKey, CaseKeepsKey, SpaceKeepsKey, PhoneKeyIsPlain, OrderSaysBefore};
 
 /// Octets have no key exactly where they are not of the syntax.
 pub fn syntax_law()
@@ -17,17 +17,17 @@ pub fn ascii_key_law()
 
 /// The key of ASCII octets is its own key, unless it is empty.
 pub fn own_key_law()
-    ensures { KeyIsItsKey }
+    ensures { KeyIsOwnKey }
 {}
 
 /// ASCII octets that differ only in the case of letters have one key.
 pub fn case_law()
-    ensures { CaseHasNoKey }
+    ensures { CaseKeepsKey }
 {}
 
 /// A space more at an end of ASCII octets, or beside a space within, changes no key.
 pub fn space_law()
-    ensures { SpaceHasNoKey }
+    ensures { SpaceKeepsKey }
 {}
 
 /// The key of a telephone number has no space and no hyphen.

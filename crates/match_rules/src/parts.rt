@@ -32,7 +32,8 @@ pub fn prepare_part(
     octets: &[u8],
 ) -> Result<Vec<u8>, PrepareFault>
     ensures ok { IfOk result (λ key. part_key_of rule part octets.now ≡ Some key.items) }
-    ensures not_of_syntax { IsErrOf result PrepareFault.NotOfSyntax ↔ (part_key_of rule part octets.now ≡ None) }
+    ensures not_of_syntax { IsErrOf result PrepareFault.NotOfSyntax
+        ↔ (part_key_of rule part octets.now ≡ None) }
 {
     if !is_part_of(rule, octets) {
         return Err(PrepareFault::NotOfSyntax);
@@ -60,7 +61,8 @@ fn prepare_piece(
 
 fn prepare_part_phone(alloc: Global, part: Part, octets: &[u8]) -> Result<Vec<u8>, AllocError>
     requires { IsUtf8 octets.now }
-    ensures { IfOk result (λ key. key.items ≡ without_separators (prepared_part_text part octets.now)) }
+    ensures { IfOk result (λ key.
+        key.items ≡ without_separators (prepared_part_text part octets.now)) }
 {
     let mut key = prepare_part_text(alloc, part, octets)?;
     remove_separators(&mut key);

@@ -8,7 +8,8 @@ use memchr::memmem;
 /// Whether a key is the first part, then the middle parts in order with any octets before, between and after
 /// them, then the last part. The parts do not overlap, and an absent part is empty.
 pub fn substring(key: &[u8], first: &[u8], middle: &[Vec<u8>], last: &[u8]) -> bool
-    ensures { IsTrue result ↔ IsSubstring key.now first.now (map (λ part. part.items) middle.now) last.now }
+    ensures { IsTrue result
+        ↔ IsSubstring key.now first.now (map (λ part. part.items) middle.now) last.now }
 {
     match text_between(key, first, last) {
         Some(between) => stand_in_order(middle, between),
