@@ -1,9 +1,10 @@
 //! The table of attribute types.
-ghost use Rattle.std.specs.Prelude.{◌≡◌, map, option_map};
+ghost use Rattle.std.specs.Prelude.{◌≡◌, map, option_map, position};
 ghost use Rattle.schema_core.specs.Attributes.{attributes, attribute_of_row, attr_of, attribute_at};
 ghost use Rattle.schema_core.specs.Naming.{is_named};
 
 use crate::kinds::{AttrId, Row, Syntax};
+use crate::naming::is_named;
 
 // A row; the marks that are named are set.
 macro_rules! attribute {
@@ -91,4 +92,21 @@ pub fn row(attribute: AttrId) -> Option<Row>
     ensures exact { option_map attribute_of_row result ≡ attribute_at attribute.0 }
 {
     rows().get(usize::from(attribute.0)).copied()
+}
+
+// The place of the first row that the text names.
+fn place_of(rows: &[Row], text: &str) -> Option<usize>
+    ensures exact { result ≡ position (λ row. is_named row.name.now row.oid.now text.now) rows.now }
+{
+    rows.iter()
+        .position(|row| is_named(row.name, row.oid, text))
+}
+
+/// The attribute type that a text names: by its name without regard to ASCII case, or by its object
+/// identifier in dotted form. None exactly where no row has it.
+pub fn attr(text: &str) -> Option<AttrId>
+    ensures exact { option_map (λ attribute. attribute.0) result ≡ attr_of text.now }
+{
+    let index = place_of(rows(), text)?;
+    Some(AttrId(index as u8))
 }

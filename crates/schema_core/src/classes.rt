@@ -1,11 +1,14 @@
 //! The table of object classes.
-ghost use Rattle.std.specs.Prelude.{◌≡◌, map, option_map};
-ghost use Rattle.schema_core.specs.Classes.{classes, class_of, kind_of, class_oid_of, superior_of, required_of, allowed_of};
+ghost use Rattle.std.specs.Prelude.{◌≡◌, map, option_map, position, slice_get};
+ghost use Rattle.schema_core.specs.Classes.{classes, class_at, class_of, kind_of, class_oid_of, superior_of, required_of, allowed_of};
+ghost use Rattle.schema_core.specs.Naming.{is_named};
 ghost use Rattle.schema_core.specs.ClassRows.{numbered, numbered_of_row};
 
 use crate::kinds::{AttrId, ClassId, ClassKind};
+use crate::naming::is_named;
 
 // A class, its superior and its attribute types by number.
+#[derive(Clone, Copy)]
 pub(crate) struct ClassRow {
     name: &'static str,
     oid: &'static str,
@@ -233,4 +236,79 @@ fn rows() -> &'static [ClassRow]
     ensures exact { map numbered_of_row result.now ≡ map numbered classes }
 {
     &CLASSES
+}
+
+// The place of the first row that the text names.
+fn place_of(rows: &[ClassRow], text: &str) -> Option<usize>
+    ensures exact { result ≡ position (λ row. is_named row.name.now row.oid.now text.now) rows.now }
+{
+    rows.iter()
+        .position(|row| is_named(row.name, row.oid, text))
+}
+
+/// The class that a text names: by its name without regard to ASCII case, or by its object identifier
+/// in dotted form. None exactly where no row has it.
+pub fn class(text: &str) -> Option<ClassId>
+    ensures exact { option_map (λ class. class.0) result ≡ class_of text.now }
+{
+    let index = place_of(rows(), text)?;
+    Some(ClassId(index as u8))
+}
+
+// The row of a class, of these rows.
+fn row_of(rows: &[ClassRow], class: ClassId) -> Option<ClassRow>
+    ensures exact { result ≡ slice_get rows.now class.0 }
+{
+    rows.get(usize::from(class.0)).copied()
+}
+
+// The row of a class.
+#[tactic(auto, using(crate::proofs::ClassLemmas::slice_get_rows))]
+fn row_at(class: ClassId) -> Option<ClassRow>
+    ensures exact { option_map numbered_of_row result ≡ option_map numbered (class_at class.0) }
+{
+    row_of(rows(), class)
+}
+
+/// What the class is for; None for a number past the table.
+pub fn class_kind(class: ClassId) -> Option<ClassKind>
+    ensures exact { result ≡ kind_of class.0 }
+{
+    Some(row_at(class)?.kind)
+}
+
+/// The class's object identifier in dotted form; None for a number past the table.
+pub fn class_oid(class: ClassId) -> Option<&'static str>
+    ensures exact { option_map (λ oid. oid.now) result ≡ class_oid_of class.0 }
+{
+    Some(row_at(class)?.oid)
+}
+
+/// The class's immediate superior; None for `top` and for a number past the table.
+pub fn superior(class: ClassId) -> Option<ClassId>
+    ensures exact { option_map (λ superior. superior.0) result ≡ superior_of class.0 }
+{
+    row_at(class)?.superior
+}
+
+/// The attribute types that an entry of the class must have, as the class's own row lists them: those
+/// of its superiors stand in their rows. Empty for a number past the table.
+pub fn required(class: ClassId) -> &'static [AttrId]
+    ensures exact { map (λ attribute. attribute.0) result.now ≡ required_of class.0 }
+{
+    match row_at(class) {
+        Some(row) => row.required,
+        None => &[],
+    }
+}
+
+/// The attribute types that an entry of the class may have besides, as the class's own row lists
+/// them: those of its superiors stand in their rows. Empty for a number past the table.
+pub fn allowed(class: ClassId) -> &'static [AttrId]
+    ensures exact { map (λ attribute. attribute.0) result.now ≡ allowed_of class.0 }
+{
+    match row_at(class) {
+        Some(row) => row.allowed,
+        None => &[],
+    }
 }

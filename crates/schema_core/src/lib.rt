@@ -5,7 +5,9 @@
 mod attributes;
 mod classes;
 mod kinds;
+mod naming;
 mod numbers;
 
-pub use attributes::row;
+pub use attributes::{attr, row};
+pub use classes::{allowed, class, class_kind, class_oid, required, superior};
 pub use kinds::{AttrId, ClassId, ClassKind, Row, Syntax};

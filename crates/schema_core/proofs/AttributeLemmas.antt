@@ -1,0 +1,21 @@
+-- What the program's rows find is what the table of attribute types has.
+use Rattle.std.proofs.Common.{◌≡◌, ℕ, ◌<◌, List, map, position, Some, Fits, w8, ap, sym, ◌∙◌, arith}
+use Rattle.schema_core.specs.declared.kinds.Row.{Row}
+use Rattle.schema_core.specs.Attributes.{attributes, attribute_of_row, attr_of}
+use Rattle.schema_core.specs.Naming.{is_named}
+use Rattle.schema_core.proofs.TableLemmas.{position-map, position_within}
+
+-- the first of the program's rows that a text names is the table's
+pub position-rows :
+    (rows : List Row) (text : List ℕ) → map attribute_of_row rows ≡ attributes
+    → position (λ row. is_named row.name.now row.oid.now text) rows ≡ attr_of text
+position-rows rows text same =
+    let names = λ (row : _). is_named row.name row.oid text in
+    sym (position-map names attribute_of_row rows) ∙ ap (position names) same
+
+-- the number of an attribute type fits one octet
+pub attr_of_fits : (text : List ℕ) (number : ℕ) → attr_of text ≡ Some number → Fits w8 number
+unfolding attributes
+attr_of_fits text number found =
+    let within : number < 35 = position_within (λ row. is_named row.name row.oid text) attributes number found in
+    omega arith
