@@ -1,11 +1,13 @@
 -- What the program's rows find is what the table of classes has.
-use Rattle.std.proofs.Common.{◌≡◌, ℕ, ◌<◌, List, map, position, option_map, slice_get, Option, Some, Fits, w8, ap, sym, ◌∙◌, arith}
+use Rattle.std.proofs.Common.{◌≡◌, ℕ, ◌<◌, List, map, find, position, option_map, slice_get, Option, Some, Fits, w8, ap, sym, ◌∙◌, arith}
+use Rattle.std.proofs.lemmas.Simd.{map-map}
 use Rattle.std.proofs.lemmas.Option.{slice_get-map}
 use Rattle.schema_core.specs.declared.classes.ClassRow.{ClassRow}
-use Rattle.schema_core.specs.Classes.{classes, class_at, class_of}
+use Rattle.schema_core.specs.Classes.{Class, classes, class_at, class_of}
 use Rattle.schema_core.specs.ClassRows.{NumberedClass, numbered_of_row, numbered}
-use Rattle.schema_core.specs.Naming.{is_named}
-use Rattle.schema_core.proofs.TableLemmas.{position-map, position_within}
+use Rattle.schema_core.specs.Naming.{Named, is_named, is_same_name}
+use Rattle.schema_core.specs.Oid.{named_class, oid_among}
+use Rattle.schema_core.proofs.TableLemmas.{position-map, position_within, oid_among_map}
 
 -- the first of the program's rows that a text names is the table's
 pub position-rows :
@@ -30,3 +32,19 @@ unfolding classes
 class_of_fits text number found =
     let within : number < 19 = position_within (λ row. is_named row.name row.oid text) classes number found in
     omega arith
+
+-- a numbered row's name with its object identifier
+abbrev named_number : NumberedClass → Named
+named_number row = record { name = row.name; oid = row.oid }
+
+-- the object identifier of the first of the program's rows that a text names is the table's
+pub oid_of_rows :
+    (rows : List ClassRow) (text : List ℕ) → map numbered_of_row rows ≡ map numbered classes
+    → option_map (λ row. row.oid.now) (find (λ row. is_same_name row.name.now text) rows)
+    ≡ oid_among (map named_class classes) text
+oid_of_rows rows text same =
+    oid_among_map (λ row. named_number (numbered_of_row row)) rows text
+    ∙ ap (λ table. oid_among table text)
+        (sym (map-map named_number numbered_of_row rows)
+        ∙ ap (map named_number) same
+        ∙ map-map named_number numbered classes)

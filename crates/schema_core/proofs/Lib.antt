@@ -1,3 +1,5 @@
 mod TableLemmas
 mod AttributeLemmas
 mod ClassLemmas
+mod RoleLemmas
+mod OidLemmas

@@ -6,3 +6,4 @@ pub mod Roles
 pub mod Oid
 -- What only functions within this crate promise each other.
 pub mod ClassRows
+pub mod RoleRows

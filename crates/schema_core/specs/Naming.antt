@@ -3,6 +3,11 @@
 use Rattle.std.specs.Prelude.{ℕ, Bool, ◌||◌, List}
 use Rattle.std.specs.Str.{bytes_eq, str_eq_ignore_ascii_case}
 
+-- a name and the object identifier that it stands for, in dotted form
+pub record Named : Type 0 where
+  pub name : List ℕ
+  pub oid : List ℕ
+
 -- the text is the name, but for the case of ASCII letters
 abbrev pub is_same_name : List ℕ → List ℕ → Bool
 is_same_name name text = str_eq_ignore_ascii_case name text

@@ -1,10 +1,12 @@
 //! The table of attribute types.
-ghost use Rattle.std.specs.Prelude.{◌≡◌, map, option_map, position};
+ghost use Rattle.std.specs.Prelude.{◌≡◌, map, find, option_map, position};
+ghost use Rattle.std.specs.Option.{option_copied};
+ghost use Rattle.schema_core.specs.Oid.{oid_among, named_attribute};
 ghost use Rattle.schema_core.specs.Attributes.{attributes, attribute_of_row, attr_of, attribute_at};
-ghost use Rattle.schema_core.specs.Naming.{is_named};
+ghost use Rattle.schema_core.specs.Naming.{is_named, is_same_name};
 
 use crate::kinds::{AttrId, Row, Syntax};
-use crate::naming::is_named;
+use crate::naming::{is_named, is_same_name};
 
 // A row; the marks that are named are set.
 macro_rules! attribute {
@@ -109,4 +111,29 @@ pub fn attr(text: &str) -> Option<AttrId>
 {
     let index = place_of(rows(), text)?;
     Some(AttrId(index as u8))
+}
+
+// The first row whose name the text is.
+fn row_named<'rows>(rows: &'rows [Row], text: &str) -> Option<&'rows Row>
+    ensures exact { option_copied result ≡ find (λ row. is_same_name row.name.now text.now) rows.now }
+{
+    rows.iter().find(|row| is_same_name(row.name, text))
+}
+
+// The object identifier of the first of these rows whose name the text is.
+fn oid_in(rows: &[Row], text: &str) -> Option<&'static str>
+    ensures exact { option_map (λ oid. oid.now) result
+        ≡ option_map (λ row. row.oid.now) (find (λ row. is_same_name row.name.now text.now) rows.now) }
+{
+    match row_named(rows, text) {
+        Some(row) => Some(row.oid),
+        None => None,
+    }
+}
+
+// The object identifier of the attribute type whose name the text is.
+pub(crate) fn attribute_oid_named(text: &str) -> Option<&'static str>
+    ensures exact { option_map (λ oid. oid.now) result ≡ oid_among (map named_attribute attributes) text.now }
+{
+    oid_in(rows(), text)
 }

@@ -1,11 +1,13 @@
 //! The table of object classes.
-ghost use Rattle.std.specs.Prelude.{◌≡◌, map, option_map, position, slice_get};
+ghost use Rattle.std.specs.Prelude.{◌≡◌, map, find, option_map, position, slice_get};
+ghost use Rattle.std.specs.Option.{option_copied};
+ghost use Rattle.schema_core.specs.Oid.{oid_among, named_class};
 ghost use Rattle.schema_core.specs.Classes.{classes, class_at, class_of, kind_of, class_oid_of, superior_of, required_of, allowed_of};
-ghost use Rattle.schema_core.specs.Naming.{is_named};
+ghost use Rattle.schema_core.specs.Naming.{is_named, is_same_name};
 ghost use Rattle.schema_core.specs.ClassRows.{numbered, numbered_of_row};
 
 use crate::kinds::{AttrId, ClassId, ClassKind};
-use crate::naming::is_named;
+use crate::naming::{is_named, is_same_name};
 
 // A class, its superior and its attribute types by number.
 #[derive(Clone, Copy)]
@@ -311,4 +313,29 @@ pub fn allowed(class: ClassId) -> &'static [AttrId]
         Some(row) => row.allowed,
         None => &[],
     }
+}
+
+// The first row whose name the text is.
+fn row_named<'rows>(rows: &'rows [ClassRow], text: &str) -> Option<&'rows ClassRow>
+    ensures exact { option_copied result ≡ find (λ row. is_same_name row.name.now text.now) rows.now }
+{
+    rows.iter().find(|row| is_same_name(row.name, text))
+}
+
+// The object identifier of the first of these rows whose name the text is.
+fn oid_in(rows: &[ClassRow], text: &str) -> Option<&'static str>
+    ensures exact { option_map (λ oid. oid.now) result
+        ≡ option_map (λ row. row.oid.now) (find (λ row. is_same_name row.name.now text.now) rows.now) }
+{
+    match row_named(rows, text) {
+        Some(row) => Some(row.oid),
+        None => None,
+    }
+}
+
+// The object identifier of the class whose name the text is.
+pub(crate) fn class_oid_named(text: &str) -> Option<&'static str>
+    ensures exact { option_map (λ oid. oid.now) result ≡ oid_among (map named_class classes) text.now }
+{
+    oid_in(rows(), text)
 }

@@ -7,7 +7,10 @@ mod classes;
 mod kinds;
 mod naming;
 mod numbers;
+mod oids;
+mod roles;
 
 pub use attributes::{attr, row};
 pub use classes::{allowed, class, class_kind, class_oid, required, superior};
 pub use kinds::{AttrId, ClassId, ClassKind, Row, Syntax};
+pub use oids::oid_of;
