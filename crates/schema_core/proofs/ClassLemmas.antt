@@ -45,6 +45,6 @@ pub oid_of_rows :
 oid_of_rows rows text same =
     oid_among_map (λ row. named_number (numbered_of_row row)) rows text
     ∙ ap (λ table. oid_among table text)
-        (sym (map-map named_number numbered_of_row rows)
-        ∙ ap (map named_number) same
-        ∙ map-map named_number numbered classes)
+    (sym (map-map named_number numbered_of_row rows)
+    ∙ ap (map named_number) same
+    ∙ map-map named_number numbered classes)

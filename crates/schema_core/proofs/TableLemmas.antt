@@ -38,6 +38,6 @@ pub oid_among_map :
 oid_among_map named [] text = refl
 oid_among_map named (x ∷ xs) text =
     elim (is_same_name (named x).name text) as
-      (λ b. option_map (λ x. (named x).oid) (cond b (Some x) (find (λ x. is_same_name (named x).name text) xs))
-        ≡ option_map (λ row. row.oid) (cond b (Some (named x)) (find (λ row. is_same_name row.name text) (map named xs))))
-      [ true ↦ refl | false ↦ oid_among_map named xs text ]
+    (λ b. option_map (λ x. (named x).oid) (cond b (Some x) (find (λ x. is_same_name (named x).name text) xs))
+    ≡ option_map (λ row. row.oid) (cond b (Some (named x)) (find (λ row. is_same_name row.name text) (map named xs))))
+    [ true ↦ refl | false ↦ oid_among_map named xs text ]

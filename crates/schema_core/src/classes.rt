@@ -36,200 +36,41 @@ macro_rules! class {
     };
 }
 
+#[rattlefmt::skip]
 static CLASSES: [ClassRow; 19] = [
     class!("top", "2.5.6.0", Abstract, None, [OBJECT_CLASS], []),
-    class!(
-        "country",
-        "2.5.6.2",
-        Structural,
-        Some(ClassId::TOP),
-        [C],
-        [DESCRIPTION]
-    ),
-    class!(
-        "locality",
-        "2.5.6.3",
-        Structural,
-        Some(ClassId::TOP),
-        [],
-        [STREET, SEE_ALSO, ST, L, DESCRIPTION]
-    ),
-    class!(
-        "organization",
-        "2.5.6.4",
-        Structural,
-        Some(ClassId::TOP),
-        [O],
-        [
-            USER_PASSWORD,
-            SEE_ALSO,
-            TELEPHONE_NUMBER,
-            STREET,
-            POSTAL_CODE,
-            ST,
-            L,
-            DESCRIPTION
-        ]
-    ),
-    class!(
-        "organizationalUnit",
-        "2.5.6.5",
-        Structural,
-        Some(ClassId::TOP),
-        [OU],
-        [
-            USER_PASSWORD,
-            SEE_ALSO,
-            TELEPHONE_NUMBER,
-            STREET,
-            POSTAL_CODE,
-            ST,
-            L,
-            DESCRIPTION
-        ]
-    ),
-    class!(
-        "person",
-        "2.5.6.6",
-        Structural,
-        Some(ClassId::TOP),
-        [SN, CN],
-        [USER_PASSWORD, TELEPHONE_NUMBER, SEE_ALSO, DESCRIPTION]
-    ),
-    class!(
-        "organizationalPerson",
-        "2.5.6.7",
-        Structural,
-        Some(ClassId::PERSON),
-        [],
-        [TITLE, STREET, POSTAL_CODE, OU, ST, L]
-    ),
-    class!(
-        "organizationalRole",
-        "2.5.6.8",
-        Structural,
-        Some(ClassId::TOP),
-        [CN],
-        [
-            TELEPHONE_NUMBER,
-            SEE_ALSO,
-            ROLE_OCCUPANT,
-            STREET,
-            POSTAL_CODE,
-            OU,
-            ST,
-            L,
-            DESCRIPTION
-        ]
-    ),
-    class!(
-        "groupOfNames",
-        "2.5.6.9",
-        Structural,
-        Some(ClassId::TOP),
-        [MEMBER, CN],
-        [SEE_ALSO, OWNER, OU, O, DESCRIPTION]
-    ),
-    class!(
-        "device",
-        "2.5.6.14",
-        Structural,
-        Some(ClassId::TOP),
-        [CN],
-        [SERIAL_NUMBER, SEE_ALSO, OWNER, OU, O, L, DESCRIPTION]
-    ),
-    class!(
-        "groupOfUniqueNames",
-        "2.5.6.17",
-        Structural,
-        Some(ClassId::TOP),
-        [UNIQUE_MEMBER, CN],
-        [SEE_ALSO, OWNER, OU, O, DESCRIPTION]
-    ),
-    class!(
-        "domain",
-        "0.9.2342.19200300.100.4.13",
-        Structural,
-        Some(ClassId::TOP),
-        [DC],
-        [
-            USER_PASSWORD,
-            SEE_ALSO,
-            TELEPHONE_NUMBER,
-            STREET,
-            POSTAL_CODE,
-            ST,
-            L,
-            DESCRIPTION,
-            O
-        ]
-    ),
-    class!(
-        "account",
-        "0.9.2342.19200300.100.4.5",
-        Structural,
-        Some(ClassId::TOP),
-        [UID],
-        [DESCRIPTION, SEE_ALSO, L, O, OU]
-    ),
-    class!(
-        "inetOrgPerson",
-        "2.16.840.1.113730.3.2.2",
-        Structural,
-        Some(ClassId::ORGANIZATIONAL_PERSON),
-        [],
-        [
-            DISPLAY_NAME,
-            EMPLOYEE_NUMBER,
-            GIVEN_NAME,
-            INITIALS,
-            MAIL,
-            MANAGER,
-            MOBILE,
-            O,
-            UID
-        ]
-    ),
-    class!(
-        "dcObject",
-        "1.3.6.1.4.1.1466.344",
-        Auxiliary,
-        Some(ClassId::TOP),
-        [DC],
-        []
-    ),
-    class!(
-        "uidObject",
-        "1.3.6.1.1.3.1",
-        Auxiliary,
-        Some(ClassId::TOP),
-        [UID],
-        []
-    ),
-    class!(
-        "simpleSecurityObject",
-        "0.9.2342.19200300.100.4.19",
-        Auxiliary,
-        Some(ClassId::TOP),
-        [USER_PASSWORD],
-        []
-    ),
-    class!(
-        "subentry",
-        "2.5.17.0",
-        Structural,
-        Some(ClassId::TOP),
-        [CN, SUBTREE_SPECIFICATION],
-        []
-    ),
-    class!(
-        "accessControlSubentry",
-        "2.5.17.1",
-        Auxiliary,
-        Some(ClassId::TOP),
-        [],
-        [PRESCRIPTIVE_ACI]
-    ),
+    class!("country", "2.5.6.2", Structural, Some(ClassId::TOP), [C], [DESCRIPTION]),
+    class!("locality", "2.5.6.3", Structural, Some(ClassId::TOP), [],
+        [STREET, SEE_ALSO, ST, L, DESCRIPTION]),
+    class!("organization", "2.5.6.4", Structural, Some(ClassId::TOP), [O],
+        [USER_PASSWORD, SEE_ALSO, TELEPHONE_NUMBER, STREET, POSTAL_CODE, ST, L, DESCRIPTION]),
+    class!("organizationalUnit", "2.5.6.5", Structural, Some(ClassId::TOP), [OU],
+        [USER_PASSWORD, SEE_ALSO, TELEPHONE_NUMBER, STREET, POSTAL_CODE, ST, L, DESCRIPTION]),
+    class!("person", "2.5.6.6", Structural, Some(ClassId::TOP), [SN, CN],
+        [USER_PASSWORD, TELEPHONE_NUMBER, SEE_ALSO, DESCRIPTION]),
+    class!("organizationalPerson", "2.5.6.7", Structural, Some(ClassId::PERSON), [],
+        [TITLE, STREET, POSTAL_CODE, OU, ST, L]),
+    class!("organizationalRole", "2.5.6.8", Structural, Some(ClassId::TOP), [CN],
+        [TELEPHONE_NUMBER, SEE_ALSO, ROLE_OCCUPANT, STREET, POSTAL_CODE, OU, ST, L, DESCRIPTION]),
+    class!("groupOfNames", "2.5.6.9", Structural, Some(ClassId::TOP), [MEMBER, CN],
+        [SEE_ALSO, OWNER, OU, O, DESCRIPTION]),
+    class!("device", "2.5.6.14", Structural, Some(ClassId::TOP), [CN],
+        [SERIAL_NUMBER, SEE_ALSO, OWNER, OU, O, L, DESCRIPTION]),
+    class!("groupOfUniqueNames", "2.5.6.17", Structural, Some(ClassId::TOP), [UNIQUE_MEMBER, CN],
+        [SEE_ALSO, OWNER, OU, O, DESCRIPTION]),
+    class!("domain", "0.9.2342.19200300.100.4.13", Structural, Some(ClassId::TOP), [DC],
+        [USER_PASSWORD, SEE_ALSO, TELEPHONE_NUMBER, STREET, POSTAL_CODE, ST, L, DESCRIPTION, O]),
+    class!("account", "0.9.2342.19200300.100.4.5", Structural, Some(ClassId::TOP), [UID],
+        [DESCRIPTION, SEE_ALSO, L, O, OU]),
+    class!("inetOrgPerson", "2.16.840.1.113730.3.2.2", Structural, Some(ClassId::ORGANIZATIONAL_PERSON), [],
+        [DISPLAY_NAME, EMPLOYEE_NUMBER, GIVEN_NAME, INITIALS, MAIL, MANAGER, MOBILE, O, UID]),
+    class!("dcObject", "1.3.6.1.4.1.1466.344", Auxiliary, Some(ClassId::TOP), [DC], []),
+    class!("uidObject", "1.3.6.1.1.3.1", Auxiliary, Some(ClassId::TOP), [UID], []),
+    class!("simpleSecurityObject", "0.9.2342.19200300.100.4.19", Auxiliary, Some(ClassId::TOP), [USER_PASSWORD],
+        []),
+    class!("subentry", "2.5.17.0", Structural, Some(ClassId::TOP), [CN, SUBTREE_SPECIFICATION], []),
+    class!("accessControlSubentry", "2.5.17.1", Auxiliary, Some(ClassId::TOP), [],
+        [PRESCRIPTIVE_ACI]),
 ];
 
 // The whole table.

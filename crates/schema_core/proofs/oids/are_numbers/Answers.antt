@@ -9,7 +9,7 @@ pub returns : goal.returns
 returns c =
     record {
       exact =
-        all_from_yields_List is_number _ _ c.all.result c.all.ensures.ran
-        (YieldsList-from_str_split 46 c.args.text.now (lit< tt) c.split.ensures.text c.split.ensures.has_more c.split.ensures.pattern)
-        (λ x b q k. search (rules, tests));
+          all_from_yields_List is_number _ _ c.all.result c.all.ensures.ran
+          (YieldsList-from_str_split 46 c.args.text.now (lit< tt) c.split.ensures.text c.split.ensures.has_more c.split.ensures.pattern)
+          (λ x b q k. search (rules, tests));
     }

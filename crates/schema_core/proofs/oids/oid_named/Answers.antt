@@ -11,12 +11,13 @@ pub returns : goal.returns
 returns c =
     record {
       exact =
-        simp
-        ( c.or-2.ensures,
-          c.or.ensures,
-          option_map-option_or,
-          c.attribute_oid_named.ensures.exact,
-          c.class_oid_named.ensures.exact,
-          c.role_oid_named.ensures.exact,
-          oid_among-append );
+          simp (
+            c.or-2.ensures,
+            c.or.ensures,
+            option_map-option_or,
+            c.attribute_oid_named.ensures.exact,
+            c.class_oid_named.ensures.exact,
+            c.role_oid_named.ensures.exact,
+            oid_among-append,
+          );
     }

@@ -8,6 +8,6 @@ pub returns : goal.returns
 returns c =
     record {
       exact =
-        count_from_yields_List _ c.count.result c.count.ensures.ran
-        (YieldsList-from_str_split 46 c.args.text.now (lit< tt) c.split.ensures.text c.split.ensures.has_more c.split.ensures.pattern);
+          count_from_yields_List _ c.count.result c.count.ensures.ran
+          (YieldsList-from_str_split 46 c.args.text.now (lit< tt) c.split.ensures.text c.split.ensures.has_more c.split.ensures.pattern);
     }
