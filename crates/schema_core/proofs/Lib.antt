@@ -3,3 +3,10 @@ mod AttributeLemmas
 mod ClassLemmas
 mod RoleLemmas
 mod OidLemmas
+mod NamingLemmas
+mod TableFacts
+mod HierarchyLemmas
+mod NormalLemmas
+mod DottedLemmas
+mod FoundLemmas
+pub mod Theorems

@@ -1,6 +1,6 @@
 -- The attribute types of the schema (RFC 4519, RFC 4524, RFC 2798; X.501 for the operational ones), as
 -- one table. The place of a row, from 0, is the number of its attribute type.
-use Rattle.std.specs.Prelude.{ℕ, Bool, true, false, List, [], ◌∷◌, Option, codes, slice_get, position, option_map}
+use Rattle.std.specs.Prelude.{ℕ, ◌<◌, Bool, true, false, List, [], ◌∷◌, Option, IsSomeAnd, IsTrue, length, codes, slice_get, position, option_map}
 use Rattle.std.specs.Option.{option_map_or}
 use Prim.Native.String.{String}
 use Rattle.schema_core.specs.declared.kinds.Syntax.{Syntax}
@@ -95,6 +95,10 @@ attributes =
     ∷ operational "subentryACI" "2.5.24.6" Aci
     ∷ []
 
+-- the number is that of a row
+abbrev pub IsAttrId : ℕ → Type 0
+IsAttrId number = number < length attributes
+
 -- the row with this number
 abbrev pub attribute_at : ℕ → Option Attribute
 attribute_at number = slice_get attributes number
@@ -102,6 +106,10 @@ attribute_at number = slice_get attributes number
 -- the number of the row that the text names
 abbrev pub attr_of : List ℕ → Option ℕ
 attr_of text = position (λ row. is_named row.name row.oid text) attributes
+
+-- the text names the row with this number
+abbrev pub NamesAttribute : List ℕ → ℕ → Type 0
+NamesAttribute text number = IsSomeAnd (attribute_at number) (λ row. IsTrue (is_named row.name row.oid text))
 
 -- the syntax of the attribute type with this number
 abbrev pub syntax_of : ℕ → Option Syntax

@@ -1,7 +1,7 @@
 -- The object classes of the schema (RFC 4519, RFC 4524, RFC 2798, RFC 2247, RFC 4519 3.16; X.501 for the
 -- two of subentries), as one table, their attributes cut to the attribute types of this schema. The
 -- place of a row, from 0, is the number of its class.
-use Rattle.std.specs.Prelude.{ℕ, ◌==◌, List, [], ◌∷◌, ◌++◌, Option, codes, map, slice_get, position, option_map, option_and_then}
+use Rattle.std.specs.Prelude.{ℕ, ◌<◌, ◌==◌, List, [], ◌∷◌, ◌++◌, Option, IsSomeAnd, IsTrue, length, codes, map, slice_get, position, option_map, option_and_then}
 use Rattle.std.specs.List.{filter_map, slice_split}
 use Rattle.std.specs.Option.{option_map_or}
 use Prim.Native.String.{String}
@@ -72,6 +72,10 @@ classes =
     ∷ class "accessControlSubentry" "2.5.17.1" Auxiliary "top" [] (words "prescriptiveACI")
     ∷ []
 
+-- the number is that of a row
+abbrev pub IsClassId : ℕ → Type 0
+IsClassId number = number < length classes
+
 -- the row with this number
 abbrev pub class_at : ℕ → Option Class
 class_at number = slice_get classes number
@@ -79,6 +83,10 @@ class_at number = slice_get classes number
 -- the number of the row that the text names
 abbrev pub class_of : List ℕ → Option ℕ
 class_of text = position (λ row. is_named row.name row.oid text) classes
+
+-- the text names the row with this number
+abbrev pub NamesClass : List ℕ → ℕ → Type 0
+NamesClass text number = IsSomeAnd (class_at number) (λ row. IsTrue (is_named row.name row.oid text))
 
 -- the kind of the class with this number
 abbrev pub kind_of : ℕ → Option ClassKind
