@@ -1,12 +1,15 @@
 -- What the program's rows find is what the table of classes has.
-use Rattle.std.proofs.Common.{◌≡◌, ℕ, ◌<◌, List, map, find, position, option_map, slice_get, Option, Some, Fits, w8, ap, sym, ◌∙◌, arith}
+use Rattle.std.proofs.Common.{◌≡◌, ℕ, ◌<◌, List, map, find, position, option_map, slice_get, Option, Some, None, IfSome, refl, Fits, w8, ap, sym, ◌∙◌, arith}
 use Rattle.std.proofs.lemmas.Simd.{map-map}
 use Rattle.std.proofs.lemmas.Option.{slice_get-map}
+use Rattle.std.specs.Option.{option_and_then}
+use Rattle.schema_core.specs.declared.kinds.ClassId.{ClassId}
 use Rattle.schema_core.specs.declared.classes.ClassRow.{ClassRow}
-use Rattle.schema_core.specs.Classes.{Class, classes, class_at, class_of}
+use Rattle.schema_core.specs.Classes.{Class, classes, class_at, class_of, superior_of}
 use Rattle.schema_core.specs.ClassRows.{NumberedClass, numbered_of_row, numbered}
 use Rattle.schema_core.specs.Naming.{Named, is_named, is_same_name}
 use Rattle.schema_core.specs.Oid.{named_class, oid_among}
+use Rattle.schema_core.proofs.HierarchyLemmas.{superior_of_below}
 use Rattle.schema_core.proofs.TableLemmas.{position-map, position_within, oid_among_map}
 
 -- the first of the program's rows that a text names is the table's
@@ -48,3 +51,24 @@ oid_of_rows rows text same =
     (sym (map-map named_number numbered_of_row rows)
     ∙ ap (map named_number) same
     ∙ map-map named_number numbered classes)
+
+-- the superior in a numbered row is the table's
+superior_of_numbered :
+    (found : Option Class)
+    → option_and_then (λ row. row.superior) (option_map numbered found) ≡ option_and_then (λ row. class_of row.superior) found
+superior_of_numbered None = refl
+superior_of_numbered (Some row) = refl
+
+-- so the superior in the program's row of a number is below that number
+superior_below :
+    (superior : Option ClassId) (number : ℕ) → option_map (λ class. class.0) superior ≡ superior_of number
+    → IfSome superior (λ class. class.0 < number)
+superior_below None number same = tt
+superior_below (Some class) number same = superior_of_below number class.0 (sym same)
+
+pub superior_of_row_below :
+    (row : ClassRow) (number : ℕ) → Some (numbered_of_row row) ≡ option_map numbered (class_at number)
+    → IfSome row.superior (λ class. class.0 < number)
+superior_of_row_below row number same =
+    superior_below row.superior number
+    (ap (option_and_then (λ found. found.superior)) same ∙ superior_of_numbered (class_at number))

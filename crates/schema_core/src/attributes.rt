@@ -1,8 +1,8 @@
 //! The table of attribute types.
-ghost use Rattle.std.specs.Prelude.{◌≡◌, map, find, option_map, position};
+ghost use Rattle.std.specs.Prelude.{◌≡◌, ◌↔◌, IsSome, IfSome, map, find, option_map, position};
 ghost use Rattle.std.specs.Option.{option_copied};
 ghost use Rattle.schema_core.specs.Oid.{oid_among, named_attribute};
-ghost use Rattle.schema_core.specs.Attributes.{attributes, attribute_of_row, attr_of, attribute_at};
+ghost use Rattle.schema_core.specs.Attributes.{attributes, attribute_of_row, IsAttrId, attr_of, attribute_at};
 ghost use Rattle.schema_core.specs.Naming.{is_named, is_same_name};
 
 use crate::kinds::{AttrId, Row, Syntax};
@@ -92,6 +92,7 @@ fn rows() -> &'static [Row]
 /// The row of an attribute type; None for a number past the table.
 pub fn row(attribute: AttrId) -> Option<Row>
     ensures exact { option_map attribute_of_row result ≡ attribute_at attribute.0 }
+    ensures found { IsSome result ↔ IsAttrId attribute.0 }
 {
     rows().get(usize::from(attribute.0)).copied()
 }
@@ -108,6 +109,7 @@ fn place_of(rows: &[Row], text: &str) -> Option<usize>
 /// identifier in dotted form. None exactly where no row has it.
 pub fn attr(text: &str) -> Option<AttrId>
     ensures exact { option_map (λ attribute. attribute.0) result ≡ attr_of text.now }
+    ensures fits { IfSome result (λ attribute. IsAttrId attribute.0) }
 {
     let index = place_of(rows(), text)?;
     Some(AttrId(index as u8))

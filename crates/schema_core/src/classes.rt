@@ -1,8 +1,8 @@
 //! The table of object classes.
-ghost use Rattle.std.specs.Prelude.{◌≡◌, map, find, option_map, position, slice_get};
+ghost use Rattle.std.specs.Prelude.{◌≡◌, ◌<◌, IfSome, map, find, option_map, position, slice_get};
 ghost use Rattle.std.specs.Option.{option_copied};
 ghost use Rattle.schema_core.specs.Oid.{oid_among, named_class};
-ghost use Rattle.schema_core.specs.Classes.{classes, class_at, class_of, kind_of, class_oid_of, superior_of, required_of, allowed_of};
+ghost use Rattle.schema_core.specs.Classes.{classes, IsClassId, class_at, class_of, kind_of, class_oid_of, superior_of, required_of, allowed_of};
 ghost use Rattle.schema_core.specs.Naming.{is_named, is_same_name};
 ghost use Rattle.schema_core.specs.ClassRows.{numbered, numbered_of_row};
 
@@ -93,6 +93,7 @@ fn place_of(rows: &[ClassRow], text: &str) -> Option<usize>
 /// in dotted form. None exactly where no row has it.
 pub fn class(text: &str) -> Option<ClassId>
     ensures exact { option_map (λ class. class.0) result ≡ class_of text.now }
+    ensures fits { IfSome result (λ class. IsClassId class.0) }
 {
     let index = place_of(rows(), text)?;
     Some(ClassId(index as u8))
@@ -127,9 +128,11 @@ pub fn class_oid(class: ClassId) -> Option<&'static str>
     Some(row_at(class)?.oid)
 }
 
-/// The class's immediate superior; None for `top` and for a number past the table.
+/// The class's immediate superior, which has a smaller number; None for `top` and for a number past
+/// the table.
 pub fn superior(class: ClassId) -> Option<ClassId>
     ensures exact { option_map (λ superior. superior.0) result ≡ superior_of class.0 }
+    ensures fits { IfSome result (λ superior. superior.0 < class.0) }
 {
     row_at(class)?.superior
 }

@@ -1,6 +1,6 @@
-use Rattle.std.proofs.Common.{◌≡◌, Some, ◌∙◌, sym}
-use Rattle.schema_core.specs.Classes.{class_of}
+use Rattle.std.proofs.Common.{◌∙◌, sym}
 use Rattle.schema_core.proofs.ClassLemmas.{position-rows, class_of_fits}
+use Rattle.schema_core.proofs.Theorems.{IsClassId-from_class_of}
 use Rattle.schema_core.proofs.classes.class.Goals as goal
 
 -- no row was found
@@ -10,6 +10,7 @@ returns-in_err-index c =
       exact =
           rw c.from_residual.ensures
           (c.in_err-index.ensures.exact ∙ position-rows c.rows.result.now c.args.text.now c.rows.ensures.exact);
+      fits = rw c.from_residual.ensures tt;
     }
 
 -- the place of a row fits one octet
@@ -21,6 +22,8 @@ overflow_cast-result c =
 -- a row was found
 pub returns : goal.returns
 returns c =
+    let found = c.in_ok-index.ensures.exact ∙ position-rows c.rows.result.now c.args.text.now c.rows.ensures.exact in
     record {
-      exact = c.in_ok-index.ensures.exact ∙ position-rows c.rows.result.now c.args.text.now c.rows.ensures.exact;
+      exact = found;
+      fits = IsClassId-from_class_of c.args.text.now c.in_ok-index.index (sym found);
     }
