@@ -92,6 +92,10 @@ NamesClass text number = IsSomeAnd (class_at number) (λ row. IsTrue (is_named r
 abbrev pub kind_of : ℕ → Option ClassKind
 kind_of number = option_map (λ row. row.kind) (class_at number)
 
+-- its name as the table spells it, and no octets for a number past the table
+abbrev pub class_name_of : ℕ → List ℕ
+class_name_of number = option_map_or (λ row. row.name) (class_at number) []
+
 -- its object identifier in dotted form
 abbrev pub class_oid_of : ℕ → Option (List ℕ)
 class_oid_of number = option_map (λ row. row.oid) (class_at number)

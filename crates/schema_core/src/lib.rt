@@ -18,4 +18,5 @@ pub use laws::{
     a_dotted_form_is_its_own, a_text_finds_the_row_that_it_names, classes_are_complete,
     rows_are_distinct, the_dotted_form_is_its_grammar,
 };
+pub use numbers::constants_are_rows;
 pub use oids::oid_of;

@@ -1,4 +1,8 @@
 //! Each attribute type and each class of the tables by its name.
+ghost use Rattle.std.specs.Prelude.{◌≡◌, [], ◌∷◌, map};
+ghost use Rattle.schema_core.specs.Attributes.{name_of};
+ghost use Rattle.schema_core.specs.Classes.{class_name_of, words};
+
 use crate::kinds::{AttrId, ClassId};
 
 impl AttrId {
@@ -112,3 +116,27 @@ impl ClassId {
 
     pub const ACCESS_CONTROL_SUBENTRY: ClassId = ClassId(18);
 }
+
+/// Each constant is the number of the row that it is called after, in the order of the tables.
+#[tactic(auto, unfolding(crate::specs::Attributes::attributes, crate::specs::Classes::classes))]
+pub fn constants_are_rows()
+    ensures attributes { map (λ attribute. name_of attribute.0)
+        (AttrId.OBJECT_CLASS ∷ AttrId.CN ∷ AttrId.SN ∷ AttrId.SERIAL_NUMBER ∷ AttrId.C ∷
+        AttrId.L ∷ AttrId.ST ∷ AttrId.STREET ∷ AttrId.O ∷ AttrId.OU ∷ AttrId.TITLE ∷
+        AttrId.DESCRIPTION ∷ AttrId.POSTAL_CODE ∷ AttrId.TELEPHONE_NUMBER ∷ AttrId.MEMBER ∷
+        AttrId.OWNER ∷ AttrId.ROLE_OCCUPANT ∷ AttrId.SEE_ALSO ∷ AttrId.USER_PASSWORD ∷
+        AttrId.GIVEN_NAME ∷ AttrId.INITIALS ∷ AttrId.UNIQUE_MEMBER ∷ AttrId.UID ∷ AttrId.MAIL ∷
+        AttrId.MANAGER ∷ AttrId.DC ∷ AttrId.MOBILE ∷ AttrId.EMPLOYEE_NUMBER ∷
+        AttrId.DISPLAY_NAME ∷ AttrId.ADMINISTRATIVE_ROLE ∷ AttrId.SUBTREE_SPECIFICATION ∷
+        AttrId.ACCESS_CONTROL_SCHEME ∷ AttrId.PRESCRIPTIVE_ACI ∷ AttrId.ENTRY_ACI ∷
+        AttrId.SUBENTRY_ACI ∷ [])
+        ≡ words "objectClass cn sn serialNumber c l st street o ou title description postalCode telephoneNumber member owner roleOccupant seeAlso userPassword givenName initials uniqueMember uid mail manager dc mobile employeeNumber displayName administrativeRole subtreeSpecification accessControlScheme prescriptiveACI entryACI subentryACI" }
+    ensures classes { map (λ class. class_name_of class.0)
+        (ClassId.TOP ∷ ClassId.COUNTRY ∷ ClassId.LOCALITY ∷ ClassId.ORGANIZATION ∷
+        ClassId.ORGANIZATIONAL_UNIT ∷ ClassId.PERSON ∷ ClassId.ORGANIZATIONAL_PERSON ∷
+        ClassId.ORGANIZATIONAL_ROLE ∷ ClassId.GROUP_OF_NAMES ∷ ClassId.DEVICE ∷
+        ClassId.GROUP_OF_UNIQUE_NAMES ∷ ClassId.DOMAIN ∷ ClassId.ACCOUNT ∷
+        ClassId.INET_ORG_PERSON ∷ ClassId.DC_OBJECT ∷ ClassId.UID_OBJECT ∷
+        ClassId.SIMPLE_SECURITY_OBJECT ∷ ClassId.SUBENTRY ∷ ClassId.ACCESS_CONTROL_SUBENTRY ∷ [])
+        ≡ words "top country locality organization organizationalUnit person organizationalPerson organizationalRole groupOfNames device groupOfUniqueNames domain account inetOrgPerson dcObject uidObject simpleSecurityObject subentry accessControlSubentry" }
+{}
