@@ -36,6 +36,7 @@ macro_rules! class {
     };
 }
 
+// Each row: what the class requires, and then what it allows besides.
 #[rattlefmt::skip]
 static CLASSES: [ClassRow; 19] = [
     class!("top", "2.5.6.0", Abstract, None, [OBJECT_CLASS], []),
@@ -62,12 +63,13 @@ static CLASSES: [ClassRow; 19] = [
         [USER_PASSWORD, SEE_ALSO, TELEPHONE_NUMBER, STREET, POSTAL_CODE, ST, L, DESCRIPTION, O]),
     class!("account", "0.9.2342.19200300.100.4.5", Structural, Some(ClassId::TOP), [UID],
         [DESCRIPTION, SEE_ALSO, L, O, OU]),
-    class!("inetOrgPerson", "2.16.840.1.113730.3.2.2", Structural, Some(ClassId::ORGANIZATIONAL_PERSON), [],
+    class!("inetOrgPerson", "2.16.840.1.113730.3.2.2", Structural,
+        Some(ClassId::ORGANIZATIONAL_PERSON), [],
         [DISPLAY_NAME, EMPLOYEE_NUMBER, GIVEN_NAME, INITIALS, MAIL, MANAGER, MOBILE, O, UID]),
     class!("dcObject", "1.3.6.1.4.1.1466.344", Auxiliary, Some(ClassId::TOP), [DC], []),
     class!("uidObject", "1.3.6.1.1.3.1", Auxiliary, Some(ClassId::TOP), [UID], []),
-    class!("simpleSecurityObject", "0.9.2342.19200300.100.4.19", Auxiliary, Some(ClassId::TOP), [USER_PASSWORD],
-        []),
+    class!("simpleSecurityObject", "0.9.2342.19200300.100.4.19", Auxiliary,
+        Some(ClassId::TOP), [USER_PASSWORD], []),
     class!("subentry", "2.5.17.0", Structural, Some(ClassId::TOP), [CN, SUBTREE_SPECIFICATION], []),
     class!("accessControlSubentry", "2.5.17.1", Auxiliary, Some(ClassId::TOP), [],
         [PRESCRIPTIVE_ACI]),

@@ -1,5 +1,5 @@
 //! Each attribute type and each class of the tables by its name.
-ghost use Rattle.std.specs.Prelude.{◌≡◌, [], ◌∷◌, map};
+ghost use Rattle.std.specs.Prelude.{◌≡◌, [], ◌∷◌, ◌++◌, map};
 ghost use Rattle.schema_core.specs.Attributes.{name_of};
 ghost use Rattle.schema_core.specs.Classes.{class_name_of, words};
 
@@ -130,7 +130,11 @@ pub fn constants_are_rows()
         AttrId.DISPLAY_NAME ∷ AttrId.ADMINISTRATIVE_ROLE ∷ AttrId.SUBTREE_SPECIFICATION ∷
         AttrId.ACCESS_CONTROL_SCHEME ∷ AttrId.PRESCRIPTIVE_ACI ∷ AttrId.ENTRY_ACI ∷
         AttrId.SUBENTRY_ACI ∷ [])
-        ≡ words "objectClass cn sn serialNumber c l st street o ou title description postalCode telephoneNumber member owner roleOccupant seeAlso userPassword givenName initials uniqueMember uid mail manager dc mobile employeeNumber displayName administrativeRole subtreeSpecification accessControlScheme prescriptiveACI entryACI subentryACI" }
+        ≡ words "objectClass cn sn serialNumber c l st street o ou title description"
+        ++ words "postalCode telephoneNumber member owner roleOccupant seeAlso"
+        ++ words "userPassword givenName initials uniqueMember uid mail manager dc mobile"
+        ++ words "employeeNumber displayName administrativeRole subtreeSpecification"
+        ++ words "accessControlScheme prescriptiveACI entryACI subentryACI" }
     ensures classes { map (λ class. class_name_of class.0)
         (ClassId.TOP ∷ ClassId.COUNTRY ∷ ClassId.LOCALITY ∷ ClassId.ORGANIZATION ∷
         ClassId.ORGANIZATIONAL_UNIT ∷ ClassId.PERSON ∷ ClassId.ORGANIZATIONAL_PERSON ∷
@@ -138,5 +142,8 @@ pub fn constants_are_rows()
         ClassId.GROUP_OF_UNIQUE_NAMES ∷ ClassId.DOMAIN ∷ ClassId.ACCOUNT ∷
         ClassId.INET_ORG_PERSON ∷ ClassId.DC_OBJECT ∷ ClassId.UID_OBJECT ∷
         ClassId.SIMPLE_SECURITY_OBJECT ∷ ClassId.SUBENTRY ∷ ClassId.ACCESS_CONTROL_SUBENTRY ∷ [])
-        ≡ words "top country locality organization organizationalUnit person organizationalPerson organizationalRole groupOfNames device groupOfUniqueNames domain account inetOrgPerson dcObject uidObject simpleSecurityObject subentry accessControlSubentry" }
+        ≡ words "top country locality organization organizationalUnit person"
+        ++ words "organizationalPerson organizationalRole groupOfNames device"
+        ++ words "groupOfUniqueNames domain account inetOrgPerson dcObject uidObject"
+        ++ words "simpleSecurityObject subentry accessControlSubentry" }
 {}
