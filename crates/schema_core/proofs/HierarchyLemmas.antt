@@ -27,11 +27,11 @@ one_before (Some other) superior place before is =
     let same : other ≡ superior = cc in grind (arith, nat_tests)
 
 -- the same bound, written from the row before
-below_more_zero : {superior place : ℕ} → superior < place → superior < place + 0
-below_more_zero below = omega arith
+below_here : (superior place : ℕ) → superior < place → superior < place + 0
+below_here superior place below = omega arith
 
-below_next : {superior place n : ℕ} → superior < (place + 1) + n → superior < place + suc n
-below_next below = omega arith
+below_next : (superior place n : ℕ) → superior < (place + 1) + n → superior < place + suc n
+below_next superior place n below = omega arith
 
 -- each row's superior
 superior_before :
@@ -41,9 +41,11 @@ superior_before :
 unfolding superiors_stand_before
 superior_before place [] n superior order is = cc
 superior_before place (row ∷ rows) zero superior order is =
-    below_more_zero (one_before (class_of row.superior) superior place (and_true _ _ order).0 is)
+    below_here superior place
+    (one_before (class_of row.superior) superior place (and_true _ _ order).0 is)
 superior_before place (row ∷ rows) (suc n) superior order is =
-    below_next (superior_before (place + 1) rows n superior (and_true _ _ order).1 is)
+    below_next superior place n
+    (superior_before (place + 1) rows n superior (and_true _ _ order).1 is)
 
 pub superior_of_below : (number superior : ℕ) → superior_of number ≡ Some superior → superior < number
 superior_of_below number superior is =

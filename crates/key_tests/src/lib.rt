@@ -1,0 +1,4 @@
+//! Tests of the keys and tables, over values from outside.
+#![tactic(auto)]
+
+mod tables;
