@@ -2,8 +2,8 @@
 use Rattle.std.proofs.Common.{◌≡◌, ℕ, ◌<◌, List, map, find, option_map, position, Some, Fits, w8, ap, sym, ◌∙◌, arith}
 use Rattle.std.proofs.lemmas.Simd.{map-map}
 use Rattle.schema_core.specs.declared.kinds.Row.{Row}
-use Rattle.schema_core.specs.Attributes.{Attribute, attributes, attribute_of_row, attr_of}
-use Rattle.schema_core.specs.Naming.{Named, is_named, is_same_name}
+use Rattle.schema_core.specs.Attributes.{attributes, attribute_of_row, attr_of}
+use Rattle.schema_core.specs.Naming.{is_named, is_same_name}
 use Rattle.schema_core.specs.Oid.{named_attribute, oid_among}
 use Rattle.schema_core.proofs.TableLemmas.{position-map, position_within, oid_among_map}
 

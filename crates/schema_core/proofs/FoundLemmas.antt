@@ -1,9 +1,9 @@
 -- A text that names one of distinct rows finds that row, and a row that it finds has its name.
-use Rattle.std.proofs.Common.{◌≡◌, ℕ, zero, suc, ◌+◌, ◌<◌, Bool, true, false, cond, not, ◌&&◌, List, [], ◌∷◌, map, length, position, slice_get, get_or, Option, Some, None, nat_lt, refl, ap, sym, ◌∙◌, arith, option_map, inl, inr, ◌⊎◌}
+use Rattle.std.proofs.Common.{◌≡◌, ℕ, zero, suc, ◌+◌, ◌<◌, Bool, true, false, cond, not, List, [], ◌∷◌, map, length, position, slice_get, Some, None, nat_lt, refl, ap, sym, ◌∙◌, arith, option_map, inl, inr}
 use Rattle.std.proofs.lemmas.List.Quantifiers.{position-Some}
 use Rattle.std.proofs.lemmas.Option.{slice_get-map, slice_get_cases, slice_get_within}
 use Rattle.std.proofs.lemmas.Bool.Decides.{nat_tests}
-use Rattle.std.specs.List.{prefix_len, position_or_len, list_any}
+use Rattle.std.specs.List.{position_or_len, list_any}
 use Rattle.schema_core.specs.Naming.{Named, are_alike, are_distinct}
 use Rattle.schema_core.proofs.TableLemmas.{position_within}
 use Rattle.schema_core.proofs.NamingLemmas.{names_row, alike, list_any_get, and_true}

@@ -1,8 +1,7 @@
 -- A class stands after its superior in the table.
-use Rattle.std.proofs.Common.{◌≡◌, ℕ, zero, suc, ◌+◌, ◌<◌, Bool, true, false, ◌&&◌, List, [], ◌∷◌, slice_get, Option, Some, None, nat_lt, refl, ap, sym, ◌∙◌, arith}
+use Rattle.std.proofs.Common.{◌≡◌, ℕ, zero, suc, ◌+◌, ◌<◌, Bool, true, ◌&&◌, List, [], ◌∷◌, slice_get, Option, Some, None, nat_lt, refl, arith}
 use Rattle.std.specs.Option.{option_map_or, option_and_then}
 use Rattle.std.proofs.lemmas.Bool.Decides.{nat_tests}
-use Rattle.schema_core.specs.Attributes.{attributes}
 use Rattle.schema_core.specs.Classes.{Class, classes, class_of, superior_of}
 use Rattle.schema_core.proofs.NamingLemmas.{and_true}
 

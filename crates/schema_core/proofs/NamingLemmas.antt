@@ -1,10 +1,10 @@
 -- A text names at most one of the rows that are distinct.
-use Rattle.std.proofs.Common.{◌≡◌, ℕ, zero, suc, ◌+◌, ◌<◌, Bool, true, false, cond, not, ◌&&◌, ◌||◌, ◌⊎◌, List, [], ◌∷◌, map, length, position, slice_get, Option, Some, None, nat_lt, refl, ap, sym, ◌∙◌, arith, inl, inr}
+use Rattle.std.proofs.Common.{◌≡◌, ℕ, zero, suc, Bool, true, false, ◌&&◌, ◌||◌, List, [], ◌∷◌, slice_get, Some, refl, ap, sym, ◌∙◌, inl, inr}
 use Rattle.std.proofs.lemmas.Bool.{or_cases}
 use Rattle.std.proofs.lemmas.Slice.Eq.{bytes_eq-Decides}
-use Rattle.std.specs.List.{prefix_len, position_or_len, list_any, list_all}
+use Rattle.std.specs.List.{list_any, list_all}
 use Rattle.std.specs.Str.{bytes_eq, str_to_ascii_lowercase as lower}
-use Rattle.schema_core.specs.Naming.{Named, is_same_name, is_named, are_alike, are_distinct}
+use Rattle.schema_core.specs.Naming.{Named, is_same_name, is_named, are_alike}
 
 -- either side of a choice that is true makes it true
 pub or_left : (x y : Bool) → x ≡ true → (x || y) ≡ true

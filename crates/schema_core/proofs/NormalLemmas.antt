@@ -1,5 +1,5 @@
 -- The dotted form of a text is dotted, and is its own dotted form.
-use Rattle.std.proofs.Common.{◌≡◌, ℕ, ◌+◌, ◌<◌, ◌≤◌, Bool, true, false, cond, not, ◌&&◌, ◌||◌, ◌==◌, nat_lt, List, [], ◌∷◌, ◌++◌, length, All, find, option_map, Option, Some, None, slice_index, if◌then◌else◌, refl, ap, sym, ◌∙◌, arith, rules}
+use Rattle.std.proofs.Common.{◌≡◌, ℕ, ◌≤◌, Bool, true, false, cond, List, [], ◌∷◌, ◌++◌, length, All, find, option_map, Option, Some, None, if◌then◌else◌, refl, ap, sym, ◌∙◌, arith}
 use Rattle.std.specs.Char.{IsAsciiDigit, is_ascii_alphabetic, to_ascii_lowercase}
 use Rattle.std.specs.List.{list_all, join_with_byte}
 use Rattle.std.specs.Option.{option_or}
@@ -7,7 +7,7 @@ use Rattle.std.specs.Str.{str_to_ascii_lowercase as lower}
 use Rattle.std.proofs.lemmas.Bool.Decides.{nat_tests}
 use Rattle.std.proofs.lemmas.List.Elements.{All-head}
 use Rattle.schema_core.specs.Naming.{Named, is_same_name, is_keystring}
-use Rattle.schema_core.specs.Oid.{IsNumber, IsDottedOid, is_dotted_oid, names, oid_among, oid_of}
+use Rattle.schema_core.specs.Oid.{IsNumber, is_dotted_oid, names, oid_among, oid_of}
 use Rattle.schema_core.proofs.NamingLemmas.{same_name, and_true}
 use Rattle.schema_core.proofs.DottedLemmas.{IsDottedOid-from}
 

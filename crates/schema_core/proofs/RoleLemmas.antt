@@ -1,7 +1,7 @@
 -- What the program's rows find is what the table of roles has.
 use Rattle.std.proofs.Common.{◌≡◌, ℕ, List, map, find, option_map, ap, ◌∙◌}
 use Rattle.schema_core.specs.declared.roles.RoleRow.{RoleRow}
-use Rattle.schema_core.specs.Naming.{Named, is_same_name}
+use Rattle.schema_core.specs.Naming.{is_same_name}
 use Rattle.schema_core.specs.Roles.{roles}
 use Rattle.schema_core.specs.RoleRows.{named_of_row}
 use Rattle.schema_core.specs.Oid.{oid_among}

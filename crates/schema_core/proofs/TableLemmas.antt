@@ -1,5 +1,5 @@
 -- The first place at which a test passes, in a table and in its rows as the program holds them.
-use Rattle.std.proofs.Common.{◌≡◌, ℕ, ◌+◌, ◌<◌, Bool, true, false, cond, not, List, [], ◌∷◌, map, length, position, find, option_map, Option, Some, None, nat_lt, refl, ap, sym, ◌∙◌, arith}
+use Rattle.std.proofs.Common.{◌≡◌, ℕ, ◌+◌, ◌<◌, Bool, true, false, cond, not, List, [], ◌∷◌, map, length, position, find, option_map, Some, None, nat_lt, refl, ap}
 use Rattle.std.proofs.lemmas.List.{length-map}
 use Rattle.std.specs.List.{prefix_len, position_or_len}
 use Rattle.schema_core.specs.Naming.{Named, is_same_name}

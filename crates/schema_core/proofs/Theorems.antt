@@ -1,13 +1,12 @@
 -- What the crates above may cite.
-use Rattle.std.proofs.Common.{◌≡◌, ℕ, ◌<◌, Bool, true, ◌||◌, ◌⊎◌, List, [], length, slice_get, Option, Some, None, IsSome, IsSomeAnd, IsTrue, refl, ap, sym, ◌∙◌, arith, inl, inr}
-use Rattle.std.specs.Option.{option_map, option_map_or}
-use Rattle.std.specs.Str.{bytes_eq}
-use Rattle.std.proofs.lemmas.Option.{slice_get_cases, slice_get_within}
+use Rattle.std.proofs.Common.{◌≡◌, ℕ, true, List, [], length, Option, Some, None, IsSome, IsSomeAnd, IsTrue, refl, ap, ◌∙◌, arith, inl, inr}
+use Rattle.std.specs.Option.{option_map_or}
+use Rattle.std.proofs.lemmas.Option.{slice_get_cases}
 use Rattle.std.proofs.lemmas.Slice.Eq.{bytes_eq-Decides}
 use Rattle.schema_core.specs.Attributes.{Attribute, attributes, IsAttrId, attribute_at, attr_of, NamesAttribute, name_of, syntax_of}
 use Rattle.schema_core.specs.Classes.{Class, classes, IsClassId, class_at, class_of, NamesClass}
 use Rattle.schema_core.specs.Naming.{is_same_name, is_named, is_keystring}
-use Rattle.schema_core.specs.Oid.{IsDottedOid, is_dotted_oid, oid_of, named_attribute, named_class}
+use Rattle.schema_core.specs.Oid.{is_dotted_oid, oid_of, named_attribute, named_class}
 use Rattle.schema_core.proofs.NamingLemmas.{from_same_name, or_left, or_right, list_all_get}
 use Rattle.schema_core.proofs.TableLemmas.{position_within}
 use Rattle.schema_core.proofs.FoundLemmas.{position_names, names_position}

@@ -1,5 +1,5 @@
 -- Object identifiers as texts (RFC 4512 section 1.4): the dotted form, and the dotted form of a name.
-use Rattle.std.specs.Prelude.{◌≡◌, ℕ, ◌≤◌, ◌<◌, Bool, ◌&&◌, ◌||◌, ◌==◌, not, nat_le, nat_lt, List, [], ◌∷◌, ◌++◌, length, map, All, Option, Some, None, slice_index, find, option_map, if◌then◌else◌}
+use Rattle.std.specs.Prelude.{◌≡◌, ℕ, ◌≤◌, ◌<◌, Bool, ◌&&◌, ◌||◌, ◌==◌, not, nat_le, nat_lt, List, ◌++◌, length, map, All, Option, Some, None, slice_index, find, option_map, if◌then◌else◌}
 use Rattle.std.specs.Char.{IsAsciiDigit, is_ascii_digit}
 use Rattle.std.specs.List.{join_with_byte, slice_split, list_all}
 use Rattle.std.specs.Option.{option_or}
