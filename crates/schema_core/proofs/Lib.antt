@@ -1,3 +1,4 @@
+mod Examples
 mod TableLemmas
 mod AttributeLemmas
 mod ClassLemmas

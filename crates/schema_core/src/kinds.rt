@@ -38,6 +38,7 @@ pub struct Row {
     pub name: &'static str,
     /// The object identifier in dotted form.
     pub oid: &'static str,
+    /// The form of its values.
     pub syntax: Syntax,
     /// An entry has at most one value of it.
     pub single: bool,
