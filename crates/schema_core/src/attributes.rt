@@ -25,6 +25,7 @@ macro_rules! attribute {
     };
 }
 
+#[rattlefmt::skip]
 static ATTRIBUTES: [Row; 35] = [
     attribute!("objectClass", "2.5.4.0", Oid),
     attribute!("cn", "2.5.4.3", Text, naming),
@@ -53,28 +54,10 @@ static ATTRIBUTES: [Row; 35] = [
     attribute!("manager", "0.9.2342.19200300.100.1.10", Name),
     attribute!("dc", "0.9.2342.19200300.100.1.25", Ascii, naming, single),
     attribute!("mobile", "0.9.2342.19200300.100.1.41", Phone),
-    attribute!(
-        "employeeNumber",
-        "2.16.840.1.113730.3.1.3",
-        Text,
-        naming,
-        single
-    ),
-    attribute!(
-        "displayName",
-        "2.16.840.1.113730.3.1.241",
-        Text,
-        naming,
-        single
-    ),
+    attribute!("employeeNumber", "2.16.840.1.113730.3.1.3", Text, naming, single),
+    attribute!("displayName", "2.16.840.1.113730.3.1.241", Text, naming, single),
     attribute!("administrativeRole", "2.5.18.5", Oid, operational),
-    attribute!(
-        "subtreeSpecification",
-        "2.5.18.6",
-        Subtree,
-        operational,
-        single
-    ),
+    attribute!("subtreeSpecification", "2.5.18.6", Subtree, operational, single),
     attribute!("accessControlScheme", "2.5.24.1", Oid, operational, single),
     attribute!("prescriptiveACI", "2.5.24.4", Aci, operational),
     attribute!("entryACI", "2.5.24.5", Aci, operational),

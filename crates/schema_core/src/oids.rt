@@ -1,5 +1,5 @@
 //! Object identifiers in dotted form (RFC 4512 section 1.4).
-ghost use Rattle.std.specs.Prelude.{◌≡◌, ◌==◌, ◌↔◌, IsTrue, length, option_map};
+ghost use Rattle.std.specs.Prelude.{◌≡◌, ◌==◌, length, option_map};
 ghost use Rattle.std.specs.Char.{is_ascii_digit};
 ghost use Rattle.std.specs.List.{list_all};
 ghost use Rattle.schema_core.specs.Oid.{is_number, is_dotted_oid, parts, names, oid_among, oid_of};
