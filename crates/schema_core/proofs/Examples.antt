@@ -69,7 +69,7 @@ inet_org_person : superior_of 13 ≡ Some 6
 unfolding classes
 inet_org_person = refl
 
--- RFC 4519 section 3.4: dcObject is auxiliary
+-- RFC 4519 section 3.3: dcObject is auxiliary
 dc_object : kind_of 14 ≡ Some Auxiliary
 unfolding classes
 dc_object = refl

@@ -1,6 +1,6 @@
--- The object classes of the schema (RFC 4519, RFC 4524, RFC 2798, RFC 2247, RFC 4519 3.16; X.501 for the
--- two of subentries), as one table, their attributes cut to the attribute types of this schema. The
--- place of a row, from 0, is the number of its class.
+-- The object classes of the schema (RFC 4519, RFC 4524, RFC 2798; X.501 and RFC 3672 for the two of
+-- subentries), as one table, their attributes cut to the attribute types of this schema. The place of a
+-- row, from 0, is the number of its class.
 use Rattle.std.specs.Prelude.{ℕ, ◌<◌, ◌==◌, List, [], ◌∷◌, ◌++◌, Option, IsSomeAnd, IsTrue, length, codes, slice_get, position, option_map, option_and_then}
 use Rattle.std.specs.List.{filter_map, slice_split}
 use Rattle.std.specs.Option.{option_map_or}
