@@ -1,5 +1,7 @@
-//! Tests of keys, tables and names over the crates below, with expected values from the public standards.
+//! Tests of keys, tables and names, with expected values from the public standards.
 #![tactic(auto)]
 
 #[cfg(test)]
 mod keys;
+#[cfg(test)]
+mod tables;

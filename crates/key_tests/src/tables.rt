@@ -1,0 +1,182 @@
+//! The tables of the schema: each row by name in odd case and by object identifier.
+use schema_core::{
+    AttrId, ClassId, ClassKind, Syntax, allowed, attr, class, class_kind, class_oid, oid_of,
+    required, row, superior,
+};
+
+// Number, name in odd case, object identifier, name, syntax, marks: n naming, s single, o operational.
+#[rattlefmt::skip]
+static ATTRIBUTES: [(u8, &str, &str, &str, Syntax, &str); 35] = [
+    (0, "ObJeCtClAsS", "2.5.4.0", "objectClass", Syntax::Oid, ""),
+    (1, "Cn", "2.5.4.3", "cn", Syntax::Text, "n"),
+    (2, "Sn", "2.5.4.4", "sn", Syntax::Text, "n"),
+    (3, "SeRiAlNuMbEr", "2.5.4.5", "serialNumber", Syntax::Text, "n"),
+    (4, "C", "2.5.4.6", "c", Syntax::Country, "ns"),
+    (5, "L", "2.5.4.7", "l", Syntax::Text, "n"),
+    (6, "St", "2.5.4.8", "st", Syntax::Text, "n"),
+    (7, "StReEt", "2.5.4.9", "street", Syntax::Text, "n"),
+    (8, "O", "2.5.4.10", "o", Syntax::Text, "n"),
+    (9, "Ou", "2.5.4.11", "ou", Syntax::Text, "n"),
+    (10, "TiTlE", "2.5.4.12", "title", Syntax::Text, "n"),
+    (11, "DeScRiPtIoN", "2.5.4.13", "description", Syntax::Text, "n"),
+    (12, "PoStAlCoDe", "2.5.4.17", "postalCode", Syntax::Text, "n"),
+    (13, "TeLePhOnEnUmBeR", "2.5.4.20", "telephoneNumber", Syntax::Phone, ""),
+    (14, "MeMbEr", "2.5.4.31", "member", Syntax::Name, ""),
+    (15, "OwNeR", "2.5.4.32", "owner", Syntax::Name, ""),
+    (16, "RoLeOcCuPaNt", "2.5.4.33", "roleOccupant", Syntax::Name, ""),
+    (17, "SeEaLsO", "2.5.4.34", "seeAlso", Syntax::Name, ""),
+    (18, "UsErPaSsWoRd", "2.5.4.35", "userPassword", Syntax::Octets, ""),
+    (19, "GiVeNnAmE", "2.5.4.42", "givenName", Syntax::Text, "n"),
+    (20, "InItIaLs", "2.5.4.43", "initials", Syntax::Text, "n"),
+    (21, "UnIqUeMeMbEr", "2.5.4.50", "uniqueMember", Syntax::Name, ""),
+    (22, "UiD", "0.9.2342.19200300.100.1.1", "uid", Syntax::Text, "n"),
+    (23, "MaIl", "0.9.2342.19200300.100.1.3", "mail", Syntax::Ascii, "n"),
+    (24, "MaNaGeR", "0.9.2342.19200300.100.1.10", "manager", Syntax::Name, ""),
+    (25, "Dc", "0.9.2342.19200300.100.1.25", "dc", Syntax::Ascii, "ns"),
+    (26, "MoBiLe", "0.9.2342.19200300.100.1.41", "mobile", Syntax::Phone, ""),
+    (27, "EmPlOyEeNuMbEr", "2.16.840.1.113730.3.1.3", "employeeNumber", Syntax::Text, "ns"),
+    (28, "DiSpLaYnAmE", "2.16.840.1.113730.3.1.241", "displayName", Syntax::Text, "ns"),
+    (29, "AdMiNiStRaTiVeRoLe", "2.5.18.5", "administrativeRole", Syntax::Oid, "o"),
+    (30, "SuBtReEsPeCiFiCaTiOn", "2.5.18.6", "subtreeSpecification", Syntax::Subtree, "so"),
+    (31, "AcCeSsCoNtRoLsChEmE", "2.5.24.1", "accessControlScheme", Syntax::Oid, "so"),
+    (32, "PrEsCrIpTiVeAcI", "2.5.24.4", "prescriptiveACI", Syntax::Aci, "o"),
+    (33, "EnTrYaCi", "2.5.24.5", "entryACI", Syntax::Aci, "o"),
+    (34, "SuBeNtRyAcI", "2.5.24.6", "subentryACI", Syntax::Aci, "o"),
+];
+
+// Number, name in odd case, object identifier, kind, number of the superior.
+#[rattlefmt::skip]
+static CLASSES: [(u8, &str, &str, ClassKind, Option<u8>); 19] = [
+    (0, "ToP", "2.5.6.0", ClassKind::Abstract, None),
+    (1, "CoUnTrY", "2.5.6.2", ClassKind::Structural, Some(0)),
+    (2, "LoCaLiTy", "2.5.6.3", ClassKind::Structural, Some(0)),
+    (3, "OrGaNiZaTiOn", "2.5.6.4", ClassKind::Structural, Some(0)),
+    (4, "OrGaNiZaTiOnAlUnIt", "2.5.6.5", ClassKind::Structural, Some(0)),
+    (5, "PeRsOn", "2.5.6.6", ClassKind::Structural, Some(0)),
+    (6, "OrGaNiZaTiOnAlPeRsOn", "2.5.6.7", ClassKind::Structural, Some(5)),
+    (7, "OrGaNiZaTiOnAlRoLe", "2.5.6.8", ClassKind::Structural, Some(0)),
+    (8, "GrOuPoFnAmEs", "2.5.6.9", ClassKind::Structural, Some(0)),
+    (9, "DeViCe", "2.5.6.14", ClassKind::Structural, Some(0)),
+    (10, "GrOuPoFuNiQuEnAmEs", "2.5.6.17", ClassKind::Structural, Some(0)),
+    (11, "DoMaIn", "0.9.2342.19200300.100.4.13", ClassKind::Structural, Some(0)),
+    (12, "AcCoUnT", "0.9.2342.19200300.100.4.5", ClassKind::Structural, Some(0)),
+    (13, "InEtOrGpErSoN", "2.16.840.1.113730.3.2.2", ClassKind::Structural, Some(6)),
+    (14, "DcObJeCt", "1.3.6.1.4.1.1466.344", ClassKind::Auxiliary, Some(0)),
+    (15, "UiDoBjEcT", "1.3.6.1.1.3.1", ClassKind::Auxiliary, Some(0)),
+    (16, "SiMpLeSeCuRiTyObJeCt", "0.9.2342.19200300.100.4.19", ClassKind::Auxiliary, Some(0)),
+    (17, "SuBeNtRy", "2.5.17.0", ClassKind::Structural, Some(0)),
+    (18, "AcCeSsCoNtRoLsUbEnTrY", "2.5.17.1", ClassKind::Auxiliary, Some(0)),
+];
+
+// Class, attribute types that it requires, attribute types that it allows besides.
+#[rattlefmt::skip]
+static LISTS: [(&str, &[u8], &[u8]); 6] = [
+    ("top", &[0], &[]),
+    ("person", &[2, 1], &[18, 13, 17, 11]),
+    ("domain", &[25], &[18, 17, 13, 7, 12, 6, 5, 11, 8]),
+    ("inetOrgPerson", &[], &[28, 27, 19, 20, 23, 24, 26, 8, 22]),
+    ("subentry", &[1, 30], &[]),
+    ("accessControlSubentry", &[], &[32]),
+];
+
+// A text, and the dotted form that it stands for.
+#[rattlefmt::skip]
+static DOTTED: [(&str, Option<&str>); 16] = [
+    ("CN", Some("2.5.4.3")),
+    ("entryaci", Some("2.5.24.5")),
+    ("ORGANIZATIONALunit", Some("2.5.6.5")),
+    ("top", Some("2.5.6.0")),
+    ("autonomousAREA", Some("2.5.23.1")),
+    ("accessControlSpecificArea", Some("2.5.23.2")),
+    ("ACCESSCONTROLINNERAREA", Some("2.5.23.3")),
+    ("2.5.4.3", Some("2.5.4.3")),
+    ("1.2.3", Some("1.2.3")),
+    ("0.0", Some("0.0")),
+    ("1", None),
+    ("1.02", None),
+    ("1..2", None),
+    (".1", None),
+    ("1.2.", None),
+    ("nothing", None),
+];
+
+#[test]
+fn each_attribute_type_is_found_by_name_and_by_identifier(rt: HostRuntime) {
+    for (number, odd, oid, name, syntax, marks) in ATTRIBUTES.iter() {
+        let known = Some(AttrId(*number));
+        assert_eq!(rt; attr(odd), known, "{odd}");
+        assert_eq!(rt; attr(oid), known, "{oid}");
+        let found = row(AttrId(*number)).expect(&rt, "a row");
+        assert_eq!(rt; found.name, *name, "{name}");
+        assert_eq!(rt; found.oid, *oid, "{name}");
+        assert_eq!(rt; found.syntax, *syntax, "{name}");
+        assert_eq!(rt; found.naming, marks.contains('n'), "{name}");
+        assert_eq!(rt; found.single, marks.contains('s'), "{name}");
+        assert_eq!(rt; found.operational, marks.contains('o'), "{name}");
+    }
+}
+
+#[test]
+fn each_class_is_found_by_name_and_by_identifier(rt: HostRuntime) {
+    for (number, odd, oid, kind, below) in CLASSES.iter() {
+        let known = ClassId(*number);
+        assert_eq!(rt; class(odd), Some(known), "{odd}");
+        assert_eq!(rt; class(oid), Some(known), "{oid}");
+        assert_eq!(rt; class_kind(known), Some(*kind), "{odd}");
+        assert_eq!(rt; class_oid(known), Some(*oid), "{odd}");
+        assert_eq!(rt; superior(known).map(|class| class.0), *below, "{odd}");
+    }
+}
+
+#[test]
+fn a_class_has_the_attribute_types_of_its_own_row(rt: HostRuntime) {
+    for (name, must, may) in LISTS.iter() {
+        let known = class(name).expect(&rt, "a class");
+        assert!(rt;
+            required(known)
+                .iter()
+                .map(|kind| kind.0)
+                .eq(must.iter().copied()),
+            "{name}"
+        );
+        assert!(rt;
+            allowed(known)
+                .iter()
+                .map(|kind| kind.0)
+                .eq(may.iter().copied()),
+            "{name}"
+        );
+    }
+}
+
+#[test]
+fn a_text_has_the_dotted_form_of_its_name_or_its_own(rt: HostRuntime) {
+    for (text, oid) in DOTTED.iter() {
+        assert_eq!(rt; oid_of(text), *oid, "{text}");
+    }
+}
+
+#[test]
+fn what_no_row_has_finds_nothing(rt: HostRuntime) {
+    for text in [
+        "",
+        "cn ",
+        "commonName",
+        "2.5.4",
+        "2.5.4.03",
+        "person",
+        "2.5.6.6",
+        "autonomousArea",
+    ] {
+        assert_eq!(rt; attr(text), None, "{text}");
+    }
+    for text in ["", "people", "2.5.6", "cn", "2.5.4.3", "autonomousArea"] {
+        assert_eq!(rt; class(text), None, "{text}");
+    }
+    assert_eq!(rt; row(AttrId(35)), None);
+    assert_eq!(rt; class_kind(ClassId(19)), None);
+    assert_eq!(rt; class_oid(ClassId(19)), None);
+    assert_eq!(rt; superior(ClassId(19)), None);
+    assert!(rt; required(ClassId(19)).is_empty());
+    assert!(rt; allowed(ClassId(19)).is_empty());
+}

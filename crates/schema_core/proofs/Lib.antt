@@ -1,0 +1,13 @@
+mod Examples
+mod TableLemmas
+mod AttributeLemmas
+mod ClassLemmas
+mod RoleLemmas
+mod OidLemmas
+mod NamingLemmas
+mod TableFacts
+mod HierarchyLemmas
+mod NormalLemmas
+mod DottedLemmas
+mod FoundLemmas
+pub mod Theorems
