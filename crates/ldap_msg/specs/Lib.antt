@@ -5,6 +5,5 @@ pub mod Messages
 pub mod Replies
 pub mod Laws
 pub mod Reading
-
 -- what the crate's inside promises itself
 pub mod Writing
