@@ -1,0 +1,11 @@
+pub mod Theorems
+mod Examples
+mod WordLemmas
+mod LineLemmas
+mod TextLemmas
+mod LinesLemmas
+mod ConnectionsLemmas
+mod ScriptLemmas
+mod OutcomeLemmas
+mod LawLemmas
+mod OrderlyLemmas

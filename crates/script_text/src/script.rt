@@ -1,0 +1,86 @@
+//! Scripts, line by line.
+
+ghost use Rattle.std.specs.Prelude.{◌≡◌, ℕ, Ok, Err, IfOk, MatchResult, Some};
+ghost use Rattle.script_text.specs.LineText.{is_silent};
+ghost use Rattle.script_text.specs.Script.{IsScript, IsFirstBadLine, OpensOnce, AreFilled};
+ghost use Rattle.script_text.specs.ScriptReading.{Gives, IsCause, admitted, after_line, after_lines, script_of};
+
+use crate::event::{ScriptEvent, ScriptFault};
+use crate::lines::first_line;
+use crate::reading::Reading;
+use crate::words::event;
+use std::alloc::Global;
+
+// Whether the line says nothing.
+fn is_silent(line: &[u8]) -> bool
+    ensures { result ≡ is_silent line.now }
+{
+    match line {
+        [] => true,
+        [first, ..] => *first == b'#',
+    }
+}
+
+// The events with that of the line of this number.
+fn admit(reading: Reading, number: u64, event: ScriptEvent) -> Result<Reading, ScriptFault>
+    ensures { Gives result (admitted reading number (Some event)) }
+{
+    if !reading.may_take(&event) {
+        return Err(ScriptFault::Bad { line: number });
+    }
+    Ok(reading.with(event)?)
+}
+
+// The events after the line of this number.
+#[tactic(auto, unfolding(crate::specs::ScriptReading::after_line))]
+fn after_line(
+    alloc: Global,
+    reading: Reading,
+    number: u64,
+    line: &[u8],
+) -> Result<Reading, ScriptFault>
+    ensures { Gives result (after_line reading number line.now) }
+{
+    if is_silent(line) {
+        return Ok(reading);
+    }
+    match event(alloc, line)? {
+        Some(event) => admit(reading, number, event),
+        None => Err(ScriptFault::Bad { line: number }),
+    }
+}
+
+// The events of the text.
+fn read(alloc: Global, text: &[u8]) -> Result<Reading, ScriptFault>
+    ensures { Gives result (script_of text.now) }
+{
+    let mut reading = Reading::new(alloc);
+    let mut rest = text;
+    let mut number = 0u64;
+    while !rest.is_empty() {
+        let (line, after) = first_line(rest);
+        number += 1;
+        reading = after_line(alloc, reading, number, line)?;
+        rest = after;
+    }
+    Ok(reading)
+}
+
+/// Reads a script: lines that end in LF or CR LF, of which the last may lack its end. A line is
+/// empty, begins with `#`, or is `open N`, `send N HEX` or `end N` with single spaces. N is 1 to 10
+/// decimal digits from 1 to 4,294,967,295; HEX is pairs of hexadecimal digits (RFC 4648 8) in either
+/// case, at least one. A number is opened once; octets and the end come on one that is open.
+///
+/// `Bad` comes exactly where the text isn't a script, with its first bad line.
+pub fn read_script(alloc: Global, text: &[u8]) -> Result<Vec<ScriptEvent>, ScriptFault>
+    ensures ok { IfOk result (λ events. IsScript text.now events.items) }
+    ensures bad { (line : ℕ) → result ≡ Err (ScriptFault.Bad line) → IsFirstBadLine text.now line }
+
+    // The same, as it is computed.
+    ensures exact { MatchResult result (λ events. script_of text.now ≡ Ok events.items) (λ fault. IsCause fault (script_of text.now)) }
+
+    // What a link that gives these events asks of them.
+    ensures fits { IfOk result (λ events. OpensOnce events.items × AreFilled events.items) }
+{
+    Ok(read(alloc, text)?.into_events())
+}
