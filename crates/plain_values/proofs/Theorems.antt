@@ -12,20 +12,20 @@ NeverFalls-trans before after = record { never_falls = omega arith }
 
 -- one more fault never lets the count fall
 pub NeverFalls-next_count : (count : ℕ) → count ≤ last_count → NeverFalls count (next_count count)
-NeverFalls-next_count count below = record { never_falls = grind arith }
+NeverFalls-next_count count within = record { never_falls = grind arith }
 
 -- one more fault raises the count
-pub Rose-next_count : (count : ℕ) → Rose count (next_count count)
-Rose-next_count count = record { rose = grind arith }
+pub Rose-next_count : (count : ℕ) → count ≤ last_count → Rose count (next_count count)
+Rose-next_count count within = record { never_falls = grind arith; rose = grind arith }
 
--- a count that rose never fell, being in its range
-pub Rose-never_falls : {before after : ℕ} → before ≤ last_count → Rose before after → NeverFalls before after
-Rose-never_falls within rise = record { never_falls = omega arith }
+-- a count that rose never fell
+pub Rose-never_falls : {before after : ℕ} → Rose before after → NeverFalls before after
+Rose-never_falls rise = record { never_falls = omega arith }
 
 -- it rose, and then never fell
-pub Rose-then-never_falls : {first second third : ℕ} → third ≤ last_count → Rose first second → NeverFalls second third → Rose first third
-Rose-then-never_falls within rise after = record { rose = grind arith }
+pub Rose-then-never_falls : {first second third : ℕ} → Rose first second → NeverFalls second third → Rose first third
+Rose-then-never_falls rise after = record { never_falls = omega arith; rose = grind arith }
 
 -- it never fell, and then rose
 pub Rose-after-never_falls : {first second third : ℕ} → NeverFalls first second → Rose second third → Rose first third
-Rose-after-never_falls before rise = record { rose = grind arith }
+Rose-after-never_falls before rise = record { never_falls = omega arith; rose = grind arith }

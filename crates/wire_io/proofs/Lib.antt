@@ -1,0 +1,2 @@
+mod PuttingLemmas
+mod ReadLemmas

@@ -1,0 +1,10 @@
+pub mod Answers
+pub mod Files
+pub mod Journal
+pub mod MemoryForms
+pub mod Pieces
+pub mod Plan
+pub mod Playing
+pub mod Putting
+pub mod ReadWhole
+pub mod Telling

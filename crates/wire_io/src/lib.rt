@@ -1,0 +1,26 @@
+//! What a program asks of the outside: files on a shelf, octets put to a sink, connections of a
+//! link. Each is a trait whose clauses say when a fault may come and, where the other side tells,
+//! what it holds or did; each has a form in memory and a real one.
+#![tactic(auto)]
+
+mod answers;
+mod copying;
+mod journal;
+mod link;
+mod memory_shelf;
+mod memory_sink;
+mod reading;
+mod shelf;
+mod sink;
+mod writing;
+
+pub use answers::{FetchFault, Heard, NextFault, NoMemory, PutFault, ReadFault, Took};
+pub use journal::{Event, Item};
+pub use link::Link;
+pub use memory_shelf::MemShelf;
+pub use memory_sink::MemSink;
+pub use reading::read_all;
+pub use script_text::ScriptEvent;
+pub use shelf::Shelf;
+pub use sink::Sink;
+pub use writing::write_all;

@@ -1,0 +1,79 @@
+//! Connections, whose events are heard one by one.
+
+ghost use Rattle.std.specs.Prelude.{◌≡◌, ◌<◌, length, IfOk};
+ghost use Rattle.plain_values.specs.Counts.{NeverFalls};
+ghost use Rattle.wire_io.specs.Answers.{HeardFits, TookFits, LinkCause, WriteCause};
+ghost use Rattle.wire_io.specs.Telling.{OpenTells, NextTells, TookTells, NoteTells};
+ghost use Rattle.wire_io.specs.Playing.{NextPlays};
+
+use crate::{Heard, Item, NextFault, NoMemory, Took};
+
+/// What gives the events of connections and takes octets for them. Where the link tells, `journal`
+/// is all that it did, and `plan` what it still has to give; `faults` counts its faults and `lost`
+/// the connections that it found lost.
+pub trait Link {
+    ghost use Rattle.std.specs.Prelude.{ℕ, Option, List};
+    ghost use Rattle.wire_io.specs.declared.journal.Item.{Item};
+    ghost use Rattle.wire_io.specs.Plan.{Plan};
+
+    ghost journal: { Self → Option (List Item) };
+
+    ghost plan: { Self → Option Plan };
+
+    ghost faults: { Self → ℕ };
+
+    ghost lost: { Self → ℕ };
+
+    /// Prepares the address; with sessions above 0 the link stops once so many connections have
+    /// ended.
+    fn open(&mut self, address: &str, sessions: u64) -> Result<(), NextFault>
+        ensures tells { OpenTells (journal self.old) address.now sessions result (journal self.new) }
+        ensures cause { LinkCause (plan self.old) (faults self.old) (faults self.new) result }
+        // what stays
+        ensures plan { plan self.new ≡ plan self.old }
+        ensures lost { NeverFalls (lost self.old) (lost self.new) };
+
+    /// Waits for the next event; the octets of `Bytes` stand at the front of the buffer.
+    fn next(&mut self, buf: &mut [u8]) -> Result<Heard, NextFault>
+        requires { 0 < length buf.old }
+        // the event
+        ensures fits { IfOk result (HeardFits (length buf.new)) }
+        ensures tells { NextTells (journal self.old) buf.new result (journal self.new) }
+        ensures plays { NextPlays (journal self.old) (plan self.old) buf.new result (plan self.new) }
+        // each refusal
+        ensures cause { LinkCause (plan self.old) (faults self.old) (faults self.new) result }
+        ensures lost { NeverFalls (lost self.old) (lost self.new) };
+
+    /// Offers octets for the connection.
+    fn write(&mut self, conn: u32, bytes: &[u8]) -> Took
+        requires { 0 < length bytes.now }
+        ensures fits { TookFits (length bytes.now) result }
+        ensures tells { TookTells (journal self.old) conn bytes.now result (journal self.new) }
+        // each answer
+        ensures cause { WriteCause (plan self.old) (lost self.old) (lost self.new) result }
+        // what stays
+        ensures plan { plan self.new ≡ plan self.old }
+        ensures faults { faults self.new ≡ faults self.old };
+
+    /// Stops the octets of the connection until it is released; where it may take octets again,
+    /// `Ready` comes. After want of memory nothing was done.
+    fn hold(&mut self, conn: u32) -> Result<(), NoMemory>
+        ensures tells { NoteTells (journal self.old) (Item.Held conn) result (journal self.new) }
+        ensures plan { plan self.new ≡ plan self.old }
+        ensures faults { faults self.new ≡ faults self.old }
+        ensures lost { NeverFalls (lost self.old) (lost self.new) };
+
+    /// Lets the octets of the connection come again. After want of memory nothing was done.
+    fn release(&mut self, conn: u32) -> Result<(), NoMemory>
+        ensures tells { NoteTells (journal self.old) (Item.Released conn) result (journal self.new) }
+        ensures plan { plan self.new ≡ plan self.old }
+        ensures faults { faults self.new ≡ faults self.old }
+        ensures lost { NeverFalls (lost self.old) (lost self.new) };
+
+    /// Ends the connection. After want of memory nothing was done.
+    fn hang_up(&mut self, conn: u32) -> Result<(), NoMemory>
+        ensures tells { NoteTells (journal self.old) (Item.HungUp conn) result (journal self.new) }
+        ensures plan { plan self.new ≡ plan self.old }
+        ensures faults { faults self.new ≡ faults self.old }
+        ensures lost { NeverFalls (lost self.old) (lost self.new) };
+}
