@@ -2,3 +2,4 @@ pub mod StreamLemmas
 pub mod WholeLemmas
 pub mod Theorems
 pub mod Examples
+pub mod ReplyExamples

@@ -2,3 +2,4 @@
 pub mod Streams
 pub mod Pieces
 pub mod Messages
+pub mod Replies

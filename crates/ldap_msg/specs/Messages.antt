@@ -1,7 +1,6 @@
 -- Requests and their octets (RFC 4511 4.1.1, 4.2, 4.3, 4.11), as far as this crate reads them.
-use Rattle.std.specs.Prelude.{◌≡◌, ◌≢◌, ℕ, ◌≤◌, Bool, true, false, ◌||◌, not, List, [], ◌∷◌, ◌++◌, length, Option, Some, None, ◌==◌, if◌then◌else◌, IsTrue, pos}
+use Rattle.std.specs.Prelude.{◌≡◌, ◌≢◌, ℕ, Bool, true, false, ◌||◌, not, List, [], ◌++◌, length, Option, Some, None, ◌==◌, if◌then◌else◌, IsTrue}
 use Rattle.ber_core.specs.Element.{Elem}
-use Rattle.ber_core.specs.Integer.{IsInteger}
 use Rattle.ldap_msg.specs.declared.kinds.Auth.{Auth}
 use Rattle.ldap_msg.specs.declared.kinds.Auth.TheVariants.{Simple, Other}
 use Rattle.ldap_msg.specs.declared.kinds.BindRequest.{BindRequest}

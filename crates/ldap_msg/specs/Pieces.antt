@@ -1,6 +1,6 @@
 -- Elements one after the other, as the components of a SEQUENCE (X.690 8.9), and the elements that may follow the
 -- components that are known (RFC 4511 section 4).
-use Rattle.std.specs.Prelude.{◌≡◌, ℕ, zero, suc, ◌+◌, ◌-◌, ◌<◌, ◌≤◌, Bool, true, false, ◌&&◌, not, List, [], ◌∷◌, ◌++◌, length, take, drop, Option, Some, None, ◌==◌, nat_lt, nat_le, if◌then◌else◌, IsTrue, ℤ, pos, negsuc}
+use Rattle.std.specs.Prelude.{◌≡◌, ℕ, zero, suc, ◌≤◌, Bool, true, false, ◌&&◌, List, [], ◌∷◌, ◌++◌, length, take, drop, Option, Some, None, ◌==◌, nat_lt, nat_le, if◌then◌else◌, IsTrue, ℤ, pos, negsuc}
 use Rattle.ber_core.specs.declared.kinds.Header.{Header}
 use Rattle.ber_core.specs.declared.kinds.Header.TheVariants as header
 use Rattle.ber_core.specs.Element.{Elem}

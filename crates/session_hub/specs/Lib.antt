@@ -1,0 +1,6 @@
+-- what public clauses cite
+pub mod Answering
+pub mod Answers
+pub mod Limits
+pub mod Hubs
+pub mod Events

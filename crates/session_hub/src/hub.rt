@@ -1,0 +1,83 @@
+//! The hub of all sessions.
+
+ghost use Rattle.std.specs.Prelude.{◌≡◌, ◌≤◌, ◌+◌, ℕ, [], length, IfOk, OnOk};
+ghost use Rattle.session_model.specs.Run.{Sessions, step};
+ghost use Rattle.session_model.specs.Run as run;
+ghost use Rattle.session_model.specs.Kept.{queue_of, closing_of, taken_off, forgotten};
+ghost use Rattle.session_model.specs.Keeping.{IsNew, more_taken};
+ghost use Rattle.session_hub.specs.Answering.{Tree, rules};
+ghost use Rattle.session_hub.specs.Hubs.{held_after, IsHubOf, IsBounded, left_of};
+ghost use Rattle.session_hub.specs.Events.{step_of};
+ghost use Rattle.session_hub.specs.declared.requester.Requester.{Requester};
+
+use crate::places::{closing_at, end_at, queue_at, take_off};
+use crate::{Connection, Event};
+use std::alloc::{AllocError, Global};
+use std::marker::Model;
+
+/// The most connections that are held at once.
+pub const MAX_CONNECTIONS: usize = 256;
+
+/// All sessions: what of each connection is unread, and what is still to be sent to it. Contracts
+/// see the list of the connections held, in the order in which they opened.
+#[derive(Debug, Drop)]
+pub struct Hub {
+    alloc: Global,
+    connections: Vec<Connection>,
+}
+
+impl Model for Hub {
+    ghost use Rattle.std.specs.Prelude.{List};
+    ghost use Rattle.session_model.specs.Kept.{Kept};
+    ghost use Rattle.session_hub.specs.declared.requester.Requester.{Requester};
+
+    ghost Value = { List (Kept Requester) };
+
+    ghost use Rattle.session_hub.specs.Hubs.{IsBounded};
+
+    ghost view = { λ h. h.connections.items };
+
+    ghost invariant = { λ h. IsBounded h.connections.items };
+}
+
+impl Hub {
+    /// A hub that holds nothing. This takes no memory today; the error is for hubs that keep tables.
+    pub fn new(alloc: Global) -> Result<Hub, AllocError>
+        ensures ok { IfOk result (λ hub. hub ≡ []) }
+    {
+        Ok(Hub {
+            alloc,
+            connections: Vec::new(alloc),
+        })
+    }
+
+    /// How many connections are held.
+    pub fn count(&self) -> usize
+        ensures exact { result ≡ length self.now }
+    {
+        self.connections.len()
+    }
+
+    /// The octets still to be sent to the connection; none for one that isn't held. No memory is
+    /// taken.
+    pub fn queue(&self, conn: u32) -> &[u8]
+        ensures exact { result.now ≡ queue_of conn self.now }
+    {
+        queue_at(&self.connections, conn)
+    }
+
+    /// Whether the connection is to be hung up once its queue is empty.
+    pub fn closing(&self, conn: u32) -> bool
+        ensures exact { result ≡ closing_of conn self.now }
+    {
+        closing_at(&self.connections, conn)
+    }
+
+    /// The first octets of the connection's queue were taken. No memory is taken.
+    pub fn took(&mut self, conn: u32, count: usize)
+        requires { count ≤ length (queue_of conn self.old) }
+        ensures exact { self.new ≡ taken_off conn count self.old }
+    {
+        take_off(&mut self.connections, conn, count);
+    }
+}

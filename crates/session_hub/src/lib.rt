@@ -1,0 +1,19 @@
+//! The hub of all sessions (RFC 4511 5.1): it hears what connections send, and answers each message.
+#![tactic(auto)]
+
+mod connection;
+mod event;
+mod hub;
+mod messages;
+mod outcome;
+mod places;
+mod requester;
+mod stream;
+
+pub use connection::Connection;
+pub use event::Event;
+pub use hub::{Hub, MAX_CONNECTIONS};
+pub use messages::answer;
+pub use outcome::Outcome;
+pub use requester::Requester;
+pub use stream::{Spoken, speak};
