@@ -1,10 +1,14 @@
 -- The integer that is computed is the one that the content stands for.
-use Rattle.std.proofs.Common.{◌≡◌, ℕ, ◌-◌, ◌≤◌, Bool, true, false, cond, leb, List, [], ◌∷◌, length, drop, Some, None, refl, sym, ap, ◌∙◌, inl, inr, arith}
-use Rattle.std.specs.Prelude.{◌&&◌, ℤ, pos, int_lt, IfSome}
+use Rattle.std.proofs.Common.{◌*◌, ◌+◌, ◌<◌, ◌^◌, ◌≡◌, ℕ, ◌-◌, ◌≤◌, Bool, true, false, cond, leb, List, [], ◌∷◌, length, drop, Some, None, refl, sym, ap, ◌∙◌, inl, inr, arith}
+use Rattle.std.specs.Prelude.{◌&&◌, ℤ, pos, negsuc, int_lt, IfSome}
 use Rattle.std.specs.Int.{w64, to_be_bytes}
-use Rattle.std.proofs.lemmas.List.{drop-map}
-use Rattle.std.proofs.lemmas.Bool.{cases_lt, and_parts, and_from, not-true, leb-true, le-leb, lt-ltb, le-ltb, ne_eqb, eqb-false}
+use Rattle.std.proofs.lemmas.List.{drop-map, length-drop, length-map}
+use Rattle.std.proofs.lemmas.Bool.{cond_both, cases_lt, and_parts, and_from, not-true, leb-true, le-leb, lt-ltb, le-ltb, ne_eqb, eqb-false}
+use Rattle.std.proofs.lemmas.Nat.{mul-le}
+use Rattle.std.proofs.Math.Nat.{pow-le-pow_right}
+use Rattle.ber_core.specs.Element.{number_after}
 use Rattle.ber_core.specs.Integer.{turned, signed_number, IsShortest, IsInteger, is_spare, is_shortest, int_at, trimmed, magnitude, int_octets}
+use Rattle.ber_core.proofs.NumberLemmas.{number_least}
 
 pub shortest_sound : (content : List ℕ) → is_shortest content ≡ true → IsShortest content
 shortest_sound [] e = absurd cc
@@ -60,3 +64,45 @@ pub natural_octets : (value : ℤ) (octets : List ℕ) (spare : ℕ) → int_lt 
     → drop spare octets ≡ trimmed octets → drop spare octets ≡ int_octets value
 unfolding int_octets
 natural_octets value octets spare natural are front = rw natural (front ∙ ap trimmed are)
+
+-- at least 128 with seven octets behind it passes 2 ^ 63
+long_number : (n : ℕ) (octets : List ℕ) → 128 ≤ n → 7 ≤ length octets → 2 ^ 63 ≤ number_after n octets
+long_number n octets large long =
+    let powers : 256 ^ 7 ≤ 256 ^ length octets = let base : 0 < 256 = omega arith in pow-le-pow_right base long in
+    let product : 128 * 256 ^ 7 ≤ n * 256 ^ length octets = mul-le 128 (256 ^ 7) n (256 ^ length octets) large powers in
+    omega (arith, product, number_least n octets)
+
+-- the shortest form of a natural number below 2 ^ 63 has at most eight octets
+pub natural_short : (content : List ℕ) (n : ℕ) → IsInteger content (pos n) → n < 2 ^ 63 → length content ≤ 8
+natural_short [] n h below = omega arith
+natural_short (b ∷ []) n h below = omega arith
+natural_short (b ∷ c ∷ octets) n h below =
+    elim (cases_lt b 128) [
+      | inl clear ↦
+          let stands : pos n ≡ pos (number_after (256 * (256 * 0 + b) + c) octets) = rw (lt-ltb b 128 clear) at h.stands in
+          let same : n ≡ number_after (256 * (256 * 0 + b) + c) octets = ap magnitude stands in
+          elim (cases_lt (length octets) 7) [
+            | inl few ↦ omega arith
+            | inr long ↦
+                let large : 128 ≤ 256 * (256 * 0 + b) + c = elim (cases_lt c 128) [
+                  | inl low ↦ let some : b ≡ 0 → ⊥ = λ zero. h.shortest.0 zero low in omega (arith, some)
+                  | inr high ↦ omega arith
+                ] in
+                absurd (omega (arith, same, long_number (256 * (256 * 0 + b) + c) octets large long))
+          ]
+      | inr set ↦
+          let stands : pos n ≡ negsuc (number_after 0 (turned (b ∷ c ∷ octets))) = rw (le-ltb b 128 set) at h.stands in
+          absurd cc
+    ]
+
+-- how many octets are written
+pub written_length : (value : ℤ) (octets : List ℕ) (spare : ℕ) → octets ≡ to_be_bytes w64 (magnitude value) → drop spare octets ≡ trimmed octets
+    → length (int_octets value) ≡ length octets - spare
+unfolding int_octets
+written_length value octets spare are front =
+    let count : length (trimmed (to_be_bytes w64 (magnitude value))) ≡ length octets - spare =
+    ap (λ (s : List ℕ). length (trimmed s)) (sym are) ∙ ap length (sym front) ∙ length-drop spare octets in
+    cond_both (int_lt value (pos 0)) (turned (trimmed (to_be_bytes w64 (magnitude value)))) (trimmed (to_be_bytes w64 (magnitude value)))
+    (λ (s : List ℕ). length s ≡ length octets - spare)
+    (λ negative. length-map (trimmed (to_be_bytes w64 (magnitude value))) (λ (b : ℕ). 255 - b) ∙ count)
+    (λ natural. count)

@@ -1,10 +1,10 @@
 -- How large a number from octets is.
-use Rattle.std.proofs.Common.{◌-◌, List, ◌∷◌, length, get_or, drop, ◌≡◌, ℕ, ◌+◌, ◌*◌, ◌^◌, ◌<◌, ◌≤◌, sym, ap, ◌∙◌, arith, add-one}
+use Rattle.std.proofs.Common.{suc, ◌-◌, List, [], ◌∷◌, length, get_or, drop, ◌≡◌, ℕ, ◌+◌, ◌*◌, ◌^◌, ◌<◌, ◌≤◌, sym, ap, ◌∙◌, arith, add-one}
 use Rattle.std.proofs.lemmas.Nat.{mul-le}
 use Rattle.std.proofs.lemmas.List.{drop_more}
 use Rattle.ber_core.specs.Element.{number_after}
 use Rattle.ber_core.specs.Integer.{turned}
-use Rattle.std.proofs.Math.Nat.{pow-suc, pow-le-pow_right, mul_assoc}
+use Rattle.std.proofs.Math.Nat.{pow-suc, pow-succ', pow-le-pow_right, mul_assoc}
 
 -- one octet more multiplies the bound by 256
 pub bound_more : (first i : ℕ) → (first + 1) * 256 ^ (i + 1) ≡ ((first + 1) * 256 ^ i) * 256
@@ -38,3 +38,13 @@ turned_more number x first i xs there is so_far =
     let split : drop i xs ≡ get_or xs i 0 ∷ drop (i + 1) xs = drop_more xs i 0 there in
     let step : number_after (256 * number + (255 - get_or xs i 0)) (turned (drop (i + 1) xs)) ≡ number_after first (turned xs) = rw split at so_far in
     ap (λ (n : ℕ). number_after n (turned (drop (i + 1) xs))) (omega arith) ∙ step
+
+-- octets behind a number multiply it
+pub number_least : (n : ℕ) (octets : List ℕ) → n * 256 ^ length octets ≤ number_after n octets
+number_least n [] = omega arith
+number_least n (b ∷ octets) =
+    let power : 256 ^ suc (length octets) ≡ 256 * 256 ^ length octets = pow-succ' 256 (length octets) in
+    let grows : n * 256 ≤ 256 * n + b = omega arith in
+    let more : (n * 256) * 256 ^ length octets ≤ (256 * n + b) * 256 ^ length octets = mul-le (n * 256) (256 ^ length octets) (256 * n + b) (256 ^ length octets) grows (omega arith) in
+    let regroup : n * 256 ^ suc (length octets) ≡ (n * 256) * 256 ^ length octets = ap (λ (p : ℕ). n * p) power ∙ sym (mul_assoc n 256 (256 ^ length octets)) in
+    omega (arith, number_least (256 * n + b) octets, more, regroup)

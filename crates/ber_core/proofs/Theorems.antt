@@ -8,4 +8,4 @@ pub use Rattle.ber_core.proofs.ElementLemmas.{element_again, heading_begins, hea
 pub use Rattle.ber_core.proofs.SpellingLemmas.{length_spells, header_spells, written_header}
 pub use Rattle.ber_core.proofs.WrittenIntegers.{int_spells, written_integer}
 -- the integer that is computed is the one that the content stands for
-pub use Rattle.ber_core.proofs.IntegerLemmas.{int_sound, int_complete}
+pub use Rattle.ber_core.proofs.IntegerLemmas.{int_sound, int_complete, natural_short}

@@ -118,3 +118,12 @@ pub fn put_int(out: &mut Vec<u8>, value: i64) -> Result<(), NoMemory>
     }
     put_behind(out, &octets, spare)
 }
+
+/// How many octets `put_int` appends. This takes no memory.
+pub fn int_len(value: i64) -> usize
+    ensures exact { result ≡ length (int_octets value) }
+    ensures bound { result ≤ 8 }
+{
+    let octets = magnitude(value).to_be_bytes();
+    octets.len() - spare_zeros(&octets)
+}

@@ -8,8 +8,8 @@ mod number;
 mod read;
 mod write;
 
-pub use integer::{put_int, read_int};
+pub use integer::{int_len, put_int, read_int};
 pub use kinds::{Header, NoMemory};
 pub use laws::{headers_read_again, integers_read_again, one_element, one_heading};
 pub use read::header;
-pub use write::put_header;
+pub use write::{header_len, put_header};

@@ -1,6 +1,6 @@
 //! Headers written.
 
-ghost use Rattle.std.specs.Prelude.{◌≡◌, ◌≢◌, ◌<◌, ◌^◌, ◌++◌, OnOk, OnErr};
+ghost use Rattle.std.specs.Prelude.{◌≡◌, ◌≢◌, ◌+◌, ◌<◌, ◌≤◌, ◌^◌, ◌++◌, length, OnOk, OnErr};
 ghost use Rattle.ber_core.specs.Element.{IsTag};
 ghost use Rattle.ber_core.specs.Spelling.{length_octets, header_octets};
 
@@ -36,4 +36,25 @@ pub fn put_header(out: &mut Vec<u8>, tag: u8, len: usize) -> Result<(), NoMemory
     ensures err { OnErr result (out.new.items ≡ out.old.items) }
 {
     put_octets(out, tag, len as u32)
+}
+
+/// How many octets `put_header` appends, with any tag. This takes no memory.
+#[tactic(auto, unfolding(crate::specs::Spelling::length_octets))]
+pub fn header_len(len: usize) -> usize
+    ensures exact { result ≡ 1 + length (length_octets len) }
+    ensures bound { result ≤ 6 }
+{
+    if len < 128 {
+        return 2;
+    }
+    if len < 256 {
+        return 3;
+    }
+    if len < 65536 {
+        return 4;
+    }
+    if len < 16_777_216 {
+        return 5;
+    }
+    6
 }

@@ -1,5 +1,11 @@
 pub mod StreamLemmas
 pub mod WholeLemmas
+pub mod PieceLemmas
+pub mod ComponentLemmas
+pub mod RequestLemmas
+pub mod OperationLemmas
+pub mod MessageLemmas
+pub mod WritingLemmas
 pub mod Theorems
 pub mod Examples
 pub mod ReplyExamples

@@ -8,7 +8,7 @@ use Rattle.ldap_msg.specs.declared.kinds.Request.TheVariants as request
 use Rattle.ldap_msg.specs.declared.kinds.Reply.TheVariants as reply
 use Rattle.ldap_msg.specs.Pieces.{piece_of, piece_at, tagged_at, number_in, pieces_of, are_pieces}
 use Rattle.ldap_msg.specs.Messages.{auth_of, bind_of, request_of, marked_behind, message_in, message_of}
-use Rattle.ldap_msg.specs.Replies.{element_octets, result_octets, optional_octets, operation_octets, reply_content, reply_octets, notice_octets}
+use Rattle.ldap_msg.specs.Replies.{element_octets, result_octets, optional_octets, operation_tag, operation_content, reply_content, reply_octets, notice_octets}
 
 -- an anonymous bind of version 3
 bind : message_of (0x30 ∷ 12 ∷ 2 ∷ 1 ∷ 1 ∷ 0x60 ∷ 7 ∷ 2 ∷ 1 ∷ 3 ∷ 4 ∷ 0 ∷ 0x80 ∷ 0 ∷ [])
@@ -37,15 +37,15 @@ search_tag = refl
 
 -- a bind that succeeded
 bind_reply : reply_octets 1 (reply.Bind (record { code = 0; matched = [] })) ≡ 0x30 ∷ 12 ∷ 2 ∷ 1 ∷ 1 ∷ 0x61 ∷ 7 ∷ 0x0a ∷ 1 ∷ 0 ∷ 4 ∷ 0 ∷ 4 ∷ 0 ∷ []
-unfolding reply_octets reply_content operation_octets result_octets element_octets int_octets length_octets
+unfolding reply_octets reply_content operation_tag operation_content result_octets element_octets int_octets length_octets
 bind_reply = refl
 
 -- a search that ended with code 53
 done_reply : reply_octets 2 (reply.Done (record { code = 53; matched = [] })) ≡ 0x30 ∷ 12 ∷ 2 ∷ 1 ∷ 2 ∷ 0x65 ∷ 7 ∷ 0x0a ∷ 1 ∷ 0x35 ∷ 4 ∷ 0 ∷ 4 ∷ 0 ∷ []
-unfolding reply_octets reply_content operation_octets result_octets element_octets int_octets length_octets
+unfolding reply_octets reply_content operation_tag operation_content result_octets element_octets int_octets length_octets
 done_reply = refl
 
 notice : notice_octets ≡ 0x30 ∷ 0x24 ∷ 2 ∷ 1 ∷ 0 ∷ 0x78 ∷ 0x1f ∷ 0x0a ∷ 1 ∷ 2 ∷ 4 ∷ 0 ∷ 4 ∷ 0 ∷ 0x8a ∷ 0x16
     ∷ 0x31 ∷ 0x2e ∷ 0x33 ∷ 0x2e ∷ 0x36 ∷ 0x2e ∷ 0x31 ∷ 0x2e ∷ 0x34 ∷ 0x2e ∷ 0x31 ∷ 0x2e ∷ 0x31 ∷ 0x34 ∷ 0x36 ∷ 0x36 ∷ 0x2e ∷ 0x32 ∷ 0x30 ∷ 0x30 ∷ 0x33 ∷ 0x36 ∷ []
-unfolding notice_octets reply_octets reply_content operation_octets result_octets optional_octets element_octets int_octets length_octets
+unfolding notice_octets reply_octets reply_content operation_tag operation_content result_octets optional_octets element_octets int_octets length_octets
 notice = refl

@@ -3,3 +3,5 @@ pub mod Streams
 pub mod Pieces
 pub mod Messages
 pub mod Replies
+pub mod Reading
+pub mod Writing

@@ -20,21 +20,31 @@ unfoldable pub optional_octets : ℕ → Option (List ℕ) → List ℕ
 optional_octets tag None = []
 optional_octets tag (Some value) = element_octets tag value
 
--- the operation's element
-unfoldable pub operation_octets : Reply → List ℕ
-operation_octets (Bind r) = element_octets 0x61 (result_octets r)
-operation_octets (Done r) = element_octets 0x65 (result_octets r)
-operation_octets (Modify r) = element_octets 0x67 (result_octets r)
-operation_octets (Add r) = element_octets 0x69 (result_octets r)
-operation_octets (Delete r) = element_octets 0x6b (result_octets r)
-operation_octets (Rename r) = element_octets 0x6d (result_octets r)
-operation_octets (Compare r) = element_octets 0x6f (result_octets r)
-operation_octets (Extended r name value) =
-    element_octets 0x78 (result_octets r ++ (optional_octets 0x8a name ++ optional_octets 0x8b value))
+-- the operation's tag
+unfoldable pub operation_tag : Reply → ℕ
+operation_tag (Bind r) = 0x61
+operation_tag (Done r) = 0x65
+operation_tag (Modify r) = 0x67
+operation_tag (Add r) = 0x69
+operation_tag (Delete r) = 0x6b
+operation_tag (Rename r) = 0x6d
+operation_tag (Compare r) = 0x6f
+operation_tag (Extended r name value) = 0x78
+
+-- the operation's content
+unfoldable pub operation_content : Reply → List ℕ
+operation_content (Bind r) = result_octets r
+operation_content (Done r) = result_octets r
+operation_content (Modify r) = result_octets r
+operation_content (Add r) = result_octets r
+operation_content (Delete r) = result_octets r
+operation_content (Rename r) = result_octets r
+operation_content (Compare r) = result_octets r
+operation_content (Extended r name value) = result_octets r ++ (optional_octets 0x8a name ++ optional_octets 0x8b value)
 
 -- the content of the message
 unfoldable pub reply_content : ℕ → Reply → List ℕ
-reply_content id reply = element_octets 0x02 (int_octets (pos id)) ++ operation_octets reply
+reply_content id reply = element_octets 0x02 (int_octets (pos id)) ++ element_octets (operation_tag reply) (operation_content reply)
 
 -- the message
 unfoldable pub reply_octets : ℕ → Reply → List ℕ

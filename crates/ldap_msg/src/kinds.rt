@@ -7,6 +7,9 @@ use plain_values::Octets;
 use std::alloc::AllocError;
 use thiserror::Error;
 
+/// The one error of the calls that append: there was no memory.
+pub type NoMemory = AllocError;
+
 /// The most content octets that a message may have here.
 pub const MAX_CONTENT: usize = 1_048_576;
 

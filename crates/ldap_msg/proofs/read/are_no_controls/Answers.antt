@@ -1,0 +1,33 @@
+-- One element more is read, or there is none, or it is controls.
+use Rattle.std.proofs.Common.{◌≡◌, ◌<◌, [], sym, ap, ◌∙◌, length, refl}
+use Rattle.std.proofs.lemmas.Bool.{ne_eqb, eq-eqb}
+use Rattle.ldap_msg.specs.Pieces.{are_pieces}
+use Rattle.ldap_msg.specs.Messages.{no_controls}
+use Rattle.ldap_msg.specs.Reading.{piece_view}
+use Rattle.ldap_msg.proofs.PieceLemmas.{some_left, none_left, piece_sound, pieces_nil, pieces_step, pieces_none}
+use Rattle.ldap_msg.proofs.read.are_no_controls.Goals as goal
+
+pub returns-in-None : goal.returns-in-None
+returns-in-None c =
+    let some : 0 < length c.loop-rest.rest.now = some_left c.loop-rest.rest.now (sym c.is_empty.ensures ∙ c.loop-rest-test.true) in
+    sym (pieces_none no_controls c.loop-rest.rest.now some c.in-None.ensures) ∙ c.loop-rest.invariant
+
+pub loop-rest-smaller : goal.loop-rest-smaller
+loop-rest-smaller c = (piece_sound c.loop-rest.rest.now (piece_view c.in-Some.found) c.in-Some.ensures).shorter
+
+pub loop-rest-preserved : goal.loop-rest-preserved
+loop-rest-preserved c =
+    sym (pieces_step no_controls c.loop-rest.rest.now (piece_view c.in-Some.found) c.in-Some.ensures
+    ∙ rw (ne_eqb c.in-Some.found.tag 0xa0 c.if-found.false) refl)
+    ∙ c.loop-rest.invariant
+
+pub returns-then-found : goal.returns-then-found
+returns-then-found c =
+    sym (pieces_step no_controls c.loop-rest.rest.now (piece_view c.in-Some.found) c.in-Some.ensures
+    ∙ rw (eq-eqb c.in-Some.found.tag 0xa0 c.if-found.true) refl)
+    ∙ c.loop-rest.invariant
+
+pub returns : goal.returns
+returns c =
+    let none : c.loop-rest.rest.now ≡ [] = none_left c.loop-rest.rest.now (sym c.is_empty.ensures ∙ c.loop-rest-test.false) in
+    sym (ap (are_pieces no_controls) none ∙ pieces_nil no_controls) ∙ c.loop-rest.invariant
