@@ -1,3 +1,4 @@
 pub mod StreamLemmas
 pub mod PlaceLemmas
 pub mod HearLemmas
+pub mod HubLemmas

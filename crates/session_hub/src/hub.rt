@@ -10,7 +10,7 @@ ghost use Rattle.session_hub.specs.Hubs.{held_after, IsHubOf, IsBounded, left_of
 ghost use Rattle.session_hub.specs.Events.{step_of};
 ghost use Rattle.session_hub.specs.declared.requester.Requester.{Requester};
 
-use crate::places::{closing_at, end_at, queue_at, take_off};
+use crate::places::{closing_at, end_at, forget_at, hear_at, is_at, queue_at, take_off};
 use crate::{Connection, Event};
 use std::alloc::{AllocError, Global};
 use std::marker::Model;
@@ -79,5 +79,37 @@ impl Hub {
         ensures exact { self.new ≡ taken_off conn count self.old }
     {
         take_off(&mut self.connections, conn, count);
+    }
+
+    fn open(&mut self, conn: u32) -> Result<(), AllocError>
+        ensures ok { OnOk result (self.new ≡ held_after (run.Opened conn) self.old) }
+    {
+        if is_at(&self.connections, conn) {
+            return Ok(());
+        }
+        if self.connections.len() >= MAX_CONNECTIONS {
+            return Ok(());
+        }
+        let connection = Connection::new(self.alloc, conn);
+        self.connections.push(connection)?;
+        Ok(())
+    }
+
+    fn end(&mut self, conn: u32)
+        ensures { self.new ≡ held_after (run.Ended conn) self.old }
+    {
+        end_at(&mut self.connections, conn);
+    }
+
+    fn hear_piece(&mut self, conn: u32, piece: &[u8]) -> Result<(), AllocError>
+        ensures ok { OnOk result (self.new ≡ held_after (run.Bytes conn piece.now) self.old) }
+    {
+        hear_at(self.alloc, &mut self.connections, conn, piece)
+    }
+
+    fn forget(&mut self, conn: u32)
+        ensures { self.new ≡ forgotten conn self.old }
+    {
+        forget_at(&mut self.connections, conn);
     }
 }

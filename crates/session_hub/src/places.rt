@@ -1,7 +1,7 @@
 //! Where a connection stands among those held.
 
 ghost use Rattle.std.specs.Prelude.{◌≡◌, ◌≤◌, length, MatchOption, None, OnOk};
-ghost use Rattle.session_model.specs.Kept.{kept_of, queue_of, closing_of, taken_off, changed, closed};
+ghost use Rattle.session_model.specs.Kept.{kept_of, is_kept, queue_of, closing_of, forgotten, taken_off, changed, closed};
 ghost use Rattle.session_model.specs.Run.{Bytes};
 ghost use Rattle.session_hub.specs.Hubs.{IsAt, IsBounded, held_after};
 
@@ -18,6 +18,16 @@ pub fn place_of(connections: &[Connection], number: u32) -> Option<usize>
         }
     }
     None
+}
+
+/// Whether there is a connection with the number.
+pub fn is_at(connections: &[Connection], number: u32) -> bool
+    ensures { result ≡ is_kept (kept_of number connections.now) }
+{
+    match place_of(connections, number) {
+        Some(_) => true,
+        None => false,
+    }
 }
 
 /// The octets still to be sent to the connection with the number.
@@ -75,10 +85,20 @@ pub fn hear_at(
     match place_of(connections, number) {
         None => Ok(()),
         Some(at) => {
-            if connections[at].is_closing() {
+            let connection = &mut connections[at];
+            if connection.is_closing() {
                 return Ok(());
             }
-            connections[at].hear(alloc, piece)
+            connection.hear(alloc, piece)
         }
+    }
+}
+
+/// Forgets the connections with the number.
+pub fn forget_at(connections: &mut Vec<Connection>, number: u32)
+    ensures { connections.new.items ≡ forgotten number connections.old.items }
+{
+    while let Some(at) = place_of(connections, number) {
+        let _gone = connections.remove(at);
     }
 }
