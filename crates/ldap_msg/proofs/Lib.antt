@@ -6,6 +6,9 @@ pub mod RequestLemmas
 pub mod OperationLemmas
 pub mod MessageLemmas
 pub mod WritingLemmas
+pub mod OuterLemmas
+pub mod LongestLemmas
+pub mod WritableLemmas
 pub mod Theorems
 pub mod Examples
 pub mod ReplyExamples

@@ -8,3 +8,9 @@ pub use Rattle.ldap_msg.proofs.WholeLemmas.{whole_step, rest_step, broken_step, 
 pub use Rattle.ldap_msg.proofs.WholeLemmas.{whole_append, rest_append, whole_nil, rest_nil, whole_rest, rest_rest, rest_frame, broken_rest, rest_bound}
 -- a request that is read is the one that the octets say, and the one that they say is read
 pub use Rattle.ldap_msg.proofs.MessageLemmas.{message_sound, message_complete}
+-- a frame is the one that the stream has; a whole message is an outer element, and one by itself
+pub use Rattle.ldap_msg.proofs.OuterLemmas.{frame_sound, frame_complete, outer_frame, frame_outer, whole_alone}
+-- the messages are the longest list of outer elements at the front, and the only one
+pub use Rattle.ldap_msg.proofs.LongestLemmas.{whole_parts, whole_longest, whole_only, broken_sound, broken_complete}
+-- a reply of short parts can be written, a plain one too, and no reply is empty
+pub use Rattle.ldap_msg.proofs.WritableLemmas.{writable_short, writable_plain, reply_some}

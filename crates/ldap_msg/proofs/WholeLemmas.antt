@@ -19,7 +19,7 @@ no_messages f s (Whole n) e h = let bound = frame_bound s n e in absurd (omega (
 no_messages f s More e h = refl
 no_messages f s Bad e h = refl
 
-left_behind : (s : List ℕ) (n k : ℕ) → frame_at s ≡ Whole n → length s ≤ suc k → length (drop n s) ≤ k
+pub left_behind : (s : List ℕ) (n k : ℕ) → frame_at s ≡ Whole n → length s ≤ suc k → length (drop n s) ≤ k
 left_behind s n k e h = let bound = frame_bound s n e in omega (arith, bound.0, bound.1, length-drop n s)
 
 whole_enough : (j k : ℕ) (s : List ℕ) → length s ≤ j → length s ≤ k → whole_of j s ≡ whole_of k s

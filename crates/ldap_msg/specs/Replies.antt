@@ -1,6 +1,6 @@
 -- The one written spelling of a reply (RFC 4511 4.1.1, 4.1.9, 4.12): each length, messageID and code in its shortest
 -- form, the diagnostic message empty, and nothing behind the last component.
-use Rattle.std.specs.Prelude.{ℕ, ◌<◌, ◌^◌, List, [], ◌∷◌, ◌++◌, length, Option, Some, None, pos}
+use Rattle.std.specs.Prelude.{◌≡◌, ℕ, ◌<◌, ◌^◌, List, [], ◌∷◌, ◌++◌, length, Option, Some, None, pos}
 use Rattle.ber_core.specs.Integer.{int_octets}
 use Rattle.ber_core.specs.Spelling.{header_octets}
 use Rattle.ldap_msg.specs.declared.kinds.LdapResult.{LdapResult}
@@ -53,6 +53,43 @@ reply_octets id reply = element_octets 0x30 (reply_content id reply)
 -- the reply's content is below 2 ^ 32 octets, so that each length in it has a spelling
 pub record IsWritable (id : ℕ) (reply : Reply) : Type 0 where
   pub fits : length (reply_content id reply) < 2 ^ 32
+
+-- a code of one octet, and a matched name below 2 ^ 30 octets
+pub record IsShortResult (r : LdapResult) : Type 0 where
+  pub code : r.code < 256
+  pub matched : length r.matched < 2 ^ 30
+
+-- a value below 2 ^ 30 octets, or none
+abbrev pub IsShortValue : Option (List ℕ) → Type 0
+IsShortValue None = Unit {0}
+IsShortValue (Some value) = length value < 2 ^ 30
+
+-- a reply of such parts
+abbrev pub IsShort : Reply → Type 0
+IsShort (Bind r) = IsShortResult r
+IsShort (Done r) = IsShortResult r
+IsShort (Modify r) = IsShortResult r
+IsShort (Add r) = IsShortResult r
+IsShort (Delete r) = IsShortResult r
+IsShort (Rename r) = IsShortResult r
+IsShort (Compare r) = IsShortResult r
+IsShort (Extended r name value) = IsShortResult r × IsShortValue name × IsShortValue value
+
+-- a result with a code of one octet and the empty matched name
+pub record IsBare (r : LdapResult) : Type 0 where
+  pub code : r.code < 256
+  pub matched : r.matched ≡ []
+
+-- a reply with such a result and, where it is extended, no name and no value
+abbrev pub IsPlain : Reply → Type 0
+IsPlain (Bind r) = IsBare r
+IsPlain (Done r) = IsBare r
+IsPlain (Modify r) = IsBare r
+IsPlain (Add r) = IsBare r
+IsPlain (Delete r) = IsBare r
+IsPlain (Rename r) = IsBare r
+IsPlain (Compare r) = IsBare r
+IsPlain (Extended r name value) = IsBare r × (name ≡ None) × (value ≡ None)
 
 -- 1.3.6.1.4.1.1466.20036
 abbrev pub notice_name : List ℕ

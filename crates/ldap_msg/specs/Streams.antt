@@ -52,6 +52,12 @@ abbrev pub IsBroken : List ℕ → Type 0
 IsBroken [] = ⊥
 IsBroken (tag ∷ octets) = (tag ≢ 48) ⊎ IsBrokenLength octets
 
+-- what stands at the front of a stream: a message of n octets; the front of none; or neither
+abbrev pub IsFrame : List ℕ → Frame → Type 0
+IsFrame s (Whole n) = (n ≤ length s) × IsOuter (take n s)
+IsFrame s More = ((message after : List ℕ) → IsOuter message → s ≡ message ++ after → ⊥) × (IsBroken s → ⊥)
+IsFrame s Bad = IsBroken s
+
 -- ---- computed
 
 -- what a header says of a stream of so many octets

@@ -1,17 +1,15 @@
 //! Where a message ends.
 
 ghost use Rattle.std.specs.Prelude.{◌≡◌};
-ghost use Rattle.ldap_msg.specs.Streams.{framed, frame_at};
+ghost use Rattle.ldap_msg.specs.declared.kinds.Frame.{Frame};
+ghost use Rattle.ldap_msg.specs.Streams.{IsFrame, framed, frame_at};
 
 use crate::kinds::{Frame, MAX_CONTENT};
 use ber_core::{Header, header};
 
-/// What stands at the front of a stream: a whole message with its length, less than one, or
-/// octets that begin none (RFC 4511 5.1). A message is an element with the tag of a SEQUENCE and
-/// at most `MAX_CONTENT` content octets. This takes no memory.
 #[tactic(auto, unfolding(crate::specs::Streams::frame_at, crate::specs::Streams::framed))]
-pub fn frame(bytes: &[u8]) -> Frame
-    ensures exact { result ≡ frame_at bytes.now }
+fn framing(bytes: &[u8]) -> Frame
+    ensures { result ≡ frame_at bytes.now }
 {
     match bytes {
         [] => Frame::More,
@@ -34,4 +32,17 @@ pub fn frame(bytes: &[u8]) -> Frame
             }
         }
     }
+}
+
+/// What stands at the front of a stream: a whole message with its length, less than one, or
+/// octets that begin none (RFC 4511 5.1). A message is an element with the tag of a SEQUENCE and
+/// at most `MAX_CONTENT` content octets. This takes no memory.
+pub fn frame(bytes: &[u8]) -> Frame
+    // The answer is the one that the stream has.
+    ensures found { IsFrame bytes.now result }
+    // It has no other.
+    ensures only { (other : Frame) → IsFrame bytes.now other → result ≡ other }
+    ensures exact { result ≡ frame_at bytes.now }
+{
+    framing(bytes)
 }

@@ -1,0 +1,44 @@
+//! Contents of integers (X.690 8.3).
+
+use ber_core::{int_len, put_int, read_int};
+use std::test::Fail;
+
+#[test]
+fn integers_are_read_and_written_in_the_shortest_form(rt: HostRuntime) -> Result<(), Fail> {
+    let rows: [(i64, &[u8]); 12] = [
+        (-1, &[0xff]),
+        (0, &[0]),
+        (127, &[0x7f]),
+        (128, &[0, 0x80]),
+        (255, &[0, 0xff]),
+        (256, &[1, 0]),
+        (-128, &[0x80]),
+        (-129, &[0xff, 0x7f]),
+        (-256, &[0xff, 0]),
+        (2_147_483_647, &[0x7f, 0xff, 0xff, 0xff]),
+        (i64::MAX, &[0x7f, 0xff, 0xff, 0xff, 0xff, 0xff, 0xff, 0xff]),
+        (i64::MIN, &[0x80, 0, 0, 0, 0, 0, 0, 0]),
+    ];
+    for (value, content) in rows {
+        assert_eq!(rt; read_int(content), Some(value), "{value}");
+        let mut out = [7].to_vec(rt.alloc())?;
+        put_int(&mut out, value)?;
+        assert_eq!(rt; &out.as_slice()[1..], content, "{value}");
+        assert_eq!(rt; int_len(value), content.len(), "{value}");
+    }
+    Ok(())
+}
+
+#[test]
+fn other_contents_are_no_integer(rt: HostRuntime) {
+    let rows: [(&[u8], &str); 5] = [
+        (&[], "no octet"),
+        (&[0, 0x7f], "a zero that only repeats the sign"),
+        (&[0xff, 0x80], "a set octet that only repeats the sign"),
+        (&[0, 0, 0x80], "two zeros"),
+        (&[1, 0, 0, 0, 0, 0, 0, 0, 0], "nine octets"),
+    ];
+    for (content, what) in rows {
+        assert_eq!(rt; read_int(content), None, "{what}");
+    }
+}
