@@ -19,7 +19,7 @@ opened_by (_ ∷ journal) = opened_by journal
 
 -- the item opens the connection
 unfoldable pub opens : ℕ → Item → Bool
-opens conn (Heard (Opened other)) = conn == other
+opens conn (Heard (Opened other)) = other == conn
 opens conn _ = false
 
 -- the connection was opened
@@ -39,7 +39,7 @@ was_stopped (item ∷ journal) = stops item || was_stopped journal
 
 -- the octets that an item took for the connection
 unfoldable pub taken_at : ℕ → Item → List ℕ
-taken_at conn (Taken other octets) = if conn == other then octets else []
+taken_at conn (Taken other octets) = if other == conn then octets else []
 taken_at conn _ = []
 
 -- the octets taken for the connection, in order
@@ -49,7 +49,7 @@ taken_of conn (item ∷ journal) = taken_at conn item ++ taken_of conn journal
 
 -- the item hangs up the connection
 unfoldable pub hangs_up : ℕ → Item → Bool
-hangs_up conn (HungUp other) = conn == other
+hangs_up conn (HungUp other) = other == conn
 hangs_up conn _ = false
 
 -- the connection was hung up
@@ -59,9 +59,9 @@ is_hung_up conn (item ∷ journal) = hangs_up conn item || is_hung_up conn journ
 
 -- whether the connection is on hold after the item, where it was or was not before
 unfoldable pub hold_after : ℕ → Bool → Item → Bool
-hold_after conn before (Held other) = if conn == other then true else before
-hold_after conn before (Released other) = if conn == other then false else before
-hold_after conn before (HungUp other) = if conn == other then false else before
+hold_after conn before (Held other) = if other == conn then true else before
+hold_after conn before (Released other) = if other == conn then false else before
+hold_after conn before (HungUp other) = if other == conn then false else before
 hold_after conn before _ = before
 
 -- whether it is on hold after the items

@@ -1,10 +1,14 @@
 pub mod Answers
 pub mod Files
 pub mod Journal
+pub mod Laws
 pub mod MemoryForms
+pub mod Peers
 pub mod Pieces
 pub mod Plan
 pub mod Playing
 pub mod Putting
 pub mod ReadWhole
+pub mod Rising
+pub mod Scripted
 pub mod Telling

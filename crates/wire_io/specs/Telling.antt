@@ -46,7 +46,7 @@ unfoldable pub StaysStopped : List Item → Event → Type 0
 StaysStopped journal event = was_stopped journal ≡ true → event ≡ Stop
 
 -- the event is noted, and may come; a fault adds nothing
-unfoldable pub NextTells : Option (List Item) → List ℕ → Result Answer NextFault → Option (List Item) → Type 0
+unfoldable pub NextTells : {E : Type 0} → Option (List Item) → List ℕ → Result Answer E → Option (List Item) → Type 0
 NextTells old buf (Err fault) new = new ≡ old
 NextTells None buf (Ok given) new = new ≡ None
 NextTells (Some journal) buf (Ok given) new =

@@ -5,22 +5,34 @@
 
 mod answers;
 mod copying;
+mod file_shelf;
 mod journal;
+mod laws;
 mod link;
 mod memory_shelf;
 mod memory_sink;
+mod peers;
 mod reading;
+mod rising;
+mod script;
+mod script_link;
 mod shelf;
 mod sink;
+mod standard_sink;
+mod told;
 mod writing;
 
 pub use answers::{FetchFault, Heard, NextFault, NoMemory, PutFault, ReadFault, Took};
+pub use file_shelf::FileShelf;
 pub use journal::{Event, Item};
+pub use laws::{events_bring_scripts_on, scripts_come_in_pieces};
 pub use link::Link;
 pub use memory_shelf::MemShelf;
 pub use memory_sink::MemSink;
 pub use reading::read_all;
-pub use script_text::ScriptEvent;
+pub use script_link::ScriptLink;
+pub use script_text::{ScriptEvent, ScriptFault};
 pub use shelf::Shelf;
 pub use sink::Sink;
+pub use standard_sink::StdSink;
 pub use writing::write_all;

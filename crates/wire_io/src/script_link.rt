@@ -1,0 +1,255 @@
+//! A link that gives the events of a script.
+
+ghost use Rattle.std.specs.Prelude.{◌≡◌, ◌<◌, ℕ, [], Ok, Err, Some, IfOk, MatchResult, length, slice_get};
+ghost use Rattle.plain_values.specs.Counts.{NeverFalls, next_count};
+ghost use Rattle.script_text.specs.Script.{OpensOnce, AreFilled, IsScript, IsFirstBadLine};
+ghost use Rattle.script_text.specs.ScriptReading.{IsCause, script_of};
+ghost use Rattle.wire_io.specs.Answers.{HeardFits, TookFits, LinkCause, WriteCause};
+ghost use Rattle.wire_io.specs.Journal.{is_hung_up, opened_by, taken_of};
+ghost use Rattle.wire_io.specs.MemoryForms.{is_listed};
+ghost use Rattle.wire_io.specs.Playing.{NextPlays};
+ghost use Rattle.wire_io.specs.Rising.{rising};
+ghost use Rattle.wire_io.specs.Scripted.{fresh_link, LinkOpens, LinkHears, LinkWrites, LinkNotes};
+ghost use Rattle.wire_io.specs.Telling.{OpenTells, NextTells, TookTells, NoteTells};
+
+use crate::script::{Script, turn};
+use crate::told::Told;
+use crate::{Heard, Item, Link, NextFault, NoMemory, ScriptEvent, ScriptFault, Took};
+use plain_values::raised;
+use script_text::read_script;
+use std::alloc::Global;
+use std::marker::Model;
+
+/// A link that gives planned events in their order, each as soon as it is asked for, takes every
+/// piece whole, and keeps a journal. It fails, or takes nothing, at chosen calls.
+#[derive(Debug, Drop)]
+pub struct ScriptLink {
+    script: Script,
+    told: Told,
+    failing: Vec<u64>,
+    later: Vec<u64>,
+    gone: Vec<u64>,
+    calls: u64,
+    writes: u64,
+    faults: u64,
+    lost: u64,
+}
+
+impl Model for ScriptLink {
+    ghost use Rattle.wire_io.specs.Scripted.{LinkState, IsPlayable};
+
+    ghost Value = { LinkState };
+
+    ghost view = { λ link. record { journal = link.told; plan = record { to_come = link.script; failing = link.failing.items; later = link.later.items; gone = link.gone.items }; calls = link.calls; writes = link.writes; faults = link.faults; lost = link.lost } };
+
+    ghost invariant = { λ link. IsPlayable link.told link.script };
+}
+
+impl ScriptLink {
+    /// A link with these events, which open no number twice and have no empty octets. Its `open` and
+    /// `next` calls are numbered from 0 in one count, its `write` calls in another; it fails at the
+    /// former in `failing`, and answers Later or Gone at the latter in `later` or `gone`. Takes no
+    /// memory.
+    pub fn new(
+        alloc: Global,
+        events: Vec<ScriptEvent>,
+        failing: Vec<u64>,
+        later: Vec<u64>,
+        gone: Vec<u64>,
+    ) -> ScriptLink
+        requires once { OpensOnce events.items }
+        requires filled { AreFilled events.items }
+        requires takes { (later.items ≡ []) × (gone.items ≡ []) }
+        ensures exact { result ≡ fresh_link events.items failing.items later.items gone.items }
+    {
+        ScriptLink {
+            script: Script::new(events),
+            told: Told::new(alloc),
+            failing,
+            later,
+            gone,
+            calls: 0,
+            writes: 0,
+            faults: 0,
+            lost: 0,
+        }
+    }
+
+    /// A link with the events of the script text, which never fails and takes every piece.
+    pub fn read(alloc: Global, text: &[u8]) -> Result<ScriptLink, ScriptFault>
+        ensures ok { IfOk result (λ link. IsScript text.now link.plan.to_come) }
+        ensures fresh { IfOk result (λ link. link ≡ fresh_link link.plan.to_come [] [] []) }
+        ensures bad { (line : ℕ) → result ≡ Err (ScriptFault.Bad line) → IsFirstBadLine text.now line }
+        // the same, as it is computed
+        ensures exact { MatchResult result (λ link. script_of text.now ≡ Ok link.plan.to_come) (λ fault. IsCause fault (script_of text.now)) }
+    {
+        let events = read_script(alloc, text)?;
+        let (failing, later, gone) = (Vec::new(alloc), Vec::new(alloc), Vec::new(alloc));
+        Ok(ScriptLink::new(alloc, events, failing, later, gone))
+    }
+
+    /// The octets taken for the connection so far.
+    pub fn said_of(&self, conn: u32) -> &[u8]
+        ensures exact { result.now ≡ taken_of conn self.now.journal }
+    {
+        self.told.said_of(conn)
+    }
+
+    /// Whether the connection was hung up.
+    pub fn hung_up(&self, conn: u32) -> bool
+        ensures exact { result ≡ is_hung_up conn self.now.journal }
+    {
+        self.told.hung_up(conn)
+    }
+
+    /// The number at the index, from 0 and in rising order, of those that events have opened so far;
+    /// none past the last.
+    pub fn opened_at(&self, index: usize) -> Option<u32>
+        ensures exact { result ≡ slice_get (rising (opened_by self.now.journal)) index }
+    {
+        self.told.opened_at(index)
+    }
+
+    /// Counts a call of `open` or `next`, and says whether it fails.
+    fn fails(&mut self) -> bool
+        ensures exact { result ≡ is_listed self.old.calls self.old.plan.failing }
+        ensures kept { self.new ≡ record self.old { calls = next_count self.old.calls } }
+    {
+        let call = self.calls;
+        self.calls = raised(call);
+        self.failing.contains(&call)
+    }
+
+    #[tactic(auto, unfolding(crate::specs::Telling::NextTells, crate::specs::Playing::NextPlays))]
+    /// Gives the next event.
+    fn play(&mut self, buf: &mut [u8]) -> Result<Heard, NoMemory>
+        requires { 0 < length buf.old }
+        ensures fits { IfOk result (HeardFits (length buf.new)) }
+        ensures tells { NextTells (Some self.old.journal) buf.new result (Some self.new.journal) }
+        ensures plays { NextPlays (Some self.old.journal) (Some self.old.plan) buf.new result (Some self.new.plan) }
+        ensures kept { self.new ≡ record self.old { journal = self.new.journal; plan = self.new.plan } }
+    {
+        let len = buf.len();
+        let heard = turn(&self.script, &self.told, buf);
+        self.told.hear(heard, buf)?;
+        self.script.pass(heard, len);
+        Ok(heard)
+    }
+}
+
+impl Link for ScriptLink {
+    ghost use Rattle.std.specs.Prelude.{Some};
+
+    ghost journal = { λ link. Some link.journal };
+
+    ghost plan = { λ link. Some link.plan };
+
+    ghost faults = { λ link. link.faults };
+
+    ghost lost = { λ link. link.lost };
+
+    #[tactic(auto, unfolding(crate::specs::Telling::OpenTells, crate::specs::Answers::LinkCause, crate::specs::Answers::IsPlanned, crate::specs::Scripted::LinkOpens))]
+    /// Opens, or fails at the chosen calls.
+    fn open(&mut self, address: &str, sessions: u64) -> Result<(), NextFault>
+        ensures tells { OpenTells (Some self.old.journal) address.now sessions result (Some self.new.journal) }
+        ensures cause { LinkCause (Some self.old.plan) self.old.faults self.new.faults result }
+        ensures plan { Some self.new.plan ≡ Some self.old.plan }
+        ensures lost { NeverFalls self.old.lost self.new.lost }
+        ensures exact { LinkOpens self.old address.now sessions result self.new }
+    {
+        if self.fails() {
+            if self.told.open(address, sessions, false).is_err() {
+                return Err(NextFault::NoMemory);
+            }
+            self.faults = raised(self.faults);
+            return Err(NextFault::Failed);
+        }
+        if self.told.open(address, sessions, true).is_err() {
+            return Err(NextFault::NoMemory);
+        }
+        Ok(())
+    }
+
+    #[tactic(auto, unfolding(crate::specs::Telling::NextTells, crate::specs::Playing::NextPlays, crate::specs::Answers::LinkCause, crate::specs::Answers::IsPlanned, crate::specs::Scripted::LinkHears))]
+    /// Gives the next event of the script, or fails at the chosen calls.
+    fn next(&mut self, buf: &mut [u8]) -> Result<Heard, NextFault>
+        requires { 0 < length buf.old }
+        ensures fits { IfOk result (HeardFits (length buf.new)) }
+        ensures tells { NextTells (Some self.old.journal) buf.new result (Some self.new.journal) }
+        ensures plays { NextPlays (Some self.old.journal) (Some self.old.plan) buf.new result (Some self.new.plan) }
+        ensures cause { LinkCause (Some self.old.plan) self.old.faults self.new.faults result }
+        ensures lost { NeverFalls self.old.lost self.new.lost }
+        ensures exact { LinkHears self.old result self.new }
+    {
+        if self.fails() {
+            self.faults = raised(self.faults);
+            return Err(NextFault::Failed);
+        }
+        let Ok(heard) = self.play(buf) else {
+            return Err(NextFault::NoMemory);
+        };
+        Ok(heard)
+    }
+
+    #[tactic(auto, unfolding(crate::specs::Telling::TookTells, crate::specs::Answers::WriteCause, crate::specs::Answers::IsPlanned, crate::specs::Scripted::LinkWrites))]
+    /// Takes the piece whole, or answers Later or Gone at the chosen calls.
+    fn write(&mut self, conn: u32, bytes: &[u8]) -> Took
+        requires { 0 < length bytes.now }
+        ensures fits { TookFits (length bytes.now) result }
+        ensures tells { TookTells (Some self.old.journal) conn bytes.now result (Some self.new.journal) }
+        ensures cause { WriteCause (Some self.old.plan) self.old.lost self.new.lost result }
+        ensures plan { Some self.new.plan ≡ Some self.old.plan }
+        ensures faults { self.new.faults ≡ self.old.faults }
+        ensures exact { LinkWrites self.old conn bytes.now result self.new }
+    {
+        let call = self.writes;
+        self.writes = raised(call);
+        if self.later.contains(&call) {
+            if self.told.note(Item::Later(conn)).is_err() {
+                return Took::NoMemory;
+            }
+            return Took::Later;
+        }
+        if self.gone.contains(&call) {
+            if self.told.note(Item::Gone(conn)).is_err() {
+                return Took::NoMemory;
+            }
+            self.lost = raised(self.lost);
+            return Took::Gone;
+        }
+        if self.told.take(conn, bytes).is_err() {
+            return Took::NoMemory;
+        }
+        Took::Took(bytes.len())
+    }
+
+    fn hold(&mut self, conn: u32) -> Result<(), NoMemory>
+        ensures tells { NoteTells (Some self.old.journal) (Item.Held conn) result (Some self.new.journal) }
+        ensures plan { Some self.new.plan ≡ Some self.old.plan }
+        ensures faults { self.new.faults ≡ self.old.faults }
+        ensures lost { NeverFalls self.old.lost self.new.lost }
+        ensures exact { LinkNotes self.old (Item.Held conn) result self.new }
+    {
+        self.told.hold(conn)
+    }
+
+    fn release(&mut self, conn: u32) -> Result<(), NoMemory>
+        ensures tells { NoteTells (Some self.old.journal) (Item.Released conn) result (Some self.new.journal) }
+        ensures plan { Some self.new.plan ≡ Some self.old.plan }
+        ensures faults { self.new.faults ≡ self.old.faults }
+        ensures lost { NeverFalls self.old.lost self.new.lost }
+        ensures exact { LinkNotes self.old (Item.Released conn) result self.new }
+    {
+        self.told.release(conn)
+    }
+
+    fn hang_up(&mut self, conn: u32) -> Result<(), NoMemory>
+        ensures tells { NoteTells (Some self.old.journal) (Item.HungUp conn) result (Some self.new.journal) }
+        ensures plan { Some self.new.plan ≡ Some self.old.plan }
+        ensures faults { self.new.faults ≡ self.old.faults }
+        ensures lost { NeverFalls self.old.lost self.new.lost }
+        ensures exact { LinkNotes self.old (Item.HungUp conn) result self.new }
+    {
+        self.told.hang_up(conn)
+    }
+}
