@@ -2,3 +2,4 @@ pub mod StreamLemmas
 pub mod PlaceLemmas
 pub mod HearLemmas
 pub mod HubLemmas
+pub mod AnswerLemmas

@@ -155,7 +155,7 @@ was_opened-one c j i = was_opened-append c j (i ∷ []) ∙ grind arith
 -- octets taken
 pub taken_of-taken : (c d : ℕ) (j : List Item) (octets : List ℕ) → taken_of d (j ++ item.Taken c octets ∷ []) ≡ taken_of d j ++ cond (d == c) octets []
 unfolding taken_at
-taken_of-taken c d j octets = taken_of-append d j (item.Taken c octets ∷ []) ∙ ap (λ xs. taken_of d j ++ xs) (taken_of-one d (item.Taken c octets))
+taken_of-taken c d j octets = taken_of-append d j (item.Taken c octets ∷ []) ∙ ap (λ xs. taken_of d j ++ xs) (taken_of-one d (item.Taken c octets) ∙ grind (arith, nat_tests))
 
 pub is_hung_up-taken : (c d : ℕ) (j : List Item) (octets : List ℕ) → is_hung_up d (j ++ item.Taken c octets ∷ []) ≡ is_hung_up d j
 unfolding hangs_up
@@ -176,7 +176,7 @@ taken_of-hung_up c d j = taken_of-append d j (item.HungUp c ∷ []) ∙ ap (λ x
 
 pub is_hung_up-hung_up : (c d : ℕ) (j : List Item) → is_hung_up d (j ++ item.HungUp c ∷ []) ≡ (is_hung_up d j || (d == c))
 unfolding hangs_up
-is_hung_up-hung_up c d j = is_hung_up-append d j (item.HungUp c)
+is_hung_up-hung_up c d j = is_hung_up-append d j (item.HungUp c) ∙ grind (arith, nat_tests)
 
 pub is_held-hung_up : (c d : ℕ) (j : List Item) → is_held d j ≡ false → is_held d (j ++ item.HungUp c ∷ []) ≡ false
 unfolding hold_after

@@ -1,4 +1,5 @@
 use Rattle.std.proofs.Common.{◌++◌, sym, ap, ◌∙◌, slice_set}
+use Rattle.std.proofs.lemmas.List.{set-get_or}
 use Rattle.std.proofs.lemmas.Result.{on_ok_weaker}
 use Rattle.session_model.specs.Kept.{Kept, heard_piece}
 use Rattle.session_hub.specs.declared.requester.Requester.{Requester}
@@ -14,6 +15,7 @@ returns-in-None-clause-ok c = hears_nowhere c.args.number c.args.piece.now c.arg
 -- it is closing
 pub returns-then-is_closing-clause-ok : goal.returns-then-is_closing-clause-ok
 returns-then-is_closing-clause-ok c =
+    set-get_or c.args.connections.now c.in-Some.at c.index-connections-at.result ∙
     hears_closing c.args.number c.in-Some.at c.args.piece.now c.args.connections.now c.index-connections-at.result c.in-Some.ensures c.index-connections-at.is
     (ap (λ (k : Kept Requester). k.closing) c.index-connections-at.is ∙ sym c.is_closing.ensures ∙ c.if-is_closing.true)
 

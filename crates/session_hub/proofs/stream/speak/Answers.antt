@@ -1,7 +1,7 @@
 use Rattle.std.proofs.Common.{◌≡◌, ◌≤◌, ◌<◌, ◌-◌, ◌++◌, length, take, drop, sym, ap, ◌∙◌, subst, arith, length-drop}
 use Rattle.ldap_msg.specs.declared.kinds.Frame.TheVariants.{Whole, More, Bad}
 use Rattle.ldap_msg.specs.Streams.{frame_at}
-use Rattle.ldap_msg.proofs.Theorems.{frame_bound}
+use Rattle.ldap_msg.proofs.Theorems.{frame_bound, whole_alone}
 use Rattle.session_hub.specs.Answering.{rules}
 use Rattle.session_hub.specs.Answers.{Gives}
 use Rattle.session_hub.proofs.StreamLemmas.{so_far_whole, so_far_closed, so_far_more, so_far_bad}
@@ -21,8 +21,11 @@ returns-in-Bad-clause-ok c =
 pub split_at-requires-in-Whole : goal.split_at-requires-in-Whole
 split_at-requires-in-Whole c = (frame_bound c.split_at.result.1.now c.in-Whole.length (sym c.in-Whole.ensures.exact)).1
 
+-- a whole message is one by itself
 pub answer-requires : goal.answer-requires
-answer-requires c = ?
+answer-requires c =
+    let same : c.split_at-in-Whole.result.0.now ≡ take c.in-Whole.length c.split_at.result.1.now = c.split_at-in-Whole.ensures.front in
+    ap frame_at same ∙ whole_alone c.split_at.result.1.now c.in-Whole.length (sym c.in-Whole.ensures.exact) ∙ ap (λ xs. Whole (length xs)) (sym same)
 
 -- the message closes
 pub returns-then-outcome-clause-ok : goal.returns-then-outcome-clause-ok
