@@ -4,3 +4,4 @@ pub mod Answers
 pub mod Limits
 pub mod Hubs
 pub mod Events
+pub mod Loops

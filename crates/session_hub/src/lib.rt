@@ -2,6 +2,7 @@
 #![tactic(auto)]
 
 mod connection;
+mod ended;
 mod event;
 mod hub;
 mod messages;
@@ -11,6 +12,7 @@ mod requester;
 mod stream;
 
 pub use connection::Connection;
+pub use ended::Ended;
 pub use event::Event;
 pub use hub::{Hub, MAX_CONNECTIONS};
 pub use messages::answer;
