@@ -9,6 +9,7 @@ mod messages;
 mod outcome;
 mod places;
 mod requester;
+mod serving;
 mod stream;
 
 pub use connection::Connection;
@@ -18,4 +19,5 @@ pub use hub::{Hub, MAX_CONNECTIONS};
 pub use messages::answer;
 pub use outcome::Outcome;
 pub use requester::Requester;
+pub use serving::{finish, greet, hear_and_finish, send_queue};
 pub use stream::{Spoken, speak};
