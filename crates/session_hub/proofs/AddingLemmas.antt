@@ -48,32 +48,32 @@ block_both plan j k p q =
 -- nothing is added
 pub adds_nothing : (plan : Option Plan) (P Q : List Item → Type 0) (before after : Option (List Item)) → after ≡ before → ((told : List Item) → P told → Q told) → Adds plan P Q before after
 unfolding Adds
-adds_nothing plan P Q before after same leads start told is holds =
+adds_nothing plan P Q before after same leads start told is =
     ([], same ∙ is ∙ ap (λ x. Some (start ++ x)) (sym (append-nil told)), block_none plan,
-     λ all. subst Q (sym (append-nil told)) (leads told (holds (subst (λ x. all_taken x ≡ true) (append-nil told) all))))
+     λ holds all. subst Q (sym (append-nil told)) (leads told (holds (subst (λ x. all_taken x ≡ true) (append-nil told) all))))
 
 -- one item is added
 pub adds_one : (plan : Option Plan) (P Q : List Item → Type 0) (before after : Option (List Item)) (i : Item) → after ≡ noted before i → IsBlock plan (i ∷ []) →
     ((told : List Item) → all_taken (told ++ i ∷ []) ≡ true → P told → Q (told ++ i ∷ [])) → Adds plan P Q before after
 unfolding Adds
-adds_one plan P Q before after i is_noted block leads start told is holds =
+adds_one plan P Q before after i is_noted block leads start told is =
     (i ∷ [], is_noted ∙ ap (λ x. noted x i) is ∙ ap (λ x. Some x) (append_assoc start told (i ∷ [])), block,
-     λ all. leads told all (holds (all_taken-front told (i ∷ []) all)))
+     λ holds all. leads told all (holds (all_taken-front told (i ∷ []) all)))
 
 -- one call after another
 pub adds_then : (plan : Option Plan) (P Q R : List Item → Type 0) (a b c : Option (List Item)) → Adds plan P Q a b → Adds plan Q R b c → Adds plan P R a c
 unfolding Adds
-adds_then plan P Q R a b c first second start told is holds =
-    let x = first start told is holds in
-    let y = second start (told ++ x.0) x.1 x.3 in
+adds_then plan P Q R a b c first second start told is =
+    let x = first start told is in
+    let y = second start (told ++ x.0) x.1 in
     (x.0 ++ y.0,
      y.1 ∙ ap (λ z. Some (start ++ z)) (append_assoc told x.0 y.0),
      block_both plan x.0 y.0 x.2 y.2,
-     λ all. subst R (append_assoc told x.0 y.0) (y.3 (subst (λ z. all_taken z ≡ true) (sym (append_assoc told x.0 y.0)) all)))
+     λ holds all. subst R (append_assoc told x.0 y.0) (y.3 (x.3 holds) (subst (λ z. all_taken z ≡ true) (sym (append_assoc told x.0 y.0)) all)))
 
 -- what holds may be weakened at both ends
 pub adds_as : (plan : Option Plan) (P P' Q Q' : List Item → Type 0) (a b : Option (List Item)) → ((told : List Item) → P' told → P told) → ((told : List Item) → Q told → Q' told) →
     Adds plan P Q a b → Adds plan P' Q' a b
 unfolding Adds
-adds_as plan P P' Q Q' a b first last adds start told is holds =
-    let x = adds start told is (λ all. first told (holds all)) in (x.0, x.1, x.2, λ all. last (told ++ x.0) (x.3 all))
+adds_as plan P P' Q Q' a b first last adds start told is =
+    let x = adds start told is in (x.0, x.1, x.2, λ holds all. last (told ++ x.0) (x.3 (λ taken. first told (holds taken)) all))

@@ -1,14 +1,17 @@
 -- An event heard, by what a hub makes of it.
 use Rattle.std.proofs.Common.{◌≡◌, ◌≤◌, ◌<◌, ℕ, nat_lt, Bool, true, false, not, ◌||◌, List, [], ◌∷◌, ◌++◌, length, Option, refl, ap, sym, ◌∙◌, subst, arith}
 use Rattle.std.proofs.lemmas.Bool.Decides.{nat_tests}
+use Rattle.wire_io.specs.declared.journal.Event.{Event as Told}
 use Rattle.wire_io.specs.declared.journal.Event.TheVariants as event
+use Rattle.wire_io.specs.Journal.{opens}
+use Rattle.session_model.specs.Journaled.{step_of_event}
 use Rattle.wire_io.specs.declared.journal.Item.{Item}
 use Rattle.wire_io.specs.declared.journal.Item.TheVariants as item
 use Rattle.session_model.specs.Run.{Step, Opened, Bytes, Ended, most_held}
 use Rattle.session_model.specs.Kept.{Kept, Held, heard, forgotten}
 use Rattle.session_model.specs.Serving.{Sound}
 use Rattle.session_model.specs.Working.{Calm, Opening, Busy}
-use Rattle.session_model.proofs.Theorems.{calm_opened, calm_bytes, calm_ended, opening_calm, opening_hung_up}
+use Rattle.session_model.proofs.Theorems.{calm_opened, calm_bytes, calm_ended, calm_idle, opening_calm, opening_hung_up}
 use Rattle.session_hub.specs.declared.requester.Requester.{Requester}
 use Rattle.session_hub.specs.Answering.{Tree, rules}
 use Rattle.session_hub.specs.Hubs.{held, held_after}
@@ -74,3 +77,19 @@ pub event_sound : (conn : ℕ) (e : Event) (kept : List (Kept Requester)) (told 
 event_sound conn (came.Opened c) kept told is_of h = absurd is_of
 event_sound conn (came.Bytes c octets) kept told is_of h = bytes_sound c octets.now kept told h
 event_sound conn (came.Ended c) kept told is_of h = ended_sound c kept told h
+
+-- an event that is no step leaves nothing to do
+pub idle_goes : (e : Told) (kept : List (Kept Requester)) (told : List Item) → step_of_event e ≡ [] → ((d : ℕ) → opens d (item.Heard e) ≡ false) → IsHeard kept e told → IsCalm kept told
+idle_goes e kept told none no_opening h = subst (λ j. IsCalm kept j) (sym h.last) (calm_idle rules tt (held kept) h.before e none no_opening h.calm)
+
+pub ready_goes : (c : ℕ) (kept : List (Kept Requester)) (told : List Item) → IsHeard kept (event.Ready c) told → IsCalm kept told
+unfolding opens
+ready_goes c kept told h = idle_goes (event.Ready c) kept told refl (λ _. refl) h
+
+pub pause_goes : (kept : List (Kept Requester)) (told : List Item) → IsHeard kept event.Idle told → IsCalm kept told
+unfolding opens
+pause_goes kept told h = idle_goes event.Idle kept told refl (λ _. refl) h
+
+pub stop_goes : (kept : List (Kept Requester)) (told : List Item) → IsHeard kept event.Stop told → IsCalm kept told
+unfolding opens
+stop_goes kept told h = idle_goes event.Stop kept told refl (λ _. refl) h

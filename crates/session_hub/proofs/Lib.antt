@@ -7,3 +7,5 @@ pub mod AddingLemmas
 pub mod FollowingLemmas
 pub mod ServingLemmas
 pub mod HeardLemmas
+pub mod LoopLemmas
+pub mod PlayLemmas
