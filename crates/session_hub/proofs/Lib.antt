@@ -1,0 +1,11 @@
+pub mod StreamLemmas
+pub mod PlaceLemmas
+pub mod HearLemmas
+pub mod HubLemmas
+pub mod AnswerLemmas
+pub mod AddingLemmas
+pub mod FollowingLemmas
+pub mod ServingLemmas
+pub mod HeardLemmas
+pub mod LoopLemmas
+pub mod PlayLemmas

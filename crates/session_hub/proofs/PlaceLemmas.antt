@@ -1,0 +1,55 @@
+-- The first connection with a number, looked for from the front.
+use Rattle.std.proofs.Common.{◌≡◌, ◌<◌, ℕ, false, List, [], ◌∷◌, ◌++◌, length, take, drop, set, get_or, Some, None, refl, ap, sym, ◌∙◌, drop-cons, suc, arith}
+use Rattle.std.proofs.lemmas.Bool.Decides.{nat_tests}
+use Rattle.std.proofs.lemmas.Option.{slice_get_read}
+use Rattle.std.proofs.lemmas.List.{set_split}
+use Rattle.session_model.specs.Kept.{Kept, kept_of, queue_of, closing_of, changed}
+use Rattle.session_model.proofs.Theorems.{queue_in, closing_in, queue_of_is, closing_of_is}
+use Rattle.session_hub.specs.declared.requester.Requester.{Requester}
+use Rattle.session_hub.specs.Hubs.{IsAt, NoneBefore}
+
+-- a change of the first connection
+changed_first : (c : ℕ) (f : Kept Requester → Kept Requester) (k : Kept Requester) (ks : List (Kept Requester)) → k.number ≡ c → changed c f (k ∷ ks) ≡ f k ∷ ks
+changed_first c f k ks same = grind (arith, nat_tests)
+
+-- the number stands at this place, and at none before
+pub found_at : (c at : ℕ) (kept : List (Kept Requester)) (k : Kept Requester) → NoneBefore c at kept → at < length kept → k ≡ get_or kept at k → k.number ≡ c → IsAt c at kept
+found_at c at kept k none within is same =
+    let split : drop at kept ≡ k ∷ drop (suc at) kept = drop-cons kept at k within ∙ ap (λ x. x ∷ drop (suc at) kept) (sym is) in
+    let found : kept_of c kept ≡ Some k = none.found ∙ ap (kept_of c) split ∙ grind (arith, nat_tests) in
+    record {
+      within = within;
+      found = slice_get_read kept (length kept) at k refl within is ∙ sym found;
+      changes = λ f x e.
+          let is_k : x ≡ k = cc in
+          none.changes f ∙ ap (λ xs. take at kept ++ changed c f xs) split
+          ∙ ap (λ xs. take at kept ++ xs) (changed_first c f k (drop (suc at) kept) same)
+          ∙ sym (set_split kept at (f k) within) ∙ ap (λ y. set kept at (f y)) (sym is_k);
+    }
+
+-- the connection at the place of a number is the one that is kept of it
+kept_at : (c at : ℕ) (ks : List (Kept Requester)) (k : Kept Requester) → IsAt c at ks → k ≡ get_or ks at k → kept_of c ks ≡ Some k
+kept_at c at ks k place is = sym place.found ∙ slice_get_read ks (length ks) at k refl place.within is
+
+pub queue_at : (c at : ℕ) (ks : List (Kept Requester)) (k : Kept Requester) → IsAt c at ks → k ≡ get_or ks at k → queue_of c ks ≡ k.queue
+queue_at c at ks k place is = queue_of_is c ks ∙ ap queue_in (kept_at c at ks k place is)
+
+pub queue_nowhere : (c : ℕ) (ks : List (Kept Requester)) → kept_of c ks ≡ None → queue_of c ks ≡ []
+queue_nowhere c ks none = queue_of_is c ks ∙ ap queue_in none
+
+pub closing_at : (c at : ℕ) (ks : List (Kept Requester)) (k : Kept Requester) → IsAt c at ks → k ≡ get_or ks at k → closing_of c ks ≡ k.closing
+closing_at c at ks k place is = closing_of_is c ks ∙ ap closing_in (kept_at c at ks k place is)
+
+pub closing_nowhere : (c : ℕ) (ks : List (Kept Requester)) → kept_of c ks ≡ None → closing_of c ks ≡ false
+closing_nowhere c ks none = closing_of_is c ks ∙ ap closing_in none
+
+pub changed_at : (c at : ℕ) (f : Kept Requester → Kept Requester) (ks : List (Kept Requester)) (k : Kept Requester) → IsAt c at ks → k ≡ get_or ks at k →
+    changed c f ks ≡ set ks at (f k)
+changed_at c at f ks k place is = place.changes f k (kept_at c at ks k place is)
+
+pub changed_nowhere : (c : ℕ) (f : Kept Requester → Kept Requester) (ks : List (Kept Requester)) → kept_of c ks ≡ None → changed c f ks ≡ ks
+changed_nowhere c f [] none = refl
+changed_nowhere c f (k ∷ ks) none = grind (arith, nat_tests, changed_nowhere c f ks)
+
+pub kept_at_is : (c at : ℕ) (ks : List (Kept Requester)) (k : Kept Requester) → IsAt c at ks → k ≡ get_or ks at k → kept_of c ks ≡ Some k
+kept_at_is c at ks k place is = kept_at c at ks k place is

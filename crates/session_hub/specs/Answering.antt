@@ -1,0 +1,92 @@
+-- How this server answers each message (RFC 4511 4.1.1, 4.2 to 4.4, 4.11, 4.12). The rules of sessions take this, and
+-- nothing else of them knows what is answered.
+use Rattle.std.specs.Prelude.{ℕ, ◌==◌, Bool, true, false, List, [], ◌∷◌, Option, Some, None, if◌then◌else◌}
+use Rattle.ldap_msg.specs.declared.kinds.Auth.{Auth}
+use Rattle.ldap_msg.specs.declared.kinds.Auth.TheVariants.{Simple, Other}
+use Rattle.ldap_msg.specs.declared.kinds.BindRequest.{BindRequest}
+use Rattle.ldap_msg.specs.declared.kinds.Request.{Request}
+use Rattle.ldap_msg.specs.declared.kinds.Request.TheVariants as request
+use Rattle.ldap_msg.specs.declared.kinds.Message.{Message}
+use Rattle.ldap_msg.specs.declared.kinds.LdapResult.{LdapResult}
+use Rattle.ldap_msg.specs.declared.kinds.Reply.{Reply}
+use Rattle.ldap_msg.specs.declared.kinds.Reply.TheVariants as reply
+use Rattle.ldap_msg.specs.Messages.{message_of}
+use Rattle.ldap_msg.specs.Replies.{reply_octets, notice_octets}
+use Rattle.session_model.specs.Rules.{Rules, Answered}
+use Rattle.session_hub.specs.declared.requester.Requester.{Requester}
+use Rattle.session_hub.specs.declared.requester.Requester.TheVariants.{Anonymous}
+
+-- a result with this code and no matched name
+abbrev pub coded : ℕ → LdapResult
+coded code = record { code = code; matched = [] }
+
+-- the response to an operation by its tag
+abbrev pub response_to : ℕ → LdapResult → Reply
+response_to tag r =
+    if tag == 0x63 then reply.Done r
+    else if tag == 0x66 then reply.Modify r
+    else if tag == 0x68 then reply.Add r
+    else if tag == 0x4a then reply.Delete r
+    else if tag == 0x6c then reply.Rename r
+    else if tag == 0x6e then reply.Compare r
+    else reply.Extended r None None
+
+-- success for no name and no password, unwillingToPerform for any other, authMethodNotSupported for another method
+abbrev pub auth_code : List ℕ → Auth → ℕ
+auth_code name (Other tag) = 7
+auth_code [] (Simple []) = 0
+auth_code [] (Simple (octet ∷ octets)) = 53
+auth_code (letter ∷ letters) (Simple password) = 53
+
+-- protocolError for a version other than 3
+abbrev pub bind_code : BindRequest → ℕ
+bind_code b = if b.version == 3 then auth_code b.name b.auth else 2
+
+-- protocolError for an extended operation, unwillingToPerform for any other that isn't built yet
+abbrev pub unbuilt_code : ℕ → ℕ
+unbuilt_code tag = if tag == 0x77 then 2 else 53
+
+-- the reply to a request, with unwillingToPerform where controls follow it; none to an unbind or an abandon
+abbrev pub reply_to : Bool → Request → Option Reply
+reply_to marked (request.Bind b) = Some (reply.Bind (coded (if marked then 53 else bind_code b)))
+reply_to marked request.Unbind = None
+reply_to marked (request.Abandon id) = None
+reply_to marked (request.Unbuilt tag) = Some (response_to tag (coded (if marked then 53 else unbuilt_code tag)))
+
+-- an unbind closes
+abbrev pub is_unbind : Request → Bool
+is_unbind request.Unbind = true
+is_unbind (request.Bind b) = false
+is_unbind (request.Abandon id) = false
+is_unbind (request.Unbuilt tag) = false
+
+-- who the requester is after a request: a bind makes it anonymous
+abbrev pub requester_after : Requester → Request → Requester
+requester_after who (request.Bind b) = Anonymous
+requester_after who request.Unbind = who
+requester_after who (request.Abandon id) = who
+requester_after who (request.Unbuilt tag) = who
+
+-- the octets of a reply, if there is one
+abbrev pub octets_of : ℕ → Option Reply → List ℕ
+octets_of id None = []
+octets_of id (Some r) = reply_octets id r
+
+-- the answer to a message, or to octets that are none: these get the notice of disconnection, and the connection closes
+abbrev pub answer_read : {T : Type 0} → T → Requester → Option Message → Answered T Requester
+answer_read t who None = record { replies = notice_octets; tree = t; who = who; closes = true }
+answer_read t who (Some m) =
+    record {
+      replies = octets_of m.id (reply_to m.marked m.request);
+      tree = t;
+      who = requester_after who m.request;
+      closes = is_unbind m.request;
+    }
+
+-- nothing is served yet
+abbrev pub Tree : Type 0
+Tree = Unit {0}
+
+-- the rules of this server
+unfoldable pub rules : Rules Tree Requester
+rules = record { nobody = Anonymous; answer = λ t who bytes. answer_read t who (message_of bytes) }

@@ -1,0 +1,65 @@
+-- What a loop over a link adds to the link's journal, and what it answers when it ends.
+use Rattle.std.specs.Prelude.{◌≡◌, ◌<◌, ◌≤◌, ℕ, true, false, List, [], ◌++◌, length, Option, Some, None}
+use Rattle.plain_values.specs.Counts.{Rose, NeverFalls}
+use Rattle.wire_io.specs.declared.journal.Item.{Item}
+use Rattle.wire_io.specs.Journal.{heard, was_stopped, is_held}
+use Rattle.wire_io.specs.Plan.{Plan}
+use Rattle.wire_io.specs.Pieces.{Plays, steps_of}
+use Rattle.session_model.specs.Journaled.{all_taken}
+use Rattle.session_model.specs.Serving.{Sound, Served}
+use Rattle.session_model.specs.Replaying.{IsReplay}
+use Rattle.session_hub.specs.declared.ended.Ended.{Ended}
+use Rattle.session_hub.specs.declared.ended.Ended.TheVariants.{Stopped, TurnsSpent, LinkFault, NoMemory}
+use Rattle.session_hub.specs.Answering.{rules}
+
+-- the length of the loop's buffer
+abbrev pub buffer_length : ℕ
+buffer_length = 65536
+
+-- each answer and the events heard: Stop was heard exactly with Stopped, and as many events as there are turns with TurnsSpent
+abbrev pub EndsAt : ℕ → List Item → Ended → Type 0
+EndsAt turns told Stopped = (was_stopped told ≡ true) × (length (heard told) ≤ turns)
+EndsAt turns told TurnsSpent = (was_stopped told ≡ false) × (length (heard told) ≡ turns)
+EndsAt turns told LinkFault = (was_stopped told ≡ false) × (length (heard told) < turns)
+EndsAt turns told NoMemory = (was_stopped told ≡ false) × (length (heard told) ≤ turns)
+
+-- the journal serves its connections from nothing, and is that of its events replayed; with want of memory its last
+-- block may be unfinished
+abbrev pub ServedAs : List Item → Ended → Type 0
+ServedAs told Stopped = Served rules tt told × IsReplay rules tt told
+ServedAs told TurnsSpent = Served rules tt told × IsReplay rules tt told
+ServedAs told LinkFault = Served rules tt told × IsReplay rules tt told
+ServedAs told NoMemory = Sound rules tt told
+
+-- what a link that tells its journal did in a loop of so many turns: the answer is the one that its events have and,
+-- where each write was answered by taking octets, its connections were served
+unfoldable pub Serves : ℕ → Option (List Item) → Ended → Option (List Item) → Type 0
+Serves turns before ended after =
+    (start : List Item) → before ≡ Some start →
+    (told : List Item) × (after ≡ Some (start ++ told)) × EndsAt turns told ended × (all_taken told ≡ true → ServedAs told ended)
+
+-- a link that plays a plan: the events heard brought the plan on, to its end with Stopped; where no calls are planned
+-- that take nothing, each write took octets; where no connection was on hold, each event but Stop brought the plan on
+pub record PlayedOut (turns : ℕ) (start told : List Item) (plan left : Plan) (ended : Ended) : Type 0 where
+  pub plays : Plays buffer_length plan.to_come (heard told) left.to_come
+  pub over : ended ≡ Stopped → left.to_come ≡ []
+  pub taken : plan.later ≡ [] → plan.gone ≡ [] → all_taken told ≡ true
+  pub steps : ((c : ℕ) → is_held c start ≡ false) → ended ≡ TurnsSpent → length (steps_of (heard told)) ≡ turns
+
+-- the same of any plan and journal that the link tells
+unfoldable pub PlaysOut : ℕ → Option (List Item) → Option Plan → Ended → Option (List Item) → Option Plan → Type 0
+PlaysOut turns before plan_before ended after plan_after =
+    (start told : List Item) (plan : Plan) → before ≡ Some start → after ≡ Some (start ++ told) → plan_before ≡ Some plan →
+    (left : Plan) × (plan_after ≡ Some left) × PlayedOut turns start told plan left ended
+
+-- a link that plays a plan fails only where a failing call is planned
+abbrev pub MayFail : Option Plan → Type 0
+MayFail None = Unit {0}
+MayFail (Some plan) = plan.failing ≡ [] → ⊥
+
+-- a fault of the link comes only where its count of faults rose, and never where a plan has no failing calls
+unfoldable pub EndsFor : Option Plan → ℕ → ℕ → Ended → Type 0
+EndsFor plan before after LinkFault = Rose before after × MayFail plan
+EndsFor plan before after Stopped = NeverFalls before after
+EndsFor plan before after TurnsSpent = NeverFalls before after
+EndsFor plan before after NoMemory = NeverFalls before after

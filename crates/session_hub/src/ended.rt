@@ -1,0 +1,14 @@
+//! How a loop ends.
+
+/// Why a loop over a link ended.
+#[derive(Clone, Copy, Debug, PartialEq, Eq)]
+pub enum Ended {
+    /// The link gave Stop.
+    Stopped,
+    /// As many events were heard as there were turns, and none was Stop.
+    TurnsSpent,
+    /// The link's `next` failed, and its count of faults rose.
+    LinkFault,
+    /// There was no memory.
+    NoMemory,
+}

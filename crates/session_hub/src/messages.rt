@@ -1,0 +1,152 @@
+//! The answer to one message.
+
+ghost use Rattle.std.specs.Prelude.{◌≡◌, ◌++◌, length, IfOk, OnOk, OnErr, Some, None};
+ghost use Rattle.ldap_msg.specs.Streams.{frame_at};
+ghost use Rattle.session_hub.specs.Answering.{rules, reply_to as reply_of, response_to as response_of, bind_code as code_of, is_unbind, requester_after, octets_of, answer_read, coded};
+ghost use Rattle.session_hub.specs.Answers.{Gives};
+
+use crate::{Outcome, Requester};
+use ldap_msg::{
+    Auth, BindRequest, Frame, LdapResult, Message, ReadFault, Reply, Request, put_notice,
+    put_reply, read_request,
+};
+use plain_values::Octets;
+use std::alloc::{AllocError, Global};
+
+fn result_of(alloc: Global, code: u8) -> LdapResult
+    ensures { result ≡ coded code }
+{
+    LdapResult {
+        code,
+        matched: Octets::from_vec(Vec::new(alloc)),
+    }
+}
+
+fn bind_code(request: &BindRequest) -> u8
+    ensures { result ≡ code_of request.now }
+{
+    if request.version != 3 {
+        return 2;
+    }
+    match &request.auth {
+        Auth::Other(_) => 7,
+        Auth::Simple(password) => {
+            if request.name.is_empty() && password.is_empty() {
+                0
+            } else {
+                53
+            }
+        }
+    }
+}
+
+fn response_to(tag: u8, outcome: LdapResult) -> Reply
+    ensures { result ≡ response_of tag outcome }
+{
+    match tag {
+        0x63 => Reply::Done(outcome),
+        0x66 => Reply::Modify(outcome),
+        0x68 => Reply::Add(outcome),
+        0x4a => Reply::Delete(outcome),
+        0x6c => Reply::Rename(outcome),
+        0x6e => Reply::Compare(outcome),
+        _ => Reply::Extended(outcome, None, None),
+    }
+}
+
+fn reply_to(alloc: Global, message: &Message) -> Option<Reply>
+    ensures { result ≡ reply_of message.now.marked message.now.request }
+{
+    match &message.request {
+        Request::Unbind | Request::Abandon(_) => None,
+        Request::Bind(request) => {
+            let code = if message.marked {
+                53
+            } else {
+                bind_code(request)
+            };
+            Some(Reply::Bind(result_of(alloc, code)))
+        }
+        Request::Unbuilt(tag) => {
+            let code = if message.marked || *tag != 0x77 {
+                53
+            } else {
+                2
+            };
+            Some(response_to(*tag, result_of(alloc, code)))
+        }
+    }
+}
+
+fn who_after(who: Requester, request: &Request) -> Requester
+    ensures { result ≡ requester_after who request.now }
+{
+    match request {
+        Request::Bind(_) => Requester::Anonymous,
+        _ => who,
+    }
+}
+
+fn closes_after(request: &Request) -> bool
+    ensures { result ≡ is_unbind request.now }
+{
+    matches!(request, Request::Unbind)
+}
+
+fn put_answer(alloc: Global, message: &Message, out: &mut Vec<u8>) -> Result<(), AllocError>
+    ensures ok { OnOk result (out.new.items ≡ out.old.items
+        ++ octets_of message.now.id (reply_of message.now.marked message.now.request)) }
+    ensures err { OnErr result (out.new.items ≡ out.old.items) }
+{
+    match reply_to(alloc, message) {
+        None => Ok(()),
+        Some(reply) => put_reply(out, message.id, &reply),
+    }
+}
+
+#[tactic(auto, unfolding(crate::specs::Answering::rules))]
+fn answer_message(
+    alloc: Global,
+    who: Requester,
+    message: &Message,
+    out: &mut Vec<u8>,
+) -> Result<Outcome, AllocError>
+    ensures ok { IfOk result (λ outcome. Gives (answer_read tt who (Some message.now)) out.old.items out.new.items outcome) }
+    ensures err { OnErr result (out.new.items ≡ out.old.items) }
+{
+    put_answer(alloc, message, out)?;
+    Ok(Outcome {
+        who: who_after(who, &message.request),
+        closes: closes_after(&message.request),
+    })
+}
+
+#[tactic(auto, unfolding(crate::specs::Answering::rules))]
+fn refuse_octets(who: Requester, out: &mut Vec<u8>) -> Result<Outcome, AllocError>
+    ensures ok { IfOk result (λ outcome. Gives (answer_read tt who None) out.old.items out.new.items outcome) }
+    ensures err { OnErr result (out.new.items ≡ out.old.items) }
+{
+    put_notice(out)?;
+    Ok(Outcome { who, closes: true })
+}
+
+/// Answers the octets of one message for the requester, and appends the reply, if there is one
+/// (RFC 4511 4.1.1). Octets that are no message get the notice of disconnection (4.4.1).
+/// `AllocError` comes for want of memory alone, and then nothing was appended.
+#[tactic(auto, unfolding(crate::specs::Answering::rules))]
+pub fn answer(
+    alloc: Global,
+    who: Requester,
+    bytes: &[u8],
+    out: &mut Vec<u8>,
+) -> Result<Outcome, AllocError>
+    requires { frame_at bytes.now ≡ Frame.Whole (length bytes.now) }
+    ensures ok { IfOk result (λ outcome. Gives (rules.answer tt who bytes.now) out.old.items out.new.items outcome) }
+    ensures err { OnErr result (out.new.items ≡ out.old.items) }
+{
+    match read_request(alloc, bytes) {
+        Ok(message) => answer_message(alloc, who, &message, out),
+        Err(ReadFault::NoMemory) => Err(AllocError),
+        Err(ReadFault::BadMessage) => refuse_octets(who, out),
+    }
+}

@@ -1,0 +1,11 @@
+pub mod KeptLemmas
+pub mod HeldLemmas
+pub mod KeepingLemmas
+pub mod BytesLemmas
+pub mod JournalLemmas
+pub mod StepLemmas
+pub mod CalmLemmas
+pub mod EventLemmas
+pub mod BlockLemmas
+pub mod SpeechLemmas
+pub mod Theorems

@@ -1,0 +1,35 @@
+-- What the crates above may cite.
+use Rattle.std.proofs.Common.{◌≡◌, ℕ, [], refl, arith}
+use Rattle.session_model.specs.Rules.{Rules}
+use Rattle.session_model.specs.Run.{Sessions, Step, Opened, Bytes, Ended, Gone, HungUp, step, start, held_numbers}
+use Rattle.session_model.specs.Kept.{Held, heard}
+use Rattle.session_model.specs.Keeping.{Keeps, IsNew}
+use Rattle.session_model.proofs.KeepingLemmas.{Keeps-opened, Keeps-left}
+use Rattle.session_model.proofs.BytesLemmas.{Keeps-bytes, Keeps-ended}
+-- queues and what closes, by number
+pub use Rattle.session_model.proofs.KeptLemmas.{queue_in, closing_in, queue_of_is, closing_of_is, kept_of-number, kept_of-changed, number-changed, kept_of-forgotten, kept_of-append}
+-- octets taken of a queue keep what is held true to its sessions
+pub use Rattle.session_model.proofs.KeepingLemmas.{Keeps-taken, length-kept}
+-- what is said to a stream, message by message
+pub use Rattle.session_model.proofs.SpeechLemmas.{speech-whole, speech-more, speech-bad}
+-- from block to block
+pub use Rattle.session_model.proofs.CalmLemmas.{calm_start, calm_served, calm_replay}
+pub use Rattle.session_model.proofs.EventLemmas.{calm_bytes, calm_ended, calm_opened, calm_idle}
+pub use Rattle.session_model.proofs.BlockLemmas.{busy_queue, busy_taken, busy_done, busy_hung_up, opening_calm, opening_hung_up}
+pub use Rattle.session_model.proofs.JournalLemmas.{all_taken-append, heard-append, heard-taken, heard-hung_up, heard-later, heard-gone, was_opened-append}
+
+-- what is held stays true to its sessions at each step that opens no number twice
+pub Keeps-step : {T W : Type 0} (r : Rules T W) (u : Sessions T W) (taken : ℕ → ℕ) (h : Held T W) (s : Step) → IsNew u s → Keeps u taken h →
+    Keeps (step r u s) taken (heard r s h)
+unfolding heard step
+Keeps-step r u taken h (Opened c) new keeps = Keeps-opened r u taken h c keeps new
+Keeps-step r u taken h (Bytes c piece) new keeps = Keeps-bytes r u taken h c piece keeps
+Keeps-step r u taken h (Ended c) new keeps = Keeps-ended r u taken h c keeps
+Keeps-step r u taken h (Gone c) new keeps = Keeps-left r u taken h c keeps
+Keeps-step r u taken h (HungUp c) new keeps = Keeps-left r u taken h c keeps
+
+-- nothing is held before any step
+pub Keeps-start : {T W : Type 0} (r : Rules T W) (t : T) (taken : ℕ → ℕ) → ((c : ℕ) → taken c ≡ 0) → Keeps (start r t) taken (record { tree = t; kept = [] })
+unfolding start held_numbers
+Keeps-start r t taken none =
+    record { tree = refl; numbers = refl; each = λ c. refl; within = λ c. (let zero_c : taken c ≡ 0 = none c in omega arith); unopened = λ c _. (refl, refl) }

@@ -1,0 +1,6 @@
+//! Sessions over streams: what is answered to whom, what a server keeps of it, and when a journal serves it.
+#![tactic(auto)]
+
+mod laws;
+
+pub use laws::{keeps_each_step, keeps_each_taking};
