@@ -9,3 +9,4 @@ pub mod ServingLemmas
 pub mod HeardLemmas
 pub mod LoopLemmas
 pub mod PlayLemmas
+pub mod Examples

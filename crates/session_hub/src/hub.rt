@@ -7,8 +7,9 @@ ghost use Rattle.session_hub.specs.Hubs.{held_after, IsBounded};
 ghost use Rattle.session_hub.specs.Following.{FollowsStep, FollowsTaking, QueuesReply, ClosesWith, CountsHeld};
 ghost use Rattle.session_hub.specs.Events.{step_of};
 
+use crate::Event;
+use crate::connection::Connection;
 use crate::places::{closing_at, end_at, forget_at, hear_at, is_at, queue_at, take_off};
-use crate::{Connection, Event};
 use std::alloc::{AllocError, Global};
 use std::marker::Model;
 

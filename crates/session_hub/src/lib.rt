@@ -13,13 +13,8 @@ mod serve;
 mod serving;
 mod stream;
 
-pub use connection::Connection;
 pub use ended::Ended;
 pub use event::Event;
 pub use hub::{Hub, MAX_CONNECTIONS};
-pub use messages::answer;
-pub use outcome::Outcome;
 pub use requester::Requester;
-pub use serve::{BUFFER_LENGTH, serve_event, serve_loop};
-pub use serving::{finish, greet, hear_and_finish, send_queue};
-pub use stream::{Spoken, speak};
+pub use serve::{BUFFER_LENGTH, serve_loop};

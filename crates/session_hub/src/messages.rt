@@ -5,7 +5,8 @@ ghost use Rattle.ldap_msg.specs.Streams.{frame_at};
 ghost use Rattle.session_hub.specs.Answering.{rules, reply_to as reply_of, response_to as response_of, bind_code as code_of, is_unbind, requester_after, octets_of, answer_read, coded};
 ghost use Rattle.session_hub.specs.Answers.{Gives};
 
-use crate::{Outcome, Requester};
+use crate::Requester;
+use crate::outcome::Outcome;
 use ldap_msg::{
     Auth, BindRequest, Frame, LdapResult, Message, ReadFault, Reply, Request, put_notice,
     put_reply, read_request,

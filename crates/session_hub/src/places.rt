@@ -5,7 +5,7 @@ ghost use Rattle.session_model.specs.Kept.{kept_of, is_kept, queue_of, closing_o
 ghost use Rattle.session_model.specs.Run.{Bytes};
 ghost use Rattle.session_hub.specs.Hubs.{IsAt, IsBounded, held_after};
 
-use crate::Connection;
+use crate::connection::Connection;
 use std::alloc::{AllocError, Global};
 
 /// The place of the first connection with the number.

@@ -3,8 +3,9 @@
 ghost use Rattle.std.specs.Prelude.{◌≤◌, length, IfOk, OnErr};
 ghost use Rattle.session_hub.specs.Answers.{Speaks};
 
+use crate::Requester;
 use crate::messages::answer;
-use crate::{Outcome, Requester};
+use crate::outcome::Outcome;
 use ldap_msg::{Frame, frame, put_notice};
 use std::alloc::{AllocError, Global};
 

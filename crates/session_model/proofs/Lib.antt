@@ -9,3 +9,4 @@ pub mod EventLemmas
 pub mod BlockLemmas
 pub mod SpeechLemmas
 pub mod Theorems
+pub mod Examples

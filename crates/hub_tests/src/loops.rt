@@ -1,0 +1,32 @@
+//! The loop over the events of a script.
+
+use session_hub::{Ended, serve_loop};
+use std::test::Fail;
+use wire_io::ScriptLink;
+
+/// Two connections: one binds anonymously and unbinds, one sends octets that begin no message.
+const SCRIPT: &str =
+    "open 1\nopen 2\nsend 2 31\nsend 1 300c0201016007\nsend 1 0201030400800030050201024200\n";
+
+/// The answer to the bind.
+const BOUND: &[u8] = b"\x30\x0c\x02\x01\x01\x61\x07\x0a\x01\x00\x04\x00\x04\x00";
+
+#[test]
+fn each_connection_gets_its_own_answers(rt: HostRuntime) -> Result<(), Fail> {
+    let mut link = ScriptLink::read(rt.alloc(), SCRIPT.as_bytes())?;
+    assert_eq!(rt; serve_loop(rt.alloc(), &mut link, 100), Ended::Stopped);
+    assert_eq!(rt; link.said_of(1), BOUND);
+    assert_eq!(rt; link.hung_up(1), true, "after the unbind");
+    assert_eq!(rt; link.hung_up(2), true, "after the notice");
+    assert_eq!(rt; link.said_of(2).len() > 0, true);
+    Ok(())
+}
+
+#[test]
+fn the_loop_ends_where_its_turns_are_spent(rt: HostRuntime) -> Result<(), Fail> {
+    let mut link = ScriptLink::read(rt.alloc(), SCRIPT.as_bytes())?;
+    assert_eq!(rt; serve_loop(rt.alloc(), &mut link, 4), Ended::TurnsSpent);
+    assert_eq!(rt; link.said_of(1).len(), 0, "the bind is not whole yet");
+    assert_eq!(rt; link.hung_up(2), true);
+    Ok(())
+}
