@@ -1,0 +1,5 @@
+pub mod GrammarLemmas
+pub mod DerivativeLemmas
+pub mod MachineLemmas
+pub mod Theorems
+pub mod Examples
