@@ -1,0 +1,2 @@
+pub mod MachineOfNames
+pub mod Examples
