@@ -3,4 +3,5 @@
 
 mod classes;
 mod modes;
+mod octets;
 mod scan;

@@ -1,4 +1,5 @@
 pub mod GrammarLemmas
+pub mod WithinLemmas
 pub mod DerivativeLemmas
 pub mod MachineLemmas
 pub mod Theorems

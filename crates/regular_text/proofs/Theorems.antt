@@ -1,16 +1,23 @@
 -- What crates above may cite of regular grammars and their machines.
-use Rattle.std.proofs.Common.{◌≡◌, ℕ, List, ◌∷◌, Some, None, subst, arith}
+use Rattle.std.proofs.Common.{◌≡◌, ℕ, ◌+◌, Bool, true, List, [], ◌∷◌, Option, Some, None, subst, arith}
 use Rattle.std.specs.Prelude.{◌↔◌, MatchOption}
-use Rattle.regular_text.specs.Grammar.{Grammar, Matches}
-use Rattle.regular_text.specs.Derivative.{after}
+use Rattle.std.specs.List.{AllByRecursion}
+use Rattle.regular_text.specs.Grammar.{Grammar, Matches, IsWithin}
+use Rattle.regular_text.specs.Derivative.{after, has_empty}
 use Rattle.regular_text.specs.Place.{IsPlace, IsLongestFront, HasNoFront}
 use Rattle.regular_text.specs.Machine.{Machine, fault_at, reach, front, IsMachineOf}
+use Rattle.regular_text.proofs.GrammarLemmas.{matches-nil, has_empty-matches}
+use Rattle.regular_text.proofs.WithinLemmas.{matches-all}
 use Rattle.regular_text.proofs.DerivativeLemmas.{matches-cons, matches-after}
 use Rattle.regular_text.proofs.MachineLemmas.{no_fault-reads, reads-no_fault, fault_at-reach, reach-place, front-longest}
 
 -- a text follows an octet in the derivative exactly where both together are in the grammar
 pub after-Matches : {K : Type 0} (class : ℕ → K) (grammar : Grammar K) (x : ℕ) (text : List ℕ) → Matches class (after (class x) grammar) text ↔ Matches class grammar (x ∷ text)
 after-Matches class grammar x text = (matches-cons class grammar x text, matches-after class grammar x text)
+
+-- has_empty says whether the empty text is in the grammar
+pub has_empty-Matches : {K : Type 0} (class : ℕ → K) (grammar : Grammar K) → (has_empty grammar ≡ true) ↔ Matches class grammar []
+has_empty-Matches class grammar = (matches-nil class grammar, has_empty-matches class grammar)
 
 -- a machine finds no fault exactly in the texts of its grammar
 pub fault_at-None : {K M : Type 0} (machine : Machine K M) (grammar_of : M → Grammar K) → IsMachineOf machine grammar_of → (text : List ℕ) (place : ℕ) (mode : M) → (fault_at machine place text mode ≡ None) ↔ Matches machine.class (grammar_of mode) text
@@ -44,3 +51,7 @@ IsLongestFront-unique P text one other a b =
     let low = b.longest one a.within a.found in
     let high = a.longest other b.within b.found in
     omega (arith, low, high)
+
+-- each octet of a text of a grammar is of a class that the grammar names
+pub Matches-AllByRecursion : {K : Type 0} (class : ℕ → K) (passes : K → Bool) (grammar : Grammar K) (text : List ℕ) → IsWithin passes grammar → Matches class grammar text → AllByRecursion (λ x. passes (class x) ≡ true) text
+Matches-AllByRecursion class passes grammar text within m = matches-all class passes grammar text within m

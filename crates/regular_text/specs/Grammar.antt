@@ -19,3 +19,12 @@ Matches class (One test) text = (x : ℕ) × (text ≡ x ∷ []) × (test (class
 Matches class (Either a b) text = Matches class a text ⊎ Matches class b text
 Matches class (Then a b) text = (front : List ℕ) × (rest : List ℕ) × (text ≡ front ++ rest) × Matches class a front × Matches class b rest
 Matches class (Many a) text = (parts : List (List ℕ)) × (text ≡ concat parts) × AllByRecursion (Matches class a) parts
+
+-- each octet that the grammar admits is of a class that passes
+abbrev pub IsWithin : {K : Type 0} → (K → Bool) → Grammar K → Type 0
+IsWithin passes Never = Unit {0}
+IsWithin passes Nothing = Unit {0}
+IsWithin {K} passes (One test) = (k : K) → test k ≡ true → passes k ≡ true
+IsWithin passes (Either a b) = IsWithin passes a × IsWithin passes b
+IsWithin passes (Then a b) = IsWithin passes a × IsWithin passes b
+IsWithin passes (Many a) = IsWithin passes a

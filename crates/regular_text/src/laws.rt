@@ -1,7 +1,8 @@
 //! The laws of grammars and machines.
 
-ghost use Rattle.std.specs.Prelude.{◌≡◌, ℕ, ◌↔◌, List, ◌∷◌, Some, None, MatchOption};
-ghost use Rattle.regular_text.specs.Grammar.{Grammar, Matches};
+ghost use Rattle.std.specs.Prelude.{◌≡◌, ℕ, ◌↔◌, Bool, true, List, ◌∷◌, Some, None, MatchOption};
+ghost use Rattle.std.specs.List.{AllByRecursion};
+ghost use Rattle.regular_text.specs.Grammar.{Grammar, Matches, IsWithin};
 ghost use Rattle.regular_text.specs.Derivative.{after};
 ghost use Rattle.regular_text.specs.Place.{IsPlace, IsLongestFront, HasNoFront};
 ghost use Rattle.regular_text.specs.Machine.{Machine, fault_at, front, IsMachineOf};
@@ -37,4 +38,11 @@ pub fn place_is_unique<K>()
     ensures { (class : ℕ → K) (grammar : Grammar K) (text : List ℕ) (one other : ℕ)
         → IsPlace (Matches class grammar) text one → IsPlace (Matches class grammar) text other
         → one ≡ other }
+{}
+
+/// Each octet of a text of a grammar is of a class that the grammar names.
+pub fn octets_are_within<K>()
+    ensures { (class : ℕ → K) (passes : K → Bool) (grammar : Grammar K) (text : List ℕ)
+        → IsWithin passes grammar → Matches class grammar text
+        → AllByRecursion (λ x. passes (class x) ≡ true) text }
 {}

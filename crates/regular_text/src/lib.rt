@@ -7,4 +7,6 @@
 
 mod laws;
 
-pub use laws::{derivative_is_exact, front_is_longest, machine_is_exact, place_is_unique};
+pub use laws::{
+    derivative_is_exact, front_is_longest, machine_is_exact, octets_are_within, place_is_unique,
+};
