@@ -6,3 +6,4 @@ pub mod ValueLemmas
 pub mod PairLemmas
 pub mod SpelledInGrammar
 pub mod GrammarIsSpelled
+pub mod OctetsLemmas

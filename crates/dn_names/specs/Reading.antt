@@ -4,6 +4,8 @@ use Rattle.std.specs.Char.{digit_value}
 use Rattle.std.specs.List.{prefix_len, list_all, take_while}
 use Rattle.dn_names.specs.declared.octets.Reading.{Reading}
 use Rattle.dn_names.specs.declared.octets.Reading.TheVariants.{Plain, Escaped, HalfByte}
+use Rattle.dn_names.specs.declared.octets.Piece.{Piece}
+use Rattle.dn_names.specs.declared.octets.Piece.TheVariants.{Within, BareSpace, Octet}
 use Rattle.dn_names.specs.Classes.{class_of, is_hex}
 use Rattle.dn_names.specs.Spelling.{WrittenPair}
 
@@ -36,6 +38,12 @@ mark_from mark escaped [] = 0
 mark_from mark escaped (x ∷ xs) =
     if is_mark mark escaped x then 0 else suc (mark_from mark (escapes_next escaped x) xs)
 
+-- how many marks there are
+abbrev pub marks_from : ℕ → Bool → List ℕ → ℕ
+marks_from mark escaped [] = 0
+marks_from mark escaped (x ∷ xs) =
+    if is_mark mark escaped x then suc (marks_from mark false xs) else marks_from mark (escapes_next escaped x) xs
+
 -- the text without the spaces at its front
 abbrev pub without_spaces : List ℕ → List ℕ
 without_spaces [] = []
@@ -57,6 +65,13 @@ spaced (x ∷ xs) = 32 ∷ x ∷ xs
 -- what a hexadecimal digit stands for
 abbrev pub hex_value : ℕ → ℕ
 hex_value octet = digit_value octet % 16
+
+-- what an octet of a value's text is: within an escape, a bare space, or an octet of the value
+abbrev pub piece_of : Reading → ℕ → Piece
+piece_of Plain octet =
+    if octet == 92 then Within Escaped else if octet == 32 then BareSpace else Octet octet
+piece_of Escaped octet = if is_hex (class_of octet) then Within (HalfByte (16 * hex_value octet)) else Octet octet
+piece_of (HalfByte high) octet = Octet ((high + hex_value octet) % 256)
 
 -- a value's octets: escapes read, bare spaces at the end skipped
 abbrev pub octets_from : Reading → List ℕ → List ℕ
