@@ -4,4 +4,5 @@
 mod classes;
 mod modes;
 mod octets;
+mod parts;
 mod scan;
