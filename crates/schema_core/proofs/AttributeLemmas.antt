@@ -1,0 +1,32 @@
+-- What the program's rows find is what the table of attribute types has.
+use Rattle.std.proofs.Common.{◌≡◌, ℕ, ◌<◌, List, map, find, option_map, position, Some, Fits, w8, ap, sym, ◌∙◌, arith}
+use Rattle.std.proofs.lemmas.Simd.{map-map}
+use Rattle.schema_core.specs.declared.kinds.Row.{Row}
+use Rattle.schema_core.specs.Attributes.{Attribute, attributes, attribute_of_row, attr_of}
+use Rattle.schema_core.specs.Naming.{Named, is_named, is_same_name}
+use Rattle.schema_core.specs.Oid.{named_attribute, oid_among}
+use Rattle.schema_core.proofs.TableLemmas.{position-map, position_within, oid_among_map}
+
+-- the first of the program's rows that a text names is the table's
+pub position-rows :
+    (rows : List Row) (text : List ℕ) → map attribute_of_row rows ≡ attributes
+    → position (λ row. is_named row.name.now row.oid.now text) rows ≡ attr_of text
+position-rows rows text same =
+    let names = λ (row : _). is_named row.name row.oid text in
+    sym (position-map names attribute_of_row rows) ∙ ap (position names) same
+
+-- the number of an attribute type fits one octet
+pub attr_of_fits : (text : List ℕ) (number : ℕ) → attr_of text ≡ Some number → Fits w8 number
+unfolding attributes
+attr_of_fits text number found =
+    let within : number < 35 = position_within (λ row. is_named row.name row.oid text) attributes number found in
+    omega arith
+
+-- the object identifier of the first of the program's rows that a text names is the table's
+pub oid_of_rows :
+    (rows : List Row) (text : List ℕ) → map attribute_of_row rows ≡ attributes
+    → option_map (λ row. row.oid.now) (find (λ row. is_same_name row.name.now text) rows)
+    ≡ oid_among (map named_attribute attributes) text
+oid_of_rows rows text same =
+    oid_among_map (λ row. named_attribute (attribute_of_row row)) rows text
+    ∙ ap (λ table. oid_among table text) (sym (map-map named_attribute attribute_of_row rows) ∙ ap (map named_attribute) same)

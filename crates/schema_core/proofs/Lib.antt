@@ -1,0 +1,12 @@
+mod TableLemmas
+mod AttributeLemmas
+mod ClassLemmas
+mod RoleLemmas
+mod OidLemmas
+mod NamingLemmas
+mod TableFacts
+mod HierarchyLemmas
+mod NormalLemmas
+mod DottedLemmas
+mod FoundLemmas
+pub mod Theorems

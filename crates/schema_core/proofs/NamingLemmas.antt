@@ -1,0 +1,97 @@
+-- A text names at most one of the rows that are distinct.
+use Rattle.std.proofs.Common.{◌≡◌, ℕ, zero, suc, ◌+◌, ◌<◌, Bool, true, false, cond, not, ◌&&◌, ◌||◌, ◌⊎◌, List, [], ◌∷◌, map, length, position, slice_get, Option, Some, None, nat_lt, refl, ap, sym, ◌∙◌, arith, inl, inr}
+use Rattle.std.proofs.lemmas.Bool.{or_cases}
+use Rattle.std.proofs.lemmas.Slice.Eq.{bytes_eq-Decides}
+use Rattle.std.specs.List.{prefix_len, position_or_len, list_any, list_all}
+use Rattle.std.specs.Str.{bytes_eq, str_to_ascii_lowercase as lower}
+use Rattle.schema_core.specs.Naming.{Named, is_same_name, is_named, are_alike, are_distinct}
+
+-- either side of a choice that is true makes it true
+pub or_left : (x y : Bool) → x ≡ true → (x || y) ≡ true
+or_left true y h = refl
+or_left false y h = cc
+
+pub or_right : (x y : Bool) → y ≡ true → (x || y) ≡ true
+or_right true y h = refl
+or_right false y h = h
+
+-- the name is the text but for case, as an equation
+pub same_name : (name text : List ℕ) → is_same_name name text ≡ true → lower name ≡ lower text
+same_name name text = (bytes_eq-Decides (lower name) (lower text)).0
+
+pub from_same_name : (name text : List ℕ) → lower name ≡ lower text → is_same_name name text ≡ true
+from_same_name name text = (bytes_eq-Decides (lower name) (lower text)).1
+
+-- rows that one text names are alike: by two names, two identifiers, or one of each
+alike-name-name :
+    (one other : Named) (text : List ℕ) → is_same_name one.name text ≡ true
+    → is_same_name other.name text ≡ true → are_alike one other ≡ true
+alike-name-name one other text first second =
+    or_left _ _ (or_left _ _ (or_left _ _
+    (from_same_name one.name other.name (same_name one.name text first ∙ sym (same_name other.name text second)))))
+
+alike-oid-oid :
+    (one other : Named) (text : List ℕ) → bytes_eq one.oid text ≡ true → bytes_eq other.oid text ≡ true
+    → are_alike one other ≡ true
+alike-oid-oid one other text first second =
+    or_left _ _ (or_left _ _ (or_right _ _
+    ((bytes_eq-Decides one.oid other.oid).1
+    ((bytes_eq-Decides one.oid text).0 first ∙ sym ((bytes_eq-Decides other.oid text).0 second)))))
+
+alike-name-oid :
+    (one other : Named) (text : List ℕ) → is_same_name one.name text ≡ true → bytes_eq other.oid text ≡ true
+    → are_alike one other ≡ true
+alike-name-oid one other text first second =
+    or_left _ _ (or_right _ _
+    (from_same_name one.name other.oid
+    (same_name one.name text first ∙ ap lower (sym ((bytes_eq-Decides other.oid text).0 second)))))
+
+alike-oid-name :
+    (one other : Named) (text : List ℕ) → bytes_eq one.oid text ≡ true → is_same_name other.name text ≡ true
+    → are_alike one other ≡ true
+alike-oid-name one other text first second =
+    or_right _ _
+    (from_same_name other.name one.oid
+    (same_name other.name text second ∙ ap lower (sym ((bytes_eq-Decides one.oid text).0 first))))
+
+-- the text names the row
+abbrev pub names_row : List ℕ → Named → Bool
+names_row text row = is_named row.name row.oid text
+
+pub alike :
+    (one other : Named) (text : List ℕ) → names_row text one ≡ true → names_row text other ≡ true
+    → are_alike one other ≡ true
+alike one other text first second =
+    elim (or_cases (is_same_name one.name text) (bytes_eq one.oid text) first) [
+      | inl name ↦ elim (or_cases (is_same_name other.name text) (bytes_eq other.oid text) second) [
+        | inl again ↦ alike-name-name one other text name again
+        | inr oid ↦ alike-name-oid one other text name oid
+      ]
+      | inr oid ↦ elim (or_cases (is_same_name other.name text) (bytes_eq other.oid text) second) [
+        | inl name ↦ alike-oid-name one other text oid name
+        | inr again ↦ alike-oid-oid one other text oid again
+      ]
+    ]
+
+-- an element that passes is among them
+pub list_any_get :
+    {X : Type 0} (p : X → Bool) (xs : List X) (n : ℕ) (x : X)
+    → slice_get xs n ≡ Some x → p x ≡ true → list_any p xs ≡ true
+list_any_get p [] n x there passes = cc
+list_any_get p (y ∷ ys) zero x there passes =
+    let same : y ≡ x = cc in or_left _ _ (ap p same ∙ passes)
+list_any_get p (y ∷ ys) (suc n) x there passes = or_right _ _ (list_any_get p ys n x there passes)
+
+-- both sides of a conjunction that is true are true
+pub and_true : (x y : Bool) → (x && y) ≡ true → (x ≡ true) × (y ≡ true)
+and_true true y both = (refl, both)
+and_true false y both = cc
+
+-- each element of a list that passes as a whole passes
+pub list_all_get :
+    {X : Type 0} (p : X → Bool) (xs : List X) (n : ℕ) (x : X)
+    → list_all p xs ≡ true → slice_get xs n ≡ Some x → p x ≡ true
+list_all_get p [] n x every there = cc
+list_all_get p (y ∷ ys) zero x every there =
+    let same : y ≡ x = cc in ap p (sym same) ∙ (and_true _ _ every).0
+list_all_get p (y ∷ ys) (suc n) x every there = list_all_get p ys n x (and_true _ _ every).1 there

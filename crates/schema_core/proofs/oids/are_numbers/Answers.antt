@@ -1,0 +1,15 @@
+-- The text is cut at its dots, and each part is tested.
+use Rattle.std.proofs.Common.{lit<, rules, tests}
+use Rattle.std.proofs.lemmas.Iterator.Search.{all_from_yields_List}
+use Rattle.std.proofs.lemmas.Iterator.Splits.{YieldsList-from_str_split}
+use Rattle.schema_core.specs.Oid.{is_number}
+use Rattle.schema_core.proofs.oids.are_numbers.Goals as goal
+
+pub returns : goal.returns
+returns c =
+    record {
+      exact =
+          all_from_yields_List is_number _ _ c.all.result c.all.ensures.ran
+          (YieldsList-from_str_split 46 c.args.text.now (lit< tt) c.split.ensures.text c.split.ensures.has_more c.split.ensures.pattern)
+          (λ x b q k. search (rules, tests));
+    }

@@ -1,0 +1,22 @@
+//! The directory schema of the server: attribute types, object classes and administrative roles, in
+//! fixed tables. No call takes memory.
+#![tactic(auto)]
+
+mod attributes;
+mod classes;
+mod kinds;
+mod laws;
+mod naming;
+mod numbers;
+mod oids;
+mod roles;
+
+pub use attributes::{attr, row};
+pub use classes::{allowed, class, class_kind, class_oid, required, superior};
+pub use kinds::{AttrId, ClassId, ClassKind, Row, Syntax};
+pub use laws::{
+    a_dotted_form_is_its_own, a_text_finds_the_row_that_it_names, classes_are_complete,
+    rows_are_distinct, the_dotted_form_is_its_grammar,
+};
+pub use numbers::constants_are_rows;
+pub use oids::oid_of;

@@ -1,0 +1,67 @@
+//! Object identifiers in dotted form (RFC 4512 section 1.4).
+ghost use Rattle.std.specs.Prelude.{◌≡◌, ◌==◌, ◌↔◌, IsTrue, length, option_map};
+ghost use Rattle.std.specs.Char.{is_ascii_digit};
+ghost use Rattle.std.specs.List.{list_all};
+ghost use Rattle.schema_core.specs.Oid.{is_number, is_dotted_oid, parts, names, oid_among, oid_of};
+
+use crate::attributes::attribute_oid_named;
+use crate::classes::class_oid_named;
+use crate::roles::role_oid_named;
+
+// Each octet is a digit.
+fn are_digits(octets: &[u8]) -> bool
+    ensures exact { result ≡ list_all is_ascii_digit octets.now }
+{
+    octets.iter().all(u8::is_ascii_digit)
+}
+
+// A decimal number without leading zeros.
+fn is_number(digits: &[u8]) -> bool
+    ensures exact { result ≡ is_number digits.now }
+{
+    !digits.is_empty() && are_digits(digits) && (digits.len() == 1 || digits[0] != b'0')
+}
+
+// Each part between the dots is a decimal number without leading zeros.
+fn are_numbers(text: &str) -> bool
+    ensures exact { result ≡ list_all is_number (parts text.now) }
+{
+    text.split('.').all(|part| is_number(part.as_bytes()))
+}
+
+// How many parts the dots make.
+fn part_count(text: &str) -> usize
+    ensures exact { result ≡ length (parts text.now) }
+{
+    text.split('.').count()
+}
+
+// At least two decimal numbers without leading zeros, joined by dots.
+#[tactic(auto, unfolding(crate::specs::Oid::is_dotted_oid))]
+fn is_dotted_oid(text: &str) -> bool
+    ensures exact { result ≡ is_dotted_oid text.now }
+{
+    part_count(text) >= 2 && are_numbers(text)
+}
+
+// The object identifier of the attribute type, class or role that the text names.
+fn oid_named(text: &str) -> Option<&'static str>
+    ensures exact { option_map (λ oid. oid.now) result ≡ oid_among names text.now }
+{
+    attribute_oid_named(text)
+        .or(class_oid_named(text))
+        .or(role_oid_named(text))
+}
+
+/// The object identifier in dotted form that a text stands for: that of the attribute type, class or
+/// role that it names without regard to ASCII case, or the text itself where it is a dotted object
+/// identifier, known or not. None exactly where it is neither.
+pub fn oid_of(text: &str) -> Option<&str>
+    ensures exact { option_map (λ oid. oid.now) result ≡ oid_of text.now }
+{
+    match oid_named(text) {
+        Some(oid) => Some(oid),
+        None if is_dotted_oid(text) => Some(text),
+        None => None,
+    }
+}
