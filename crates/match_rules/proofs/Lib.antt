@@ -1,0 +1,12 @@
+pub mod CutLemmas
+pub mod FoldingLemmas
+pub mod JoinLemmas
+pub mod KeysLemmas
+pub mod AsciiLemmas
+pub mod LawsLemmas
+pub mod LowerLemmas
+pub mod OrderLemmas
+pub mod SpaceLawLemmas
+pub mod SpacesLemmas
+pub mod SubstringsLemmas
+pub mod SyntaxesLemmas

@@ -1,0 +1,34 @@
+-- Keys of values: what two values must have alike to match.
+-- RFC 4518 prepares a text by its own tables. Here the preparation is NFKC, full case folding, NFKC, and then the
+-- spaces: the Unicode Standard's own caseless form stands for those tables. It maps no character to nothing and
+-- forbids none, so that it is a choice of this profile.
+use Rattle.std.specs.Prelude.{ℕ, Bool, ◌==◌, ◌||◌, not, List, filter, Option, Some, None, if◌then◌else◌}
+use Rattle.match_rules.specs.declared.rules.Rule.{Rule}
+use Rattle.match_rules.specs.declared.rules.Rule.TheVariants.{Text, Ascii, Phone, Country, Octets}
+use Rattle.match_rules.specs.Folding.{folded_octets}
+use Rattle.match_rules.specs.Spaces.{is_space, cut_and_joined}
+use Rattle.match_rules.specs.Syntaxes.{is_of}
+
+-- the octet separates groups of digits in a telephone number: a space or a hyphen
+abbrev pub is_separator : ℕ → Bool
+is_separator octet = is_space octet || octet == 0x2D
+
+-- the octets without separators
+abbrev pub without_separators : List ℕ → List ℕ
+without_separators = filter (λ octet. not (is_separator octet))
+
+-- a text in its folded form, its spaces cut at both ends and joined within
+unfoldable pub prepared_text : List ℕ → List ℕ
+prepared_text octets = cut_and_joined (folded_octets octets)
+
+-- what a rule compares of a value
+abbrev pub prepared : Rule → List ℕ → List ℕ
+prepared Text octets = prepared_text octets
+prepared Ascii octets = prepared_text octets
+prepared Phone octets = without_separators (prepared_text octets)
+prepared Country octets = prepared_text octets
+prepared Octets octets = octets
+
+-- the key of octets under a rule: none where they are not of the rule's syntax
+unfoldable pub key_of : Rule → List ℕ → Option (List ℕ)
+key_of rule octets = if is_of rule octets then Some (prepared rule octets) else None

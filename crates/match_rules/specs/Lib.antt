@@ -1,0 +1,11 @@
+-- what the contracts of public functions cite
+pub mod Keys
+pub mod Laws
+pub mod Parts
+pub mod Substrings
+pub mod Syntaxes
+-- what those definitions are made of
+pub mod Folding
+pub mod Spaces
+-- what the inside of the crate promises itself
+pub mod PartsInOrder
