@@ -7,3 +7,4 @@ pub mod PairLemmas
 pub mod SpelledInGrammar
 pub mod GrammarIsSpelled
 pub mod OctetsLemmas
+pub mod NameOrderLemmas

@@ -2,6 +2,10 @@
 pub mod Classes
 pub mod NameGrammar
 pub mod Spelling
+pub mod Names
+pub mod NameOrder
+pub mod Values
+pub mod Resolving
 -- what only this crate's inside promises itself
 pub mod Modes
 pub mod Reading

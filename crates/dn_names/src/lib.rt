@@ -2,7 +2,11 @@
 #![tactic(auto)]
 
 mod classes;
+mod error;
 mod modes;
+mod name;
 mod octets;
+mod order;
 mod parts;
 mod scan;
+mod value;
