@@ -8,3 +8,5 @@ pub mod SpelledInGrammar
 pub mod GrammarIsSpelled
 pub mod OctetsLemmas
 pub mod NameOrderLemmas
+pub mod PutPairLemmas
+pub mod NamingTextLemmas

@@ -3,10 +3,12 @@
 
 mod classes;
 mod error;
+mod keys;
 mod modes;
 mod name;
 mod octets;
 mod order;
 mod parts;
+mod resolve;
 mod scan;
 mod value;
