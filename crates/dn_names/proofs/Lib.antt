@@ -10,3 +10,4 @@ pub mod OctetsLemmas
 pub mod NameOrderLemmas
 pub mod PutPairLemmas
 pub mod NamingTextLemmas
+pub mod ResolveLemmas

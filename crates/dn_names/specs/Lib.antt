@@ -6,6 +6,7 @@ pub mod Names
 pub mod NameOrder
 pub mod Values
 pub mod Resolving
+pub mod NameText
 -- what only this crate's inside promises itself
 pub mod Modes
 pub mod Reading

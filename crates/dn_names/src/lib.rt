@@ -8,6 +8,7 @@ mod modes;
 mod name;
 mod octets;
 mod order;
+mod parse;
 mod parts;
 mod resolve;
 mod scan;

@@ -1,6 +1,6 @@
 //! The parts of a name's text: RDNs between commas, pairs between plus signs, a type and a value round `=`.
 
-ghost use Rattle.std.specs.Prelude.{◌≡◌, ◌≤◌, ◌<◌, suc, false, [], ◌∷◌, length, MatchOption, IfSome};
+ghost use Rattle.std.specs.Prelude.{◌≡◌, ◌≤◌, ◌<◌, ◌+◌, suc, false, [], ◌∷◌, length, MatchOption, IfSome};
 ghost use Rattle.dn_names.specs.Reading.{is_mark, escapes_next, parts_of, marks_from, mark_from, is_blank, word_of, kind_size, value_octets, pair_of};
 
 use crate::octets::skip_spaces;
@@ -64,7 +64,7 @@ fn mark_place(text: &[u8], mark: u8) -> usize
 pub(crate) fn cut(text: &[u8], mark: u8) -> (&[u8], Option<&[u8]>)
     ensures exact { MatchOption result.1 (parts_of mark text.now ≡ result.0.now ∷ [])
         (λ rest. parts_of mark text.now ≡ result.0.now ∷ parts_of mark rest.now) }
-    ensures fits { IfSome result.1 (λ rest. length rest.now < length text.now) }
+    ensures fits { IfSome result.1 (λ rest. length result.0.now + length rest.now < length text.now) }
 {
     let (front, rest) = text.split_at(mark_place(text, mark));
     if rest.is_empty() {

@@ -1,0 +1,102 @@
+//! Names from their texts.
+
+ghost use Rattle.std.specs.Prelude.{◌≡◌, ◌≤◌, ◌<◌, ◌+◌, ◌^◌, ◌==◌, nat_lt, [], length, map, Ok, Err, IfOk, IfErr, vec_len};
+ghost use Rattle.dn_names.specs.Names.{rdns_of};
+ghost use Rattle.dn_names.specs.Reading.{rdn_of, parts_of, written_of};
+ghost use Rattle.dn_names.specs.Resolving.{rdn_from, rdns_from, from_root, UnlessMemory};
+ghost use Rattle.dn_names.specs.NameText.{read_name, read_rdn};
+
+use crate::error::BadName;
+use crate::name::{Dn, Pair};
+use crate::parts::{count_marks, cut, is_blank};
+use crate::resolve::add;
+use crate::scan::fault_place;
+use std::alloc::Global;
+
+// The pairs of an RDN's text; the first of them has the number `first`.
+fn read_pairs(alloc: Global, text: &[u8], first: usize) -> Result<Vec<Pair>, BadName>
+    requires { first + length text.now < 2 ^ 64 }
+    ensures ok { IfOk result (λ pairs. rdn_from first [] (rdn_of text.now) ≡ Ok pairs.items) }
+    ensures len { IfOk result (λ pairs. vec_len pairs ≡ length (rdn_of text.now)) }
+    ensures part { IfErr result (λ e. UnlessMemory e (rdn_from first [] (rdn_of text.now) ≡ Err e)) }
+{
+    let mut pairs = Vec::new(alloc);
+    let mut index = first;
+    let mut rest = text;
+    'pairs: loop {
+        let (part, after) = cut(rest, b'+');
+        match add(alloc, &mut pairs, part, index) {
+            Ok(()) => {}
+            Err(error) => return Err(error),
+        }
+        match after {
+            Some(others) => {
+                index += 1;
+                rest = others;
+            }
+            None => return Ok(pairs),
+        }
+    }
+}
+
+// The RDNs of a name's text, in the text's order.
+fn read_rdns(alloc: Global, text: &[u8]) -> Result<Vec<Vec<Pair>>, BadName>
+    ensures ok { IfOk result (λ rdns. rdns_from 0 (map rdn_of (parts_of 44 text.now)) ≡ Ok (rdns_of rdns.items)) }
+    ensures part { IfErr result (λ e. UnlessMemory e (rdns_from 0 (map rdn_of (parts_of 44 text.now)) ≡ Err e)) }
+{
+    let mut rdns = Vec::new(alloc);
+    let mut index = 0;
+    let mut rest = text;
+    'rdns: loop {
+        let (part, after) = cut(rest, b',');
+        let pairs = match read_pairs(alloc, part, index) {
+            Ok(pairs) => pairs,
+            Err(error) => return Err(error),
+        };
+        let count = pairs.len();
+        rdns.push(pairs)?;
+        match after {
+            Some(others) => {
+                index += count;
+                rest = others;
+            }
+            None => return Ok(rdns),
+        }
+    }
+}
+
+// The name of a text of the outer grammar.
+#[tactic(auto, unfolding(crate::specs::Reading::written_of))]
+fn read_name(alloc: Global, text: &[u8]) -> Result<Dn, BadName>
+    ensures ok { IfOk result (λ name. from_root (rdns_from 0 (written_of text.now)) ≡ Ok name) }
+    ensures part { IfErr result (λ e. UnlessMemory e (from_root (rdns_from 0 (written_of text.now)) ≡ Err e)) }
+{
+    if is_blank(text) {
+        return Ok(Dn {
+            rdns: Vec::new(alloc),
+        });
+    }
+    match read_rdns(alloc, text) {
+        Ok(mut rdns) => {
+            rdns.reverse();
+            Ok(Dn { rdns })
+        }
+        Err(error) => Err(error),
+    }
+}
+
+// Whether a text of the outer grammar has more than 64 RDNs.
+#[tactic(auto, unfolding(crate::specs::Reading::written_of))]
+fn has_too_many(text: &[u8]) -> bool
+    ensures exact { result ≡ nat_lt 64 (length (written_of text.now)) }
+{
+    !is_blank(text) && count_marks(text, b',') >= 64
+}
+
+// Whether a text of the outer grammar has one RDN.
+#[tactic(auto, unfolding(crate::specs::Reading::written_of))]
+fn has_one(text: &[u8]) -> bool
+    ensures exact { result ≡ (length (written_of text.now) == 1) }
+{
+    !is_blank(text) && count_marks(text, b',') == 0
+}
