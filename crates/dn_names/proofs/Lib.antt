@@ -11,3 +11,4 @@ pub mod NameOrderLemmas
 pub mod PutPairLemmas
 pub mod NamingTextLemmas
 pub mod ResolveLemmas
+pub mod ParseLemmas

@@ -2,11 +2,11 @@
 use Rattle.std.specs.Prelude.{◌≡◌, ℕ, ◌<◌, List, length, Option, Some, None, Result, Ok, Err}
 use Rattle.regular_text.specs.Place.{IsPlace}
 use Rattle.dn_names.specs.declared.error.BadName.{BadName}
-use Rattle.dn_names.specs.declared.error.BadName.TheVariants.{Text}
+use Rattle.dn_names.specs.declared.error.BadName.TheVariants.{Text, Part, TooMany, NoMemory}
 use Rattle.dn_names.specs.Names.{RdnSequence}
 use Rattle.dn_names.specs.NameGrammar.{IsNameText}
 use Rattle.dn_names.specs.Spelling.{WrittenPair, SpellsName}
-use Rattle.dn_names.specs.Resolving.{resolve, resolve_rdn}
+use Rattle.dn_names.specs.Resolving.{resolve, resolve_rdn, UnlessMemory}
 use Rattle.dn_names.specs.Modes.{text_fault}
 use Rattle.dn_names.specs.Reading.{written_of}
 
@@ -29,6 +29,13 @@ pub record IsRefused (meaning : List (List WrittenPair) → Result RdnSequence B
   pub spells : SpellsName written octets
   pub refused : meaning written ≡ Err cause
 
+-- why the octets are no such name: the causes in the order in which they are tried
+abbrev pub NameCause : (List (List WrittenPair) → Result RdnSequence BadName) → List ℕ → BadName → Type 0
+NameCause meaning octets (Text place) = LeavesGrammar octets place
+NameCause meaning octets TooMany = IsRefused meaning octets TooMany
+NameCause meaning octets (Part index) = IsRefused meaning octets (Part index)
+NameCause meaning octets NoMemory = Unit {0}
+
 -- the same as a function: the fault of the text first, and then the meaning of what is written
 abbrev pub read_by : (List (List WrittenPair) → Result RdnSequence BadName) → Option ℕ → List ℕ → Result RdnSequence BadName
 read_by meaning (Some place) octets = Err (Text place)
@@ -39,3 +46,8 @@ read_name octets = read_by resolve (text_fault octets) octets
 
 unfoldable pub read_rdn : List ℕ → Result RdnSequence BadName
 read_rdn octets = read_by resolve_rdn (text_fault octets) octets
+
+-- what a call returned is what reading gives, unless memory ran out
+abbrev pub Gives : Result RdnSequence BadName → Result RdnSequence BadName → Type 0
+Gives (Ok name) read = read ≡ Ok name
+Gives (Err cause) read = UnlessMemory cause (read ≡ Err cause)

@@ -4,7 +4,8 @@ ghost use Rattle.std.specs.Prelude.{◌≡◌, ◌≤◌, ◌<◌, ◌+◌, ◌^
 ghost use Rattle.dn_names.specs.Names.{rdns_of};
 ghost use Rattle.dn_names.specs.Reading.{rdn_of, parts_of, written_of};
 ghost use Rattle.dn_names.specs.Resolving.{rdn_from, rdns_from, from_root, UnlessMemory};
-ghost use Rattle.dn_names.specs.NameText.{read_name, read_rdn};
+ghost use Rattle.dn_names.specs.Resolving.{resolve, resolve_rdn};
+ghost use Rattle.dn_names.specs.NameText.{NameText, RdnText, NameCause, Gives, read_name, read_rdn};
 
 use crate::error::BadName;
 use crate::name::{Dn, Pair};
@@ -12,6 +13,62 @@ use crate::parts::{count_marks, cut, is_blank};
 use crate::resolve::add;
 use crate::scan::fault_place;
 use std::alloc::Global;
+
+/// Reads a name (RFC 4514). A text of nothing but spaces is the name of no RDN.
+///
+/// The errors come in this order: `Text` for octets that are in no text of the outer grammar, `TooMany` for more
+/// than 64 RDNs, `Part` for the first pair, in the text's order, that is not good.
+pub fn parse(alloc: Global, octets: &[u8]) -> Result<Dn, BadName>
+    ensures ok { IfOk result (λ name. NameText name octets.now) }
+    ensures cause { IfErr result (λ error. NameCause resolve octets.now error) }
+    ensures exact { Gives result (read_name octets.now) }
+{
+    parse_by(alloc, octets)
+}
+
+/// Reads an RDN as a name of one RDN. `TooMany` comes for a text of none or of more than one; the other errors
+/// are those of `parse`.
+pub fn parse_rdn(alloc: Global, octets: &[u8]) -> Result<Dn, BadName>
+    ensures ok { IfOk result (λ name. RdnText name octets.now) }
+    ensures cause { IfErr result (λ error. NameCause resolve_rdn octets.now error) }
+    ensures exact { Gives result (read_rdn octets.now) }
+{
+    parse_rdn_by(alloc, octets)
+}
+
+// As `parse`, by the function of the text.
+#[tactic(auto, unfolding(crate::specs::NameText::read_name, crate::specs::Resolving::resolve))]
+fn parse_by(alloc: Global, octets: &[u8]) -> Result<Dn, BadName>
+    ensures exact { Gives result (read_name octets.now) }
+{
+    match fault_place(octets) {
+        Some(place) => Err(BadName::Text { place }),
+        None => {
+            if has_too_many(octets) {
+                Err(BadName::TooMany)
+            } else {
+                read_all(alloc, octets)
+            }
+        }
+    }
+}
+
+// As `parse_rdn`, by the function of the text.
+#[tactic(auto, unfolding(crate::specs::NameText::read_rdn, crate::specs::Resolving::resolve_rdn))]
+fn parse_rdn_by(alloc: Global, octets: &[u8]) -> Result<Dn, BadName>
+    ensures exact { Gives result (read_rdn octets.now) }
+{
+    match fault_place(octets) {
+        Some(place) => Err(BadName::Text { place }),
+        None => {
+            if has_one(octets) {
+                read_all(alloc, octets)
+            } else {
+                Err(BadName::TooMany)
+            }
+        }
+    }
+}
 
 // The pairs of an RDN's text; the first of them has the number `first`.
 fn read_pairs(alloc: Global, text: &[u8], first: usize) -> Result<Vec<Pair>, BadName>
@@ -67,7 +124,7 @@ fn read_rdns(alloc: Global, text: &[u8]) -> Result<Vec<Vec<Pair>>, BadName>
 
 // The name of a text of the outer grammar.
 #[tactic(auto, unfolding(crate::specs::Reading::written_of))]
-fn read_name(alloc: Global, text: &[u8]) -> Result<Dn, BadName>
+fn read_all(alloc: Global, text: &[u8]) -> Result<Dn, BadName>
     ensures ok { IfOk result (λ name. from_root (rdns_from 0 (written_of text.now)) ≡ Ok name) }
     ensures part { IfErr result (λ e. UnlessMemory e (from_root (rdns_from 0 (written_of text.now)) ≡ Err e)) }
 {

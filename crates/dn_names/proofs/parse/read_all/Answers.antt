@@ -2,7 +2,7 @@
 use Rattle.std.proofs.Common.{Ok, sym, ap, ◌∙◌}
 use Rattle.dn_names.specs.Names.{rdns_of}
 use Rattle.dn_names.proofs.ResolveLemmas.{from_root-written_of, rdns_of-reverse}
-use Rattle.dn_names.proofs.parse.read_name.Goals as goal
+use Rattle.dn_names.proofs.parse.read_all.Goals as goal
 
 pub returns-in-Ok-clause-ok : goal.returns-in-Ok-clause-ok
 returns-in-Ok-clause-ok c =
