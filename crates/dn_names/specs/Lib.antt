@@ -7,6 +7,7 @@ pub mod NameOrder
 pub mod Values
 pub mod Resolving
 pub mod NameText
+pub mod Printing
 -- what only this crate's inside promises itself
 pub mod Modes
 pub mod Reading

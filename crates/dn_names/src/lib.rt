@@ -10,6 +10,7 @@ mod octets;
 mod order;
 mod parse;
 mod parts;
+mod print;
 mod resolve;
 mod scan;
 mod value;

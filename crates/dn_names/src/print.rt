@@ -1,0 +1,48 @@
+//! Names as text.
+
+ghost use Rattle.std.specs.Prelude.{◌≡◌, ◌++◌, ◌==◌, List, ℕ, true, false, length, drop, reverse, IfOk, OnOk, OnErr, IsUtf8, string_bytes, if◌then◌else◌};
+ghost use Rattle.dn_names.specs.Classes.{class_of};
+ghost use Rattle.dn_names.specs.Names.{TypeAndValue, rdns_of};
+ghost use Rattle.dn_names.specs.Printing.{is_escaped, print_octet, print_from, print_value, join_from, print_pair, print_rdn, print_by, print_name, name_key};
+
+use crate::classes::{Class, classify};
+use crate::name::{Dn, Pair};
+use schema_core::row;
+use std::alloc::{AllocError, Global};
+use std::str;
+
+// Whether a backslash stands before the octet.
+fn is_escaped(octet: u8, first: bool, last: bool) -> bool
+    ensures exact { result ≡ is_escaped first last (class_of octet) }
+{
+    match classify(octet) {
+        Class::Space => first || last,
+        Class::Hash => first,
+        Class::Mark | Class::Plus | Class::Comma | Class::Backslash => true,
+        _ => false,
+    }
+}
+
+// Writes an octet of a value.
+fn put_octet(out: &mut Vec<u8>, octet: u8, first: bool, last: bool) -> Result<(), AllocError>
+    ensures ok { OnOk result (out.new.items ≡ out.old.items ++ print_octet first last octet) }
+{
+    if is_escaped(octet, first, last) {
+        out.extend_from_slice(&[b'\\', octet])
+    } else if octet == 0 {
+        out.extend_from_slice(b"\\00")
+    } else {
+        out.extend_from_slice(&[octet])
+    }
+}
+
+/// Writes a value.
+#[tactic(auto, unfolding(crate::specs::Printing::print_value))]
+pub(crate) fn put_value(out: &mut Vec<u8>, octets: &[u8]) -> Result<(), AllocError>
+    ensures ok { OnOk result (out.new.items ≡ out.old.items ++ print_value octets.now) }
+{
+    for (index, octet) in octets.iter().enumerate() {
+        put_octet(out, *octet, index == 0, index == octets.len() - 1)?;
+    }
+    Ok(())
+}
