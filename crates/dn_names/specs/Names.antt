@@ -1,5 +1,7 @@
 -- What names are (X.501 9.2 and 9.3): a list of RDNs, root first; an RDN is a list of types with values.
-use Rattle.std.specs.Prelude.{ℕ, List, map, Vec}
+use Rattle.std.specs.Prelude.{◌≡◌, ℕ, true, List, map, Vec}
+use Rattle.std.specs.List.{AllByRecursion}
+use Rattle.std.specs.Str.{is_utf8}
 
 -- a value: its octets, and the key by which it is compared
 pub record Keyed : Type 0 where
@@ -18,3 +20,7 @@ RdnSequence = List (List TypeAndValue)
 -- the lists of RDNs that the program keeps as vectors
 abbrev pub rdns_of : {Z : Type 0} → List (Vec TypeAndValue Z) → RdnSequence
 rdns_of rdns = map (λ rdn. rdn.items) rdns
+
+-- each value of an RDN is UTF-8
+abbrev pub IsTextRdn : List TypeAndValue → Type 0
+IsTextRdn rdn = AllByRecursion (λ pair. is_utf8 pair.value.octets ≡ true) rdn

@@ -3,6 +3,8 @@ use Rattle.std.specs.Prelude.{ℕ, Bool, true, false, ◌||◌, ◌==◌, List, 
 use Rattle.schema_core.specs.Attributes.{name_of}
 use Rattle.dn_names.specs.declared.classes.Class.{Class}
 use Rattle.dn_names.specs.declared.classes.Class.TheVariants.{Space, Hash, Mark, Plus, Comma, Backslash}
+use Rattle.dn_names.specs.declared.print.Shown.{Shown}
+use Rattle.dn_names.specs.declared.print.Shown.TheVariants.{Octets, Key}
 use Rattle.dn_names.specs.Classes.{class_of}
 use Rattle.dn_names.specs.Names.{TypeAndValue, RdnSequence}
 
@@ -51,10 +53,15 @@ print_rdn shown rdn = join_from 43 (print_pair shown) true rdn
 unfoldable pub print_by : (TypeAndValue → List ℕ) → RdnSequence → List ℕ
 print_by shown name = join_from 44 (print_rdn shown) true (reverse name)
 
+-- what is shown of a value
+abbrev pub shown_of : Shown → TypeAndValue → List ℕ
+shown_of Octets pair = pair.value.octets
+shown_of Key pair = pair.value.key
+
 -- a name as text
 unfoldable pub print_name : RdnSequence → List ℕ
-print_name name = print_by (λ pair. pair.value.octets) name
+print_name name = print_by (shown_of Octets) name
 
 -- a name printed with each value replaced by its key
 unfoldable pub name_key : RdnSequence → List ℕ
-name_key name = print_by (λ pair. pair.value.key) name
+name_key name = print_by (shown_of Key) name

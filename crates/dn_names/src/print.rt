@@ -3,11 +3,14 @@
 ghost use Rattle.std.specs.Prelude.{◌≡◌, ◌++◌, ◌==◌, List, ℕ, true, false, length, drop, reverse, IfOk, OnOk, OnErr, IsUtf8, string_bytes, if◌then◌else◌};
 ghost use Rattle.dn_names.specs.Classes.{class_of};
 ghost use Rattle.dn_names.specs.Names.{TypeAndValue, rdns_of};
-ghost use Rattle.dn_names.specs.Printing.{is_escaped, print_octet, print_from, print_value, join_from, print_pair, print_rdn, print_by, print_name, name_key};
+ghost use Rattle.dn_names.specs.Printing.{is_escaped, print_octet, print_from, print_value, join_from, print_pair, print_rdn, shown_of, print_by, print_name, name_key};
+ghost use Rattle.dn_names.specs.Names.{IsTextRdn};
+ghost use Rattle.std.specs.Str.{is_utf8};
+ghost use Rattle.schema_core.specs.Attributes.{name_of};
 
 use crate::classes::{Class, classify};
 use crate::name::{Dn, Pair};
-use schema_core::row;
+use schema_core::{AttrId, row};
 use std::alloc::{AllocError, Global};
 use std::str;
 
@@ -43,6 +46,57 @@ pub(crate) fn put_value(out: &mut Vec<u8>, octets: &[u8]) -> Result<(), AllocErr
 {
     for (index, octet) in octets.iter().enumerate() {
         put_octet(out, *octet, index == 0, index == octets.len() - 1)?;
+    }
+    Ok(())
+}
+
+/// What is printed of a value.
+#[derive(Clone, Copy)]
+pub(crate) enum Shown {
+    Octets,
+    Key,
+}
+
+fn shown_octets(pair: &Pair, shown: Shown) -> &[u8]
+    ensures exact { result.now ≡ shown_of shown pair.now }
+    ensures text { is_utf8 pair.now.value.octets ≡ true }
+{
+    match shown {
+        Shown::Octets => pair.value.octets(),
+        Shown::Key => pair.value.key(),
+    }
+}
+
+// The type's name as the table spells it.
+fn type_name(kind: AttrId) -> &'static str
+    ensures exact { result.now ≡ name_of kind.0 }
+{
+    match row(kind) {
+        Some(row) => row.name,
+        None => "",
+    }
+}
+
+// Writes a pair.
+fn put_pair(out: &mut Vec<u8>, pair: &Pair, shown: Shown) -> Result<(), AllocError>
+    ensures ok { OnOk result (out.new.items ≡ out.old.items ++ print_pair (shown_of shown) pair.now) }
+    ensures text { OnOk result (is_utf8 pair.now.value.octets ≡ true) }
+{
+    out.extend_from_slice(type_name(pair.kind()).as_bytes())?;
+    out.push(b'=')?;
+    put_value(out, shown_octets(pair, shown))
+}
+
+// Writes an RDN.
+fn put_rdn(out: &mut Vec<u8>, rdn: &[Pair], shown: Shown) -> Result<(), AllocError>
+    ensures ok { OnOk result (out.new.items ≡ out.old.items ++ print_rdn (shown_of shown) rdn.now) }
+    ensures text { OnOk result (IsTextRdn rdn.now) }
+{
+    for (index, pair) in rdn.iter().enumerate() {
+        if index > 0 {
+            out.push(b'+')?;
+        }
+        put_pair(out, pair, shown)?;
     }
     Ok(())
 }
