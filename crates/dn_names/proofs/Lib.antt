@@ -12,3 +12,5 @@ pub mod PutPairLemmas
 pub mod NamingTextLemmas
 pub mod ResolveLemmas
 pub mod ParseLemmas
+pub mod PrintLemmas
+pub mod PrintTextLemmas

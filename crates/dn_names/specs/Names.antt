@@ -24,3 +24,7 @@ rdns_of rdns = map (λ rdn. rdn.items) rdns
 -- each value of an RDN is UTF-8
 abbrev pub IsTextRdn : List TypeAndValue → Type 0
 IsTextRdn rdn = AllByRecursion (λ pair. is_utf8 pair.value.octets ≡ true) rdn
+
+-- each value of a name is UTF-8
+abbrev pub IsTextName : RdnSequence → Type 0
+IsTextName name = AllByRecursion IsTextRdn name

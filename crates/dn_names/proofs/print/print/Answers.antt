@@ -1,0 +1,10 @@
+-- What is printed of texts is a text.
+use Rattle.std.proofs.Common.{◌≡◌, List, ℕ, sym, subst}
+use Rattle.std.specs.Prelude.{IsUtf8}
+use Rattle.dn_names.specs.Printing.{print_name}
+use Rattle.dn_names.proofs.PrintTextLemmas.{IsUtf8-print_name}
+use Rattle.dn_names.proofs.print.print.Goals as goal
+
+pub as_text-requires : goal.as_text-requires
+unfolding print_name
+as_text-requires c = rw (c.deref.ensures.value, c.in_ok-text.ensures.ok) (IsUtf8-print_name c.args.name.now c.in_ok-text.ensures.text)
