@@ -14,3 +14,4 @@ pub mod ResolveLemmas
 pub mod ParseLemmas
 pub mod PrintLemmas
 pub mod PrintTextLemmas
+pub mod OrderedLemmas

@@ -8,6 +8,7 @@ pub mod Values
 pub mod Resolving
 pub mod NameText
 pub mod Printing
+pub mod GoodNames
 -- what only this crate's inside promises itself
 pub mod Modes
 pub mod Reading
