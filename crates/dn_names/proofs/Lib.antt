@@ -15,3 +15,4 @@ pub mod ParseLemmas
 pub mod PrintLemmas
 pub mod PrintTextLemmas
 pub mod OrderedLemmas
+pub mod GoodNameLemmas
