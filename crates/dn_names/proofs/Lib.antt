@@ -16,3 +16,4 @@ pub mod PrintLemmas
 pub mod PrintTextLemmas
 pub mod OrderedLemmas
 pub mod GoodNameLemmas
+pub mod PrintedLemmas
