@@ -106,7 +106,7 @@ rdns_from-Reads index (w ∷ ws) out filled h =
             size = ap length found.2 ∙ ap suc later.size
           }) ] refl h
 
-all_push : {A : Type 0} (P : A → Type 0) (xs : List A) (y : A) → AllByRecursion P xs → P y → AllByRecursion P (xs ++ y ∷ [])
+pub all_push : {A : Type 0} (P : A → Type 0) (xs : List A) (y : A) → AllByRecursion P xs → P y → AllByRecursion P (xs ++ y ∷ [])
 all_push P [] y a b = (b, tt)
 all_push P (x ∷ xs) y a b = (a.0, all_push P xs y a.1 b)
 

@@ -17,3 +17,4 @@ pub mod PrintTextLemmas
 pub mod OrderedLemmas
 pub mod GoodNameLemmas
 pub mod PrintedLemmas
+pub mod PrintedNameLemmas

@@ -92,6 +92,6 @@ value_front : (octets : List ℕ) → (slice_index (print_from true octets) 0 �
 value_front [] = ((λ e. omega (arith, e)), λ e. omega (arith, e))
 value_front (x ∷ xs) = front_octet (is_empty xs) x (print_from false xs)
 
-value_printed : (octets : List ℕ) → SpellsValue octets (print_value octets)
+pub value_printed : (octets : List ℕ) → SpellsValue octets (print_value octets)
 unfolding print_value
 value_printed octets = ([], print_from true octets, refl, tt, (value_front octets).0, (value_front octets).1, octets_printed true octets)

@@ -3,6 +3,7 @@
 
 mod classes;
 mod error;
+mod join;
 mod keys;
 mod modes;
 mod name;

@@ -1,6 +1,6 @@
 //! Names, their RDNs and the pairs of these.
 
-ghost use Rattle.std.specs.Prelude.{◌≡◌, IfOk, length, slice_get};
+ghost use Rattle.std.specs.Prelude.{◌≡◌, ◌++◌, IfOk, OnOk, length, slice_get};
 ghost use Rattle.std.specs.Option.{option_map};
 ghost use Rattle.dn_names.specs.Names.{rdns_of};
 
@@ -98,10 +98,18 @@ pub(crate) fn copy_rdns(alloc: Global, rdns: &[Vec<Pair>]) -> Result<Vec<Vec<Pai
     ensures ok { IfOk result (λ copies. rdns_of copies.items ≡ rdns_of rdns.now) }
 {
     let mut copies = Vec::with_capacity(alloc, rdns.len())?;
-    for rdn in rdns {
-        copies.push(copy_pairs(alloc, rdn)?)?;
-    }
+    append_copies(alloc, &mut copies, rdns)?;
     Ok(copies)
+}
+
+/// Puts copies of RDNs at the end.
+pub(crate) fn append_copies(alloc: Global, out: &mut Vec<Vec<Pair>>, rdns: &[Vec<Pair>]) -> Result<(), AllocError>
+    ensures ok { OnOk result (rdns_of out.new.items ≡ rdns_of out.old.items ++ rdns_of rdns.now) }
+{
+    for rdn in rdns {
+        out.push(copy_pairs(alloc, rdn)?)?;
+    }
+    Ok(())
 }
 
 // The same pairs in memory of their own.
