@@ -18,3 +18,6 @@ pub mod OrderedLemmas
 pub mod GoodNameLemmas
 pub mod PrintedLemmas
 pub mod PrintedNameLemmas
+pub mod StripLemmas
+pub mod OrderLaws
+pub mod NameLaws

@@ -4,7 +4,7 @@ use Rattle.std.specs.Ordering.{nat_cmp, ordering_then}
 use Rattle.std.specs.declared.cmp.Ordering.TheVariants.{Less, Equal, Greater}
 use Rattle.std.specs.Cmp.{nat_cmp_is}
 use Rattle.std.specs.Cmp.Lexicographic.{slice_cmp}
-use Rattle.std.proofs.lemmas.List.{drop_all, drop_more, take-map, take_min}
+use Rattle.std.proofs.lemmas.List.{drop_all, drop_more, take-map, take_min, drop-map, drop_min}
 use Rattle.dn_names.specs.Names.{TypeAndValue, rdns_of}
 use Rattle.dn_names.specs.NameOrder.{rdn_cmp, name_cmp}
 
@@ -35,3 +35,7 @@ pub name_cmp-front : {Z : Type 0} (len : ℕ) (xs ys : List (Vec TypeAndValue Z)
 name_cmp-front {Z} len xs ys =
     ap (λ t. name_cmp t (rdns_of ys)) (take-map (λ (rdn : Vec TypeAndValue Z). rdn.items) len xs ∙ ap rdns_of (sym (take_min len xs)))
     ∙ name_cmp-rdns_of (take (min len (length xs)) xs) ys
+
+-- the RDNs from one on
+pub rdns_of-drop : {Z : Type 0} (first : ℕ) (xs : List (Vec TypeAndValue Z)) → rdns_of (drop (min first (length xs)) xs) ≡ drop first (rdns_of xs)
+rdns_of-drop {Z} first xs = ap rdns_of (drop_min first xs) ∙ sym (drop-map (λ (rdn : Vec TypeAndValue Z). rdn.items) first xs)

@@ -38,7 +38,7 @@ abbrev write : TypeAndValue → WrittenPair
 write pair = record { kind = name_of pair.kind; octets = pair.value.octets }
 
 -- a good pair's type is in the table
-good_kind : (number : ℕ) (octets : List ℕ) (value : Keyed) → naming_value number octets ≡ Some value → IsAttrId number
+pub good_kind : (number : ℕ) (octets : List ℕ) (value : Keyed) → naming_value number octets ≡ Some value → IsAttrId number
 unfolding naming_value
 good_kind number octets value h =
     elim (is_naming number && nat_le (length octets) 65536) as (λ b. (is_naming number && nat_le (length octets) 65536) ≡ b → (if b then option_map (λ key. record { octets = octets; key = key }) (option_and_then (λ syntax. plain_key syntax octets) (syntax_of number)) else None) ≡ Some value → IsAttrId number) [
@@ -65,7 +65,7 @@ words_match (x ∷ xs) h =
     ((x ∷ []) ∷ more.0, ap (λ t. x ∷ t) more.1, ((x, refl, word_class x both.0), more.2))
 
 -- a keystring is a type
-keystring_kind : (text : List ℕ) → is_keystring text ≡ true → IsKind text
+pub keystring_kind : (text : List ℕ) → is_keystring text ≡ true → IsKind text
 keystring_kind [] h = absurd (false≢true h)
 keystring_kind (x ∷ xs) h =
     let both = and_parts (is_ascii_alphabetic x) (list_all (λ x. is_ascii_alphanumeric x || x == 45) xs) h in
@@ -111,7 +111,7 @@ pair_meant pair good =
     ap (λ k. option_and_then (λ number. option_map (λ value. record { kind = number; value = value }) (naming_value number pair.value.octets)) k) kind
     ∙ ap (option_map (λ value. record { kind = pair.kind; value = value })) good
 
-joined_printed : {A R : Type 0} (mark : ℕ) (show : A → List ℕ) (write_item : A → R) (P : R → List ℕ → Type 0) (Q : A → Type 0) → ((x : A) → Q x → P (write_item x) (show x)) → (x : A) (xs : List A) → AllByRecursion Q (x ∷ xs) → IsJoined mark P (map write_item (x ∷ xs)) (join_from mark show true (x ∷ xs))
+pub joined_printed : {A R : Type 0} (mark : ℕ) (show : A → List ℕ) (write_item : A → R) (P : R → List ℕ → Type 0) (Q : A → Type 0) → ((x : A) → Q x → P (write_item x) (show x)) → (x : A) (xs : List A) → AllByRecursion Q (x ∷ xs) → IsJoined mark P (map write_item (x ∷ xs)) (join_from mark show true (x ∷ xs))
 joined_printed mark show write_item P Q each x [] h = subst (λ (t : List ℕ). P (write_item x) t) (sym (append-nil (show x))) (each x h.0)
 joined_printed mark show write_item P Q each x (y ∷ ys) h = (show x, join_from mark show true (y ∷ ys), refl, each x h.0, joined_printed mark show write_item P Q each y ys h.1)
 

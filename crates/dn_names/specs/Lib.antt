@@ -9,6 +9,8 @@ pub mod Resolving
 pub mod NameText
 pub mod Printing
 pub mod GoodNames
+pub mod NameValues
 -- what only this crate's inside promises itself
 pub mod Modes
 pub mod Reading
+pub mod KeyReading

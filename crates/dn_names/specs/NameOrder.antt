@@ -26,6 +26,10 @@ is_same one other = is_eq (name_cmp one other)
 unfoldable pub is_prefix_of : RdnSequence → RdnSequence → Bool
 is_prefix_of front name = is_same (take (length front) name) front
 
--- what counts of a name: each type's number with the key
+-- what counts of a pair
+abbrev pub type_and_key : TypeAndValue → ℕ × List ℕ
+type_and_key pair = (pair.kind, pair.value.key)
+
+-- what counts of a name
 abbrev pub types_and_keys : RdnSequence → List (List (ℕ × List ℕ))
-types_and_keys name = map (λ rdn. map (λ pair. (pair.kind, pair.value.key)) rdn) name
+types_and_keys name = map (map type_and_key) name

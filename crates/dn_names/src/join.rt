@@ -17,9 +17,17 @@ pub fn local(alloc: Global, superior: &Dn, below: &Dn) -> Result<Dn, AllocError>
     requires { IsTrue (is_prefix_of superior.now below.now) }
     ensures ok { IfOk result (λ name. name ≡ drop (length superior.now) below.now) }
 {
-    let len = superior.rdns.len().min(below.rdns.len());
+    copy_from(alloc, below, superior.len())
+}
+
+// The RDNs from the one of this number on.
+fn copy_from(alloc: Global, name: &Dn, first: usize) -> Result<Dn, AllocError>
+    ensures ok { IfOk result (λ copy. copy ≡ drop first name.now) }
+{
+    let first = first.min(name.rdns.len());
+    let (_, rdns) = name.rdns.split_at(first);
     Ok(Dn {
-        rdns: copy_rdns(alloc, &below.rdns[len..])?,
+        rdns: copy_rdns(alloc, rdns)?,
     })
 }
 

@@ -37,7 +37,7 @@ pub(crate) fn kind_of(octets: &[u8]) -> Option<AttrId>
 /// The key of octets of a syntax that is not that of names.
 pub(crate) fn make_key(alloc: Global, syntax: Syntax, octets: &[u8]) -> Result<Vec<u8>, PrepareFault>
     ensures ok { IfOk result (λ key. plain_key syntax octets.now ≡ Some key.items) }
-    ensures not_of_syntax { IsErrOf result NotOfSyntax → plain_key syntax octets.now ≡ None }
+    ensures not_of_syntax { IsErrOf result NotOfSyntax ↔ (plain_key syntax octets.now ≡ None) }
 {
     match syntax {
         Syntax::Text => prepare(alloc, Rule::Text, octets),
@@ -55,7 +55,7 @@ pub(crate) fn make_key(alloc: Global, syntax: Syntax, octets: &[u8]) -> Result<V
 // The dotted form of an object identifier or of a name of one.
 fn oid_key(alloc: Global, octets: &[u8]) -> Result<Vec<u8>, PrepareFault>
     ensures ok { IfOk result (λ key. of_text oid_of octets.now ≡ Some key.items) }
-    ensures not_of_syntax { IsErrOf result NotOfSyntax → of_text oid_of octets.now ≡ None }
+    ensures not_of_syntax { IsErrOf result NotOfSyntax ↔ (of_text oid_of octets.now ≡ None) }
 {
     match dotted_form(octets) {
         Some(oid) => Ok(oid.as_bytes().to_vec(alloc)?),

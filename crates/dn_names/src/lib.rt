@@ -3,8 +3,10 @@
 
 mod classes;
 mod error;
+mod is_key;
 mod join;
 mod keys;
+mod make;
 mod modes;
 mod name;
 mod octets;

@@ -14,8 +14,8 @@ use schema_core::{AttrId, row};
 use std::alloc::{AllocError, Global};
 use std::str;
 
-// Whether a backslash stands before the octet.
-fn is_escaped(octet: u8, first: bool, last: bool) -> bool
+/// Whether a backslash stands before the octet.
+pub(crate) fn is_escaped(octet: u8, first: bool, last: bool) -> bool
     ensures exact { result ≡ is_escaped first last (class_of octet) }
 {
     match classify(octet) {
@@ -67,8 +67,8 @@ fn shown_octets(pair: &Pair, shown: Shown) -> &[u8]
     }
 }
 
-// The type's name as the table spells it.
-fn type_name(kind: AttrId) -> &'static str
+/// The type's name as the table spells it.
+pub(crate) fn type_name(kind: AttrId) -> &'static str
     ensures exact { result.now ≡ name_of kind.0 }
 {
     match row(kind) {
