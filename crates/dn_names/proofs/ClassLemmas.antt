@@ -1,11 +1,11 @@
 -- Which octets the classes are.
-use Rattle.std.proofs.Common.{◌≡◌, ◌<◌, ◌+◌, ◌*◌, ℕ, Bool, true, false, arith}
-use Rattle.std.specs.Prelude.{◌==◌, ◌%◌}
+use Rattle.std.proofs.Common.{◌≡◌, ◌<◌, ℕ, Bool, true, false, arith}
+use Rattle.std.specs.Prelude.{◌==◌}
 use Rattle.std.specs.Char.{digit_value}
 use Rattle.std.proofs.lemmas.Bool.Decides.{nat_tests}
 use Rattle.dn_names.specs.declared.classes.Class.{Class}
 use Rattle.dn_names.specs.declared.classes.Class.TheVariants.{HexLetter, Letter, Zero, Digit, Dash, Dot}
-use Rattle.dn_names.specs.Classes.{class_of, is_space, is_equals, is_plus, is_comma, is_backslash, is_hex, is_plain, is_first, is_escapable}
+use Rattle.dn_names.specs.Classes.{class_of, is_space, is_equals, is_plus, is_comma, is_backslash, is_hex, is_plain, is_escapable}
 use Rattle.dn_names.specs.Reading.{hex_value}
 
 -- a class has the one octet that it is named for

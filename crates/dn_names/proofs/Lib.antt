@@ -21,3 +21,4 @@ pub mod PrintedNameLemmas
 pub mod StripLemmas
 pub mod OrderLaws
 pub mod NameLaws
+pub mod Theorems

@@ -1,10 +1,10 @@
 -- The order of lists, for loops that compare them place by place.
-use Rattle.std.proofs.Common.{◌≡◌, ℕ, ◌+◌, ◌-◌, ◌<◌, ◌≤◌, List, [], ◌∷◌, map, length, take, drop, get_or, refl, sym, ap, ◌∙◌, arith, length-drop, Ordering, Vec, min}
+use Rattle.std.proofs.Common.{◌≡◌, ℕ, ◌+◌, ◌≤◌, List, [], ◌∷◌, map, length, take, drop, refl, sym, ap, ◌∙◌, arith, length-drop, Ordering, Vec, min}
 use Rattle.std.specs.Ordering.{nat_cmp, ordering_then}
-use Rattle.std.specs.declared.cmp.Ordering.TheVariants.{Less, Equal, Greater}
+use Rattle.std.specs.declared.cmp.Ordering.TheVariants.{Less, Equal}
 use Rattle.std.specs.Cmp.{nat_cmp_is}
 use Rattle.std.specs.Cmp.Lexicographic.{slice_cmp}
-use Rattle.std.proofs.lemmas.List.{drop_all, drop_more, take-map, take_min, drop-map, drop_min}
+use Rattle.std.proofs.lemmas.List.{drop_all, take-map, take_min, drop-map, drop_min}
 use Rattle.dn_names.specs.Names.{TypeAndValue, rdns_of}
 use Rattle.dn_names.specs.NameOrder.{rdn_cmp, name_cmp}
 

@@ -1,5 +1,5 @@
 -- One octet of a value's text, for the loop that collects the value.
-use Rattle.std.proofs.Common.{◌≡◌, ◌≤◌, ◌+◌, ◌*◌, ◌<◌, ℕ, Bool, true, false, List, [], ◌∷◌, ◌++◌, length, take, drop, get_or, refl, sym, ap, subst, ◌∙◌, arith, append_assoc, length-append}
+use Rattle.std.proofs.Common.{◌≡◌, ◌≤◌, ◌+◌, ◌*◌, ◌<◌, ℕ, true, false, List, [], ◌∷◌, ◌++◌, length, take, drop, get_or, refl, sym, ap, subst, ◌∙◌, append_assoc}
 use Rattle.std.specs.Prelude.{if◌then◌else◌, ◌==◌}
 use Rattle.std.proofs.lemmas.List.{take-append-le, take_all, drop_more}
 use Rattle.dn_names.specs.declared.octets.Reading.{Reading}
@@ -23,8 +23,9 @@ after_piece (Octet x) xs = x ∷ octets_from Plain xs
 pub octets_from-cons : (reading : Reading) (x : ℕ) (xs : List ℕ) → octets_from reading (x ∷ xs) ≡ after_piece (piece_of reading x) xs
 octets_from-cons Plain x xs =
     elim (x == 92) as (λ b. (if b then octets_from Escaped xs else if x == 32 then spaced (octets_from Plain xs) else x ∷ octets_from Plain xs) ≡ after_piece (if b then Within Escaped else if x == 32 then BareSpace else Octet x) xs) [
-        true ↦ refl
-      | false ↦ elim (x == 32) as (λ b. (if b then spaced (octets_from Plain xs) else x ∷ octets_from Plain xs) ≡ after_piece (if b then BareSpace else Octet x) xs) [ true ↦ refl | false ↦ refl ] ]
+      | true ↦ refl
+      | false ↦ elim (x == 32) as (λ b. (if b then spaced (octets_from Plain xs) else x ∷ octets_from Plain xs) ≡ after_piece (if b then BareSpace else Octet x) xs) [ true ↦ refl | false ↦ refl ]
+    ]
 octets_from-cons Escaped x xs =
     elim (is_hex (class_of x)) as (λ b. (if b then octets_from (HalfByte (16 * hex_value x)) xs else x ∷ octets_from Plain xs) ≡ after_piece (if b then Within (HalfByte (16 * hex_value x)) else Octet x) xs) [ true ↦ refl | false ↦ refl ]
 octets_from-cons (HalfByte high) x xs = refl
@@ -40,7 +41,6 @@ ended-octet kept size x octets [] h = take_all size (octets ++ x ∷ []) h
 ended-octet kept size x octets (y ∷ rest) h = append_assoc octets (x ∷ []) (y ∷ rest)
 
 module _ (kept : ℕ) (octets text total : List ℕ) (reading : Reading) (place : ℕ) (piece : Piece) (within : place < length text) (is : piece ≡ piece_of reading (get_or text place 0)) (so_far : ended kept octets (octets_from reading (drop place text)) ≡ total) where
-
   -- what the loop has, by what the next octet is
   next_piece : ended kept octets (after_piece piece (drop (place + 1) text)) ≡ total
   next_piece =

@@ -1,11 +1,11 @@
 -- The order of names is total; names are the same, and begin one another, by their types and keys.
-use Rattle.std.proofs.Common.{◌≡◌, ℕ, ◌<◌, ◌≤◌, suc, zero, Bool, true, false, IsTrue, List, [], ◌∷◌, ◌++◌, map, length, take, drop, refl, sym, ap, subst, ◌∙◌, arith, inl, inr, Ordering}
+use Rattle.std.proofs.Common.{◌≡◌, ℕ, ◌<◌, IsTrue, List, [], ◌∷◌, ◌++◌, map, length, take, drop, refl, sym, ap, ◌∙◌, arith, inl, inr, Ordering}
 use Rattle.std.specs.Prelude.{◌↔◌}
 use Rattle.std.specs.Ordering.{nat_cmp, ordering_then, is_eq, ordering_reverse}
 use Rattle.std.specs.declared.cmp.Ordering.TheVariants.{Less, Equal, Greater}
 use Rattle.std.specs.Cmp.{IsTotalOrder, nat_cmp_is, nat_cmp_total, on_total, then_total}
 use Rattle.std.specs.Cmp.Lexicographic.{slice_cmp, lists_total, on_texts}
-use Rattle.std.proofs.lemmas.List.{map-id, take-map, drop-map, take-append-drop, take_at, map-append, length-map}
+use Rattle.std.proofs.lemmas.List.{map-id, take-map, take-append-drop, take_at, map-append, length-map}
 use Rattle.dn_names.specs.Names.{TypeAndValue, RdnSequence}
 use Rattle.dn_names.specs.NameOrder.{pair_cmp, rdn_cmp, name_cmp, is_same, is_prefix_of, type_and_key, types_and_keys}
 use Rattle.dn_names.proofs.OrderedLemmas.{which_first}
@@ -44,9 +44,10 @@ same_equal R f each (x ∷ xs) (y ∷ ys) e =
 
 nat_equal : (x y : ℕ) → nat_cmp x y ≡ Equal → x ≡ y
 nat_equal x y e = elim (which_first x y) [
-    inl less ↦ (let is : Less ≡ nat_cmp x y = nat_cmp_is x y Less less in let clash = is ∙ e in absurd cc)
+  | inl less ↦ (let is : Less ≡ nat_cmp x y = nat_cmp_is x y Less less in let clash = is ∙ e in absurd cc)
   | inr (inl same) ↦ same
-  | inr (inr more) ↦ (let is : Greater ≡ nat_cmp x y = nat_cmp_is x y Greater more in let clash = is ∙ e in absurd cc) ]
+  | inr (inr more) ↦ (let is : Greater ≡ nat_cmp x y = nat_cmp_is x y Greater more in let clash = is ∙ e in absurd cc)
+]
 
 equal_nat : (x y : ℕ) → x ≡ y → nat_cmp x y ≡ Equal
 equal_nat x y e = sym (nat_cmp_is x y Equal e)
@@ -68,9 +69,10 @@ same_pair p q e =
 -- names are the same where their types and keys are
 pub is_same-types_and_keys : (one other : RdnSequence) → IsTrue (is_same one other) ↔ (types_and_keys one ≡ types_and_keys other)
 unfolding is_same name_cmp
-is_same-types_and_keys one other =
-    ((λ e. equal_same rdn_cmp (map type_and_key) (λ x y h. equal_same pair_cmp type_and_key pair_same x y h) one other (equal_is (name_cmp one other) e)),
-      λ e. ap is_eq (same_equal rdn_cmp (map type_and_key) (λ x y h. same_equal pair_cmp type_and_key same_pair x y h) one other e))
+is_same-types_and_keys one other = (
+  (λ e. equal_same rdn_cmp (map type_and_key) (λ x y h. equal_same pair_cmp type_and_key pair_same x y h) one other (equal_is (name_cmp one other) e)),
+  λ e. ap is_eq (same_equal rdn_cmp (map type_and_key) (λ x y h. same_equal pair_cmp type_and_key same_pair x y h) one other e),
+)
   where
     equal_is : (o : Ordering) → IsTrue (is_eq o) → o ≡ Equal
     equal_is Less e = absurd cc
@@ -80,15 +82,18 @@ is_same-types_and_keys one other =
 -- a name begins another where its types and keys do
 pub is_prefix_of-types_and_keys : (front name : RdnSequence) → IsTrue (is_prefix_of front name) ↔ ((rest : List (List (ℕ × List ℕ))) × (types_and_keys name ≡ types_and_keys front ++ rest))
 unfolding is_prefix_of
-is_prefix_of-types_and_keys front name =
-    ((λ e. (types_and_keys (drop (length front) name),
-        ap types_and_keys (sym (take-append-drop (length front) name))
+is_prefix_of-types_and_keys front name = (
+  (λ e. (
+    types_and_keys (drop (length front) name),
+    ap types_and_keys (sym (take-append-drop (length front) name))
         ∙ map-append (map type_and_key) (take (length front) name) (drop (length front) name)
-        ∙ ap (λ t. t ++ types_and_keys (drop (length front) name)) ((is_same-types_and_keys (take (length front) name) front).0 e))),
-      λ (rest, e). (is_same-types_and_keys (take (length front) name) front).1
-        (sym (take-map (map type_and_key) (length front) name)
-        ∙ ap (take (length front)) e
-        ∙ take_at (types_and_keys front) rest (length front) (length-map front (map type_and_key))))
+        ∙ ap (λ t. t ++ types_and_keys (drop (length front) name)) ((is_same-types_and_keys (take (length front) name) front).0 e),
+  )),
+  λ (rest, e). (is_same-types_and_keys (take (length front) name) front).1
+      (sym (take-map (map type_and_key) (length front) name)
+      ∙ ap (take (length front)) e
+      ∙ take_at (types_and_keys front) rest (length front) (length-map front (map type_and_key))),
+)
 
 prefix_less : {A : Type 0} (R : A → A → Ordering) → ((x y : A) → R x y ≡ Equal → R y x ≡ Equal) → (xs ys : List A) → slice_cmp R (take (length ys) xs) ys ≡ Equal → length ys < length xs → slice_cmp R ys xs ≡ Less
 prefix_less R turn [] ys e h = absurd (omega arith)

@@ -1,20 +1,19 @@
 -- What spells a pair, an RDN or a name is read as it.
-use Rattle.std.proofs.Common.{◌≡◌, ◌≢◌, ◌+◌, suc, ℕ, Bool, true, false, not, List, [], ◌∷◌, ◌++◌, map, length, take, drop, inl, inr, refl, sym, ap, subst, ◌∙◌, arith, append_assoc, add-one, length-append}
-use Rattle.std.specs.Prelude.{◌==◌, ◌&&◌, if◌then◌else◌, slice_index}
-use Rattle.std.specs.List.{AllByRecursion, prefix_len, list_all, take_while}
-use Rattle.std.proofs.lemmas.List.{take_at, drop_at, append-nil}
+use Rattle.std.proofs.Common.{◌≡◌, ◌≢◌, ◌+◌, suc, ℕ, Bool, true, false, not, List, [], ◌∷◌, ◌++◌, map, length, take, drop, refl, sym, ap, ◌∙◌, arith, append_assoc, add-one}
+use Rattle.std.specs.Prelude.{◌==◌, ◌&&◌, slice_index}
+use Rattle.std.specs.List.{AllByRecursion, prefix_len, take_while}
+use Rattle.std.proofs.lemmas.List.{take_at}
 use Rattle.std.proofs.lemmas.Bool.{false≢true, cond-false, cond-true}
 use Rattle.std.proofs.lemmas.Bool.Decides.{nat_tests}
-use Rattle.regular_text.specs.Grammar.{Matches}
 use Rattle.regular_text.proofs.Theorems.{has_empty-Matches, Matches-AllByRecursion}
 use Rattle.dn_names.specs.declared.classes.Class.{Class}
-use Rattle.dn_names.specs.declared.classes.Class.TheVariants.{HexLetter, Letter, Zero, Digit, Dash, Dot}
+use Rattle.dn_names.specs.declared.classes.Class.TheVariants.{Dot}
 use Rattle.dn_names.specs.Classes.{class_of, is_letter, is_word, is_zero, is_nonzero, is_digit, is_dot}
 use Rattle.dn_names.specs.NameGrammar.{kind}
-use Rattle.dn_names.specs.Spelling.{WrittenPair, AreSpaces, SpellsValue, IsKind, SpellsPair, IsJoined, SpellsRdn, SpellsName}
-use Rattle.dn_names.specs.Reading.{parts_from, parts_of, without_spaces, is_blank, word_of, kind_size, value_octets, pair_of, rdn_of, written_of}
+use Rattle.dn_names.specs.Spelling.{WrittenPair, AreSpaces, IsKind, SpellsPair, IsJoined, SpellsRdn, SpellsName}
+use Rattle.dn_names.specs.Reading.{parts_of, is_blank, word_of, kind_size, value_octets, pair_of, rdn_of, written_of}
 use Rattle.dn_names.proofs.ClassLemmas.{is_kind, kind_other}
-use Rattle.dn_names.proofs.PartsLemmas.{is_clean, is_clean-append, is_clean-joined, map-parts_from, and_both}
+use Rattle.dn_names.proofs.PartsLemmas.{is_clean, is_clean-append, is_clean-joined, map-parts_from}
 use Rattle.dn_names.proofs.ValueLemmas.{separator, without_spaces-append, value_octets-spelled, spaces_clean, value_clean}
 
 -- the octet may stand in a type
@@ -49,7 +48,7 @@ dot_kind k e = cc
 pub kind_octets : (text : List ℕ) → IsKind text → AreKindOctets text
 kind_octets text m =
     Matches-AllByRecursion class_of is_kind kind text
-      ((letter_kind, word_kind), ((zero_kind, (nonzero_kind, digit_kind)), ((dot_kind, (zero_kind, (nonzero_kind, digit_kind))), (dot_kind, (zero_kind, (nonzero_kind, digit_kind)))))) m
+    ((letter_kind, word_kind), ((zero_kind, (nonzero_kind, digit_kind)), ((dot_kind, (zero_kind, (nonzero_kind, digit_kind))), (dot_kind, (zero_kind, (nonzero_kind, digit_kind)))))) m
 
 kind_clean : (m : Bool) (text : List ℕ) → AreKindOctets text → is_clean (separator m) false text ≡ true
 kind_clean m [] h = refl
@@ -69,9 +68,9 @@ pair_clean : (m : Bool) (pair : WrittenPair) (text : List ℕ) → SpellsPair pa
 pair_clean m pair text h =
     ap (is_clean (separator m) false) h.is_text
     ∙ is_clean-append (separator m) false h.before (pair.kind ++ (h.after ++ 61 ∷ h.value)) (spaces_clean m h.before h.gap_before)
-        (is_clean-append (separator m) false pair.kind (h.after ++ 61 ∷ h.value) (kind_clean m pair.kind (kind_octets pair.kind h.is_kind))
-          (is_clean-append (separator m) false h.after (61 ∷ h.value) (spaces_clean m h.after h.gap_after)
-            (is_clean-append (separator m) false (61 ∷ []) h.value (equals_clean m) (value_clean m pair.octets h.value h.spells))))
+    (is_clean-append (separator m) false pair.kind (h.after ++ 61 ∷ h.value) (kind_clean m pair.kind (kind_octets pair.kind h.is_kind))
+    (is_clean-append (separator m) false h.after (61 ∷ h.value) (spaces_clean m h.after h.gap_after)
+    (is_clean-append (separator m) false (61 ∷ []) h.value (equals_clean m) (value_clean m pair.octets h.value h.spells))))
 
 -- octets that aren't =, before one
 
@@ -111,17 +110,17 @@ unfolding pair_of
 pair_of-spelled pair text h =
     let front = h.before ++ (pair.kind ++ h.after) in
     let lacks : AllByRecursion (λ x. (x == 61) ≡ false) front =
-        all_append (λ x. (x == 61) ≡ false) h.before (pair.kind ++ h.after) (spaces_no_equals h.before h.gap_before)
-          (all_append (λ x. (x == 61) ≡ false) pair.kind h.after (kind_no_equals pair.kind (kind_octets pair.kind h.is_kind)) (spaces_no_equals h.after h.gap_after)) in
+    all_append (λ x. (x == 61) ≡ false) h.before (pair.kind ++ h.after) (spaces_no_equals h.before h.gap_before)
+    (all_append (λ x. (x == 61) ≡ false) pair.kind h.after (kind_no_equals pair.kind (kind_octets pair.kind h.is_kind)) (spaces_no_equals h.after h.gap_after)) in
     let split : text ≡ front ++ 61 ∷ h.value = h.is_text ∙ simp append_assoc in
     let size : kind_size text ≡ length front = ap kind_size split ∙ size_before front h.value lacks in
     let kinds : take (kind_size text) text ≡ front = (rw (size, split) (take_at front (61 ∷ h.value) (length front) refl)) in
     let values : drop (kind_size text + 1) text ≡ h.value =
-        (rw (size, split, add-one) (drop_past front h.value)) in
+    (rw (size, split, add-one) (drop_past front h.value)) in
     let word : word_of (take (kind_size text) text) ≡ pair.kind =
-        ap word_of kinds
-        ∙ ap (take_while (λ octet. not (octet == 32))) (without_spaces-append h.before (pair.kind ++ h.after) h.gap_before (kind_front pair.kind h.after h.is_kind))
-        ∙ word_before pair.kind h.after (kind_octets pair.kind h.is_kind) h.gap_after in
+    ap word_of kinds
+    ∙ ap (take_while (λ octet. not (octet == 32))) (without_spaces-append h.before (pair.kind ++ h.after) h.gap_before (kind_front pair.kind h.after h.is_kind))
+    ∙ word_before pair.kind h.after (kind_octets pair.kind h.is_kind) h.gap_after in
     let octets : value_octets (drop (kind_size text + 1) text) ≡ pair.octets = ap value_octets values ∙ value_octets-spelled pair.octets h.value h.spells in
     same_pair word octets
   where
@@ -154,7 +153,9 @@ blank_before : (xs ys : List ℕ) → is_blank xs ≡ false → is_blank (xs ++ 
 blank_before [] ys e = absurd (false≢true (sym e))
 blank_before (x ∷ xs) ys e =
     elim (x == 32) as (λ b. (b && is_blank xs) ≡ false → (b && is_blank (xs ++ ys)) ≡ false) [
-        true ↦ λ f. blank_before xs ys f | false ↦ λ _. refl ] e
+      | true ↦ λ f. blank_before xs ys f
+      | false ↦ λ _. refl
+    ] e
 
 joined_blank : {R : Type 0} (mark : ℕ) (P : R → List ℕ → Type 0) → ((r : R) (text : List ℕ) → P r text → is_blank text ≡ false) → (rs : List R) (text : List ℕ) → IsJoined mark P rs text → is_blank text ≡ false
 joined_blank mark P each [] text j = absurd j

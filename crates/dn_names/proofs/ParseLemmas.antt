@@ -1,5 +1,5 @@
 -- What reading gives is a name of the text, or the cause why it is none.
-use Rattle.std.proofs.Common.{◌≡◌, ℕ, ◌+◌, Bool, reverse, IfOk, IfErr, true, false, List, [], ◌∷◌, length, Option, Some, None, Result, Ok, Err, refl, sym, ap, subst, ◌∙◌}
+use Rattle.std.proofs.Common.{◌≡◌, ℕ, ◌+◌, reverse, IfOk, IfErr, true, false, List, [], ◌∷◌, length, Option, Some, None, Result, Ok, Err, refl, sym, ap, subst, ◌∙◌}
 use Rattle.std.specs.Prelude.{◌==◌, nat_lt, if◌then◌else◌}
 use Rattle.regular_text.specs.Place.{IsPlace}
 use Rattle.regular_text.proofs.Theorems.{fault_at-None, fault_at-Some}
@@ -12,7 +12,7 @@ use Rattle.dn_names.specs.Spelling.{WrittenPair, SpellsName}
 use Rattle.dn_names.specs.Modes.{machine, text_fault}
 use Rattle.dn_names.specs.Reading.{written_of}
 use Rattle.dn_names.specs.Resolving.{add_pair, or_part, and_then, from_root, rdn_from, rdns_from, resolve, resolve_rdn, UnlessMemory}
-use Rattle.dn_names.specs.NameText.{NameText, RdnText, LeavesGrammar, IsRefused, NameCause, Gives, read_by, read_name, read_rdn}
+use Rattle.dn_names.specs.NameText.{NameText, RdnText, LeavesGrammar, NameCause, Gives, read_by, read_name, read_rdn}
 use Rattle.dn_names.proofs.MachineOfNames.{grammar_of, names_machine}
 use Rattle.dn_names.proofs.PairLemmas.{written_of-spelled}
 use Rattle.dn_names.proofs.GrammarIsSpelled.{spelled-IsNameText}
@@ -34,9 +34,9 @@ place_of_fault text place e = fault_at-Some machine grammar_of names_machine tex
 -- a fault's place is where the octets leave the grammar
 pub LeavesGrammar-from_text_fault : (text : List ℕ) (place : ℕ) → text_fault text ≡ Some place → LeavesGrammar text place
 LeavesGrammar-from_text_fault text place e = record {
-    outside = λ m. (let none = text_fault-IsNameText text m in cc);
-    exact = place_of_fault text place e
-  }
+  outside = λ m. (let none = text_fault-IsNameText text m in cc);
+  exact = place_of_fault text place e;
+}
 
 -- a text of the grammar spells what it is read as
 pub SpellsName-written_of : (text : List ℕ) → IsNameText text → SpellsName (written_of text) text
@@ -51,8 +51,9 @@ Meaning = List (List WrittenPair) → Result RdnSequence BadName
 pub read_by-Ok : (meaning : Meaning) (text : List ℕ) (name : RdnSequence) → read_by meaning (text_fault text) text ≡ Ok name → (written : List (List WrittenPair)) × SpellsName written text × (meaning written ≡ Ok name)
 read_by-Ok meaning text name h =
     elim (text_fault text) as (λ f. text_fault text ≡ f → read_by meaning f text ≡ Ok name → (written : List (List WrittenPair)) × SpellsName written text × (meaning written ≡ Ok name)) [
-        Some place ↦ λ _ e. absurd cc
-      | None ↦ λ none e. (written_of text, SpellsName-written_of text (IsNameText-from_text_fault text none), e) ] refl h
+      | Some place ↦ λ _ e. absurd cc
+      | None ↦ λ none e. (written_of text, SpellsName-written_of text (IsNameText-from_text_fault text none), e)
+    ] refl h
 
 -- a result that is no fault of the text
 abbrev IsNoText : {A : Type 0} → Result A BadName → Type 0
@@ -81,7 +82,7 @@ rdns_no_text : (index : ℕ) (written : List (List WrittenPair)) → IsNoText (r
 rdns_no_text index [] = tt
 rdns_no_text index (w ∷ ws) =
     then_no_text (rdn_from index [] w) (λ rdn. and_then (rdns_from (index + length w) ws) (λ rdns. Ok (rdn ∷ rdns))) (rdn_no_text index [] w)
-      (λ rdn. then_no_text (rdns_from (index + length w) ws) (λ rdns. Ok (rdn ∷ rdns)) (rdns_no_text (index + length w) ws) (λ _. tt))
+    (λ rdn. then_no_text (rdns_from (index + length w) ws) (λ rdns. Ok (rdn ∷ rdns)) (rdns_no_text (index + length w) ws) (λ _. tt))
 
 root_no_text : (written : List (List WrittenPair)) → IsNoText (from_root (rdns_from 0 written))
 root_no_text written = then_no_text (rdns_from 0 written) (λ rdns. Ok (reverse rdns)) (rdns_no_text 0 written) (λ _. tt)
@@ -90,13 +91,17 @@ resolve_no_text : (written : List (List WrittenPair)) → IsNoText (resolve writ
 unfolding resolve
 resolve_no_text written =
     elim (nat_lt 64 (length written)) as (λ b. IsNoText (if b then Err TooMany else from_root (rdns_from 0 written))) [
-        true ↦ tt | false ↦ root_no_text written ]
+      | true ↦ tt
+      | false ↦ root_no_text written
+    ]
 
 resolve_rdn_no_text : (written : List (List WrittenPair)) → IsNoText (resolve_rdn written)
 unfolding resolve_rdn
 resolve_rdn_no_text written =
     elim (length written == 1) as (λ b. IsNoText (if b then from_root (rdns_from 0 written) else Err TooMany)) [
-        true ↦ root_no_text written | false ↦ tt ]
+      | true ↦ root_no_text written
+      | false ↦ tt
+    ]
 
 refused : (meaning : Meaning) (text : List ℕ) (cause : BadName) → ((written : List (List WrittenPair)) → IsNoText (meaning written)) → text_fault text ≡ None → meaning (written_of text) ≡ Err cause → NameCause meaning text cause
 refused meaning text (Text place) no_text none e = absurd (subst (λ (r : Result RdnSequence BadName). IsNoText r) e (no_text (written_of text)))
@@ -113,8 +118,9 @@ outside_at meaning text place NoMemory fault e = tt
 read_by-Err : (meaning : Meaning) → ((written : List (List WrittenPair)) → IsNoText (meaning written)) → (text : List ℕ) (cause : BadName) → read_by meaning (text_fault text) text ≡ Err cause → NameCause meaning text cause
 read_by-Err meaning no_text text cause h =
     elim (text_fault text) as (λ f. text_fault text ≡ f → read_by meaning f text ≡ Err cause → NameCause meaning text cause) [
-        Some place ↦ λ fault e. outside_at meaning text place cause fault cc
-      | None ↦ λ none e. refused meaning text cause no_text none e ] refl h
+      | Some place ↦ λ fault e. outside_at meaning text place cause fault cc
+      | None ↦ λ none e. refused meaning text cause no_text none e
+    ] refl h
 
 gives_cause : (meaning : Meaning) → ((written : List (List WrittenPair)) → IsNoText (meaning written)) → (text : List ℕ) (cause : BadName) → UnlessMemory cause (read_by meaning (text_fault text) text ≡ Err cause) → NameCause meaning text cause
 gives_cause meaning no_text text NoMemory h = tt

@@ -1,6 +1,6 @@
 -- Parts at marks: a text that has no bare mark and ends behind no backslash is one part.
-use Rattle.std.proofs.Common.{◌≡◌, ℕ, suc, ◌+◌, ◌<◌, Bool, true, false, cond, not, List, [], ◌∷◌, ◌++◌, map, take, drop, get_or, length, refl, sym, ap, subst, ◌∙◌, arith}
-use Rattle.std.specs.Prelude.{◌==◌, ◌&&◌, if◌then◌else◌, nat_lt}
+use Rattle.std.proofs.Common.{◌≡◌, ℕ, suc, ◌+◌, ◌<◌, Bool, true, false, not, List, [], ◌∷◌, ◌++◌, map, take, drop, get_or, length, refl, sym, ap, ◌∙◌, arith}
+use Rattle.std.specs.Prelude.{◌==◌, ◌&&◌, if◌then◌else◌}
 use Rattle.std.proofs.lemmas.List.{drop_more}
 use Rattle.std.proofs.lemmas.Bool.{false≢true, cond-false, cond-true}
 use Rattle.std.proofs.lemmas.Bool.Decides.{nat_tests}
@@ -73,7 +73,7 @@ is_clean-joined mark other P each between (r ∷ []) text j = each r text j
 is_clean-joined mark other P each between (r ∷ s ∷ rs) text (front, rest, e, p, j) =
     ap (is_clean other false) e
     ∙ is_clean-append other false front (mark ∷ rest) (each r front p)
-        (is_clean-append other false (mark ∷ []) rest between (is_clean-joined mark other P each between (s ∷ rs) rest j))
+    (is_clean-append other false (mark ∷ []) rest between (is_clean-joined mark other P each between (s ∷ rs) rest j))
 
 -- what stands after the first part
 abbrev pub parts_after : ℕ → List ℕ → List (List ℕ)
@@ -85,8 +85,9 @@ pub parts_from-mark : (mark : ℕ) (escaped : Bool) (text : List ℕ) → parts_
 parts_from-mark mark escaped [] = refl
 parts_from-mark mark escaped (x ∷ xs) =
     elim (is_mark mark escaped x) as (λ b. (if b then [] ∷ parts_from mark false xs else put_front x (parts_from mark (escapes_next escaped x) xs)) ≡ take (if b then 0 else suc (mark_from mark (escapes_next escaped x) xs)) (x ∷ xs) ∷ parts_after mark (drop (if b then 0 else suc (mark_from mark (escapes_next escaped x) xs)) (x ∷ xs))) [
-        true ↦ refl
-      | false ↦ ap (put_front x) (parts_from-mark mark (escapes_next escaped x) xs) ]
+      | true ↦ refl
+      | false ↦ ap (put_front x) (parts_from-mark mark (escapes_next escaped x) xs)
+    ]
 
 length-put_front : (x n : ℕ) (parts : List (List ℕ)) → length parts ≡ suc n → length (put_front x parts) ≡ suc n
 length-put_front x n [] e = absurd (omega (arith, e))
@@ -97,8 +98,9 @@ pub length-parts_from : (mark : ℕ) (escaped : Bool) (text : List ℕ) → leng
 length-parts_from mark escaped [] = refl
 length-parts_from mark escaped (x ∷ xs) =
     elim (is_mark mark escaped x) as (λ b. length (if b then [] ∷ parts_from mark false xs else put_front x (parts_from mark (escapes_next escaped x) xs)) ≡ suc (if b then suc (marks_from mark false xs) else marks_from mark (escapes_next escaped x) xs)) [
-        true ↦ ap suc (length-parts_from mark false xs)
-      | false ↦ length-put_front x (marks_from mark (escapes_next escaped x) xs) (parts_from mark (escapes_next escaped x) xs) (length-parts_from mark (escapes_next escaped x) xs) ]
+      | true ↦ ap suc (length-parts_from mark false xs)
+      | false ↦ length-put_front x (marks_from mark (escapes_next escaped x) xs) (parts_from mark (escapes_next escaped x) xs) (length-parts_from mark (escapes_next escaped x) xs)
+    ]
 
 -- the marks that are left, one octet on
 pub marks_from-mark : (mark : ℕ) (escaped : Bool) (text : List ℕ) (place : ℕ) → place < length text → is_mark mark escaped (get_or text place 0) ≡ true → marks_from mark escaped (drop place text) ≡ suc (marks_from mark false (drop (place + 1) text))

@@ -1,7 +1,6 @@
 -- A name is printed from its last RDN on, and what is printed of texts is a text.
-use Rattle.std.proofs.Common.{◌≡◌, ℕ, ◌+◌, ◌-◌, ◌<◌, ◌≤◌, Bool, true, false, List, [], ◌∷◌, ◌++◌, length, take, drop, get_or, reverse, map, Vec, refl, sym, ap, subst, ◌∙◌, arith, append_assoc}
-use Rattle.std.specs.Prelude.{◌==◌, ◌||◌, if◌then◌else◌, IsUtf8}
-use Rattle.std.specs.List.{AllByRecursion}
+use Rattle.std.proofs.Common.{◌≡◌, ℕ, ◌+◌, ◌-◌, ◌<◌, false, List, [], ◌∷◌, ◌++◌, length, take, drop, get_or, reverse, Vec, refl, sym, ap, ◌∙◌, arith, append_assoc}
+use Rattle.std.specs.Prelude.{◌==◌, if◌then◌else◌}
 use Rattle.std.proofs.lemmas.List.{drop_more, take_more, drop-map, take-map, get_or-reverse, length-reverse}
 use Rattle.std.proofs.lemmas.Bool.Decides.{nat_tests}
 use Rattle.dn_names.specs.Printing.{join_from, print_rdn}
@@ -9,7 +8,6 @@ use Rattle.dn_names.specs.Names.{TypeAndValue, RdnSequence, rdns_of, IsTextRdn, 
 use Rattle.dn_names.proofs.ResolveLemmas.{rdns_of-reverse, rdns_of-push}
 
 module _ {Z : Type 0} (rdns : List (Vec TypeAndValue Z)) (index : ℕ) (rdn : Vec TypeAndValue Z) (within : index < length rdns) (is : rdn ≡ get_or rdns (length rdns - 1 - index) rdn) where
-
   from_end : get_or (reverse rdns) index rdn ≡ rdn
   from_end = get_or-reverse rdns index rdn within ∙ sym is
 

@@ -1,35 +1,10 @@
 -- The printed form of a good name spells it, and is read as it.
-use Rattle.std.proofs.Common.{◌≡◌, ◌≢◌, ℕ, ◌<◌, ◌≤◌, ◌+◌, ◌*◌, suc, Bool, true, false, List, [], ◌∷◌, ◌++◌, map, length, reverse, slice_get, Option, Some, None, IsSome, Result, Ok, Err, inl, inr, refl, sym, ap, subst, ◌∙◌, arith, append_assoc, nat_lt}
-use Rattle.std.specs.Prelude.{◌==◌, ◌&&◌, ◌||◌, nat_le, if◌then◌else◌, slice_index, IsAscii}
-use Rattle.std.specs.Char.{digit_value, is_ascii_alphabetic, is_ascii_alphanumeric}
-use Rattle.std.specs.Option.{option_map, option_map_or, option_and_then}
-use Rattle.std.specs.List.{AllByRecursion, list_all, concat}
-use Rattle.std.specs.Str.{is_utf8}
-use Rattle.std.proofs.lemmas.Bool.{false≢true, cond-true, cond-false}
+use Rattle.std.proofs.Common.{◌≡◌, ◌≢◌, ℕ, Bool, true, false, List, [], ◌∷◌, ◌++◌, inl, inr, refl, sym, ap, subst, ◌∙◌, arith}
+use Rattle.std.specs.Prelude.{◌==◌, if◌then◌else◌, slice_index}
 use Rattle.std.proofs.lemmas.Bool.Decides.{nat_tests}
-use Rattle.std.proofs.lemmas.List.{append-nil, length-map, length-reverse, reverse-reverse}
-use Rattle.std.proofs.lemmas.Str.{IsUtf8-from_ascii, is_utf8-from_IsUtf8}
-use Rattle.regular_text.specs.Grammar.{Grammar, Matches}
-use Rattle.schema_core.specs.Attributes.{Attribute, attributes, attribute_at, attr_of, name_of, is_naming, syntax_of, IsAttrId}
-use Rattle.schema_core.specs.Naming.{is_keystring}
-use Rattle.schema_core.proofs.Theorems.{attr_of-name_of, is_keystring-name_of}
-use Rattle.dn_names.specs.declared.error.BadName.{BadName}
-use Rattle.dn_names.specs.declared.error.BadName.TheVariants.{TooMany}
-use Rattle.dn_names.specs.declared.print.Shown.TheVariants.{Octets}
-use Rattle.dn_names.specs.declared.classes.Class.{Class}
-use Rattle.dn_names.specs.Classes.{class_of, is_letter, is_word, is_plain, is_escapable, is_hex}
-use Rattle.dn_names.specs.Names.{Keyed, TypeAndValue, RdnSequence}
-use Rattle.dn_names.specs.Spelling.{WrittenPair, AreSpaces, IsPiece, SpellsOctets, SpellsValue, IsKind, SpellsPair, IsJoined, SpellsRdn, SpellsName}
-use Rattle.dn_names.specs.Values.{of_text, plain_key}
-use Rattle.dn_names.specs.Resolving.{naming_value, pair_meaning, put_pair, add_pair, and_then, rdn_from, rdns_from, from_root, resolve}
-use Rattle.dn_names.specs.NameText.{NameText}
-use Rattle.dn_names.specs.Printing.{is_escaped, print_octet, is_empty, print_from, print_value, join_from, print_pair, print_rdn, shown_of, print_by, print_name}
-use Rattle.dn_names.specs.GoodNames.{IsGoodPair, IsInTableOrder, IsGoodRdn, IsGoodName}
-use Rattle.dn_names.proofs.PartsLemmas.{and_parts}
-use Rattle.dn_names.proofs.NamingTextLemmas.{ascii_all}
-use Rattle.dn_names.proofs.OrderedLemmas.{put_pair-last}
-use Rattle.dn_names.proofs.GoodNameLemmas.{all_reverse}
-use Rattle.dn_names.proofs.ResolveLemmas.{rdn_from-add, map-reverse}
+use Rattle.dn_names.specs.Classes.{class_of, is_plain, is_escapable, is_hex}
+use Rattle.dn_names.specs.Spelling.{IsPiece, SpellsOctets, SpellsValue}
+use Rattle.dn_names.specs.Printing.{is_escaped, print_octet, is_empty, print_from, print_value}
 
 -- how a printed octet stands for the octet
 escaped_escapable : (first last : Bool) (x : ℕ) → is_escaped first last (class_of x) ≡ true → is_escapable (class_of x) ≡ true
@@ -53,10 +28,12 @@ zero_hex = refl
 piece_printed : (first last : Bool) (x : ℕ) → IsPiece x (print_octet first last x)
 piece_printed first last x =
     elim (is_escaped first last (class_of x)) as (λ b. is_escaped first last (class_of x) ≡ b → IsPiece x (if b then 92 ∷ x ∷ [] else if x == 0 then 92 ∷ 48 ∷ 48 ∷ [] else x ∷ [])) [
-        true ↦ λ e. inr (inl (refl, escaped_escapable first last x e))
+      | true ↦ λ e. inr (inl (refl, escaped_escapable first last x e))
       | false ↦ λ e. elim (x == 0) as (λ z. (x == 0) ≡ z → IsPiece x (if z then 92 ∷ 48 ∷ 48 ∷ [] else x ∷ [])) [
-            true ↦ λ z. inr (inr (48, 48, refl, zero_hex, zero_hex, grind (arith, nat_tests)))
-          | false ↦ λ z. inl (refl, bare_plain first last x e z) ] refl ] refl
+        | true ↦ λ z. inr (inr (48, 48, refl, zero_hex, zero_hex, grind (arith, nat_tests)))
+        | false ↦ λ z. inl (refl, bare_plain first last x e z)
+      ] refl
+    ] refl
 
 -- no bare space stands at an end, and no bare # at the front
 space_escaped : (first : Bool) → print_octet first true 32 ≡ 92 ∷ 32 ∷ []
@@ -67,17 +44,20 @@ space_escaped false = refl
 last_octet : (first : Bool) (x : ℕ) → print_octet first true x ≢ 32 ∷ []
 last_octet first x =
     elim (x == 32) as (λ b. (x == 32) ≡ b → print_octet first true x ≢ 32 ∷ []) [
-        true ↦ λ e bare. (let same : x ≡ 32 = grind (arith, nat_tests) in
+      | true ↦ λ e bare. (let same : x ≡ 32 = grind (arith, nat_tests) in
           let is = ap (print_octet first true) same ∙ space_escaped first in let clash = sym is ∙ bare in cc)
-      | false ↦ λ e bare. other_octet first x e bare ] refl
+      | false ↦ λ e bare. other_octet first x e bare
+    ] refl
   where
     other_octet : (first : Bool) (x : ℕ) → (x == 32) ≡ false → print_octet first true x ≡ 32 ∷ [] → ⊥
     other_octet first x e bare =
         elim (is_escaped first true (class_of x)) as (λ b. (if b then 92 ∷ x ∷ [] else if x == 0 then 92 ∷ 48 ∷ 48 ∷ [] else x ∷ []) ≡ 32 ∷ [] → ⊥) [
-            true ↦ λ h. cc
+          | true ↦ λ h. cc
           | false ↦ elim (x == 0) as (λ z. (if z then 92 ∷ 48 ∷ 48 ∷ [] else x ∷ []) ≡ 32 ∷ [] → ⊥) [
-                true ↦ λ h. cc
-              | false ↦ λ h. (let same : x ≡ 32 = cc in grind (arith, nat_tests, e, same)) ] ] bare
+            | true ↦ λ h. cc
+            | false ↦ λ h. (let same : x ≡ 32 = cc in grind (arith, nat_tests, e, same))
+          ]
+        ] bare
 
 octets_printed : (first : Bool) (octets : List ℕ) → SpellsOctets octets (print_from first octets)
 octets_printed first [] = tt

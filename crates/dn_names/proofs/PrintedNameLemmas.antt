@@ -1,23 +1,22 @@
 -- The printed form of a good name spells it, and is read as it.
-use Rattle.std.proofs.Common.{◌≡◌, ◌≢◌, ℕ, ◌<◌, ◌≤◌, ◌+◌, suc, Bool, true, false, List, [], ◌∷◌, ◌++◌, map, length, reverse, Option, Some, None, Result, Ok, Err, inl, refl, sym, ap, subst, ◌∙◌, arith, append_assoc, nat_lt}
+use Rattle.std.proofs.Common.{◌≡◌, ℕ, ◌<◌, ◌≤◌, ◌+◌, true, false, List, [], ◌∷◌, ◌++◌, map, length, reverse, Option, Some, None, Ok, Err, inl, refl, sym, ap, subst, ◌∙◌, arith, append_assoc, nat_lt}
 use Rattle.std.specs.Prelude.{◌==◌, ◌&&◌, ◌||◌, nat_le, if◌then◌else◌}
 use Rattle.std.specs.Char.{is_ascii_alphabetic, is_ascii_alphanumeric}
 use Rattle.std.specs.Option.{option_map, option_map_or, option_and_then}
-use Rattle.std.specs.List.{AllByRecursion, list_all, concat}
+use Rattle.std.specs.List.{AllByRecursion, list_all}
 use Rattle.std.specs.Str.{is_utf8}
 use Rattle.std.proofs.lemmas.Bool.{false≢true, cond-true, cond-false}
 use Rattle.std.proofs.lemmas.Bool.Decides.{nat_tests}
 use Rattle.std.proofs.lemmas.List.{append-nil, length-map, length-reverse, reverse-reverse}
 use Rattle.std.proofs.lemmas.Option.{slice_get_within}
 use Rattle.std.proofs.lemmas.Str.{IsUtf8-from_ascii, is_utf8-from_IsUtf8}
-use Rattle.regular_text.specs.Grammar.{Grammar, Matches}
+use Rattle.regular_text.specs.Grammar.{Matches}
 use Rattle.regular_text.specs.Grammar.Grammar.{One, Many}
 use Rattle.schema_core.specs.Attributes.{Attribute, attributes, attribute_at, attr_of, name_of, is_naming, syntax_of, IsAttrId}
 use Rattle.schema_core.specs.Naming.{is_keystring}
 use Rattle.schema_core.proofs.Theorems.{attr_of-name_of, is_keystring-name_of}
-use Rattle.dn_names.specs.declared.error.BadName.{BadName}
 use Rattle.dn_names.specs.declared.error.BadName.TheVariants.{TooMany}
-use Rattle.dn_names.specs.declared.print.Shown.TheVariants.{Octets}
+use Rattle.dn_names.specs.declared.printing.Shown.TheVariants.{Octets}
 use Rattle.dn_names.specs.Classes.{class_of, is_letter, is_word}
 use Rattle.dn_names.specs.Names.{Keyed, TypeAndValue, RdnSequence}
 use Rattle.dn_names.specs.Spelling.{WrittenPair, IsKind, SpellsPair, IsJoined, SpellsRdn, SpellsName}
@@ -28,7 +27,7 @@ use Rattle.dn_names.specs.Printing.{print_value, join_from, print_pair, print_rd
 use Rattle.dn_names.specs.GoodNames.{IsGoodPair, IsInTableOrder, IsGoodRdn, IsGoodName}
 use Rattle.dn_names.proofs.PartsLemmas.{and_parts}
 use Rattle.dn_names.proofs.NamingTextLemmas.{ascii_all}
-use Rattle.dn_names.proofs.OrderedLemmas.{all_map, put_pair-last}
+use Rattle.dn_names.proofs.OrderedLemmas.{put_pair-last}
 use Rattle.dn_names.proofs.GoodNameLemmas.{all_reverse, all_push}
 use Rattle.dn_names.proofs.ResolveLemmas.{rdn_from-add}
 use Rattle.dn_names.proofs.PrintedLemmas.{value_printed}
@@ -42,8 +41,9 @@ pub good_kind : (number : ℕ) (octets : List ℕ) (value : Keyed) → naming_va
 unfolding naming_value
 good_kind number octets value h =
     elim (is_naming number && nat_le (length octets) 65536) as (λ b. (is_naming number && nat_le (length octets) 65536) ≡ b → (if b then option_map (λ key. record { octets = octets; key = key }) (option_and_then (λ syntax. plain_key syntax octets) (syntax_of number)) else None) ≡ Some value → IsAttrId number) [
-        true ↦ λ e _. there (attribute_at number) refl (and_parts (is_naming number) (nat_le (length octets) 65536) e).0
-      | false ↦ λ _ found. absurd cc ] refl h
+      | true ↦ λ e _. there (attribute_at number) refl (and_parts (is_naming number) (nat_le (length octets) 65536) e).0
+      | false ↦ λ _ found. absurd cc
+    ] refl h
   where
     there : (row : Option Attribute) → attribute_at number ≡ row → option_map_or (λ r. r.naming) row false ≡ true → IsAttrId number
     there None e h = absurd (false≢true h)
@@ -91,23 +91,23 @@ keystring_text text h =
 -- a printed pair spells what it writes, and means the pair
 pair_printed : (pair : TypeAndValue) → IsGoodPair pair → SpellsPair (write pair) (print_pair (shown_of Octets) pair)
 pair_printed pair good = record {
-    before = [];
-    after = [];
-    value = print_value pair.value.octets;
-    is_text = refl;
-    gap_before = tt;
-    is_kind = keystring_kind (name_of pair.kind) (is_keystring-name_of pair.kind (good_kind pair.kind pair.value.octets pair.value good));
-    gap_after = tt;
-    spells = value_printed pair.value.octets
-  }
+  before = [];
+  after = [];
+  value = print_value pair.value.octets;
+  is_text = refl;
+  gap_before = tt;
+  is_kind = keystring_kind (name_of pair.kind) (is_keystring-name_of pair.kind (good_kind pair.kind pair.value.octets pair.value good));
+  gap_after = tt;
+  spells = value_printed pair.value.octets;
+}
 
 pair_meant : (pair : TypeAndValue) → IsGoodPair pair → pair_meaning (write pair) ≡ Some pair
 unfolding pair_meaning
 pair_meant pair good =
     let there = good_kind pair.kind pair.value.octets pair.value good in
     let kind : of_text attr_of (name_of pair.kind) ≡ Some pair.kind =
-        cond-true (is_utf8 (name_of pair.kind)) (attr_of (name_of pair.kind)) None (keystring_text (name_of pair.kind) (is_keystring-name_of pair.kind there))
-        ∙ attr_of-name_of pair.kind there in
+    cond-true (is_utf8 (name_of pair.kind)) (attr_of (name_of pair.kind)) None (keystring_text (name_of pair.kind) (is_keystring-name_of pair.kind there))
+    ∙ attr_of-name_of pair.kind there in
     ap (λ k. option_and_then (λ number. option_map (λ value. record { kind = number; value = value }) (naming_value number pair.value.octets)) k) kind
     ∙ ap (option_map (λ value. record { kind = pair.kind; value = value })) good
 
@@ -153,11 +153,13 @@ unfolding NameText print_name print_by resolve
 NameText-print_name name good =
     let rdns = reverse name in
     let all = all_reverse IsGoodRdn name good.good in
-    let size : length (map (map write) rdns) ≡ length name = length-map rdns (map write) ∙ length-reverse name in
-    (map (map write) rdns, rdns_printed rdns all,
+    let size : length (map (map write) rdns) ≡ length name = length-map rdns (map write) ∙ length-reverse name in (
+      map (map write) rdns,
+      rdns_printed rdns all,
       cond-false (nat_lt 64 (length (map (map write) rdns))) (Err TooMany) (from_root (rdns_from 0 (map (map write) rdns))) (few size good.fits)
-      ∙ ap from_root (rdns_back 0 rdns all)
-      ∙ ap Ok (reverse-reverse name))
+          ∙ ap from_root (rdns_back 0 rdns all)
+          ∙ ap Ok (reverse-reverse name),
+    )
   where
     few : {m : ℕ} → m ≡ length name → length name ≤ 64 → nat_lt 64 m ≡ false
     few e h = rw e (grind (arith, nat_tests))

@@ -1,15 +1,14 @@
 -- What spells a name is in the outer grammar.
-use Rattle.std.proofs.Common.{◌≡◌, ◌≢◌, ℕ, Bool, true, false, List, [], ◌∷◌, ◌++◌, inl, inr, refl, sym, ap, subst, ◌∙◌, arith, append_assoc}
-use Rattle.std.specs.Prelude.{◌==◌, slice_index}
-use Rattle.std.specs.List.{AllByRecursion, concat}
+use Rattle.std.proofs.Common.{◌≡◌, ◌≢◌, ℕ, Bool, true, List, [], ◌∷◌, ◌++◌, inl, inr, refl, sym, ap, subst, ◌∙◌, arith}
+use Rattle.std.specs.Prelude.{slice_index}
 use Rattle.std.proofs.lemmas.List.{append-nil}
 use Rattle.std.proofs.lemmas.Bool.Decides.{nat_tests}
 use Rattle.regular_text.specs.Grammar.{Grammar, Matches}
 use Rattle.regular_text.specs.Grammar.Grammar.{Nothing, One, Either, Then, Many}
 use Rattle.dn_names.specs.declared.classes.Class.{Class}
 use Rattle.dn_names.specs.Classes.{class_of, is_space, is_plus, is_comma, is_plain, is_first, is_backslash, is_equals}
-use Rattle.dn_names.specs.NameGrammar.{spaces, escape, first_piece, piece, value, pair, more_pairs, rdn, name, IsNameText}
-use Rattle.dn_names.specs.Spelling.{WrittenPair, AreSpaces, IsPiece, SpellsOctets, SpellsValue, SpellsPair, IsJoined, SpellsRdn, SpellsName}
+use Rattle.dn_names.specs.NameGrammar.{spaces, escape, first_piece, piece, pair, rdn, IsNameText}
+use Rattle.dn_names.specs.Spelling.{WrittenPair, AreSpaces, IsPiece, SpellsOctets, SpellsPair, IsJoined, SpellsRdn, SpellsName}
 
 -- one more text before any number of them
 many_cons : (g : Grammar Class) (front rest : List ℕ) → Matches class_of g front → Matches class_of (Many g) rest → Matches class_of (Many g) (front ++ rest)
@@ -47,7 +46,7 @@ octets_match [] [] h = ([], refl, tt)
 octets_match [] (x ∷ xs) h = many_cons piece (x ∷ []) xs (inl (x, refl, space_plain x h.0)) (octets_match [] xs h.1)
 octets_match (octet ∷ octets) text (front, rest, e, p, more, last) =
     subst (λ (t : List ℕ). Matches class_of (Many piece) t) (sym e)
-      (many_cons piece front rest (piece_matches octet front p) (octets_match octets rest more))
+    (many_cons piece front rest (piece_matches octet front p) (octets_match octets rest more))
 
 plain_first : (x : ℕ) → is_plain (class_of x) ≡ true → x ≢ 32 → x ≢ 35 → is_first (class_of x) ≡ true
 unfolding class_of
@@ -72,21 +71,47 @@ equals_matches = (61, refl, refl)
 
 pair_matches : (p : WrittenPair) (text : List ℕ) → SpellsPair p text → Matches class_of pair text
 pair_matches p text h =
-    let v = h.spells in
-    (h.before, p.kind ++ (h.after ++ 61 ∷ h.value), h.is_text, spaces_match h.before h.gap_before,
-      (p.kind, h.after ++ 61 ∷ h.value, refl, h.is_kind,
-        (h.after, 61 ∷ h.value, refl, spaces_match h.after h.gap_after,
-          (61 ∷ [], h.value, refl, equals_matches,
-            (v.0, v.1, v.2, spaces_match v.0 v.3, value_matches p.octets v.1 v.4 v.5 v.6)))))
+    let v = h.spells in (
+      h.before,
+      p.kind ++ (h.after ++ 61 ∷ h.value),
+      h.is_text,
+      spaces_match h.before h.gap_before,
+      (
+        p.kind,
+        h.after ++ 61 ∷ h.value,
+        refl,
+        h.is_kind,
+        (
+          h.after,
+          61 ∷ h.value,
+          refl,
+          spaces_match h.after h.gap_after,
+          (
+            61 ∷ [],
+            h.value,
+            refl,
+            equals_matches,
+            (v.0, v.1, v.2, spaces_match v.0 v.3, value_matches p.octets v.1 v.4 v.5 v.6),
+          ),
+        ),
+      ),
+    )
 
 joined_matches : {R : Type 0} (mark : ℕ) (test : Class → Bool) (g : Grammar Class) (P : R → List ℕ → Type 0) → test (class_of mark) ≡ true → ((r : R) (text : List ℕ) → P r text → Matches class_of g text) → (rs : List R) (text : List ℕ) → IsJoined mark P rs text → Matches class_of (Then g (Many (Then (One test) g))) text
 joined_matches mark test g P is_mark each [] text j = absurd j
 joined_matches mark test g P is_mark each (r ∷ []) text j = (text, [], sym (append-nil text), each r text j, ([], refl, tt))
 joined_matches mark test g P is_mark each (r ∷ s ∷ rs) text (front, rest, e, p, j) =
-    let w = joined_matches mark test g P is_mark each (s ∷ rs) rest j in
-    (front, mark ∷ rest, e, each r front p,
-      ((mark ∷ w.0) ∷ w.4.0, ap (λ t. mark ∷ t) (w.2 ∙ ap (λ t. w.0 ++ t) w.4.1),
-        ((mark ∷ [], w.0, refl, (mark, refl, is_mark), w.3), w.4.2)))
+    let w = joined_matches mark test g P is_mark each (s ∷ rs) rest j in (
+      front,
+      mark ∷ rest,
+      e,
+      each r front p,
+      (
+        (mark ∷ w.0) ∷ w.4.0,
+        ap (λ t. mark ∷ t) (w.2 ∙ ap (λ t. w.0 ++ t) w.4.1),
+        ((mark ∷ [], w.0, refl, (mark, refl, is_mark), w.3), w.4.2),
+      ),
+    )
 
 plus_class : is_plus (class_of 43) ≡ true
 unfolding class_of

@@ -1,5 +1,5 @@
 -- What is left after two fronts is what is left of what is left.
-use Rattle.std.proofs.Common.{◌≡◌, ℕ, ◌+◌, ◌<◌, length, drop, Bool, true, false, List, [], ◌∷◌, ◌++◌, Option, Some, None, refl, sym, ap, subst, ◌∙◌, append_assoc, arith, eqb-true}
+use Rattle.std.proofs.Common.{◌≡◌, ℕ, ◌+◌, ◌<◌, length, drop, true, false, List, [], ◌∷◌, ◌++◌, Option, Some, None, refl, sym, ap, ◌∙◌, append_assoc, arith, eqb-true}
 use Rattle.std.proofs.lemmas.List.{drop_more}
 use Rattle.std.proofs.lemmas.Bool.{cond-true}
 use Rattle.std.proofs.lemmas.Bool.Decides.{nat_tests}
@@ -13,7 +13,9 @@ strip_some [] more octets rest e = (let is : octets ≡ rest = cc in ap (strip m
 strip_some (x ∷ front) more [] rest e = absurd cc
 strip_some (x ∷ front) more (y ∷ octets) rest e =
     elim (x == y) as (λ b. (if b then strip front octets else None) ≡ Some rest → (if b then strip (front ++ more) octets else None) ≡ strip more rest) [
-        true ↦ λ h. strip_some front more octets rest h | false ↦ λ h. absurd cc ] e
+      | true ↦ λ h. strip_some front more octets rest h
+      | false ↦ λ h. absurd cc
+    ] e
 
 -- where it isn't
 pub strip_none : (front more octets : List ℕ) → strip front octets ≡ None → strip (front ++ more) octets ≡ None
@@ -21,7 +23,9 @@ strip_none [] more octets e = absurd cc
 strip_none (x ∷ front) more [] e = refl
 strip_none (x ∷ front) more (y ∷ octets) e =
     elim (x == y) as (λ b. (if b then strip front octets else None) ≡ None → (if b then strip (front ++ more) octets else None) ≡ None) [
-        true ↦ λ h. strip_none front more octets h | false ↦ λ h. refl ] e
+      | true ↦ λ h. strip_none front more octets h
+      | false ↦ λ h. refl
+    ] e
 
 -- where the first two of three are there, and where they aren't
 pub strip_two : (front next more octets rest : List ℕ) → strip (front ++ next) octets ≡ Some rest → strip (front ++ (next ++ more)) octets ≡ strip more rest
@@ -43,14 +47,14 @@ strip_nil [] octets e = cc
 strip_nil (x ∷ front) [] e = absurd cc
 strip_nil (x ∷ front) (y ∷ octets) e =
     elim (x == y) as (λ b. (x == y) ≡ b → (if b then strip front octets else None) ≡ Some [] → y ∷ octets ≡ x ∷ front) [
-        true ↦ λ is h. (let heads = eqb-true x y is in let tails = strip_nil front octets h in cc)
-      | false ↦ λ _ h. absurd cc ] refl e
+      | true ↦ λ is h. (let heads = eqb-true x y is in let tails = strip_nil front octets h in cc)
+      | false ↦ λ _ h. absurd cc
+    ] refl e
 
 not_first : (i : ℕ) → (i + 1 == 0) ≡ false
 not_first i = grind (arith, nat_tests)
 
 module _ {A : Type 0} (mark : ℕ) (show : A → List ℕ) (xs : List A) (i : ℕ) (x : A) (rest : List ℕ) (total : Option (List ℕ)) (left : drop i xs ≡ x ∷ drop (i + 1) xs) (e : strip (join_from mark show (i == 0) (drop i xs)) rest ≡ total) where
-
   -- one item more is there
   pub strip_next : (others : List ℕ) → strip ((if i == 0 then [] else mark ∷ []) ++ show x) rest ≡ Some others → strip (join_from mark show (i + 1 == 0) (drop (i + 1) xs)) others ≡ total
   strip_next others there =

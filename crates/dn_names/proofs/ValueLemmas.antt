@@ -1,8 +1,8 @@
 -- What spells a value's octets is read as those octets, and is one part at the marks between pairs and RDNs.
-use Rattle.std.proofs.Common.{◌≡◌, ◌≢◌, ◌+◌, ◌*◌, ◌<◌, ℕ, Bool, true, false, not, List, [], ◌∷◌, ◌++◌, inl, inr, refl, sym, ap, subst, ◌∙◌, arith, eqb-true}
-use Rattle.std.specs.Prelude.{◌==◌, ◌&&◌, ◌%◌, ◌⊎◌, if◌then◌else◌, slice_index}
+use Rattle.std.proofs.Common.{◌≡◌, ◌≢◌, ◌+◌, ◌*◌, ℕ, Bool, true, false, List, [], ◌∷◌, ◌++◌, inl, inr, refl, sym, ap, subst, ◌∙◌, arith, eqb-true}
+use Rattle.std.specs.Prelude.{◌==◌, ◌%◌, if◌then◌else◌, slice_index}
 use Rattle.std.specs.Char.{digit_value}
-use Rattle.std.proofs.lemmas.Bool.{false≢true, cond-false, cond-true}
+use Rattle.std.proofs.lemmas.Bool.{cond-false, cond-true}
 use Rattle.std.proofs.lemmas.Bool.Decides.{nat_tests}
 use Rattle.dn_names.specs.declared.octets.Reading.TheVariants.{Plain, Escaped, HalfByte}
 use Rattle.dn_names.specs.Classes.{class_of, is_hex, is_plain, is_escapable}
@@ -31,9 +31,10 @@ plain_piece octet octets rest plain e last =
     let others = plain_other octet plain in
     cond-false (octet == 92) (octets_from Escaped rest) (if octet == 32 then spaced (octets_from Plain rest) else octet ∷ octets_from Plain rest) others.2
     ∙ (elim (octet == 32) as (λ b. (octet == 32) ≡ b → (if b then spaced (octets_from Plain rest) else octet ∷ octets_from Plain rest) ≡ octet ∷ octets) [
-          true ↦ λ is. (let same = eqb-true octet 32 is in
-            ap spaced e ∙ spaced-cons octets (λ nil. last nil (ap (λ x. x ∷ []) same)) ∙ ap (λ x. x ∷ octets) (sym same))
-        | false ↦ λ _. ap (λ t. octet ∷ t) e ] refl)
+      | true ↦ λ is. (let same = eqb-true octet 32 is in
+          ap spaced e ∙ spaced-cons octets (λ nil. last nil (ap (λ x. x ∷ []) same)) ∙ ap (λ x. x ∷ octets) (sym same))
+      | false ↦ λ _. ap (λ t. octet ∷ t) e
+    ] refl)
 
 escaped_piece : (octet : ℕ) (octets rest : List ℕ) → is_escapable (class_of octet) ≡ true → octets_from Plain rest ≡ octets → octets_from Plain (92 ∷ octet ∷ rest) ≡ octet ∷ octets
 escaped_piece octet octets rest h e =
@@ -101,7 +102,7 @@ piece_clean m octet text (inr (inr p)) =
     let others = hex_other p.1 p.4 in
     ap (is_clean (separator m) false) p.2
     ∙ is_clean-append (separator m) false (92 ∷ p.0 ∷ []) (p.1 ∷ []) (clean_pair m p.0)
-        (clean_one (separator m) p.1 (other_mark m p.1 others) others.2)
+    (clean_one (separator m) p.1 (other_mark m p.1 others) others.2)
 
 space_clean : (m : Bool) → is_clean (separator m) false (32 ∷ []) ≡ true
 space_clean true = refl

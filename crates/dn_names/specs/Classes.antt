@@ -86,24 +86,31 @@ is_escapable k = false
 abbrev pub is_zero : Class → Bool
 is_zero Zero = true
 is_zero k = false
+
 abbrev pub is_nonzero : Class → Bool
 is_nonzero Digit = true
 is_nonzero k = false
+
 abbrev pub is_dot : Class → Bool
 is_dot Dot = true
 is_dot k = false
+
 abbrev pub is_space : Class → Bool
 is_space Space = true
 is_space k = false
+
 abbrev pub is_equals : Class → Bool
 is_equals Equals = true
 is_equals k = false
+
 abbrev pub is_plus : Class → Bool
 is_plus Plus = true
 is_plus k = false
+
 abbrev pub is_comma : Class → Bool
 is_comma Comma = true
 is_comma k = false
+
 abbrev pub is_backslash : Class → Bool
 is_backslash Backslash = true
 is_backslash k = false

@@ -2,7 +2,7 @@
 use Rattle.std.specs.Prelude.{ℕ, Bool, true, false, List, Option, Some, None, if◌then◌else◌}
 use Rattle.regular_text.specs.Machine.{Machine, fault_at}
 use Rattle.dn_names.specs.declared.classes.Class.{Class}
-use Rattle.dn_names.specs.declared.classes.Class.TheVariants.{HexLetter, Letter, Zero, Digit, Dash, Dot, Space, Equals, Plus, Comma, Hash, Backslash, Mark, Nul, Other}
+use Rattle.dn_names.specs.declared.classes.Class.TheVariants.{HexLetter, Letter, Zero, Digit, Dot, Space, Equals, Plus, Comma, Hash, Backslash, Mark, Nul}
 use Rattle.dn_names.specs.declared.modes.Mode.{Mode}
 use Rattle.dn_names.specs.declared.modes.Mode.TheVariants.{Start, PairStart, Word, FirstZero, FirstNumber, AfterDot, LaterZero, LaterNumber, AfterKind, ValueStart, InValue, Escape, HalfByte}
 use Rattle.dn_names.specs.Classes.{class_of, is_word, is_digit, is_hex, is_escapable}

@@ -1,6 +1,6 @@
 -- When two names are the same, when one is a prefix of another, and which comes first. Types and keys alone
 -- count: the octets of values say nothing (X.501 9.4 asks for matching; the order is this profile's).
-use Rattle.std.specs.Prelude.{◌≡◌, ℕ, Bool, List, ◌++◌, map, length, take}
+use Rattle.std.specs.Prelude.{ℕ, Bool, List, map, length, take}
 use Rattle.std.specs.Ordering.{nat_cmp, ordering_then, is_eq}
 use Rattle.std.specs.Cmp.Lexicographic.{slice_cmp}
 use Rattle.std.specs.declared.cmp.Ordering.{Ordering}

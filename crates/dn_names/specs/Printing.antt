@@ -3,8 +3,8 @@ use Rattle.std.specs.Prelude.{ℕ, Bool, true, false, ◌||◌, ◌==◌, List, 
 use Rattle.schema_core.specs.Attributes.{name_of}
 use Rattle.dn_names.specs.declared.classes.Class.{Class}
 use Rattle.dn_names.specs.declared.classes.Class.TheVariants.{Space, Hash, Mark, Plus, Comma, Backslash}
-use Rattle.dn_names.specs.declared.print.Shown.{Shown}
-use Rattle.dn_names.specs.declared.print.Shown.TheVariants.{Octets, Key}
+use Rattle.dn_names.specs.declared.printing.Shown.{Shown}
+use Rattle.dn_names.specs.declared.printing.Shown.TheVariants.{Octets, Key}
 use Rattle.dn_names.specs.Classes.{class_of}
 use Rattle.dn_names.specs.Names.{TypeAndValue, RdnSequence}
 

@@ -1,5 +1,5 @@
 -- How a text of the outer grammar is taken apart: at marks that no backslash stands before.
-use Rattle.std.specs.Prelude.{ℕ, ◌+◌, ◌*◌, ◌%◌, suc, Bool, true, false, ◌==◌, ◌&&◌, not, List, [], ◌∷◌, map, take, drop, if◌then◌else◌}
+use Rattle.std.specs.Prelude.{ℕ, ◌+◌, ◌*◌, ◌%◌, suc, Bool, false, ◌==◌, ◌&&◌, not, List, [], ◌∷◌, map, take, drop, if◌then◌else◌}
 use Rattle.std.specs.Char.{digit_value}
 use Rattle.std.specs.List.{prefix_len, list_all, take_while}
 use Rattle.dn_names.specs.declared.octets.Reading.{Reading}

@@ -1,5 +1,5 @@
 -- What a written name means by the table of types: its pairs with keys, or the first pair that isn't good.
-use Rattle.std.specs.Prelude.{ℕ, ◌+◌, Bool, ◌&&◌, ◌==◌, nat_lt, nat_le, List, [], ◌∷◌, length, reverse, Option, Some, None, Result, Ok, Err, option_map, option_and_then, if◌then◌else◌}
+use Rattle.std.specs.Prelude.{ℕ, ◌+◌, ◌&&◌, ◌==◌, nat_lt, nat_le, List, [], ◌∷◌, length, reverse, Option, Some, None, Result, Ok, Err, option_map, option_and_then, if◌then◌else◌}
 use Rattle.schema_core.specs.Attributes.{attr_of, is_naming, syntax_of}
 use Rattle.dn_names.specs.declared.error.BadName.{BadName}
 use Rattle.dn_names.specs.declared.error.BadName.TheVariants.{Text, Part, TooMany, NoMemory}
@@ -18,7 +18,7 @@ naming_value number octets =
 unfoldable pub pair_meaning : WrittenPair → Option TypeAndValue
 pair_meaning pair =
     option_and_then (λ number. option_map (λ value. record { kind = number; value = value }) (naming_value number pair.octets))
-      (of_text attr_of pair.kind)
+    (of_text attr_of pair.kind)
 
 -- a pair among others in the order of the table; nothing where its type is there
 abbrev pub put_pair : TypeAndValue → List TypeAndValue → Option (List TypeAndValue)

@@ -1,5 +1,5 @@
 -- The keys of values by the syntax of their type, names aside (RFC 4517 section 3.3 for the syntaxes).
-use Rattle.std.specs.Prelude.{ℕ, Bool, List, Option, Some, None, if◌then◌else◌}
+use Rattle.std.specs.Prelude.{ℕ, List, Option, None, if◌then◌else◌}
 use Rattle.std.specs.Str.{is_utf8}
 use Rattle.match_rules.specs.declared.rules.Rule.TheVariants as rules
 use Rattle.match_rules.specs.Keys.{key_of}

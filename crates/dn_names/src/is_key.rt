@@ -4,11 +4,11 @@ ghost use Rattle.std.specs.Prelude.{◌≡◌, ◌↔◌, ◌==◌, ◌++◌, Li
 ghost use Rattle.std.specs.Option.{option_map};
 ghost use Rattle.dn_names.specs.Names.{rdns_of};
 ghost use Rattle.dn_names.specs.Printing.{print_octet, print_value, print_pair, print_rdn, shown_of, print_by, name_key};
-ghost use Rattle.dn_names.specs.declared.print.Shown.TheVariants.{Key};
+ghost use Rattle.dn_names.specs.declared.printing.Shown.TheVariants.{Key};
 ghost use Rattle.dn_names.specs.KeyReading.{strip};
 
 use crate::name::{Dn, Pair};
-use crate::print::{is_escaped, type_name};
+use crate::printing::{is_escaped, type_name};
 
 /// Whether the octets are the key that a value of Name syntax has which is this name: the name printed with each
 /// value replaced by its key.

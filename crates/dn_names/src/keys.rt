@@ -35,7 +35,11 @@ pub(crate) fn kind_of(octets: &[u8]) -> Option<AttrId>
 }
 
 /// The key of octets of a syntax that is not that of names.
-pub(crate) fn make_key(alloc: Global, syntax: Syntax, octets: &[u8]) -> Result<Vec<u8>, PrepareFault>
+pub(crate) fn make_key(
+    alloc: Global,
+    syntax: Syntax,
+    octets: &[u8],
+) -> Result<Vec<u8>, PrepareFault>
     ensures ok { IfOk result (λ key. plain_key syntax octets.now ≡ Some key.items) }
     ensures not_of_syntax { IsErrOf result NotOfSyntax ↔ (plain_key syntax octets.now ≡ None) }
 {

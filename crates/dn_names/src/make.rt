@@ -8,8 +8,8 @@ ghost use Rattle.dn_names.specs.NameValues.{read_key, value_key, value_of};
 
 use crate::error::BadName;
 use crate::keys::make_key;
-use crate::parse::parse;
-use crate::print::make_name_key;
+use crate::parsing::parse;
+use crate::printing::make_name_key;
 use crate::value::Value;
 use match_rules::PrepareFault;
 use schema_core::{AttrId, Syntax, row};

@@ -103,7 +103,11 @@ pub(crate) fn copy_rdns(alloc: Global, rdns: &[Vec<Pair>]) -> Result<Vec<Vec<Pai
 }
 
 /// Puts copies of RDNs at the end.
-pub(crate) fn append_copies(alloc: Global, out: &mut Vec<Vec<Pair>>, rdns: &[Vec<Pair>]) -> Result<(), AllocError>
+pub(crate) fn append_copies(
+    alloc: Global,
+    out: &mut Vec<Vec<Pair>>,
+    rdns: &[Vec<Pair>],
+) -> Result<(), AllocError>
     ensures ok { OnOk result (rdns_of out.new.items ≡ rdns_of out.old.items ++ rdns_of rdns.now) }
 {
     for rdn in rdns {

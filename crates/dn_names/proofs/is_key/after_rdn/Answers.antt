@@ -1,7 +1,7 @@
 -- One pair more, or none.
-use Rattle.std.proofs.Common.{◌≡◌, ◌∷◌, ◌+◌, drop, sym, ◌∙◌, ap, arith}
+use Rattle.std.proofs.Common.{◌∷◌, ◌+◌, drop, sym, ◌∙◌, ap, arith}
 use Rattle.std.proofs.lemmas.List.{drop_more}
-use Rattle.dn_names.specs.declared.print.Shown.TheVariants.{Key}
+use Rattle.dn_names.specs.declared.printing.Shown.TheVariants.{Key}
 use Rattle.dn_names.specs.Printing.{print_pair, shown_of}
 use Rattle.dn_names.proofs.StripLemmas.{strip_next, strip_stop}
 use Rattle.dn_names.proofs.is_key.after_rdn.Goals as goal

@@ -1,7 +1,7 @@
 -- What is left of the RDN is asked of what is left of the octets.
-use Rattle.std.proofs.Common.{◌≡◌, true, drop}
+use Rattle.std.proofs.Common.{◌≡◌, drop}
 use Rattle.std.specs.Prelude.{◌==◌}
-use Rattle.dn_names.specs.declared.print.Shown.TheVariants.{Key}
+use Rattle.dn_names.specs.declared.printing.Shown.TheVariants.{Key}
 use Rattle.dn_names.specs.Printing.{join_from, print_pair, print_rdn, shown_of}
 use Rattle.dn_names.specs.KeyReading.{strip}
 use Rattle.dn_names.proofs.is_key.after_rdn.Given as goal

@@ -1,6 +1,6 @@
 -- One RDN more, or none.
-use Rattle.std.proofs.Common.{◌≡◌, reverse, sym, ◌∙◌, ap}
-use Rattle.dn_names.specs.declared.print.Shown.TheVariants.{Key}
+use Rattle.std.proofs.Common.{reverse, sym}
+use Rattle.dn_names.specs.declared.printing.Shown.TheVariants.{Key}
 use Rattle.dn_names.specs.Names.{rdns_of}
 use Rattle.dn_names.specs.Printing.{print_rdn, print_by, shown_of}
 use Rattle.dn_names.proofs.PrintLemmas.{drop-reverse}

@@ -1,10 +1,9 @@
 -- The octets are the key where nothing is left of them.
-use Rattle.std.proofs.Common.{◌≡◌, ℕ, List, [], ◌∷◌, Option, Some, None, Bool, true, false, IsTrue, length, refl, sym, ap, subst, ◌∙◌, arith}
+use Rattle.std.proofs.Common.{◌≡◌, ℕ, List, [], ◌∷◌, Some, None, false, IsTrue, length, refl, sym, ap, ◌∙◌, arith}
 use Rattle.std.specs.Prelude.{◌==◌, ◌↔◌}
 use Rattle.std.proofs.lemmas.Bool.{false≢true}
 use Rattle.std.proofs.lemmas.Bool.Decides.{nat_tests}
-use Rattle.dn_names.specs.declared.print.Shown.TheVariants.{Key}
-use Rattle.dn_names.specs.Names.{rdns_of}
+use Rattle.dn_names.specs.declared.printing.Shown.TheVariants.{Key}
 use Rattle.dn_names.specs.Printing.{print_by, shown_of, name_key}
 use Rattle.dn_names.specs.KeyReading.{strip}
 use Rattle.dn_names.proofs.StripLemmas.{strip_all, strip_nil}

@@ -7,6 +7,6 @@ use Rattle.dn_names.proofs.octets.read_octets.Given as goal
 
 abbrev pub invariant-loop-octet : goal.invariant-loop-octet
 invariant-loop-octet l = record {
-    within : l.kept ≤ length l.octets.items;
-    exact : ended l.kept l.octets.items (octets_from l.reading (drop l.octet-index l.text)) ≡ octets_from Plain l.text
-  }
+  within : l.kept ≤ length l.octets.items;
+  exact : ended l.kept l.octets.items (octets_from l.reading (drop l.octet-index l.text)) ≡ octets_from Plain l.text;
+}

@@ -6,7 +6,7 @@ use Rattle.dn_names.proofs.order.compare_pairs.Goals as goal
 
 pub returns : goal.returns
 returns c = record {
-    exact = c.cmp.ensures
+  exact = c.cmp.ensures
       ∙ sym (slice_cmp-end pair_cmp c.args.one.now c.args.other.now c.loop-index.index (omega arith) (omega arith) c.loop-index.invariant.within)
-      ∙ c.loop-index.invariant.exact
-  }
+      ∙ c.loop-index.invariant.exact;
+}

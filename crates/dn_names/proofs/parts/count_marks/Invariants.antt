@@ -5,6 +5,6 @@ use Rattle.dn_names.proofs.parts.count_marks.Given as goal
 
 abbrev pub invariant-loop-octet : goal.invariant-loop-octet
 invariant-loop-octet l = record {
-    fits : l.count ≤ l.octet-index;
-    exact : l.count + marks_from l.mark l.escaped (drop l.octet-index l.text) ≡ marks_from l.mark false l.text
-  }
+  fits : l.count ≤ l.octet-index;
+  exact : l.count + marks_from l.mark l.escaped (drop l.octet-index l.text) ≡ marks_from l.mark false l.text;
+}
