@@ -1,0 +1,5 @@
+//! Tests of the crates of names, keys and tables, by outside values.
+#![tactic(auto)]
+
+#[cfg(test)]
+mod names;
