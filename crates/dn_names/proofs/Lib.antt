@@ -22,3 +22,4 @@ pub mod StripLemmas
 pub mod OrderLaws
 pub mod NameLaws
 pub mod Theorems
+pub mod FirstBadLemmas

@@ -6,6 +6,7 @@ pub mod Names
 pub mod NameOrder
 pub mod Values
 pub mod Resolving
+pub mod GoodPlaces
 pub mod NameText
 pub mod Printing
 pub mod GoodNames

@@ -262,7 +262,8 @@ fn octets_of_another_syntax_are_no_value(rt: HostRuntime) -> Result<(), Fail> {
 #[test]
 fn a_key_of_name_syntax_is_that_of_one_name(rt: HostRuntime) -> Result<(), Fail> {
     let octets = b"cn=A\\,  B+uid=x, dc=Example".to_vec(rt.alloc())?;
-    let value = make_value(rt.alloc(), AttrId::MEMBER, octets)?;
+    let member = attr("member").ok_or("no such type")?;
+    let value = make_value(rt.alloc(), member, octets)?;
     assert_eq!(rt; value.key(), b"cn=a\\, b+uid=x,dc=example".as_slice());
     let rows = [
         ("uid=X+cn=a\\2c b,dc=example", true),
