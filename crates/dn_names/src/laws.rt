@@ -1,6 +1,6 @@
 //! The laws of names: each function computes nothing, and what it ensures is a law.
 
-ghost use Rattle.std.specs.Prelude.{◌≡◌, ℕ, ◌<◌, ◌↔◌, ◌++◌, IsTrue, List, Ok, length, drop};
+ghost use Rattle.std.specs.Prelude.{◌≡◌, ℕ, ◌<◌, ◌≤◌, ◌↔◌, ◌++◌, IsTrue, List, Ok, Err, length, drop};
 ghost use Rattle.std.specs.Cmp.{IsTotalOrder};
 ghost use Rattle.std.specs.declared.cmp.Ordering.TheVariants.{Less};
 ghost use Rattle.dn_names.specs.Names.{RdnSequence};
@@ -8,6 +8,10 @@ ghost use Rattle.dn_names.specs.NameGrammar.{IsNameText};
 ghost use Rattle.dn_names.specs.Spelling.{WrittenPair, SpellsName};
 ghost use Rattle.dn_names.specs.NameOrder.{name_cmp, is_same, is_prefix_of, types_and_keys};
 ghost use Rattle.dn_names.specs.NameText.{NameText, RdnText, read_name, read_rdn};
+ghost use Rattle.std.specs.List.{AllByRecursion};
+ghost use Rattle.dn_names.specs.declared.error.BadName.TheVariants.{Part, TooMany};
+ghost use Rattle.dn_names.specs.Resolving.{resolve};
+ghost use Rattle.dn_names.specs.GoodPlaces.{placed_pairs, IsGoodPlace, IsFirstBad};
 ghost use Rattle.dn_names.specs.GoodNames.{IsGoodName};
 ghost use Rattle.dn_names.specs.Printing.{print_name, name_key};
 
@@ -56,4 +60,15 @@ pub fn cutting_undoes_joining()
 pub fn a_name_has_one_key()
     ensures { (one other : RdnSequence) → IsGoodName one → IsGoodName other
         → IsTrue (is_same one other) ↔ (name_key one ≡ name_key other) }
+{}
+
+/// A name's meaning is refused as `TooMany` exactly where it has more than 64 RDNs, and as a `Part` at the first
+/// pair that is not good; of a name that has a meaning each pair is good.
+pub fn a_refused_part_is_the_first_bad_pair()
+    ensures part { (written : List (List WrittenPair)) (index : ℕ)
+        → resolve written ≡ Err (Part index) → IsFirstBad (placed_pairs written) index }
+    ensures too_many { (written : List (List WrittenPair))
+        → (resolve written ≡ Err TooMany) ↔ (64 < length written) }
+    ensures ok { (written : List (List WrittenPair)) (name : RdnSequence) → resolve written ≡ Ok name
+        → (length written ≤ 64) × AllByRecursion IsGoodPlace (placed_pairs written) }
 {}
