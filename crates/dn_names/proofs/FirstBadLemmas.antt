@@ -1,15 +1,15 @@
 -- A part that is refused is the first pair that isn't good.
-use Rattle.std.proofs.Common.{◌≡◌, ◌≢◌, ℕ, zero, suc, ◌+◌, ◌<◌, ◌≤◌, List, [], ◌∷◌, ◌++◌, length, take, slice_get, Option, Some, None, Result, Ok, Err, refl, sym, ap, subst, ◌∙◌, arith, inl, inr, Bool, true, false, nat_lt}
+use Rattle.std.proofs.Common.{◌≡◌, ◌≢◌, ℕ, zero, suc, ◌+◌, ◌<◌, ◌≤◌, List, [], ◌∷◌, ◌++◌, length, take, slice_get, Option, Some, None, Result, Ok, Err, refl, sym, ap, subst, ◌∙◌, arith, inl, inr, true, false, nat_lt}
 use Rattle.std.specs.Prelude.{if◌then◌else◌, ◌↔◌}
 use Rattle.std.proofs.lemmas.Bool.{cond-true}
 use Rattle.std.proofs.lemmas.Bool.Decides.{nat_tests}
 use Rattle.std.specs.Option.{option_map, option_and_then}
-use Rattle.std.specs.List.{AllByRecursion, flat_map}
+use Rattle.std.specs.List.{AllByRecursion}
 use Rattle.dn_names.specs.declared.error.BadName.{BadName}
 use Rattle.dn_names.specs.declared.error.BadName.TheVariants.{Part, TooMany}
 use Rattle.dn_names.specs.Names.{TypeAndValue, RdnSequence}
 use Rattle.dn_names.specs.Spelling.{WrittenPair}
-use Rattle.dn_names.specs.Resolving.{pair_meaning, put_pair, add_pair, or_part, and_then, rdn_from, rdns_from, from_root, resolve}
+use Rattle.dn_names.specs.Resolving.{pair_meaning, put_pair, or_part, and_then, rdn_from, rdns_from, from_root, resolve}
 use Rattle.dn_names.specs.GoodNames.{IsInTableOrder}
 use Rattle.dn_names.specs.GoodPlaces.{Placed, placed_from, placed_pairs, LacksKind, IsGoodPlace, IsFirstBad}
 use Rattle.dn_names.proofs.PutPairLemmas.{put_pair-less, put_pair-same, put_pair-more}
@@ -30,9 +30,10 @@ other_less m n h e = omega (arith, h, e)
 put-lacks : (pair : TypeAndValue) (pairs next : List TypeAndValue) → IsInTableOrder pairs → put_pair pair pairs ≡ Some next → Lacks pair.kind pairs
 put-lacks pair [] next o e = tt
 put-lacks pair (first ∷ pairs) next o e = elim (which_first pair.kind first.kind) [
-    inl h ↦ (less_other pair.kind first.kind h, all_map (λ q. first.kind < q.kind) (λ q. q.kind ≢ pair.kind) (λ q l same. omega (arith, h, l, same)) pairs o.0)
+  | inl h ↦ (less_other pair.kind first.kind h, all_map (λ q. first.kind < q.kind) (λ q. q.kind ≢ pair.kind) (λ q l same. omega (arith, h, l, same)) pairs o.0)
   | inr (inl h) ↦ (let is : None ≡ Some next = sym (put_pair-same pair first pairs h) ∙ e in absurd cc)
-  | inr (inr h) ↦ (other_less pair.kind first.kind h, later (put_pair pair pairs) refl (sym (put_pair-more pair first pairs h) ∙ e) (λ more is. put-lacks pair pairs more o.1 is)) ]
+  | inr (inr h) ↦ (other_less pair.kind first.kind h, later (put_pair pair pairs) refl (sym (put_pair-more pair first pairs h) ∙ e) (λ more is. put-lacks pair pairs more o.1 is))
+]
   where
     later : (r : Option (List TypeAndValue)) → put_pair pair pairs ≡ r → option_map (λ more. first ∷ more) r ≡ Some next → ((more : List TypeAndValue) → put_pair pair pairs ≡ Some more → Lacks pair.kind pairs) → Lacks pair.kind pairs
     later None is e go = absurd cc
@@ -41,9 +42,10 @@ put-lacks pair (first ∷ pairs) next o e = elim (which_first pair.kind first.ki
 none-lacks : (pair : TypeAndValue) (pairs : List TypeAndValue) → put_pair pair pairs ≡ None → Lacks pair.kind pairs → ⊥
 none-lacks pair [] e lacks = cc
 none-lacks pair (first ∷ pairs) e lacks = elim (which_first pair.kind first.kind) [
-    inl h ↦ (let is : Some (pair ∷ first ∷ pairs) ≡ None = sym (put_pair-less pair first pairs h) ∙ e in cc)
+  | inl h ↦ (let is : Some (pair ∷ first ∷ pairs) ≡ None = sym (put_pair-less pair first pairs h) ∙ e in cc)
   | inr (inl h) ↦ lacks.0 (sym h)
-  | inr (inr h) ↦ later (put_pair pair pairs) refl (sym (put_pair-more pair first pairs h) ∙ e) (λ is. none-lacks pair pairs is lacks.1) ]
+  | inr (inr h) ↦ later (put_pair pair pairs) refl (sym (put_pair-more pair first pairs h) ∙ e) (λ is. none-lacks pair pairs is lacks.1)
+]
   where
     later : (r : Option (List TypeAndValue)) → put_pair pair pairs ≡ r → option_map (λ more. first ∷ more) r ≡ None → (put_pair pair pairs ≡ None → ⊥) → ⊥
     later None is e go = go is
@@ -76,13 +78,13 @@ all_split P (x ∷ xs) y h = (let later = all_split P xs y h.1 in ((h.0, later.0
 -- one pair more has gone among the others
 more_so_far : (earlier : List WrittenPair) (pairs next : List TypeAndValue) (written : WrittenPair) (pair : TypeAndValue) → SoFar earlier pairs → pair_meaning written ≡ Some pair → put_pair pair pairs ≡ Some next → SoFar (earlier ++ written ∷ []) next
 more_so_far earlier pairs next written pair so_far means put = record {
-    ordered = put_pair-ordered pair pairs next put so_far.ordered;
-    to = λ kind lacks. (let parts = put_pair-parts pair (λ q. q.kind ≢ kind) pairs next put lacks in
+  ordered = put_pair-ordered pair pairs next put so_far.ordered;
+  to = λ kind lacks. (let parts = put_pair-parts pair (λ q. q.kind ≢ kind) pairs next put lacks in
       all_push (λ w. (m : TypeAndValue) → pair_meaning w ≡ Some m → m.kind ≢ kind) earlier written (so_far.to kind parts.1)
-        (λ m e same. (let is : pair ≡ m = some_same pair m (sym means ∙ e) in parts.0 (ap (λ (p : TypeAndValue). p.kind) is ∙ same))));
-    from = λ kind lacks. (let parts = all_split (λ w. (m : TypeAndValue) → pair_meaning w ≡ Some m → m.kind ≢ kind) earlier written lacks in
-      put_pair-all pair (λ q. q.kind ≢ kind) (parts.1 pair means) pairs next put (so_far.from kind parts.0))
-  }
+      (λ m e same. (let is : pair ≡ m = some_same pair m (sym means ∙ e) in parts.0 (ap (λ (p : TypeAndValue). p.kind) is ∙ same))));
+  from = λ kind lacks. (let parts = all_split (λ w. (m : TypeAndValue) → pair_meaning w ≡ Some m → m.kind ≢ kind) earlier written lacks in
+      put_pair-all pair (λ q. q.kind ≢ kind) (parts.1 pair means) pairs next put (so_far.from kind parts.0));
+}
   where
     some_same : (a b : TypeAndValue) → Some a ≡ Some b → a ≡ b
     some_same a b e = cc
@@ -97,14 +99,17 @@ rdn_says index earlier pairs (w ∷ ws) so_far =
     at_zero n = (let e : n ≡ n + 0 = omega arith in ap Part e)
 
     by_put : (index : ℕ) (earlier : List WrittenPair) (pairs : List TypeAndValue) (w : WrittenPair) (ws : List WrittenPair) → SoFar earlier pairs → (p : TypeAndValue) → pair_meaning w ≡ Some p → (r : Option (List TypeAndValue)) → put_pair p pairs ≡ r → ((next : List TypeAndValue) → SoFar (earlier ++ w ∷ []) next → Says (index + 1) (placed_from (earlier ++ w ∷ []) ws) (rdn_from (index + 1) next ws)) → Says index (placed_from earlier (w ∷ ws)) (or_part index r (λ next. rdn_from (index + 1) next ws))
-    by_put index earlier pairs w ws so_far p means None put go =
-        (0, at_zero index, bad_first (record { earlier = earlier; pair = w }) (placed_from (earlier ++ w ∷ []) ws)
+    by_put index earlier pairs w ws so_far p means None put go = (
+      0,
+      at_zero index,
+      bad_first (record { earlier = earlier; pair = w }) (placed_from (earlier ++ w ∷ []) ws)
           (λ good. (let same : Some p ≡ Some good.meaning = sym means ∙ good.means in let is : p ≡ good.meaning = cc in
-            none-lacks p pairs put (so_far.from p.kind (subst (λ (q : TypeAndValue). LacksKind q.kind earlier) (sym is) good.alone)))))
+          none-lacks p pairs put (so_far.from p.kind (subst (λ (q : TypeAndValue). LacksKind q.kind earlier) (sym is) good.alone)))),
+    )
     by_put index earlier pairs w ws so_far p means (Some next) put go =
         good_first index (record { earlier = earlier; pair = w }) (placed_from (earlier ++ w ∷ []) ws) (rdn_from (index + 1) next ws)
-          (record { meaning = p; means = means; alone = so_far.to p.kind (put-lacks p pairs next so_far.ordered put) })
-          (go next (more_so_far earlier pairs next w p so_far means put))
+        (record { meaning = p; means = means; alone = so_far.to p.kind (put-lacks p pairs next so_far.ordered put) })
+        (go next (more_so_far earlier pairs next w p so_far means put))
 
     by_meaning : (index : ℕ) (earlier : List WrittenPair) (pairs : List TypeAndValue) (w : WrittenPair) (ws : List WrittenPair) → SoFar earlier pairs → (m : Option TypeAndValue) → pair_meaning w ≡ m → ((next : List TypeAndValue) → SoFar (earlier ++ w ∷ []) next → Says (index + 1) (placed_from (earlier ++ w ∷ []) ws) (rdn_from (index + 1) next ws)) → Says index (placed_from earlier (w ∷ ws)) (or_part index (option_and_then (λ pair. put_pair pair pairs) m) (λ next. rdn_from (index + 1) next ws))
     by_meaning index earlier pairs w ws so_far None means go =
@@ -114,11 +119,11 @@ rdn_says index earlier pairs (w ∷ ws) so_far =
 -- a first bad pair among pairs, and more after them
 bad_before : (xs ys : List Placed) (i : ℕ) → IsFirstBad xs i → IsFirstBad (xs ++ ys) i
 bad_before xs ys i first = record {
-    before = before xs ys i first.placed first.there first.before;
-    placed = first.placed;
-    there = there xs ys i first.placed first.there;
-    bad = first.bad
-  }
+  before = before xs ys i first.placed first.there first.before;
+  placed = first.placed;
+  there = there xs ys i first.placed first.there;
+  bad = first.bad;
+}
   where
     there : (xs ys : List Placed) (i : ℕ) (x : Placed) → slice_get xs i ≡ Some x → slice_get (xs ++ ys) i ≡ Some x
     there [] ys i x e = absurd cc
@@ -137,7 +142,7 @@ bad_after (x ∷ xs) ys i good first =
     let later = bad_after xs ys i good.1 first in
     let place : suc (length xs + i) ≡ suc (length xs) + i = omega arith in
     subst (λ (n : ℕ). IsFirstBad (x ∷ (xs ++ ys)) n) place
-      (record { before = (good.0, later.before); placed = later.placed; there = later.there; bad = later.bad })
+    (record { before = (good.0, later.before); placed = later.placed; there = later.there; bad = later.bad })
 
 all_append : (P : Placed → Type 0) (xs ys : List Placed) → AllByRecursion P xs → AllByRecursion P ys → AllByRecursion P (xs ++ ys)
 all_append P [] ys a b = b
@@ -176,7 +181,7 @@ says_root placed (Err cause) says = says
 pub from_root-says : (written : List (List WrittenPair)) → Says 0 (placed_pairs written) (from_root (rdns_from 0 written))
 from_root-says written = says_root (placed_pairs written) (rdns_from 0 written) (rdns_says 0 written)
 
-part_says : (placed : List Placed) (index : ℕ) (r : Result RdnSequence BadName) → Says 0 placed r → r ≡ Err (Part index) → IsFirstBad placed index
+pub part_says : (placed : List Placed) (index : ℕ) (r : Result RdnSequence BadName) → Says 0 placed r → r ≡ Err (Part index) → IsFirstBad placed index
 part_says placed index (Ok out) says e = absurd cc
 part_says placed index (Err cause) (i, is, first) e =
     let same : Part (0 + i) ≡ Part index = sym is ∙ cc in
@@ -184,7 +189,7 @@ part_says placed index (Err cause) (i, is, first) e =
     let here : i ≡ index = omega (arith, place) in
     subst (λ (n : ℕ). IsFirstBad placed n) here first
 
-many_says : (placed : List Placed) (r : Result RdnSequence BadName) → Says 0 placed r → r ≡ Err TooMany → ⊥
+pub many_says : (placed : List Placed) (r : Result RdnSequence BadName) → Says 0 placed r → r ≡ Err TooMany → ⊥
 many_says placed (Ok out) says e = cc
 many_says placed (Err cause) (i, is, first) e = (let clash : Part (0 + i) ≡ TooMany = sym is ∙ cc in cc)
 
@@ -197,22 +202,26 @@ pub resolve-Part : (written : List (List WrittenPair)) (index : ℕ) → resolve
 unfolding resolve
 resolve-Part written index h =
     elim (nat_lt 64 (length written)) as (λ b. (if b then Err TooMany else from_root (rdns_from 0 written)) ≡ Err (Part index) → IsFirstBad (placed_pairs written) index) [
-        true ↦ λ e. absurd cc
-      | false ↦ λ e. part_says (placed_pairs written) index (from_root (rdns_from 0 written)) (from_root-says written) e ] h
+      | true ↦ λ e. absurd cc
+      | false ↦ λ e. part_says (placed_pairs written) index (from_root (rdns_from 0 written)) (from_root-says written) e
+    ] h
 
 -- each pair of a name is good
 pub resolve-Ok : (written : List (List WrittenPair)) (name : RdnSequence) → resolve written ≡ Ok name → (length written ≤ 64) × AllByRecursion IsGoodPlace (placed_pairs written)
 unfolding resolve
 resolve-Ok written name h =
     elim (nat_lt 64 (length written)) as (λ b. nat_lt 64 (length written) ≡ b → (if b then Err TooMany else from_root (rdns_from 0 written)) ≡ Ok name → (length written ≤ 64) × AllByRecursion IsGoodPlace (placed_pairs written)) [
-        true ↦ λ _ e. absurd cc
-      | false ↦ λ is e. (grind (arith, nat_tests), ok_says (placed_pairs written) name (from_root (rdns_from 0 written)) (from_root-says written) e) ] refl h
+      | true ↦ λ _ e. absurd cc
+      | false ↦ λ is e. (grind (arith, nat_tests), ok_says (placed_pairs written) name (from_root (rdns_from 0 written)) (from_root-says written) e)
+    ] refl h
 
 -- too many are more than 64
 pub resolve-TooMany : (written : List (List WrittenPair)) → (resolve written ≡ Err TooMany) ↔ (64 < length written)
 unfolding resolve
-resolve-TooMany written =
-    ((λ h. elim (nat_lt 64 (length written)) as (λ b. nat_lt 64 (length written) ≡ b → (if b then Err TooMany else from_root (rdns_from 0 written)) ≡ Err TooMany → 64 < length written) [
-        true ↦ λ is _. grind (arith, nat_tests)
-      | false ↦ λ _ e. absurd (many_says (placed_pairs written) (from_root (rdns_from 0 written)) (from_root-says written) e) ] refl h),
-      λ more. cond-true (nat_lt 64 (length written)) (Err TooMany) (from_root (rdns_from 0 written)) (grind (arith, nat_tests)))
+resolve-TooMany written = (
+  (λ h. elim (nat_lt 64 (length written)) as (λ b. nat_lt 64 (length written) ≡ b → (if b then Err TooMany else from_root (rdns_from 0 written)) ≡ Err TooMany → 64 < length written) [
+    | true ↦ λ is _. grind (arith, nat_tests)
+    | false ↦ λ _ e. absurd (many_says (placed_pairs written) (from_root (rdns_from 0 written)) (from_root-says written) e)
+  ] refl h),
+  λ more. cond-true (nat_lt 64 (length written)) (Err TooMany) (from_root (rdns_from 0 written)) (grind (arith, nat_tests)),
+)

@@ -23,3 +23,4 @@ pub mod OrderLaws
 pub mod NameLaws
 pub mod Theorems
 pub mod FirstBadLemmas
+pub mod CauseLemmas

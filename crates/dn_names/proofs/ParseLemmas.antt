@@ -12,7 +12,7 @@ use Rattle.dn_names.specs.Spelling.{WrittenPair, SpellsName}
 use Rattle.dn_names.specs.Modes.{machine, text_fault}
 use Rattle.dn_names.specs.Reading.{written_of}
 use Rattle.dn_names.specs.Resolving.{add_pair, or_part, and_then, from_root, rdn_from, rdns_from, resolve, resolve_rdn, UnlessMemory}
-use Rattle.dn_names.specs.NameText.{NameText, RdnText, LeavesGrammar, NameCause, Gives, read_by, read_name, read_rdn}
+use Rattle.dn_names.specs.NameText.{NameText, RdnText, LeavesGrammar, MeaningCause, Gives, read_by, read_name, read_rdn}
 use Rattle.dn_names.proofs.MachineOfNames.{grammar_of, names_machine}
 use Rattle.dn_names.proofs.PairLemmas.{written_of-spelled}
 use Rattle.dn_names.proofs.GrammarIsSpelled.{spelled-IsNameText}
@@ -103,26 +103,26 @@ resolve_rdn_no_text written =
       | false ↦ tt
     ]
 
-refused : (meaning : Meaning) (text : List ℕ) (cause : BadName) → ((written : List (List WrittenPair)) → IsNoText (meaning written)) → text_fault text ≡ None → meaning (written_of text) ≡ Err cause → NameCause meaning text cause
+refused : (meaning : Meaning) (text : List ℕ) (cause : BadName) → ((written : List (List WrittenPair)) → IsNoText (meaning written)) → text_fault text ≡ None → meaning (written_of text) ≡ Err cause → MeaningCause meaning text cause
 refused meaning text (Text place) no_text none e = absurd (subst (λ (r : Result RdnSequence BadName). IsNoText r) e (no_text (written_of text)))
 refused meaning text TooMany no_text none e = record { written = written_of text; spells = SpellsName-written_of text (IsNameText-from_text_fault text none); refused = e }
 refused meaning text (Part index) no_text none e = record { written = written_of text; spells = SpellsName-written_of text (IsNameText-from_text_fault text none); refused = e }
 refused meaning text NoMemory no_text none e = tt
 
-outside_at : (meaning : Meaning) (text : List ℕ) (place : ℕ) (cause : BadName) → text_fault text ≡ Some place → Text place ≡ cause → NameCause meaning text cause
+outside_at : (meaning : Meaning) (text : List ℕ) (place : ℕ) (cause : BadName) → text_fault text ≡ Some place → Text place ≡ cause → MeaningCause meaning text cause
 outside_at meaning text place (Text other) fault e = (let same : place ≡ other = cc in LeavesGrammar-from_text_fault text other (fault ∙ ap Some same))
 outside_at meaning text place TooMany fault e = absurd cc
 outside_at meaning text place (Part index) fault e = absurd cc
 outside_at meaning text place NoMemory fault e = tt
 
-read_by-Err : (meaning : Meaning) → ((written : List (List WrittenPair)) → IsNoText (meaning written)) → (text : List ℕ) (cause : BadName) → read_by meaning (text_fault text) text ≡ Err cause → NameCause meaning text cause
+read_by-Err : (meaning : Meaning) → ((written : List (List WrittenPair)) → IsNoText (meaning written)) → (text : List ℕ) (cause : BadName) → read_by meaning (text_fault text) text ≡ Err cause → MeaningCause meaning text cause
 read_by-Err meaning no_text text cause h =
-    elim (text_fault text) as (λ f. text_fault text ≡ f → read_by meaning f text ≡ Err cause → NameCause meaning text cause) [
+    elim (text_fault text) as (λ f. text_fault text ≡ f → read_by meaning f text ≡ Err cause → MeaningCause meaning text cause) [
       | Some place ↦ λ fault e. outside_at meaning text place cause fault cc
       | None ↦ λ none e. refused meaning text cause no_text none e
     ] refl h
 
-gives_cause : (meaning : Meaning) → ((written : List (List WrittenPair)) → IsNoText (meaning written)) → (text : List ℕ) (cause : BadName) → UnlessMemory cause (read_by meaning (text_fault text) text ≡ Err cause) → NameCause meaning text cause
+gives_cause : (meaning : Meaning) → ((written : List (List WrittenPair)) → IsNoText (meaning written)) → (text : List ℕ) (cause : BadName) → UnlessMemory cause (read_by meaning (text_fault text) text ≡ Err cause) → MeaningCause meaning text cause
 gives_cause meaning no_text text NoMemory h = tt
 gives_cause meaning no_text text (Text place) h = read_by-Err meaning no_text text (Text place) h
 gives_cause meaning no_text text TooMany h = read_by-Err meaning no_text text TooMany h
@@ -134,10 +134,10 @@ unfolding read_name NameText
 NameText-Gives (Ok name) text h = read_by-Ok resolve text name h
 NameText-Gives (Err cause) text h = tt
 
-pub NameCause-Gives : (result : Result RdnSequence BadName) (text : List ℕ) → Gives result (read_name text) → IfErr result (λ cause. NameCause resolve text cause)
+pub MeaningCause-Gives : (result : Result RdnSequence BadName) (text : List ℕ) → Gives result (read_name text) → IfErr result (λ cause. MeaningCause resolve text cause)
 unfolding read_name
-NameCause-Gives (Ok name) text h = tt
-NameCause-Gives (Err cause) text h = gives_cause resolve resolve_no_text text cause h
+MeaningCause-Gives (Ok name) text h = tt
+MeaningCause-Gives (Err cause) text h = gives_cause resolve resolve_no_text text cause h
 
 -- the same of an RDN
 pub RdnText-Gives : (result : Result RdnSequence BadName) (text : List ℕ) → Gives result (read_rdn text) → IfOk result (λ name. RdnText name text)
@@ -145,7 +145,7 @@ unfolding read_rdn RdnText
 RdnText-Gives (Ok name) text h = read_by-Ok resolve_rdn text name h
 RdnText-Gives (Err cause) text h = tt
 
-pub RdnCause-Gives : (result : Result RdnSequence BadName) (text : List ℕ) → Gives result (read_rdn text) → IfErr result (λ cause. NameCause resolve_rdn text cause)
+pub RdnCause-Gives : (result : Result RdnSequence BadName) (text : List ℕ) → Gives result (read_rdn text) → IfErr result (λ cause. MeaningCause resolve_rdn text cause)
 unfolding read_rdn
 RdnCause-Gives (Ok name) text h = tt
 RdnCause-Gives (Err cause) text h = gives_cause resolve_rdn resolve_rdn_no_text text cause h

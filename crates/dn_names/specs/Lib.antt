@@ -8,6 +8,7 @@ pub mod Values
 pub mod Resolving
 pub mod GoodPlaces
 pub mod NameText
+pub mod NameCause
 pub mod Printing
 pub mod GoodNames
 pub mod NameValues

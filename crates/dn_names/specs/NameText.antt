@@ -29,12 +29,12 @@ pub record IsRefused (meaning : List (List WrittenPair) → Result RdnSequence B
   pub spells : SpellsName written octets
   pub refused : meaning written ≡ Err cause
 
--- why the octets are no such name: the causes in the order in which they are tried
-abbrev pub NameCause : (List (List WrittenPair) → Result RdnSequence BadName) → List ℕ → BadName → Type 0
-NameCause meaning octets (Text place) = LeavesGrammar octets place
-NameCause meaning octets TooMany = IsRefused meaning octets TooMany
-NameCause meaning octets (Part index) = IsRefused meaning octets (Part index)
-NameCause meaning octets NoMemory = Unit {0}
+-- why the octets are no such name, by the meaning alone
+abbrev pub MeaningCause : (List (List WrittenPair) → Result RdnSequence BadName) → List ℕ → BadName → Type 0
+MeaningCause meaning octets (Text place) = LeavesGrammar octets place
+MeaningCause meaning octets TooMany = IsRefused meaning octets TooMany
+MeaningCause meaning octets (Part index) = IsRefused meaning octets (Part index)
+MeaningCause meaning octets NoMemory = Unit {0}
 
 -- the same as a function: the fault of the text first, and then the meaning of what is written
 abbrev pub read_by : (List (List WrittenPair) → Result RdnSequence BadName) → Option ℕ → List ℕ → Result RdnSequence BadName

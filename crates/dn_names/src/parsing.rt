@@ -5,7 +5,8 @@ ghost use Rattle.dn_names.specs.Names.{rdns_of};
 ghost use Rattle.dn_names.specs.Reading.{rdn_of, parts_of, written_of};
 ghost use Rattle.dn_names.specs.Resolving.{rdn_from, rdns_from, from_root, UnlessMemory};
 ghost use Rattle.dn_names.specs.Resolving.{resolve, resolve_rdn};
-ghost use Rattle.dn_names.specs.NameText.{NameText, RdnText, NameCause, Gives, read_name, read_rdn};
+ghost use Rattle.dn_names.specs.NameCause.{NameCause};
+ghost use Rattle.dn_names.specs.NameText.{NameText, RdnText, Gives, read_name, read_rdn};
 
 use crate::error::BadName;
 use crate::name::{Dn, Pair};
@@ -20,7 +21,7 @@ use std::alloc::Global;
 /// than 64 RDNs, `Part` for the first pair, in the text's order, that is not good.
 pub fn parse(alloc: Global, octets: &[u8]) -> Result<Dn, BadName>
     ensures ok { IfOk result (λ name. NameText name octets.now) }
-    ensures cause { IfErr result (λ error. NameCause resolve octets.now error) }
+    ensures cause { IfErr result (λ error. NameCause (λ count. count ≤ 64) octets.now error) }
     ensures exact { Gives result (read_name octets.now) }
 {
     parse_by(alloc, octets)
@@ -30,7 +31,7 @@ pub fn parse(alloc: Global, octets: &[u8]) -> Result<Dn, BadName>
 /// are those of `parse`.
 pub fn parse_rdn(alloc: Global, octets: &[u8]) -> Result<Dn, BadName>
     ensures ok { IfOk result (λ name. RdnText name octets.now) }
-    ensures cause { IfErr result (λ error. NameCause resolve_rdn octets.now error) }
+    ensures cause { IfErr result (λ error. NameCause (λ count. count ≡ 1) octets.now error) }
     ensures exact { Gives result (read_rdn octets.now) }
 {
     parse_rdn_by(alloc, octets)

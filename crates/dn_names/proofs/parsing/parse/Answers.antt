@@ -1,5 +1,6 @@
 -- What reading gives says which text it is, or why it is none.
-use Rattle.dn_names.proofs.ParseLemmas.{NameText-Gives, NameCause-Gives}
+use Rattle.dn_names.proofs.ParseLemmas.{NameText-Gives}
+use Rattle.dn_names.proofs.CauseLemmas.{NameCause-Gives}
 use Rattle.dn_names.proofs.parsing.parse.Goals as goal
 
 pub returns-clause-ok : goal.returns-clause-ok
