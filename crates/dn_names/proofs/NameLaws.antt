@@ -1,8 +1,8 @@
 -- One text spells one name, one name has one key, and cutting undoes joining.
-use Rattle.std.proofs.Common.{◌≡◌, ℕ, Bool, true, false, IsTrue, List, [], ◌∷◌, ◌++◌, map, length, take, drop, reverse, cond, Some, Ok, refl, sym, ap, subst, ◌∙◌}
+use Rattle.std.proofs.Common.{◌≡◌, ℕ, Bool, true, false, IsTrue, List, [], ◌∷◌, ◌++◌, map, length, take, drop, reverse, cond, Some, Ok, refl, sym, ap, subst, ◌∙◌, zero, suc, ◌+◌, ◌≤◌, arith}
 use Rattle.std.specs.Prelude.{◌↔◌}
 use Rattle.std.specs.List.{AllByRecursion}
-use Rattle.std.proofs.lemmas.List.{drop_at, take_at, take-append-drop, map-append, reverse-reverse}
+use Rattle.std.proofs.lemmas.List.{drop_at, take_at, take-append-drop, map-append, reverse-reverse, length-append, length-drop}
 use Rattle.schema_core.specs.Attributes.{attr_of, name_of}
 use Rattle.schema_core.proofs.Theorems.{attr_of-name_of, is_keystring-name_of}
 use Rattle.dn_names.specs.declared.printing.Shown.TheVariants.{Key}
@@ -137,3 +137,22 @@ is_same-name_key one other a b = (
   (λ e. key_of-types_and_keys one ∙ ap (λ t. join_from 44 (λ rdn. join_from 43 print_key true rdn) true (reverse t)) ((is_same-types_and_keys one other).0 e) ∙ sym (key_of-types_and_keys other)),
   λ e. (is_same-types_and_keys one other).1 (key_same one other a b e),
 )
+
+all_both : (xs ys : RdnSequence) → AllByRecursion IsGoodRdn xs → AllByRecursion IsGoodRdn ys → AllByRecursion IsGoodRdn (xs ++ ys)
+all_both [] ys a b = b
+all_both (x ∷ xs) ys a b = (a.0, all_both xs ys a.1 b)
+
+all_from : (n : ℕ) (xs : RdnSequence) → AllByRecursion IsGoodRdn xs → AllByRecursion IsGoodRdn (drop n xs)
+all_from zero xs a = a
+all_from (suc n) [] a = tt
+all_from (suc n) (x ∷ xs) a = all_from n xs a.1
+
+-- good names joined are good where they fit, and what is cut off of one is good
+pub IsGoodName-append : (superior below : RdnSequence) → IsGoodName superior → IsGoodName below → length superior + length below ≤ 64 → IsGoodName (superior ++ below)
+IsGoodName-append superior below a b h = record {
+  fits = omega (arith, h, length-append superior below);
+  good = all_both superior below a.good b.good;
+}
+
+pub IsGoodName-drop : (n : ℕ) (name : RdnSequence) → IsGoodName name → IsGoodName (drop n name)
+IsGoodName-drop n name a = record { fits = omega (arith, a.fits, length-drop n name); good = all_from n name a.good }

@@ -1,6 +1,6 @@
 //! The laws of names: each function computes nothing, and what it ensures is a law.
 
-ghost use Rattle.std.specs.Prelude.{◌≡◌, ℕ, ◌<◌, ◌≤◌, ◌↔◌, ◌++◌, IsTrue, List, Ok, Err, length, drop};
+ghost use Rattle.std.specs.Prelude.{◌≡◌, ℕ, ◌+◌, ◌<◌, ◌≤◌, ◌↔◌, ◌++◌, IsTrue, List, Ok, Err, length, drop};
 ghost use Rattle.std.specs.Cmp.{IsTotalOrder};
 ghost use Rattle.std.specs.declared.cmp.Ordering.TheVariants.{Less};
 ghost use Rattle.dn_names.specs.Names.{RdnSequence};
@@ -54,6 +54,9 @@ pub fn cutting_undoes_joining()
     ensures local { (superior below : RdnSequence) → drop (length superior) (superior ++ below) ≡ below }
     ensures join { (superior below : RdnSequence) → IsTrue (is_prefix_of superior below)
         → IsTrue (is_same (superior ++ drop (length superior) below) below) }
+    ensures good_join { (superior below : RdnSequence) → IsGoodName superior → IsGoodName below
+        → length superior + length below ≤ 64 → IsGoodName (superior ++ below) }
+    ensures good_local { (count : ℕ) (name : RdnSequence) → IsGoodName name → IsGoodName (drop count name) }
 {}
 
 /// Names are the same exactly where their keys are: a value of Name syntax is a name where its key is the name's.
