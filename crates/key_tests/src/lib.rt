@@ -4,4 +4,6 @@
 #[cfg(test)]
 mod keys;
 #[cfg(test)]
+mod names;
+#[cfg(test)]
 mod tables;

@@ -1,0 +1,19 @@
+-- One RDN more is written.
+use Rattle.std.proofs.Common.{reverse, take}
+use Rattle.dn_names.specs.Names.{rdns_of}
+use Rattle.dn_names.specs.Printing.{shown_of}
+use Rattle.dn_names.proofs.PrintLemmas.{drop-reverse, take-reverse, IsTextName-push, next_rdn}
+use Rattle.dn_names.proofs.printing.put_rdns.Goals as goal
+
+pub loop-index-preserved : goal.loop-index-preserved
+loop-index-preserved c =
+    let l = c.loop-index in
+    let rdns = c.args.rdns.now in
+    let rdn = c.index-rdns-rdns.result in
+    let text = rw (c.deref.ensures.value) at c.in_ok-put_rdn.ensures.text in
+    let more = rw (c.deref.ensures.value) at c.in_ok-put_rdn.ensures.ok in
+    record {
+      exact = next_rdn (shown_of c.args.shown) (reverse (rdns_of rdns)) l.index rdn.items l.out.items c.put_mark.new.out.items c.put_rdn.new.out.items _
+          (drop-reverse rdns l.index rdn c.loop-index-test.true c.index-rdns-rdns.is) c.in_ok-put_mark.ensures.ok more l.invariant.exact;
+      text = rw (take-reverse rdns l.index rdn c.loop-index-test.true c.index-rdns-rdns.is) (IsTextName-push (take l.index (reverse (rdns_of rdns))) rdn.items l.invariant.text text);
+    }

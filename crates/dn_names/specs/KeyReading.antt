@@ -1,0 +1,8 @@
+-- What is left of octets after others that they begin with.
+use Rattle.std.specs.Prelude.{ℕ, ◌==◌, List, [], ◌∷◌, Option, Some, None, if◌then◌else◌}
+
+-- the octets after the front; none where they begin otherwise
+abbrev pub strip : List ℕ → List ℕ → Option (List ℕ)
+strip [] octets = Some octets
+strip (x ∷ front) [] = None
+strip (x ∷ front) (y ∷ octets) = if x == y then strip front octets else None

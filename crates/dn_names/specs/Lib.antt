@@ -1,0 +1,18 @@
+-- what public clauses cite
+pub mod Classes
+pub mod NameGrammar
+pub mod Spelling
+pub mod Names
+pub mod NameOrder
+pub mod Values
+pub mod Resolving
+pub mod GoodPlaces
+pub mod NameText
+pub mod NameCause
+pub mod Printing
+pub mod GoodNames
+pub mod NameValues
+-- what only this crate's inside promises itself
+pub mod Modes
+pub mod Reading
+pub mod KeyReading

@@ -1,0 +1,33 @@
+-- The values of each attribute type: which octets are of its syntax, and their keys.
+use Rattle.std.specs.Prelude.{ℕ, List, Option, Some, None, Result, Ok, Err}
+use Rattle.std.specs.Option.{option_map, option_and_then}
+use Rattle.schema_core.specs.declared.kinds.Syntax.{Syntax}
+use Rattle.schema_core.specs.declared.kinds.Syntax.TheVariants.{Text, Ascii, Phone, Country, Octets, Oid, Name, Subtree, Aci}
+use Rattle.schema_core.specs.Attributes.{syntax_of}
+use Rattle.dn_names.specs.declared.error.BadName.{BadName}
+use Rattle.dn_names.specs.Names.{Keyed, RdnSequence}
+use Rattle.dn_names.specs.Values.{plain_key}
+use Rattle.dn_names.specs.NameText.{read_name}
+use Rattle.dn_names.specs.Printing.{name_key}
+
+-- the key of a name that was read
+abbrev pub read_key : Result RdnSequence BadName → Option (List ℕ)
+read_key (Ok name) = Some (name_key name)
+read_key (Err cause) = None
+
+-- the key of octets of a syntax: a name's is the name printed with each value replaced by its key
+abbrev pub value_key : Syntax → List ℕ → Option (List ℕ)
+value_key Text octets = plain_key Text octets
+value_key Ascii octets = plain_key Ascii octets
+value_key Phone octets = plain_key Phone octets
+value_key Country octets = plain_key Country octets
+value_key Octets octets = plain_key Octets octets
+value_key Oid octets = plain_key Oid octets
+value_key Name octets = read_key (read_name octets)
+value_key Subtree octets = plain_key Subtree octets
+value_key Aci octets = plain_key Aci octets
+
+-- the value of an attribute type that octets are: none where they are not of its syntax
+unfoldable pub value_of : ℕ → List ℕ → Option Keyed
+value_of number octets =
+    option_map (λ key. record { octets = octets; key = key }) (option_and_then (λ syntax. value_key syntax octets) (syntax_of number))

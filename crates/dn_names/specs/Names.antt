@@ -1,0 +1,30 @@
+-- What names are (X.501 9.2 and 9.3): a list of RDNs, root first; an RDN is a list of types with values.
+use Rattle.std.specs.Prelude.{◌≡◌, ℕ, true, List, map, Vec}
+use Rattle.std.specs.List.{AllByRecursion}
+use Rattle.std.specs.Str.{is_utf8}
+
+-- a value: its octets, and the key by which it is compared
+pub record Keyed : Type 0 where
+  pub octets : List ℕ
+  pub key : List ℕ
+
+-- a type, by its number in the table, with a value
+pub record TypeAndValue : Type 0 where
+  pub kind : ℕ
+  pub value : Keyed
+
+-- a name
+abbrev pub RdnSequence : Type 0
+RdnSequence = List (List TypeAndValue)
+
+-- the lists of RDNs that the program keeps as vectors
+abbrev pub rdns_of : {Z : Type 0} → List (Vec TypeAndValue Z) → RdnSequence
+rdns_of rdns = map (λ rdn. rdn.items) rdns
+
+-- each value of an RDN is UTF-8
+abbrev pub IsTextRdn : List TypeAndValue → Type 0
+IsTextRdn rdn = AllByRecursion (λ pair. is_utf8 pair.value.octets ≡ true) rdn
+
+-- each value of a name is UTF-8
+abbrev pub IsTextName : RdnSequence → Type 0
+IsTextName name = AllByRecursion IsTextRdn name

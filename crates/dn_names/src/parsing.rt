@@ -1,0 +1,160 @@
+//! Names from their texts.
+
+ghost use Rattle.std.specs.Prelude.{◌≡◌, ◌≤◌, ◌<◌, ◌+◌, ◌^◌, ◌==◌, nat_lt, [], length, map, Ok, Err, IfOk, IfErr, vec_len};
+ghost use Rattle.dn_names.specs.Names.{rdns_of};
+ghost use Rattle.dn_names.specs.Reading.{rdn_of, parts_of, written_of};
+ghost use Rattle.dn_names.specs.Resolving.{rdn_from, rdns_from, from_root, UnlessMemory};
+ghost use Rattle.dn_names.specs.Resolving.{resolve, resolve_rdn};
+ghost use Rattle.dn_names.specs.NameCause.{NameCause};
+ghost use Rattle.dn_names.specs.NameText.{NameText, RdnText, Gives, read_name, read_rdn};
+
+use crate::error::BadName;
+use crate::name::{Dn, Pair};
+use crate::parts::{count_marks, cut, is_blank};
+use crate::resolve::add;
+use crate::scan::fault_place;
+use std::alloc::Global;
+
+/// Reads a name (RFC 4514). A text of nothing but spaces is the name of no RDN.
+///
+/// The errors come in this order: `Text` for octets that are in no text of the outer grammar, `TooMany` for more
+/// than 64 RDNs, `Part` for the first pair, in the text's order, that is not good.
+pub fn parse(alloc: Global, octets: &[u8]) -> Result<Dn, BadName>
+    ensures ok { IfOk result (λ name. NameText name octets.now) }
+    ensures cause { IfErr result (λ error. NameCause (λ count. count ≤ 64) octets.now error) }
+    ensures exact { Gives result (read_name octets.now) }
+{
+    parse_by(alloc, octets)
+}
+
+/// Reads an RDN as a name of one RDN. `TooMany` comes for a text of none or of more than one; the other errors
+/// are those of `parse`.
+pub fn parse_rdn(alloc: Global, octets: &[u8]) -> Result<Dn, BadName>
+    ensures ok { IfOk result (λ name. RdnText name octets.now) }
+    ensures cause { IfErr result (λ error. NameCause (λ count. count ≡ 1) octets.now error) }
+    ensures exact { Gives result (read_rdn octets.now) }
+{
+    parse_rdn_by(alloc, octets)
+}
+
+// As `parse`, by the function of the text.
+#[tactic(auto, unfolding(crate::specs::NameText::read_name, crate::specs::Resolving::resolve))]
+fn parse_by(alloc: Global, octets: &[u8]) -> Result<Dn, BadName>
+    ensures exact { Gives result (read_name octets.now) }
+{
+    match fault_place(octets) {
+        Some(place) => Err(BadName::Text { place }),
+        None => {
+            if has_too_many(octets) {
+                Err(BadName::TooMany)
+            } else {
+                read_all(alloc, octets)
+            }
+        }
+    }
+}
+
+// As `parse_rdn`, by the function of the text.
+#[tactic(auto, unfolding(crate::specs::NameText::read_rdn, crate::specs::Resolving::resolve_rdn))]
+fn parse_rdn_by(alloc: Global, octets: &[u8]) -> Result<Dn, BadName>
+    ensures exact { Gives result (read_rdn octets.now) }
+{
+    match fault_place(octets) {
+        Some(place) => Err(BadName::Text { place }),
+        None => {
+            if has_one(octets) {
+                read_all(alloc, octets)
+            } else {
+                Err(BadName::TooMany)
+            }
+        }
+    }
+}
+
+// The pairs of an RDN's text; the first of them has the number `first`.
+fn read_pairs(alloc: Global, text: &[u8], first: usize) -> Result<Vec<Pair>, BadName>
+    requires { first + length text.now < 2 ^ 64 }
+    ensures ok { IfOk result (λ pairs. rdn_from first [] (rdn_of text.now) ≡ Ok pairs.items) }
+    ensures len { IfOk result (λ pairs. vec_len pairs ≡ length (rdn_of text.now)) }
+    ensures part { IfErr result (λ e. UnlessMemory e (rdn_from first [] (rdn_of text.now) ≡ Err e)) }
+{
+    let mut pairs = Vec::new(alloc);
+    let mut index = first;
+    let mut rest = text;
+    'pairs: loop {
+        let (part, after) = cut(rest, b'+');
+        match add(alloc, &mut pairs, part, index) {
+            Ok(()) => {}
+            Err(error) => return Err(error),
+        }
+        match after {
+            Some(others) => {
+                index += 1;
+                rest = others;
+            }
+            None => return Ok(pairs),
+        }
+    }
+}
+
+// The RDNs of a name's text, in the text's order.
+fn read_rdns(alloc: Global, text: &[u8]) -> Result<Vec<Vec<Pair>>, BadName>
+    ensures ok { IfOk result (λ rdns. rdns_from 0 (map rdn_of (parts_of 44 text.now)) ≡ Ok (rdns_of rdns.items)) }
+    ensures part { IfErr result (λ e. UnlessMemory e (rdns_from 0 (map rdn_of (parts_of 44 text.now)) ≡ Err e)) }
+{
+    let mut rdns = Vec::new(alloc);
+    let mut index = 0;
+    let mut rest = text;
+    'rdns: loop {
+        let (part, after) = cut(rest, b',');
+        let pairs = match read_pairs(alloc, part, index) {
+            Ok(pairs) => pairs,
+            Err(error) => return Err(error),
+        };
+        let count = pairs.len();
+        rdns.push(pairs)?;
+        match after {
+            Some(others) => {
+                index += count;
+                rest = others;
+            }
+            None => return Ok(rdns),
+        }
+    }
+}
+
+// The name of a text of the outer grammar.
+#[tactic(auto, unfolding(crate::specs::Reading::written_of))]
+fn read_all(alloc: Global, text: &[u8]) -> Result<Dn, BadName>
+    ensures ok { IfOk result (λ name. from_root (rdns_from 0 (written_of text.now)) ≡ Ok name) }
+    ensures part { IfErr result (λ e. UnlessMemory e (from_root (rdns_from 0 (written_of text.now)) ≡ Err e)) }
+{
+    if is_blank(text) {
+        return Ok(Dn {
+            rdns: Vec::new(alloc),
+        });
+    }
+    match read_rdns(alloc, text) {
+        Ok(mut rdns) => {
+            rdns.reverse();
+            Ok(Dn { rdns })
+        }
+        Err(error) => Err(error),
+    }
+}
+
+// Whether a text of the outer grammar has more than 64 RDNs.
+#[tactic(auto, unfolding(crate::specs::Reading::written_of))]
+fn has_too_many(text: &[u8]) -> bool
+    ensures exact { result ≡ nat_lt 64 (length (written_of text.now)) }
+{
+    !is_blank(text) && count_marks(text, b',') >= 64
+}
+
+// Whether a text of the outer grammar has one RDN.
+#[tactic(auto, unfolding(crate::specs::Reading::written_of))]
+fn has_one(text: &[u8]) -> bool
+    ensures exact { result ≡ (length (written_of text.now) == 1) }
+{
+    !is_blank(text) && count_marks(text, b',') == 0
+}

@@ -1,0 +1,288 @@
+//! Names: the examples of RFC 4514 section 4, and each refusal with its place or its number.
+use dn_names::{
+    BadName, Dn, a_name_has_one_key, a_printed_name_is_read_again, a_text_spells_one_name, compare_front,
+    compare_names, cutting_undoes_joining, is_key_of, is_prefix, join, local, make_value,
+    names_are_in_a_total_order, parse, parse_rdn, print, same,
+};
+use match_rules::PrepareFault;
+use schema_core::{AttrId, attr};
+use std::alloc::Global;
+use std::cmp::Ordering;
+use std::test::Fail;
+
+fn printed(alloc: Global, name: &Dn) -> Result<String, Fail> {
+    let mut out = String::new(alloc);
+    print(alloc, name, &mut out)?;
+    Ok(out)
+}
+
+#[test]
+fn a_text_is_printed_in_the_one_form(rt: HostRuntime) -> Result<(), Fail> {
+    let rows = [
+        ("UID=jsmith,DC=example,DC=net", "uid=jsmith,dc=example,dc=net"),
+        (
+            "OU=Sales+CN=J.  Smith,DC=example,DC=net",
+            "cn=J.  Smith+ou=Sales,dc=example,dc=net",
+        ),
+        (
+            "CN=James \\\"Jim\\\" Smith\\, III,DC=example,DC=net",
+            "cn=James \\\"Jim\\\" Smith\\, III,dc=example,dc=net",
+        ),
+        (
+            "CN=Before\\0dAfter,DC=example,DC=net",
+            "cn=Before\rAfter,dc=example,dc=net",
+        ),
+        ("CN=Lu\\C4\\8Di\\C4\\87", "cn=Lu\u{10D}i\u{107}"),
+        ("cn=a\\,b+uid=x, dc=example", "cn=a\\,b+uid=x,dc=example"),
+        ("2.5.4.3=x", "cn=x"),
+        (" cn = \\ a b\\  , dc = t ", "cn=\\ a b\\ ,dc=t"),
+        ("cn=\\ ", "cn=\\ "),
+        ("cn=\\#a#", "cn=\\#a#"),
+        ("cn=a\\00b", "cn=a\\00b"),
+        ("cn=a\\=b=c", "cn=a=b=c"),
+        ("cn=\\3c\\3E\\;\\\\", "cn=\\<\\>\\;\\\\"),
+        ("", ""),
+        ("   ", ""),
+    ];
+    for (text, want) in rows {
+        let name = parse(rt.alloc(), text.as_bytes())?;
+        let found = printed(rt.alloc(), &name)?;
+        assert_eq!(rt; found.as_str(), want, "{text}");
+        let again = parse(rt.alloc(), found.as_bytes())?;
+        assert!(rt; same(&name, &again), "{text}");
+    }
+    Ok(())
+}
+
+#[test]
+fn octets_outside_the_grammar_are_refused_at_their_place(rt: HostRuntime) {
+    let rows = [
+        ("dc", 2),
+        ("dc ", 3),
+        ("d_c=x", 1),
+        ("=x", 0),
+        (",cn=a", 0),
+        ("cn a=b", 3),
+        ("1=x", 1),
+        ("1.=x", 2),
+        ("01.2=x", 1),
+        ("1.02=x", 3),
+        ("1.3.6.1.4.1.1466.0=#04024869", 19),
+        ("cn= #1", 4),
+        ("cn=a\"b", 4),
+        ("cn=a\u{0}b", 4),
+        ("cn=a;dc=b", 4),
+        ("cn=\\", 4),
+        ("cn=\\0", 5),
+        ("cn=\\0,", 5),
+        ("cn=\\zz", 4),
+        ("cn=a,", 5),
+        ("cn=a+", 5),
+        ("cn=a,,dc=b", 5),
+    ];
+    for (text, place) in rows {
+        let found = parse(rt.alloc(), text.as_bytes()).err();
+        assert_eq!(rt; found, Some(BadName::Text { place }), "{text}");
+    }
+}
+
+#[test]
+fn the_first_bad_pair_is_refused_by_its_number(rt: HostRuntime) {
+    let rows = [
+        ("dc=", 0),
+        ("cn=a,dc=", 1),
+        ("xx=a", 0),
+        ("1.2.3=a", 0),
+        ("cn=a+xx=b,dc=c", 1),
+        ("cn=a,xx=b,dc=", 1),
+        ("member=a", 0),
+        ("userPassword=a", 0),
+        ("cn=a+CN=b", 1),
+        ("cn=a+uid=b+2.5.4.3=c,dc=", 2),
+        ("cn=\\ff", 0),
+        ("dc=\\c3\\a9", 0),
+        ("c=deu", 0),
+    ];
+    for (text, index) in rows {
+        let found = parse(rt.alloc(), text.as_bytes()).err();
+        assert_eq!(rt; found, Some(BadName::Part { index }), "{text}");
+    }
+}
+
+#[test]
+fn a_value_of_a_name_has_at_most_65536_octets(rt: HostRuntime) -> Result<(), Fail> {
+    let mut text = String::from_str(rt.alloc(), "cn=")?;
+    for _ in 0..65_536 {
+        text.push('a')?;
+    }
+    assert!(rt; parse(rt.alloc(), text.as_bytes()).is_ok());
+    text.push('a')?;
+    let found = parse(rt.alloc(), text.as_bytes()).err();
+    assert_eq!(rt; found, Some(BadName::Part { index: 0 }));
+    Ok(())
+}
+
+#[test]
+fn a_name_has_at_most_64_rdns_and_their_number_is_asked_first(rt: HostRuntime) -> Result<(), Fail> {
+    let mut text = String::from_str(rt.alloc(), "dc=a")?;
+    for _ in 1..64 {
+        text.push_str(",dc=a")?;
+    }
+    let longest = parse(rt.alloc(), text.as_bytes())?;
+    assert_eq!(rt; longest.len(), 64);
+    let more = parse(rt.alloc(), b"dc=a")?;
+    assert_eq!(rt; join(rt.alloc(), &longest, &more).err(), Some(BadName::TooMany));
+    text.push_str(",xx=a")?;
+    let found = parse(rt.alloc(), text.as_bytes()).err();
+    assert_eq!(rt; found, Some(BadName::TooMany));
+    Ok(())
+}
+
+#[test]
+fn an_rdn_is_read_alone(rt: HostRuntime) -> Result<(), Fail> {
+    let name = parse_rdn(rt.alloc(), b"uid=x + cn=y")?;
+    let found = printed(rt.alloc(), &name)?;
+    assert_eq!(rt; found.as_str(), "cn=y+uid=x");
+    for text in ["", " ", "cn=a,dc=b", "xx=a,dc=b"] {
+        let found = parse_rdn(rt.alloc(), text.as_bytes()).err();
+        assert_eq!(rt; found, Some(BadName::TooMany), "{text}");
+    }
+    let found = parse_rdn(rt.alloc(), b"xx=a").err();
+    assert_eq!(rt; found, Some(BadName::Part { index: 0 }));
+    let found = parse_rdn(rt.alloc(), b"cn").err();
+    assert_eq!(rt; found, Some(BadName::Text { place: 2 }));
+    Ok(())
+}
+
+#[test]
+fn names_are_ordered_by_types_and_keys_from_the_root(rt: HostRuntime) -> Result<(), Fail> {
+    let rows = [
+        ("cn=A  B", "CN=a b", Ordering::Equal),
+        ("", "dc=a", Ordering::Less),
+        ("dc=a", "cn=z,dc=a", Ordering::Less),
+        ("cn=z,dc=a", "ou=a,dc=a", Ordering::Less),
+        ("ou=z,dc=a", "dc=B", Ordering::Less),
+        ("dc=b", "cn=a,dc=A", Ordering::Greater),
+        ("cn=a+uid=b", "uid=B+cn=A", Ordering::Equal),
+        ("cn=a+uid=b", "cn=a", Ordering::Greater),
+    ];
+    for (one, other, order) in rows {
+        let name = parse(rt.alloc(), one.as_bytes())?;
+        let next = parse(rt.alloc(), other.as_bytes())?;
+        assert_eq!(rt; compare_names(&name, &next), order, "{one} {other}");
+        assert_eq!(rt; compare_names(&next, &name), order.reverse(), "{one} {other}");
+        assert_eq!(rt; same(&name, &next), order.is_eq(), "{one} {other}");
+    }
+    Ok(())
+}
+
+#[test]
+fn a_prefix_stands_at_the_root_and_a_name_is_its_own(rt: HostRuntime) -> Result<(), Fail> {
+    let rows = [
+        ("dc=t", "cn=a,dc=T", true),
+        ("cn=a,dc=t", "cn=a,dc=t", true),
+        ("", "dc=t", true),
+        ("cn=a", "cn=a,dc=t", false),
+        ("cn=a,dc=t", "dc=t", false),
+    ];
+    for (front, text, is_front) in rows {
+        let superior = parse(rt.alloc(), front.as_bytes())?;
+        let name = parse(rt.alloc(), text.as_bytes())?;
+        assert_eq!(rt; is_prefix(&superior, &name), is_front, "{front} {text}");
+        let order = compare_front(&name, superior.len(), &superior);
+        assert_eq!(rt; order.is_eq(), is_front, "{front} {text}");
+    }
+    Ok(())
+}
+
+#[test]
+fn a_name_is_cut_and_joined(rt: HostRuntime) -> Result<(), Fail> {
+    let superior = parse(rt.alloc(), b"dc=t")?;
+    let name = parse(rt.alloc(), b"cn=a,dc=t")?;
+    if is_prefix(&superior, &name) {
+        let below = local(rt.alloc(), &superior, &name)?;
+        assert_eq!(rt; printed(rt.alloc(), &below)?.as_str(), "cn=a");
+        let whole = join(rt.alloc(), &superior, &below)?;
+        assert_eq!(rt; printed(rt.alloc(), &whole)?.as_str(), "cn=a,dc=t");
+    }
+    let copy = name.copy(rt.alloc())?;
+    assert_eq!(rt; copy.len(), 2);
+    let leaf = copy.rdn(1).ok_or("no RDN")?;
+    assert_eq!(rt; leaf.len(), 1);
+    assert_eq!(rt; leaf[0].kind(), AttrId::CN);
+    assert_eq!(rt; leaf[0].value().octets(), b"a".as_slice());
+    assert!(rt; copy.rdn(2).is_none());
+    Ok(())
+}
+
+#[test]
+fn a_value_has_the_key_of_its_syntax(rt: HostRuntime) -> Result<(), Fail> {
+    let rows = [
+        ("cn", " Ada  Lovelace", "ada lovelace"),
+        ("dc", "Example", "example"),
+        ("telephoneNumber", "+1 555-0100", "+15550100"),
+        ("c", "DE", "de"),
+        ("userPassword", " Ab ", " Ab "),
+        ("objectClass", "person", "2.5.6.6"),
+        ("objectClass", "1.2.3", "1.2.3"),
+        ("member", "CN=A  B , dc=Example", "cn=a b,dc=example"),
+        ("seeAlso", "", ""),
+        ("subtreeSpecification", "{ }", "{ }"),
+        ("entryACI", "not an item", "not an item"),
+    ];
+    for (kind, octets, key) in rows {
+        let kind = attr(kind).ok_or("no such type")?;
+        let value = make_value(rt.alloc(), kind, octets.as_bytes().to_vec(rt.alloc())?)?;
+        assert_eq!(rt; value.key(), key.as_bytes(), "{octets}");
+        let copy = value.copy(rt.alloc())?;
+        assert_eq!(rt; copy.octets(), octets.as_bytes(), "{octets}");
+    }
+    Ok(())
+}
+
+#[test]
+fn octets_of_another_syntax_are_no_value(rt: HostRuntime) -> Result<(), Fail> {
+    let rows = [
+        ("cn", ""),
+        ("dc", "\u{E9}"),
+        ("c", "D1"),
+        ("objectClass", "nonsense"),
+        ("objectClass", "01.2"),
+        ("member", "cn"),
+        ("member", "cn=a+cn=b"),
+    ];
+    for (kind, octets) in rows {
+        let kind = attr(kind).ok_or("no such type")?;
+        let found = make_value(rt.alloc(), kind, octets.as_bytes().to_vec(rt.alloc())?).err();
+        assert_eq!(rt; found, Some(PrepareFault::NotOfSyntax), "{octets}");
+    }
+    Ok(())
+}
+
+#[test]
+fn a_key_of_name_syntax_is_that_of_one_name(rt: HostRuntime) -> Result<(), Fail> {
+    let octets = b"cn=A\\,  B+uid=x, dc=Example".to_vec(rt.alloc())?;
+    let member = attr("member").ok_or("no such type")?;
+    let value = make_value(rt.alloc(), member, octets)?;
+    assert_eq!(rt; value.key(), b"cn=a\\, b+uid=x,dc=example".as_slice());
+    let rows = [
+        ("uid=X+cn=a\\2c b,dc=example", true),
+        ("cn=a\\, b,dc=example", false),
+        ("cn=a\\, b+uid=x", false),
+        ("", false),
+    ];
+    for (text, is_key) in rows {
+        let name = parse(rt.alloc(), text.as_bytes())?;
+        assert_eq!(rt; is_key_of(&name, value.key()), is_key, "{text}");
+    }
+    Ok(())
+}
+
+#[test]
+fn the_laws_are_there() {
+    a_text_spells_one_name();
+    a_printed_name_is_read_again();
+    names_are_in_a_total_order();
+    cutting_undoes_joining();
+    a_name_has_one_key();
+}
