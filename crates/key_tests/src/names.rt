@@ -1,8 +1,8 @@
 //! Names: the examples of RFC 4514 section 4, and each refusal with its place or its number.
 use dn_names::{
-    BadName, Dn, a_name_has_one_key, a_printed_name_is_read_again, a_text_spells_one_name, compare_front,
-    compare_names, cutting_undoes_joining, is_key_of, is_prefix, join, local, make_value,
-    names_are_in_a_total_order, parse, parse_rdn, print, same,
+    BadName, Dn, a_name_has_one_key, a_printed_name_is_read_again, a_text_spells_one_name,
+    compare_front, compare_names, cutting_undoes_joining, is_key_of, is_prefix, join, local,
+    make_value, names_are_in_a_total_order, parse, parse_rdn, print, same,
 };
 use match_rules::PrepareFault;
 use schema_core::{AttrId, attr};
@@ -19,7 +19,10 @@ fn printed(alloc: Global, name: &Dn) -> Result<String, Fail> {
 #[test]
 fn a_text_is_printed_in_the_one_form(rt: HostRuntime) -> Result<(), Fail> {
     let rows = [
-        ("UID=jsmith,DC=example,DC=net", "uid=jsmith,dc=example,dc=net"),
+        (
+            "UID=jsmith,DC=example,DC=net",
+            "uid=jsmith,dc=example,dc=net",
+        ),
         (
             "OU=Sales+CN=J.  Smith,DC=example,DC=net",
             "cn=J.  Smith+ou=Sales,dc=example,dc=net",
@@ -131,7 +134,10 @@ fn a_name_has_at_most_64_rdns_and_their_number_is_asked_first(rt: HostRuntime) -
     let longest = parse(rt.alloc(), text.as_bytes())?;
     assert_eq!(rt; longest.len(), 64);
     let more = parse(rt.alloc(), b"dc=a")?;
-    assert_eq!(rt; join(rt.alloc(), &longest, &more).err(), Some(BadName::TooMany));
+    assert_eq!(rt;
+        join(rt.alloc(), &longest, &more).err(),
+        Some(BadName::TooMany)
+    );
     text.push_str(",xx=a")?;
     let found = parse(rt.alloc(), text.as_bytes()).err();
     assert_eq!(rt; found, Some(BadName::TooMany));
@@ -170,7 +176,11 @@ fn names_are_ordered_by_types_and_keys_from_the_root(rt: HostRuntime) -> Result<
         let name = parse(rt.alloc(), one.as_bytes())?;
         let next = parse(rt.alloc(), other.as_bytes())?;
         assert_eq!(rt; compare_names(&name, &next), order, "{one} {other}");
-        assert_eq!(rt; compare_names(&next, &name), order.reverse(), "{one} {other}");
+        assert_eq!(rt;
+            compare_names(&next, &name),
+            order.reverse(),
+            "{one} {other}"
+        );
         assert_eq!(rt; same(&name, &next), order.is_eq(), "{one} {other}");
     }
     Ok(())
