@@ -1,0 +1,65 @@
+-- Numbers among the words: the function, the relation, and what std's `parse` gives.
+use Rattle.std.proofs.Common.{◌≡◌, ℕ, ◌<◌, ◌≤◌, ◌^◌, Bool, true, false, ltb, leb, ◌&&◌, List, length, Option, Some, None, Result, Ok, Err, sym, refl, subst, rules}
+use Rattle.std.proofs.lemmas.Bool.{ltb-true, lt-ltb, leb-true, le-leb}
+use Rattle.std.proofs.lemmas.Option.{cond_some}
+use Rattle.std.proofs.lemmas.Str.Parse.{IsNumeralModel, numerals_by_value, parse_digits}
+use Rattle.std.specs.Char.{is_ascii_digit}
+use Rattle.std.specs.List.{list_all}
+use Rattle.std.specs.Result.{result_ok}
+use Rattle.std.specs.Str.Parse.{digits_value, ParsesUnsigned}
+use Rattle.command_words.specs.Number.{IsNumber, has_form, number_of}
+
+-- two tests that both pass
+pub both_pass : (a b : Bool) → (a && b) ≡ true → (a ≡ true) × (b ≡ true)
+both_pass true b passed = (refl, passed)
+both_pass false b passed = absurd (cc)
+
+pub passes_both : (a b : Bool) → a ≡ true → b ≡ true → (a && b) ≡ true
+passes_both true b first second = second
+passes_both false b first second = absurd (cc)
+
+record Form (text : List ℕ) : Type 0 where
+  some : 1 ≤ length text
+  short : length text ≤ 20
+  digits : list_all is_ascii_digit text ≡ true
+
+form_of : (text : List ℕ) → has_form text ≡ true → Form text
+form_of text has =
+    let outer = both_pass _ _ has in
+    let inner = both_pass (leb (length text) 20) (list_all is_ascii_digit text) outer.1 in
+    record { some = leb-true 1 (length text) outer.0; short = leb-true (length text) 20 inner.0; digits = inner.1 }
+
+-- the function gives what the relation says
+pub number_of-sound : (text : List ℕ) (value : ℕ) → number_of text ≡ Some value → IsNumber text value
+unfolding number_of
+number_of-sound text value given =
+    let tests = cond_some (has_form text && ltb (digits_value 10 text) (2 ^ 64)) (digits_value 10 text) value given in
+    let parts = both_pass (has_form text) (ltb (digits_value 10 text) (2 ^ 64)) tests.0 in
+    let form = form_of text parts.0 in
+    let below : digits_value 10 text < 2 ^ 64 = ltb-true _ _ parts.1 in
+    record { digits = form.digits; some = form.some; short = form.short; exact = tests.1; small = subst (λ (n : ℕ). n < 2 ^ 64) tests.1 below }
+
+-- and all of it
+pub number_of-complete : (text : List ℕ) (value : ℕ) → IsNumber text value → number_of text ≡ Some value
+unfolding number_of
+number_of-complete text value is =
+    let form : has_form text ≡ true = passes_both (leb 1 (length text)) _ (le-leb _ _ is.some) (passes_both (leb (length text) 20) _ (le-leb _ _ is.short) is.digits) in
+    let below : ltb (digits_value 10 text) (2 ^ 64) ≡ true = lt-ltb _ _ (subst (λ (n : ℕ). n < 2 ^ 64) (sym is.exact) is.small) in
+    rw (form, below, is.exact) refl
+
+own : IsNumeralModel (λ ds. list_all is_ascii_digit ds ≡ true) (digits_value 10)
+own = numerals_by_value _ (search rules)
+
+-- a text of the form is parsed to its number
+pub number_of-parsed : {E : Type 0} (text : List ℕ) (r : Result ℕ E) → has_form text ≡ true → ParsesUnsigned 64 10 text r → result_ok r ≡ number_of text
+number_of-parsed {E} text (Ok value) has parses =
+    let form = form_of text has in
+    let gives = parse_digits own {E = E} 64 text (Ok value) parses form.digits in
+    sym (number_of-complete text value (record { digits = form.digits; some = form.some; short = form.short; exact = sym gives.1; small = subst (λ (n : ℕ). n < 2 ^ 64) (sym gives.1) gives.0.1 }))
+number_of-parsed {E} text (Err fault) has parses =
+    let form = form_of text has in
+    let fails = parse_digits own {E = E} 64 text (Err fault) parses form.digits in
+    elim (number_of text) as (λ (o : Option ℕ). number_of text ≡ o → None ≡ o) [
+      | None ↦ λ e. refl
+      | Some value ↦ λ e. let is = number_of-sound text value e in absurd (fails (form.some, subst (λ (n : ℕ). n < 2 ^ 64) (sym is.exact) is.small))
+    ] refl

@@ -1,0 +1,36 @@
+-- What the words ask for: the commands, and the words that write each.
+use Rattle.std.specs.Prelude.{◌≡◌, ℕ, List, [], ◌∷◌}
+use Rattle.command_words.specs.declared.command.Command.{Command}
+use Rattle.command_words.specs.declared.command.Command.TheVariants as command
+use Rattle.command_words.specs.declared.table.CommandName.{CommandName}
+use Rattle.command_words.specs.declared.table.CommandName.TheVariants as commands
+use Rattle.command_words.specs.declared.table.OptionName.TheVariants as options
+use Rattle.command_words.specs.declared.table.Sought.TheVariants.{Operands, Arguments}
+use Rattle.command_words.specs.Table.{row_of}
+use Rattle.command_words.specs.Line.{Line, IsLine, line_words, texts_of}
+use Rattle.command_words.specs.Number.{SaysNumber}
+
+-- what words may ask for, with texts as octets
+pub data CommandView : Type 0 where
+  Replay : (data_file script : List ℕ) (turns : ℕ) → CommandView
+
+-- a command as it is read, with its texts as octets
+abbrev pub view : Command → CommandView
+view (command.Replay data_file script turns) = Replay data_file.now script.now turns
+
+-- how many events are heard where the words don't say
+abbrev pub default_turns : ℕ
+default_turns = 1000000000000
+
+-- the command that a command's line says
+abbrev pub Says : CommandName → Line → CommandView → Type 0
+Says commands.Replay line (Replay data_file script turns) =
+    (texts_of Operands line ≡ data_file ∷ script ∷ []) × SaysNumber default_turns (texts_of (Arguments options.Turns) line) turns
+
+-- the words are a command's name and a line of it that says this command
+pub record IsCommand (words : List (List ℕ)) (asked : CommandView) : Type 0 where
+  pub name : CommandName
+  pub line : Line
+  pub words_are : words ≡ (row_of name).name ∷ line_words line
+  pub is_line : IsLine (row_of name) line
+  pub says : Says name line asked

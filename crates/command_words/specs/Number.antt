@@ -1,0 +1,32 @@
+-- Numbers among the words: one to twenty decimal digits, with a value that 64 bits hold.
+use Rattle.std.specs.Prelude.{◌≡◌, ◌≤◌, ◌<◌, ◌^◌, ◌&&◌, ℕ, Bool, List, [], ◌∷◌, length, Option, Some, None, IsTrue, nat_le, nat_lt, if◌then◌else◌}
+use Rattle.std.specs.Char.{is_ascii_digit}
+use Rattle.std.specs.List.{list_all}
+use Rattle.std.specs.Str.Parse.{digits_value}
+
+-- the text is a number of this value; zeros may lead
+pub record IsNumber (text : List ℕ) (value : ℕ) : Type 0 where
+  pub digits : IsTrue (list_all is_ascii_digit text)
+  pub some : 1 ≤ length text
+  pub short : length text ≤ 20
+  pub exact : digits_value 10 text ≡ value
+  pub small : value < 2 ^ 64
+
+-- one to twenty digits
+abbrev pub has_form : List ℕ → Bool
+has_form text = nat_le 1 (length text) && (nat_le (length text) 20 && list_all is_ascii_digit text)
+
+-- the value of a number
+unfoldable pub number_of : List ℕ → Option ℕ
+number_of text = if has_form text && nat_lt (digits_value 10 text) (2 ^ 64) then Some (digits_value 10 text) else None
+
+-- the arguments of an option say this number: the default where the option isn't given
+abbrev pub SaysNumber : ℕ → List (List ℕ) → ℕ → Type 0
+SaysNumber absent [] value = value ≡ absent
+SaysNumber absent (text ∷ []) value = IsNumber text value
+SaysNumber absent (text ∷ again ∷ texts) value = ⊥
+
+-- the number that an option's argument says, where there is one
+abbrev pub number_said : ℕ → Option (List ℕ) → Option ℕ
+number_said absent None = Some absent
+number_said absent (Some text) = number_of text

@@ -1,0 +1,41 @@
+-- The program's commands, one row each: the name, how many operands it takes, and its options.
+-- Operands, options and option-arguments are those of POSIX.1, Utility Conventions (12.1); the options are GNU's long ones.
+use Rattle.std.specs.Prelude.{ℕ, Bool, true, List, [], ◌∷◌, Option, bytes_eq, codes, find}
+use Rattle.command_words.specs.declared.table.CommandName.{CommandName}
+use Rattle.command_words.specs.declared.table.CommandName.TheVariants as commands
+use Rattle.command_words.specs.declared.table.OptionName.{OptionName}
+use Rattle.command_words.specs.declared.table.OptionName.TheVariants as options
+
+-- what a command takes after its name
+pub record Row : Type 0 where
+  pub name : List ℕ
+  pub operands : ℕ
+  pub options : List OptionName
+
+-- the table of commands
+abbrev pub row_of : CommandName → Row
+row_of commands.Replay = record { name = codes "replay"; operands = 2; options = options.Turns ∷ [] }
+
+-- all commands
+abbrev pub all_commands : List CommandName
+all_commands = commands.Replay ∷ []
+
+-- the table of options: what follows the two dashes
+abbrev pub option_word : OptionName → List ℕ
+option_word options.Turns = codes "turns"
+
+-- whether the option has an argument
+abbrev pub takes_argument : OptionName → Bool
+takes_argument options.Turns = true
+
+-- the same option
+abbrev pub is_same_option : OptionName → OptionName → Bool
+is_same_option options.Turns options.Turns = true
+
+-- the command of this name
+abbrev pub command_named : List ℕ → Option CommandName
+command_named word = find (λ command. bytes_eq word (row_of command).name) all_commands
+
+-- the option of a command that has this name
+abbrev pub option_named : Row → List ℕ → Option OptionName
+option_named row word = find (λ name. bytes_eq word (option_word name)) row.options

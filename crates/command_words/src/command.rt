@@ -1,0 +1,91 @@
+// The commands, and the words that ask for them.
+
+ghost use Rattle.std.specs.Prelude.{◌≡◌, ◌∷◌, map, option_map, string_bytes, Some, IfSome};
+ghost use Rattle.command_words.specs.Command.{CommandView, IsCommand, view};
+ghost use Rattle.command_words.specs.Reading.{line_read, text_in, command_said, command_of};
+ghost use Rattle.command_words.specs.Table.{row_of};
+
+use crate::number::number_said;
+use crate::scan::{has_line, text_in};
+use crate::table::{CommandName, OptionName, Place, Sought};
+
+/// How many events are heard where `--turns` isn't given.
+const DEFAULT_TURNS: u64 = 1_000_000_000_000;
+
+/// What the words of the program ask for. Its texts are parts of the words.
+#[derive(Clone, Copy, Debug, Drop)]
+pub enum Command<'a> {
+    /// `replay DATA SCRIPT [--turns N]`: the names of the two files, and how many events are heard at most.
+    Replay {
+        data: &'a str,
+        script: &'a str,
+        turns: u64,
+    },
+}
+
+/// The command that the words after the program's name ask for, or `None` where they ask for none.
+///
+/// The first word is the command's name. After it operands and options stand in any order, each option
+/// at most once, as `--name text`, `--name=text` or, for one without an argument, `--name`; words after
+/// `--` are operands, and so is `-` alone (POSIX.1, Utility Syntax Guidelines; GNU's long options).
+/// A number is one to twenty decimal digits with a value below 2^64. Reading takes no memory.
+pub fn read_words(words: &[String]) -> Option<Command<'_>>
+    ensures exact { option_map view result ≡ command_of (map string_bytes words.now) }
+    ensures found { IfSome result (λ command. IsCommand (map string_bytes words.now) (view command)) }
+    ensures only { (asked : CommandView) → IsCommand (map string_bytes words.now) asked
+        → option_map view result ≡ Some asked }
+{
+    read_first(words)
+}
+
+/// The same by the first word and the others.
+fn read_first(words: &[String]) -> Option<Command<'_>>
+    ensures { option_map view result ≡ command_of (map string_bytes words.now) }
+{
+    let (first, words) = words.split_first()?;
+    read_rest(first.as_str(), words)
+}
+
+/// The same by the command that the first word names.
+fn read_rest<'a>(first: &str, words: &'a [String]) -> Option<Command<'a>>
+    ensures { option_map view result ≡ command_of (first.now ∷ map string_bytes words.now) }
+{
+    let command = CommandName::named(first)?;
+    if has_line(command, words) {
+        read_line(command, words)
+    } else {
+        None
+    }
+}
+
+/// What a line of a command says.
+#[tactic(auto, unfolding(crate::specs::Reading::command_said))]
+fn read_line(command: CommandName, words: &[String]) -> Option<Command<'_>>
+    ensures { option_map view result
+        ≡ command_said command (text_in (line_read (row_of command) (map string_bytes words.now))) }
+{
+    match command {
+        CommandName::Replay => read_replay(words),
+    }
+}
+
+#[tactic(auto, unfolding(crate::specs::Reading::command_said))]
+fn read_replay(words: &[String]) -> Option<Command<'_>>
+    ensures { option_map view result
+        ≡ command_said CommandName.Replay (text_in (line_read (row_of CommandName.Replay) (map string_bytes words.now))) }
+{
+    let data = text_in(CommandName::Replay, words, Sought::Operands, 0)?;
+    let script = text_in(CommandName::Replay, words, Sought::Operands, 1)?;
+    let turns = text_in(
+        CommandName::Replay,
+        words,
+        Sought::Arguments(OptionName::Turns),
+        0,
+    );
+    let turns = number_said(turns, DEFAULT_TURNS)?;
+    Some(Command::Replay {
+        data,
+        script,
+        turns,
+    })
+}

@@ -1,0 +1,41 @@
+// Numbers among the words.
+
+ghost use Rattle.std.specs.Prelude.{◌≡◌, option_copied};
+ghost use Rattle.std.specs.Char.{is_ascii_digit};
+ghost use Rattle.std.specs.List.{list_all};
+ghost use Rattle.command_words.specs.Number.{number_of, number_said, has_form};
+
+fn all_digits(text: &str) -> bool
+    ensures { result ≡ list_all is_ascii_digit text.now }
+{
+    text.bytes().all(|octet| octet.is_ascii_digit())
+}
+
+/// One to twenty decimal digits.
+fn has_form(text: &str) -> bool
+    ensures { result ≡ has_form text.now }
+{
+    !text.is_empty() && text.len() <= 20 && all_digits(text)
+}
+
+/// The value of one to twenty decimal digits, where 64 bits hold it. Zeros may lead.
+#[tactic(auto, unfolding(crate::specs::Number::number_of))]
+fn number_of(text: &str) -> Option<u64>
+    ensures { result ≡ number_of text.now }
+{
+    if has_form(text) {
+        text.parse::<u64>().ok()
+    } else {
+        None
+    }
+}
+
+/// The number that an option's argument says, or the default where the option isn't given.
+pub fn number_said(text: Option<&str>, absent: u64) -> Option<u64>
+    ensures { result ≡ number_said absent (option_copied text.entry) }
+{
+    match text {
+        Some(text) => number_of(text),
+        None => Some(absent),
+    }
+}

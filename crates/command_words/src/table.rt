@@ -1,0 +1,111 @@
+// The table of commands and options, and what the reading of a line keeps.
+
+ghost use Rattle.std.specs.Prelude.{◌≡◌};
+ghost use Rattle.command_words.specs.Table.{row_of, all_commands, command_named, option_named, option_word, takes_argument, is_same_option};
+
+/// The commands of the program.
+#[derive(Clone, Copy, Debug, Drop)]
+pub enum CommandName {
+    Replay,
+}
+
+/// The options of the program's commands.
+#[derive(Clone, Copy, Debug, Drop)]
+pub enum OptionName {
+    Turns,
+}
+
+/// Where in a line a word stands: before the delimiter `--`, after an option whose argument it must be,
+/// or after the delimiter.
+#[derive(Clone, Copy, Debug, Drop)]
+pub enum Place {
+    BeforeDelimiter,
+    Awaiting(OptionName),
+    AfterDelimiter,
+}
+
+/// What a line is read for: its operands, or the arguments of an option.
+#[derive(Clone, Copy, Debug, Drop)]
+pub enum Sought {
+    Operands,
+    Arguments(OptionName),
+}
+
+impl CommandName {
+    pub fn all() -> &'static [CommandName]
+        ensures { result.now ≡ all_commands }
+    {
+        &[CommandName::Replay]
+    }
+
+    /// The command of this name.
+    pub fn named(word: &str) -> Option<CommandName>
+        ensures { result ≡ command_named word.now }
+    {
+        CommandName::all()
+            .iter()
+            .copied()
+            .find(|command| word == command.word())
+    }
+
+    pub fn word(self) -> &'static str
+        ensures { result.now ≡ (row_of self).name }
+    {
+        match self {
+            CommandName::Replay => "replay",
+        }
+    }
+
+    pub fn operands(self) -> usize
+        ensures { result ≡ (row_of self).operands }
+    {
+        match self {
+            CommandName::Replay => 2,
+        }
+    }
+
+    pub fn options(self) -> &'static [OptionName]
+        ensures { result.now ≡ (row_of self).options }
+    {
+        match self {
+            CommandName::Replay => &[OptionName::Turns],
+        }
+    }
+
+    /// The option of this command that has a name.
+    pub fn option_named(self, word: &str) -> Option<OptionName>
+        ensures { result ≡ option_named (row_of self) word.now }
+    {
+        self.options()
+            .iter()
+            .copied()
+            .find(|name| word == name.word())
+    }
+}
+
+impl OptionName {
+    /// What follows the two dashes.
+    pub fn word(self) -> &'static str
+        ensures { result.now ≡ option_word self }
+    {
+        match self {
+            OptionName::Turns => "turns",
+        }
+    }
+
+    pub fn takes_argument(self) -> bool
+        ensures { result ≡ takes_argument self }
+    {
+        match self {
+            OptionName::Turns => true,
+        }
+    }
+
+    pub fn is(self, other: OptionName) -> bool
+        ensures { result ≡ is_same_option self other }
+    {
+        match (self, other) {
+            (OptionName::Turns, OptionName::Turns) => true,
+        }
+    }
+}
