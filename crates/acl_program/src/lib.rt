@@ -1,0 +1,13 @@
+//! The program: what its words ask for, done over any shelf of files, any sink for what it prints and
+//! any link to its connections.
+#![tactic(auto)]
+
+mod loading;
+mod looping;
+mod printing;
+mod program;
+mod replay;
+mod status;
+
+pub use program::run;
+pub use status::Status;
