@@ -2,6 +2,10 @@
 use Rattle.std.specs.Prelude.{◌≡◌, ◌<◌, ◌≤◌, ℕ, List, [], length, flat_map, Option, Some, Result, Ok, Err}
 use Rattle.plain_values.specs.Counts.{Rose}
 use Rattle.script_text.specs.declared.event.ScriptEvent.{ScriptEvent}
+use Rattle.script_text.specs.declared.event.ScriptFault.{ScriptFault}
+use Rattle.script_text.specs.declared.event.ScriptFault.TheVariants as script
+use Rattle.wire_io.specs.declared.answers.ReadFault.{ReadFault}
+use Rattle.wire_io.specs.declared.answers.ReadFault.TheVariants as read
 use Rattle.wire_io.specs.declared.journal.Item.{Item}
 use Rattle.wire_io.specs.Files.{Files}
 use Rattle.wire_io.specs.Journal.{opened_by, taken_of, is_hung_up}
@@ -16,7 +20,7 @@ use Rattle.acl_program.specs.declared.status.Status.TheVariants.{SinkFault}
 use Rattle.acl_program.specs.declared.loading.Trouble.{Trouble}
 use Rattle.acl_program.specs.declared.loading.Trouble.TheVariants as trouble
 use Rattle.acl_program.specs.Lines.{line_of, replay_text}
-use Rattle.acl_program.specs.Outcomes.{Outcome, NoCommand, NoFile, BadLine, Replayed, OutOfMemory}
+use Rattle.acl_program.specs.Outcomes.{Outcome, NoCommand, NoFile, BadLine, Replayed, OutOfMemory, text_of, status_of}
 use Rattle.acl_program.specs.Causes.{Comes, IsUnread, HoldsIn, IsBadScript, IsGoodScript}
 use Rattle.acl_program.specs.Running.{Puts}
 
@@ -41,6 +45,17 @@ ReadsScript content (Ok link) = IsGoodScript link.plan.to_come content × (link 
 ReadsScript content (Err trouble.NoFile) = ⊥
 ReadsScript content (Err (trouble.BadLine line)) = IsBadScript line content
 ReadsScript content (Err trouble.NoMemory) = Unit {0}
+
+-- why a script wasn't read, by the fault of reading its file, or of reading its text
+abbrev pub trouble_of_file : ReadFault → Trouble
+trouble_of_file read.Absent = trouble.NoFile
+trouble_of_file read.Failed = trouble.NoFile
+trouble_of_file (read.TooLong line) = trouble.BadLine line
+trouble_of_file read.NoMemory = trouble.NoMemory
+
+abbrev pub trouble_of_script : ScriptFault → Trouble
+trouble_of_script (script.Bad line) = trouble.BadLine line
+trouble_of_script script.NoMemory = trouble.NoMemory
 
 -- the outcome of a script that wasn't read
 abbrev pub outcome_of : Trouble → Outcome
@@ -81,3 +96,8 @@ Replays script turns files before after old sink_before status new sink_after =
 unfoldable pub Runs : List (List ℕ) → Option Files → ℕ → ℕ → Option (List ℕ) → ℕ → Status → Option (List ℕ) → ℕ → Type 0
 Runs words files before after old sink_before status new sink_after =
     (outcome : Outcome) × Comes words files before after outcome × Ends outcome old sink_before status new sink_after
+
+-- the lines of a journal were to be put, and then the program was to end so: an outcome with this text and this status
+unfoldable pub Shows : List Item → Status → Option (List ℕ) → ℕ → Status → Option (List ℕ) → ℕ → Type 0
+Shows journal wanted old before status new after =
+    (outcome : Outcome) → text_of outcome ≡ journal_text journal → status_of outcome ≡ wanted → Ends outcome old before status new after

@@ -2,7 +2,7 @@
 
 ghost use Rattle.std.specs.Prelude.{◌≡◌, ◌≤◌, length};
 ghost use Rattle.acl_program.specs.Causes.{most_script};
-ghost use Rattle.acl_program.specs.Playing.{Loads, ReadsScript};
+ghost use Rattle.acl_program.specs.Playing.{Loads, ReadsScript, trouble_of_file, trouble_of_script};
 
 use script_text::ScriptFault;
 use std::alloc::Global;
@@ -33,9 +33,7 @@ pub(crate) fn load_script<H: Shelf>(
 {
     match read_all(alloc, shelf, name, MOST_SCRIPT) {
         Ok(text) => read_script(alloc, text.as_slice()),
-        Err(ReadFault::Absent) | Err(ReadFault::Failed) => Err(Trouble::NoFile),
-        Err(ReadFault::TooLong { line }) => Err(Trouble::BadLine(line)),
-        Err(ReadFault::NoMemory) => Err(Trouble::NoMemory),
+        Err(fault) => Err(unread(fault)),
     }
 }
 
@@ -46,7 +44,26 @@ fn read_script(alloc: Global, text: &[u8]) -> Result<ScriptLink, Trouble>
 {
     match ScriptLink::read(alloc, text) {
         Ok(link) => Ok(link),
-        Err(ScriptFault::Bad { line }) => Err(Trouble::BadLine(line)),
-        Err(ScriptFault::NoMemory) => Err(Trouble::NoMemory),
+        Err(fault) => Err(misread(fault)),
+    }
+}
+
+fn unread(fault: ReadFault) -> Trouble
+    ensures exact { result ≡ trouble_of_file fault }
+{
+    match fault {
+        ReadFault::Absent => Trouble::NoFile,
+        ReadFault::Failed => Trouble::NoFile,
+        ReadFault::TooLong { line } => Trouble::BadLine(line),
+        ReadFault::NoMemory => Trouble::NoMemory,
+    }
+}
+
+fn misread(fault: ScriptFault) -> Trouble
+    ensures exact { result ≡ trouble_of_script fault }
+{
+    match fault {
+        ScriptFault::Bad { line } => Trouble::BadLine(line),
+        ScriptFault::NoMemory => Trouble::NoMemory,
     }
 }

@@ -3,10 +3,11 @@
 ghost use Rattle.std.specs.Prelude.{◌≡◌, IfOk, string_bytes, length, slice_get};
 ghost use Rattle.acl_program.specs.Lines.{shown, ending, line_of};
 ghost use Rattle.acl_program.specs.Outcomes.{NoCommand, NoFile, BadLine, status_of, text_of};
-ghost use Rattle.acl_program.specs.Playing.{Ends, journal_text};
+ghost use Rattle.acl_program.specs.Playing.{Ends, journal_text, outcome_of};
 ghost use Rattle.wire_io.specs.Putting.{PutsAll, PutCause};
 ghost use Rattle.wire_io.specs.Journal.{taken_of, is_hung_up};
 
+use crate::loading::Trouble;
 use crate::status::Status;
 use std::alloc::{AllocError, Global};
 use wire_io::{PutFault, ScriptLink, Sink, write_all};
@@ -22,9 +23,20 @@ pub(crate) fn print_usage<K: Sink>(out: &mut K) -> Status
     Status::Usage.after(put)
 }
 
+/// Prints why a script wasn't read.
+pub(crate) fn print_trouble<K: Sink>(alloc: Global, trouble: Trouble, out: &mut K) -> Status
+    ensures ends { Ends (outcome_of trouble) (K.put out.old) (K.faults out.old) result (K.put out.new) (K.faults out.new) }
+{
+    match trouble {
+        Trouble::NoFile => print_data_fault(out),
+        Trouble::BadLine(line) => print_bad_line(alloc, line, out),
+        Trouble::NoMemory => Status::NoMemory,
+    }
+}
+
 /// Prints that a file wasn't read.
 #[tactic(auto, unfolding(crate::specs::Outcomes::text_of, crate::specs::Outcomes::status_of))]
-pub(crate) fn print_data_fault<K: Sink>(out: &mut K) -> Status
+fn print_data_fault<K: Sink>(out: &mut K) -> Status
     ensures ends { Ends NoFile (K.put out.old) (K.faults out.old) result (K.put out.new) (K.faults out.new) }
 {
     let put = write_all(out, b"data fault\n");
@@ -33,7 +45,7 @@ pub(crate) fn print_data_fault<K: Sink>(out: &mut K) -> Status
 
 /// Prints the number of a script's bad line.
 #[tactic(auto, unfolding(crate::specs::Outcomes::text_of, crate::specs::Outcomes::status_of))]
-pub(crate) fn print_bad_line<K: Sink>(alloc: Global, line: u64, out: &mut K) -> Status
+fn print_bad_line<K: Sink>(alloc: Global, line: u64, out: &mut K) -> Status
     ensures ends { Ends (BadLine line) (K.put out.old) (K.faults out.old) result (K.put out.new) (K.faults out.new) }
 {
     let Ok(text) = bad_line(alloc, line) else {
@@ -59,11 +71,12 @@ pub(crate) fn print_lines<K: Sink>(
     ensures tells { PutsAll (K.put out.old) (journal_text link.now.journal) result (K.put out.new) }
     ensures cause { PutCause (K.faults out.old) (K.faults out.new) result }
 {
-    for index in 0..usize::MAX {
-        let Some(conn) = link.opened_at(index) else {
-            return Ok(());
-        };
-        print_line(alloc, link, conn, out)?;
+    let mut index = 0;
+    while let Some(conn) = link.opened_at(index) {
+        match print_line(alloc, link, conn, out) {
+            Ok(()) => index += 1,
+            Err(fault) => return Err(fault),
+        }
     }
     Ok(())
 }
@@ -78,7 +91,9 @@ fn print_line<K: Sink>(
     ensures tells { PutsAll (K.put out.old) (line_of conn (taken_of conn link.now.journal) (is_hung_up conn link.now.journal)) result (K.put out.new) }
     ensures cause { PutCause (K.faults out.old) (K.faults out.new) result }
 {
-    let line = line(alloc, conn, link.said_of(conn), link.hung_up(conn))?;
+    let Ok(line) = line(alloc, conn, link.said_of(conn), link.hung_up(conn)) else {
+        return Err(PutFault::NoMemory);
+    };
     write_all(out, line.as_bytes())
 }
 

@@ -1,14 +1,13 @@
 //! The command `replay`: a script's events served, and what was sent to each of its connections.
 
-ghost use Rattle.std.specs.Prelude.{◌≡◌, [], length, Some, None};
-ghost use Rattle.wire_io.specs.Files.{Files};
+ghost use Rattle.std.specs.Prelude.{◌≡◌, []};
 ghost use Rattle.wire_io.specs.Scripted.{fresh_link};
 ghost use Rattle.acl_program.specs.Outcomes.{Replayed};
-ghost use Rattle.acl_program.specs.Playing.{Ends, Plays, Replays};
+ghost use Rattle.acl_program.specs.Playing.{Ends, Plays, Replays, Shows};
 
-use crate::loading::{Trouble, load_script};
+use crate::loading::load_script;
 use crate::looping::serve_loop;
-use crate::printing::{print_bad_line, print_data_fault, print_lines};
+use crate::printing::{print_lines, print_trouble};
 use crate::status::Status;
 use session_hub::Ended;
 use std::alloc::Global;
@@ -28,9 +27,7 @@ pub(crate) fn replay<H: Shelf, K: Sink>(
 {
     match load_script(alloc, shelf, script) {
         Ok(link) => play(alloc, link, turns, out),
-        Err(Trouble::NoFile) => print_data_fault(out),
-        Err(Trouble::BadLine(line)) => print_bad_line(alloc, line, out),
-        Err(Trouble::NoMemory) => Status::NoMemory,
+        Err(trouble) => print_trouble(alloc, trouble, out),
     }
 }
 
@@ -40,14 +37,12 @@ fn play<K: Sink>(alloc: Global, link: ScriptLink, turns: u64, out: &mut K) -> St
     ensures ends { Ends (Replayed link.plan.to_come turns) (K.put out.old) (K.faults out.old) result (K.put out.new) (K.faults out.new) }
 {
     let mut link = link;
-    let status = match serve(alloc, &mut link, turns) {
-        Ended::Stopped => Status::Done,
-        Ended::TurnsSpent => Status::TurnsSpent,
-        Ended::LinkFault => return Status::LinkFault,
-        Ended::NoMemory => return Status::NoMemory,
-    };
-    let put = print_lines(alloc, &link, out);
-    status.after(put)
+    match serve(alloc, &mut link, turns) {
+        Ended::Stopped => show(alloc, &link, Status::Done, out),
+        Ended::TurnsSpent => show(alloc, &link, Status::TurnsSpent, out),
+        Ended::LinkFault => Status::LinkFault,
+        Ended::NoMemory => Status::NoMemory,
+    }
 }
 
 /// Serves the link's events, at most so many.
@@ -56,4 +51,12 @@ fn serve(alloc: Global, link: &mut ScriptLink, turns: u64) -> Ended
     ensures plays { Plays link.old.plan.to_come turns result link.new.journal }
 {
     serve_loop(alloc, link, turns)
+}
+
+/// Prints the lines of all connections, and then ends so.
+fn show<K: Sink>(alloc: Global, link: &ScriptLink, status: Status, out: &mut K) -> Status
+    ensures ends { Shows link.now.journal status (K.put out.old) (K.faults out.old) result (K.put out.new) (K.faults out.new) }
+{
+    let put = print_lines(alloc, link, out);
+    status.after(put)
 }

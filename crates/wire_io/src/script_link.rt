@@ -1,6 +1,6 @@
 //! A link that gives the events of a script.
 
-ghost use Rattle.std.specs.Prelude.{◌≡◌, ◌<◌, ℕ, [], Ok, Err, Some, IfOk, MatchResult, length, slice_get};
+ghost use Rattle.std.specs.Prelude.{◌≡◌, ◌<◌, ◌+◌, ◌^◌, ℕ, [], Ok, Err, Some, IfSome, IfOk, MatchResult, length, slice_get};
 ghost use Rattle.plain_values.specs.Counts.{NeverFalls, next_count};
 ghost use Rattle.script_text.specs.Script.{OpensOnce, AreFilled, IsScript, IsFirstBadLine};
 ghost use Rattle.script_text.specs.ScriptReading.{IsCause, script_of};
@@ -106,6 +106,7 @@ impl ScriptLink {
     /// none past the last.
     pub fn opened_at(&self, index: usize) -> Option<u32>
         ensures exact { result ≡ slice_get (rising (opened_by self.now.journal)) index }
+        ensures fits { IfSome result (λ _. index + 1 < 2 ^ 64) }
     {
         self.told.opened_at(index)
     }

@@ -1,6 +1,6 @@
 //! A journal as it is told, with what it says of each connection.
 
-ghost use Rattle.std.specs.Prelude.{◌≡◌, ◌<◌, [], ◌∷◌, ◌++◌, length, slice_get, IfOk, OnOk, OnErr, vec_len, vec_capacity};
+ghost use Rattle.std.specs.Prelude.{◌≡◌, ◌<◌, ◌+◌, ◌^◌, [], ◌∷◌, ◌++◌, length, slice_get, IfSome, IfOk, OnOk, OnErr, vec_len, vec_capacity};
 ghost use Rattle.wire_io.specs.Answers.{HeardFits};
 ghost use Rattle.wire_io.specs.Journal.{is_held, is_hung_up, opened_by, taken_of};
 ghost use Rattle.wire_io.specs.Peers.{IsQuiet};
@@ -82,6 +82,7 @@ impl Told {
     /// The number at the index, in rising order, of those that events opened.
     pub(crate) fn opened_at(&self, index: usize) -> Option<u32>
         ensures exact { result ≡ slice_get (rising (opened_by self.now)) index }
+        ensures fits { IfSome result (λ _. index + 1 < 2 ^ 64) }
     {
         self.opened.get(index).copied()
     }

@@ -1,0 +1,7 @@
+mod EndsLemmas
+mod LoadLemmas
+mod PrintLemmas
+mod JournalLemmas
+mod PlayLemmas
+mod OutcomeLemmas
+mod RunLemmas
