@@ -19,7 +19,7 @@ use Rattle.acl_program.specs.Lines.{replay_text}
 use Rattle.acl_program.specs.Outcomes.{Outcome, NoCommand, NoFile, BadLine, Replayed, OutOfMemory, text_of, status_of}
 use Rattle.acl_program.specs.Causes.{IsNoCommand, AsksReplay, IsUnread, Comes}
 use Rattle.acl_program.specs.Running.{Prints, Puts, Accepts, Refuses, IsReplayed}
-use Rattle.acl_program.specs.Playing.{Loads, Plays, Shows, Ends, ReplayComes, Replays, Runs, outcome_of}
+use Rattle.acl_program.specs.Playing.{Loads, Plays, Shows, Ends, ReplayComes, Replays, Performs, Runs, outcome_of}
 use Rattle.acl_program.proofs.EndsLemmas.{Ends-no_memory}
 use Rattle.acl_program.proofs.PrintLemmas.{appended-none}
 use Rattle.acl_program.proofs.OutcomeLemmas.{usage_comes, shelf_comes, script_comes, accepted_comes}
@@ -92,14 +92,14 @@ comes_replay words data_file script turns files before after (Replayed events as
     let P : ℕ → Type 0 = λ count. IsCommand words (Replay data_file script count) in (script, (data_file, subst P (sym comes.0) is), comes.1)
 comes_replay words data_file script turns files before after OutOfMemory is comes = tt
 
--- the words ask for a replay
-pub Runs-replay :
-    (words : List (List ℕ)) (data_file script : List ℕ) (turns : ℕ) (files : Option Files) (before after : ℕ)
+-- the words ask for this command
+pub Runs-performed :
+    (words : List (List ℕ)) (asked : CommandView) (files : Option Files) (before after : ℕ)
     (old : Option (List ℕ)) (sink_before : ℕ) (status : Status) (new : Option (List ℕ)) (sink_after : ℕ)
-    → IsCommand words (Replay data_file script turns) → Replays script turns files before after old sink_before status new sink_after
+    → IsCommand words asked → Performs asked files before after old sink_before status new sink_after
     → Runs words files before after old sink_before status new sink_after
-unfolding Runs Replays
-Runs-replay words data_file script turns files before after old sink_before status new sink_after is replays =
+unfolding Runs Performs Replays
+Runs-performed words (Replay data_file script turns) files before after old sink_before status new sink_after is replays =
     (replays.0, comes_replay words data_file script turns files before after replays.0 is replays.1, replays.2)
 
 -- they ask for nothing

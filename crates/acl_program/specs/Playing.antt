@@ -15,6 +15,7 @@ use Rattle.wire_io.specs.Scripted.{LinkState, fresh_link}
 use Rattle.session_hub.specs.declared.ended.Ended.{Ended}
 use Rattle.session_hub.specs.declared.ended.Ended.TheVariants as ended
 use Rattle.session_hub.specs.Loops.{buffer_length}
+use Rattle.command_words.specs.Command.{CommandView, Replay}
 use Rattle.acl_program.specs.declared.status.Status.{Status}
 use Rattle.acl_program.specs.declared.status.Status.TheVariants.{SinkFault}
 use Rattle.acl_program.specs.declared.loading.Trouble.{Trouble}
@@ -91,6 +92,11 @@ ReplayComes script turns files before after OutOfMemory = Unit {0}
 unfoldable pub Replays : List ℕ → ℕ → Option Files → ℕ → ℕ → Option (List ℕ) → ℕ → Status → Option (List ℕ) → ℕ → Type 0
 Replays script turns files before after old sink_before status new sink_after =
     (outcome : Outcome) × ReplayComes script turns files before after outcome × Ends outcome old sink_before status new sink_after
+
+-- a command came to an outcome: one case a command
+unfoldable pub Performs : CommandView → Option Files → ℕ → ℕ → Option (List ℕ) → ℕ → Status → Option (List ℕ) → ℕ → Type 0
+Performs (Replay data_file script turns) files before after old sink_before status new sink_after =
+    Replays script turns files before after old sink_before status new sink_after
 
 -- the program came to an outcome
 unfoldable pub Runs : List (List ℕ) → Option Files → ℕ → ℕ → Option (List ℕ) → ℕ → Status → Option (List ℕ) → ℕ → Type 0

@@ -5,7 +5,8 @@ ghost use Rattle.plain_values.specs.Counts.{Rose};
 ghost use Rattle.script_text.specs.declared.event.ScriptEvent.{ScriptEvent};
 ghost use Rattle.acl_program.specs.Causes.{IsNoCommand, AsksReplay, IsUnread};
 ghost use Rattle.acl_program.specs.Running.{Prints, Accepts, Refuses, IsReplayed};
-ghost use Rattle.acl_program.specs.Playing.{Runs};
+ghost use Rattle.acl_program.specs.Playing.{Runs, Performs};
+ghost use Rattle.command_words.specs.Command.{view};
 
 use crate::printing::print_usage;
 use crate::replay::replay;
@@ -61,7 +62,24 @@ fn obey<H: Shelf, K: Sink>(
     ensures kept { H.files shelf.new ≡ H.files shelf.old }
 {
     match read_words(words) {
-        Some(Command::Replay { script, turns, .. }) => replay(alloc, script, turns, shelf, out),
+        Some(command) => perform(alloc, command, shelf, out),
         None => print_usage(out),
+    }
+}
+
+/// Does what a command asks for.
+#[tactic(auto, unfolding(crate::specs::Playing::Performs))]
+fn perform<H: Shelf, K: Sink>(
+    alloc: Global,
+    command: Command<'_>,
+    shelf: &mut H,
+    out: &mut K,
+) -> Status
+    ensures performs { Performs (view command.entry) (H.files shelf.old) (H.faults shelf.old) (H.faults shelf.new)
+        (K.put out.old) (K.faults out.old) result (K.put out.new) (K.faults out.new) }
+    ensures kept { H.files shelf.new ≡ H.files shelf.old }
+{
+    match command {
+        Command::Replay { script, turns, .. } => replay(alloc, script, turns, shelf, out),
     }
 }

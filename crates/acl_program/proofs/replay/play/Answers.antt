@@ -1,6 +1,4 @@
-use Rattle.std.proofs.Common.{sym}
-use Rattle.acl_program.specs.Outcomes.{Replayed}
-use Rattle.acl_program.proofs.RunLemmas.{Ends-stopped, Ends-spent, no_fault, Ends-nothing}
+use Rattle.acl_program.proofs.RunLemmas.{Ends-stopped, Ends-spent, no_fault}
 use Rattle.acl_program.proofs.replay.play.Goals as goal
 
 -- Stop was heard
@@ -9,12 +7,8 @@ returns-in-Stopped g c = record { ends = Ends-stopped _ _ _ _ _ _ _ _ c.in-Stopp
 
 -- the turns are spent
 pub returns-in-TurnsSpent : goal.returns-in-TurnsSpent
-returns-in-TurnsSpent g c = record { ends = Ends-spent _ _ _ _ _ _ _ _ c.in-TurnsSpent.ensures.plays c.show.ensures.ends }
+returns-in-TurnsSpent g c = record { ends = Ends-spent _ _ _ _ _ _ _ _ c.in-TurnsSpent.ensures.plays c.show-in-TurnsSpent.ensures.ends }
 
 -- the link never fails
 pub returns-in-LinkFault : goal.returns-in-LinkFault
 returns-in-LinkFault g c = absurd (no_fault _ _ _ c.in-LinkFault.ensures.plays)
-
--- there was no memory
-pub returns-in-NoMemory : goal.returns-in-NoMemory
-returns-in-NoMemory g c = record { ends = Ends-nothing _ _ _ }
