@@ -3,3 +3,9 @@ pub mod PlaceLemmas
 pub mod HearLemmas
 pub mod HubLemmas
 pub mod AnswerLemmas
+pub mod AddingLemmas
+pub mod FollowingLemmas
+pub mod ServingLemmas
+pub mod HeardLemmas
+pub mod LoopLemmas
+pub mod PlayLemmas

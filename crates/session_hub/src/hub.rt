@@ -1,14 +1,11 @@
 //! The hub of all sessions.
 
 ghost use Rattle.std.specs.Prelude.{◌≡◌, ◌≤◌, ◌+◌, ℕ, [], length, IfOk, OnOk};
-ghost use Rattle.session_model.specs.Run.{Sessions, step};
 ghost use Rattle.session_model.specs.Run as run;
 ghost use Rattle.session_model.specs.Kept.{queue_of, closing_of, taken_off, forgotten};
-ghost use Rattle.session_model.specs.Keeping.{IsNew, more_taken};
-ghost use Rattle.session_hub.specs.Answering.{Tree, rules};
-ghost use Rattle.session_hub.specs.Hubs.{held_after, IsHubOf, IsBounded, left_of};
+ghost use Rattle.session_hub.specs.Hubs.{held_after, IsBounded};
+ghost use Rattle.session_hub.specs.Following.{FollowsStep, FollowsTaking, QueuesReply, ClosesWith, CountsHeld};
 ghost use Rattle.session_hub.specs.Events.{step_of};
-ghost use Rattle.session_hub.specs.declared.requester.Requester.{Requester};
 
 use crate::places::{closing_at, end_at, forget_at, hear_at, is_at, queue_at, take_off};
 use crate::{Connection, Event};
@@ -54,6 +51,7 @@ impl Hub {
     /// How many connections are held.
     pub fn count(&self) -> usize
         ensures exact { result ≡ length self.now }
+        ensures run { CountsHeld self.now result }
     {
         self.connections.len()
     }
@@ -62,6 +60,7 @@ impl Hub {
     /// taken.
     pub fn queue(&self, conn: u32) -> &[u8]
         ensures exact { result.now ≡ queue_of conn self.now }
+        ensures run { QueuesReply conn self.now result.now }
     {
         queue_at(&self.connections, conn)
     }
@@ -69,6 +68,7 @@ impl Hub {
     /// Whether the connection is to be hung up once its queue is empty.
     pub fn closing(&self, conn: u32) -> bool
         ensures exact { result ≡ closing_of conn self.now }
+        ensures run { ClosesWith conn self.now result }
     {
         closing_at(&self.connections, conn)
     }
@@ -77,8 +77,52 @@ impl Hub {
     pub fn took(&mut self, conn: u32, count: usize)
         requires { count ≤ length (queue_of conn self.old) }
         ensures exact { self.new ≡ taken_off conn count self.old }
+        ensures run { FollowsTaking conn count self.old self.new }
     {
         take_off(&mut self.connections, conn, count);
+    }
+
+    /// Hears an event (RFC 4511 5.1): a connection that opens is held where there is room, the
+    /// whole messages of octets are answered, and the end of a peer's octets closes. An event of a
+    /// connection that isn't held, and the opening of one that is, change nothing.
+    /// `AllocError` comes for want of memory alone; nothing is then said of what is held.
+    pub fn hear(&mut self, event: Event<'_>) -> Result<(), AllocError>
+        ensures exact { OnOk result (self.new ≡ held_after (step_of event.entry) self.old) }
+        ensures run { OnOk result (FollowsStep (step_of event.entry) self.old self.new) }
+        ensures bounded { IsBounded self.new }
+    {
+        let heard = self.hear_event(event);
+        let _held = &self.connections;
+        heard
+    }
+
+    /// Forgets a connection that was found lost.
+    pub fn gone(&mut self, conn: u32)
+        ensures exact { self.new ≡ forgotten conn self.old }
+        ensures run { FollowsStep (run.Gone conn) self.old self.new }
+    {
+        self.forget(conn);
+    }
+
+    /// Forgets a connection that was hung up.
+    pub fn drop_conn(&mut self, conn: u32)
+        ensures exact { self.new ≡ forgotten conn self.old }
+        ensures run { FollowsStep (run.HungUp conn) self.old self.new }
+    {
+        self.forget(conn);
+    }
+
+    fn hear_event(&mut self, event: Event<'_>) -> Result<(), AllocError>
+        ensures ok { OnOk result (self.new ≡ held_after (step_of event.entry) self.old) }
+    {
+        match event {
+            Event::Opened(conn) => self.open(conn),
+            Event::Bytes(conn, piece) => self.hear_piece(conn, piece),
+            Event::Ended(conn) => {
+                self.end(conn);
+                Ok(())
+            }
+        }
     }
 
     fn open(&mut self, conn: u32) -> Result<(), AllocError>

@@ -9,6 +9,8 @@ mod messages;
 mod outcome;
 mod places;
 mod requester;
+mod serve;
+mod serving;
 mod stream;
 
 pub use connection::Connection;
@@ -18,4 +20,6 @@ pub use hub::{Hub, MAX_CONNECTIONS};
 pub use messages::answer;
 pub use outcome::Outcome;
 pub use requester::Requester;
+pub use serve::{BUFFER_LENGTH, serve_event, serve_loop};
+pub use serving::{finish, greet, hear_and_finish, send_queue};
 pub use stream::{Spoken, speak};

@@ -1,5 +1,5 @@
 -- Within a block: octets are taken of its connection's queue, and in the end it is done or hung up.
-use Rattle.std.proofs.Common.{◌≡◌, ◌≢◌, ◌≤◌, ◌+◌, ℕ, Bool, true, false, cond, ◌||◌, List, [], ◌∷◌, ◌++◌, length, drop, take, refl, ap, sym, ◌∙◌, append_assoc, append-nil, arith, subst, true≢false, drop-drop, length-append, take-append-drop, length-take-le}
+use Rattle.std.proofs.Common.{not, ◌≡◌, ◌≢◌, ◌≤◌, ◌+◌, ℕ, Bool, true, false, cond, ◌||◌, List, [], ◌∷◌, ◌++◌, length, drop, take, refl, ap, sym, ◌∙◌, append_assoc, append-nil, arith, subst, true≢false, drop-drop, length-append, take-append-drop, length-take-le}
 use Rattle.std.proofs.lemmas.Bool.Decides.{nat_tests}
 use Rattle.std.proofs.lemmas.List.{length-take-le}
 use Rattle.wire_io.specs.declared.journal.Item.{Item}
@@ -13,7 +13,7 @@ use Rattle.session_model.specs.Keeping.{is_listed, shown, more_taken}
 use Rattle.session_model.specs.Journaled.{steps_of_events}
 use Rattle.session_model.specs.Serving.{sessions, IsFront, unsent, Rightly, MayHangUp}
 use Rattle.session_model.specs.Replaying.{is_away, is_leaving, replayed}
-use Rattle.session_model.specs.Working.{IsDone, Calm, Busy, is_turned}
+use Rattle.session_model.specs.Working.{Opening, IsDone, Calm, Busy, is_turned}
 use Rattle.session_model.proofs.KeptLemmas.{queue_in, closing_in, queue_of_is, closing_of_is}
 use Rattle.session_model.proofs.JournalLemmas.{heard-taken, heard-hung_up, taken_of-taken, is_hung_up-taken, is_held-taken, was_opened-taken, taken_of-hung_up, is_hung_up-hung_up, is_held-hung_up, was_opened-hung_up}
 use Rattle.session_model.proofs.StepLemmas.{with_session-same, with_session-other}
@@ -65,6 +65,14 @@ may_hang_up Away journal c s leaving none = cc
 
 not_unopened : (st : State) → is_leaving st ≡ true → st ≡ Unopened → ⊥
 not_unopened st leaving is = absurd (true≢false (sym leaving ∙ ap is_leaving is))
+
+cond_same : (b : Bool) → cond {A = List ℕ} b [] [] ≡ []
+cond_same true = refl
+cond_same false = refl
+
+or_true : (b : Bool) → (b || true) ≡ true
+or_true true = refl
+or_true false = refl
 
 module _ {T W : Type 0} (r : Rules T W) (t : T) where
   -- the queue in the connections held
@@ -201,3 +209,24 @@ module _ {T W : Type 0} (r : Rules T W) (t : T) where
         done = done;
         same = ap (λ es. replayed r t (steps_of_events es)) (heard-hung_up journal c) ∙ busy.same ∙ ap (λ b. cond b (step r u (HungUp c)) u) leaves;
       }
+
+  -- a connection that opens where there is room goes on
+  pub opening_calm : (c : ℕ) (room : Bool) (h : Held T W) (journal : List Item) → Opening r t c room h journal → room ≡ true → Calm r t h journal
+  opening_calm c room h journal opening there =
+      let busy = opening.busy in
+      let stays : is_leaving (busy.now.of c).state ≡ false = opening.leaving ∙ ap not there in
+      record {
+        now = busy.now;
+        tracks = busy.tracks;
+        done = at_numbers c (λ d. IsDone journal d (busy.now.of d)) (record { taken = opening.taken; still = stays }) busy.others;
+        same = busy.same ∙ ap (λ b. cond b (step r busy.now (HungUp c)) busy.now) stays;
+      }
+
+  -- where there is none it is hung up
+  pub opening_hung_up : (c : ℕ) (room : Bool) (h : Held T W) (journal : List Item) → Opening r t c room h journal → room ≡ false →
+      Calm r t (record h { kept = forgotten c h.kept }) (journal ++ item.HungUp c ∷ [])
+  opening_hung_up c room h journal opening none =
+      let busy = opening.busy in
+      let unsent_none : unsent journal c (busy.now.of c) ≡ [] = done_unsent journal c (busy.now.of c) opening.taken in
+      let empty : queue_of c h.kept ≡ [] = busy_queue c (not room) h journal busy ∙ ap (λ xs. cond (session.is_held (busy.now.of c).state) xs []) unsent_none ∙ cond_same (session.is_held (busy.now.of c).state) in
+      busy_hung_up c (not room) h journal busy empty (ap (λ b. closing_of c h.kept || not b) none ∙ or_true (closing_of c h.kept))

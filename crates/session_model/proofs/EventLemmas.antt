@@ -15,7 +15,7 @@ use Rattle.session_model.specs.Keeping.{Keeps, is_listed}
 use Rattle.session_model.specs.Journaled.{step_of_event, steps_of_events}
 use Rattle.session_model.specs.Serving.{sessions, IsFront, Rightly}
 use Rattle.session_model.specs.Replaying.{is_away, is_leaving, replayed, replayed_from, number_of, hung_up}
-use Rattle.session_model.specs.Working.{IsDone, Calm, Busy, is_turned}
+use Rattle.session_model.specs.Working.{Opening, Tracks, IsDone, Calm, Busy, is_turned}
 use Rattle.session_model.proofs.JournalLemmas.{heard-append, taken_of-heard, is_hung_up-heard, is_held-heard, was_opened-one}
 use Rattle.session_model.proofs.StepLemmas.{with_session-other, Speaks, step-other, bytes-speaks, end-speaks, bytes-opened, end-opened, replayed_from-append, replayed_from-one, steps_of_events-append, steps_of_events-one, with_session-same}
 use Rattle.session_model.proofs.CalmLemmas.{done_front, sessions-step, sessions-stay, sound_more, calm_settled}
@@ -46,6 +46,9 @@ more_front before after c s s' more same all reply =
 
 is_away-newcomer : (room : Bool) → is_away (cond room Open TurnedAway) ≡ false
 is_away-newcomer room = elim room as (λ b. is_away (cond b Open TurnedAway) ≡ false) [ true ↦ refl | false ↦ refl ]
+
+is_leaving-newcomer : (room : Bool) → is_leaving (cond room Open TurnedAway) ≡ not room
+is_leaving-newcomer room = elim room as (λ b. is_leaving (cond b Open TurnedAway) ≡ not b) [ true ↦ refl | false ↦ refl ]
 
 is_turned-newcomer : (room : Bool) → is_turned (cond room Open TurnedAway) ≡ not room
 is_turned-newcomer room = elim room as (λ b. is_turned (cond b Open TurnedAway) ≡ not b) [ true ↦ refl | false ↦ refl ]
@@ -154,7 +157,7 @@ module _ {T W : Type 0} (r : Rules T W) (t : T) where
 
   -- a connection that opens begins a block, turned away where there is no room
   pub calm_opened : (h : Held T W) (journal : List Item) (c : ℕ) → was_opened c journal ≡ false → Calm r t h journal →
-      Busy r t c (not (nat_lt (length h.kept) most_held)) (kept.heard r (Opened c) h) (journal ++ item.Heard (event.Opened c) ∷ [])
+      Opening r t c (nat_lt (length h.kept) most_held) (kept.heard r (Opened c) h) (journal ++ item.Heard (event.Opened c) ∷ [])
   unfolding step opens
   calm_opened h journal c new calm =
       let u = calm.now in
@@ -171,10 +174,10 @@ module _ {T W : Type 0} (r : Rules T W) (t : T) where
       let reply : (v.of c).reply ≡ (u.of c).reply ++ [] = ap (λ (x : Session W). x.reply) is ∙ sym empty ∙ sym (append-nil (u.of c).reply) in
       let front : IsFront after c (v.of c) = more_front journal after c (u.of c) (v.of c) [] (taken_of-heard c journal e) (calm.done c).taken reply in
       let others : (d : ℕ) → d ≢ c → IsDone after d (v.of d) =
-      λ d differs. done_as journal after d (u.of d) (v.of d) (taken_of-heard d journal e) (other d differs) (calm.done d) in
-      record {
-        now = v;
-        tracks = record {
+          λ d differs. done_as journal after d (u.of d) (v.of d) (taken_of-heard d journal e) (other d differs) (calm.done d) in
+      let same_room : room ≡ nat_lt (length h.kept) most_held = ap (λ n. nat_lt n most_held) (sym (length-kept r u (λ d. length (taken_of d journal)) h calm.tracks.keeps)) in
+      let told_nothing : taken_of c after ≡ (v.of c).reply = taken_of-heard c journal e ∙ (calm.done c).taken ∙ empty ∙ ap (λ (x : Session W). x.reply) (sym is) in
+      let tracks : Tracks r t v (kept.heard r (Opened c) h) after = record {
           is = now;
           keeps = Keeps-as v _ _ (kept.heard r (Opened c) h) (λ d. ap length (sym (taken_of-heard d journal e))) (Keeps-opened r u (λ d. length (taken_of d journal)) h c calm.tracks.keeps unlisted);
           hung = at_numbers c (λ d. is_hung_up d after ≡ is_away (v.of d).state)
@@ -188,10 +191,17 @@ module _ {T W : Type 0} (r : Rules T W) (t : T) where
           sound = sound_more r t journal (item.Heard e) v calm.tracks.sound now
               (at_numbers c (λ d. IsFront after d (v.of d)) front (λ d differs. done_front after d (v.of d) (others d differs).taken))
               (right_event h journal e calm);
+      } in
+      record {
+        taken = told_nothing;
+        leaving = ap (λ (x : Session W). is_leaving x.state) is ∙ is_leaving-newcomer room ∙ ap not same_room;
+        busy = record {
+          now = v;
+          tracks = tracks;
+          others = others;
+          front = front;
+          unheld = λ _. told_nothing;
+          away = ap (λ (x : Session W). is_turned x.state) is ∙ is_turned-newcomer room ∙ ap not same_room;
+          same = replayed-more journal e (Opened c) u refl calm.same;
         };
-        others = others;
-        front = front;
-        unheld = λ _. taken_of-heard c journal e ∙ (calm.done c).taken ∙ empty ∙ ap (λ (x : Session W). x.reply) (sym is);
-        away = ap (λ (x : Session W). is_turned x.state) is ∙ is_turned-newcomer room ∙ ap (λ n. not (nat_lt n most_held)) (sym (length-kept r u (λ d. length (taken_of d journal)) h calm.tracks.keeps));
-        same = replayed-more journal e (Opened c) u refl calm.same;
       }

@@ -15,7 +15,7 @@ pub use Rattle.session_model.proofs.SpeechLemmas.{speech-whole, speech-more, spe
 -- from block to block
 pub use Rattle.session_model.proofs.CalmLemmas.{calm_start, calm_served, calm_replay}
 pub use Rattle.session_model.proofs.EventLemmas.{calm_bytes, calm_ended, calm_opened, calm_idle}
-pub use Rattle.session_model.proofs.BlockLemmas.{busy_queue, busy_taken, busy_done, busy_hung_up}
+pub use Rattle.session_model.proofs.BlockLemmas.{busy_queue, busy_taken, busy_done, busy_hung_up, opening_calm, opening_hung_up}
 pub use Rattle.session_model.proofs.JournalLemmas.{all_taken-append, heard-append, heard-taken, heard-hung_up, heard-later, heard-gone, was_opened-append}
 
 -- what is held stays true to its sessions at each step that opens no number twice

@@ -23,6 +23,14 @@ is_leaving Unopened = false
 is_leaving Open = false
 is_leaving Away = false
 
+-- a connection that hears no more and is to be hung up once its reply was taken
+abbrev pub is_closing : State → Bool
+is_closing Closing = true
+is_closing TurnedAway = false
+is_closing Unopened = false
+is_closing Open = false
+is_closing Away = false
+
 -- a connection that has left
 abbrev pub is_away : State → Bool
 is_away Away = true

@@ -1,5 +1,5 @@
 -- How far a loop over a link has come: between two events, and within the block of one connection.
-use Rattle.std.specs.Prelude.{◌≡◌, ◌≢◌, ℕ, Bool, true, false, List, length}
+use Rattle.std.specs.Prelude.{◌≡◌, ◌≢◌, ℕ, Bool, true, false, not, List, length}
 use Rattle.wire_io.specs.declared.journal.Item.{Item}
 use Rattle.wire_io.specs.Journal.{heard, taken_of, is_hung_up, is_held, was_opened}
 use Rattle.session_model.specs.Rules.{Rules}
@@ -51,3 +51,9 @@ module _ {T W : Type 0} (r : Rules T W) (t : T) where
     pub unheld : session.is_held (now.of c).state ≡ false → taken_of c journal ≡ (now.of c).reply
     pub away : is_turned (now.of c).state ≡ turned
     pub same : replayed r t (steps_of_events (heard journal)) ≡ hung_up r c now
+
+  -- in the block of a connection that has just opened, where there is room or not: it was told nothing yet
+  pub record Opening (c : ℕ) (room : Bool) (h : Held T W) (journal : List Item) : Type 0 where
+    pub busy : Busy c (not room) h journal
+    pub taken : taken_of c journal ≡ (busy.now.of c).reply
+    pub leaving : is_leaving (busy.now.of c).state ≡ not room

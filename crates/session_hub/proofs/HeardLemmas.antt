@@ -1,0 +1,95 @@
+-- An event heard, by what a hub makes of it.
+use Rattle.std.proofs.Common.{◌≡◌, ◌≤◌, ◌<◌, ℕ, nat_lt, Bool, true, false, not, ◌||◌, List, [], ◌∷◌, ◌++◌, length, Option, refl, ap, sym, ◌∙◌, subst, arith}
+use Rattle.std.proofs.lemmas.Bool.Decides.{nat_tests}
+use Rattle.wire_io.specs.declared.journal.Event.{Event as Told}
+use Rattle.wire_io.specs.declared.journal.Event.TheVariants as event
+use Rattle.wire_io.specs.Journal.{opens}
+use Rattle.session_model.specs.Journaled.{step_of_event}
+use Rattle.wire_io.specs.declared.journal.Item.{Item}
+use Rattle.wire_io.specs.declared.journal.Item.TheVariants as item
+use Rattle.session_model.specs.Run.{Step, Opened, Bytes, Ended, most_held}
+use Rattle.session_model.specs.Kept.{Kept, Held, heard, forgotten}
+use Rattle.session_model.specs.Serving.{Sound}
+use Rattle.session_model.specs.Working.{Calm, Opening, Busy}
+use Rattle.session_model.proofs.Theorems.{calm_opened, calm_bytes, calm_ended, calm_idle, opening_calm, opening_hung_up}
+use Rattle.session_hub.specs.declared.requester.Requester.{Requester}
+use Rattle.session_hub.specs.Answering.{Tree, rules}
+use Rattle.session_hub.specs.Hubs.{held, held_after}
+use Rattle.session_hub.specs.declared.event.Event.{Event}
+use Rattle.session_hub.specs.declared.event.Event.TheVariants as came
+use Rattle.session_hub.specs.Events.{step_of}
+use Rattle.session_hub.specs.Telling.{told_of, IsOf}
+use Rattle.session_hub.specs.Adding.{IsCalm, IsBusy, IsHeard}
+
+-- what a hub holds after a step, with the tree
+held_is : (s : Step) (kept : List (Kept Requester)) → heard rules s (held kept) ≡ held (held_after s kept)
+unfolding held_after
+held_is s kept = refl
+
+-- a connection has opened
+opening : (c : ℕ) (kept : List (Kept Requester)) (told : List Item) → IsHeard kept (event.Opened c) told →
+    Opening rules tt c (nat_lt (length kept) most_held) (heard rules (Opened c) (held kept)) told
+opening c kept told h = subst (Opening rules tt c (nat_lt (length kept) most_held) (heard rules (Opened c) (held kept))) (sym h.last) (calm_opened rules tt (held kept) h.before c (h.opens c refl) h.calm)
+
+pub opened_sound : (c : ℕ) (kept : List (Kept Requester)) (told : List Item) → IsHeard kept (event.Opened c) told → Sound rules tt told
+opened_sound c kept told h = (opening c kept told h).busy.tracks.sound
+
+-- where there is room nothing is left to do
+pub opened_goes : (c : ℕ) (kept now : List (Kept Requester)) (told : List Item) → now ≡ held_after (Opened c) kept → length kept < most_held → IsHeard kept (event.Opened c) told → IsCalm now told
+opened_goes c kept now told is room h =
+    subst (λ ks. IsCalm ks told) (sym is)
+    (subst (λ x. Calm rules tt x told) (held_is (Opened c) kept)
+        (opening_calm rules tt c (nat_lt (length kept) most_held) (heard rules (Opened c) (held kept)) told (opening c kept told h) (grind (arith, nat_tests))))
+
+-- where there is none the connection is hung up
+pub turned_goes : (c : ℕ) (kept now after : List (Kept Requester)) (told : List Item) → now ≡ held_after (Opened c) kept → after ≡ forgotten c now → most_held ≤ length kept →
+    IsHeard kept (event.Opened c) told → IsCalm after (told ++ item.HungUp c ∷ [])
+unfolding held_after
+turned_goes c kept now after told is left full h =
+    subst (λ ks. IsCalm ks (told ++ item.HungUp c ∷ [])) (sym (left ∙ ap (forgotten c) is))
+    (opening_hung_up rules tt c (nat_lt (length kept) most_held) (heard rules (Opened c) (held kept)) told (opening c kept told h) (grind (arith, nat_tests)))
+
+-- octets of a connection, or its end, begin its block
+pub bytes_goes : (c : ℕ) (octets : List ℕ) (kept now : List (Kept Requester)) (told : List Item) → now ≡ held_after (Bytes c octets) kept → IsHeard kept (event.Bytes c octets) told →
+    IsBusy c false now told
+bytes_goes c octets kept now told is h =
+    subst (λ ks. IsBusy c false ks told) (sym is) (subst (λ x. Busy rules tt c false x told) (held_is (Bytes c octets) kept)
+        (subst (Busy rules tt c false (heard rules (Bytes c octets) (held kept))) (sym h.last) (calm_bytes rules tt (held kept) h.before c octets h.calm)))
+
+pub ended_goes : (c : ℕ) (kept now : List (Kept Requester)) (told : List Item) → now ≡ held_after (Ended c) kept → IsHeard kept (event.Ended c) told → IsBusy c false now told
+ended_goes c kept now told is h =
+    subst (λ ks. IsBusy c false ks told) (sym is) (subst (λ x. Busy rules tt c false x told) (held_is (Ended c) kept)
+        (subst (Busy rules tt c false (heard rules (Ended c) (held kept))) (sym h.last) (calm_ended rules tt (held kept) h.before c h.calm)))
+
+pub bytes_sound : (c : ℕ) (octets : List ℕ) (kept : List (Kept Requester)) (told : List Item) → IsHeard kept (event.Bytes c octets) told → Sound rules tt told
+bytes_sound c octets kept told h = (bytes_goes c octets kept (held_after (Bytes c octets) kept) told refl h).tracks.sound
+
+pub ended_sound : (c : ℕ) (kept : List (Kept Requester)) (told : List Item) → IsHeard kept (event.Ended c) told → Sound rules tt told
+ended_sound c kept told h = (ended_goes c kept (held_after (Ended c) kept) told refl h).tracks.sound
+
+-- the same of either
+pub event_goes : (conn : ℕ) (e : Event) (kept now : List (Kept Requester)) (told : List Item) → IsOf conn e → now ≡ held_after (step_of e) kept → IsHeard kept (told_of e) told → IsBusy conn false now told
+event_goes conn (came.Opened c) kept now told is_of is h = absurd is_of
+event_goes conn (came.Bytes c octets) kept now told is_of is h = subst (λ n. IsBusy n false now told) is_of (bytes_goes c octets.now kept now told is h)
+event_goes conn (came.Ended c) kept now told is_of is h = subst (λ n. IsBusy n false now told) is_of (ended_goes c kept now told is h)
+
+pub event_sound : (conn : ℕ) (e : Event) (kept : List (Kept Requester)) (told : List Item) → IsOf conn e → IsHeard kept (told_of e) told → Sound rules tt told
+event_sound conn (came.Opened c) kept told is_of h = absurd is_of
+event_sound conn (came.Bytes c octets) kept told is_of h = bytes_sound c octets.now kept told h
+event_sound conn (came.Ended c) kept told is_of h = ended_sound c kept told h
+
+-- an event that is no step leaves nothing to do
+pub idle_goes : (e : Told) (kept : List (Kept Requester)) (told : List Item) → step_of_event e ≡ [] → ((d : ℕ) → opens d (item.Heard e) ≡ false) → IsHeard kept e told → IsCalm kept told
+idle_goes e kept told none no_opening h = subst (λ j. IsCalm kept j) (sym h.last) (calm_idle rules tt (held kept) h.before e none no_opening h.calm)
+
+pub ready_goes : (c : ℕ) (kept : List (Kept Requester)) (told : List Item) → IsHeard kept (event.Ready c) told → IsCalm kept told
+unfolding opens
+ready_goes c kept told h = idle_goes (event.Ready c) kept told refl (λ _. refl) h
+
+pub pause_goes : (kept : List (Kept Requester)) (told : List Item) → IsHeard kept event.Idle told → IsCalm kept told
+unfolding opens
+pause_goes kept told h = idle_goes event.Idle kept told refl (λ _. refl) h
+
+pub stop_goes : (kept : List (Kept Requester)) (told : List Item) → IsHeard kept event.Stop told → IsCalm kept told
+unfolding opens
+stop_goes kept told h = idle_goes event.Stop kept told refl (λ _. refl) h

@@ -1,0 +1,9 @@
+use Rattle.std.proofs.Common.{◌≡◌, length, arith, ap, sym, ◌∙◌}
+use Rattle.std.proofs.lemmas.Grind.{common_steps}
+use Rattle.session_hub.proofs.FollowingLemmas.{counts_held}
+use Rattle.session_hub.proofs.hub.Hub.count.Goals as goal
+
+pub returns-clause-run : goal.returns-clause-run
+returns-clause-run c =
+    let all : c.len.result ≡ length c.self.inside.connections.items = grind (arith, common_steps) in
+    counts_held c.args.self.now c.len.result (all ∙ ap length c.self.view_is)
