@@ -1,3 +1,4 @@
+mod Examples
 mod EndsLemmas
 mod LoadLemmas
 mod PrintLemmas

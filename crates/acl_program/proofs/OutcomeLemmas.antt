@@ -24,7 +24,7 @@ unfolding status_of
 replayed_status status events turns is = is_either status (nat_lt (length (pieces buffer_length events)) turns) is
 
 not_replayed : (status : Status) (events : List ScriptEvent) (turns : ℕ) → status ≡ status_of (Replayed events turns) → (status ≡ Done → ⊥) → (status ≡ TurnsSpent → ⊥) → ⊥
-not_replayed status events turns is not_done not_spent = elim (replayed_status status events turns is) [ | inl done ↦ not_done done | inr spent ↦ not_spent spent ]
+not_replayed status events turns is not_done not_spent = elim (replayed_status status events turns is) [ inl done ↦ not_done done | inr spent ↦ not_spent spent ]
 
 -- Usage comes of words that are no command
 pub usage_comes : (words : List (List ℕ)) (files : Option Files) (before after : ℕ) (outcome : Outcome)
@@ -124,5 +124,5 @@ accepted_comes words files before after (Replayed found asked) events turns acce
     let P : List ℕ → Type 0 = λ name. HoldsIn files name (IsGoodScript found) in
     let both = both_in files accepts.0 (IsGoodScript events) (IsGoodScript found) accepts.2 (subst P same comes.2) in
     inr (ap (λ list. Replayed list asked) (one_events found events both.0 both.2 both.1)
-      ∙ ap (λ count. Replayed events count) (one_turns words comes.0 accepts.0 asked turns comes.1 accepts.1))
+    ∙ ap (λ count. Replayed events count) (one_turns words comes.0 accepts.0 asked turns comes.1 accepts.1))
 accepted_comes words files before after OutOfMemory events turns accepts still comes = inl refl

@@ -68,12 +68,12 @@ unfolding Plays BringsOn
 plays_told events turns ended.Stopped told plan left is ends served played fails =
     let on : pieces buffer_length plan.to_come ≡ steps_of (heard told) ++ pieces buffer_length left.to_come = played.plays in
     let all = all_heard turns (pieces buffer_length events) (steps_of (heard told)) (pieces buffer_length left.to_come) (ap (pieces buffer_length) (sym is) ∙ on)
-        (none_left buffer_length left.to_come (played.over refl)) (omega (arith, length-stopped told ends.0, ends.1)) in
+    (none_left buffer_length left.to_come (played.over refl)) (omega (arith, length-stopped told ends.0, ends.1)) in
     (text_of_heard events turns told served.1 all.0, all.1)
 plays_told events turns ended.TurnsSpent told plan left is ends served played fails =
     let on : pieces buffer_length plan.to_come ≡ steps_of (heard told) ++ pieces buffer_length left.to_come = played.plays in
     let front = front_heard turns (pieces buffer_length events) (steps_of (heard told)) (pieces buffer_length left.to_come) (ap (pieces buffer_length) (sym is) ∙ on)
-        (played.steps not_held refl) in
+    (played.steps not_held refl) in
     (text_of_heard events turns told served.1 front.0, front.1)
 plays_told events turns ended.LinkFault told plan left is ends served played fails = absurd (fails refl)
 plays_told events turns ended.NoMemory told plan left is ends served played fails = tt
@@ -101,7 +101,7 @@ plays_served events turns how journal plan after faults_before faults_after is s
     let taken : all_taken told ≡ true = played.2.taken (ap (λ p. p.later) is) (ap (λ p. p.gone) is) in
     let P : List Item → Type 0 = λ heard_all. Plays events turns how heard_all in
     subst P (sym same) (plays_told events turns how told plan played.0 (ap (λ p. p.to_come) is) serves.2 (serves.3 taken) played.2
-      (no_fault plan faults_before faults_after how (ap (λ p. p.failing) is) cause))
+    (no_fault plan faults_before faults_after how (ap (λ p. p.failing) is) cause))
 
 -- the same of a link that has only a script
 pub Plays-link :

@@ -54,7 +54,7 @@ unfolding PutsAll
 PutsAll-front old now new front line rest text fault is before puts =
     let other : (k : ℕ) × (take puts.0 line ≡ take k (line ++ rest)) = front_in puts.0 line rest in
     let cut : take (length front + other.0) text ≡ front ++ take puts.0 line =
-      ap (λ whole. take (length front + other.0) whole) is ∙ take-append-add front (line ++ rest) other.0 ∙ ap (λ piece. front ++ piece) (sym other.1) in
+    ap (λ whole. take (length front + other.0) whole) is ∙ take-append-add front (line ++ rest) other.0 ∙ ap (λ piece. front ++ piece) (sym other.1) in
     (length front + other.0, puts.1 ∙ ap (λ put. appended put (take puts.0 line)) before ∙ appended-appended old front (take puts.0 line) ∙ ap (λ put. appended old put) (sym cut))
 
 -- the line of a connection, as the journal tells it
@@ -100,7 +100,7 @@ unfolding journal_text
 lines_refused old now new journal index conn fault is before puts =
     let conns = rising (opened_by journal) in
     PutsAll-front old now new (journal_lines journal (take index conns)) (line_in journal conn) (journal_lines journal (drop (index + 1) conns)) (journal_lines journal conns) fault
-      (lines_split journal conns index conn (sym is)) before puts
+    (lines_split journal conns index conn (sym is)) before puts
 
 -- the list ends where nothing is at the index
 past_end : (conns : List ℕ) (index : ℕ) → slice_get conns index ≡ None → length conns ≤ index

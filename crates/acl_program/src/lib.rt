@@ -3,7 +3,6 @@
 #![tactic(auto)]
 
 mod loading;
-mod looping;
 mod printing;
 mod program;
 mod replay;

@@ -51,12 +51,7 @@ pub fn run<H: Shelf, K: Sink, L: Link>(
 }
 
 /// The same, with all that is known of its outcome.
-fn obey<H: Shelf, K: Sink>(
-    alloc: Global,
-    words: &[String],
-    shelf: &mut H,
-    out: &mut K,
-) -> Status
+fn obey<H: Shelf, K: Sink>(alloc: Global, words: &[String], shelf: &mut H, out: &mut K) -> Status
     ensures runs { Runs (map string_bytes words.now) (H.files shelf.old) (H.faults shelf.old) (H.faults shelf.new)
         (K.put out.old) (K.faults out.old) result (K.put out.new) (K.faults out.new) }
     ensures kept { H.files shelf.new ≡ H.files shelf.old }

@@ -6,10 +6,9 @@ ghost use Rattle.acl_program.specs.Outcomes.{Replayed};
 ghost use Rattle.acl_program.specs.Playing.{Ends, Plays, Replays, Shows};
 
 use crate::loading::load_script;
-use crate::looping::serve_loop;
 use crate::printing::{print_lines, print_trouble};
 use crate::status::Status;
-use session_hub::Ended;
+use session_hub::{Ended, serve_loop};
 use std::alloc::Global;
 use wire_io::{ScriptLink, Shelf, Sink};
 

@@ -8,7 +8,16 @@ const USAGE: &str = "usage: aclserver (serve|replay|check|dump|explain|sample) W
 
 #[test]
 fn words_that_are_no_command_get_the_usage(rt: HostRuntime) -> Result<(), Fail> {
-    let rows = ["", "replay", "replay d", "replay d s t", "serve d", "replay d s --dump", "replay d s --turns", "--help"];
+    let rows = [
+        "",
+        "replay",
+        "replay d",
+        "replay d s t",
+        "serve d",
+        "replay d s --dump",
+        "replay d s --turns",
+        "--help",
+    ];
     for line in rows {
         let ran = run_line(rt.alloc(), line, b"send 1 00\n")?;
         assert_eq!(rt; ran.put.as_str(), USAGE, "{line}");
@@ -18,11 +27,16 @@ fn words_that_are_no_command_get_the_usage(rt: HostRuntime) -> Result<(), Fail> 
 }
 
 #[test]
-fn a_script_that_breaks_the_grammar_is_named_by_its_first_bad_line(rt: HostRuntime) -> Result<(), Fail> {
+fn a_script_that_breaks_the_grammar_is_named_by_its_first_bad_line(
+    rt: HostRuntime,
+) -> Result<(), Fail> {
     let rows = [
         ("send 1 00\nopen 1\n", "bad script line 1\n"),
         ("open 1\nopen 1\nnothing\n", "bad script line 2\n"),
-        ("open 1\n\n# a word\nsend 1 0\nsend 1 0g\n", "bad script line 4\n"),
+        (
+            "open 1\n\n# a word\nsend 1 0\nsend 1 0g\n",
+            "bad script line 4\n",
+        ),
         ("open 1\nend 1\nsend 1 00\n", "bad script line 3\n"),
         ("open 0\n", "bad script line 1\n"),
         ("open 4294967296\n", "bad script line 1\n"),
@@ -63,10 +77,34 @@ fn each_call_of_the_shelf_may_fail(rt: HostRuntime) -> Result<(), Fail> {
 #[test]
 fn each_call_of_the_sink_may_fail(rt: HostRuntime) -> Result<(), Fail> {
     let rows = [
-        ("replay d s", "open 1\nopen 2\n", 0u64, "", Status::SinkFault),
-        ("replay d s", "open 1\nopen 2\n", 1, "1 -\n", Status::SinkFault),
-        ("replay d s", "open 1\nopen 2\n", 2, "1 -\n2 -\n", Status::Done),
-        ("replay d s --turns 1", "open 1\nopen 2\n", 0, "", Status::SinkFault),
+        (
+            "replay d s",
+            "open 1\nopen 2\n",
+            0u64,
+            "",
+            Status::SinkFault,
+        ),
+        (
+            "replay d s",
+            "open 1\nopen 2\n",
+            1,
+            "1 -\n",
+            Status::SinkFault,
+        ),
+        (
+            "replay d s",
+            "open 1\nopen 2\n",
+            2,
+            "1 -\n2 -\n",
+            Status::Done,
+        ),
+        (
+            "replay d s --turns 1",
+            "open 1\nopen 2\n",
+            0,
+            "",
+            Status::SinkFault,
+        ),
         ("replay d", "", 0, "", Status::SinkFault),
         ("replay d t", "", 0, "", Status::SinkFault),
         ("replay d s", "send 1 00", 0, "", Status::SinkFault),
