@@ -1,13 +1,12 @@
 -- Calls of a loop, one after another.
-use Rattle.std.proofs.Common.{◌≡◌, ℕ, Bool, true, false, ◌&&◌, ◌||◌, List, [], ◌∷◌, ◌++◌, Option, Some, None, refl, ap, ap₂, sym, ◌∙◌, subst, append_assoc, append-nil, arith, true≢false}
+use Rattle.std.proofs.Common.{◌≡◌, Bool, true, false, ◌&&◌, ◌||◌, List, [], ◌∷◌, ◌++◌, Option, Some, refl, ap, ap₂, sym, ◌∙◌, subst, append_assoc, append-nil, arith}
 use Rattle.wire_io.specs.declared.journal.Item.{Item}
-use Rattle.wire_io.specs.declared.journal.Item.TheVariants as item
-use Rattle.wire_io.specs.Journal.{heard, was_stopped, stops}
+use Rattle.wire_io.specs.Journal.{heard, was_stopped}
 use Rattle.wire_io.specs.Telling.{noted}
 use Rattle.wire_io.specs.Plan.{Plan}
 use Rattle.wire_io.proofs.Theorems.{heard-append}
-use Rattle.session_model.specs.Journaled.{all_taken, is_no_refusal}
-use Rattle.session_hub.specs.Adding.{Adds, IsBlock, no_holds, is_no_hold}
+use Rattle.session_model.specs.Journaled.{all_taken}
+use Rattle.session_hub.specs.Adding.{Adds, IsBlock, no_holds}
 
 -- what is said of two lists of items in turn
 both_true : (a b : Bool) → (a && b) ≡ true → a ≡ true
@@ -48,28 +47,35 @@ block_both plan j k p q =
 -- nothing is added
 pub adds_nothing : (plan : Option Plan) (P Q : List Item → Type 0) (before after : Option (List Item)) → after ≡ before → ((told : List Item) → P told → Q told) → Adds plan P Q before after
 unfolding Adds
-adds_nothing plan P Q before after same leads start told is =
-    ([], same ∙ is ∙ ap (λ x. Some (start ++ x)) (sym (append-nil told)), block_none plan,
-     λ holds all. subst Q (sym (append-nil told)) (leads told (holds (subst (λ x. all_taken x ≡ true) (append-nil told) all))))
+adds_nothing plan P Q before after same leads start told is = (
+  [],
+  same ∙ is ∙ ap (λ x. Some (start ++ x)) (sym (append-nil told)),
+  block_none plan,
+  λ holds all. subst Q (sym (append-nil told)) (leads told (holds (subst (λ x. all_taken x ≡ true) (append-nil told) all))),
+)
 
 -- one item is added
 pub adds_one : (plan : Option Plan) (P Q : List Item → Type 0) (before after : Option (List Item)) (i : Item) → after ≡ noted before i → IsBlock plan (i ∷ []) →
     ((told : List Item) → all_taken (told ++ i ∷ []) ≡ true → P told → Q (told ++ i ∷ [])) → Adds plan P Q before after
 unfolding Adds
-adds_one plan P Q before after i is_noted block leads start told is =
-    (i ∷ [], is_noted ∙ ap (λ x. noted x i) is ∙ ap (λ x. Some x) (append_assoc start told (i ∷ [])), block,
-     λ holds all. leads told all (holds (all_taken-front told (i ∷ []) all)))
+adds_one plan P Q before after i is_noted block leads start told is = (
+  i ∷ [],
+  is_noted ∙ ap (λ x. noted x i) is ∙ ap (λ x. Some x) (append_assoc start told (i ∷ [])),
+  block,
+  λ holds all. leads told all (holds (all_taken-front told (i ∷ []) all)),
+)
 
 -- one call after another
 pub adds_then : (plan : Option Plan) (P Q R : List Item → Type 0) (a b c : Option (List Item)) → Adds plan P Q a b → Adds plan Q R b c → Adds plan P R a c
 unfolding Adds
 adds_then plan P Q R a b c first second start told is =
     let x = first start told is in
-    let y = second start (told ++ x.0) x.1 in
-    (x.0 ++ y.0,
-     y.1 ∙ ap (λ z. Some (start ++ z)) (append_assoc told x.0 y.0),
-     block_both plan x.0 y.0 x.2 y.2,
-     λ holds all. subst R (append_assoc told x.0 y.0) (y.3 (x.3 holds) (subst (λ z. all_taken z ≡ true) (sym (append_assoc told x.0 y.0)) all)))
+    let y = second start (told ++ x.0) x.1 in (
+      x.0 ++ y.0,
+      y.1 ∙ ap (λ z. Some (start ++ z)) (append_assoc told x.0 y.0),
+      block_both plan x.0 y.0 x.2 y.2,
+      λ holds all. subst R (append_assoc told x.0 y.0) (y.3 (x.3 holds) (subst (λ z. all_taken z ≡ true) (sym (append_assoc told x.0 y.0)) all)),
+    )
 
 -- what holds may be weakened at both ends
 pub adds_as : (plan : Option Plan) (P P' Q Q' : List Item → Type 0) (a b : Option (List Item)) → ((told : List Item) → P' told → P told) → ((told : List Item) → Q told → Q' told) →

@@ -1,6 +1,5 @@
 -- Each reply of this server is written short.
-use Rattle.std.proofs.Common.{◌≡◌, ◌<◌, ◌^◌, ℕ, ◌==◌, Bool, true, false, List, [], ◌∷◌, Option, Some, None, refl, ap, sym, ◌∙◌, arith, subst, if◌then◌else◌}
-use Rattle.std.proofs.lemmas.Bool.Decides.{nat_tests}
+use Rattle.std.proofs.Common.{◌≡◌, ◌<◌, ℕ, ◌==◌, Bool, true, false, List, [], ◌∷◌, Some, None, refl, arith, subst, if◌then◌else◌}
 use Rattle.ldap_msg.specs.declared.kinds.Auth.{Auth}
 use Rattle.ldap_msg.specs.declared.kinds.Auth.TheVariants.{Simple, Other}
 use Rattle.ldap_msg.specs.declared.kinds.BindRequest.{BindRequest}
@@ -41,7 +40,7 @@ response_plain tag code small =
     let r = coded code in
     let b : IsBare r = bare code small in
     plain_of (tag == 0x63) (reply.Done r) _ b (plain_of (tag == 0x66) (reply.Modify r) _ b (plain_of (tag == 0x68) (reply.Add r) _ b
-        (plain_of (tag == 0x4a) (reply.Delete r) _ b (plain_of (tag == 0x6c) (reply.Rename r) _ b (plain_of (tag == 0x6e) (reply.Compare r) (reply.Extended r None None) b (b, refl, refl))))))
+    (plain_of (tag == 0x4a) (reply.Delete r) _ b (plain_of (tag == 0x6c) (reply.Rename r) _ b (plain_of (tag == 0x6e) (reply.Compare r) (reply.Extended r None None) b (b, refl, refl))))))
 
 -- each reply is plain
 pub reply_plain : (marked : Bool) (q : Request) (r : Reply) → reply_to marked q ≡ Some r → IsPlain r

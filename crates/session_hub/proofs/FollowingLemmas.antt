@@ -1,8 +1,8 @@
 -- A hub follows a run of sessions, call by call.
-use Rattle.std.proofs.Common.{◌≡◌, ◌≤◌, ◌+◌, ℕ, Bool, true, false, cond, List, [], ◌∷◌, length, drop, map, refl, ap, sym, ◌∙◌, subst, arith, length-drop}
-use Rattle.session_model.specs.Run.{Session, Sessions, State, Open, Closing, TurnedAway, Away, Unopened, Step, step, held_numbers, is_held, Gone, HungUp}
-use Rattle.session_model.specs.Kept.{Kept, Held, heard, kept_of, queue_of, closing_of, taken_off, forgotten}
-use Rattle.session_model.specs.Keeping.{Keeps, IsNew, more_taken, shown}
+use Rattle.std.proofs.Common.{◌≡◌, ◌≤◌, ◌+◌, ℕ, Bool, true, false, cond, List, [], length, drop, refl, ap, sym, ◌∙◌, subst, arith, length-drop}
+use Rattle.session_model.specs.Run.{Session, Sessions, State, Open, Closing, TurnedAway, Away, Unopened, Step, step, is_held, Gone, HungUp}
+use Rattle.session_model.specs.Kept.{Kept, heard, queue_of, closing_of, taken_off, forgotten}
+use Rattle.session_model.specs.Keeping.{more_taken, shown}
 use Rattle.session_model.specs.Replaying.{is_closing}
 use Rattle.session_model.proofs.Theorems.{Keeps-step, Keeps-taken, length-kept, queue_in, closing_in, queue_of_is, closing_of_is}
 use Rattle.session_hub.specs.declared.requester.Requester.{Requester}

@@ -1,16 +1,15 @@
 -- What is held after a piece, and how much of it is unread.
-use Rattle.std.proofs.Common.{◌≡◌, ◌≤◌, ◌<◌, ◌+◌, ℕ, ◌==◌, Bool, true, false, cond, not, ◌&&◌, ◌||◌, List, [], ◌∷◌, ◌++◌, length, set, get_or, Option, Some, None, refl, ap, sym, ◌∙◌, arith, subst, true≢false}
-use Rattle.std.specs.List.{AllByRecursion}
+use Rattle.std.proofs.Common.{◌≡◌, ◌≤◌, ℕ, Bool, true, false, not, ◌&&◌, ◌||◌, List, ◌++◌, length, set, get_or, None, refl, sym, true≢false}
 use Rattle.ldap_msg.specs.Streams.{whole, rest_of, is_broken}
 use Rattle.ldap_msg.proofs.Theorems.{rest_bound}
-use Rattle.session_model.specs.Rules.{Answered, talk}
-use Rattle.session_model.specs.Run.{Step, Bytes}
-use Rattle.session_model.specs.Kept.{Kept, Held, kept_of, changed, speech, heard, hears_kept, heard_piece}
+use Rattle.session_model.specs.Rules.{talk}
+use Rattle.session_model.specs.Run.{Bytes}
+use Rattle.session_model.specs.Kept.{Kept, kept_of, speech, heard, heard_piece}
 use Rattle.session_hub.specs.declared.requester.Requester.{Requester}
-use Rattle.session_hub.specs.Answering.{Tree, rules}
+use Rattle.session_hub.specs.Answering.{rules}
 use Rattle.session_hub.specs.Answers.{said_to}
 use Rattle.session_hub.specs.Limits.{most_unread}
-use Rattle.session_hub.specs.Hubs.{IsAt, IsBounded, held, held_after}
+use Rattle.session_hub.specs.Hubs.{IsAt, held_after}
 use Rattle.session_hub.proofs.PlaceLemmas.{kept_at_is, changed_at}
 
 -- a stream to which nothing that closes is said isn't broken

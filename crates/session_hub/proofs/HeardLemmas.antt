@@ -1,5 +1,5 @@
 -- An event heard, by what a hub makes of it.
-use Rattle.std.proofs.Common.{◌≡◌, ◌≤◌, ◌<◌, ℕ, nat_lt, Bool, true, false, not, ◌||◌, List, [], ◌∷◌, ◌++◌, length, Option, refl, ap, sym, ◌∙◌, subst, arith}
+use Rattle.std.proofs.Common.{◌≡◌, ◌≤◌, ◌<◌, ℕ, nat_lt, false, List, [], ◌∷◌, ◌++◌, length, refl, ap, sym, ◌∙◌, subst, arith}
 use Rattle.std.proofs.lemmas.Bool.Decides.{nat_tests}
 use Rattle.wire_io.specs.declared.journal.Event.{Event as Told}
 use Rattle.wire_io.specs.declared.journal.Event.TheVariants as event
@@ -8,12 +8,12 @@ use Rattle.session_model.specs.Journaled.{step_of_event}
 use Rattle.wire_io.specs.declared.journal.Item.{Item}
 use Rattle.wire_io.specs.declared.journal.Item.TheVariants as item
 use Rattle.session_model.specs.Run.{Step, Opened, Bytes, Ended, most_held}
-use Rattle.session_model.specs.Kept.{Kept, Held, heard, forgotten}
+use Rattle.session_model.specs.Kept.{Kept, heard, forgotten}
 use Rattle.session_model.specs.Serving.{Sound}
 use Rattle.session_model.specs.Working.{Calm, Opening, Busy}
 use Rattle.session_model.proofs.Theorems.{calm_opened, calm_bytes, calm_ended, calm_idle, opening_calm, opening_hung_up}
 use Rattle.session_hub.specs.declared.requester.Requester.{Requester}
-use Rattle.session_hub.specs.Answering.{Tree, rules}
+use Rattle.session_hub.specs.Answering.{rules}
 use Rattle.session_hub.specs.Hubs.{held, held_after}
 use Rattle.session_hub.specs.declared.event.Event.{Event}
 use Rattle.session_hub.specs.declared.event.Event.TheVariants as came
@@ -39,7 +39,7 @@ pub opened_goes : (c : ℕ) (kept now : List (Kept Requester)) (told : List Item
 opened_goes c kept now told is room h =
     subst (λ ks. IsCalm ks told) (sym is)
     (subst (λ x. Calm rules tt x told) (held_is (Opened c) kept)
-        (opening_calm rules tt c (nat_lt (length kept) most_held) (heard rules (Opened c) (held kept)) told (opening c kept told h) (grind (arith, nat_tests))))
+    (opening_calm rules tt c (nat_lt (length kept) most_held) (heard rules (Opened c) (held kept)) told (opening c kept told h) (grind (arith, nat_tests))))
 
 -- where there is none the connection is hung up
 pub turned_goes : (c : ℕ) (kept now after : List (Kept Requester)) (told : List Item) → now ≡ held_after (Opened c) kept → after ≡ forgotten c now → most_held ≤ length kept →
@@ -54,12 +54,12 @@ pub bytes_goes : (c : ℕ) (octets : List ℕ) (kept now : List (Kept Requester)
     IsBusy c false now told
 bytes_goes c octets kept now told is h =
     subst (λ ks. IsBusy c false ks told) (sym is) (subst (λ x. Busy rules tt c false x told) (held_is (Bytes c octets) kept)
-        (subst (Busy rules tt c false (heard rules (Bytes c octets) (held kept))) (sym h.last) (calm_bytes rules tt (held kept) h.before c octets h.calm)))
+    (subst (Busy rules tt c false (heard rules (Bytes c octets) (held kept))) (sym h.last) (calm_bytes rules tt (held kept) h.before c octets h.calm)))
 
 pub ended_goes : (c : ℕ) (kept now : List (Kept Requester)) (told : List Item) → now ≡ held_after (Ended c) kept → IsHeard kept (event.Ended c) told → IsBusy c false now told
 ended_goes c kept now told is h =
     subst (λ ks. IsBusy c false ks told) (sym is) (subst (λ x. Busy rules tt c false x told) (held_is (Ended c) kept)
-        (subst (Busy rules tt c false (heard rules (Ended c) (held kept))) (sym h.last) (calm_ended rules tt (held kept) h.before c h.calm)))
+    (subst (Busy rules tt c false (heard rules (Ended c) (held kept))) (sym h.last) (calm_ended rules tt (held kept) h.before c h.calm)))
 
 pub bytes_sound : (c : ℕ) (octets : List ℕ) (kept : List (Kept Requester)) (told : List Item) → IsHeard kept (event.Bytes c octets) told → Sound rules tt told
 bytes_sound c octets kept told h = (bytes_goes c octets kept (held_after (Bytes c octets) kept) told refl h).tracks.sound

@@ -1,15 +1,13 @@
 -- What a hub holds after it opened, ended or forgot a connection.
-use Rattle.std.proofs.Common.{◌≡◌, ◌≤◌, ◌<◌, ◌+◌, ℕ, ◌==◌, nat_lt, Bool, true, false, cond, not, ◌||◌, List, [], ◌∷◌, ◌++◌, length, take, drop, get_or, remove, zero, suc, Option, Some, None, refl, ap, sym, ◌∙◌, arith, subst, slice_get}
+use Rattle.std.proofs.Common.{◌≡◌, ◌≤◌, ◌<◌, ℕ, ◌==◌, true, false, cond, List, [], ◌∷◌, ◌++◌, length, get_or, remove, zero, suc, Option, Some, None, refl, ap, sym, ◌∙◌, arith, slice_get}
 use Rattle.std.proofs.lemmas.Bool.Decides.{nat_tests}
 use Rattle.std.proofs.lemmas.Option.{slice_get-get_or, get_or_from_slice_get}
-use Rattle.std.specs.List.{AllByRecursion}
 use Rattle.session_model.proofs.Theorems.{kept_of-number}
 use Rattle.session_model.specs.Run.{Opened, Ended, most_held}
-use Rattle.session_model.specs.Kept.{Kept, Held, kept_of, is_kept, changed, closed, without_front, taken_off, forgotten, heard, opened_kept}
+use Rattle.session_model.specs.Kept.{Kept, kept_of, is_kept, changed, closed, without_front, taken_off, forgotten, heard, opened_kept}
 use Rattle.session_hub.specs.declared.requester.Requester.{Requester}
-use Rattle.session_hub.specs.Answering.{Tree, rules}
-use Rattle.session_hub.specs.Limits.{most_unread}
-use Rattle.session_hub.specs.Hubs.{IsAt, IsBounded, held, held_after}
+use Rattle.session_hub.specs.Answering.{rules}
+use Rattle.session_hub.specs.Hubs.{IsAt, IsBounded, held_after}
 
 bounded_changed : (c : ℕ) (f : Kept Requester → Kept Requester) → ((k : Kept Requester) → length (f k).rest ≤ length k.rest) → (ks : List (Kept Requester)) → IsBounded ks → IsBounded (changed c f ks)
 bounded_changed c f less [] bounded = tt

@@ -1,5 +1,5 @@
 -- The loop over a link, event by event.
-use Rattle.std.proofs.Common.{◌≡◌, ◌≤◌, ◌<◌, ◌+◌, ℕ, Bool, true, false, ◌&&◌, ◌||◌, List, [], ◌∷◌, ◌++◌, length, Option, Some, None, Result, Ok, Err, refl, ap, sym, ◌∙◌, subst, append_assoc, append-nil, length-append, arith}
+use Rattle.std.proofs.Common.{◌≡◌, ◌≤◌, ◌<◌, ◌+◌, ℕ, Bool, true, false, ◌||◌, List, [], ◌∷◌, ◌++◌, length, Option, Some, None, Ok, Err, refl, ap, sym, ◌∙◌, subst, append_assoc, append-nil, length-append, arith}
 use Rattle.wire_io.specs.declared.answers.Heard.{Heard as Answer}
 use Rattle.wire_io.specs.declared.answers.Heard.TheVariants as answer
 use Rattle.wire_io.specs.declared.answers.NextFault.{NextFault}
@@ -17,16 +17,16 @@ use Rattle.wire_io.specs.Playing.{NextPlays}
 use Rattle.wire_io.specs.Plan.{Plan}
 use Rattle.wire_io.proofs.Theorems.{heard-append}
 use Rattle.session_model.specs.Kept.{Kept}
-use Rattle.session_model.specs.Journaled.{all_taken, is_no_refusal}
+use Rattle.session_model.specs.Journaled.{all_taken}
 use Rattle.session_model.specs.Serving.{Sound}
-use Rattle.session_model.proofs.Theorems.{all_taken-append, was_opened-append, calm_start, calm_served, calm_replay}
+use Rattle.session_model.proofs.Theorems.{was_opened-append, calm_start, calm_served, calm_replay}
 use Rattle.session_hub.specs.declared.requester.Requester.{Requester}
 use Rattle.session_hub.specs.declared.ended.Ended.TheVariants as ended
 use Rattle.session_hub.specs.Answering.{rules}
 use Rattle.session_hub.specs.Hubs.{held}
-use Rattle.session_hub.specs.Loops.{Serves, EndsAt, ServedAs, EndsFor, MayFail}
-use Rattle.session_hub.specs.Adding.{Adds, IsBlock, IsCalm, IsHeard, Running, failing_of, stops_with}
-use Rattle.session_hub.proofs.AddingLemmas.{all_taken-front, all_taken-both, was_stopped-both}
+use Rattle.session_hub.specs.Loops.{Serves, EndsFor, MayFail}
+use Rattle.session_hub.specs.Adding.{Adds, IsCalm, IsHeard, Running, failing_of, stops_with}
+use Rattle.session_hub.proofs.AddingLemmas.{all_taken-front, was_stopped-both}
 use Rattle.session_hub.proofs.HeardLemmas.{stop_goes}
 
 -- whether an event is Stop
@@ -91,8 +91,8 @@ heard_calm start told e after kept came calm all =
 heard_more : (told more : List Item) (e : Event) (n : ℕ) → length (heard told) ≡ n → heard more ≡ [] → length (heard ((told ++ item.Heard e ∷ []) ++ more)) ≡ n + 1
 heard_more told more e n count none =
     let all : heard ((told ++ item.Heard e ∷ []) ++ more) ≡ heard told ++ e ∷ [] =
-        heard-append (told ++ item.Heard e ∷ []) more ∙ ap (λ xs. heard (told ++ item.Heard e ∷ []) ++ xs) none ∙ append-nil (heard (told ++ item.Heard e ∷ []))
-        ∙ heard-append told (item.Heard e ∷ []) ∙ ap (λ xs. heard told ++ xs) (one_event e) in
+    heard-append (told ++ item.Heard e ∷ []) more ∙ ap (λ xs. heard (told ++ item.Heard e ∷ []) ++ xs) none ∙ append-nil (heard (told ++ item.Heard e ∷ []))
+    ∙ heard-append told (item.Heard e ∷ []) ∙ ap (λ xs. heard told ++ xs) (one_event e) in
     ap length all ∙ length-append (heard told) (e ∷ []) ∙ ap (λ m. m + 1) count
 
 stopped_more : (told more : List Item) (e : Event) → was_stopped told ≡ false → is_stop e ≡ false → was_stopped more ≡ false → was_stopped ((told ++ item.Heard e ∷ []) ++ more) ≡ false
@@ -115,11 +115,13 @@ running_on n plan before a b after kept now buf given running tells goes_on adds
     let told = so.0 in
     let e = event_of buf given in
     let came = comes start told buf given a b so.1 tells in
-    let block = adds start (told ++ item.Heard e ∷ []) came.noted in
-    ((told ++ item.Heard e ∷ []) ++ block.0, block.1,
-     stopped_more told block.0 e so.2 goes_on block.2.stops,
-     heard_more told block.0 e n so.3 block.2.events,
-     block.3 (heard_calm start told e b kept came so.4))
+    let block = adds start (told ++ item.Heard e ∷ []) came.noted in (
+      (told ++ item.Heard e ∷ []) ++ block.0,
+      block.1,
+      stopped_more told block.0 e so.2 goes_on block.2.stops,
+      heard_more told block.0 e n so.3 block.2.events,
+      block.3 (heard_calm start told e b kept came so.4),
+    )
 
 -- the turns are spent
 pub running_spent : (turns : ℕ) (before now : Option (List Item)) (kept : List (Kept Requester)) → Running turns before now kept → Serves turns before ended.TurnsSpent now
@@ -155,10 +157,12 @@ running_cut n turns plan before a b after kept buf given running tells goes_on a
     let told = so.0 in
     let e = event_of buf given in
     let came = comes start told buf given a b so.1 tells in
-    let block = adds start (told ++ item.Heard e ∷ []) came.noted in
-    ((told ++ item.Heard e ∷ []) ++ block.0, block.1,
-     (stopped_more told block.0 e so.2 goes_on block.2.stops, let count = heard_more told block.0 e n so.3 block.2.events in omega arith),
-     block.3 (heard_calm start told e b kept came so.4))
+    let block = adds start (told ++ item.Heard e ∷ []) came.noted in (
+      (told ++ item.Heard e ∷ []) ++ block.0,
+      block.1,
+      (stopped_more told block.0 e so.2 goes_on block.2.stops, let count = heard_more told block.0 e n so.3 block.2.events in omega arith),
+      block.3 (heard_calm start told e b kept came so.4),
+    )
 
 -- Stop is heard
 pub running_stopped : (n turns : ℕ) (before a b : Option (List Item)) (kept : List (Kept Requester)) (buf : List ℕ) (given : Answer) →
@@ -174,7 +178,7 @@ running_stopped n turns before a b kept buf given running tells stop below start
     let same : length (heard after) ≡ n + 1 = ap (λ x. length (heard x)) (sym (append-nil after)) ∙ count in
     let ends : was_stopped after ≡ true = was_stopped-both told (item.Heard e ∷ []) ∙ ap (λ x. was_stopped told || x) (one_stop e ∙ ap is_stop stop) ∙ grind (arith, so.2, is_stop_stop) in
     let calm : all_taken after ≡ true → IsCalm kept after =
-        λ all. stop_goes kept after (subst (λ x. IsHeard kept x after) stop (heard_calm start told e b kept came so.4 all)) in
+    λ all. stop_goes kept after (subst (λ x. IsHeard kept x after) stop (heard_calm start told e b kept came so.4 all)) in
     (after, came.noted, (ends, omega arith), λ all. (calm_served rules tt (held kept) after (calm all), calm_replay rules tt (held kept) after (calm all)))
 
 -- an answer that isn't Stop is an event that isn't, and one that is, is
@@ -197,7 +201,7 @@ stops_is buf answer.Idle h = cc
 stops_is buf answer.Stop h = refl
 
 -- what a plan with no failing calls says of a fault
-may_fail : (plan now : Option Plan) → failing_of now ≡ failing_of plan → IsPlanned (λ told. told.failing) now → MayFail plan
+pub may_fail : (plan now : Option Plan) → failing_of now ≡ failing_of plan → IsPlanned (λ told. told.failing) now → MayFail plan
 unfolding IsPlanned
 may_fail None now same planned = tt
 may_fail (Some plan) None same planned = cc

@@ -1,5 +1,5 @@
 -- A plan that a link plays in a loop, event by event.
-use Rattle.std.proofs.Common.{◌≡◌, ◌≤◌, ◌<◌, ◌+◌, ℕ, Bool, true, false, ◌&&◌, ◌||◌, List, [], ◌∷◌, ◌++◌, length, Option, Some, None, Result, Ok, Err, refl, ap, ap₂, sym, ◌∙◌, subst, append_assoc, append-nil, length-append, arith, true≢false}
+use Rattle.std.proofs.Common.{◌≡◌, ◌+◌, ℕ, Bool, true, false, ◌&&◌, List, [], ◌∷◌, ◌++◌, length, Option, Some, None, Ok, Err, refl, ap, ap₂, sym, ◌∙◌, subst, append_assoc, append-nil, length-append, arith, true≢false}
 use Rattle.std.proofs.lemmas.Bool.Decides.{nat_tests}
 use Rattle.std.proofs.lemmas.List.{append_cancel_left}
 use Rattle.session_model.specs.Kept.{Kept}
@@ -17,14 +17,14 @@ use Rattle.wire_io.specs.Plan.{Plan}
 use Rattle.wire_io.specs.Playing.{NextPlays, holds_of, next_turn, front_turn}
 use Rattle.wire_io.specs.Telling.{event_of, NextTells}
 use Rattle.wire_io.proofs.Theorems.{heard-append, steps_of-append, Plays-none, Plays-trans, Plays-heard, NextPlays-ok, NextPlays-told, NextPlays-says, SaysOf, is_held-push}
-use Rattle.session_model.specs.Journaled.{all_taken, is_no_refusal}
+use Rattle.session_model.specs.Journaled.{all_taken}
 use Rattle.session_model.proofs.Theorems.{all_taken-append}
 use Rattle.session_hub.specs.declared.ended.Ended.{Ended}
 use Rattle.session_hub.specs.declared.ended.Ended.TheVariants as ended
 use Rattle.session_hub.specs.Loops.{PlaysOut, PlayedOut, buffer_length}
 use Rattle.session_hub.specs.Adding.{Adds, IsBlock, Running, Playing, PlayedSoFar, no_holds, is_no_hold}
 use Rattle.session_hub.proofs.AddingLemmas.{all_taken-both}
-use Rattle.session_hub.proofs.LoopLemmas.{is_stop, one_event, Comes, comes}
+use Rattle.session_hub.proofs.LoopLemmas.{is_stop, one_event, comes}
 
 some_same : {A : Type 0} (x y : A) → Some x ≡ Some y → x ≡ y
 some_same x y h = cc
@@ -73,17 +73,21 @@ block_after e more holds = holds
 -- nothing is played yet
 pub playing_start : (journal : Option (List Item)) (plan : Option Plan) → Playing journal plan journal plan
 unfolding Playing heard all_taken steps_of
-playing_start journal plan start told_plan is planned =
-    ([], told_plan, is ∙ ap (λ x. Some x) (sym (append-nil start)), planned,
-     record {
-       plays = Plays-none buffer_length told_plan.to_come;
-       failing = refl;
-       later = refl;
-       gone = refl;
-       taken = λ _ _. refl;
-       unheld = λ free c. ap (is_held c) (append-nil start) ∙ free c;
-       steps = λ _. refl;
-     })
+playing_start journal plan start told_plan is planned = (
+  [],
+  told_plan,
+  is ∙ ap (λ x. Some x) (sym (append-nil start)),
+  planned,
+  record {
+    plays = Plays-none buffer_length told_plan.to_come;
+    failing = refl;
+    later = refl;
+    gone = refl;
+    taken = λ _ _. refl;
+    unheld = λ free c. ap (is_held c) (append-nil start) ∙ free c;
+    steps = λ _. refl;
+  },
+)
 
 -- one more event of the plan, and what is done in its block
 played_more : (start told more : List Item) (plan left after : Plan) (buf : List ℕ) (given : Answer) → PlayedSoFar start told plan left → length buf ≡ buffer_length →
@@ -93,12 +97,12 @@ unfolding holds_of
 played_more start told more plan left after buf given so long plays goes_on block =
     let e = event_of buf given in
     let ok : (e ≡ (next_turn (holds_of (Some (start ++ told))) (length buf) left.to_come).event) × (after ≡ record left { to_come = (next_turn (holds_of (Some (start ++ told))) (length buf) left.to_come).left }) =
-        NextPlays-ok NextFault (Some (start ++ told)) left after buf given plays in
+    NextPlays-ok NextFault (Some (start ++ told)) left after buf given plays in
     let all : heard ((told ++ item.Heard e ∷ []) ++ more) ≡ heard told ++ e ∷ [] =
-        heard-append (told ++ item.Heard e ∷ []) more ∙ ap (λ xs. heard (told ++ item.Heard e ∷ []) ++ xs) block.events ∙ append-nil (heard (told ++ item.Heard e ∷ []))
-        ∙ heard-append told (item.Heard e ∷ []) ∙ ap (λ xs. heard told ++ xs) (one_event e) in
+    heard-append (told ++ item.Heard e ∷ []) more ∙ ap (λ xs. heard (told ++ item.Heard e ∷ []) ++ xs) block.events ∙ append-nil (heard (told ++ item.Heard e ∷ []))
+    ∙ heard-append told (item.Heard e ∷ []) ∙ ap (λ xs. heard told ++ xs) (one_event e) in
     let one : Plays buffer_length left.to_come (e ∷ []) after.to_come =
-        subst (λ n. Plays n left.to_come (e ∷ []) after.to_come) long (Plays-heard NextFault (Some (start ++ told)) left after buf given (let n : length buf ≡ 65536 = long in omega arith) plays) in
+    subst (λ n. Plays n left.to_come (e ∷ []) after.to_come) long (Plays-heard NextFault (Some (start ++ told)) left after buf given (let n : length buf ≡ 65536 = long in omega arith) plays) in
     let later : after.later ≡ plan.later = ap (λ (x : Plan). x.later) ok.1 ∙ so.later in
     let gone : after.gone ≡ plan.gone = ap (λ (x : Plan). x.gone) ok.1 ∙ so.gone in
     record {
@@ -128,13 +132,17 @@ playing_on before a b after plan_before pa pb plan_after P Q buf given playing l
     let told = so.0 in
     let left = so.1 in
     let here : NextPlays {E = NextFault} (Some (start ++ told)) (Some left) buf (Ok given) pb =
-        subst (λ x. NextPlays {E = NextFault} x (Some left) buf (Ok given) pb) so.2 (subst (λ x. NextPlays {E = NextFault} a x buf (Ok given) pb) so.3 plays) in
+    subst (λ x. NextPlays {E = NextFault} x (Some left) buf (Ok given) pb) so.2 (subst (λ x. NextPlays {E = NextFault} a x buf (Ok given) pb) so.3 plays) in
     let next = NextPlays-told {E = NextFault} (Some (start ++ told)) left buf (Ok given) pb here in
     let came = comes start told buf given a b so.2 tells in
-    let block = adds start (told ++ item.Heard (event_of buf given) ∷ []) came.noted in
-    ((told ++ item.Heard (event_of buf given) ∷ []) ++ block.0, next.0, block.1, kept ∙ next.1,
-     played_more start told block.0 plan left next.0 buf given so.4 long (subst (λ x. NextPlays {E = NextFault} (Some (start ++ told)) (Some left) buf (Ok given) x) next.1 here) goes_on
-     (subst (λ x. IsBlock x block.0) next.1 block.2))
+    let block = adds start (told ++ item.Heard (event_of buf given) ∷ []) came.noted in (
+      (told ++ item.Heard (event_of buf given) ∷ []) ++ block.0,
+      next.0,
+      block.1,
+      kept ∙ next.1,
+      played_more start told block.0 plan left next.0 buf given so.4 long (subst (λ x. NextPlays {E = NextFault} (Some (start ++ told)) (Some left) buf (Ok given) x) next.1 here) goes_on
+          (subst (λ x. IsBlock x block.0) next.1 block.2),
+    )
 
 -- what a loop that ended without Stop played
 played_to : (turns : ℕ) (start told : List Item) (plan left : Plan) (end : Ended) → PlayedSoFar start told plan left → (end ≡ ended.Stopped → ⊥) →
@@ -187,11 +195,11 @@ played_stop turns start told plan left after buf given so long plays stop =
     let e = event_of buf given in
     let on_hold = holds_of (Some (start ++ told)) in
     let ok : (e ≡ (next_turn on_hold (length buf) left.to_come).event) × (after ≡ record left { to_come = (next_turn on_hold (length buf) left.to_come).left }) =
-        NextPlays-ok NextFault (Some (start ++ told)) left after buf given plays in
+    NextPlays-ok NextFault (Some (start ++ told)) left after buf given plays in
     let over : left.to_come ≡ [] = says_stop on_hold e left.to_come (NextPlays-says NextFault (Some (start ++ told)) left after buf given plays) stop in
     let all : heard (told ++ item.Heard e ∷ []) ≡ heard told ++ e ∷ [] = heard-append told (item.Heard e ∷ []) ∙ ap (λ xs. heard told ++ xs) (one_event e) in
     let one : Plays buffer_length left.to_come (e ∷ []) after.to_come =
-        subst (λ n. Plays n left.to_come (e ∷ []) after.to_come) long (Plays-heard NextFault (Some (start ++ told)) left after buf given (let n : length buf ≡ 65536 = long in omega arith) plays) in
+    subst (λ n. Plays n left.to_come (e ∷ []) after.to_come) long (Plays-heard NextFault (Some (start ++ told)) left after buf given (let n : length buf ≡ 65536 = long in omega arith) plays) in
     record {
       plays = subst (λ es. Plays buffer_length plan.to_come es after.to_come) (sym all) (Plays-trans buffer_length plan.to_come left.to_come after.to_come (heard told) (e ∷ []) so.plays one);
       over = λ _. ap (λ (x : Plan). x.to_come) ok.1 ∙ stop_left on_hold (length buf) left.to_come over;
@@ -208,13 +216,16 @@ plays_stopped turns before a b plan_before pa pb buf given playing long tells pl
     let told = so.0 in
     let left = so.1 in
     let here : NextPlays {E = NextFault} (Some (start ++ told)) (Some left) buf (Ok given) pb =
-        subst (λ x. NextPlays {E = NextFault} x (Some left) buf (Ok given) pb) so.2 (subst (λ x. NextPlays {E = NextFault} a x buf (Ok given) pb) so.3 plays) in
+    subst (λ x. NextPlays {E = NextFault} x (Some left) buf (Ok given) pb) so.2 (subst (λ x. NextPlays {E = NextFault} a x buf (Ok given) pb) so.3 plays) in
     let next = NextPlays-told {E = NextFault} (Some (start ++ told)) left buf (Ok given) pb here in
     let came = comes start told buf given a b so.2 tells in
     let after = told ++ item.Heard (event_of buf given) ∷ [] in
-    let same : after ≡ told_all = append_cancel_left start after told_all (some_same (start ++ after) (start ++ told_all) (sym came.noted ∙ told_now)) in
-    (next.0, next.1, subst (λ x. PlayedOut turns start x plan next.0 ended.Stopped) same
-        (played_stop turns start told plan left next.0 buf given so.4 long (subst (λ x. NextPlays {E = NextFault} (Some (start ++ told)) (Some left) buf (Ok given) x) next.1 here) stop))
+    let same : after ≡ told_all = append_cancel_left start after told_all (some_same (start ++ after) (start ++ told_all) (sym came.noted ∙ told_now)) in (
+      next.0,
+      next.1,
+      subst (λ x. PlayedOut turns start x plan next.0 ended.Stopped) same
+          (played_stop turns start told plan left next.0 buf given so.4 long (subst (λ x. NextPlays {E = NextFault} (Some (start ++ told)) (Some left) buf (Ok given) x) next.1 here) stop),
+    )
 
 -- the link gave no event
 pub plays_kept : (E : Type 0) (journal : Option (List Item)) (plan after : Option Plan) (buf : List ℕ) (f : E) → NextPlays {E = E} journal plan buf (Err f) after → after ≡ plan

@@ -1,5 +1,5 @@
 -- The calls of a link within a block.
-use Rattle.std.proofs.Common.{◌≡◌, ◌≤◌, ◌==◌, ℕ, Bool, true, false, ◌&&◌, ◌||◌, List, [], ◌∷◌, ◌++◌, length, take, drop, Option, Some, None, Result, Ok, Err, OnOk, OnErr, refl, ap, sym, ◌∙◌, subst, arith, true≢false, length-drop, drop_of_length-le, ◌<◌}
+use Rattle.std.proofs.Common.{◌≡◌, ◌≤◌, ◌==◌, ℕ, Bool, true, false, ◌||◌, List, [], ◌∷◌, ◌++◌, length, take, drop, Option, Result, Ok, Err, OnOk, OnErr, refl, ap, sym, ◌∙◌, subst, arith, true≢false, length-drop, drop_of_length-le, ◌<◌}
 use Rattle.std.proofs.lemmas.Bool.Decides.{nat_tests}
 use Rattle.wire_io.specs.declared.journal.Item.{Item}
 use Rattle.wire_io.specs.declared.journal.Item.TheVariants as item
@@ -7,7 +7,7 @@ use Rattle.wire_io.specs.declared.answers.Took.TheVariants as took
 use Rattle.wire_io.specs.Journal.{heard, was_stopped, stops}
 use Rattle.wire_io.specs.Plan.{Plan}
 use Rattle.wire_io.specs.Answers.{WriteCause}
-use Rattle.wire_io.specs.Telling.{noted, TookTells, NoteTells}
+use Rattle.wire_io.specs.Telling.{TookTells, NoteTells}
 use Rattle.wire_io.proofs.Theorems.{WriteCause-never_later, WriteCause-never_gone}
 use Rattle.session_model.specs.Kept.{Kept, queue_of, closing_of, taken_off, forgotten}
 use Rattle.session_model.specs.Journaled.{all_taken, is_no_refusal}
@@ -15,10 +15,10 @@ use Rattle.session_model.specs.Serving.{Sound}
 use Rattle.std.proofs.lemmas.Result.{on_ok_weaker, on_err_weaker}
 use Rattle.session_model.proofs.Theorems.{all_taken-append, busy_taken, busy_done, busy_hung_up}
 use Rattle.session_hub.specs.declared.requester.Requester.{Requester}
-use Rattle.session_hub.specs.Answering.{Tree, rules}
+use Rattle.session_hub.specs.Answering.{rules}
 use Rattle.session_hub.specs.Hubs.{held}
 use Rattle.session_hub.specs.Adding.{Adds, IsBlock, no_holds, Never, IsCalm, IsBusy, IsSent}
-use Rattle.session_hub.proofs.AddingLemmas.{adds_nothing, adds_one, adds_then, adds_as}
+use Rattle.session_hub.proofs.AddingLemmas.{adds_nothing, adds_one, adds_then}
 
 block_taken : (plan : Option Plan) (c : ℕ) (octets : List ℕ) → IsBlock plan (item.Taken c octets ∷ [])
 unfolding heard was_stopped stops no_holds all_taken
@@ -46,7 +46,7 @@ unfolding TookTells
 took_goes plan c n turned kept octets before after tells is fits =
     adds_one plan (IsBusy c turned kept) (IsBusy c turned (taken_off c n kept)) before after (item.Taken c (take n octets)) tells (block_taken plan c (take n octets))
     (λ told _ busy. subst (λ xs. IsBusy c turned (taken_off c n kept) (told ++ item.Taken c (take n xs) ∷ [])) (sym is)
-        (busy_taken rules tt c turned (held kept) told n busy (subst (λ xs. n ≤ length xs) is fits)))
+    (busy_taken rules tt c turned (held kept) told n busy (subst (λ xs. n ≤ length xs) is fits)))
 
 -- nothing was taken now, or the connection was found lost
 refused : (told : List Item) (i : Item) → is_no_refusal i ≡ false → all_taken (told ++ i ∷ []) ≡ true → ⊥

@@ -1,5 +1,5 @@
 -- A stream answered message by message from its front.
-use Rattle.std.proofs.Common.{◌≡◌, ◌≤◌, ◌+◌, ℕ, Bool, true, false, cond, List, [], ◌∷◌, ◌++◌, length, take, drop, refl, ap, sym, ◌∙◌, append_assoc, append-nil, drop-drop, length-drop, length-append, arith, subst, true≢false}
+use Rattle.std.proofs.Common.{◌≡◌, ◌≤◌, ◌+◌, ℕ, true, false, cond, List, ◌++◌, length, take, drop, refl, ap, sym, ◌∙◌, append_assoc, append-nil, drop-drop, length-drop, length-append, arith, true≢false}
 use Rattle.ldap_msg.specs.declared.kinds.Frame.TheVariants.{Whole, More, Bad}
 use Rattle.ldap_msg.specs.Streams.{frame_at, rest_of}
 use Rattle.ldap_msg.specs.Replies.{notice_octets}

@@ -9,7 +9,7 @@ use Rattle.wire_io.specs.declared.journal.Item.TheVariants as item
 use Rattle.wire_io.specs.Journal.{heard, was_opened, was_stopped, is_held}
 use Rattle.wire_io.specs.Pieces.{Plays, steps_of}
 use Rattle.wire_io.specs.Plan.{Plan}
-use Rattle.session_model.specs.Kept.{Kept, queue_of, closing_of}
+use Rattle.session_model.specs.Kept.{Kept, queue_of}
 use Rattle.session_model.specs.Journaled.{all_taken}
 use Rattle.session_model.specs.Working.{Calm, Busy}
 use Rattle.session_hub.specs.declared.requester.Requester.{Requester}

@@ -1,5 +1,5 @@
 -- What an answered message, and an answered stream, leave.
-use Rattle.std.specs.Prelude.{◌≡◌, ◌≤◌, ℕ, Bool, false, List, ◌++◌, length, drop}
+use Rattle.std.specs.Prelude.{◌≡◌, ◌≤◌, ℕ, false, List, ◌++◌, length, drop}
 use Rattle.ldap_msg.specs.Streams.{rest_of}
 use Rattle.session_model.specs.Rules.{Answered}
 use Rattle.session_model.specs.Kept.{speech}

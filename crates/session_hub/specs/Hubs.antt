@@ -1,5 +1,5 @@
 -- What a hub holds, and what each step leaves of it.
-use Rattle.std.specs.Prelude.{◌≡◌, ◌<◌, ◌≤◌, ℕ, Bool, cond, List, [], ◌++◌, length, take, drop, Option, Some, None, slice_get, slice_set}
+use Rattle.std.specs.Prelude.{◌≡◌, ◌<◌, ◌≤◌, ℕ, cond, List, [], ◌++◌, length, take, drop, Some, slice_get, slice_set}
 use Rattle.std.specs.List.{AllByRecursion}
 use Rattle.session_model.specs.Run.{Session, Sessions, Step, is_held}
 use Rattle.session_model.specs.Kept.{Kept, Held, heard, kept_of, changed}

@@ -1,8 +1,7 @@
 -- What a loop over a link adds to the link's journal, and what it answers when it ends.
-use Rattle.std.specs.Prelude.{◌≡◌, ◌<◌, ◌≤◌, ℕ, Bool, true, false, ◌&&◌, List, [], ◌∷◌, ◌++◌, length, Option, Some, None}
+use Rattle.std.specs.Prelude.{◌≡◌, ◌<◌, ◌≤◌, ℕ, true, false, List, [], ◌++◌, length, Option, Some, None}
 use Rattle.plain_values.specs.Counts.{Rose, NeverFalls}
 use Rattle.wire_io.specs.declared.journal.Item.{Item}
-use Rattle.wire_io.specs.declared.journal.Item.TheVariants as item
 use Rattle.wire_io.specs.Journal.{heard, was_stopped, is_held}
 use Rattle.wire_io.specs.Plan.{Plan}
 use Rattle.wire_io.specs.Pieces.{Plays, steps_of}

@@ -6,8 +6,10 @@ ghost use Rattle.session_hub.specs.Answering.{rules, reply_to as reply_of, respo
 ghost use Rattle.session_hub.specs.Answers.{Gives};
 
 use crate::{Outcome, Requester};
-use ldap_msg::{Auth, BindRequest, Frame, LdapResult, Message, ReadFault, Reply, Request};
-use ldap_msg::{put_notice, put_reply, read_request};
+use ldap_msg::{
+    Auth, BindRequest, Frame, LdapResult, Message, ReadFault, Reply, Request, put_notice,
+    put_reply, read_request,
+};
 use plain_values::Octets;
 use std::alloc::{AllocError, Global};
 
@@ -58,11 +60,19 @@ fn reply_to(alloc: Global, message: &Message) -> Option<Reply>
     match &message.request {
         Request::Unbind | Request::Abandon(_) => None,
         Request::Bind(request) => {
-            let code = if message.marked { 53 } else { bind_code(request) };
+            let code = if message.marked {
+                53
+            } else {
+                bind_code(request)
+            };
             Some(Reply::Bind(result_of(alloc, code)))
         }
         Request::Unbuilt(tag) => {
-            let code = if message.marked || *tag != 0x77 { 53 } else { 2 };
+            let code = if message.marked || *tag != 0x77 {
+                53
+            } else {
+                2
+            };
             Some(response_to(*tag, result_of(alloc, code)))
         }
     }

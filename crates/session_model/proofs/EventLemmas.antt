@@ -174,23 +174,23 @@ module _ {T W : Type 0} (r : Rules T W) (t : T) where
       let reply : (v.of c).reply ≡ (u.of c).reply ++ [] = ap (λ (x : Session W). x.reply) is ∙ sym empty ∙ sym (append-nil (u.of c).reply) in
       let front : IsFront after c (v.of c) = more_front journal after c (u.of c) (v.of c) [] (taken_of-heard c journal e) (calm.done c).taken reply in
       let others : (d : ℕ) → d ≢ c → IsDone after d (v.of d) =
-          λ d differs. done_as journal after d (u.of d) (v.of d) (taken_of-heard d journal e) (other d differs) (calm.done d) in
+      λ d differs. done_as journal after d (u.of d) (v.of d) (taken_of-heard d journal e) (other d differs) (calm.done d) in
       let same_room : room ≡ nat_lt (length h.kept) most_held = ap (λ n. nat_lt n most_held) (sym (length-kept r u (λ d. length (taken_of d journal)) h calm.tracks.keeps)) in
       let told_nothing : taken_of c after ≡ (v.of c).reply = taken_of-heard c journal e ∙ (calm.done c).taken ∙ empty ∙ ap (λ (x : Session W). x.reply) (sym is) in
       let tracks : Tracks r t v (kept.heard r (Opened c) h) after = record {
-          is = now;
-          keeps = Keeps-as v _ _ (kept.heard r (Opened c) h) (λ d. ap length (sym (taken_of-heard d journal e))) (Keeps-opened r u (λ d. length (taken_of d journal)) h c calm.tracks.keeps unlisted);
-          hung = at_numbers c (λ d. is_hung_up d after ≡ is_away (v.of d).state)
-              (is_hung_up-heard c journal e ∙ calm.tracks.hung c ∙ ap is_away (calm.tracks.fresh c unlisted) ∙ sym (is_away-newcomer room) ∙ ap (λ (x : Session W). is_away x.state) (sym is))
-              (λ d differs. is_hung_up-heard d journal e ∙ calm.tracks.hung d ∙ ap (λ (x : Session W). is_away x.state) (sym (other d differs)));
-          free = λ d. is_held-heard d journal e ∙ calm.tracks.free d;
-          opened = λ d. was_opened-one d journal (item.Heard e) ∙ (let before : was_opened d journal ≡ is_listed d u.opened = calm.tracks.opened d in grind (arith, nat_tests, is_listed-append d u.opened c));
-          fresh = at_numbers c (λ d. is_listed d v.opened ≡ false → (v.of d).state ≡ Unopened)
-              (λ listed. absurd (grind (arith, nat_tests, is_listed-append c u.opened c)))
-              (λ d differs listed. ap (λ (x : Session W). x.state) (other d differs) ∙ calm.tracks.fresh d (grind (arith, nat_tests, is_listed-append d u.opened c)));
-          sound = sound_more r t journal (item.Heard e) v calm.tracks.sound now
-              (at_numbers c (λ d. IsFront after d (v.of d)) front (λ d differs. done_front after d (v.of d) (others d differs).taken))
-              (right_event h journal e calm);
+        is = now;
+        keeps = Keeps-as v _ _ (kept.heard r (Opened c) h) (λ d. ap length (sym (taken_of-heard d journal e))) (Keeps-opened r u (λ d. length (taken_of d journal)) h c calm.tracks.keeps unlisted);
+        hung = at_numbers c (λ d. is_hung_up d after ≡ is_away (v.of d).state)
+            (is_hung_up-heard c journal e ∙ calm.tracks.hung c ∙ ap is_away (calm.tracks.fresh c unlisted) ∙ sym (is_away-newcomer room) ∙ ap (λ (x : Session W). is_away x.state) (sym is))
+            (λ d differs. is_hung_up-heard d journal e ∙ calm.tracks.hung d ∙ ap (λ (x : Session W). is_away x.state) (sym (other d differs)));
+        free = λ d. is_held-heard d journal e ∙ calm.tracks.free d;
+        opened = λ d. was_opened-one d journal (item.Heard e) ∙ (let before : was_opened d journal ≡ is_listed d u.opened = calm.tracks.opened d in grind (arith, nat_tests, is_listed-append d u.opened c));
+        fresh = at_numbers c (λ d. is_listed d v.opened ≡ false → (v.of d).state ≡ Unopened)
+            (λ listed. absurd (grind (arith, nat_tests, is_listed-append c u.opened c)))
+            (λ d differs listed. ap (λ (x : Session W). x.state) (other d differs) ∙ calm.tracks.fresh d (grind (arith, nat_tests, is_listed-append d u.opened c)));
+        sound = sound_more r t journal (item.Heard e) v calm.tracks.sound now
+            (at_numbers c (λ d. IsFront after d (v.of d)) front (λ d differs. done_front after d (v.of d) (others d differs).taken))
+            (right_event h journal e calm);
       } in
       record {
         taken = told_nothing;

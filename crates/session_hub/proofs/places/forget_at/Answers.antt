@@ -1,4 +1,4 @@
-use Rattle.std.proofs.Common.{sym, ap, ◌∙◌, ◌≡◌, subst, None}
+use Rattle.std.proofs.Common.{ap, ◌∙◌, ◌≡◌, subst, None}
 use Rattle.session_model.specs.Kept.{forgotten, kept_of}
 use Rattle.session_hub.specs.Hubs.{IsAt}
 use Rattle.session_hub.proofs.HubLemmas.{forgets_one, forgets_none}

@@ -24,7 +24,7 @@ pub returns-else-is_closing-clause-ok : goal.returns-else-is_closing-clause-ok
 returns-else-is_closing-clause-ok c =
     on_ok_weaker c.hear.result
     (λ heard. ap (λ k. slice_set c.args.connections.now c.in-Some.at k)
-        (heard ∙ ap (λ x. heard_piece rules c.args.piece.now x (said_to x.who (x.rest ++ c.args.piece.now))) (sym c.index-connections-at.is))
-        ∙ hears_open c.args.number c.in-Some.at c.args.piece.now c.args.connections.now c.index-connections-at.result c.in-Some.ensures c.index-connections-at.is
-        (ap (λ (k : Kept Requester). k.closing) c.index-connections-at.is ∙ sym c.is_closing.ensures ∙ c.if-is_closing.false))
+    (heard ∙ ap (λ x. heard_piece rules c.args.piece.now x (said_to x.who (x.rest ++ c.args.piece.now))) (sym c.index-connections-at.is))
+    ∙ hears_open c.args.number c.in-Some.at c.args.piece.now c.args.connections.now c.index-connections-at.result c.in-Some.ensures c.index-connections-at.is
+    (ap (λ (k : Kept Requester). k.closing) c.index-connections-at.is ∙ sym c.is_closing.ensures ∙ c.if-is_closing.false))
     c.hear.ensures.ok

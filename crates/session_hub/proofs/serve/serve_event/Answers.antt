@@ -1,4 +1,4 @@
-use Rattle.std.proofs.Common.{◌≡◌, OnOk, OnErr, take, refl, sym, ap, ◌∙◌, subst}
+use Rattle.std.proofs.Common.{OnOk, OnErr, refl, sym, ap, ◌∙◌, subst}
 use Rattle.wire_io.specs.declared.journal.Event.TheVariants as event
 use Rattle.wire_io.specs.Telling.{event_of}
 use Rattle.session_model.specs.Serving.{Sound}

@@ -1,9 +1,6 @@
-use Rattle.std.proofs.Common.{◌≡◌, ◌||◌, Bool, true, false, Ok, Err, sym, ap, ◌∙◌, subst, refl}
-use Rattle.session_model.specs.Kept.{forgotten, closing_of}
-use Rattle.session_model.specs.Serving.{Sound}
-use Rattle.session_hub.specs.Answering.{rules}
-use Rattle.session_hub.specs.Hubs.{held}
-use Rattle.session_hub.specs.Adding.{Adds, IsBusy, IsSent, IsCalm}
+use Rattle.std.proofs.Common.{◌≡◌, ◌||◌, true, false, sym, ap, ◌∙◌}
+use Rattle.session_model.specs.Kept.{closing_of}
+use Rattle.session_hub.specs.Adding.{IsSent}
 use Rattle.session_hub.proofs.AddingLemmas.{adds_then, adds_as}
 use Rattle.session_hub.proofs.ServingLemmas.{calm_goes, hung_up_goes, hangs_up_one, hangs_up_none, on_err_any, IsBusy-sound}
 use Rattle.session_hub.proofs.serving.finish.Goals as goal
@@ -20,7 +17,7 @@ pub returns-in_err-hang_up-clause-err : goal.returns-in_err-hang_up-clause-err
 returns-in_err-hang_up-clause-err g c =
     on_err_any c.from_residual-in_err-hang_up.result
     (adds_then _ _ (IsSent c.args.conn false c.send_queue.new.hub) _ _ _ _ (c.in_ok-send_queue.ensures.ok false)
-        (hangs_up_none _ _ c.args.conn _ _ _ _ c.in_err-hang_up.field-0.0 c.in_err-hang_up.ensures.tells (λ told sent. IsBusy-sound c.args.conn false c.send_queue.new.hub told sent.0)))
+    (hangs_up_none _ _ c.args.conn _ _ _ _ c.in_err-hang_up.field-0.0 c.in_err-hang_up.ensures.tells (λ told sent. IsBusy-sound c.args.conn false c.send_queue.new.hub told sent.0)))
 
 -- the connection is hung up
 pub returns-clause-ok : goal.returns-clause-ok
@@ -28,4 +25,4 @@ returns-clause-ok g c =
     let leaving : (closing_of c.args.conn c.send_queue.new.hub || false) ≡ true = ap (λ b. b || false) (sym c.closing.ensures.exact ∙ c.if-not-closing.false) in
     adds_then _ _ (IsSent c.args.conn false c.send_queue.new.hub) _ _ _ _ (c.in_ok-send_queue.ensures.ok false)
     (hangs_up_one _ _ c.args.conn _ _ _ _ c.in_ok-hang_up.field-0 c.in_ok-hang_up.ensures.tells
-        (λ told sent. hung_up_goes c.args.conn false c.send_queue.new.hub c.drop_conn.new.self told c.drop_conn.ensures.exact leaving sent))
+    (λ told sent. hung_up_goes c.args.conn false c.send_queue.new.hub c.drop_conn.new.self told c.drop_conn.ensures.exact leaving sent))

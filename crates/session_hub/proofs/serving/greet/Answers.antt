@@ -1,6 +1,4 @@
-use Rattle.std.proofs.Common.{◌≡◌, ◌<◌, ◌≤◌, length, refl, sym, ap, ◌∙◌, subst, arith}
-use Rattle.wire_io.specs.declared.journal.Event.TheVariants as event
-use Rattle.session_hub.specs.Adding.{Adds, IsHeard, IsCalm}
+use Rattle.std.proofs.Common.{◌≡◌, length, refl, arith}
 use Rattle.session_hub.proofs.AddingLemmas.{adds_nothing}
 use Rattle.session_hub.proofs.ServingLemmas.{hangs_up_one, hangs_up_none, on_err_any}
 use Rattle.session_hub.proofs.HeardLemmas.{opened_goes, opened_sound, turned_goes}
@@ -27,4 +25,4 @@ pub returns-clause-ok : goal.returns-clause-ok
 returns-clause-ok g c =
     hangs_up_one _ _ c.args.conn _ _ _ _ c.in_ok-hang_up.field-0 c.in_ok-hang_up.ensures.tells
     (λ told h. turned_goes c.args.conn c.args.hub.now c.hear.new.self c.drop_conn.new.self told c.in_ok-hear.ensures.exact c.drop_conn.ensures.exact
-        (let all : c.count-has_room.result ≡ length c.args.hub.now = c.count-has_room.ensures.exact in omega arith) h)
+    (let all : c.count-has_room.result ≡ length c.args.hub.now = c.count-has_room.ensures.exact in omega arith) h)

@@ -1,4 +1,4 @@
-use Rattle.std.proofs.Common.{◌≡◌, ℕ, Bool, length}
+use Rattle.std.proofs.Common.{◌≡◌, Bool, length}
 use Rattle.plain_values.specs.Counts.{NeverFalls}
 use Rattle.session_model.specs.Kept.{queue_of}
 use Rattle.session_hub.specs.Adding.{Adds, IsBusy}

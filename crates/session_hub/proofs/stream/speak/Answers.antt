@@ -1,5 +1,5 @@
-use Rattle.std.proofs.Common.{◌≡◌, ◌≤◌, ◌<◌, ◌-◌, ◌++◌, length, take, drop, sym, ap, ◌∙◌, subst, arith, length-drop}
-use Rattle.ldap_msg.specs.declared.kinds.Frame.TheVariants.{Whole, More, Bad}
+use Rattle.std.proofs.Common.{◌≡◌, ◌-◌, length, take, drop, sym, ap, ◌∙◌, subst, arith, length-drop}
+use Rattle.ldap_msg.specs.declared.kinds.Frame.TheVariants.{Whole}
 use Rattle.ldap_msg.specs.Streams.{frame_at}
 use Rattle.ldap_msg.proofs.Theorems.{frame_bound, whole_alone}
 use Rattle.session_hub.specs.Answering.{rules}
@@ -34,7 +34,7 @@ returns-then-outcome-clause-ok c =
     let is : frame_at rest ≡ Whole c.in-Whole.length = ap frame_at (sym c.split_at.ensures.back) ∙ sym c.in-Whole.ensures.exact in
     let same : c.split_at-in-Whole.result.0.now ≡ take c.in-Whole.length rest = c.split_at-in-Whole.ensures.front ∙ ap (take c.in-Whole.length) c.split_at.ensures.back in
     so_far_closed _ _ _ c.messages.out.items _ _ _ c.in-Whole.length _ c.messages.invariant is
-        (subst (λ bytes. Gives (rules.answer tt c.messages.who bytes) c.messages.out.items c.answer.new.out.items c.in_ok-outcome-in-Whole.outcome) same c.in_ok-outcome-in-Whole.ensures.ok) c.if-outcome.true
+    (subst (λ bytes. Gives (rules.answer tt c.messages.who bytes) c.messages.out.items c.answer.new.out.items c.in_ok-outcome-in-Whole.outcome) same c.in_ok-outcome-in-Whole.ensures.ok) c.if-outcome.true
 
 pub messages-smaller : goal.messages-smaller
 messages-smaller c =
@@ -48,4 +48,4 @@ messages-preserved c =
     let is : frame_at rest ≡ Whole c.in-Whole.length = ap frame_at (sym c.split_at.ensures.back) ∙ sym c.in-Whole.ensures.exact in
     let same : c.split_at-in-Whole.result.0.now ≡ take c.in-Whole.length rest = c.split_at-in-Whole.ensures.front ∙ ap (take c.in-Whole.length) c.split_at.ensures.back in
     so_far_whole _ _ _ c.messages.out.items _ _ _ c.in-Whole.length _ c.messages.invariant is
-        (subst (λ bytes. Gives (rules.answer tt c.messages.who bytes) c.messages.out.items c.answer.new.out.items c.in_ok-outcome-in-Whole.outcome) same c.in_ok-outcome-in-Whole.ensures.ok) c.if-outcome.false
+    (subst (λ bytes. Gives (rules.answer tt c.messages.who bytes) c.messages.out.items c.answer.new.out.items c.in_ok-outcome-in-Whole.outcome) same c.in_ok-outcome-in-Whole.ensures.ok) c.if-outcome.false

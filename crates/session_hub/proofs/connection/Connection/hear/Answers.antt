@@ -9,5 +9,5 @@ pub returns-else-spoken-clause-bounded : goal.returns-else-spoken-clause-bounded
 returns-else-spoken-clause-bounded c =
     let stream = c.deref.result.now in
     let is : c.cut_front.new.octets.items ≡ rest_of stream =
-        c.cut_front.ensures ∙ ap (drop c.in-Ok.spoken.read) (sym c.deref.ensures.value) ∙ c.in-Ok.ensures.ok.left c.if-spoken.false in
+    c.cut_front.ensures ∙ ap (drop c.in-Ok.spoken.read) (sym c.deref.ensures.value) ∙ c.in-Ok.ensures.ok.left c.if-spoken.false in
     λ _. subst (λ xs. length xs ≤ most_unread) (sym is) (rest_bounded _ stream (sym c.in-Ok.ensures.ok.gives.closes ∙ c.if-spoken.false))

@@ -1,4 +1,4 @@
-use Rattle.std.proofs.Common.{◌≡◌, ◌<◌, ◌≤◌, ◌++◌, ◌∷◌, [], length, sym, ap, ap₂, ◌∙◌, arith, subst}
+use Rattle.std.proofs.Common.{◌≡◌, ◌++◌, ◌∷◌, [], length, sym, ap, ap₂, ◌∙◌, arith}
 use Rattle.session_model.specs.Kept.{is_kept, kept_of}
 use Rattle.session_hub.proofs.HubLemmas.{opens_held, opens_full, opens_new}
 use Rattle.session_hub.proofs.hub.Hub.open.Goals as goal
@@ -12,13 +12,13 @@ returns-then-is_at c =
 pub returns-then-len-ge-MAX_CONNECTIONS : goal.returns-then-len-ge-MAX_CONNECTIONS
 returns-then-len-ge-MAX_CONNECTIONS c =
     let same : length c.args.self.now ≡ c.len.result =
-        ap length (sym c.self.view_is ∙ sym c.deref.ensures.value) ∙ c.deref.ensures.len ∙ sym c.len.ensures in
+    ap length (sym c.self.view_is ∙ sym c.deref.ensures.value) ∙ c.deref.ensures.len ∙ sym c.len.ensures in
     record { ok = opens_full c.args.conn c.args.self.now (omega arith) }
 
 -- there is room
 pub returns : goal.returns
 returns c =
     let same : length c.args.self.now ≡ c.len.result =
-        ap length (sym c.self.view_is ∙ sym c.deref.ensures.value) ∙ c.deref.ensures.len ∙ sym c.len.ensures in
+    ap length (sym c.self.view_is ∙ sym c.deref.ensures.value) ∙ c.deref.ensures.len ∙ sym c.len.ensures in
     let absent = ap (λ ks. is_kept (kept_of c.args.conn ks)) (sym c.self.view_is ∙ sym c.deref.ensures.value) ∙ sym c.is_at.ensures ∙ c.if-is_at.false in
     record { ok = c.in_ok-push.ensures.items ∙ ap₂ (λ ks k. ks ++ k ∷ []) c.self.view_is c.new-connection.ensures ∙ opens_new c.args.conn c.args.self.now absent (omega arith) }
