@@ -20,8 +20,9 @@ fn start(rt: &HostRuntime) -> Result<Status, AllocError> {
     let words = words_of(rt)?;
     let mut shelf = FileShelf::new(rt.clone()?);
     let mut out = StdSink::new(rt.clone()?);
-    let (events, failing) = (Vec::new(alloc), Vec::new(alloc));
-    let mut link = ScriptLink::new(alloc, events, failing, Vec::new(alloc), Vec::new(alloc));
+    let Ok(mut link) = ScriptLink::read(alloc, b"") else {
+        return Err(AllocError);
+    };
     Ok(run(alloc, words.as_slice(), &mut shelf, &mut out, &mut link))
 }
 

@@ -32,9 +32,11 @@ fn shelf_of(alloc: Global, script: &[u8], failing: &[u64]) -> Result<MemShelf, A
 }
 
 /// A link that gives nothing.
-fn no_link(alloc: Global) -> ScriptLink {
-    let (events, failing) = (Vec::new(alloc), Vec::new(alloc));
-    ScriptLink::new(alloc, events, failing, Vec::new(alloc), Vec::new(alloc))
+fn no_link(alloc: Global) -> Result<ScriptLink, AllocError> {
+    match ScriptLink::read(alloc, b"") {
+        Ok(link) => Ok(link),
+        Err(_) => Err(AllocError),
+    }
 }
 
 /// Runs the program on the words of the line, over a script, where these calls of the shelf and of
@@ -49,7 +51,7 @@ pub fn run_failing(
     let words = words_of(alloc, line)?;
     let mut shelf = shelf_of(alloc, script, shelf_fails)?;
     let mut out = MemSink::new(alloc, sink_fails.to_vec(alloc)?);
-    let mut link = no_link(alloc);
+    let mut link = no_link(alloc)?;
     let status = run(alloc, words.as_slice(), &mut shelf, &mut out, &mut link);
     let put = String::from_utf8_lossy(alloc, out.bytes())?;
     Ok(Ran { status, put })
