@@ -18,7 +18,7 @@ fn push_piece(
     from: usize,
     to: usize,
 ) -> Result<(), AllocError> {
-    match STREAM.get(2 * from..2 * to) {
+    match STREAM.get(from.saturating_mul(2)..to.saturating_mul(2)) {
         Some(octets) if from < to => script.push_str(format!(in alloc;
             "send {conn} {octets}\n"
         )?.as_str()),
