@@ -1,0 +1,55 @@
+-- The definitions, computed on known cases.
+use Rattle.std.proofs.Common.{◌≡◌, true, false, List, [], ◌∷◌, codes, refl}
+use Rattle.std.specs.Fmt.{digits}
+use Rattle.hex.specs.Hex.{encode_with}
+use Rattle.script_text.specs.declared.event.ScriptEvent.{ScriptEvent}
+use Rattle.script_text.specs.declared.event.ScriptEvent.TheVariants.{Opened, Ended}
+use Rattle.wire_io.specs.Pieces.{pieces_of, pieces}
+use Rattle.wire_io.specs.Rising.{are_above, put_rising, rising_after, rising}
+use Rattle.session_model.specs.Run.{start, step, held_numbers}
+use Rattle.session_model.specs.Journaled.{steps_of_events}
+use Rattle.session_model.specs.Replaying.{replayed_from}
+use Rattle.session_hub.specs.Answering.{rules}
+use Rattle.acl_program.specs.declared.status.Status.TheVariants.{Done, TurnsSpent}
+use Rattle.acl_program.specs.Lines.{line_of, lines_of, replay_text}
+use Rattle.acl_program.specs.Outcomes.{BadLine, Replayed, text_of, status_of}
+
+-- a line with octets, with none, and of a connection that was hung up
+some_sent : line_of 258 (0x30 ∷ 0x0c ∷ 0xff ∷ []) false ≡ codes "258 300cff\n"
+unfolding line_of encode_with digits
+some_sent = refl
+
+none_sent : line_of 1 [] false ≡ codes "1 -\n"
+unfolding line_of digits
+none_sent = refl
+
+none_closed : line_of 4294967295 [] true ≡ codes "4294967295 - closed\n"
+unfolding line_of digits
+none_closed = refl
+
+-- a bad line
+bad_line : text_of (BadLine 12) ≡ codes "bad script line 12\n"
+unfolding text_of digits
+bad_line = refl
+
+-- two connections, opened out of order, of which one ends
+two_events : List ScriptEvent
+two_events = Opened 2 ∷ Opened 1 ∷ Ended 2 ∷ []
+
+two_lines : replay_text two_events 4 ≡ codes "1 -\n2 - closed\n"
+unfolding two_events replay_text lines_of line_of pieces pieces_of steps_of_events replayed_from start step held_numbers rising rising_after put_rising are_above rules digits
+two_lines = refl
+
+-- the same for fewer turns
+one_line : replay_text two_events 1 ≡ codes "2 -\n"
+unfolding two_events replay_text lines_of line_of pieces pieces_of steps_of_events replayed_from start step held_numbers rising rising_after put_rising are_above rules digits
+one_line = refl
+
+-- Stop is the event after the last piece
+four_turns : status_of (Replayed two_events 4) ≡ Done
+unfolding two_events status_of pieces pieces_of
+four_turns = refl
+
+three_turns : status_of (Replayed two_events 3) ≡ TurnsSpent
+unfolding two_events status_of pieces pieces_of
+three_turns = refl

@@ -1,0 +1,67 @@
+-- Lemmas on a script read from a shelf.
+use Rattle.std.proofs.Common.{◌≡◌, ℕ, ◌≤◌, List, [], length, Option, Some, None, Result, Ok, Err, refl, sym, ap, ◌∙◌, subst, inl, inr}
+use Rattle.wire_io.specs.Files.{Files, file_of}
+use Rattle.wire_io.specs.ReadWhole.{GivesFile, IsLonger, IsLongerFile, ReadCause}
+use Rattle.wire_io.specs.declared.answers.ReadFault.{ReadFault}
+use Rattle.wire_io.specs.declared.answers.ReadFault.TheVariants as read
+use Rattle.script_text.specs.declared.event.ScriptFault.{ScriptFault}
+use Rattle.script_text.specs.declared.event.ScriptFault.TheVariants as script
+use Rattle.script_text.specs.ScriptReading.{IsCause, script_of}
+use Rattle.script_text.proofs.Theorems.{script_of-err}
+use Rattle.wire_io.specs.Scripted.{LinkState}
+use Rattle.acl_program.specs.declared.loading.Trouble.{Trouble}
+use Rattle.acl_program.specs.declared.loading.Trouble.TheVariants as trouble
+use Rattle.acl_program.specs.Causes.{HoldsOf, HoldsIn, IsUnread, IsBadScript, IsGoodScript, most_script}
+use Rattle.acl_program.specs.Playing.{Loads, ReadsScript, trouble_of_file, trouble_of_script}
+
+-- what holds of the content that was given holds of the file, where the shelf tells
+HoldsIn-given : (files : Option Files) (name content : List ℕ) (P : List ℕ → Type 0) → GivesFile files name content → P content → HoldsIn files name P
+unfolding HoldsIn GivesFile
+HoldsIn-given None name content P gives holds = tt
+HoldsIn-given (Some files) name content P gives holds = let Q : Option (List ℕ) → Type 0 = λ file. HoldsOf P file in subst Q (sym gives) holds
+
+-- the script of a file that was given
+loads_given :
+    (files : Option Files) (name content : List ℕ) (before after : ℕ) (result : Result LinkState Trouble)
+    → GivesFile files name content → ReadsScript content result → Loads files name before after result
+unfolding Loads ReadsScript
+loads_given files name content before after (Ok link) gives reads = (HoldsIn-given files name content (IsGoodScript link.plan.to_come) gives reads.0, reads.1)
+loads_given files name content before after (Err trouble.NoFile) gives reads = absurd reads
+loads_given files name content before after (Err (trouble.BadLine line)) gives reads = HoldsIn-given files name content (IsBadScript line) gives reads
+loads_given files name content before after (Err trouble.NoMemory) gives reads = tt
+
+pub Loads-read :
+    (files : Option Files) (name content lent : List ℕ) (before after : ℕ) (result : Result LinkState Trouble)
+    → lent ≡ content → GivesFile files name content → ReadsScript lent result → Loads files name before after result
+Loads-read files name content lent before after result same gives reads =
+    let P : List ℕ → Type 0 = λ text. ReadsScript text result in loads_given files name content before after result gives (subst P same reads)
+
+-- a file that is too long is no script
+too_long : (file : Option (List ℕ)) (line : ℕ) → IsLongerFile file most_script line → HoldsOf (IsBadScript line) file
+unfolding IsLongerFile IsBadScript
+too_long None line longer = absurd longer
+too_long (Some content) line longer = inr longer
+
+Loads-too_long :
+    (files : Option Files) (name : List ℕ) (before after line : ℕ)
+    → IsLonger files name most_script line → Loads files name before after (Err (trouble.BadLine line))
+unfolding Loads IsLonger HoldsIn
+Loads-too_long None name before after line longer = tt
+Loads-too_long (Some files) name before after line longer = too_long (file_of name files) line longer
+
+-- the file wasn't read, or is too long
+pub Loads-refused :
+    (T : Type 0) (files : Option Files) (name : List ℕ) (before after : ℕ) (fault : ReadFault)
+    → ReadCause {T = T} files name most_script before after (Err fault) → Loads files name before after (Err (trouble_of_file fault))
+unfolding Loads ReadCause IsUnread
+Loads-refused T files name before after read.Absent cause = inr cause.0
+Loads-refused T files name before after read.Failed cause = inl cause
+Loads-refused T files name before after (read.TooLong line) cause = Loads-too_long files name before after line cause.0
+Loads-refused T files name before after read.NoMemory cause = tt
+
+-- the text isn't a script
+pub ReadsScript-refused :
+    (content : List ℕ) (fault : ScriptFault) → length content ≤ most_script → IsCause fault (script_of content) → ReadsScript content (Err (trouble_of_script fault))
+unfolding ReadsScript IsBadScript
+ReadsScript-refused content (script.Bad line) short cause = inl (short, script_of-err content line cause)
+ReadsScript-refused content script.NoMemory short cause = tt

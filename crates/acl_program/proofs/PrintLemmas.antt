@@ -1,0 +1,129 @@
+-- Lemmas on texts put one after another, and on the lines of a journal.
+use Rattle.std.proofs.Common.{◌≡◌, ℕ, zero, suc, ◌+◌, ◌<◌, ◌≤◌, List, [], ◌∷◌, ◌++◌, length, take, drop, get_or, slice_get, Option, Some, None, Result, Ok, Err, refl, sym, ap, ◌∙◌, subst, arith, append-nil, append_assoc, add-one, inl, inr}
+use Rattle.std.proofs.Math.Seq.{take-suc, take-append-add, take-append_seam}
+use Rattle.std.proofs.lemmas.Grind.{flat_map-append}
+use Rattle.std.proofs.lemmas.List.{take-append-le, take-append-drop}
+use Rattle.std.proofs.lemmas.Bool.{cases_lt}
+use Rattle.std.proofs.lemmas.Option.{slice_get_within, get_or_from_slice_get, slice_get_cases}
+use Rattle.plain_values.specs.Counts.{NeverFalls, Rose}
+use Rattle.plain_values.proofs.Theorems.{NeverFalls-refl}
+use Rattle.wire_io.specs.declared.answers.PutFault.{PutFault}
+use Rattle.wire_io.specs.declared.answers.PutFault.TheVariants as put
+use Rattle.wire_io.specs.declared.journal.Item.{Item}
+use Rattle.wire_io.specs.Journal.{opened_by, taken_of, is_hung_up}
+use Rattle.wire_io.specs.Rising.{rising}
+use Rattle.wire_io.specs.Putting.{appended, PutsAll, PutCause}
+use Rattle.wire_io.proofs.Theorems.{appended-appended}
+use Rattle.acl_program.specs.Lines.{line_of}
+use Rattle.acl_program.specs.Playing.{journal_lines, journal_text}
+
+-- no octets put change nothing
+pub appended-none : (old : Option (List ℕ)) → old ≡ appended old []
+appended-none None = refl
+appended-none (Some put) = ap Some (sym (append-nil put))
+
+-- nothing was put for want of memory
+pub PutsAll-no_memory : (old : Option (List ℕ)) (text : List ℕ) → PutsAll {T = Unit {0}} old text (Err put.NoMemory) old
+unfolding PutsAll
+PutsAll-no_memory old text = (0, appended-none old)
+
+pub PutCause-no_memory : (before : ℕ) → PutCause {T = Unit {0}} before before (Err put.NoMemory)
+unfolding PutCause
+PutCause-no_memory before = NeverFalls-refl before
+
+-- a front that is long enough is all
+take_all : (count : ℕ) (octets : List ℕ) → length octets ≤ count → take count octets ≡ octets
+take_all zero [] long = refl
+take_all zero (octet ∷ octets) long = absurd (omega arith)
+take_all (suc count) [] long = refl
+take_all (suc count) (octet ∷ octets) long = ap (λ rest. octet ∷ rest) (take_all count octets (omega arith))
+
+-- a front of a line is a front of it and what follows
+front_in : (count : ℕ) (line rest : List ℕ) → (other : ℕ) × (take count line ≡ take other (line ++ rest))
+front_in count line rest =
+    elim (cases_lt (length line) count) [
+      | inl longer ↦ (length line, take_all count line (omega arith) ∙ sym (take-append_seam line rest))
+      | inr short ↦ (count, sym (take-append-le count line rest short))
+    ]
+
+-- what was put before, and a front of a line, is a front of all
+pub PutsAll-front :
+    (old now new : Option (List ℕ)) (front line rest text : List ℕ) (fault : PutFault)
+    → text ≡ front ++ (line ++ rest) → now ≡ appended old front → PutsAll {T = Unit {0}} now line (Err fault) new → PutsAll {T = Unit {0}} old text (Err fault) new
+unfolding PutsAll
+PutsAll-front old now new front line rest text fault is before puts =
+    let other : (k : ℕ) × (take puts.0 line ≡ take k (line ++ rest)) = front_in puts.0 line rest in
+    let cut : take (length front + other.0) text ≡ front ++ take puts.0 line =
+    ap (λ whole. take (length front + other.0) whole) is ∙ take-append-add front (line ++ rest) other.0 ∙ ap (λ piece. front ++ piece) (sym other.1) in
+    (length front + other.0, puts.1 ∙ ap (λ put. appended put (take puts.0 line)) before ∙ appended-appended old front (take puts.0 line) ∙ ap (λ put. appended old put) (sym cut))
+
+-- the line of a connection, as the journal tells it
+abbrev pub line_in : List Item → ℕ → List ℕ
+line_in journal conn = line_of conn (taken_of conn journal) (is_hung_up conn journal)
+
+-- one connection more
+take_one : (conns : List ℕ) (index conn : ℕ) → slice_get conns index ≡ Some conn → take (index + 1) conns ≡ take index conns ++ conn ∷ []
+take_one conns index conn is =
+    let within : index < length conns = slice_get_within conns index conn is in
+    let found : get_or conns index 0 ≡ conn = get_or_from_slice_get conns index conn 0 is in
+    ap (λ count. take count conns) (add-one index) ∙ take-suc conns index 0 within ∙ ap (λ last. take index conns ++ last ∷ []) found
+
+journal_lines-one : (journal : List Item) (front : List ℕ) (conn : ℕ) → journal_lines journal (front ++ conn ∷ []) ≡ journal_lines journal front ++ line_in journal conn
+journal_lines-one journal front conn =
+    flat_map-append (line_in journal) front (conn ∷ []) ∙ ap (λ line. journal_lines journal front ++ line) (append-nil (line_in journal conn))
+
+-- a line more was put
+pub lines_more :
+    (old now new : Option (List ℕ)) (journal : List Item) (conns : List ℕ) (index conn : ℕ) (done : Unit {0})
+    → Some conn ≡ slice_get conns index → now ≡ appended old (journal_lines journal (take index conns)) → PutsAll now (line_in journal conn) (Ok done) new
+    → new ≡ appended old (journal_lines journal (take (index + 1) conns))
+unfolding PutsAll
+lines_more old now new journal conns index conn done is before puts =
+    puts ∙ ap (λ put. appended put (line_in journal conn)) before ∙ appended-appended old (journal_lines journal (take index conns)) (line_in journal conn)
+    ∙ ap (λ put. appended old put) (sym (ap (journal_lines journal) (take_one conns index conn (sym is)) ∙ journal_lines-one journal (take index conns) conn))
+
+-- the lines of all connections are those before one, its own, and those after it
+lines_split : (journal : List Item) (conns : List ℕ) (index conn : ℕ) → slice_get conns index ≡ Some conn
+    → journal_lines journal conns ≡ journal_lines journal (take index conns) ++ (line_in journal conn ++ journal_lines journal (drop (index + 1) conns))
+lines_split journal conns index conn is =
+    ap (journal_lines journal) (sym (take-append-drop (index + 1) conns))
+    ∙ flat_map-append (line_in journal) (take (index + 1) conns) (drop (index + 1) conns)
+    ∙ ap (λ front. front ++ journal_lines journal (drop (index + 1) conns)) (ap (journal_lines journal) (take_one conns index conn is) ∙ journal_lines-one journal (take index conns) conn)
+    ∙ append_assoc (journal_lines journal (take index conns)) (line_in journal conn) (journal_lines journal (drop (index + 1) conns))
+
+-- a line was refused
+pub lines_refused :
+    (old now new : Option (List ℕ)) (journal : List Item) (index conn : ℕ) (fault : PutFault)
+    → Some conn ≡ slice_get (rising (opened_by journal)) index → now ≡ appended old (journal_lines journal (take index (rising (opened_by journal))))
+    → PutsAll {T = Unit {0}} now (line_in journal conn) (Err fault) new → PutsAll {T = Unit {0}} old (journal_text journal) (Err fault) new
+unfolding journal_text
+lines_refused old now new journal index conn fault is before puts =
+    let conns = rising (opened_by journal) in
+    PutsAll-front old now new (journal_lines journal (take index conns)) (line_in journal conn) (journal_lines journal (drop (index + 1) conns)) (journal_lines journal conns) fault
+    (lines_split journal conns index conn (sym is)) before puts
+
+-- the list ends where nothing is at the index
+past_end : (conns : List ℕ) (index : ℕ) → slice_get conns index ≡ None → length conns ≤ index
+past_end conns index none =
+    elim (slice_get_cases conns index).1 [
+      | inl inside ↦ absurd (cc (inside.2, none))
+      | inr past ↦ past.0
+    ]
+
+-- all lines were put
+pub lines_done :
+    (old now : Option (List ℕ)) (journal : List Item) (index : ℕ) (done : Unit {0})
+    → None ≡ slice_get (rising (opened_by journal)) index → now ≡ appended old (journal_lines journal (take index (rising (opened_by journal))))
+    → PutsAll old (journal_text journal) (Ok done) now
+unfolding PutsAll journal_text
+lines_done old now journal index done none before =
+    before ∙ ap (λ conns. appended old (journal_lines journal conns)) (take_all index (rising (opened_by journal)) (past_end (rising (opened_by journal)) index (sym none)))
+
+-- one index more is at most the end, where a connection was at it
+pub within_more : (conns : List ℕ) (index conn : ℕ) → Some conn ≡ slice_get conns index → index + 1 ≤ length conns
+within_more conns index conn is = let within : index < length conns = slice_get_within conns index conn (sym is) in omega arith
+
+-- the count never fell in all
+pub PutCause-done : (before after : ℕ) (done : Unit {0}) → NeverFalls before after → PutCause before after (Ok done)
+unfolding PutCause
+PutCause-done before after done stays = stays

@@ -1,0 +1,13 @@
+use Rattle.std.proofs.Common.{ap, Err, subst, sym}
+use Rattle.acl_program.specs.Playing.{ReadsScript}
+use Rattle.acl_program.proofs.LoadLemmas.{ReadsScript-refused}
+use Rattle.acl_program.proofs.loading.read_script.Goals as goal
+
+-- the text is a script
+pub returns-in-Ok : goal.returns-in-Ok
+unfolding ReadsScript
+returns-in-Ok c = record { exact = (record { short = c.requires; script = c.in-Ok.ensures.ok }, c.in-Ok.ensures.fresh) }
+
+-- it isn't
+pub returns-in-Err : goal.returns-in-Err
+returns-in-Err c = record { exact = rw c.misread.ensures.exact (ReadsScript-refused _ _ c.requires c.in-Err.ensures.exact) }

@@ -1,0 +1,40 @@
+-- The lines of a replay: for each connection its number, what was sent to it in hexadecimal (RFC 4648 8), and whether
+-- it was hung up.
+use Rattle.std.specs.Prelude.{ℕ, Bool, true, false, List, [], ◌∷◌, ◌++◌, take, length, codes, decimal, flat_map, if◌then◌else◌}
+use Rattle.hex.specs.Hex.{encode_lower}
+use Rattle.script_text.specs.declared.event.ScriptEvent.{ScriptEvent}
+use Rattle.wire_io.specs.declared.journal.Event.{Event}
+use Rattle.wire_io.specs.Pieces.{pieces}
+use Rattle.wire_io.specs.Rising.{rising}
+use Rattle.session_model.specs.Run.{Sessions}
+use Rattle.session_model.specs.Replaying.{replayed, is_away}
+use Rattle.session_model.specs.Journaled.{steps_of_events}
+use Rattle.session_hub.specs.declared.requester.Requester.{Requester}
+use Rattle.session_hub.specs.Answering.{Tree, rules}
+use Rattle.session_hub.specs.Loops.{buffer_length}
+
+-- octets in hexadecimal with lower-case letters, or `-` where there are none
+abbrev pub shown : List ℕ → List ℕ
+shown [] = codes "-"
+shown (octet ∷ octets) = encode_lower (octet ∷ octets)
+
+-- ` closed` where the connection was hung up
+abbrev pub ending : Bool → List ℕ
+ending true = codes " closed"
+ending false = []
+
+-- the line of a connection, by its number, what was sent to it, and whether it was hung up
+unfoldable pub line_of : ℕ → List ℕ → Bool → List ℕ
+line_of conn sent hung_up = decimal conn ++ (codes " " ++ (shown sent ++ (ending hung_up ++ codes "\n")))
+
+-- the lines of all connections opened, in the rising order of their numbers
+unfoldable pub lines_of : Sessions Tree Requester → List ℕ
+lines_of u = flat_map (λ conn. line_of conn (u.of conn).reply (is_away (u.of conn).state)) (rising u.opened)
+
+-- the events that a loop of so many turns hears of a script, long ones in pieces of the loop's buffer
+abbrev pub heard_of : List ScriptEvent → ℕ → List Event
+heard_of events turns = take turns (pieces buffer_length events)
+
+-- the text of a replay: the lines after those events, where each connection that closes is hung up at once
+unfoldable pub replay_text : List ScriptEvent → ℕ → List ℕ
+replay_text events turns = lines_of (replayed rules tt (steps_of_events (heard_of events turns)))

@@ -1,0 +1,12 @@
+//! The program: what its words ask for, done over any shelf of files, any sink for what it prints and
+//! any link to its connections.
+#![tactic(auto)]
+
+mod loading;
+mod printing;
+mod program;
+mod replay;
+mod status;
+
+pub use program::run;
+pub use status::Status;

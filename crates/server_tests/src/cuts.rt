@@ -1,0 +1,119 @@
+// One stream of octets, cut in every way.
+
+use crate::runs::assert_replay;
+use acl_program::Status;
+use std::alloc::{AllocError, Global};
+use std::test::*;
+
+/// An anonymous bind and then an unbind, in hexadecimal.
+const STREAM: &str = "300c02010160070201030400800030050201024200";
+
+const ANSWER: &str = "1 300c02010161070a010004000400 closed\n";
+
+/// Adds the octets between two places of the stream as a line, if there are any.
+fn push_piece(
+    alloc: Global,
+    script: &mut String,
+    conn: u32,
+    from: usize,
+    to: usize,
+) -> Result<(), AllocError> {
+    match STREAM.get(from.saturating_mul(2)..to.saturating_mul(2)) {
+        Some(octets) if from < to => script.push_str(format!(in alloc;
+            "send {conn} {octets}\n"
+        )?.as_str()),
+        _ => Ok(()),
+    }
+}
+
+#[test]
+fn a_stream_cut_at_any_two_places_is_answered_the_same(rt: HostRuntime) -> Result<(), Fail> {
+    let alloc = rt.alloc();
+    for first in 0..22usize {
+        for second in first..22usize {
+            let mut script = String::from_str(alloc, "open 1\n")?;
+            push_piece(alloc, &mut script, 1, 0, first)?;
+            push_piece(alloc, &mut script, 1, first, second)?;
+            push_piece(alloc, &mut script, 1, second, 21)?;
+            assert_replay(
+                &rt,
+                alloc,
+                script.as_bytes(),
+                ANSWER,
+                Status::Done,
+                script.as_str(),
+            )?;
+        }
+    }
+    Ok(())
+}
+
+#[test]
+fn a_stream_of_single_octets_is_answered_the_same(rt: HostRuntime) -> Result<(), Fail> {
+    let alloc = rt.alloc();
+    let mut script = String::from_str(alloc, "open 1\n")?;
+    for place in 0..21usize {
+        push_piece(alloc, &mut script, 1, place, place + 1)?;
+    }
+    assert_replay(
+        &rt,
+        alloc,
+        script.as_bytes(),
+        ANSWER,
+        Status::Done,
+        "single octets",
+    )?;
+    Ok(())
+}
+
+#[test]
+fn three_streams_that_come_octet_by_octet_are_answered_alone(rt: HostRuntime) -> Result<(), Fail> {
+    let alloc = rt.alloc();
+    let mut script = String::from_str(alloc, "open 3\nopen 1\nopen 2\n")?;
+    for place in 0..21usize {
+        for conn in 1..4u32 {
+            push_piece(alloc, &mut script, conn, place, place + 1)?;
+        }
+    }
+    let answer =
+        "1 300c02010161070a010004000400 closed\n2 300c02010161070a010004000400 closed\n3 300c02010161070a010004000400 closed\n";
+    assert_replay(
+        &rt,
+        alloc,
+        script.as_bytes(),
+        answer,
+        Status::Done,
+        "three streams",
+    )?;
+    Ok(())
+}
+
+#[test]
+fn the_largest_message_is_answered_and_one_octet_more_is_not(rt: HostRuntime) -> Result<(), Fail> {
+    let alloc = rt.alloc();
+    // 5 octets of header, then 02 01 01, then the 5 octets before the content of an extended request
+    let mut script = String::from_str(alloc, "open 1\nsend 1 3083100000")?;
+    script.push_str("02010177830ffff8")?;
+    for _ in 0..1_048_568u32 {
+        script.push_str("00")?;
+    }
+    assert_replay(
+        &rt,
+        alloc,
+        script.as_bytes(),
+        "1 300c02010178070a010204000400\n",
+        Status::Done,
+        "the largest message",
+    )?;
+    let notice =
+        "1 3024020100781f0a0102040004008a16312e332e362e312e342e312e313436362e3230303336 closed\n";
+    assert_replay(
+        &rt,
+        alloc,
+        b"open 1\nsend 1 3083100001\nsend 1 00",
+        notice,
+        Status::Done,
+        "one octet more",
+    )?;
+    Ok(())
+}

@@ -1,0 +1,12 @@
+//! Tests of the whole program over files, sinks and links in memory: tables of scripts and words,
+//! with what each prints and how it ends.
+#![tactic(auto)]
+
+#[cfg(test)]
+mod causes;
+#[cfg(test)]
+mod cuts;
+#[cfg(test)]
+mod replays;
+#[cfg(test)]
+mod runs;

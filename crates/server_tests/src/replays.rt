@@ -1,0 +1,224 @@
+// Scripts and the lines that they give.
+
+use crate::runs::{assert_replay, run_line};
+use acl_program::Status;
+use std::test::*;
+
+/// A script, what it prints, and what it shows.
+struct Row {
+    script: &'static str,
+    put: &'static str,
+    what: &'static str,
+}
+
+static ROWS: [Row; 18] = [
+    Row {
+        script: "open 1\nsend 1 300c020101600702010304008000\n",
+        put: "1 300c02010161070a010004000400\n",
+        what: "an anonymous bind",
+    },
+    Row {
+        script: "open 1\nsend 1 30\nsend 1 0c\nsend 1 02\nsend 1 01\nsend 1 01\nsend 1 60\nsend 1 07\nsend 1 02\nsend 1 01\nsend 1 03\nsend 1 04\nsend 1 00\nsend 1 80\nsend 1 00\n",
+        put: "1 300c02010161070a010004000400\n",
+        what: "a bind octet by octet",
+    },
+    Row {
+        script: "open 1\nsend 1 300c020101600702010304008000300c020101600702010304008000",
+        put: "1 300c02010161070a010004000400300c02010161070a010004000400\n",
+        what: "two binds in one piece",
+    },
+    Row {
+        script: "open 1\nsend 1 30840000000c020101600702010304008000",
+        put: "1 300c02010161070a010004000400\n",
+        what: "a long form of the length",
+    },
+    Row {
+        script: "open 1\nsend 1 3080",
+        put: "1 3024020100781f0a0102040004008a16312e332e362e312e342e312e313436362e3230303336 closed\n",
+        what: "the indefinite length",
+    },
+    Row {
+        script: "open 1\nsend 1 31",
+        put: "1 3024020100781f0a0102040004008a16312e332e362e312e342e312e313436362e3230303336 closed\n",
+        what: "another tag",
+    },
+    Row {
+        script: "open 1\nsend 1 3083100000",
+        put: "1 -\n",
+        what: "the header of the largest message",
+    },
+    Row {
+        script: "open 1\nsend 1 3083100001",
+        put: "1 3024020100781f0a0102040004008a16312e332e362e312e342e312e313436362e3230303336 closed\n",
+        what: "the header of a message that is too large",
+    },
+    Row {
+        script: "open 1\nsend 1 308311",
+        put: "1 -\n",
+        what: "a length that isn't all there",
+    },
+    Row {
+        script: "open 1\nsend 1 300c020101",
+        put: "1 -\n",
+        what: "a message that isn't all there",
+    },
+    Row {
+        script: "open 1\nsend 1 301602010160110201030400a30a040845585445524e414c",
+        put: "1 300c02010161070a010704000400\n",
+        what: "a bind by SASL",
+    },
+    Row {
+        script: "open 1\nsend 1 300c020101600702010304008000\nsend 1 30050201024200\n",
+        put: "1 300c02010161070a010004000400 closed\n",
+        what: "a bind and an unbind",
+    },
+    Row {
+        script: "open 1\nsend 1 3033020102632e040a64633d6578616d706c650a01000a0100020100020100010100870b6f626a656374436c617373300404026463",
+        put: "1 300c02010265070a013504000400\n",
+        what: "a search, which isn't built",
+    },
+    Row {
+        script: "open 1\nsend 1 300c020101600702010204008000",
+        put: "1 300c02010161070a010204000400\n",
+        what: "a bind of version 2",
+    },
+    Row {
+        script: "open 1\nsend 1 300d02010160080201030401618000",
+        put: "1 300c02010161070a013504000400\n",
+        what: "a bind with a name",
+    },
+    Row {
+        script: "open 1\nsend 1 3006020102500101",
+        put: "1 -\n",
+        what: "an abandon",
+    },
+    Row {
+        script: "open 1\nsend 1 30050201024200300c020101600702010304008000",
+        put: "1 - closed\n",
+        what: "octets behind an unbind",
+    },
+    Row {
+        script: "# nothing\n\n",
+        put: "",
+        what: "no connection",
+    },
+];
+
+#[test]
+fn each_script_gives_its_lines(rt: HostRuntime) -> Result<(), Fail> {
+    for row in &ROWS {
+        assert_replay(
+            &rt,
+            rt.alloc(),
+            row.script.as_bytes(),
+            row.put,
+            Status::Done,
+            row.what,
+        )?;
+    }
+    Ok(())
+}
+
+#[test]
+fn an_extended_request_gets_a_protocol_error_and_controls_get_unwilling(
+    rt: HostRuntime,
+) -> Result<(), Fail> {
+    let rows = [
+        (
+            "open 1\nsend 1 300a02010177058003312e32",
+            "1 300c02010178070a010204000400\n",
+            "an extended request",
+        ),
+        (
+            "open 1\nsend 1 300e020101600702010304008000a000",
+            "1 300c02010161070a013504000400\n",
+            "a bind with controls",
+        ),
+        (
+            "open 1\nsend 1 30070201054a026161",
+            "1 300c0201056b070a013504000400\n",
+            "a delete",
+        ),
+        ("open 1\nend 1", "1 - closed\n", "an end"),
+    ];
+    for (script, put, what) in rows {
+        assert_replay(&rt, rt.alloc(), script.as_bytes(), put, Status::Done, what)?;
+    }
+    Ok(())
+}
+
+#[test]
+fn a_connection_past_the_most_is_turned_away_until_another_ends(
+    rt: HostRuntime,
+) -> Result<(), Fail> {
+    let alloc = rt.alloc();
+    let (mut script, mut put) = (String::new(alloc), String::new(alloc));
+    for number in 1..258u32 {
+        script.push_str(format!(in alloc; "open {number}\n")?.as_str())?;
+    }
+    script.push_str("end 1\nopen 258\nsend 258 300c020101600702010304008000\n")?;
+    put.push_str("1 - closed\n")?;
+    for number in 2..257u32 {
+        put.push_str(format!(in alloc; "{number} -\n")?.as_str())?;
+    }
+    put.push_str("257 - closed\n258 300c02010161070a010004000400\n")?;
+    assert_replay(
+        &rt,
+        alloc,
+        script.as_bytes(),
+        put.as_str(),
+        Status::Done,
+        "258 connections",
+    )?;
+    Ok(())
+}
+
+#[test]
+fn as_many_events_are_heard_as_there_are_turns(rt: HostRuntime) -> Result<(), Fail> {
+    let script =
+        "open 1\nsend 1 300c020101600702010304008000\nsend 1 300c020102600702010304008000\nsend 1 300c020103600702010304008000\n";
+    let (one, two, three) = (
+        "300c02010161070a010004000400",
+        "300c02010261070a010004000400",
+        "300c02010361070a010004000400",
+    );
+    let alloc = rt.alloc();
+    let rows = [
+        (
+            "replay d s --turns 0",
+            String::new(alloc),
+            Status::TurnsSpent,
+        ),
+        (
+            "replay d s --turns 1",
+            format!(in alloc; "1 -\n")?,
+            Status::TurnsSpent,
+        ),
+        (
+            "replay d s --turns=3",
+            format!(in alloc; "1 {one}{two}\n")?,
+            Status::TurnsSpent,
+        ),
+        (
+            "replay d s --turns 4",
+            format!(in alloc; "1 {one}{two}{three}\n")?,
+            Status::TurnsSpent,
+        ),
+        (
+            "replay d s --turns 5",
+            format!(in alloc; "1 {one}{two}{three}\n")?,
+            Status::Done,
+        ),
+        (
+            "replay --turns 007 d s",
+            format!(in alloc; "1 {one}{two}{three}\n")?,
+            Status::Done,
+        ),
+    ];
+    for (line, put, status) in rows {
+        let ran = run_line(alloc, line, script.as_bytes())?;
+        assert_eq!(rt; ran.put.as_str(), put.as_str(), "{line}");
+        assert_eq!(rt; ran.status, status, "{line}");
+    }
+    Ok(())
+}

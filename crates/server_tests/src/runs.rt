@@ -1,0 +1,78 @@
+// The program run in memory.
+
+use acl_program::{Status, run};
+use std::alloc::{AllocError, Global};
+use std::process::Abort;
+use wire_io::{MemShelf, MemSink, ScriptLink};
+
+/// How a run ended, and what it put.
+#[derive(Debug, Drop)]
+pub struct Ran {
+    pub status: Status,
+    pub put: String,
+}
+
+/// The words of a line, with one space between two words; none of an empty line.
+fn words_of(alloc: Global, line: &str) -> Result<Vec<String>, AllocError> {
+    let mut words = Vec::new(alloc);
+    if line.is_empty() {
+        return Ok(words);
+    }
+    for word in line.split(' ') {
+        words.push(String::from_str(alloc, word)?)?;
+    }
+    Ok(words)
+}
+
+/// A shelf with the script as the file `s`, and nothing else.
+fn shelf_of(alloc: Global, script: &[u8], failing: &[u64]) -> Result<MemShelf, AllocError> {
+    let mut files = Vec::new(alloc);
+    files.push((String::from_str(alloc, "s")?, script.to_vec(alloc)?))?;
+    Ok(MemShelf::new(files, failing.to_vec(alloc)?))
+}
+
+/// A link that gives nothing.
+fn no_link(alloc: Global) -> Result<ScriptLink, AllocError> {
+    match ScriptLink::read(alloc, b"") {
+        Ok(link) => Ok(link),
+        Err(_) => Err(AllocError),
+    }
+}
+
+/// Runs the program on the words of the line, over a script, where these calls of the shelf and of
+/// the sink fail.
+pub fn run_failing(
+    alloc: Global,
+    line: &str,
+    script: &[u8],
+    shelf_fails: &[u64],
+    sink_fails: &[u64],
+) -> Result<Ran, AllocError> {
+    let words = words_of(alloc, line)?;
+    let mut shelf = shelf_of(alloc, script, shelf_fails)?;
+    let mut out = MemSink::new(alloc, sink_fails.to_vec(alloc)?);
+    let mut link = no_link(alloc)?;
+    let status = run(alloc, words.as_slice(), &mut shelf, &mut out, &mut link);
+    let put = String::from_utf8_lossy(alloc, out.bytes())?;
+    Ok(Ran { status, put })
+}
+
+/// The same with no failing call.
+pub fn run_line(alloc: Global, line: &str, script: &[u8]) -> Result<Ran, AllocError> {
+    run_failing(alloc, line, script, &[], &[])
+}
+
+/// The replay of a script prints this and ends so.
+pub fn assert_replay(
+    rt: &impl Abort,
+    alloc: Global,
+    script: &[u8],
+    put: &str,
+    status: Status,
+    what: &str,
+) -> Result<(), AllocError> {
+    let ran = run_line(alloc, "replay d s", script)?;
+    assert_eq!(rt; ran.put.as_str(), put, "{what}");
+    assert_eq!(rt; ran.status, status, "{what}");
+    Ok(())
+}
