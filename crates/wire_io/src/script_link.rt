@@ -1,6 +1,6 @@
 //! A link that gives the events of a script.
 
-ghost use Rattle.std.specs.Prelude.{◌≡◌, ◌<◌, ℕ, [], Ok, Err, Some, IfOk, MatchResult, length};
+ghost use Rattle.std.specs.Prelude.{◌≡◌, ◌<◌, ◌+◌, ◌^◌, ℕ, [], Ok, Err, Some, IfSome, IfOk, MatchResult, length, slice_get};
 ghost use Rattle.plain_values.specs.Counts.{NeverFalls, next_count};
 ghost use Rattle.script_text.specs.Script.{OpensOnce, AreFilled, IsScript, IsFirstBadLine};
 ghost use Rattle.script_text.specs.ScriptReading.{IsCause, script_of};
@@ -17,7 +17,7 @@ use crate::told::Told;
 use crate::{Heard, Item, Link, NextFault, NoMemory, ScriptEvent, ScriptFault, Took};
 use plain_values::raised;
 use script_text::read_script;
-use std::alloc::{AllocError, Global};
+use std::alloc::Global;
 use std::marker::Model;
 
 /// A link that gives planned events in their order, each as soon as it is asked for, takes every
@@ -102,12 +102,13 @@ impl ScriptLink {
         self.told.hung_up(conn)
     }
 
-    /// The numbers that events have opened so far, in rising order. `AllocError` comes for want of
-    /// memory alone.
-    pub fn opened(&self) -> Result<Vec<u32>, AllocError>
-        ensures ok { IfOk result (λ numbers. numbers.items ≡ rising (opened_by self.now.journal)) }
+    /// The number at the index, from 0 and in rising order, of those that events have opened so far;
+    /// none past the last.
+    pub fn opened_at(&self, index: usize) -> Option<u32>
+        ensures exact { result ≡ slice_get (rising (opened_by self.now.journal)) index }
+        ensures fits { IfSome result (λ _. index + 1 < 2 ^ 64) }
     {
-        self.told.numbers()
+        self.told.opened_at(index)
     }
 
     /// Counts a call of `open` or `next`, and says whether it fails.

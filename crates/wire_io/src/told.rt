@@ -1,6 +1,6 @@
 //! A journal as it is told, with what it says of each connection.
 
-ghost use Rattle.std.specs.Prelude.{◌≡◌, ◌<◌, [], ◌∷◌, ◌++◌, length, IfOk, OnOk, OnErr, vec_len, vec_capacity};
+ghost use Rattle.std.specs.Prelude.{◌≡◌, ◌<◌, ◌+◌, ◌^◌, [], ◌∷◌, ◌++◌, length, slice_get, IfSome, IfOk, OnOk, OnErr, vec_len, vec_capacity};
 ghost use Rattle.wire_io.specs.Answers.{HeardFits};
 ghost use Rattle.wire_io.specs.Journal.{is_held, is_hung_up, opened_by, taken_of};
 ghost use Rattle.wire_io.specs.Peers.{IsQuiet};
@@ -8,7 +8,7 @@ ghost use Rattle.wire_io.specs.Rising.{rising};
 ghost use Rattle.wire_io.specs.Telling.{event_of};
 
 use crate::peers::{Peer, add_peer, set_held, set_hung_up, take};
-use crate::rising::in_order;
+use crate::rising::place_of;
 use crate::{Event, Heard, Item};
 use plain_values::{Octets, Text};
 use std::alloc::{AllocError, Global};
@@ -79,11 +79,12 @@ impl Told {
         }
     }
 
-    /// The numbers that events opened, in rising order.
-    pub(crate) fn numbers(&self) -> Result<Vec<u32>, AllocError>
-        ensures ok { IfOk result (λ numbers. numbers.items ≡ rising (opened_by self.now)) }
+    /// The number at the index, in rising order, of those that events opened.
+    pub(crate) fn opened_at(&self, index: usize) -> Option<u32>
+        ensures exact { result ≡ slice_get (rising (opened_by self.now)) index }
+        ensures fits { IfSome result (λ _. index + 1 < 2 ^ 64) }
     {
-        in_order(self.alloc, self.opened.as_slice())
+        self.opened.get(index).copied()
     }
 
     /// The octets were taken for the connection.
@@ -141,7 +142,8 @@ impl Told {
         ensures err { OnErr result (self.new ≡ self.old) }
     {
         self.items.reserve(1)?;
-        self.opened.push(conn)?;
+        let place = place_of(self.opened.as_slice(), conn);
+        self.opened.insert(place, conn)?;
         push(&mut self.items, Item::Heard(Event::Opened(conn)));
         Ok(())
     }

@@ -48,15 +48,13 @@ fn octets_that_are_longer_than_the_buffer_come_in_pieces(rt: HostRuntime) -> Res
 fn what_was_done_is_told_of_each_connection(rt: HostRuntime) -> Result<(), Fail> {
     let mut link = ScriptLink::read(rt.alloc(), SCRIPT.as_bytes())?;
     assert_eq!(rt; link.open("127.0.0.1:389", 0), Ok(()));
-    assert_eq!(rt; link.opened()?.len(), 0, "nothing was opened yet");
+    assert_eq!(rt; link.opened_at(0), None, "nothing was opened yet");
     let mut buf = [0u8; 8];
     let _ = link.next(&mut buf);
     let _ = link.next(&mut buf);
-    assert_eq!(rt;
-        link.opened()?.as_slice(),
-        [1, 2].as_slice(),
-        "the numbers rise"
-    );
+    assert_eq!(rt; link.opened_at(0), Some(1), "the numbers rise");
+    assert_eq!(rt; link.opened_at(1), Some(2));
+    assert_eq!(rt; link.opened_at(2), None);
     assert_eq!(rt; link.write(2, b"ab"), Took::Took(2));
     assert_eq!(rt; link.write(1, b"c"), Took::Took(1));
     assert_eq!(rt; link.write(2, b"d"), Took::Took(1));
