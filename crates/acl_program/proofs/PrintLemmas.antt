@@ -1,10 +1,9 @@
 -- Lemmas on texts put one after another, and on the lines of a journal.
-use Rattle.std.proofs.Common.{◌≡◌, ℕ, zero, suc, ◌+◌, ◌<◌, ◌≤◌, List, [], ◌∷◌, ◌++◌, length, take, drop, get_or, slice_get, Option, Some, None, Result, Ok, Err, refl, sym, ap, ◌∙◌, subst, arith, append-nil, append_assoc, add-one, inl, inr}
+use Rattle.std.proofs.Common.{◌≡◌, ℕ, zero, suc, ◌+◌, ◌<◌, ◌≤◌, List, [], ◌∷◌, ◌++◌, length, take, drop, get_or, Option, Some, None, Result, Ok, Err, refl, sym, ap, ◌∙◌, subst, arith, append-nil, append_assoc, add-one, inl, inr}
 use Rattle.std.proofs.Math.Seq.{take-suc, take-append-add, take-append_seam}
 use Rattle.std.proofs.lemmas.Grind.{flat_map-append}
 use Rattle.std.proofs.lemmas.List.{take-append-le, take-append-drop}
 use Rattle.std.proofs.lemmas.Bool.{cases_lt}
-use Rattle.std.proofs.lemmas.Option.{slice_get_within, get_or_from_slice_get, slice_get_cases}
 use Rattle.plain_values.specs.Counts.{NeverFalls, Rose}
 use Rattle.plain_values.proofs.Theorems.{NeverFalls-refl}
 use Rattle.wire_io.specs.declared.answers.PutFault.{PutFault}
@@ -62,11 +61,9 @@ abbrev pub line_in : List Item → ℕ → List ℕ
 line_in journal conn = line_of conn (taken_of conn journal) (is_hung_up conn journal)
 
 -- one connection more
-take_one : (conns : List ℕ) (index conn : ℕ) → slice_get conns index ≡ Some conn → take (index + 1) conns ≡ take index conns ++ conn ∷ []
-take_one conns index conn is =
-    let within : index < length conns = slice_get_within conns index conn is in
-    let found : get_or conns index 0 ≡ conn = get_or_from_slice_get conns index conn 0 is in
-    ap (λ count. take count conns) (add-one index) ∙ take-suc conns index 0 within ∙ ap (λ last. take index conns ++ last ∷ []) found
+take_one : (conns : List ℕ) (index conn : ℕ) → index < length conns → conn ≡ get_or conns index 0 → take (index + 1) conns ≡ take index conns ++ conn ∷ []
+take_one conns index conn within is =
+    ap (λ count. take count conns) (add-one index) ∙ take-suc conns index 0 within ∙ ap (λ last. take index conns ++ last ∷ []) (sym is)
 
 journal_lines-one : (journal : List Item) (front : List ℕ) (conn : ℕ) → journal_lines journal (front ++ conn ∷ []) ≡ journal_lines journal front ++ line_in journal conn
 journal_lines-one journal front conn =
@@ -75,53 +72,46 @@ journal_lines-one journal front conn =
 -- a line more was put
 pub lines_more :
     (old now new : Option (List ℕ)) (journal : List Item) (conns : List ℕ) (index conn : ℕ) (done : Unit {0})
-    → Some conn ≡ slice_get conns index → now ≡ appended old (journal_lines journal (take index conns)) → PutsAll now (line_in journal conn) (Ok done) new
+    → index < length conns → conn ≡ get_or conns index 0 → now ≡ appended old (journal_lines journal (take index conns)) → PutsAll now (line_in journal conn) (Ok done) new
     → new ≡ appended old (journal_lines journal (take (index + 1) conns))
 unfolding PutsAll
-lines_more old now new journal conns index conn done is before puts =
+lines_more old now new journal conns index conn done within is before puts =
     puts ∙ ap (λ put. appended put (line_in journal conn)) before ∙ appended-appended old (journal_lines journal (take index conns)) (line_in journal conn)
-    ∙ ap (λ put. appended old put) (sym (ap (journal_lines journal) (take_one conns index conn (sym is)) ∙ journal_lines-one journal (take index conns) conn))
+    ∙ ap (λ put. appended old put) (sym (ap (journal_lines journal) (take_one conns index conn within is) ∙ journal_lines-one journal (take index conns) conn))
 
 -- the lines of all connections are those before one, its own, and those after it
-lines_split : (journal : List Item) (conns : List ℕ) (index conn : ℕ) → slice_get conns index ≡ Some conn
+lines_split : (journal : List Item) (conns : List ℕ) (index conn : ℕ) → index < length conns → conn ≡ get_or conns index 0
     → journal_lines journal conns ≡ journal_lines journal (take index conns) ++ (line_in journal conn ++ journal_lines journal (drop (index + 1) conns))
-lines_split journal conns index conn is =
+lines_split journal conns index conn within is =
     ap (journal_lines journal) (sym (take-append-drop (index + 1) conns))
     ∙ flat_map-append (line_in journal) (take (index + 1) conns) (drop (index + 1) conns)
-    ∙ ap (λ front. front ++ journal_lines journal (drop (index + 1) conns)) (ap (journal_lines journal) (take_one conns index conn is) ∙ journal_lines-one journal (take index conns) conn)
+    ∙ ap (λ front. front ++ journal_lines journal (drop (index + 1) conns)) (ap (journal_lines journal) (take_one conns index conn within is) ∙ journal_lines-one journal (take index conns) conn)
     ∙ append_assoc (journal_lines journal (take index conns)) (line_in journal conn) (journal_lines journal (drop (index + 1) conns))
 
 -- a line was refused
 pub lines_refused :
-    (old now new : Option (List ℕ)) (journal : List Item) (index conn : ℕ) (fault : PutFault)
-    → Some conn ≡ slice_get (rising (opened_by journal)) index → now ≡ appended old (journal_lines journal (take index (rising (opened_by journal))))
-    → PutsAll {T = Unit {0}} now (line_in journal conn) (Err fault) new → PutsAll {T = Unit {0}} old (journal_text journal) (Err fault) new
-unfolding journal_text
-lines_refused old now new journal index conn fault is before puts =
-    let conns = rising (opened_by journal) in
+    (old now new : Option (List ℕ)) (journal : List Item) (conns : List ℕ) (index conn : ℕ) (fault : PutFault)
+    → index < length conns → conn ≡ get_or conns index 0 → now ≡ appended old (journal_lines journal (take index conns))
+    → PutsAll {T = Unit {0}} now (line_in journal conn) (Err fault) new → PutsAll {T = Unit {0}} old (journal_lines journal conns) (Err fault) new
+lines_refused old now new journal conns index conn fault within is before puts =
     PutsAll-front old now new (journal_lines journal (take index conns)) (line_in journal conn) (journal_lines journal (drop (index + 1) conns)) (journal_lines journal conns) fault
-    (lines_split journal conns index conn (sym is)) before puts
-
--- the list ends where nothing is at the index
-past_end : (conns : List ℕ) (index : ℕ) → slice_get conns index ≡ None → length conns ≤ index
-past_end conns index none =
-    elim (slice_get_cases conns index).1 [
-      | inl inside ↦ absurd (cc (inside.2, none))
-      | inr past ↦ past.0
-    ]
+    (lines_split journal conns index conn within is) before puts
 
 -- all lines were put
 pub lines_done :
-    (old now : Option (List ℕ)) (journal : List Item) (index : ℕ) (done : Unit {0})
-    → None ≡ slice_get (rising (opened_by journal)) index → now ≡ appended old (journal_lines journal (take index (rising (opened_by journal))))
-    → PutsAll old (journal_text journal) (Ok done) now
-unfolding PutsAll journal_text
-lines_done old now journal index done none before =
-    before ∙ ap (λ conns. appended old (journal_lines journal conns)) (take_all index (rising (opened_by journal)) (past_end (rising (opened_by journal)) index (sym none)))
+    (old now : Option (List ℕ)) (journal : List Item) (conns : List ℕ) (index : ℕ) (done : Unit {0})
+    → length conns ≤ index → now ≡ appended old (journal_lines journal (take index conns)) → PutsAll old (journal_lines journal conns) (Ok done) now
+unfolding PutsAll
+lines_done old now journal conns index done past before =
+    before ∙ ap (λ printed. appended old (journal_lines journal printed)) (take_all index conns past)
 
--- one index more is at most the end, where a connection was at it
-pub within_more : (conns : List ℕ) (index conn : ℕ) → Some conn ≡ slice_get conns index → index + 1 ≤ length conns
-within_more conns index conn is = let within : index < length conns = slice_get_within conns index conn (sym is) in omega arith
+-- the connections were all that the journal opened
+pub PutsAll-opened :
+    (old new : Option (List ℕ)) (journal : List Item) (conns : List ℕ) (result : Result (Unit {0}) PutFault)
+    → conns ≡ rising (opened_by journal) → PutsAll old (journal_lines journal conns) result new → PutsAll old (journal_text journal) result new
+unfolding journal_text
+PutsAll-opened old new journal conns result is puts =
+    let P : List ℕ → Type 0 = λ made. PutsAll old (journal_lines journal made) result new in subst P is puts
 
 -- the count never fell in all
 pub PutCause-done : (before after : ℕ) (done : Unit {0}) → NeverFalls before after → PutCause before after (Ok done)

@@ -3,7 +3,7 @@
 ghost use Rattle.std.specs.Prelude.{◌≡◌, IfOk, string_bytes, length, slice_get};
 ghost use Rattle.acl_program.specs.Lines.{shown, ending, line_of};
 ghost use Rattle.acl_program.specs.Outcomes.{NoCommand, NoFile, BadLine, status_of, text_of};
-ghost use Rattle.acl_program.specs.Playing.{Ends, journal_text, outcome_of};
+ghost use Rattle.acl_program.specs.Playing.{Ends, journal_lines, journal_text, outcome_of};
 ghost use Rattle.wire_io.specs.Putting.{PutsAll, PutCause};
 ghost use Rattle.wire_io.specs.Journal.{taken_of, is_hung_up};
 
@@ -71,9 +71,25 @@ pub(crate) fn print_lines<K: Sink>(
     ensures tells { PutsAll (K.put out.old) (journal_text link.now.journal) result (K.put out.new) }
     ensures cause { PutCause (K.faults out.old) (K.faults out.new) result }
 {
+    let Ok(conns) = link.opened() else {
+        return Err(PutFault::NoMemory);
+    };
+    print_each(alloc, link, conns.as_slice(), out)
+}
+
+/// Prints the lines of these connections, in their order.
+fn print_each<K: Sink>(
+    alloc: Global,
+    link: &ScriptLink,
+    conns: &[u32],
+    out: &mut K,
+) -> Result<(), PutFault>
+    ensures tells { PutsAll (K.put out.old) (journal_lines link.now.journal conns.now) result (K.put out.new) }
+    ensures cause { PutCause (K.faults out.old) (K.faults out.new) result }
+{
     let mut index = 0;
-    while let Some(conn) = link.opened_at(index) {
-        match print_line(alloc, link, conn, out) {
+    while index < conns.len() {
+        match print_line(alloc, link, conns[index], out) {
             Ok(()) => index += 1,
             Err(fault) => return Err(fault),
         }

@@ -1,5 +1,5 @@
 use script_text::{
-    ScriptEvent, ScriptFault, lines_are_cut, lines_are_texts, read_script, scripts_are_read,
+    Head, ScriptFault, lines_are_cut, lines_are_texts, read_script, scripts_are_read,
 };
 use std::alloc::{AllocError, Global};
 use std::test::*;
@@ -139,13 +139,13 @@ static OTHER_TEXTS: [(&str, &str, &str); 32] = [
 ];
 
 // The line that is the text of an event, with its octets in lower case.
-fn put_event(out: &mut String, event: &ScriptEvent) -> Result<(), AllocError> {
-    match event {
-        ScriptEvent::Opened(number) => write!(out, "open {number}\n"),
-        ScriptEvent::Ended(number) => write!(out, "end {number}\n"),
-        ScriptEvent::Bytes(number, octets) => {
+fn put_event(out: &mut String, head: Head, octets: &[u8]) -> Result<(), AllocError> {
+    match head {
+        Head::Opened(number) => write!(out, "open {number}\n"),
+        Head::Ended(number) => write!(out, "end {number}\n"),
+        Head::Bytes(number) => {
             write!(out, "send {number} ")?;
-            for octet in octets.as_slice() {
+            for octet in octets {
                 write!(out, "{octet:02x}")?;
             }
             out.push('\n')
@@ -157,9 +157,12 @@ fn put_event(out: &mut String, event: &ScriptEvent) -> Result<(), AllocError> {
 fn answer(alloc: Global, text: &[u8]) -> Result<String, AllocError> {
     let mut out = String::new(alloc);
     match read_script(alloc, text) {
-        Ok(events) => {
-            for event in &events {
-                put_event(&mut out, event)?;
+        Ok(mut events) => {
+            for _ in 0..events.len() {
+                if let Some(head) = events.first() {
+                    put_event(&mut out, head, events.octets())?;
+                }
+                events.pass();
             }
         }
         Err(fault) => write!(out, "{fault}")?,

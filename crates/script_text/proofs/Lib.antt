@@ -6,6 +6,7 @@ mod TextLemmas
 mod LinesLemmas
 mod ConnectionsLemmas
 mod ScriptLemmas
+mod RecordingLemmas
 mod OutcomeLemmas
 mod LawLemmas
 mod OrderlyLemmas

@@ -4,6 +4,7 @@ ghost use Rattle.std.specs.Prelude.{◌≡◌, ◌∷◌, ◌++◌, [], IfOk, Is
 ghost use Rattle.script_text.specs.Connections.{Follows};
 
 use crate::event::ScriptEvent;
+use crate::recording::Recording;
 use std::alloc::{AllocError, Global};
 use std::collections::BTreeMap;
 use std::marker::Model;
@@ -11,7 +12,7 @@ use std::marker::Model;
 /// Events in their order. Contracts see the list of them.
 #[derive(Drop)]
 pub(crate) struct Reading {
-    events: Vec<ScriptEvent>,
+    events: Recording,
     // true for a connection that is open, false for one that is ended
     connections: BTreeMap<u32, bool>,
 }
@@ -22,11 +23,11 @@ impl Model for Reading {
 
     ghost Value = { List ScriptEvent };
 
-    ghost view = { λ reading. reading.events.items };
+    ghost view = { λ reading. reading.events };
 
     ghost use Rattle.script_text.specs.Connections.{Tracks};
 
-    ghost invariant = { λ reading. Tracks reading.connections reading.events.items };
+    ghost invariant = { λ reading. Tracks reading.connections reading.events };
 }
 
 // The states of the connections after an event that may follow.
@@ -56,7 +57,7 @@ impl Reading {
         ensures { result ≡ [] }
     {
         Reading {
-            events: Vec::new(alloc),
+            events: Recording::new(alloc),
             connections: BTreeMap::new(alloc),
         }
     }
@@ -88,7 +89,7 @@ impl Reading {
             connections,
         } = self;
         let connections = after_event(connections, &event)?;
-        events.push(event)?;
+        events.push(&event)?;
         Ok(Reading {
             events,
             connections,
@@ -96,8 +97,8 @@ impl Reading {
     }
 
     /// The events, without memory.
-    pub(crate) fn into_events(self) -> Vec<ScriptEvent>
-        ensures { result.items ≡ self }
+    pub(crate) fn into_events(self) -> Recording
+        ensures { result ≡ self }
     {
         let Reading {
             events,

@@ -8,6 +8,7 @@ ghost use Rattle.script_text.specs.ScriptReading.{Gives, IsCause, admitted, afte
 use crate::event::{ScriptEvent, ScriptFault};
 use crate::lines::first_line;
 use crate::reading::Reading;
+use crate::recording::Recording;
 use crate::words::event;
 use std::alloc::Global;
 
@@ -72,17 +73,17 @@ fn read(alloc: Global, text: &[u8]) -> Result<Reading, ScriptFault>
 /// case, at least one. A number is opened once; octets and the end come on one that is open.
 ///
 /// `Bad` comes exactly where the text isn't a script, with its first bad line.
-pub fn read_script(alloc: Global, text: &[u8]) -> Result<Vec<ScriptEvent>, ScriptFault>
-    ensures ok { IfOk result (λ events. IsScript text.now events.items) }
+pub fn read_script(alloc: Global, text: &[u8]) -> Result<Recording, ScriptFault>
+    ensures ok { IfOk result (λ events. IsScript text.now events) }
     ensures bad { (line : ℕ) → result ≡ Err (ScriptFault.Bad line) → IsFirstBadLine text.now line }
 
     // The same, as it is computed.
     ensures exact { MatchResult result
-        (λ events. script_of text.now ≡ Ok events.items)
+        (λ events. script_of text.now ≡ Ok events)
         (λ fault. IsCause fault (script_of text.now)) }
 
     // No number is opened twice, and no octets are empty.
-    ensures fits { IfOk result (λ events. OpensOnce events.items × AreFilled events.items) }
+    ensures fits { IfOk result (λ events. OpensOnce events × AreFilled events) }
 {
     Ok(read(alloc, text)?.into_events())
 }

@@ -11,7 +11,7 @@ struct Row {
     what: &'static str,
 }
 
-static ROWS: [Row; 18] = [
+static ROWS: [Row; 19] = [
     Row {
         script: "open 1\nsend 1 300c020101600702010304008000\n",
         put: "1 300c02010161070a010004000400\n",
@@ -98,6 +98,11 @@ static ROWS: [Row; 18] = [
         what: "octets behind an unbind",
     },
     Row {
+        script: "open 1\nend 1",
+        put: "1 - closed\n",
+        what: "an end",
+    },
+    Row {
         script: "# nothing\n\n",
         put: "",
         what: "no connection",
@@ -120,9 +125,7 @@ fn each_script_gives_its_lines(rt: HostRuntime) -> Result<(), Fail> {
 }
 
 #[test]
-fn an_extended_request_gets_a_protocol_error_and_controls_get_unwilling(
-    rt: HostRuntime,
-) -> Result<(), Fail> {
+fn each_request_is_answered_in_the_response_of_its_kind(rt: HostRuntime) -> Result<(), Fail> {
     let rows = [
         (
             "open 1\nsend 1 300a02010177058003312e32",
@@ -139,7 +142,26 @@ fn an_extended_request_gets_a_protocol_error_and_controls_get_unwilling(
             "1 300c0201056b070a013504000400\n",
             "a delete",
         ),
-        ("open 1\nend 1", "1 - closed\n", "an end"),
+        (
+            "open 1\nsend 1 300b0201026606040261613000",
+            "1 300c02010267070a013504000400\n",
+            "a modify",
+        ),
+        (
+            "open 1\nsend 1 300b0201036806040261613000",
+            "1 300c02010369070a013504000400\n",
+            "an add",
+        ),
+        (
+            "open 1\nsend 1 30100201046c0b04026161040262620101ff",
+            "1 300c0201046d070a013504000400\n",
+            "a rename",
+        ),
+        (
+            "open 1\nsend 1 30120201056e0d0402616130070402636e040178",
+            "1 300c0201056f070a013504000400\n",
+            "a compare",
+        ),
     ];
     for (script, put, what) in rows {
         assert_replay(&rt, rt.alloc(), script.as_bytes(), put, Status::Done, what)?;

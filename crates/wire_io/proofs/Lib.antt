@@ -1,7 +1,9 @@
+mod CountingLemmas
 mod Examples
 mod JournalLemmas
 mod LawLemmas
 mod LinkLemmas
+mod LogLemmas
 mod NotingLemmas
 mod OrderLemmas
 mod PeersLemmas

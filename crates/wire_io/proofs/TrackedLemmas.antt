@@ -7,11 +7,12 @@ use Rattle.wire_io.specs.declared.journal.Item.{Item}
 use Rattle.wire_io.specs.declared.journal.Item.TheVariants.{Heard, OpenedAt, Taken, Later, Gone, Held, Released, HungUp}
 use Rattle.wire_io.specs.declared.peers.Peer.{Peer}
 use Rattle.wire_io.specs.Journal.{opened_by, taken_of, is_held, hold_after_all, is_hung_up}
+use Rattle.wire_io.specs.declared.log.Note.{Note}
+use Rattle.wire_io.specs.declared.log.Note.TheVariants as note
+use Rattle.wire_io.specs.Log.{IsQuietNote, item_of}
 use Rattle.wire_io.specs.Peers.{PeerState, state_in, state_after, state_of_kept, state_of, KeepsPeers, ChangesPeer, TracksPeers, IsTracked, IsQuiet}
-use Rattle.wire_io.specs.Rising.{rising, rising_after, put_rising}
 use Rattle.wire_io.proofs.JournalLemmas.{opened_by-opened, opened_by-other}
 use Rattle.wire_io.proofs.PeersLemmas.{IsOf, state_in-of, state_in-quiet, state_in-heard}
-use Rattle.wire_io.proofs.RisingLemmas.{rising-push}
 
 -- the same journal over a map that keeps the same
 pub IsTracked-kept :
@@ -24,8 +25,8 @@ IsTracked-kept {journal} {kept} {peers} {after} {opened} same tracked keeps =
 
 -- an item that opens no connection does not change the numbers opened
 numbers-other :
-    (journal : List Item) (item : Item) (opened : List ℕ) → opened_by (item ∷ []) ≡ [] → opened ≡ rising (opened_by journal) → opened ≡ rising (opened_by (journal ++ item ∷ []))
-numbers-other journal item opened none numbers = numbers ∙ ap rising (sym (opened_by-other journal item none))
+    (journal : List Item) (item : Item) (opened : List ℕ) → opened_by (item ∷ []) ≡ [] → opened ≡ opened_by journal → opened ≡ opened_by (journal ++ item ∷ [])
+numbers-other journal item opened none numbers = numbers ∙ sym (opened_by-other journal item none)
 
 opened_by-of : (conn : ℕ) (item : Item) → IsOf conn item → opened_by (item ∷ []) ≡ []
 unfolding IsOf opened_by
@@ -79,23 +80,39 @@ IsTracked-quiet {journal} {grown} {peers} {opened} item quiet grows tracked =
       numbers = numbers-other journal item opened (opened_by-quiet item quiet) tracked.numbers;
     })
 
+-- the quiet item of a note
+pub IsTracked-noted :
+    {journal grown : List Item} {peers : BTreeMap ℕ Peer} {opened : List ℕ} (noted : Note) (octets : List ℕ)
+    → IsQuietNote noted → grown ≡ journal ++ item_of noted octets → IsTracked journal peers opened → IsTracked grown peers opened
+IsTracked-noted (note.Opened conn) octets quiet grows tracked = absurd quiet
+IsTracked-noted (note.Bytes conn) octets quiet grows tracked = IsTracked-quiet (Heard (Bytes conn octets)) tt grows tracked
+IsTracked-noted (note.Ended conn) octets quiet grows tracked = IsTracked-quiet (Heard (Ended conn)) tt grows tracked
+IsTracked-noted (note.Ready conn) octets quiet grows tracked = IsTracked-quiet (Heard (Ready conn)) tt grows tracked
+IsTracked-noted (note.Taken conn) octets quiet grows tracked = absurd quiet
+IsTracked-noted (note.Later conn) octets quiet grows tracked = IsTracked-quiet (Later conn) tt grows tracked
+IsTracked-noted (note.Gone conn) octets quiet grows tracked = IsTracked-quiet (Gone conn) tt grows tracked
+IsTracked-noted (note.Held conn) octets quiet grows tracked = absurd quiet
+IsTracked-noted (note.Released conn) octets quiet grows tracked = absurd quiet
+IsTracked-noted (note.HungUp conn) octets quiet grows tracked = absurd quiet
+IsTracked-noted note.Apart octets quiet grows tracked = absurd quiet
+
 -- a connection that was opened
 pub IsTracked-opened :
-    {journal grown : List Item} {peers : BTreeMap ℕ Peer} {opened risen : List ℕ} (conn : ℕ)
-    → grown ≡ journal ++ Heard (Opened conn) ∷ [] → risen ≡ put_rising conn opened → IsTracked journal peers opened → IsTracked grown peers risen
+    {journal grown : List Item} {peers : BTreeMap ℕ Peer} {opened more : List ℕ} (conn : ℕ)
+    → grown ≡ journal ++ Heard (Opened conn) ∷ [] → more ≡ opened ++ conn ∷ [] → IsTracked journal peers opened → IsTracked grown peers more
 unfolding TracksPeers
-IsTracked-opened {journal} {grown} {peers} {opened} {risen} conn grows rises tracked =
-    let P : List Item → Type 0 = λ items. IsTracked items peers risen in
+IsTracked-opened {journal} {grown} {peers} {opened} {more} conn grows pushed tracked =
+    let P : List Item → Type 0 = λ items. IsTracked items peers more in
     subst P (sym grows) (record {
       states = λ other. tracked.states other ∙ sym (state_in-heard journal (Opened conn) other);
-      numbers = rises ∙ ap (put_rising conn) tracked.numbers ∙ sym (rising-push (opened_by journal) conn) ∙ ap rising (sym (opened_by-opened journal conn));
+      numbers = pushed ∙ ap (λ numbers. numbers ++ conn ∷ []) tracked.numbers ∙ sym (opened_by-opened journal conn);
     })
 
 -- nothing was done yet
 pub IsTracked-nothing :
     {journal : List Item} {peers : BTreeMap ℕ Peer} {opened : List ℕ}
     → journal ≡ [] → ((conn : ℕ) → state_of peers conn ≡ record { taken = []; held = false; hung_up = false }) → opened ≡ [] → IsTracked journal peers opened
-unfolding TracksPeers taken_of is_held hold_after_all is_hung_up opened_by rising rising_after
+unfolding TracksPeers taken_of is_held hold_after_all is_hung_up opened_by
 IsTracked-nothing {journal} {peers} {opened} nothing empty none =
     let P : List Item → Type 0 = λ items. IsTracked items peers opened in
     subst P (sym nothing) (record { states = λ conn. empty conn; numbers = none })

@@ -2,6 +2,7 @@ pub mod Answers
 pub mod Files
 pub mod Journal
 pub mod Laws
+pub mod Log
 pub mod MemoryForms
 pub mod Peers
 pub mod Pieces

@@ -7,7 +7,6 @@ use Rattle.wire_io.specs.declared.journal.Item.{Item}
 use Rattle.wire_io.specs.declared.journal.Item.TheVariants.{Heard, Taken, Held, Released, HungUp}
 use Rattle.wire_io.specs.declared.peers.Peer.{Peer}
 use Rattle.wire_io.specs.Journal.{taken_of, is_held, is_hung_up, opened_by}
-use Rattle.wire_io.specs.Rising.{rising}
 
 -- the octets taken for a connection, whether it is on hold, and whether it was hung up
 pub record PeerState : Type 0 where
@@ -48,10 +47,10 @@ ChangesPeer old conn item new = (other : ℕ) → state_of new other ≡ (if con
 unfoldable pub TracksPeers : BTreeMap ℕ Peer → List Item → Type 0
 TracksPeers peers journal = (conn : ℕ) → state_of peers conn ≡ state_in journal conn
 
--- a journal is kept whole: what it says of each connection, and the numbers opened in rising order
+-- a journal is kept whole: what it says of each connection, and the numbers opened
 pub record IsTracked (journal : List Item) (peers : BTreeMap ℕ Peer) (opened : List ℕ) : Type 0 where
   pub states : TracksPeers peers journal
-  pub numbers : opened ≡ rising (opened_by journal)
+  pub numbers : opened ≡ opened_by journal
 
 -- the item opens no connection, and says nothing of what was taken, held or hung up
 abbrev pub IsQuiet : Item → Type 0

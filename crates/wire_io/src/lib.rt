@@ -9,6 +9,7 @@ mod file_shelf;
 mod journal;
 mod laws;
 mod link;
+mod log;
 mod memory_shelf;
 mod memory_sink;
 mod peers;

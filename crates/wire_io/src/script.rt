@@ -1,6 +1,7 @@
 //! The events of a script that are still to come.
 
-ghost use Rattle.std.specs.Prelude.{◌≡◌, ◌<◌, ◌-◌, min, take, drop, length, Some};
+ghost use Rattle.std.specs.Prelude.{◌≡◌, ◌<◌, ◌++◌, min, take, drop, length, Some};
+ghost use Rattle.script_text.specs.Recording.{first_head, first_octets, head_of, octets_in, without_first};
 ghost use Rattle.script_text.specs.Script.{AreFilled};
 ghost use Rattle.wire_io.specs.Answers.{HeardFits};
 ghost use Rattle.wire_io.specs.Playing.{first_conn, front_turn, next_turn, holds_of, left_by};
@@ -9,47 +10,78 @@ ghost use Rattle.wire_io.specs.Telling.{event_of};
 use crate::copying::copy_front;
 use crate::told::Told;
 use crate::{Heard, ScriptEvent};
+use script_text::{Head, Recording};
+use std::alloc::Global;
 use std::marker::Model;
 
-/// Events still to come, of which the first may have been given in part. Contracts see the list.
+/// Events still to come, those of a list before those of a recording; the first may have been given
+/// in part. Contracts see the list of them all.
 #[derive(Debug, Drop)]
 pub(crate) struct Script {
-    events: Vec<ScriptEvent>,
+    listed: Vec<ScriptEvent>,
+    // how many of the list are passed
     place: usize,
-    // how many octets of the event at `place` were given
+    recorded: Recording,
+    // how many octets of the first event that is left were given
     given: usize,
 }
 
 impl Model for Script {
-    ghost use Rattle.std.specs.Prelude.{List, drop};
+    ghost use Rattle.std.specs.Prelude.{List, ◌++◌, drop};
     ghost use Rattle.script_text.specs.declared.event.ScriptEvent.{ScriptEvent};
     ghost use Rattle.wire_io.specs.Playing.{without_front};
 
     ghost Value = { List ScriptEvent };
 
-    ghost view = { λ script. without_front script.given (drop script.place script.events.items) };
+    ghost view = { λ script. without_front script.given (drop script.place script.listed.items ++ script.recorded) };
 }
 
 impl Script {
-    /// All the events.
-    pub(crate) fn new(events: Vec<ScriptEvent>) -> Script
+    /// The events of a list, without memory.
+    pub(crate) fn of_list(alloc: Global, events: Vec<ScriptEvent>) -> Script
         ensures exact { result ≡ events.items }
     {
         Script {
-            events,
+            listed: events,
             place: 0,
+            recorded: Recording::new(alloc),
             given: 0,
         }
+    }
+
+    /// The events of a recording, without memory.
+    pub(crate) fn of_recording(alloc: Global, recorded: Recording) -> Script
+        ensures exact { result ≡ recorded }
+    {
+        Script {
+            listed: Vec::new(alloc),
+            place: 0,
+            recorded,
+            given: 0,
+        }
+    }
+
+    /// What the first event is.
+    fn first(&self) -> Option<Head>
+        ensures exact { result ≡ first_head self.now }
+    {
+        first_of(self.listed.as_slice(), self.place, &self.recorded)
+    }
+
+    /// The octets of the first event that were not given yet.
+    fn octets(&self) -> &[u8]
+        ensures exact { result.now ≡ first_octets self.now }
+    {
+        let octets = octets_of_first(self.listed.as_slice(), self.place, &self.recorded);
+        rest(octets, self.given)
     }
 
     /// The connection of the first event.
     pub(crate) fn conn(&self) -> Option<u32>
         ensures exact { result ≡ first_conn self.now }
     {
-        match self.events.get(self.place) {
-            Some(ScriptEvent::Opened(conn)) => Some(*conn),
-            Some(ScriptEvent::Bytes(conn, _)) => Some(*conn),
-            Some(ScriptEvent::Ended(conn)) => Some(*conn),
+        match self.first() {
+            Some(Head::Opened(conn) | Head::Bytes(conn) | Head::Ended(conn)) => Some(conn),
             None => None,
         }
     }
@@ -63,12 +95,10 @@ impl Script {
         ensures exact { event_of buf.new result ≡ (front_turn (length buf.old) self.now).event }
         ensures left { left_by result (length buf.old) self.now ≡ (front_turn (length buf.old) self.now).left }
     {
-        match self.events.get(self.place) {
-            Some(ScriptEvent::Opened(conn)) => Heard::Opened(*conn),
-            Some(ScriptEvent::Bytes(conn, octets)) => {
-                Heard::Bytes(*conn, copy_rest(octets.as_slice(), self.given, buf))
-            }
-            Some(ScriptEvent::Ended(conn)) => Heard::Ended(*conn),
+        match self.first() {
+            Some(Head::Opened(conn)) => Heard::Opened(conn),
+            Some(Head::Bytes(conn)) => Heard::Bytes(conn, copy_octets(self.octets(), buf)),
+            Some(Head::Ended(conn)) => Heard::Ended(conn),
             None => Heard::Stop,
         }
     }
@@ -83,22 +113,69 @@ impl Script {
         }
     }
 
-    #[tactic(auto, unfolding(crate::specs::Playing::front_turn, crate::specs::Playing::first_turn, crate::specs::Playing::left_over))]
     /// Goes past what was given of the first event in a buffer of the length.
     fn advance(&mut self, len: usize)
         ensures exact { self.new ≡ (front_turn len self.old).left }
     {
-        match self.events.get(self.place) {
-            Some(ScriptEvent::Bytes(_, octets)) if len < octets.len().saturating_sub(self.given) =>
-                {
-                    self.given += len;
-                }
-            Some(_) => {
-                self.place += 1;
-                self.given = 0;
-            }
-            None => {}
+        let octets = octets_of_first(self.listed.as_slice(), self.place, &self.recorded);
+        if len < octets.len().saturating_sub(self.given) {
+            self.given += len;
+        } else {
+            self.pass_first();
         }
+    }
+
+    /// Goes past the first event, if there is one.
+    fn pass_first(&mut self)
+        ensures exact { self.new ≡ without_first self.old }
+    {
+        if self.place < self.listed.len() {
+            self.place += 1;
+        } else {
+            self.recorded.pass();
+        }
+        self.given = 0;
+    }
+}
+
+/// What the first event is of those of the list from the place on and then of the recording.
+fn first_of(listed: &[ScriptEvent], place: usize, recorded: &Recording) -> Option<Head>
+    ensures exact { result ≡ first_head (drop place listed.now ++ recorded.now) }
+{
+    match listed.get(place) {
+        Some(event) => Some(head_of(event)),
+        None => recorded.first(),
+    }
+}
+
+/// The octets of the first event of those of the list from the place on and then of the recording.
+fn octets_of_first<'a>(listed: &'a [ScriptEvent], place: usize, recorded: &'a Recording) -> &'a [u8]
+    ensures exact { result.now ≡ first_octets (drop place listed.now ++ recorded.now) }
+{
+    match listed.get(place) {
+        Some(event) => octets_in(event),
+        None => recorded.octets(),
+    }
+}
+
+/// What the event is.
+fn head_of(event: &ScriptEvent) -> Head
+    ensures exact { result ≡ head_of event.now }
+{
+    match event {
+        ScriptEvent::Opened(conn) => Head::Opened(*conn),
+        ScriptEvent::Bytes(conn, _) => Head::Bytes(*conn),
+        ScriptEvent::Ended(conn) => Head::Ended(*conn),
+    }
+}
+
+/// The octets of the event.
+fn octets_in(event: &ScriptEvent) -> &[u8]
+    ensures exact { result.now ≡ octets_in event.now }
+{
+    match event {
+        ScriptEvent::Bytes(_, octets) => octets.as_slice(),
+        ScriptEvent::Opened(_) | ScriptEvent::Ended(_) => &[],
     }
 }
 
@@ -121,13 +198,21 @@ pub(crate) fn turn(script: &Script, told: &Told, buf: &mut [u8]) -> Heard
     script.give(buf)
 }
 
-/// Copies the octets that were not given yet, as many as the buffer has room for.
-fn copy_rest(octets: &[u8], given: usize, buf: &mut [u8]) -> usize
-    ensures count { result ≡ min (length octets.now - given) (length buf.old) }
-    ensures exact { take result buf.new ≡ take (length buf.old) (drop given octets.now) }
+/// The octets past those given.
+fn rest(octets: &[u8], given: usize) -> &[u8]
+    ensures exact { result.now ≡ drop given octets.now }
 {
-    if given >= octets.len() {
-        return 0;
+    if given < octets.len() {
+        octets.split_at(given).1
+    } else {
+        &[]
     }
-    copy_front(octets.split_at(given).1, buf)
+}
+
+/// Copies the octets, as many as the buffer has room for, and says how many.
+fn copy_octets(octets: &[u8], buf: &mut [u8]) -> usize
+    ensures count { result ≡ min (length octets.now) (length buf.old) }
+    ensures exact { take result buf.new ≡ take (length buf.old) octets.now }
+{
+    copy_front(octets, buf)
 }

@@ -1,9 +1,10 @@
 //! A link that gives the events of a script.
 
-ghost use Rattle.std.specs.Prelude.{◌≡◌, ◌<◌, ◌+◌, ◌^◌, ℕ, [], Ok, Err, Some, IfSome, IfOk, MatchResult, length, slice_get};
+ghost use Rattle.std.specs.Prelude.{◌≡◌, ◌<◌, ℕ, [], Ok, Err, Some, IfOk, MatchResult, length, slice_get};
 ghost use Rattle.plain_values.specs.Counts.{NeverFalls, next_count};
 ghost use Rattle.script_text.specs.Script.{OpensOnce, AreFilled, IsScript, IsFirstBadLine};
 ghost use Rattle.script_text.specs.ScriptReading.{IsCause, script_of};
+ghost use Rattle.wire_io.specs.declared.journal.Item.{Item};
 ghost use Rattle.wire_io.specs.Answers.{HeardFits, TookFits, LinkCause, WriteCause};
 ghost use Rattle.wire_io.specs.Journal.{is_hung_up, opened_by, taken_of};
 ghost use Rattle.wire_io.specs.MemoryForms.{is_listed};
@@ -12,12 +13,13 @@ ghost use Rattle.wire_io.specs.Rising.{rising};
 ghost use Rattle.wire_io.specs.Scripted.{fresh_link, LinkOpens, LinkHears, LinkWrites, LinkNotes};
 ghost use Rattle.wire_io.specs.Telling.{OpenTells, NextTells, TookTells, NoteTells};
 
+use crate::log::Note;
 use crate::script::{Script, turn};
 use crate::told::Told;
-use crate::{Heard, Item, Link, NextFault, NoMemory, ScriptEvent, ScriptFault, Took};
+use crate::{Heard, Link, NextFault, NoMemory, ScriptEvent, ScriptFault, Took};
 use plain_values::raised;
 use script_text::read_script;
-use std::alloc::Global;
+use std::alloc::{AllocError, Global};
 use std::marker::Model;
 
 /// A link that gives planned events in their order, each as soon as it is asked for, takes every
@@ -62,8 +64,24 @@ impl ScriptLink {
         requires takes { (later.items ≡ []) × (gone.items ≡ []) }
         ensures exact { result ≡ fresh_link events.items failing.items later.items gone.items }
     {
+        let script = Script::of_list(alloc, events);
+        ScriptLink::of_script(alloc, script, failing, later, gone)
+    }
+
+    /// A link that gives these events and has done nothing yet.
+    fn of_script(
+        alloc: Global,
+        script: Script,
+        failing: Vec<u64>,
+        later: Vec<u64>,
+        gone: Vec<u64>,
+    ) -> ScriptLink
+        requires once { OpensOnce script }
+        requires filled { AreFilled script }
+        ensures exact { result ≡ fresh_link script failing.items later.items gone.items }
+    {
         ScriptLink {
-            script: Script::new(events),
+            script,
             told: Told::new(alloc),
             failing,
             later,
@@ -83,9 +101,9 @@ impl ScriptLink {
         // the same, as it is computed
         ensures exact { MatchResult result (λ link. script_of text.now ≡ Ok link.plan.to_come) (λ fault. IsCause fault (script_of text.now)) }
     {
-        let events = read_script(alloc, text)?;
+        let script = Script::of_recording(alloc, read_script(alloc, text)?);
         let (failing, later, gone) = (Vec::new(alloc), Vec::new(alloc), Vec::new(alloc));
-        Ok(ScriptLink::new(alloc, events, failing, later, gone))
+        Ok(ScriptLink::of_script(alloc, script, failing, later, gone))
     }
 
     /// The octets taken for the connection so far.
@@ -103,12 +121,19 @@ impl ScriptLink {
     }
 
     /// The number at the index, from 0 and in rising order, of those that events have opened so far;
-    /// none past the last.
+    /// None exactly past the last. Each call goes through all of them; `opened` gives them at once.
     pub fn opened_at(&self, index: usize) -> Option<u32>
         ensures exact { result ≡ slice_get (rising (opened_by self.now.journal)) index }
-        ensures fits { IfSome result (λ _. index + 1 < 2 ^ 64) }
     {
         self.told.opened_at(index)
+    }
+
+    /// The numbers that events have opened so far, in rising order. `AllocError` comes for want of
+    /// memory alone.
+    pub fn opened(&self) -> Result<Vec<u32>, AllocError>
+        ensures ok { IfOk result (λ numbers. numbers.items ≡ rising (opened_by self.now.journal)) }
+    {
+        self.told.numbers()
     }
 
     /// Counts a call of `open` or `next`, and says whether it fails.
@@ -206,13 +231,13 @@ impl Link for ScriptLink {
         let call = self.writes;
         self.writes = raised(call);
         if self.later.contains(&call) {
-            if self.told.note(Item::Later(conn)).is_err() {
+            if self.told.note(Note::Later(conn), &[]).is_err() {
                 return Took::NoMemory;
             }
             return Took::Later;
         }
         if self.gone.contains(&call) {
-            if self.told.note(Item::Gone(conn)).is_err() {
+            if self.told.note(Note::Gone(conn), &[]).is_err() {
                 return Took::NoMemory;
             }
             self.lost = raised(self.lost);

@@ -1,16 +1,18 @@
 //! A journal as it is told, with what it says of each connection.
 
-ghost use Rattle.std.specs.Prelude.{◌≡◌, ◌<◌, ◌+◌, ◌^◌, [], ◌∷◌, ◌++◌, length, slice_get, IfSome, IfOk, OnOk, OnErr, vec_len, vec_capacity};
+ghost use Rattle.std.specs.Prelude.{◌≡◌, ◌<◌, [], ◌∷◌, ◌++◌, length, slice_get, IfOk, OnOk, OnErr, vec_len, vec_capacity};
 ghost use Rattle.wire_io.specs.Answers.{HeardFits};
+ghost use Rattle.wire_io.specs.Log.{IsQuietNote, item_of};
 ghost use Rattle.wire_io.specs.Journal.{is_held, is_hung_up, opened_by, taken_of};
 ghost use Rattle.wire_io.specs.Peers.{IsQuiet};
 ghost use Rattle.wire_io.specs.Rising.{rising};
 ghost use Rattle.wire_io.specs.Telling.{event_of};
 
+use crate::log::{Log, Note};
 use crate::peers::{Peer, add_peer, set_held, set_hung_up, take};
-use crate::rising::place_of;
+use crate::rising::{in_order, number_at};
 use crate::{Event, Heard, Item};
-use plain_values::{Octets, Text};
+use plain_values::Text;
 use std::alloc::{AllocError, Global};
 use std::collections::BTreeMap;
 use std::marker::Model;
@@ -19,7 +21,7 @@ use std::marker::Model;
 #[derive(Debug, Drop)]
 pub(crate) struct Told {
     alloc: Global,
-    items: Vec<Item>,
+    log: Log,
     peers: BTreeMap<u32, Peer>,
     opened: Vec<u32>,
 }
@@ -31,9 +33,9 @@ impl Model for Told {
 
     ghost Value = { List Item };
 
-    ghost view = { λ told. told.items.items };
+    ghost view = { λ told. told.log.items };
 
-    ghost invariant = { λ told. IsTracked told.items.items told.peers told.opened.items };
+    ghost invariant = { λ told. IsTracked told.log.items told.peers told.opened.items };
 }
 
 impl Told {
@@ -43,7 +45,7 @@ impl Told {
     {
         Told {
             alloc,
-            items: Vec::new(alloc),
+            log: Log::new(alloc),
             peers: BTreeMap::new(alloc),
             opened: Vec::new(alloc),
         }
@@ -79,12 +81,18 @@ impl Told {
         }
     }
 
-    /// The number at the index, in rising order, of those that events opened.
+    /// The number at the index, from 0, of those that events opened, in rising order.
     pub(crate) fn opened_at(&self, index: usize) -> Option<u32>
         ensures exact { result ≡ slice_get (rising (opened_by self.now)) index }
-        ensures fits { IfSome result (λ _. index + 1 < 2 ^ 64) }
     {
-        self.opened.get(index).copied()
+        number_at(self.opened.as_slice(), index)
+    }
+
+    /// The numbers that events opened, in rising order.
+    pub(crate) fn numbers(&self) -> Result<Vec<u32>, AllocError>
+        ensures ok { IfOk result (λ numbers. numbers.items ≡ rising (opened_by self.now)) }
+    {
+        in_order(self.alloc, self.opened.as_slice())
     }
 
     /// The octets were taken for the connection.
@@ -92,11 +100,10 @@ impl Told {
         ensures ok { OnOk result (self.new ≡ self.old ++ Item.Taken conn octets.now ∷ []) }
         ensures err { OnErr result (self.new ≡ self.old) }
     {
-        let copy = copy_of(self.alloc, octets)?;
-        self.items.reserve(1)?;
+        self.log.reserve(octets.len())?;
         add_peer(self.alloc, &mut self.peers, conn)?;
         take(&mut self.peers, conn, octets)?;
-        push(&mut self.items, Item::Taken(conn, copy));
+        self.log.put(Note::Taken(conn), octets);
         Ok(())
     }
 
@@ -105,10 +112,10 @@ impl Told {
         ensures ok { OnOk result (self.new ≡ self.old ++ Item.Held conn ∷ []) }
         ensures err { OnErr result (self.new ≡ self.old) }
     {
-        self.items.reserve(1)?;
+        self.log.reserve(0)?;
         add_peer(self.alloc, &mut self.peers, conn)?;
         set_held(&mut self.peers, conn, true);
-        push(&mut self.items, Item::Held(conn));
+        self.log.put(Note::Held(conn), &[]);
         Ok(())
     }
 
@@ -117,10 +124,10 @@ impl Told {
         ensures ok { OnOk result (self.new ≡ self.old ++ Item.Released conn ∷ []) }
         ensures err { OnErr result (self.new ≡ self.old) }
     {
-        self.items.reserve(1)?;
+        self.log.reserve(0)?;
         add_peer(self.alloc, &mut self.peers, conn)?;
         set_held(&mut self.peers, conn, false);
-        push(&mut self.items, Item::Released(conn));
+        self.log.put(Note::Released(conn), &[]);
         Ok(())
     }
 
@@ -129,10 +136,10 @@ impl Told {
         ensures ok { OnOk result (self.new ≡ self.old ++ Item.HungUp conn ∷ []) }
         ensures err { OnErr result (self.new ≡ self.old) }
     {
-        self.items.reserve(1)?;
+        self.log.reserve(0)?;
         add_peer(self.alloc, &mut self.peers, conn)?;
         set_hung_up(&mut self.peers, conn);
-        push(&mut self.items, Item::HungUp(conn));
+        self.log.put(Note::HungUp(conn), &[]);
         Ok(())
     }
 
@@ -141,21 +148,30 @@ impl Told {
         ensures ok { OnOk result (self.new ≡ self.old ++ Item.Heard (Event.Opened conn) ∷ []) }
         ensures err { OnErr result (self.new ≡ self.old) }
     {
-        self.items.reserve(1)?;
-        let place = place_of(self.opened.as_slice(), conn);
-        self.opened.insert(place, conn)?;
-        push(&mut self.items, Item::Heard(Event::Opened(conn)));
+        self.log.reserve(0)?;
+        self.opened.push(conn)?;
+        self.log.put(Note::Opened(conn), &[]);
         Ok(())
     }
 
-    /// An item that says nothing of what was opened, taken, held or hung up.
-    pub(crate) fn note(&mut self, item: Item) -> Result<(), AllocError>
+    /// An item that says nothing of what was opened, taken, held or hung up, with its octets.
+    pub(crate) fn note(&mut self, note: Note, octets: &[u8]) -> Result<(), AllocError>
+        requires { IsQuietNote note }
+        ensures ok { OnOk result (self.new ≡ self.old ++ item_of note octets.now) }
+        ensures err { OnErr result (self.new ≡ self.old) }
+    {
+        self.log.reserve(octets.len())?;
+        self.log.put(note, octets);
+        Ok(())
+    }
+
+    /// Such an item, which is kept apart.
+    fn note_apart(&mut self, item: Item) -> Result<(), AllocError>
         requires { IsQuiet item }
         ensures ok { OnOk result (self.new ≡ self.old ++ item ∷ []) }
         ensures err { OnErr result (self.new ≡ self.old) }
     {
-        self.items.reserve(1)?;
-        push(&mut self.items, item);
+        self.log.put_apart(item)?;
         Ok(())
     }
 
@@ -170,7 +186,7 @@ impl Told {
         ensures err { OnErr result (self.new ≡ self.old) }
     {
         let address = Text::from_string(String::from_str(self.alloc, address)?);
-        self.note(Item::OpenedAt(address, sessions, done))
+        self.note_apart(Item::OpenedAt(address, sessions, done))
     }
 
     #[tactic(auto, unfolding(crate::specs::Telling::event_of))]
@@ -182,35 +198,11 @@ impl Told {
     {
         match heard {
             Heard::Opened(conn) => self.opened(conn),
-            Heard::Bytes(conn, count) => self.bytes(conn, buf.split_at(count).0),
-            Heard::Ended(conn) => self.note(Item::Heard(Event::Ended(conn))),
-            Heard::Ready(conn) => self.note(Item::Heard(Event::Ready(conn))),
-            Heard::Idle => self.note(Item::Heard(Event::Idle)),
-            Heard::Stop => self.note(Item::Heard(Event::Stop)),
+            Heard::Bytes(conn, count) => self.note(Note::Bytes(conn), buf.split_at(count).0),
+            Heard::Ended(conn) => self.note(Note::Ended(conn), &[]),
+            Heard::Ready(conn) => self.note(Note::Ready(conn), &[]),
+            Heard::Idle => self.note_apart(Item::Heard(Event::Idle)),
+            Heard::Stop => self.note_apart(Item::Heard(Event::Stop)),
         }
     }
-
-    /// The octets came on the connection.
-    fn bytes(&mut self, conn: u32, octets: &[u8]) -> Result<(), AllocError>
-        ensures ok { OnOk result (self.new ≡ self.old ++ Item.Heard (Event.Bytes conn octets.now) ∷ []) }
-        ensures err { OnErr result (self.new ≡ self.old) }
-    {
-        let copy = copy_of(self.alloc, octets)?;
-        self.note(Item::Heard(Event::Bytes(conn, copy)))
-    }
-}
-
-/// The octets in memory of their own.
-fn copy_of(alloc: Global, octets: &[u8]) -> Result<Octets, AllocError>
-    ensures ok { IfOk result (λ copy. copy ≡ octets.now) }
-{
-    Ok(Octets::from_vec(octets.to_vec(alloc)?))
-}
-
-/// Adds the item, for which there is room.
-fn push(items: &mut Vec<Item>, item: Item)
-    requires { vec_len items.old < vec_capacity items.old }
-    ensures exact { items.new.items ≡ items.old.items ++ item ∷ [] }
-{
-    items.push(item).unwrap();
 }

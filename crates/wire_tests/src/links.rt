@@ -1,8 +1,7 @@
 //! Links that give the events of a script.
 
-use script_text::read_script;
 use std::test::Fail;
-use wire_io::{Heard, Link, NextFault, ScriptFault, ScriptLink, Took};
+use wire_io::{Heard, Link, NextFault, ScriptEvent, ScriptFault, ScriptLink, Took};
 
 /// A script of two connections.
 const SCRIPT: &str = "open 2\nopen 1\nsend 2 303132\nend 2\n";
@@ -48,10 +47,16 @@ fn octets_that_are_longer_than_the_buffer_come_in_pieces(rt: HostRuntime) -> Res
 fn what_was_done_is_told_of_each_connection(rt: HostRuntime) -> Result<(), Fail> {
     let mut link = ScriptLink::read(rt.alloc(), SCRIPT.as_bytes())?;
     assert_eq!(rt; link.open("127.0.0.1:389", 0), Ok(()));
+    assert_eq!(rt; link.opened()?.len(), 0, "nothing was opened yet");
     assert_eq!(rt; link.opened_at(0), None, "nothing was opened yet");
     let mut buf = [0u8; 8];
     let _ = link.next(&mut buf);
     let _ = link.next(&mut buf);
+    assert_eq!(rt;
+        link.opened()?.as_slice(),
+        [1, 2].as_slice(),
+        "the numbers rise"
+    );
     assert_eq!(rt; link.opened_at(0), Some(1), "the numbers rise");
     assert_eq!(rt; link.opened_at(1), Some(2));
     assert_eq!(rt; link.opened_at(2), None);
@@ -86,7 +91,9 @@ fn a_connection_on_hold_is_ready_until_it_is_released(rt: HostRuntime) -> Result
 fn a_link_fails_at_the_calls_that_are_to_fail_and_takes_no_event_there(
     rt: HostRuntime,
 ) -> Result<(), Fail> {
-    let events = read_script(rt.alloc(), SCRIPT.as_bytes())?;
+    let mut events = Vec::new(rt.alloc());
+    events.push(ScriptEvent::Opened(2))?;
+    events.push(ScriptEvent::Opened(1))?;
     let failing = [0, 2].to_vec(rt.alloc())?;
     let mut link = ScriptLink::new(
         rt.alloc(),

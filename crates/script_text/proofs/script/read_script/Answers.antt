@@ -12,9 +12,9 @@ returns-in_err-read-clause-bad c =
 
 -- the events are those of the reading
 pub returns-clause-ok : goal.returns-clause-ok
-returns-clause-ok c = script_of-ok c.args.text.now c.into_events.result.items (c.in_ok-read.ensures ∙ ap Ok (sym c.into_events.ensures))
+returns-clause-ok c = script_of-ok c.args.text.now c.into_events.result (c.in_ok-read.ensures ∙ ap Ok (sym c.into_events.ensures))
 
 pub returns-clause-fits : goal.returns-clause-fits
 returns-clause-fits c =
-    let orderly = script_of-orderly c.args.text.now c.into_events.result.items (c.in_ok-read.ensures ∙ ap Ok (sym c.into_events.ensures)) in
+    let orderly = script_of-orderly c.args.text.now c.into_events.result (c.in_ok-read.ensures ∙ ap Ok (sym c.into_events.ensures)) in
     (orderly.once, orderly.filled)

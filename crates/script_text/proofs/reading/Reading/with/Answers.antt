@@ -7,4 +7,4 @@ use Rattle.script_text.proofs.reading.Reading.with.Goals as goal
 pub invariant_of-result : goal.invariant_of-result
 invariant_of-result c =
     let may = ap (λ before. may_follow before c.args.event) c.self.view_is ∙ c.requires in
-    rw c.in_ok-push.ensures.items (tracks_next c.self.inside.connections c.in_ok-connections.connections c.self.inside.events.items c.args.event c.self.invariant may c.in_ok-connections.ensures)
+    rw c.in_ok-push.ensures.ok (tracks_next c.self.inside.connections c.in_ok-connections.connections c.self.inside.events c.args.event c.self.invariant may c.in_ok-connections.ensures)

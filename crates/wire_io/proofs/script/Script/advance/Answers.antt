@@ -1,17 +1,28 @@
-use Rattle.std.proofs.Common.{◌<◌, length, ap, ◌∙◌, arith}
+use Rattle.std.proofs.Common.{◌≡◌, ◌++◌, ◌∙◌, ap, sym, drop, length, arith}
+use Rattle.script_text.specs.Recording.{first_octets, without_first}
 use Rattle.wire_io.specs.Playing.{front_turn}
-use Rattle.wire_io.proofs.PlayingLemmas.{front_turn-part}
+use Rattle.wire_io.proofs.PlayingLemmas.{front_turn-part, front_turn-whole}
 use Rattle.wire_io.proofs.script.Script.advance.Goals as goal
 
 -- some octets of the first event are left
-pub returns-in-Some-Bytes : goal.returns-in-Some-Bytes
-returns-in-Some-Bytes c =
-    let items = c.deref.ensures.value in
-    let item = rw items at c.in-Some-Bytes.ensures.lookup.1 in
-    let within : c.self.inside.place < length c.deref.result.now = c.in-Some-Bytes.ensures.lookup.3.0 in
+pub returns-then-len-saturating_sub : goal.returns-then-len-saturating_sub
+returns-then-len-saturating_sub c =
+    let events = drop c.self.inside.place c.self.inside.listed.items ++ c.self.inside.recorded in
+    let size : length c.octets_of_first-octets.result.now ≡ length (first_octets events) =
+    ap length (c.octets_of_first-octets.ensures.exact ∙ ap (λ listed. first_octets (drop c.self.inside.place listed ++ c.self.inside.recorded)) c.as_slice.ensures.value) in
     record {
-      exact =
-          front_turn-part c.self.inside.events.items c.self.inside.place c.self.inside.given c.args.len c.in-Some-Bytes.field-0-0 c.in-Some-Bytes.octets
-          c.in-Some-Bytes.field-0.now (rw items at within) item c.in-Some-Bytes.field-0-is (omega (arith, c.len.ensures.exact, c.saturating_sub.ensures))
-          ∙ ap (λ events. (front_turn c.args.len events).left) c.self.view_is;
+      exact = front_turn-part c.args.len c.self.inside.given events (omega (arith, size, c.saturating_sub.ensures, c.if-len-saturating_sub.true))
+          ∙ ap (λ left. (front_turn c.args.len left).left) c.self.view_is;
+    }
+
+-- none is left
+pub returns-else-len-saturating_sub : goal.returns-else-len-saturating_sub
+returns-else-len-saturating_sub c =
+    let events = drop c.self.inside.place c.self.inside.listed.items ++ c.self.inside.recorded in
+    let size : length c.octets_of_first-octets.result.now ≡ length (first_octets events) =
+    ap length (c.octets_of_first-octets.ensures.exact ∙ ap (λ listed. first_octets (drop c.self.inside.place listed ++ c.self.inside.recorded)) c.as_slice.ensures.value) in
+    record {
+      exact = c.pass_first.ensures.exact ∙ ap without_first (sym c.self.view_is)
+          ∙ front_turn-whole c.args.len c.self.inside.given events (omega (arith, size, c.saturating_sub.ensures, c.if-len-saturating_sub.false))
+          ∙ ap (λ left. (front_turn c.args.len left).left) c.self.view_is;
     }
