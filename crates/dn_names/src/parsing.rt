@@ -78,7 +78,8 @@ fn read_pairs(alloc: Global, text: &[u8], first: usize) -> Result<Vec<Pair>, Bad
     ensures len { IfOk result (λ pairs. vec_len pairs ≡ length (rdn_of text.now)) }
     ensures part { IfErr result (λ e. UnlessMemory e (rdn_from first [] (rdn_of text.now) ≡ Err e)) }
 {
-    let mut pairs = Vec::new(alloc);
+    // an RDN of one pair is the usual one
+    let mut pairs = Vec::with_capacity(alloc, 1)?;
     let mut index = first;
     let mut rest = text;
     'pairs: loop {

@@ -1,0 +1,188 @@
+-- Slots and numbers stay a tree's where an entry is put in, taken out or changed.
+use Rattle.std.proofs.Common.{◌≡◌, ◌≢◌, ◌⊎◌, inl, inr, ℕ, ◌<◌, ◌≤◌, ◌==◌, Bool, true, false, ◌||◌, List, [], ◌∷◌, length, get_or, set, Option, Some, None, refl, sym, ap, subst, ◌∙◌, arith, insert, remove}
+use Rattle.std.specs.Prelude.{is_some, IsSome}
+use Rattle.std.specs.List.{list_any}
+use Rattle.std.specs.Option.{option_map}
+use Rattle.std.proofs.lemmas.Bool.{cases_Bool, not-false, eqb-true, eqb-false}
+use Rattle.std.proofs.lemmas.List.{length-map, length-set}
+use Rattle.std.proofs.lemmas.List.Edits.{length-remove}
+use Rattle.dn_names.specs.Names.{RdnSequence}
+use Rattle.dir_tree.specs.Entries.{EntryInformation}
+use Rattle.dir_tree.specs.Trees.{Numbered, is_named, has_name, find_name, has_below, superior_name, entry_of, put_row, without}
+use Rattle.dir_tree.specs.Refusals.{lacks_superior, insert_refusal}
+use Rattle.dir_tree.specs.Places.{place_of, no_row}
+use Rattle.dir_tree.specs.Slots.{slot_of, row_at, rows_of, has_id, count_full, HasSameSlots, IsOrderedTree, IsKept}
+use Rattle.dir_tree.proofs.PlaceLemmas.{place_of-le}
+use Rattle.dir_tree.proofs.OrderedLemmas.{ordered_put, ordered_without}
+use Rattle.dir_tree.proofs.NumberedLemmas.{StandsAt, stands_at, without-remove}
+use Rattle.dir_tree.proofs.CountLemmas.{count_full-empty, full_within}
+use Rattle.dir_tree.proofs.SlotLemmas.{has_id-rows_of, slot_of-set, slot_of-set_other, rows_of-set, rows_of-remove, entry_of-rows_of, distinct_rows, rows_of-like, rows_fit, rows_put, kept_put}
+
+-- a name is there where it is found
+is_some-map : {A B : Type 0} (f : A → B) (o : Option A) → is_some (option_map f o) ≡ is_some o
+is_some-map f None = refl
+is_some-map f (Some x) = refl
+
+pub has_name-find : (name : RdnSequence) (rows : List Numbered) → has_name name rows ≡ is_some (find_name name rows)
+has_name-find name [] = refl
+has_name-find name (x ∷ rows) = elim (cases_Bool (is_named name x)) [
+  | inl e ↦ rw e refl
+  | inr e ↦ rw e (has_name-find name rows)
+]
+
+pub has_name-found : {A : Type 0} (f : A → ℕ) (found : Option A) (name : RdnSequence) (rows : List Numbered) → option_map f found ≡ find_name name rows → is_some found ≡ has_name name rows
+has_name-found f found name rows e = sym (is_some-map f found) ∙ ap is_some e ∙ sym (has_name-find name rows)
+
+-- what an entry that is put in meets
+pub record IsAllowed (name : RdnSequence) (rows : List Numbered) : Type 0 where
+  pub absent : has_name name rows ≡ false
+  pub under : (rows ≡ []) ⊎ (has_name (superior_name name) rows ≡ true)
+  pub room : length rows ≢ 200000
+
+has_superior : (name : RdnSequence) (rows : List Numbered) → lacks_superior name rows ≡ false → (rows ≡ []) ⊎ (has_name (superior_name name) rows ≡ true)
+has_superior name [] e = inl refl
+has_superior name (x ∷ rows) e = inr (not-false (has_name (superior_name name) (x ∷ rows)) e)
+
+pub allowed : (name : RdnSequence) (rows : List Numbered) → insert_refusal name rows ≡ None → IsAllowed name rows
+allowed name rows e = by (cases_Bool (has_name name rows)) (cases_Bool (lacks_superior name rows)) (cases_Bool (length rows == 200000))
+  where
+    by : ((has_name name rows ≡ true) ⊎ (has_name name rows ≡ false)) → ((lacks_superior name rows ≡ true) ⊎ (lacks_superior name rows ≡ false)) → (((length rows == 200000) ≡ true) ⊎ ((length rows == 200000) ≡ false)) → IsAllowed name rows
+    by (inl f) g h = (let is = rw f at e in absurd cc)
+    by (inr f) (inl g) h = (let is = rw (f, g) at e in absurd cc)
+    by (inr f) (inr g) (inl h) = (let is = rw (f, g, h) at e in absurd cc)
+    by (inr f) (inr g) (inr h) = record { absent = f; under = has_superior name rows g; room = eqb-false (length rows) 200000 h }
+
+-- slots that are the same at each number keep the same tree
+pub kept_slots : (slots other : List (Option EntryInformation)) (order : List ℕ) → IsKept slots order → HasSameSlots slots other → count_full other ≡ length order → length other ≤ 200000 → IsKept other order
+kept_slots slots other order kept same count within = record {
+  within = within;
+  used = λ id. kept.used id ∙ ap is_some (sym (same id));
+  count = count;
+  ordered = rw (rows_of-like slots other order (λ id _. same id)) kept.ordered;
+}
+
+-- there is room for one that is put in
+pub room_in : (slots : List (Option EntryInformation)) (order : List ℕ) (rows : List Numbered) (name : RdnSequence) → IsKept slots order → rows_of slots order ≡ rows → insert_refusal name rows ≡ None → length order < 200000
+room_in slots order rows name kept view free =
+    let fits = rows_fit slots order kept in
+    let same : length (rows_of slots order) ≡ length order = length-map order (row_at slots) in
+    let room = (allowed name rows free).room in
+    let long : length (rows_of slots order) ≡ length rows = ap length view in
+    let other : length order ≢ 200000 = λ e. room (sym long ∙ same ∙ e) in
+    omega arith
+
+pub place_in : (slots : List (Option EntryInformation)) (order : List ℕ) (rows : List Numbered) (name : RdnSequence) → rows_of slots order ≡ rows → place_of name rows ≤ length order
+place_in slots order rows name view =
+    let same : length (rows_of slots order) ≡ length order = length-map order (row_at slots) in
+    let long : length (rows_of slots order) ≡ length rows = ap length view in
+    omega (arith, place_of-le name rows)
+
+-- an entry put in
+pub record PutIn (slots : List (Option EntryInformation)) (order : List ℕ) (id : ℕ) (entry : EntryInformation) (rows : List Numbered) : Type 0 where
+  pub kept : IsKept slots order
+  pub shown : rows_of slots order ≡ put_row (record { id = id; entry = entry }) rows
+  pub only : entry_of id rows ≡ None
+
+module _ (slots slots' : List (Option EntryInformation)) (order order' : List ℕ) (rows : List Numbered) (id place : ℕ) (entry : EntryInformation) where
+  pub put_kept : IsKept slots order → rows_of slots order ≡ rows → HasSameSlots slots slots' → count_full slots' ≡ length order → length slots' ≤ 200000 → id < length slots' → slot_of slots' id ≡ None → place ≡ place_of entry.name rows → entry.name ≢ [] → insert_refusal entry.name rows ≡ None → order' ≡ order → PutIn (set slots' id (Some entry)) (insert order' place id) id entry rows
+  put_kept kept view same count within there empty placed named free as_before =
+      let kept' = kept_slots slots slots' order kept same count within in
+      let view' : rows_of slots' order ≡ rows = rows_of-like slots slots' order (λ id _. same id) ∙ view in
+      let may = allowed entry.name rows free in
+      let ordered : IsOrderedTree rows = subst (λ (r : List Numbered). IsOrderedTree r) view' kept'.ordered in
+      let more = ordered_put (record { id = id; entry = entry }) rows named ordered may.absent may.under in
+      let at : place ≡ place_of entry.name (rows_of slots' order) = placed ∙ ap (place_of entry.name) (sym view') in
+      let fits : place ≤ length order = omega (arith, place_in slots order rows entry.name view, placed) in
+      let put : rows_of (set slots' id (Some entry)) (insert order place id) ≡ put_row (record { id = id; entry = entry }) (rows_of slots' order) = rows_put slots' order id place entry kept' there empty at fits in
+      let after : IsKept (set slots' id (Some entry)) (insert order place id) = kept_put slots' order id place entry kept' there empty at fits (rw view' more) in
+      rw as_before (record {
+        kept = after;
+        shown = put ∙ ap (put_row (record { id = id; entry = entry })) view';
+        only = rw (← view') (entry_of-rows_of slots' order id (kept'.used id) ∙ empty);
+      })
+
+-- the rows without a number
+none_without : (id : ℕ) (rows : List Numbered) → list_any (λ row. row.id == id) (without id rows) ≡ false
+none_without id [] = refl
+none_without id (x ∷ rows) = elim (cases_Bool (x.id == id)) [
+  | inl e ↦ rw e (none_without id rows)
+  | inr e ↦ rw (e, e) (none_without id rows)
+]
+
+pub others_without : (id other : ℕ) (rows : List Numbered) → (id == other) ≡ false → list_any (λ row. row.id == other) (without id rows) ≡ list_any (λ row. row.id == other) rows
+others_without id other [] e = refl
+others_without id other (x ∷ rows) e = elim (cases_Bool (x.id == id)) [
+  | inl f ↦ (
+      let differs : (x.id == other) ≡ false = ap (λ (n : ℕ). n == other) (eqb-true x.id id f) ∙ e in
+      rw (f, differs) (others_without id other rows e))
+  | inr f ↦ rw f (ap (λ (b : Bool). (x.id == other) || b) (others_without id other rows e))
+]
+
+-- an entry taken out of its slot, and its number out of its place
+module _ (slots : List (Option EntryInformation)) (order : List ℕ) (id place : ℕ) (entry : EntryInformation) (kept : IsKept slots order) (known : entry_of id (rows_of slots order) ≡ Some entry) (placed : place ≡ place_of entry.name (rows_of slots order)) where
+  stands : StandsAt id entry (rows_of slots order)
+  stands = stands_at id entry (rows_of slots order) kept.ordered.sorted known
+
+  pub full : slot_of slots id ≡ Some entry
+  full = sym (entry_of-rows_of slots order id (kept.used id)) ∙ known
+
+  pub place_within : place < length order
+  place_within =
+      let same : length (rows_of slots order) ≡ length order = length-map order (row_at slots) in
+      let within = stands.within in
+      omega (arith, placed)
+
+  pub rows_left : rows_of slots (remove order place) ≡ without id (rows_of slots order)
+  rows_left =
+      let same : length (rows_of slots order) ≡ length order = length-map order (row_at slots) in
+      let at : (get_or (rows_of slots order) place no_row).id ≡ id = rw placed (ap (λ (row : Numbered). row.id) stands.row) in
+      let within = place_within in
+      rows_of-remove slots order place
+      ∙ sym (without-remove id (rows_of slots order) place (distinct_rows slots order kept.ordered.sorted) (omega (arith, same, within)) at)
+
+  unused_left : has_id id (remove order place) ≡ false
+  unused_left =
+      has_id-rows_of slots id (remove order place)
+      ∙ ap (λ (rows : List Numbered). list_any (λ row. row.id == id) rows) rows_left
+      ∙ none_without id (rows_of slots order)
+
+  pub used_left : (other : ℕ) → (id == other) ≡ false → has_id other (remove order place) ≡ is_some (slot_of slots other)
+  used_left other e =
+      has_id-rows_of slots other (remove order place)
+      ∙ ap (λ (rows : List Numbered). list_any (λ row. row.id == other) rows) rows_left
+      ∙ others_without id other (rows_of slots order) e
+      ∙ sym (has_id-rows_of slots other order)
+      ∙ kept.used other
+
+  pub shown_set : (slot : Option EntryInformation) → rows_of (set slots id slot) (remove order place) ≡ without id (rows_of slots order)
+  shown_set slot = rows_of-set slots (remove order place) id slot unused_left ∙ rows_left
+
+  -- taken out
+  pub kept_without : has_below entry.name (rows_of slots order) ≡ false → IsKept (set slots id None) (remove order place)
+  kept_without alone =
+      let some : is_some (slot_of slots id) ≡ true = ap is_some full in
+      let fewer = count_full-empty slots id some in
+      let shorter = length-remove order place place_within in
+      record {
+        within = rw (length-set slots id None) kept.within;
+        used = λ other. elim (cases_Bool (id == other)) [
+          | inl e ↦ (
+              let same = eqb-true id other e in
+              subst (λ (n : ℕ). has_id n (remove order place) ≡ is_some (slot_of (set slots id None) n)) same
+              (unused_left ∙ sym (ap is_some (slot_of-set slots id None (full_within slots id some)))))
+          | inr e ↦ used_left other e ∙ sym (ap is_some (slot_of-set_other slots id other None e))
+        ];
+        count = omega (arith, fewer, shorter, kept.count);
+        ordered = rw (shown_set None) (ordered_without id entry (rows_of slots order) kept.ordered (distinct_rows slots order kept.ordered.sorted) known alone);
+      }
+
+  pub shown_without : rows_of (set slots id None) (remove order place) ≡ without id (rows_of slots order)
+  shown_without = shown_set None
+
+-- the slot of a number in use is full
+pub slot_known : (slots : List (Option EntryInformation)) (order : List ℕ) (id : ℕ) (entry : EntryInformation) → IsKept slots order → entry_of id (rows_of slots order) ≡ Some entry → IsSome (slot_of slots id)
+slot_known slots order id entry kept known = by (slot_of slots id) (sym (entry_of-rows_of slots order id (kept.used id)) ∙ known)
+  where
+    by : (slot : Option EntryInformation) → slot ≡ Some entry → IsSome slot
+    by None e = absurd cc
+    by (Some other) e = refl

@@ -1,0 +1,45 @@
+-- The number moves to its place, and its slot takes the entry.
+use Rattle.std.proofs.Common.{ap, ◌∙◌, arith, ◌≡◌, Some, remove, insert, ℕ}
+use Rattle.dir_tree.specs.Trees.{entry_of}
+use Rattle.dir_tree.specs.Places.{place_of, place_without}
+use Rattle.dir_tree.specs.Slots.{rows_of}
+use Rattle.dir_tree.proofs.SlotLemmas.{entry_of-rows_of}
+use Rattle.dir_tree.proofs.KeptLemmas.{place_in, place_within, slot_known}
+use Rattle.dir_tree.proofs.ReplaceLemmas.{Changed, allowed_there, kept_changed, number_moved}
+use Rattle.dir_tree.proofs.tree.Tree.change.Goals as goal
+
+pub move_number-requires-clause-found : goal.move_number-requires-clause-found
+move_number-requires-clause-found c =
+    let known : entry_of c.args.no.0 (rows_of c.self.inside.slots.items c.self.inside.order.items) ≡ Some c.requires.may.entry = rw c.self.view_is c.requires.may.known in
+    let placed : c.args.from ≡ place_of c.requires.may.entry.name (rows_of c.self.inside.slots.items c.self.inside.order.items) = rw c.self.view_is c.requires.may.placed in
+    omega (arith, place_within c.self.inside.slots.items c.self.inside.order.items c.args.no.0 c.args.from c.requires.may.entry c.self.invariant known placed)
+
+pub move_number-requires-clause-fits : goal.move_number-requires-clause-fits
+move_number-requires-clause-fits c =
+    let place = place_in c.self.inside.slots.items c.self.inside.order.items c.args.self.now c.args.entry.name c.self.view_is in
+    omega (arith, place, c.requires.placed)
+
+pub replace_entry-requires : goal.replace_entry-requires
+replace_entry-requires c = slot_known c.self.inside.slots.items c.self.inside.order.items c.args.no.0 c.requires.may.entry c.self.invariant (rw c.self.view_is c.requires.may.known)
+
+changed : (c : goal.After-replace_entry) → Changed c.replace_entry.new.slots.items c.move_number.new.order.items c.args.no.0 c.args.entry (rows_of c.self.inside.slots.items c.self.inside.order.items)
+changed c =
+    let known : entry_of c.args.no.0 (rows_of c.self.inside.slots.items c.self.inside.order.items) ≡ Some c.requires.may.entry = rw c.self.view_is c.requires.may.known in
+    let placed : c.args.from ≡ place_of c.requires.may.entry.name (rows_of c.self.inside.slots.items c.self.inside.order.items) = rw c.self.view_is c.requires.may.placed in
+    let goes : c.args.place ≡ place_of c.args.entry.name (rows_of c.self.inside.slots.items c.self.inside.order.items) = rw c.self.view_is c.requires.placed in
+    let may = allowed_there c.args.no.0 c.requires.may.entry c.args.entry.name (rows_of c.self.inside.slots.items c.self.inside.order.items) (rw c.self.view_is c.requires.may.allowed) in
+    let moved = number_moved c.self.inside.slots.items c.self.inside.order.items c.args.no.0 c.args.from c.args.place c.requires.may.entry c.args.entry c.self.invariant known placed goes may in
+    let order : c.move_number.new.order.items ≡ insert (remove c.self.inside.order.items c.args.from) (place_without c.args.from c.args.place) c.args.no.0 =
+    c.move_number.ensures.exact ∙ ap (λ (n : ℕ). insert (remove c.self.inside.order.items c.args.from) (place_without c.args.from c.args.place) n) moved in
+    rw (c.replace_entry.ensures.exact, order)
+    (kept_changed c.self.inside.slots.items c.self.inside.order.items c.args.no.0 c.args.from c.args.place c.requires.may.entry c.args.entry c.self.invariant known placed goes may)
+
+pub invariant_of-self : goal.invariant_of-self
+invariant_of-self c = (changed c).kept
+
+pub returns-clause-ok : goal.returns-clause-ok
+returns-clause-ok c =
+    rw (← c.self.view_is) (entry_of-rows_of c.self.inside.slots.items c.self.inside.order.items c.args.no.0 (c.self.invariant.used c.args.no.0) ∙ c.replace_entry.ensures.ok)
+
+pub returns-clause-exact : goal.returns-clause-exact
+returns-clause-exact c = rw (← c.self.view_is) (changed c).shown

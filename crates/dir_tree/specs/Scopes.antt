@@ -1,0 +1,36 @@
+-- Which entries a scope takes in (RFC 4511 4.5.1.2).
+use Rattle.std.specs.Prelude.{ℕ, ◌+◌, ◌==◌, ◌&&◌, Bool, false, List, [], ◌∷◌, length, filter, Option, Some, None}
+use Rattle.dn_names.specs.Names.{RdnSequence}
+use Rattle.dn_names.specs.NameOrder.{is_prefix_of}
+use Rattle.dir_tree.specs.Entries.{EntryInformation}
+use Rattle.dir_tree.specs.Trees.{Numbered, ids_of, entry_of, superior_of}
+use Rattle.dir_tree.specs.declared.scope.Scope.{Scope}
+use Rattle.dir_tree.specs.declared.scope.Scope.TheVariants.{Base, One, Sub}
+
+-- whether the row's entry is at or below the name
+abbrev pub is_within : RdnSequence → Numbered → Bool
+is_within base row = is_prefix_of base row.entry.name
+
+-- whether the row's entry is immediately below the name
+abbrev pub is_child : RdnSequence → Numbered → Bool
+is_child base row = is_prefix_of base row.entry.name && (length row.entry.name == length base + 1)
+
+-- the entries that the scope takes in, from the number of the base, if that is in use
+abbrev pub in_scope : Scope → ℕ → Option EntryInformation → List Numbered → List ℕ
+in_scope scope id None rows = []
+in_scope Base id (Some base) rows = id ∷ []
+in_scope One id (Some base) rows = ids_of (filter (is_child base.name) rows)
+in_scope Sub id (Some base) rows = ids_of (filter (is_within base.name) rows)
+
+-- the numbers of the entries that the scope of a number takes in
+abbrev pub scoped : Scope → ℕ → List Numbered → List ℕ
+scoped scope id rows = in_scope scope id (entry_of id rows) rows
+
+-- whether the number is this one
+abbrev pub is_number : ℕ → Option ℕ → Bool
+is_number id None = false
+is_number id (Some other) = other == id
+
+-- whether the entry of the number is the superior of the entry of the other
+abbrev pub is_superior : ℕ → ℕ → List Numbered → Bool
+is_superior id other rows = is_number id (superior_of other rows)

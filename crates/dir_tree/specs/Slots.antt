@@ -1,0 +1,58 @@
+-- How a tree is kept: entries in slots by their numbers, and the numbers in the order of the names.
+use Rattle.std.specs.Prelude.{◌≡◌, ◌≢◌, ℕ, suc, ◌≤◌, ◌==◌, Bool, true, List, [], ◌∷◌, length, map, Option, Some, None, is_some, get_or}
+use Rattle.std.specs.List.{AllByRecursion, list_any}
+use Rattle.dn_names.specs.Names.{RdnSequence}
+use Rattle.dir_tree.specs.Entries.{EntryInformation}
+use Rattle.dir_tree.specs.Trees.{Numbered, most_entries, is_before, has_name, superior_name, IsInOrder}
+
+-- the slot of the number
+abbrev pub slot_of : List (Option EntryInformation) → ℕ → Option EntryInformation
+slot_of slots id = get_or slots id None
+
+-- the entry in a slot; of an empty slot one without a name
+abbrev pub entry_in : Option EntryInformation → EntryInformation
+entry_in None = record { name = []; attributes = [] }
+entry_in (Some entry) = entry
+
+-- the row of the number
+abbrev pub row_at : List (Option EntryInformation) → ℕ → Numbered
+row_at slots id = record { id = id; entry = entry_in (slot_of slots id) }
+
+-- the rows in order
+abbrev pub rows_of : List (Option EntryInformation) → List ℕ → List Numbered
+rows_of slots order = map (row_at slots) order
+
+-- whether the number is among the numbers
+abbrev pub has_id : ℕ → List ℕ → Bool
+has_id id order = list_any (λ other. other == id) order
+
+-- how many slots are full
+abbrev pub count_full : List (Option EntryInformation) → ℕ
+count_full [] = 0
+count_full (None ∷ slots) = count_full slots
+count_full (Some entry ∷ slots) = suc (count_full slots)
+
+-- each number's slot has what it had
+abbrev pub HasSameSlots : List (Option EntryInformation) → List (Option EntryInformation) → Type 0
+HasSameSlots old new = (id : ℕ) → slot_of new id ≡ slot_of old id
+
+-- whether an entry's name comes before the name
+abbrev pub has_before : RdnSequence → List Numbered → Bool
+has_before name rows = list_any (λ row. is_before row.entry.name name) rows
+
+-- of each name that is there and is not the first the superior is there too
+abbrev pub HasSuperiors : List Numbered → Type 0
+HasSuperiors rows = (name : RdnSequence) → has_name name rows ≡ true → has_before name rows ≡ true → has_name (superior_name name) rows ≡ true
+
+-- the rows of a tree, but for their numbers
+pub record IsOrderedTree (rows : List Numbered) : Type 0 where
+  pub sorted : IsInOrder rows
+  pub named : AllByRecursion (λ row. row.entry.name ≢ []) rows
+  pub rooted : HasSuperiors rows
+
+-- the slots and the numbers are those of a tree
+pub record IsKept (slots : List (Option EntryInformation)) (order : List ℕ) : Type 0 where
+  pub within : length slots ≤ most_entries
+  pub used : (id : ℕ) → has_id id order ≡ is_some (slot_of slots id)
+  pub count : count_full slots ≡ length order
+  pub ordered : IsOrderedTree (rows_of slots order)

@@ -1,0 +1,125 @@
+//! The attributes of an entry, kept by their types.
+
+ghost use Rattle.std.specs.Prelude.{◌≡◌, ◌++◌, [], ◌∷◌, true, false, nat_lt, filter, map, length, IfOk, OnOk, OnErr};
+ghost use Rattle.dir_tree.specs.Entries.{has_kind};
+ghost use Rattle.dir_tree.specs.Changes.{put_value, cut_attribute, is_filled, other_attributes};
+ghost use Rattle.dir_tree.specs.Rows.{attributes_of};
+
+use crate::values::{copy_values, drop_key};
+use dn_names::Value;
+use indexmap::IndexMap;
+use schema_core::AttrId;
+use std::alloc::{AllocError, Global};
+
+/// Puts the value last of its type, and a new type last.
+pub(crate) fn put_value(
+    attributes: &mut IndexMap<AttrId, Vec<Value>>,
+    kind: AttrId,
+    value: Value,
+) -> Result<(), AllocError>
+    ensures ok { OnOk result (attributes_of attributes.new.entries
+        ≡ put_value kind.0 value (attributes_of attributes.old.entries)) }
+    ensures err { OnErr result (attributes_of attributes.new.entries ≡ attributes_of attributes.old.entries) }
+{
+    if attributes.contains_key(&kind) {
+        put_last(attributes, kind, value)
+    } else {
+        put_first(attributes, kind, value)
+    }
+}
+
+/// Puts the value last of its type, which is there.
+fn put_last(
+    attributes: &mut IndexMap<AttrId, Vec<Value>>,
+    kind: AttrId,
+    value: Value,
+) -> Result<(), AllocError>
+    requires { has_kind kind.0 (attributes_of attributes.old.entries) ≡ true }
+    ensures ok { OnOk result (attributes_of attributes.new.entries
+        ≡ put_value kind.0 value (attributes_of attributes.old.entries)) }
+    ensures err { OnErr result (attributes_of attributes.new.entries ≡ attributes_of attributes.old.entries) }
+{
+    if let Some(values) = attributes.get_mut(&kind) {
+        values.push(value)?;
+    }
+    Ok(())
+}
+
+/// Puts the value in an attribute of its own at the end: its type is not there.
+fn put_first(
+    attributes: &mut IndexMap<AttrId, Vec<Value>>,
+    kind: AttrId,
+    value: Value,
+) -> Result<(), AllocError>
+    requires { has_kind kind.0 (attributes_of attributes.old.entries) ≡ false }
+    ensures ok { OnOk result (attributes_of attributes.new.entries
+        ≡ put_value kind.0 value (attributes_of attributes.old.entries)) }
+    ensures err { OnErr result (attributes_of attributes.new.entries ≡ attributes_of attributes.old.entries) }
+{
+    // most attributes have one value
+    let mut values = Vec::with_capacity(*attributes.allocator(), 1)?;
+    values.push(value)?;
+    put_attribute(attributes, kind, values)
+}
+
+/// Puts an attribute at the end: its type is not there.
+fn put_attribute(
+    attributes: &mut IndexMap<AttrId, Vec<Value>>,
+    kind: AttrId,
+    values: Vec<Value>,
+) -> Result<(), AllocError>
+    requires { has_kind kind.0 (attributes_of attributes.old.entries) ≡ false }
+    ensures ok { OnOk result (attributes_of attributes.new.entries
+        ≡ attributes_of attributes.old.entries ++ record { kind = kind.0; values = values.items } ∷ []) }
+    ensures err { OnErr result (attributes_of attributes.new.entries ≡ attributes_of attributes.old.entries) }
+{
+    attributes.insert(kind, values)?;
+    Ok(())
+}
+
+/// Takes the values that have the key out of the attribute of the type, which may be left with none.
+pub(crate) fn cut_values(attributes: &mut IndexMap<AttrId, Vec<Value>>, kind: AttrId, key: &[u8])
+    ensures exact { attributes_of attributes.new.entries
+        ≡ map (cut_attribute kind.0 key.now) (attributes_of attributes.old.entries) }
+{
+    if let Some(values) = attributes.get_mut(&kind) {
+        drop_key(values, key);
+    }
+}
+
+/// Takes out the attributes that have no values.
+pub(crate) fn drop_empty(attributes: &mut IndexMap<AttrId, Vec<Value>>)
+    ensures exact { attributes_of attributes.new.entries
+        ≡ filter is_filled (attributes_of attributes.old.entries) }
+{
+    attributes.retain(
+        |_kind: &AttrId, values: &mut Vec<Value>| -> bool
+            ensures { (result ≡ nat_lt 0 (length values.old.items)) × (values.new ≡ values.old) }
+        { values.len() > 0 },
+    );
+}
+
+/// Takes out the attribute of the type. Answers whether there was one.
+pub(crate) fn drop_kind(attributes: &mut IndexMap<AttrId, Vec<Value>>, kind: AttrId) -> bool
+    ensures found { result ≡ has_kind kind.0 (attributes_of attributes.old.entries) }
+    ensures exact { attributes_of attributes.new.entries
+        ≡ other_attributes kind.0 (attributes_of attributes.old.entries) }
+{
+    // `len` says that the keys are distinct.
+    let _count = attributes.len();
+    attributes.shift_remove(&kind).is_some()
+}
+
+/// The same attributes in memory of their own.
+pub(crate) fn copy_attributes(
+    alloc: Global,
+    attributes: &IndexMap<AttrId, Vec<Value>>,
+) -> Result<IndexMap<AttrId, Vec<Value>>, AllocError>
+    ensures ok { IfOk result (λ copies. attributes_of copies.entries ≡ attributes_of attributes.now.entries) }
+{
+    let mut copies = IndexMap::with_capacity(alloc, attributes.len())?;
+    for (kind, values) in attributes.iter() {
+        put_attribute(&mut copies, *kind, copy_values(alloc, values)?)?;
+    }
+    Ok(copies)
+}

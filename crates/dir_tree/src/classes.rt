@@ -1,0 +1,68 @@
+//! The classes of an entry.
+
+ghost use Rattle.std.specs.Prelude.{◌≡◌};
+ghost use Rattle.std.specs.List.{list_any};
+ghost use Rattle.std.specs.Option.{option_map};
+ghost use Rattle.std.specs.Str.{bytes_eq};
+ghost use Rattle.dir_tree.specs.EntryClasses.{own_oid, oids_of, class_with, oids_of_listed};
+
+use dn_names::Value;
+use schema_core::{ClassId, class_oid, superior};
+
+/// Whether the class or one of its superclasses has the object identifier.
+fn is_below(class: ClassId, oid: &str) -> bool
+    ensures exact { result ≡ list_any (bytes_eq oid.now) (oids_of class.0) }
+{
+    if has_oid(class, oid) {
+        return true;
+    }
+    match superior(class) {
+        Some(above) => is_below(above, oid),
+        None => false,
+    }
+}
+
+/// Whether the class has the object identifier.
+fn has_oid(class: ClassId, oid: &str) -> bool
+    ensures exact { result ≡ list_any (bytes_eq oid.now) (own_oid class.0) }
+{
+    match class_oid(class) {
+        Some(own) => oid == own,
+        None => false,
+    }
+}
+
+/// The class of the table that has the object identifier.
+fn class_with(oid: &[u8]) -> Option<ClassId>
+    ensures exact { option_map (λ class. class.0) result ≡ class_with oid.now }
+{
+    let mut class = ClassId(0);
+    while let Some(own) = class_oid(class) {
+        if oid == own.as_bytes() {
+            return Some(class);
+        }
+        class = ClassId(class.0 + 1);
+    }
+    None
+}
+
+/// Whether the listed class or one of its superclasses has the object identifier.
+fn is_kind_of(listed: &[u8], oid: &str) -> bool
+    ensures exact { result ≡ list_any (bytes_eq oid.now) (oids_of_listed listed.now) }
+{
+    if oid.as_bytes() == listed {
+        return true;
+    }
+    match class_with(listed) {
+        Some(found) => is_below(found, oid),
+        None => false,
+    }
+}
+
+/// Whether one of the listed classes, or of their superclasses, has the object identifier.
+pub(crate) fn is_any_kind_of(listed: &[Value], oid: &str) -> bool
+    ensures exact { result
+        ≡ list_any (λ value. list_any (bytes_eq oid.now) (oids_of_listed value.key)) listed.now }
+{
+    listed.iter().any(|value| is_kind_of(value.key(), oid))
+}

@@ -1,0 +1,93 @@
+//! Entries put in.
+
+ghost use Rattle.std.specs.Prelude.{◌≡◌, ◌≢◌, ◌<◌, ◌≤◌, ◌⊎◌, [], length, take, Some, None, IfOk, IfErr, OnOk, OnErr};
+
+use crate::entry::Entry;
+use crate::number::EntryNo;
+use crate::refusals::InsertRefusal;
+use crate::slots::{fill_slot, free_slot, put_number};
+use crate::tree::Tree;
+use dn_names::Dn;
+use std::alloc::AllocError;
+
+const MOST_ENTRIES: usize = 200_000;
+
+impl Tree {
+    ghost use Rattle.dir_tree.specs.Trees.{most_entries, has_name, entry_of, put_entry};
+    ghost use Rattle.dir_tree.specs.Refusals.{lacks_superior, insert_refusal};
+    ghost use Rattle.dir_tree.specs.Places.{place_of};
+
+    /// Puts the entry in, and gives the number by which it is known: one that is not in use.
+    ///
+    /// The refusals come in their order: `NameTaken` exactly where an entry has the name, `NoSuperior` exactly where
+    /// the tree has entries and the superior is none of them, `Full` exactly where it has 200,000, and `NoMemory`
+    /// where there is none. The first entry, of any name, is the suffix.
+    pub fn insert(&mut self, entry: Entry) -> Result<EntryNo, InsertRefusal>
+        requires { entry.name ≢ [] }
+        ensures ok { IfOk result (λ no. self.new ≡ put_entry no.0 entry self.old) }
+        ensures fits { IfOk result (λ no. no.0 < most_entries) }
+        ensures only { IfOk result (λ no. entry_of no.0 self.old ≡ None) }
+        ensures exact { OnOk result (insert_refusal entry.name self.old ≡ None) }
+
+        // Want of memory may come before the other causes.
+        ensures cause { IfErr result (λ refusal. (refusal ≡ InsertRefusal.NoMemory)
+            ⊎ (insert_refusal entry.name self.old ≡ Some refusal)) }
+        ensures kept { OnErr result (self.new ≡ self.old) }
+    {
+        if let Some(refusal) = self.insert_refusal(entry.name()) {
+            return Err(refusal);
+        }
+        let place = self.place_of(entry.name(), entry.name().len());
+        match self.put_in(place, entry) {
+            Ok(no) => Ok(no),
+            Err(_) => Err(InsertRefusal::NoMemory),
+        }
+    }
+
+    // Why an entry of the name is not put in.
+    fn insert_refusal(&self, name: &Dn) -> Option<InsertRefusal>
+        ensures exact { result ≡ insert_refusal name.now self.now }
+    {
+        if self.has_name(name, name.len()) {
+            Some(InsertRefusal::NameTaken)
+        } else if self.lacks_superior(name) {
+            Some(InsertRefusal::NoSuperior)
+        } else if self.len() == MOST_ENTRIES {
+            Some(InsertRefusal::Full)
+        } else {
+            None
+        }
+    }
+
+    // Whether the tree has entries, and the superior of the name is none of them.
+    fn lacks_superior(&self, name: &Dn) -> bool
+        ensures exact { result ≡ lacks_superior name.now self.now }
+    {
+        self.len() > 0 && !self.has_name(name, name.len().saturating_sub(1))
+    }
+
+    // Whether an entry has the first RDNs of the name.
+    fn has_name(&self, name: &Dn, len: usize) -> bool
+        ensures exact { result ≡ has_name (take len name.now) self.now }
+    {
+        self.search(name, len).is_some()
+    }
+
+    // Puts the entry, which is not refused, in at its place.
+    fn put_in(&mut self, place: usize, entry: Entry) -> Result<EntryNo, AllocError>
+        requires allowed { insert_refusal entry.name self.old ≡ None }
+        requires named { entry.name ≢ [] }
+        requires placed { place ≡ place_of entry.name self.old }
+        ensures ok { IfOk result (λ no. self.new ≡ put_entry no.0 entry self.old) }
+        ensures fits { IfOk result (λ no. no.0 < most_entries) }
+        ensures only { IfOk result (λ no. entry_of no.0 self.old ≡ None) }
+        ensures kept { OnErr result (self.new ≡ self.old) }
+    {
+        self.order.reserve(1)?;
+        let number = free_slot(&mut self.slots, self.low, self.order.len())?;
+        fill_slot(&mut self.slots, number, entry);
+        put_number(&mut self.order, place, number as u32);
+        self.low = number + 1;
+        Ok(EntryNo(number as u32))
+    }
+}

@@ -1,0 +1,5 @@
+//! The numbers of entries.
+
+/// The number by which an entry is known: it is the entry's until the entry is removed.
+#[derive(Clone, Copy, PartialEq, Eq, Debug, Drop)]
+pub struct EntryNo(pub u32);

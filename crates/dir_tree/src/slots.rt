@@ -1,0 +1,134 @@
+//! Entries in slots by their numbers, and numbers in order.
+
+ghost use Rattle.std.specs.Prelude.{◌≡◌, ◌≢◌, ℕ, ◌<◌, ◌≤◌, ◌+◌, length, IfSome, IsSome, is_some, IfOk, Some, None, true, insert, remove, set, get_or, vec_len, vec_capacity, OnErr};
+ghost use Rattle.std.specs.Option.{option_map};
+ghost use Rattle.dir_tree.specs.Slots.{slot_of, count_full, HasSameSlots};
+ghost use Rattle.dir_tree.specs.Trees.{most_entries};
+ghost use Rattle.dir_tree.specs.Places.{place_without};
+
+use crate::entry::Entry;
+use std::alloc::AllocError;
+
+/// The entry in the slot of the number.
+pub(crate) fn entry_at(slots: &[Option<Entry>], id: u32) -> Option<&Entry>
+    ensures exact { option_map (λ entry. entry.now) result ≡ slot_of slots.now id }
+{
+    match slots.get(id as usize) {
+        Some(Some(entry)) => Some(entry),
+        _ => None,
+    }
+}
+
+/// The number of an empty slot, of which one is made where all are full; no slot before `low` is looked at, as long
+/// as one from there on is empty.
+pub(crate) fn free_slot(
+    slots: &mut Vec<Option<Entry>>,
+    low: usize,
+    full: usize,
+) -> Result<usize, AllocError>
+    requires counted { count_full slots.old.items ≡ full }
+    requires room { full < most_entries }
+    requires within { length slots.old.items ≤ most_entries }
+    ensures ok { IfOk result (λ id.
+        (id < length slots.new.items) × (slot_of slots.new.items id ≡ None)) }
+    ensures kept { HasSameSlots slots.old.items slots.new.items }
+    ensures count { count_full slots.new.items ≡ full }
+    ensures fits { length slots.new.items ≤ most_entries }
+{
+    let len = slots.len();
+    if len == full {
+        slots.push(None)?;
+        return Ok(len);
+    }
+    Ok(empty_slot(slots, low))
+}
+
+// The number of an empty slot.
+fn empty_slot(slots: &[Option<Entry>], low: usize) -> usize
+    requires { count_full slots.now < length slots.now }
+    ensures fits { result < length slots.now }
+    ensures empty { slot_of slots.now result ≡ None }
+{
+    match empty_from(slots, low) {
+        Some(id) => id,
+        None => match empty_from(slots, 0) {
+            Some(id) => id,
+            None => unreachable!(),
+        },
+    }
+}
+
+// The number of the first empty slot from one on.
+fn empty_from(slots: &[Option<Entry>], from: usize) -> Option<usize>
+    ensures found { IfSome result (λ id. (id < length slots.now) × (slot_of slots.now id ≡ None)) }
+    ensures empty { result ≡ None
+        → (id : ℕ) → from ≤ id → id < length slots.now → is_some (slot_of slots.now id) ≡ true }
+{
+    let mut id = from;
+    while id < slots.len() {
+        if slots[id].is_none() {
+            return Some(id);
+        }
+        id += 1;
+    }
+    None
+}
+
+/// Puts the entry into the slot of the number.
+pub(crate) fn fill_slot(slots: &mut Vec<Option<Entry>>, id: usize, entry: Entry)
+    requires { id < length slots.old.items }
+    ensures exact { slots.new.items ≡ set slots.old.items id (Some entry) }
+{
+    slots[id] = Some(entry);
+}
+
+/// Takes the entry out of the slot of the number, which then is empty.
+pub(crate) fn take_entry(slots: &mut Vec<Option<Entry>>, id: u32) -> Entry
+    requires { IsSome (slot_of slots.old.items id) }
+    ensures ok { slot_of slots.old.items id ≡ Some result }
+    ensures exact { slots.new.items ≡ set slots.old.items id None }
+{
+    match slots[id as usize].take() {
+        Some(entry) => entry,
+        None => unreachable!(),
+    }
+}
+
+/// Puts the entry into the slot of the number, in place of the one that is there.
+pub(crate) fn replace_entry(slots: &mut Vec<Option<Entry>>, id: u32, entry: Entry) -> Entry
+    requires { IsSome (slot_of slots.old.items id) }
+    ensures ok { slot_of slots.old.items id ≡ Some result }
+    ensures exact { slots.new.items ≡ set slots.old.items id (Some entry) }
+{
+    match slots[id as usize].replace(entry) {
+        Some(old) => old,
+        None => unreachable!(),
+    }
+}
+
+/// Puts the number at the place, for which there is room.
+pub(crate) fn put_number(order: &mut Vec<u32>, place: usize, number: u32)
+    requires found { place ≤ vec_len order.old }
+    requires room { vec_len order.old < vec_capacity order.old }
+    ensures exact { order.new.items ≡ insert order.old.items place number }
+{
+    order.insert(place, number).unwrap();
+}
+
+/// Moves the number at a place to where it stands before the one at the other. Takes no memory.
+pub(crate) fn move_number(order: &mut Vec<u32>, from: usize, place: usize)
+    requires found { from < vec_len order.old }
+    requires fits { place ≤ vec_len order.old }
+    ensures exact { order.new.items ≡ insert (remove order.old.items from)
+        (place_without from place) (get_or order.old.items from 0) }
+{
+    let number = order.remove(from);
+    put_number(order, place_without(from, place), number);
+}
+
+// The place where one goes out at the other.
+fn place_without(from: usize, place: usize) -> usize
+    ensures exact { result ≡ place_without from place }
+{
+    if from < place { place - 1 } else { place }
+}

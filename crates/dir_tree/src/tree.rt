@@ -1,0 +1,108 @@
+//! The tree: entries in the order of their names, each known by a number.
+
+ghost use Rattle.std.specs.Prelude.{◌≡◌, ◌<◌, ◌≤◌, [], length, take, Option, None, if◌then◌else◌, nat_le};
+ghost use Rattle.std.specs.Option.{option_map};
+
+use crate::entry::Entry;
+use crate::number::EntryNo;
+use crate::slots::entry_at;
+use dn_names::Dn;
+use std::alloc::Global;
+use std::marker::Model;
+
+/// A tree of at most 200,000 entries. Contracts see the list of the entries with their numbers, in the order of
+/// the names.
+#[derive(Debug, Drop)]
+pub struct Tree {
+    pub(crate) slots: Vec<Option<Entry>>,
+    pub(crate) order: Vec<u32>,
+    pub(crate) low: usize,
+}
+
+impl Model for Tree {
+    ghost use Rattle.std.specs.Prelude.{List};
+    ghost use Rattle.dir_tree.specs.Trees.{Numbered};
+    ghost use Rattle.dir_tree.specs.Slots.{rows_of, IsKept};
+
+    ghost Value = { List Numbered };
+
+    ghost view = { λ tree. rows_of tree.slots.items tree.order.items };
+
+    ghost invariant = { λ tree. IsKept tree.slots.items tree.order.items };
+}
+
+impl Tree {
+    ghost use Rattle.dir_tree.specs.Trees.{IsTree, entry_of, suffix_of, find_name, find_front, superior_of};
+
+    /// A tree without entries. Takes no memory.
+    pub fn new(alloc: Global) -> Tree
+        ensures exact { result ≡ [] }
+    {
+        Tree {
+            slots: Vec::new(alloc),
+            order: Vec::new(alloc),
+            low: 0,
+        }
+    }
+
+    /// Computes nothing: what it ensures is the law that the entries are those of a tree.
+    pub fn entries_form_a_tree(&self)
+        ensures exact { IsTree self.now }
+    {
+        let _order = &self.order;
+    }
+
+    /// The number of entries.
+    pub fn len(&self) -> usize
+        ensures exact { result ≡ length self.now }
+    {
+        self.order.len()
+    }
+
+    /// The number of the first entry, the suffix; None exactly where there is no entry.
+    pub fn suffix(&self) -> Option<EntryNo>
+        ensures exact { option_map (λ no. no.0) result ≡ suffix_of self.now }
+    {
+        match self.order.first() {
+            Some(no) => Some(EntryNo(*no)),
+            None => None,
+        }
+    }
+
+    /// The number of the entry of the name; None exactly where there is none.
+    pub fn find(&self, name: &Dn) -> Option<EntryNo>
+        ensures exact { option_map (λ no. no.0) result ≡ find_name name.now self.now }
+    {
+        self.search(name, name.len())
+    }
+
+    /// The number of the entry whose name is the first `len` RDNs of the name; None exactly where there is none, or
+    /// where `len` is above the number of the name's RDNs.
+    pub fn find_prefix(&self, name: &Dn, len: usize) -> Option<EntryNo>
+        ensures exact { option_map (λ no. no.0) result ≡ find_front len name.now self.now }
+    {
+        if len > name.len() {
+            None
+        } else {
+            self.search(name, len)
+        }
+    }
+
+    /// The entry of the number; None exactly where the number is not in use.
+    pub fn at(&self, no: EntryNo) -> Option<&Entry>
+        ensures exact { option_map (λ entry. entry.now) result ≡ entry_of no.0 self.now }
+    {
+        entry_at(&self.slots, no.0)
+    }
+
+    /// The number of the superior of the entry of the number; None exactly where the number is not in use or is the
+    /// suffix's.
+    pub fn superior(&self, no: EntryNo) -> Option<EntryNo>
+        ensures exact { option_map (λ no. no.0) result ≡ superior_of no.0 self.now }
+    {
+        match self.at(no) {
+            Some(entry) => self.search(entry.name(), entry.name().len().saturating_sub(1)),
+            None => None,
+        }
+    }
+}

@@ -1,0 +1,355 @@
+//! Trees: each call once, and each refusal in its order.
+use dir_tree::{
+    Entry, EntryNo, InsertRefusal, RemoveRefusal, ReplaceRefusal, Scope, Tree,
+    all_but_the_suffix_have_superiors, putting_in_undoes_taking_out, scopes_take_in_what_is_below,
+};
+use dn_names::{Dn, parse, print};
+use std::alloc::Global;
+use std::test::Fail;
+
+fn name(alloc: Global, text: &str) -> Result<Dn, Fail> {
+    Ok(parse(alloc, text.as_bytes())?)
+}
+
+fn entry(alloc: Global, text: &str) -> Result<Entry, Fail> {
+    Ok(Entry::new(alloc, name(alloc, text)?)?)
+}
+
+// A tree of the names, the first of which is the suffix.
+fn tree_of(rt: &HostRuntime, names: &[&str]) -> Result<Tree, Fail> {
+    let mut tree = Tree::new(rt.alloc());
+    for text in names {
+        let entry = entry(rt.alloc(), text)?;
+        if entry.name().len() > 0 {
+            let _no = tree.insert(entry)?;
+        }
+    }
+    Ok(tree)
+}
+
+static NAMES: [&str; 8] = [
+    "dc=example,dc=com",
+    "ou=people,dc=example,dc=com",
+    "uid=bob,ou=people,dc=example,dc=com",
+    "uid=ada,ou=people,dc=example,dc=com",
+    "cn=key,uid=ada,ou=people,dc=example,dc=com",
+    "ou=groups,dc=example,dc=com",
+    "cn=staff,ou=groups,dc=example,dc=com",
+    "ou=lab,dc=example,dc=com",
+];
+
+// The printed names of the entries in the scope of the base, one to a line.
+fn listed(rt: &HostRuntime, tree: &Tree, base: &str, scope: Scope) -> Result<String, Fail> {
+    let mut out = String::new(rt.alloc());
+    let base = name(rt.alloc(), base)?;
+    if let Some(no) = tree.find(&base) {
+        for below in tree.below(no, scope) {
+            if let Some(entry) = tree.at(below) {
+                print(rt.alloc(), entry.name(), &mut out)?;
+                out.push('\n')?;
+            }
+        }
+    }
+    Ok(out)
+}
+
+#[test]
+fn a_scope_takes_in_what_is_in_it_in_the_order_of_names(rt: HostRuntime) -> Result<(), Fail> {
+    let tree = tree_of(&rt, &NAMES)?;
+    assert_eq!(rt; tree.len(), 8);
+    let rows = [
+        ("dc=example,dc=com", Scope::Base, "dc=example,dc=com\n"),
+        (
+            "dc=example,dc=com",
+            Scope::One,
+            "ou=groups,dc=example,dc=com\nou=lab,dc=example,dc=com\nou=people,dc=example,dc=com\n",
+        ),
+        (
+            "ou=people,dc=example,dc=com",
+            Scope::Sub,
+            "ou=people,dc=example,dc=com\nuid=ada,ou=people,dc=example,dc=com\ncn=key,uid=ada,ou=people,dc=example,dc=com\nuid=bob,ou=people,dc=example,dc=com\n",
+        ),
+        (
+            "OU=People,DC=Example,DC=Com",
+            Scope::One,
+            "uid=ada,ou=people,dc=example,dc=com\nuid=bob,ou=people,dc=example,dc=com\n",
+        ),
+        (
+            "ou=lab,dc=example,dc=com",
+            Scope::Sub,
+            "ou=lab,dc=example,dc=com\n",
+        ),
+        ("ou=lab,dc=example,dc=com", Scope::One, ""),
+    ];
+    for (base, scope, want) in rows {
+        let found = listed(&rt, &tree, base, scope)?;
+        assert_eq!(rt; found.as_str(), want, "{scope:?} of {base}");
+    }
+    tree.entries_form_a_tree();
+    all_but_the_suffix_have_superiors();
+    putting_in_undoes_taking_out();
+    scopes_take_in_what_is_below();
+    Ok(())
+}
+
+#[test]
+fn a_number_that_is_not_in_use_has_nothing(rt: HostRuntime) -> Result<(), Fail> {
+    let tree = tree_of(&rt, &NAMES)?;
+    for scope in [Scope::Base, Scope::One, Scope::Sub] {
+        let mut walk = tree.below(EntryNo(100), scope);
+        assert_eq!(rt; walk.next(), None, "{scope:?}");
+    }
+    assert!(rt; tree.at(EntryNo(100)).is_none());
+    assert_eq!(rt; tree.superior(EntryNo(100)), None);
+    let empty = Tree::new(rt.alloc());
+    assert_eq!(rt; empty.suffix(), None);
+    assert_eq!(rt; empty.len(), 0);
+    Ok(())
+}
+
+// The printed name of the entry of the number, or `none`.
+fn shown(rt: &HostRuntime, tree: &Tree, no: Option<EntryNo>) -> Result<String, Fail> {
+    let mut out = String::new(rt.alloc());
+    match no {
+        Some(no) => {
+            if let Some(entry) = tree.at(no) {
+                print(rt.alloc(), entry.name(), &mut out)?;
+            }
+        }
+        None => out.push_str("none")?,
+    }
+    Ok(out)
+}
+
+#[test]
+fn an_entry_is_found_by_its_name_and_by_a_front_of_a_name(rt: HostRuntime) -> Result<(), Fail> {
+    let tree = tree_of(&rt, &NAMES)?;
+    let suffix = shown(&rt, &tree, tree.suffix())?;
+    assert_eq!(rt; suffix.as_str(), "dc=example,dc=com");
+    let rows = [
+        (
+            "UID=Ada,ou=people,dc=example,dc=com",
+            9,
+            "uid=ada,ou=people,dc=example,dc=com",
+        ),
+        ("uid=eve,ou=people,dc=example,dc=com", 9, "none"),
+        ("dc=com", 9, "none"),
+        ("", 9, "none"),
+        (
+            "cn=key,uid=ada,ou=people,dc=example,dc=com",
+            5,
+            "cn=key,uid=ada,ou=people,dc=example,dc=com",
+        ),
+        (
+            "cn=key,uid=ada,ou=people,dc=example,dc=com",
+            3,
+            "ou=people,dc=example,dc=com",
+        ),
+        (
+            "cn=key,uid=ada,ou=people,dc=example,dc=com",
+            2,
+            "dc=example,dc=com",
+        ),
+        ("cn=key,uid=ada,ou=people,dc=example,dc=com", 1, "none"),
+        ("cn=key,uid=ada,ou=people,dc=example,dc=com", 0, "none"),
+        ("cn=key,uid=ada,ou=people,dc=example,dc=com", 6, "none"),
+    ];
+    for (text, len, want) in rows {
+        let name = name(rt.alloc(), text)?;
+        let no = if len == 9 {
+            tree.find(&name)
+        } else {
+            tree.find_prefix(&name, len)
+        };
+        let found = shown(&rt, &tree, no)?;
+        assert_eq!(rt; found.as_str(), want, "{len} of {text}");
+    }
+    Ok(())
+}
+
+#[test]
+fn a_superior_is_the_entry_without_the_last_rdn(rt: HostRuntime) -> Result<(), Fail> {
+    let tree = tree_of(&rt, &NAMES)?;
+    let rows = [
+        ("dc=example,dc=com", "none"),
+        ("ou=lab,dc=example,dc=com", "dc=example,dc=com"),
+        (
+            "cn=key,uid=ada,ou=people,dc=example,dc=com",
+            "uid=ada,ou=people,dc=example,dc=com",
+        ),
+    ];
+    for (text, want) in rows {
+        let name = name(rt.alloc(), text)?;
+        let no = tree.find(&name).ok_or("no entry")?;
+        let found = shown(&rt, &tree, tree.superior(no))?;
+        assert_eq!(rt; found.as_str(), want, "{text}");
+    }
+    Ok(())
+}
+
+// What putting an entry in answers, and how many entries there are then.
+fn put_in(rt: &HostRuntime, text: &str) -> Result<(Option<InsertRefusal>, usize), Fail> {
+    let mut tree = tree_of(rt, &NAMES)?;
+    let entry = entry(rt.alloc(), text)?;
+    if entry.name().len() == 0 {
+        return Ok((None, 0));
+    }
+    let refusal = tree.insert(entry).err();
+    Ok((refusal, tree.len()))
+}
+
+#[test]
+fn an_entry_comes_in_under_its_superior_and_under_no_name_twice(
+    rt: HostRuntime,
+) -> Result<(), Fail> {
+    let rows = [
+        ("dc=example,dc=com", Some(InsertRefusal::NameTaken), 8),
+        (
+            "OU=LAB,dc=example,dc=com",
+            Some(InsertRefusal::NameTaken),
+            8,
+        ),
+        ("dc=com", Some(InsertRefusal::NoSuperior), 8),
+        (
+            "cn=x,ou=none,dc=example,dc=com",
+            Some(InsertRefusal::NoSuperior),
+            8,
+        ),
+        ("dc=org", Some(InsertRefusal::NoSuperior), 8),
+        ("cn=x,ou=lab,dc=example,dc=com", None, 9),
+    ];
+    for (text, refusal, len) in rows {
+        let found = put_in(&rt, text)?;
+        assert_eq!(rt; found, (refusal, len), "{text}");
+    }
+    Ok(())
+}
+
+// What taking an entry out answers, and taking it out once more.
+fn taken_out(
+    rt: &HostRuntime,
+    text: &str,
+) -> Result<(Option<RemoveRefusal>, Option<RemoveRefusal>), Fail> {
+    let mut tree = tree_of(rt, &NAMES)?;
+    let name = name(rt.alloc(), text)?;
+    let no = tree.find(&name).ok_or("no entry")?;
+    let once = tree.remove(no).err();
+    let twice = tree.remove(no).err();
+    Ok((once, twice))
+}
+
+#[test]
+fn an_entry_goes_out_unless_one_stands_below(rt: HostRuntime) -> Result<(), Fail> {
+    let below = Some(RemoveRefusal::HasBelow);
+    let absent = Some(RemoveRefusal::Absent);
+    let rows = [
+        ("dc=example,dc=com", below, below),
+        ("ou=groups,dc=example,dc=com", below, below),
+        ("ou=lab,dc=example,dc=com", None, absent),
+        ("cn=key,uid=ada,ou=people,dc=example,dc=com", None, absent),
+    ];
+    for (text, once, twice) in rows {
+        let found = taken_out(&rt, text)?;
+        assert_eq!(rt; found, (once, twice), "{text}");
+    }
+    Ok(())
+}
+
+#[test]
+fn an_entry_that_went_out_comes_in_again(rt: HostRuntime) -> Result<(), Fail> {
+    let mut tree = tree_of(&rt, &NAMES)?;
+    let name = name(rt.alloc(), "ou=lab,dc=example,dc=com")?;
+    let no = tree.find(&name).ok_or("no entry")?;
+    let entry = tree.remove(no)?;
+    assert_eq!(rt; tree.find(&name), None);
+    if entry.name().len() > 0 {
+        let again = tree.insert(entry)?;
+        assert_eq!(rt; tree.find(&name), Some(again));
+    }
+    assert_eq!(rt; tree.len(), 8);
+    Ok(())
+}
+
+// What giving an entry's place to one of another name answers, and whether that is found under its number then.
+fn replaced(
+    rt: &HostRuntime,
+    names: &[&str],
+    old: &str,
+    new: &str,
+) -> Result<(Option<ReplaceRefusal>, bool), Fail> {
+    let mut tree = tree_of(rt, names)?;
+    let old = name(rt.alloc(), old)?;
+    let new_name = name(rt.alloc(), new)?;
+    let no = tree.find(&old).unwrap_or(EntryNo(100));
+    let refusal = tree.replace(no, entry(rt.alloc(), new)?).err();
+    Ok((refusal, tree.find(&new_name) == Some(no)))
+}
+
+#[test]
+fn an_entry_takes_the_place_of_another_under_its_number(rt: HostRuntime) -> Result<(), Fail> {
+    let rows = [
+        ("ou=lab,dc=example,dc=com", "OU=Lab,dc=example,dc=com"),
+        ("ou=lab,dc=example,dc=com", "ou=zoo,dc=example,dc=com"),
+        ("ou=lab,dc=example,dc=com", "ou=aaa,dc=example,dc=com"),
+        ("ou=people,dc=example,dc=com", "OU=PEOPLE,dc=example,dc=com"),
+    ];
+    for (old, new) in rows {
+        let found = replaced(&rt, &NAMES, old, new)?;
+        assert_eq!(rt; found, (None, true), "{old} to {new}");
+    }
+    let alone = replaced(
+        &rt,
+        &["dc=example,dc=com"],
+        "dc=example,dc=com",
+        "dc=other,dc=com",
+    )?;
+    assert_eq!(rt; alone, (None, true));
+    Ok(())
+}
+
+#[test]
+fn an_entry_does_not_take_a_place_that_is_not_its_own(rt: HostRuntime) -> Result<(), Fail> {
+    let rows = [
+        (
+            "ou=none,dc=example,dc=com",
+            "ou=lab,dc=example,dc=com",
+            ReplaceRefusal::Absent,
+        ),
+        (
+            "ou=lab,dc=example,dc=com",
+            "ou=people,dc=example,dc=com",
+            ReplaceRefusal::NameTaken,
+        ),
+        (
+            "ou=people,dc=example,dc=com",
+            "ou=lab,dc=example,dc=com",
+            ReplaceRefusal::NameTaken,
+        ),
+        ("ou=lab,dc=example,dc=com", "", ReplaceRefusal::Elsewhere),
+        (
+            "ou=lab,dc=example,dc=com",
+            "ou=lab,ou=people,dc=example,dc=com",
+            ReplaceRefusal::Elsewhere,
+        ),
+        (
+            "dc=example,dc=com",
+            "dc=example,dc=org",
+            ReplaceRefusal::Elsewhere,
+        ),
+        (
+            "ou=people,dc=example,dc=com",
+            "ou=folk,dc=example,dc=com",
+            ReplaceRefusal::HasBelow,
+        ),
+        (
+            "dc=example,dc=com",
+            "dc=other,dc=com",
+            ReplaceRefusal::HasBelow,
+        ),
+    ];
+    for (old, new, want) in rows {
+        let found = replaced(&rt, &NAMES, old, new)?;
+        assert_eq!(rt; found, (Some(want), false), "{old} to {new}");
+    }
+    Ok(())
+}
