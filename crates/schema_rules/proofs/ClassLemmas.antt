@@ -1,0 +1,142 @@
+-- A class and its superclasses: the class first, and then those from its superior on.
+use Rattle.std.proofs.Common.{◌≡◌, ℕ, ◌==◌, Bool, true, false, not, ◌&&◌, ◌||◌, zero, suc, ◌<◌, ◌≤◌, List, [], ◌∷◌, length, Option, Some, None, refl, ap, sym, ◌∙◌, arith}
+use Rattle.std.specs.List.{list_any, flat_map, cons_option}
+use Rattle.std.specs.Option.{option_map_or}
+use Rattle.schema_core.specs.Classes.{superior_of}
+use Rattle.schema_core.proofs.Theorems.{superior_of_below}
+use Rattle.std.proofs.lemmas.Grind.{flat_map-append}
+use Rattle.std.proofs.lemmas.List.Folds.{list_any-append}
+use Rattle.dn_names.specs.Names.{Keyed}
+use Rattle.dir_tree.specs.EntryClasses.{class_with}
+use Rattle.schema_rules.specs.Listed.{classes_up, with_superclasses, is_structural, are_in_line}
+use Rattle.schema_rules.specs.Classes.{classes_in, structural_in, is_apart, is_apart_from}
+use Rattle.schema_rules.proofs.ListLemmas.{list_any-filter, list_any-filter_map, list_any-same, none_passes}
+
+-- a class of number 0 has no superior
+none_above :
+    (number : ℕ) (found : Option ℕ) (up : ℕ → List ℕ) → superior_of number ≡ found → number ≤ 0
+    → option_map_or up found [] ≡ []
+none_above number None up is within = refl
+none_above number (Some superior) up is within =
+    let below = superior_of_below number superior is in
+    absurd (omega arith)
+
+no_more :
+    (number : ℕ) (up : ℕ → List ℕ) → number ≤ 0
+    → number ∷ option_map_or up (superior_of number) [] ≡ number ∷ []
+no_more number up within =
+    ap (λ above. number ∷ above) (none_above number (superior_of number) up refl within)
+
+-- from a superior on, where the two bounds serve each number below
+same_above :
+    (number bound : ℕ) (found : Option ℕ) (one other : ℕ → List ℕ) → superior_of number ≡ found
+    → number ≤ suc bound → ((superior : ℕ) → superior ≤ bound → superior < number → one superior ≡ other superior)
+    → option_map_or one found [] ≡ option_map_or other found []
+same_above number bound None one other is within same = refl
+same_above number bound (Some superior) one other is within same =
+    let below = superior_of_below number superior is in
+    same superior (omega arith) below
+
+-- the bound says nothing where it is at least the number
+classes_up-enough :
+    (most more number : ℕ) → number ≤ most → number ≤ more → classes_up most number ≡ classes_up more number
+classes_up-enough zero zero number within also = refl
+classes_up-enough zero (suc more) number within also =
+    sym (no_more number (classes_up more) within)
+classes_up-enough (suc most) zero number within also =
+    no_more number (classes_up most) also
+classes_up-enough (suc most) (suc more) number within also =
+    ap (λ above. number ∷ above)
+    (same_above number most (superior_of number) (classes_up most) (classes_up more) refl within
+    (λ superior fits below. classes_up-enough most more superior fits (omega arith)))
+
+-- so the class comes first, and then its superior with those above
+pub with_superclasses-first :
+    (number : ℕ) → with_superclasses number ≡ number ∷ option_map_or with_superclasses (superior_of number) []
+with_superclasses-first zero = sym (no_more zero with_superclasses (omega arith))
+with_superclasses-first (suc number) =
+    ap (λ above. suc number ∷ above)
+    (same_above (suc number) number (superior_of (suc number)) (classes_up number) with_superclasses refl
+    (omega arith) (λ superior fits below. classes_up-enough number superior superior fits (omega arith)))
+
+-- where the class passes, no superclass is asked
+pub list_any-own :
+    (test : ℕ → Bool) (number : ℕ) → test number ≡ true → list_any test (with_superclasses number) ≡ true
+list_any-own test number own =
+    ap (list_any test) (with_superclasses-first number) ∙ rw own refl
+
+-- and where it doesn't, the superclasses are
+pub list_any-above :
+    (test : ℕ → Bool) (number : ℕ) (found : Option ℕ) → test number ≡ false → found ≡ superior_of number
+    → list_any test (with_superclasses number) ≡ list_any test (option_map_or with_superclasses found [])
+list_any-above test number found not_own is =
+    ap (list_any test) (with_superclasses-first number) ∙ rw (not_own, is) refl
+
+-- the same of a list that each class gives
+pub flat_map-first :
+    {Y : Type 0} (test : Y → Bool) (lists : ℕ → List Y) (number : ℕ) (found : Option ℕ) → found ≡ superior_of number
+    → list_any test (flat_map lists (with_superclasses number))
+    ≡ (list_any test (lists number) || list_any test (flat_map lists (option_map_or with_superclasses found [])))
+flat_map-first test lists number found is =
+    ap (λ classes. list_any test (flat_map lists classes)) (with_superclasses-first number)
+    ∙ list_any-append test (lists number) (flat_map lists (option_map_or with_superclasses (superior_of number) []))
+    ∙ ap (λ found. list_any test (lists number) || list_any test (flat_map lists (option_map_or with_superclasses found []))) (sym is)
+
+pub flat_map-own :
+    {Y : Type 0} (test : Y → Bool) (lists : ℕ → List Y) (number : ℕ) → list_any test (lists number) ≡ true
+    → list_any test (flat_map lists (with_superclasses number)) ≡ true
+flat_map-own test lists number own = flat_map-first test lists number (superior_of number) refl ∙ rw own refl
+
+pub flat_map-above :
+    {Y : Type 0} (test : Y → Bool) (lists : ℕ → List Y) (number : ℕ) (found : Option ℕ)
+    → list_any test (lists number) ≡ false → found ≡ superior_of number
+    → list_any test (flat_map lists (with_superclasses number))
+    ≡ list_any test (flat_map lists (option_map_or with_superclasses found []))
+flat_map-above test lists number found not_own is = flat_map-first test lists number found is ∙ rw not_own refl
+
+-- the classes of the values, one value after another
+next_value :
+    {Y : Type 0} (test : Y → Bool) (lists : ℕ → List Y) (found : Option ℕ) (rest : List ℕ)
+    → list_any test (flat_map lists (flat_map with_superclasses (cons_option found rest)))
+    ≡ (option_map_or (λ class. list_any test (flat_map lists (with_superclasses class))) found false
+    || list_any test (flat_map lists (flat_map with_superclasses rest)))
+next_value test lists None rest = refl
+next_value test lists (Some class) rest =
+    ap (list_any test) (flat_map-append lists (with_superclasses class) (flat_map with_superclasses rest))
+    ∙ list_any-append test (flat_map lists (with_superclasses class)) (flat_map lists (flat_map with_superclasses rest))
+
+pub flat_map-all_classes :
+    {Y : Type 0} (test : Y → Bool) (lists : ℕ → List Y) (values : List Keyed)
+    → list_any test (flat_map lists (flat_map with_superclasses (classes_in values)))
+    ≡ list_any (λ value. option_map_or (λ class. list_any test (flat_map lists (with_superclasses class))) (class_with value.key) false) values
+flat_map-all_classes test lists [] = refl
+flat_map-all_classes test lists (value ∷ values) =
+    next_value test lists (class_with value.key) (classes_in values)
+    ∙ ap (λ later. option_map_or (λ class. list_any test (flat_map lists (with_superclasses class))) (class_with value.key) false || later)
+    (flat_map-all_classes test lists values)
+
+-- structural classes
+structural_tests :
+    (test : ℕ → Bool) (values : List Keyed)
+    → list_any test (structural_in values)
+    ≡ list_any (λ value. option_map_or (λ class. is_structural class && test class) (class_with value.key) false) values
+structural_tests test values =
+    list_any-filter test is_structural (classes_in values)
+    ∙ list_any-filter_map (λ class. is_structural class && test class) (λ value. class_with value.key) values
+
+pub no_structural :
+    (values : List Keyed)
+    → (length (structural_in values) == 0)
+    ≡ not (list_any (λ value. option_map_or is_structural (class_with value.key) false) values)
+no_structural values =
+    none_passes is_structural (classes_in values)
+    ∙ ap not (list_any-filter_map is_structural (λ value. class_with value.key) values)
+
+pub two_lines :
+    (values : List Keyed)
+    → list_any (λ one. list_any (λ other. not (are_in_line one other)) (structural_in values)) (structural_in values)
+    ≡ list_any (λ value. is_apart_from values value.key) values
+two_lines values =
+    list_any-same _ (λ one. list_any (λ value. is_apart one value.key) values) (structural_in values)
+    (λ one. structural_tests (λ other. not (are_in_line one other)) values)
+    ∙ structural_tests (λ one. list_any (λ value. is_apart one value.key) values) values

@@ -1,0 +1,12 @@
+pub mod ListLemmas
+pub mod ListedLemmas
+pub mod ClassLemmas
+pub mod ContentLemmas
+pub mod EntryLemmas
+pub mod LimitLemmas
+pub mod TreeLemmas
+pub mod ListPlaceLemmas
+pub mod RuleLemmas
+pub mod RootLemmas
+pub mod StayLemmas
+pub mod Examples

@@ -1,0 +1,10 @@
+-- The pairs are those of the last RDN.
+use Rattle.std.proofs.Common.{refl}
+use Rattle.schema_rules.specs.Rules.{lacks_own_value}
+use Rattle.schema_rules.proofs.own.lacks_own_value.Goals as goal
+
+pub returns : goal.returns
+unfolding lacks_own_value
+returns c = record {
+  exact = rw (c.lacks_pair.ensures.exact, c.last_pairs.ensures.exact, c.name.ensures.exact) refl;
+}

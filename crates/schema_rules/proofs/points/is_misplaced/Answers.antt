@@ -1,0 +1,20 @@
+-- The superior is in the tree or not.
+use Rattle.std.proofs.Common.{ap, ◌∙◌}
+use Rattle.schema_rules.specs.Rules.{is_misplaced, stands_wrong}
+use Rattle.schema_rules.proofs.points.is_misplaced.Goals as goal
+
+pub returns-in-Some : goal.returns-in-Some
+unfolding is_misplaced
+returns-in-Some c = record {
+  exact =
+      c.stands_wrong_below.ensures.exact
+      ∙ ap (λ found. stands_wrong found c.args.entry.now) (rw c.name.ensures.exact at c.in-Some.ensures.exact);
+}
+
+pub returns-in-None : goal.returns-in-None
+unfolding is_misplaced
+returns-in-None c = record {
+  exact =
+      c.is_subentry.ensures.exact
+      ∙ ap (λ found. stands_wrong found c.args.entry.now) (rw c.name.ensures.exact at c.in-None.ensures.exact);
+}

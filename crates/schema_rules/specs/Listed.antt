@@ -1,0 +1,54 @@
+-- The classes that an entry lists, by their numbers in the table, and what they require and allow (X.501 13.3 and 13.4).
+use Rattle.std.specs.Prelude.{ℕ, zero, suc, Bool, true, false, ◌==◌, ◌||◌, List, [], ◌∷◌, ◌++◌, filter}
+use Rattle.std.specs.List.{filter_map, flat_map, list_any}
+use Rattle.std.specs.Option.{option_map_or}
+use Rattle.schema_core.specs.declared.kinds.ClassKind.{ClassKind}
+use Rattle.schema_core.specs.declared.kinds.ClassKind.TheVariants.{Abstract, Structural, Auxiliary}
+use Rattle.schema_core.specs.Classes.{kind_of, superior_of, required_of, allowed_of}
+use Rattle.dir_tree.specs.Entries.{Attribute, values_of}
+use Rattle.dir_tree.specs.EntryClasses.{object_class, class_with}
+
+-- the numbers of the listed classes that are in the table, in order
+abbrev pub listed_classes : List Attribute → List ℕ
+listed_classes attributes = filter_map (λ value. class_with value.key) (values_of object_class attributes)
+
+-- the class, and at most so many superclasses
+abbrev pub classes_up : ℕ → ℕ → List ℕ
+classes_up zero number = number ∷ []
+classes_up (suc most) number = number ∷ option_map_or (classes_up most) (superior_of number) []
+
+-- the class and all its superclasses: each superior has a smaller number
+abbrev pub with_superclasses : ℕ → List ℕ
+with_superclasses number = classes_up number number
+
+-- the classes that are listed, and their superclasses
+abbrev pub all_classes : List Attribute → List ℕ
+all_classes attributes = flat_map with_superclasses (listed_classes attributes)
+
+-- the number is among the numbers
+abbrev pub is_among : ℕ → List ℕ → Bool
+is_among number numbers = list_any (λ other. number == other) numbers
+
+-- the class with this number is structural
+abbrev pub is_structural_kind : ClassKind → Bool
+is_structural_kind Abstract = false
+is_structural_kind Structural = true
+is_structural_kind Auxiliary = false
+
+abbrev pub is_structural : ℕ → Bool
+is_structural number = option_map_or is_structural_kind (kind_of number) false
+
+-- the structural classes that are listed
+abbrev pub structural_classes : List Attribute → List ℕ
+structural_classes attributes = filter is_structural (listed_classes attributes)
+
+-- one of the two is the other, or a superclass of it
+abbrev pub are_in_line : ℕ → ℕ → Bool
+are_in_line one other = is_among one (with_superclasses other) || is_among other (with_superclasses one)
+
+-- the attribute types that the classes require, and those that they require or allow
+abbrev pub required_by : List ℕ → List ℕ
+required_by classes = flat_map required_of classes
+
+abbrev pub permitted_by : List ℕ → List ℕ
+permitted_by classes = flat_map (λ number. required_of number ++ allowed_of number) classes

@@ -1,0 +1,149 @@
+-- When an entry may not stand in a tree: the rules in the order in which they are tried, each with its result code
+-- (RFC 4511 appendix A). X.501 and X.511 leave the order open; it is this profile's.
+use Rattle.std.specs.Prelude.{◌≡◌, ℕ, ◌-◌, nat_lt, nat_le, ◌==◌, Bool, true, false, not, ◌&&◌, ◌||◌, List, [], ◌∷◌, ◌++◌, length, drop, filter, find, sum_by, codes, Option, Some, None, is_none}
+use Rattle.std.specs.List.{flat_map, list_any}
+use Rattle.std.specs.Option.{option_map, option_map_or}
+use Rattle.schema_core.specs.declared.kinds.Syntax.{Syntax}
+use Rattle.schema_core.specs.declared.kinds.Syntax.TheVariants.{Text, Ascii, Phone, Country, Octets, Oid, Name, Subtree, Aci}
+use Rattle.schema_core.specs.Attributes.{attribute_at, syntax_of}
+use Rattle.dn_names.specs.Names.{TypeAndValue, RdnSequence}
+use Rattle.dn_names.specs.NameOrder.{is_same}
+use Rattle.dir_tree.specs.Entries.{EntryInformation, kinds_of, values_of, has_kind, has_key}
+use Rattle.dir_tree.specs.EntryClasses.{object_class, class_with, has_class}
+use Rattle.dir_tree.specs.Points.{is_point, is_subentry, is_access_subentry}
+use Rattle.dir_tree.specs.Trees.{superior_name}
+use Rattle.schema_rules.specs.Listed.{all_classes, structural_classes, are_in_line, is_among, required_by, permitted_by}
+
+-- notAllowedOnRDN (67): a value of the last RDN is none of the entry's
+
+-- the pairs of the last RDN
+abbrev pub last_pairs : RdnSequence → List TypeAndValue
+last_pairs name = flat_map (λ rdn. rdn) (drop (length name - 1) name)
+
+unfoldable pub lacks_own_value : EntryInformation → Bool
+lacks_own_value entry = list_any (λ pair. not (has_key pair.value.key (values_of pair.kind entry.attributes))) (last_pairs entry.name)
+
+-- objectClassViolation (65)
+
+-- no class is listed
+abbrev pub lists_none : EntryInformation → Bool
+lists_none entry = length (values_of object_class entry.attributes) == 0
+
+-- a class is listed that isn't in the table
+abbrev pub lists_unknown : EntryInformation → Bool
+lists_unknown entry = list_any (λ value. is_none (class_with value.key)) (values_of object_class entry.attributes)
+
+-- no structural class is listed, or two of which neither is a superclass of the other (X.501 8.3.2)
+abbrev pub lists_no_structural : EntryInformation → Bool
+lists_no_structural entry = length (structural_classes entry.attributes) == 0
+
+abbrev pub lists_two_lines : EntryInformation → Bool
+lists_two_lines entry =
+    list_any (λ one. list_any (λ other. not (are_in_line one other)) (structural_classes entry.attributes)) (structural_classes entry.attributes)
+
+-- an attribute that a class requires is absent
+abbrev pub lacks_required : EntryInformation → Bool
+lacks_required entry = list_any (λ kind. not (has_kind kind entry.attributes)) (required_by (all_classes entry.attributes))
+
+-- the operational attributes that classes do not list (X.501 14.3 and 18.5): entryACI stands in every entry, and
+-- administrativeRole, accessControlScheme and subentryACI in every entry that is no subentry
+abbrev pub is_permitted_besides : ℕ → EntryInformation → Bool
+is_permitted_besides kind entry = (kind == 33) || ((kind == 29) || (kind == 31) || (kind == 34)) && not (is_subentry entry)
+
+-- an attribute that nothing allows is there
+abbrev pub has_unpermitted : EntryInformation → Bool
+has_unpermitted entry =
+    list_any (λ kind. not (is_among kind (permitted_by (all_classes entry.attributes)) || is_permitted_besides kind entry)) (kinds_of entry.attributes)
+
+-- the class of access control subentries is listed without that of subentries
+abbrev pub lists_access_alone : EntryInformation → Bool
+lists_access_alone entry = has_class (codes "2.5.17.1") entry && not (has_class (codes "2.5.17.0") entry)
+
+unfoldable pub breaks_classes : EntryInformation → Bool
+breaks_classes entry =
+    lists_none entry || lists_unknown entry || lists_no_structural entry || lists_two_lines entry
+    || lacks_required entry || has_unpermitted entry || lists_access_alone entry
+
+-- invalidAttributeSyntax (21): no value of these two syntaxes is read yet, so each is refused
+abbrev pub is_unread : Syntax → Bool
+is_unread Text = false
+is_unread Ascii = false
+is_unread Phone = false
+is_unread Country = false
+is_unread Octets = false
+is_unread Oid = false
+is_unread Name = false
+is_unread Subtree = true
+is_unread Aci = true
+
+unfoldable pub has_unread : EntryInformation → Bool
+has_unread entry = list_any (λ kind. option_map_or is_unread (syntax_of kind) false) (kinds_of entry.attributes)
+
+-- constraintViolation (19): a single-valued attribute has two values
+abbrev pub is_single : ℕ → Bool
+is_single kind = option_map_or (λ row. row.single) (attribute_at kind) false
+
+unfoldable pub has_two_values : EntryInformation → Bool
+has_two_values entry = list_any (λ attribute. is_single attribute.kind && nat_lt 1 (length attribute.values)) entry.attributes
+
+-- namingViolation (64): a subentry stands immediately below an administrative point, and nothing below it (RFC 3672 2)
+
+-- the entry of the name
+abbrev pub named_in : RdnSequence → List EntryInformation → Option EntryInformation
+named_in name entries = find (λ other. is_same name other.name) entries
+
+abbrev pub stands_wrong : Option EntryInformation → EntryInformation → Bool
+stands_wrong None entry = is_subentry entry
+stands_wrong (Some superior) entry = is_subentry superior || is_subentry entry && not (is_point superior)
+
+unfoldable pub is_misplaced : List EntryInformation → EntryInformation → Bool
+is_misplaced entries entry = stands_wrong (named_in (superior_name entry.name) entries) entry
+
+-- adminLimitExceeded (11): entries, access control subentries, or the octets of the entry's values
+
+-- how many access control subentries there are
+abbrev pub access_subentries : List EntryInformation → ℕ
+access_subentries entries = length (filter is_access_subentry entries)
+
+-- the octets of the values together
+abbrev pub octets_in : EntryInformation → ℕ
+octets_in entry = sum_by (λ attribute. sum_by (λ value. length value.octets) attribute.values) entry.attributes
+
+unfoldable pub is_past_limits : List EntryInformation → EntryInformation → Bool
+is_past_limits entries entry =
+    nat_le 200000 (length entries) || is_access_subentry entry && nat_le 256 (access_subentries entries) || nat_lt 67108864 (octets_in entry)
+
+-- the table
+
+-- a rule: its result code, and whether an entry breaks it among the others
+pub record Rule : Type 0 where
+  pub code : ℕ
+  pub breaks : List EntryInformation → EntryInformation → Bool
+
+abbrev pub rules : List Rule
+rules =
+    record { code = 67; breaks = λ entries. lacks_own_value }
+    ∷ record { code = 65; breaks = λ entries. breaks_classes }
+    ∷ record { code = 21; breaks = λ entries. has_unread }
+    ∷ record { code = 19; breaks = λ entries. has_two_values }
+    ∷ record { code = 64; breaks = is_misplaced }
+    ∷ record { code = 11; breaks = is_past_limits }
+    ∷ []
+
+-- the code of the first rule that the entry breaks among the others
+unfoldable pub broken_rule : List EntryInformation → EntryInformation → Option ℕ
+broken_rule entries entry = option_map (λ rule. rule.code) (find (λ rule. rule.breaks entries entry) rules)
+
+-- good trees
+
+-- the entry at each place meets the rules among the others
+abbrev pub MeetsRules : List EntryInformation → Type 0
+MeetsRules entries =
+    (front back : List EntryInformation) (entry : EntryInformation) → entries ≡ front ++ entry ∷ back → broken_rule (front ++ back) entry ≡ None
+
+-- there is an entry, and each meets the rules
+pub record IsGoodTree (entries : List EntryInformation) : Type 0 where
+  pub first : EntryInformation
+  pub rest : List EntryInformation
+  pub some : entries ≡ first ∷ rest
+  pub meets : MeetsRules entries

@@ -1,0 +1,23 @@
+//! Whether an entry may be added to a tree.
+
+ghost use Rattle.std.specs.Prelude.{◌≡◌, ◌≢◌, None, IfOk, IfErr};
+ghost use Rattle.schema_rules.specs.Checking.{entries_of, IsCause};
+ghost use Rattle.schema_rules.specs.Rules.{broken_rule};
+
+use crate::broken::Broken;
+use crate::rules::broken_rule;
+use dir_tree::{Entry, EntryNo, Tree};
+
+/// Whether the entry may be added to the tree: `Rule` comes exactly where it breaks a rule, with the code of the
+/// first one. An entry that takes the place of another isn't checked yet. Takes no memory.
+pub fn check_entry(tree: &Tree, old: Option<EntryNo>, entry: &Entry) -> Result<(), Broken>
+    requires { old ≡ None }
+    ensures ok { IfOk result (λ _. broken_rule (entries_of tree.now) entry.now ≡ None) }
+    ensures no_memory { IfErr result (λ broken. broken ≢ Broken.NoMemory) }
+    ensures rule { IfErr result (λ broken. IsCause broken (broken_rule (entries_of tree.now) entry.now)) }
+{
+    match broken_rule(tree, entry) {
+        Some(code) => Err(Broken::Rule(code)),
+        None => Ok(()),
+    }
+}

@@ -1,0 +1,51 @@
+//! The table of the rules, in the order in which they are tried.
+
+ghost use Rattle.std.specs.Prelude.{◌≡◌};
+ghost use Rattle.schema_rules.specs.Checking.{entries_of};
+ghost use Rattle.schema_rules.specs.Rules.{breaks_classes, broken_rule};
+
+use crate::contents::{has_unpermitted, lacks_required};
+use crate::limits::is_past_limits;
+use crate::listed::{
+    lists_access_alone, lists_no_structural, lists_none, lists_two_lines, lists_unknown,
+};
+use crate::own::lacks_own_value;
+use crate::points::is_misplaced;
+use crate::values::{has_two_values, has_unread};
+use dir_tree::{Entry, Tree};
+
+/// The result code of the first rule that the entry breaks in the tree; None where it breaks none.
+#[tactic(auto, unfolding(crate::specs::Rules::broken_rule))]
+pub(crate) fn broken_rule(tree: &Tree, entry: &Entry) -> Option<u8>
+    ensures exact { result ≡ broken_rule (entries_of tree.now) entry.now }
+{
+    if lacks_own_value(entry) {
+        Some(67)
+    } else if breaks_classes(entry) {
+        Some(65)
+    } else if has_unread(entry) {
+        Some(21)
+    } else if has_two_values(entry) {
+        Some(19)
+    } else if is_misplaced(tree, entry) {
+        Some(64)
+    } else if is_past_limits(tree, entry) {
+        Some(11)
+    } else {
+        None
+    }
+}
+
+// Whether the entry's classes don't go together, or its attributes don't go with them.
+#[tactic(auto, unfolding(crate::specs::Rules::breaks_classes))]
+fn breaks_classes(entry: &Entry) -> bool
+    ensures exact { result ≡ breaks_classes entry.now }
+{
+    lists_none(entry)
+        || lists_unknown(entry)
+        || lists_no_structural(entry)
+        || lists_two_lines(entry)
+        || lacks_required(entry)
+        || has_unpermitted(entry)
+        || lists_access_alone(entry)
+}

@@ -1,0 +1,140 @@
+//! What the values of an attribute have to keep, whatever the classes of the entry.
+
+ghost use Rattle.std.specs.Prelude.{◌≡◌, ◌≤◌, ◌+◌, ◌&&◌, [], false, length, min, nat_lt, slice_get, sum_by};
+ghost use Rattle.std.specs.Option.{option_map_or};
+ghost use Rattle.schema_core.specs.Attributes.{syntax_of};
+ghost use Rattle.dir_tree.specs.Entries.{kinds_of};
+ghost use Rattle.schema_rules.specs.Rules.{is_unread, has_unread, is_single, has_two_values, octets_in};
+
+use dir_tree::Entry;
+use dn_names::Value;
+use schema_core::{AttrId, Syntax, row};
+
+/// Whether there is a value of a syntax that isn't read yet.
+pub(crate) fn has_unread(entry: &Entry) -> bool
+    ensures exact { result ≡ has_unread entry.now }
+{
+    for index in 0..entry.kinds() {
+        if is_unread_at(entry, index) {
+            return true;
+        }
+    }
+    false
+}
+
+// Whether there is an attribute at the place, and values of its type are not read yet.
+fn is_unread_at(entry: &Entry, index: usize) -> bool
+    ensures exact { result
+        ≡ option_map_or (λ kind. option_map_or is_unread (syntax_of kind) false)
+        (slice_get (kinds_of entry.now.attributes) index) false }
+{
+    match entry.kind_at(index) {
+        Some(kind) => is_unread(kind),
+        None => false,
+    }
+}
+
+// Whether values of the type are not read yet.
+fn is_unread(kind: AttrId) -> bool
+    ensures exact { result ≡ option_map_or is_unread (syntax_of kind.0) false }
+{
+    match row(kind) {
+        Some(row) => is_syntax_unread(row.syntax),
+        None => false,
+    }
+}
+
+// Whether values of the syntax are not read yet.
+fn is_syntax_unread(syntax: Syntax) -> bool
+    ensures exact { result ≡ is_unread syntax }
+{
+    match syntax {
+        Syntax::Subtree => true,
+        Syntax::Aci => true,
+        _ => false,
+    }
+}
+
+/// Whether a single-valued attribute has two values.
+pub(crate) fn has_two_values(entry: &Entry) -> bool
+    ensures exact { result ≡ has_two_values entry.now }
+{
+    for index in 0..entry.kinds() {
+        if is_doubled_at(entry, index) {
+            return true;
+        }
+    }
+    false
+}
+
+// Whether there is an attribute at the place, its type is single-valued, and it has two values.
+fn is_doubled_at(entry: &Entry, index: usize) -> bool
+    ensures exact { result
+        ≡ option_map_or (λ attribute. is_single attribute.kind && nat_lt 1 (length attribute.values))
+        (slice_get entry.now.attributes index) false }
+{
+    match entry.kind_at(index) {
+        Some(kind) => is_single(kind) && values_at(entry, index).len() > 1,
+        None => false,
+    }
+}
+
+// Whether the type is single-valued.
+fn is_single(kind: AttrId) -> bool
+    ensures exact { result ≡ is_single kind.0 }
+{
+    match row(kind) {
+        Some(row) => row.single,
+        None => false,
+    }
+}
+
+// The values of the attribute at the place, or none past the last attribute.
+fn values_at(entry: &Entry, index: usize) -> &[Value]
+    ensures exact { result.now
+        ≡ option_map_or (λ attribute. attribute.values) (slice_get entry.now.attributes index) [] }
+{
+    entry.is_good();
+    match entry.kind_at(index) {
+        Some(kind) => entry.values(kind),
+        None => &[],
+    }
+}
+
+/// How many octets the values of one entry may have together.
+pub(crate) const MOST_OCTETS: usize = 67_108_864;
+
+/// How many octets the values have together, or one more than they may have.
+pub(crate) fn octets_in(entry: &Entry) -> usize
+    ensures exact { result ≡ min 67108865 (octets_in entry.now) }
+{
+    let mut total = 0;
+    for index in 0..entry.kinds() {
+        total = add_octets(total, values_at(entry, index));
+    }
+    total
+}
+
+// The sum with the octets of the values, or one more than there may be.
+fn add_octets(total: usize, values: &[Value]) -> usize
+    requires fits { total ≤ 67108865 }
+    ensures exact { result ≡ min 67108865 (total + sum_by (λ value. length value.octets) values.now) }
+{
+    let mut sum = total;
+    for value in values {
+        sum = add_up_to_limit(sum, value.octets().len());
+    }
+    sum
+}
+
+// The sum, or one more than there may be.
+fn add_up_to_limit(total: usize, more: usize) -> usize
+    requires fits { total ≤ 67108865 }
+    ensures exact { result ≡ min 67108865 (total + more) }
+{
+    if more > MOST_OCTETS + 1 - total {
+        MOST_OCTETS + 1
+    } else {
+        total + more
+    }
+}
