@@ -1,0 +1,17 @@
+pub mod OnLiterals
+mod Examples
+mod PhysicalLemmas
+mod LogicalLemmas
+mod KindLemmas
+mod FieldLemmas
+mod ContentLemmas
+mod RecordLemmas
+mod NextLemmas
+mod WrittenLemmas
+pub mod Theorems
+mod OctetLemmas
+mod WrittenLineLemmas
+mod TableNames
+mod WrittenFileLemmas
+mod RereadLemmas
+mod KindForms

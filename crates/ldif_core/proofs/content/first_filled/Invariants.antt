@@ -1,0 +1,18 @@
+use Rattle.std.proofs.Common.{◌≡◌, ◌<◌, length, []}
+use Rattle.std.specs.Prelude.{IfSome, IfNone}
+use Rattle.ldif_core.specs.Records.{records}
+use Rattle.ldif_core.specs.Places.{IsPlace, content_from, records_from}
+use Rattle.ldif_core.specs.Steps.{ahead}
+use Rattle.ldif_core.proofs.content.first_filled.Given as goal
+
+-- only empty lines stand before
+abbrev pub invariant-blanks : goal.invariant-blanks
+invariant-blanks l = record {
+  lines : records (ahead l.line (content_from l.text l.at)) ≡ records_from l.text l.fn.from;
+  end : IfNone l.line (content_from l.text l.at ≡ []);
+  later : IfSome l.line (λ _. l.fn.from.offset < l.at.offset);
+  place : IsPlace l.text l.at;
+}
+
+abbrev pub decreases-blanks : goal.decreases-blanks
+decreases-blanks l = length (ahead l.line (content_from l.text l.at))

@@ -1,0 +1,30 @@
+use Rattle.std.proofs.Common.{sym, ◌∙◌, ap, ◌++◌, rules}
+use Rattle.std.proofs.lemmas.List.{append-nil}
+use Rattle.ldif_core.specs.Lines.{continued}
+use Rattle.ldif_core.specs.Places.{physical_from, logical_from}
+use Rattle.ldif_core.proofs.LogicalLemmas.{continued-none, beginning-none, continued-step, beginning-step}
+use Rattle.ldif_core.proofs.unfolded.join.Goals as goal
+
+-- one continuation more
+pub loop-at-preserved : goal.loop-at-preserved
+loop-at-preserved c =
+    let more = sym c.goes_on.ensures.exact ∙ c.loop-at-test.true in
+    record {
+      octets =
+          ap (λ octets. octets ++ continued (physical_from c.args.text.now c.first_line.result.1)) (c.in_ok-extend_from_slice.ensures.items ∙ ap (λ octets. c.loop-at.joined.items ++ octets) c.split_at.ensures.back)
+          ∙ continued-step c.loop-at.joined.items _ _ _ _ c.first_line.ensures.exact more c.loop-at.invariant.octets;
+      rest = c.loop-at.invariant.rest ∙ beginning-step _ _ _ c.first_line.ensures.exact more;
+      later = search rules;
+      place = c.first_line.ensures.place;
+    }
+
+-- no continuation is left
+pub returns-clause-octets : goal.returns-clause-octets
+returns-clause-octets c =
+    let none = sym c.goes_on.ensures.exact ∙ c.loop-at-test.false in
+    c.from_vec.ensures.exact ∙ sym (append-nil c.loop-at.joined.items) ∙ ap (λ more. c.loop-at.joined.items ++ more) (sym (continued-none _ none)) ∙ c.loop-at.invariant.octets
+
+pub returns-clause-rest : goal.returns-clause-rest
+unfolding logical_from
+returns-clause-rest c =
+    c.loop-at.invariant.rest ∙ beginning-none _ (sym c.goes_on.ensures.exact ∙ c.loop-at-test.false)

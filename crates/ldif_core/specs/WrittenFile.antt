@@ -1,0 +1,57 @@
+-- The written form of entries as a data file (RFC 2849, ldif-content), and the records that it gives.
+use Rattle.std.specs.Prelude.{ℕ, ◌+◌, ◌<◌, List, [], ◌∷◌, ◌++◌, length, map, codes, Result, Ok}
+use Rattle.std.specs.List.{flat_map, AllByRecursion}
+use Rattle.base64.specs.GeneralPurpose.{IsBytes}
+use Rattle.schema_core.specs.Attributes.{name_of}
+use Rattle.dn_names.specs.Printing.{print_name}
+use Rattle.dir_tree.specs.Entries.{Attribute, EntryInformation}
+use Rattle.ldif_core.specs.declared.types.Position.{Position}
+use Rattle.ldif_core.specs.declared.types.Record.{Record}
+use Rattle.ldif_core.specs.declared.types.RecordLine.{RecordLine}
+use Rattle.ldif_core.specs.declared.types.BadLine.{BadLine}
+use Rattle.ldif_core.specs.Written.{AreInTable, written_entry}
+
+-- a type by its name, and the octets of a value
+pub record TypeAndOctets : Type 0 where
+  pub kind : List ℕ
+  pub value : List ℕ
+
+-- the values of attributes, each with its type, in their order
+abbrev pub values_in : List Attribute → List TypeAndOctets
+values_in attributes =
+    flat_map (λ attribute. map (λ value. record { kind = name_of attribute.kind; value = value.octets }) attribute.values) attributes
+
+-- the entry has a value; its types are in the table, and its values and its printed name are octets
+pub record IsWritable (entry : EntryInformation) : Type 0 where
+  pub filled : 0 < length (values_in entry.attributes)
+  pub in_table : AreInTable entry.attributes
+  pub name : IsBytes (print_name entry.name)
+  pub values : AllByRecursion (λ found. IsBytes found.value) (values_in entry.attributes)
+
+-- the lines of a record of the values, from the number on
+abbrev pub lines_from : ℕ → List TypeAndOctets → List RecordLine
+lines_from number [] = []
+lines_from number (found ∷ rest) = record { line = number; kind = found.kind; value = found.value } ∷ lines_from (number + 1) rest
+
+-- the record of an entry, from the number on
+abbrev pub record_from : ℕ → EntryInformation → Record
+record_from number entry =
+    record { line = number; name = print_name entry.name; lines = lines_from (number + 1) (values_in entry.attributes) }
+
+-- the place where a file starts
+abbrev pub start_of_file : Position
+start_of_file = record { offset = 0; line = 1 }
+
+-- a file of entries: the version, and an empty line before each record
+abbrev pub written_entries : List EntryInformation → List ℕ
+written_entries entries = flat_map (λ entry. 10 ∷ written_entry entry) entries
+
+-- the whole file
+abbrev pub written_file : List EntryInformation → List ℕ
+written_file entries = codes "version: 1" ++ (10 ∷ written_entries entries)
+
+-- the records of the entries, from the number of the first empty line on
+abbrev pub entry_records : ℕ → List EntryInformation → List (Result Record BadLine)
+entry_records number [] = []
+entry_records number (entry ∷ rest) =
+    Ok (record_from (number + 1) entry) ∷ entry_records (number + 1 + 1 + length (values_in entry.attributes)) rest
