@@ -1,0 +1,8 @@
+mod Examples
+mod LineLemmas
+mod OrderLemmas
+mod OwnLemmas
+mod PlaceLemmas
+mod OctetLemmas
+mod TextLemmas
+mod LoadLemmas

@@ -1,0 +1,66 @@
+-- The printed form of a good name is a text, and so octets.
+use Rattle.std.proofs.Common.{◌≡◌, ℕ, zero, suc, ◌<◌, true, List, [], ◌∷◌, ◌++◌, subst, arith, inl, inr}
+use Rattle.std.specs.List.{AllByRecursion}
+use Rattle.std.specs.Str.{IsUtf8}
+use Rattle.std.proofs.Math.Utf8.{encode, encodes, scalar, scalars, scalar_cases}
+use Rattle.std.proofs.lemmas.Bool.{cond_both, and_parts, ltb-true}
+use Rattle.std.proofs.Math.Dec.{ltb}
+use Rattle.base64.specs.GeneralPurpose.{IsBytes}
+use Rattle.dn_names.specs.Names.{TypeAndValue, RdnSequence, IsTextRdn, IsTextName}
+use Rattle.dn_names.specs.GoodNames.{IsGoodPair, IsGoodRdn, IsGoodName}
+use Rattle.dn_names.specs.Printing.{print_name}
+use Rattle.dn_names.proofs.GoodNameLemmas.{all_reverse}
+use Rattle.dn_names.proofs.NamingTextLemmas.{is_utf8-naming_value}
+use Rattle.dn_names.proofs.PrintTextLemmas.{IsUtf8-print_name}
+
+-- each is an octet
+abbrev AreBelow : List ℕ → Type 0
+AreBelow octets = AllByRecursion (λ octet. octet < 256) octets
+
+IsBytes-from_AreBelow : (octets : List ℕ) → AreBelow octets → IsBytes octets
+IsBytes-from_AreBelow [] below index = omega arith
+IsBytes-from_AreBelow (octet ∷ octets) below zero = below.0
+IsBytes-from_AreBelow (octet ∷ octets) below (suc index) = IsBytes-from_AreBelow octets below.1 index
+
+AreBelow-append : (one other : List ℕ) → AreBelow one → AreBelow other → AreBelow (one ++ other)
+AreBelow-append [] other below later = later
+AreBelow-append (octet ∷ one) other below later = (below.0, AreBelow-append one other below.1 later)
+
+-- the octets of a character
+AreBelow-encode : (c : ℕ) → c < 1114112 → AreBelow (encode c)
+unfolding encode
+AreBelow-encode c within =
+    cond_both (ltb c 128) _ _ AreBelow (λ (e : ltb c 128 ≡ true). let small = ltb-true c 128 e in (omega arith, tt))
+    (λ _. cond_both (ltb c 2048) _ _ AreBelow (λ (e : ltb c 2048 ≡ true). let small = ltb-true c 2048 e in (omega arith, (omega arith, tt)))
+    (λ _. cond_both (ltb c 65536) _ _ AreBelow
+    (λ (e : ltb c 65536 ≡ true). let small = ltb-true c 65536 e in (omega arith, (omega arith, (omega arith, tt))))
+    (λ _. (omega arith, (omega arith, (omega arith, (omega arith, tt)))))))
+
+scalar-within : (c : ℕ) → scalar c ≡ true → c < 1114112
+scalar-within c is = elim (scalar_cases c is) [
+  | inl low ↦ omega arith
+  | inr high ↦ high.1
+]
+
+AreBelow-encodes : (characters : List ℕ) → scalars characters ≡ true → AreBelow (encodes characters)
+AreBelow-encodes [] are = tt
+AreBelow-encodes (c ∷ characters) are =
+    let parts = and_parts (scalar c) (scalars characters) are in
+    AreBelow-append (encode c) (encodes characters) (AreBelow-encode c (scalar-within c parts.0)) (AreBelow-encodes characters parts.1)
+
+pub IsBytes-from_IsUtf8 : (octets : List ℕ) → IsUtf8 octets → IsBytes octets
+IsBytes-from_IsUtf8 octets (characters, (are, spelled)) =
+    IsBytes-from_AreBelow octets (subst AreBelow spelled (AreBelow-encodes characters are))
+
+-- the values of a good name are texts
+text_rdn : (rdn : List TypeAndValue) → AllByRecursion IsGoodPair rdn → IsTextRdn rdn
+text_rdn [] good = tt
+text_rdn (pair ∷ rdn) good = (is_utf8-naming_value pair.kind pair.value.octets pair.value good.0, text_rdn rdn good.1)
+
+text_name : (name : RdnSequence) → AllByRecursion IsGoodRdn name → IsTextName name
+text_name [] good = tt
+text_name (rdn ∷ rdns) good = (text_rdn rdn good.0.good, text_name rdns good.1)
+
+pub IsBytes-print_name : (name : RdnSequence) → IsGoodName name → IsBytes (print_name name)
+IsBytes-print_name name good =
+    IsBytes-from_IsUtf8 (print_name name) (IsUtf8-print_name name (all_reverse IsTextRdn name (text_name name good.good)))

@@ -1,0 +1,17 @@
+//! The laws of loading: each function computes nothing, and what it ensures is a law.
+
+ghost use Rattle.std.specs.Prelude.{◌≡◌, ◌≢◌, List, [], Ok};
+ghost use Rattle.std.specs.List.{AllByRecursion};
+ghost use Rattle.dir_tree.specs.Trees.{Numbered, IsTree};
+ghost use Rattle.schema_rules.specs.Checking.{entries_of};
+ghost use Rattle.schema_rules.specs.Rules.{MeetsRules};
+ghost use Rattle.op_write.specs.DataFile.{loads, ldif_text};
+ghost use Rattle.load_laws.specs.Loadable.{IsLoadable};
+
+/// The data file that is written of a good tree gives the entries of the tree, in their order, when it is loaded
+/// (RFC 2849). The numbers of the entries are not written.
+pub fn what_is_written_loads_again()
+    ensures exact { (rows : List Numbered) → rows ≢ [] → IsTree rows → MeetsRules (entries_of rows)
+        → AllByRecursion IsLoadable (entries_of rows)
+        → loads (ldif_text (entries_of rows)) ≡ Ok (entries_of rows) }
+{}

@@ -1,0 +1,10 @@
+mod Examples
+mod FileExamples
+mod KindLemmas
+mod LineLemmas
+mod OwnLemmas
+mod PlaceLemmas
+mod NameLemmas
+mod FileLemmas
+mod FreeLemmas
+mod RecordLemmas

@@ -1,0 +1,32 @@
+use Rattle.std.proofs.Common.{◌∙◌, sym, ap, Ok}
+use Rattle.std.proofs.lemmas.Result.{err_from_is_err_and}
+use Rattle.op_write.proofs.LineLemmas.{fault-gives}
+use Rattle.op_write.proofs.RecordLemmas.{same-ok, record-name, record-line, record-good}
+use Rattle.op_write.proofs.load.entry_of_record.Goals as goal
+
+-- the name is bad
+pub returns-in_err-name : goal.returns-in_err-name
+returns-in_err-name c =
+    let fault = err_from_is_err_and c.from_residual.result c.from_residual.ensures.1 in
+    record {
+      exact = fault-gives c.from_residual.result fault.0 c.in_err-name.field-0.0 _ fault.1 fault.2
+          (record-name c.in_err-name.field-0.0 c.args.given.now c.as_slice.result.now c.as_slice.ensures.exact c.in_err-name.ensures.exact);
+    }
+
+-- a line is bad
+pub returns-in_err-entry : goal.returns-in_err-entry
+returns-in_err-entry c =
+    let fault = err_from_is_err_and c.from_residual-in_err-entry.result c.from_residual-in_err-entry.ensures.1 in
+    record {
+      exact = fault-gives c.from_residual-in_err-entry.result fault.0 c.in_err-entry.field-0.0 _ fault.1 fault.2
+          (record-line c.in_err-entry.field-0.0 c.args.given.now c.as_slice.result.now c.in_ok-name.name c.in_ok-new.field-0 c.as_slice-2.result.now
+          c.as_slice.ensures.exact c.in_ok-name.ensures.exact (same-ok _ _ c.in_ok-new.ensures.exact) c.as_slice-2.ensures.exact c.in_err-entry.ensures.exact);
+    }
+
+-- all is good
+pub returns : goal.returns
+returns c = record {
+  exact = record-good c.args.given.now c.as_slice.result.now c.in_ok-name.name c.in_ok-new.field-0 c.in_ok-entry.entry c.as_slice-2.result.now
+      c.as_slice.ensures.exact c.in_ok-name.ensures.exact (same-ok _ _ c.in_ok-new.ensures.exact) c.as_slice-2.ensures.exact c.in_ok-entry.ensures.exact
+      ∙ ap Ok (sym c.in_ok-with_own_values.ensures.ok);
+}

@@ -1,0 +1,75 @@
+-- What a data file gives: the entries of its records, each joined to those before it, or the first fault (RFC 2849); and
+-- the file that is written of entries.
+use Rattle.std.specs.Prelude.{ℕ, if◌then◌else◌, List, [], ◌∷◌, ◌++◌, codes, Result, Ok, Err}
+use Rattle.std.specs.List.{flat_map}
+use Rattle.dir_tree.specs.Entries.{EntryInformation}
+use Rattle.dir_tree.specs.Trees.{is_before}
+use Rattle.ldif_core.specs.declared.types.Record.{Record}
+use Rattle.ldif_core.specs.declared.types.Position.{Position}
+use Rattle.ldif_core.specs.declared.types.BadLine.{BadLine}
+use Rattle.ldif_core.specs.declared.types.BadLine.TheVariants as reading
+use Rattle.ldif_core.specs.declared.types.LineCause.{LineCause}
+use Rattle.ldif_core.specs.declared.types.LineCause.TheVariants.{Syntax}
+use Rattle.ldif_core.specs.Places.{records_from}
+use Rattle.ldif_core.specs.Written.{written_entry}
+use Rattle.op_write.specs.declared.fault.LoadCause.{LoadCause}
+use Rattle.op_write.specs.declared.fault.LoadFault.{LoadFault}
+use Rattle.op_write.specs.declared.fault.LoadFault.TheVariants as loading
+use Rattle.op_write.specs.Loading.{◌>>=◌, loaded_entry}
+
+-- why a file is refused: a line of no good form, or a record that isn't loaded
+pub data FileCause : Type 0 where
+  OfLine : LineCause → FileCause
+  OfRecord : LoadCause → FileCause
+  OfMemory : FileCause
+
+-- a refused file: its first bad line, and the cause
+pub record FileFault : Type 0 where
+  pub line : ℕ
+  pub cause : FileCause
+
+-- the fault of a line, and that of a record
+abbrev pub line_fault : BadLine → FileFault
+line_fault (reading.Bad line cause) = record { line = line; cause = OfLine cause }
+line_fault reading.NoMemory = record { line = 0; cause = OfMemory }
+
+abbrev pub record_fault : LoadFault → FileFault
+record_fault (loading.Bad line cause) = record { line = line; cause = OfRecord cause }
+record_fault loading.NoMemory = record { line = 0; cause = OfMemory }
+
+-- the entry put before the first whose name does not come before its own
+abbrev pub put_entry_in : EntryInformation → List EntryInformation → List EntryInformation
+put_entry_in entry [] = entry ∷ []
+put_entry_in entry (first ∷ rest) = if is_before first.name entry.name then first ∷ put_entry_in entry rest else entry ∷ first ∷ rest
+
+-- the same, of what loading a record gives
+abbrev pub in_file : Result EntryInformation LoadFault → Result EntryInformation FileFault
+in_file (Ok entry) = Ok entry
+in_file (Err fault) = Err (record_fault fault)
+
+-- the entry that a record of the file adds to the entries
+abbrev pub record_entry : List EntryInformation → Result Record BadLine → Result EntryInformation FileFault
+record_entry entries (Ok given) = in_file (loaded_entry entries given)
+record_entry entries (Err bad) = Err (line_fault bad)
+
+-- the entries with those of further records, or the first fault
+unfoldable pub loads_after : List EntryInformation → List (Result Record BadLine) → Result (List EntryInformation) FileFault
+loads_after entries [] = Ok entries
+loads_after entries (first ∷ rest) = record_entry entries first >>= λ entry. loads_after (put_entry_in entry entries) rest
+
+-- the entries of all records; a file without one is bad at its first line
+abbrev pub loads_records : List (Result Record BadLine) → Result (List EntryInformation) FileFault
+loads_records [] = Err (record { line = 1; cause = OfLine Syntax })
+loads_records (first ∷ rest) = loads_after [] (first ∷ rest)
+
+-- the place where a file begins
+abbrev pub file_start : Position
+file_start = record { offset = 0; line = 1 }
+
+-- the entries of a file, in the order of their names, or its first fault
+unfoldable pub loads : List ℕ → Result (List EntryInformation) FileFault
+loads text = loads_records (records_from text file_start)
+
+-- the file of entries: the version, and for each entry an empty line and its record
+unfoldable pub ldif_text : List EntryInformation → List ℕ
+ldif_text entries = (codes "version: 1" ++ 10 ∷ []) ++ flat_map (λ entry. 10 ∷ written_entry entry) entries

@@ -1,0 +1,108 @@
+-- How a data record becomes an entry of the tree, or why it doesn't (RFC 2849, ldif-attrval-record): its lines in order,
+-- then the values of its own RDN, then its place. The first fault is the one that is found in this order.
+use Rattle.std.specs.Prelude.{◌≡◌, ℕ, ◌==◌, nat_le, Bool, false, not, if◌then◌else◌, List, [], ◌∷◌, length, Option, Some, None, Result, Ok, Err}
+use Rattle.std.specs.List.{list_any}
+use Rattle.schema_core.specs.Attributes.{attr_of}
+use Rattle.dn_names.specs.declared.error.BadName.{BadName}
+use Rattle.dn_names.specs.Names.{Keyed, TypeAndValue, RdnSequence}
+use Rattle.dn_names.specs.NameOrder.{is_same}
+use Rattle.dn_names.specs.NameText.{read_name}
+use Rattle.dn_names.specs.NameValues.{value_of}
+use Rattle.dir_tree.specs.Entries.{EntryInformation, values_of, has_key}
+use Rattle.dir_tree.specs.Changes.{with_value}
+use Rattle.dir_tree.specs.Trees.{Numbered, entry_of, superior_name, put_row}
+use Rattle.ldif_core.specs.declared.types.Record.{Record}
+use Rattle.ldif_core.specs.declared.types.RecordLine.{RecordLine}
+use Rattle.schema_rules.specs.Checking.{entries_of}
+use Rattle.schema_rules.specs.Rules.{last_pairs, broken_rule}
+use Rattle.op_write.specs.declared.fault.LoadCause.TheVariants.{Name, Kind, Value, Twice, Order, Rule, Limit}
+use Rattle.op_write.specs.declared.fault.LoadFault.{LoadFault}
+use Rattle.op_write.specs.declared.fault.LoadFault.TheVariants.{Bad, NoMemory}
+
+-- the ? of the logic: the second step, where the first gave something
+infixl 10 ◌>>=◌
+abbrev pub ◌>>=◌ : {A B E : Type 0} → Result A E → (A → Result B E) → Result B E
+Ok value >>= next = next value
+Err fault >>= next = Err fault
+
+-- the name, where reading gave one that isn't empty
+abbrev pub named : ℕ → Result RdnSequence BadName → Result RdnSequence LoadFault
+named line (Ok []) = Err (Bad line Name)
+named line (Ok (rdn ∷ rdns)) = Ok (rdn ∷ rdns)
+named line (Err bad) = Err (Bad line Name)
+
+-- the value of the type that the octets are: at most 65,536, and of its syntax
+abbrev pub loaded_value : ℕ → List ℕ → Option Keyed
+loaded_value kind octets = if nat_le (length octets) 65536 then value_of kind octets else None
+
+-- the entry with the value of the line
+abbrev pub with_new_value : EntryInformation → ℕ → ℕ → Option Keyed → Result EntryInformation LoadFault
+with_new_value entry line kind None = Err (Bad line Value)
+with_new_value entry line kind (Some value) =
+    if has_key value.key (values_of kind entry.attributes) then Err (Bad line Twice) else Ok (with_value kind value entry)
+
+-- the same, where the type is known
+abbrev pub with_new_kind : EntryInformation → RecordLine → Option ℕ → Result EntryInformation LoadFault
+with_new_kind entry line None = Err (Bad line.line Kind)
+with_new_kind entry line (Some kind) = with_new_value entry line.line kind (loaded_value kind line.value)
+
+-- the entry with an attribute line
+abbrev pub with_line : EntryInformation → RecordLine → Result EntryInformation LoadFault
+with_line entry line = with_new_kind entry line (attr_of line.kind)
+
+-- the entry with attribute lines, or the first bad one
+unfoldable pub with_lines : EntryInformation → List RecordLine → Result EntryInformation LoadFault
+with_lines entry [] = Ok entry
+with_lines entry (line ∷ lines) = with_line entry line >>= λ more. with_lines more lines
+
+-- the entry with those of the pairs' values that it lacks, last
+unfoldable pub with_pairs : EntryInformation → List TypeAndValue → EntryInformation
+with_pairs entry [] = entry
+with_pairs entry (pair ∷ pairs) = with_pairs (with_value pair.kind pair.value entry) pairs
+
+-- the entry with the values of its own RDN
+abbrev pub with_own_values : EntryInformation → EntryInformation
+with_own_values entry = with_pairs entry (last_pairs entry.name)
+
+-- the entry of a record, wherever it will stand
+unfoldable pub entry_of_record : Record → Result EntryInformation LoadFault
+entry_of_record given = named given.line (read_name given.name) >>= λ name. with_lines (record { name = name; attributes = [] }) given.lines >>= λ entry.
+    Ok (with_own_values entry)
+
+-- an entry has the name
+abbrev pub has_entry : RdnSequence → List EntryInformation → Bool
+has_entry name entries = list_any (λ other. is_same name other.name) entries
+
+-- there are entries, and the superior of the name is none of them
+abbrev pub lacks_superior_entry : RdnSequence → List EntryInformation → Bool
+lacks_superior_entry name [] = false
+lacks_superior_entry name (first ∷ rest) = not (has_entry (superior_name name) (first ∷ rest))
+
+-- the entry, where it breaks no rule: what goes past a limit is told apart
+abbrev pub ruled : ℕ → EntryInformation → Option ℕ → Result EntryInformation LoadFault
+ruled line entry None = Ok entry
+ruled line entry (Some code) = if code == 11 then Err (Bad line Limit) else Err (Bad line (Rule code))
+
+-- the entry, where it may join the entries
+unfoldable pub placed : List EntryInformation → ℕ → EntryInformation → Result EntryInformation LoadFault
+placed entries line entry =
+    if has_entry entry.name entries then Err (Bad line Twice)
+    else if lacks_superior_entry entry.name entries then Err (Bad line Order)
+    else ruled line entry (broken_rule entries entry)
+
+-- the entry that a record adds to the entries, or why it adds none
+unfoldable pub loaded_entry : List EntryInformation → Record → Result EntryInformation LoadFault
+loaded_entry entries given = entry_of_record given >>= placed entries given.line
+
+-- the record adds the entry to the tree, under a number that was free
+pub record IsLoaded (old : List Numbered) (given : Record) (new : List Numbered) : Type 0 where
+  pub id : ℕ
+  pub entry : EntryInformation
+  pub loaded : loaded_entry (entries_of old) given ≡ Ok entry
+  pub free : entry_of id old ≡ None
+  pub added : new ≡ put_row (record { id = id; entry = entry }) old
+
+-- the fault is that of loading; want of memory may come anywhere
+abbrev pub IsLoadFault : LoadFault → Result EntryInformation LoadFault → Type 0
+IsLoadFault (Bad line cause) loading = loading ≡ Err (Bad line cause)
+IsLoadFault NoMemory loading = Unit {0}

@@ -1,0 +1,130 @@
+//! The lines of a record, each put in an entry.
+
+ghost use Rattle.std.specs.Prelude.{◌≡◌, [], false, Some, None, IfSome, MatchOption};
+ghost use Rattle.std.specs.Option.{option_map};
+ghost use Rattle.std.specs.Str.{is_utf8};
+ghost use Rattle.schema_core.specs.Attributes.{IsAttrId, attr_of};
+ghost use Rattle.dn_names.specs.NameText.{read_name};
+ghost use Rattle.op_write.specs.Loading.{named, loaded_value, with_new_kind, with_new_value, with_line, with_lines};
+ghost use Rattle.op_write.specs.Steps.{Gives, value_or_fault};
+
+use crate::fault::{LoadCause, LoadFault, bad_at};
+use dir_tree::Entry;
+use dn_names::{BadName, Dn, Value, make_value, parse};
+use ldif_core::RecordLine;
+use match_rules::PrepareFault;
+use schema_core::{AttrId, attr};
+use std::alloc::Global;
+use std::str;
+
+const MOST_OCTETS: usize = 65_536;
+
+/// The name that the octets of the `dn` line are. `Name` comes exactly where they are none, or the empty one.
+pub(crate) fn named(alloc: Global, line: u64, octets: &[u8]) -> Result<Dn, LoadFault>
+    ensures exact { Gives result (named line (read_name octets.now)) }
+{
+    match parse(alloc, octets) {
+        Ok(name) => not_empty(line, name),
+        Err(BadName::NoMemory) => Err(LoadFault::NoMemory),
+        Err(_) => Err(bad_at(line, LoadCause::Name)),
+    }
+}
+
+// The name, where it isn't empty.
+fn not_empty(line: u64, name: Dn) -> Result<Dn, LoadFault>
+    ensures exact { Gives result (named line (Ok name)) }
+{
+    if name.len() == 0 {
+        Err(bad_at(line, LoadCause::Name))
+    } else {
+        Ok(name)
+    }
+}
+
+// The octets as a text, where they are UTF-8.
+fn as_text(octets: &[u8]) -> Option<&str>
+    ensures exact { MatchOption result (is_utf8 octets.now ≡ false) (λ text. text.now ≡ octets.now) }
+{
+    match str::from_utf8(octets) {
+        Ok(text) => Some(text),
+        Err(_) => None,
+    }
+}
+
+// The attribute type that the octets name.
+fn kind_of(octets: &[u8]) -> Option<AttrId>
+    ensures exact { option_map (λ kind. kind.0) result ≡ attr_of octets.now }
+    ensures fits { IfSome result (λ kind. IsAttrId kind.0) }
+{
+    match as_text(octets) {
+        Some(text) => attr(text),
+        None => None,
+    }
+}
+
+// The value of the line, of the type. `Value` comes exactly where it is not of the syntax, or too long.
+fn value_of(alloc: Global, kind: AttrId, line: &RecordLine) -> Result<Value, LoadFault>
+    requires { IsAttrId kind.0 }
+    ensures exact { Gives result (value_or_fault line.now.line (loaded_value kind.0 line.now.value)) }
+{
+    if line.value.len() > MOST_OCTETS {
+        return Err(bad_at(line.line, LoadCause::Value));
+    }
+    let octets = line.value.as_slice().to_vec(alloc)?;
+    match make_value(alloc, kind, octets) {
+        Ok(value) => Ok(value),
+        Err(PrepareFault::NoMemory) => Err(LoadFault::NoMemory),
+        Err(PrepareFault::NotOfSyntax) => Err(bad_at(line.line, LoadCause::Value)),
+    }
+}
+
+// The entry with the value. `Twice` comes exactly where it has an equal one of the type.
+fn with_value(entry: Entry, line: u64, kind: AttrId, value: Value) -> Result<Entry, LoadFault>
+    ensures exact { Gives result (with_new_value entry line kind.0 (Some value)) }
+{
+    let mut entry = entry;
+    if entry.push(kind, value)? {
+        Ok(entry)
+    } else {
+        Err(bad_at(line, LoadCause::Twice))
+    }
+}
+
+// The entry with the value of the line, of the type.
+fn with_kind(
+    alloc: Global,
+    entry: Entry,
+    line: &RecordLine,
+    kind: AttrId,
+) -> Result<Entry, LoadFault>
+    requires { IsAttrId kind.0 }
+    ensures exact { Gives result (with_new_kind entry line.now (Some kind.0)) }
+{
+    let value = value_of(alloc, kind, line)?;
+    with_value(entry, line.line, kind, value)
+}
+
+// The entry with an attribute line.
+fn with_line(alloc: Global, entry: Entry, line: &RecordLine) -> Result<Entry, LoadFault>
+    ensures exact { Gives result (with_line entry line.now) }
+{
+    match kind_of(line.kind.as_slice()) {
+        Some(kind) => with_kind(alloc, entry, line, kind),
+        None => Err(bad_at(line.line, LoadCause::Kind)),
+    }
+}
+
+/// The entry with attribute lines, in order. The first bad one decides: `Kind`, `Value` and `Twice` are tried in it.
+pub(crate) fn with_lines(
+    alloc: Global,
+    entry: Entry,
+    lines: &[RecordLine],
+) -> Result<Entry, LoadFault>
+    ensures exact { Gives result (with_lines entry lines.now) }
+{
+    let mut entry = entry;
+    for line in lines {
+        entry = with_line(alloc, entry, line)?;
+    }
+    Ok(entry)
+}
