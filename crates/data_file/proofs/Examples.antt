@@ -1,0 +1,66 @@
+-- The definitions on small files and trees.
+use Rattle.std.proofs.Common.{◌≡◌, ℕ, [], ◌∷◌, ◌++◌, List, Result, Err, refl}
+use Rattle.std.specs.Prelude.{codes, flat_map}
+use Rattle.schema_core.specs.Oid.{is_dotted_oid}
+use Rattle.schema_core.specs.Attributes.{attributes}
+use Rattle.dn_names.specs.Classes.{class_of}
+use Rattle.dn_names.specs.Printing as printing
+use Rattle.dir_tree.specs.Entries.{EntryInformation}
+use Rattle.dir_tree.specs.Trees.{Numbered}
+use Rattle.ldif_core.specs.declared.types.LineCause.TheVariants.{Syntax, Changetype}
+use Rattle.ldif_core.specs.Lines.{continued, beginning, logical}
+use Rattle.ldif_core.specs.Fields.{is_kind, field_of, after_spaces, is_changetype, is_dn}
+use Rattle.ldif_core.specs.Records.{without_comments, is_version, without_version, attribute_lines, record_of, records}
+use Rattle.ldif_core.specs.Places.{physical_from, logical_from, content_from, body_from, records_from}
+use Rattle.ldif_core.specs.Written.{is_plain, written_value, written_entry}
+use Rattle.op_write.specs.DataFile.{FileFault, OfLine, loads, loads_after, ldif_text}
+use Rattle.data_file.specs.Steps.{text_at}
+
+-- lines that end in LF
+ended : List (List ℕ) → List ℕ
+ended lines = flat_map (λ line. line ++ 10 ∷ []) lines
+
+unfoldable the_entries : List ℕ → Result (List EntryInformation) FileFault
+the_entries text = loads text
+
+-- a file without a record is bad at its first line
+no_record : the_entries (ended (codes "version: 1" ∷ codes "# dn: dc=t" ∷ [])) ≡ Err (record { line = 1; cause = OfLine Syntax })
+unfolding ended the_entries loads loads_after continued beginning logical is_kind field_of after_spaces is_changetype is_dn without_comments is_version without_version attribute_lines record_of records physical_from logical_from content_from body_from records_from is_dotted_oid
+no_record = refl
+
+-- a line of no form is bad at its own
+bad_line : the_entries (ended (codes "version: 1" ∷ [] ∷ codes "dn: dc=t" ∷ codes "objectClass; top" ∷ [])) ≡ Err (record { line = 4; cause = OfLine Syntax })
+unfolding ended the_entries loads loads_after continued beginning logical is_kind field_of after_spaces is_changetype is_dn without_comments is_version without_version attribute_lines record_of records physical_from logical_from content_from body_from records_from is_dotted_oid
+bad_line = refl
+
+-- a record that changes something is no record of data
+change : the_entries (ended (codes "dn: dc=t" ∷ codes "changetype: add" ∷ [])) ≡ Err (record { line = 2; cause = OfLine Changetype })
+unfolding ended the_entries loads loads_after continued beginning logical is_kind field_of after_spaces is_changetype is_dn without_comments is_version without_version attribute_lines record_of records physical_from logical_from content_from body_from records_from is_dotted_oid
+change = refl
+
+-- no entries are written as the version alone
+none : ldif_text [] ≡ codes "version: 1\n"
+unfolding ldif_text
+none = refl
+
+-- the text of a number is that of its entry, and nothing where it is not in use
+domain : EntryInformation
+domain = record {
+  name = (record { kind = 25; value = record { octets = codes "t"; key = codes "t" } } ∷ []) ∷ [];
+  attributes = record { kind = 25; values = record { octets = codes "t"; key = codes "t" } ∷ [] } ∷ [];
+}
+
+rows : List Numbered
+rows = record { id = 7; entry = domain } ∷ []
+
+here : text_at rows 7 ≡ codes "\ndn: dc=t\ndc: t\n"
+unfolding domain rows written_entry written_value is_plain attributes printing.print_name printing.print_by printing.print_value class_of
+here = refl
+
+unused : text_at rows 8 ≡ []
+unfolding rows
+unused = refl
+
+whole : ldif_text (domain ∷ []) ≡ codes "version: 1\n\ndn: dc=t\ndc: t\n"
+unfolding domain ldif_text written_entry written_value is_plain attributes printing.print_name printing.print_by printing.print_value class_of
+whole = refl

@@ -1,0 +1,124 @@
+-- Lemmas on loading: how it goes on with a record, where it is refused, and how it ends.
+use Rattle.std.proofs.Common.{◌≡◌, ◌≢◌, ℕ, Bool, true, false, List, [], ◌∷◌, length, Result, Ok, Err, IfErr, refl, sym, ap, ◌∙◌, arith}
+use Rattle.std.specs.Prelude.{if◌then◌else◌}
+use Rattle.dir_tree.specs.Entries.{EntryInformation}
+use Rattle.dir_tree.specs.Trees.{Numbered, is_before, put_row}
+use Rattle.ldif_core.specs.declared.types.Position.{Position}
+use Rattle.ldif_core.specs.declared.types.Record.{Record}
+use Rattle.ldif_core.specs.declared.types.BadLine.{BadLine}
+use Rattle.ldif_core.specs.declared.types.BadLine.TheVariants as reading
+use Rattle.ldif_core.specs.Places.{records_from, IsNext, IsBadAt}
+use Rattle.schema_rules.specs.Checking.{entries_of}
+use Rattle.op_write.specs.declared.fault.LoadFault.{LoadFault}
+use Rattle.op_write.specs.declared.fault.LoadFault.TheVariants as loading
+use Rattle.op_write.specs.Loading.{◌>>=◌, loaded_entry, IsLoaded, IsLoadFault}
+use Rattle.op_write.specs.DataFile.{FileFault, put_entry_in, in_file, record_entry, loads_after, loads_records, loads, file_start}
+use Rattle.data_file.specs.declared.fault.DataFault.{DataFault}
+use Rattle.data_file.specs.declared.fault.DataFault.TheVariants.{Bad, NoMemory}
+use Rattle.data_file.specs.Files.{IsDataFault, cause_of}
+use Rattle.data_file.specs.Steps.{of_line, of_record, IsRefused, IsStep}
+
+-- a row that is put among rows puts its entry among their entries
+put_before : (row first : Numbered) (rows : List Numbered) (before : Bool) → entries_of (put_row row rows) ≡ put_entry_in row.entry (entries_of rows)
+    → entries_of (if before then first ∷ put_row row rows else row ∷ first ∷ rows)
+    ≡ (if before then first.entry ∷ put_entry_in row.entry (entries_of rows) else row.entry ∷ first.entry ∷ entries_of rows)
+put_before row first rows true later = ap (λ entries. first.entry ∷ entries) later
+put_before row first rows false later = refl
+
+pub entries_of-put_row : (row : Numbered) (rows : List Numbered) → entries_of (put_row row rows) ≡ put_entry_in row.entry (entries_of rows)
+entries_of-put_row row [] = refl
+entries_of-put_row row (first ∷ rows) = put_before row first rows (is_before first.entry.name row.entry.name) (entries_of-put_row row rows)
+
+-- loading goes on after a record
+loads_after-record : (old new : List Numbered) (given : Record) (rest : List (Result Record BadLine)) → IsLoaded old given new
+    → loads_after (entries_of old) (Ok given ∷ rest) ≡ loads_after (entries_of new) rest
+unfolding loads_after
+loads_after-record old new given rest is =
+    ap (λ found. in_file found >>= λ entry. loads_after (put_entry_in entry (entries_of old)) rest) is.loaded
+    ∙ ap (λ entries. loads_after entries rest) (sym (ap entries_of is.added ∙ entries_of-put_row (record { id = is.id; entry = is.entry }) old))
+
+pub loads_after-step : (text : List ℕ) (from to : Position) (old new : List Numbered) → IsStep text from old to new
+    → loads_after (entries_of old) (records_from text from) ≡ loads_after (entries_of new) (records_from text to)
+loads_after-step text from to old new step =
+    ap (λ records. loads_after (entries_of old) records) step.next.record_read ∙ loads_after-record old new step.given (records_from text to) step.loaded
+
+-- it ends where there is no record
+pub loads_after-end : (text : List ℕ) (from : Position) (rows : List Numbered) → records_from text from ≡ []
+    → loads_after (entries_of rows) (records_from text from) ≡ Ok (entries_of rows)
+unfolding loads_after
+loads_after-end text from rows none = ap (λ records. loads_after (entries_of rows) records) none
+
+-- a bad line is the fault of the file
+pub IsDataFault-line : (text : List ℕ) (from : Position) (entries : List EntryInformation) (bad : BadLine) → IsBadAt text from bad
+    → IsDataFault (of_line bad) (loads_after entries (records_from text from))
+unfolding loads_after
+IsDataFault-line text from entries (reading.Bad line cause) is = ap (λ records. loads_after entries records) is.1
+IsDataFault-line text from entries reading.NoMemory is = tt
+
+-- a record that isn't loaded is so too
+pub IsRefused-record : (fault : LoadFault) (loading : Result EntryInformation LoadFault) → IsLoadFault fault loading → IsRefused (of_record fault) (in_file loading)
+IsRefused-record (loading.Bad line cause) loading is = ap in_file is
+IsRefused-record loading.NoMemory loading is = tt
+
+pub IsDataFault-record : (fault : DataFault) (text : List ℕ) (from to : Position) (entries : List EntryInformation) (given : Record) → IsNext text from given to
+    → IsRefused fault (in_file (loaded_entry entries given)) → IsDataFault fault (loads_after entries (records_from text from))
+unfolding loads_after
+IsDataFault-record (Bad line cause) text from to entries given next is =
+    ap (λ records. loads_after entries records) next.record_read
+    ∙ ap (λ found. found >>= λ entry. loads_after (put_entry_in entry entries) (records_from text to)) is
+IsDataFault-record NoMemory text from to entries given next is = tt
+
+-- the fault of the rest is that of all
+pub IsDataFault-along : (fault : DataFault) (whole rest : Result (List EntryInformation) FileFault) → whole ≡ rest → IsDataFault fault rest → IsDataFault fault whole
+IsDataFault-along (Bad line cause) whole rest same is = same ∙ is
+IsDataFault-along NoMemory whole rest same is = tt
+
+-- the fault that goes out is the one that came
+pub fault-same : {T : Type 0} (out : Result T DataFault) (fault came : DataFault) (whole : Result (List EntryInformation) FileFault) → out ≡ Err fault → fault ≡ came
+    → IsDataFault came whole → IfErr out (λ bad. IsDataFault bad whole)
+fault-same out fault came whole is same says = rw is (rw same says)
+
+-- entries among which one was put are not none
+put_entry_in-filled : (entry : EntryInformation) (entries : List EntryInformation) → put_entry_in entry entries ≢ []
+put_entry_in-filled entry [] = λ none. cc
+put_entry_in-filled entry (first ∷ rest) = by (is_before first.name entry.name)
+  where
+    by : (before : Bool) → (if before then first ∷ put_entry_in entry rest else entry ∷ first ∷ rest) ≢ []
+    by true = λ none. cc
+    by false = λ none. cc
+
+-- where loading gives no entries, there were none before, and no record
+given_none : (entries : List EntryInformation) (records : List (Result Record BadLine)) → loads_after entries records ≡ Ok [] → (entries ≡ []) × (records ≡ [])
+unfolding loads_after
+given_none entries [] is = (cc, refl)
+given_none entries (first ∷ rest) is =
+    elim (record_entry entries first) as (λ found. (found >>= λ entry. loads_after (put_entry_in entry entries) rest) ≡ Ok [] → (entries ≡ []) × (first ∷ rest ≡ [])) [
+      | Ok entry ↦ λ e. absurd (put_entry_in-filled entry entries ((given_none (put_entry_in entry entries) rest e).0))
+      | Err fault ↦ λ e. absurd cc
+    ] is
+
+-- a file whose records give entries is loaded, and one whose records give none is refused at its first line
+loads_records-some : (records : List (Result Record BadLine)) (entries : List EntryInformation) → entries ≢ [] → loads_after [] records ≡ Ok entries → loads_records records ≡ Ok entries
+unfolding loads_after
+loads_records-some [] entries some is = absurd (some cc)
+loads_records-some (first ∷ rest) entries some is = is
+
+pub loads-some : (text : List ℕ) (rows : List Numbered) → length rows ≢ 0 → loads_after [] (records_from text file_start) ≡ Ok (entries_of rows) → loads text ≡ Ok (entries_of rows)
+unfolding loads
+loads-some text [] some is = absurd (some refl)
+loads-some text (row ∷ rows) some is = loads_records-some (records_from text file_start) (entries_of (row ∷ rows)) (λ none. cc) is
+
+pub loads-none : (text : List ℕ) (rows : List Numbered) → length rows ≡ 0 → loads_after [] (records_from text file_start) ≡ Ok (entries_of rows) → loads text ≡ loads_records []
+unfolding loads
+loads-none text [] none is = ap loads_records ((given_none [] (records_from text file_start) is).1)
+loads-none text (row ∷ rows) none is = absurd (omega arith)
+
+-- the fault of the records is that of the file
+pub IsDataFault-loads : (fault : DataFault) (text : List ℕ) → IsDataFault fault (loads_after [] (records_from text file_start)) → IsDataFault fault (loads text)
+unfolding loads loads_after
+IsDataFault-loads NoMemory text is = tt
+IsDataFault-loads (Bad line cause) text is = by (records_from text file_start) is
+  where
+    by : (records : List (Result Record BadLine)) → loads_after [] records ≡ Err (record { line = line; cause = cause_of cause }) → loads_records records ≡ Err (record { line = line; cause = cause_of cause })
+    by [] e = absurd cc
+    by (first ∷ rest) e = e

@@ -1,0 +1,57 @@
+-- How a file is loaded record by record: what one step does, and what a fault of the crates below is here; and how one
+-- is written, and access control subentries are counted, entry by entry.
+use Rattle.std.specs.Prelude.{◌≡◌, ℕ, Bool, false, List, [], ◌∷◌, Result, Err}
+use Rattle.std.specs.List.{flat_map}
+use Rattle.std.specs.Option.{option_map_or}
+use Rattle.dir_tree.specs.Entries.{EntryInformation}
+use Rattle.dir_tree.specs.Points.{is_access_subentry}
+use Rattle.dir_tree.specs.Trees.{Numbered, entry_of}
+use Rattle.ldif_core.specs.declared.types.Position.{Position}
+use Rattle.ldif_core.specs.declared.types.Record.{Record}
+use Rattle.ldif_core.specs.declared.types.BadLine.{BadLine}
+use Rattle.ldif_core.specs.declared.types.BadLine.TheVariants as reading
+use Rattle.ldif_core.specs.Places.{IsNext}
+use Rattle.ldif_core.specs.Written.{written_entry}
+use Rattle.op_write.specs.declared.fault.LoadFault.{LoadFault}
+use Rattle.op_write.specs.declared.fault.LoadFault.TheVariants as loading
+use Rattle.op_write.specs.Loading.{IsLoaded}
+use Rattle.op_write.specs.DataFile.{FileFault}
+use Rattle.data_file.specs.declared.fault.DataCause.TheVariants.{Line, Record as OfRecord}
+use Rattle.data_file.specs.declared.fault.DataFault.{DataFault}
+use Rattle.data_file.specs.declared.fault.DataFault.TheVariants.{Bad, NoMemory}
+use Rattle.data_file.specs.Files.{cause_of}
+
+-- the fault of the file, by that of a line, and by that of a record
+abbrev pub of_line : BadLine → DataFault
+of_line (reading.Bad line cause) = Bad line (Line cause)
+of_line reading.NoMemory = NoMemory
+
+abbrev pub of_record : LoadFault → DataFault
+of_record (loading.Bad line cause) = Bad line (OfRecord cause)
+of_record loading.NoMemory = NoMemory
+
+-- the fault is that of loading a record; want of memory may come anywhere
+abbrev pub IsRefused : DataFault → Result EntryInformation FileFault → Type 0
+IsRefused (Bad line cause) loading = loading ≡ Err (record { line = line; cause = cause_of cause })
+IsRefused NoMemory loading = Unit {0}
+
+-- the first record from one place on was loaded, and the other place stands after it
+pub record IsStep (text : List ℕ) (from : Position) (old : List Numbered) (to : Position) (new : List Numbered) : Type 0 where
+  pub given : Record
+  pub next : IsNext text from given to
+  pub loaded : IsLoaded old given new
+
+-- an empty line and the record of an entry, and those of entries
+abbrev pub record_text : EntryInformation → List ℕ
+record_text entry = 10 ∷ written_entry entry
+
+abbrev pub records_text : List EntryInformation → List ℕ
+records_text entries = flat_map record_text entries
+
+-- those of the entry of a number: nothing where the number is not in use
+abbrev pub text_at : List Numbered → ℕ → List ℕ
+text_at rows id = option_map_or record_text (entry_of id rows) []
+
+-- the entry of the number is an access control subentry
+abbrev pub is_access_at : List Numbered → ℕ → Bool
+is_access_at rows id = option_map_or is_access_subentry (entry_of id rows) false

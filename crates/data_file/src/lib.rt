@@ -1,0 +1,10 @@
+//! Data files (RFC 2849): a whole file loaded as a tree, and a tree written as a file.
+#![tactic(auto)]
+
+mod fault;
+mod loading;
+mod writing;
+
+pub use fault::{DataCause, DataFault, NoMemory};
+pub use loading::load;
+pub use writing::{access_subentries, put_tree};

@@ -1,0 +1,150 @@
+//! A tree, written as a data file.
+
+ghost use Rattle.std.specs.Prelude.{◌≡◌, ◌∷◌, length, filter, flat_map, OnOk};
+ghost use Rattle.wire_io.specs.Putting.{PutsAll, PutCause};
+ghost use Rattle.dir_tree.specs.Points.{is_access_subentry};
+ghost use Rattle.dir_tree.specs.Scopes.{scoped};
+ghost use Rattle.dir_tree.specs.declared.scope.Scope.TheVariants.{Sub};
+ghost use Rattle.ldif_core.specs.Written.{AreInTable};
+ghost use Rattle.schema_rules.specs.Checking.{entries_of};
+ghost use Rattle.schema_rules.specs.Rules.{access_subentries};
+ghost use Rattle.op_write.specs.DataFile.{ldif_text};
+ghost use Rattle.data_file.specs.Files.{AreOfTable};
+ghost use Rattle.data_file.specs.Steps.{record_text, records_text, text_at, is_access_at};
+
+use crate::fault::NoMemory;
+use dir_tree::{Entry, EntryNo, Scope, Tree};
+use ldif_core::put_entry;
+use std::alloc::Global;
+use wire_io::{PutFault, Sink, write_all};
+
+/// Puts the data file of the tree: its version, and the record of each entry in the order of names, with an empty line
+/// before each. After a refusal a front of it was put.
+pub fn put_tree<K: Sink>(alloc: Global, tree: &Tree, out: &mut K) -> Result<(), PutFault>
+    requires table { AreOfTable (entries_of tree.now) }
+    ensures tells { PutsAll (K.put out.old) (ldif_text (entries_of tree.now))
+        result (K.put out.new) }
+    ensures cause { PutCause (K.faults out.old) (K.faults out.new) result }
+{
+    match write_all(out, b"version: 1\n") {
+        Ok(()) => put_entries(alloc, tree, out),
+        Err(fault) => Err(fault),
+    }
+}
+
+// Puts the records of all entries.
+fn put_entries<K: Sink>(alloc: Global, tree: &Tree, out: &mut K) -> Result<(), PutFault>
+    requires table { AreOfTable (entries_of tree.now) }
+    ensures tells { PutsAll (K.put out.old) (records_text (entries_of tree.now))
+        result (K.put out.new) }
+    ensures cause { PutCause (K.faults out.old) (K.faults out.new) result }
+{
+    tree.entries_form_a_tree();
+    match tree.suffix() {
+        Some(suffix) => put_below(alloc, tree, suffix, out),
+        None => Ok(()),
+    }
+}
+
+// Puts the records of the entry of the number and of those below it, in the memory of one record.
+fn put_below<K: Sink>(
+    alloc: Global,
+    tree: &Tree,
+    base: EntryNo,
+    out: &mut K,
+) -> Result<(), PutFault>
+    requires table { AreOfTable (entries_of tree.now) }
+    ensures tells { PutsAll (K.put out.old)
+        (flat_map (text_at tree.now) (scoped Sub base.0 tree.now)) result (K.put out.new) }
+    ensures cause { PutCause (K.faults out.old) (K.faults out.new) result }
+{
+    let mut text = Vec::new(alloc);
+    for no in tree.below(base, Scope::Sub) {
+        match put_at(tree, no, &mut text, out) {
+            Ok(()) => {}
+            Err(fault) => return Err(fault),
+        }
+    }
+    Ok(())
+}
+
+// Puts the record of the entry of the number.
+fn put_at<K: Sink>(
+    tree: &Tree,
+    no: EntryNo,
+    text: &mut Vec<u8>,
+    out: &mut K,
+) -> Result<(), PutFault>
+    requires table { AreOfTable (entries_of tree.now) }
+    ensures tells { PutsAll (K.put out.old) (text_at tree.now no.0) result (K.put out.new) }
+    ensures cause { PutCause (K.faults out.old) (K.faults out.new) result }
+{
+    match tree.at(no) {
+        Some(entry) => put_record(entry, text, out),
+        None => Ok(()),
+    }
+}
+
+// Puts the record of the entry, from a text that is used again.
+fn put_record<K: Sink>(entry: &Entry, text: &mut Vec<u8>, out: &mut K) -> Result<(), PutFault>
+    requires { AreInTable entry.now.attributes }
+    ensures tells { PutsAll (K.put out.old) (record_text entry.now) result (K.put out.new) }
+    ensures cause { PutCause (K.faults out.old) (K.faults out.new) result }
+{
+    match write_record(entry, text) {
+        Ok(()) => write_all(out, text.as_slice()),
+        Err(_) => Err(PutFault::NoMemory),
+    }
+}
+
+// Writes an empty line and the record of the entry in place of what the text was.
+fn write_record(entry: &Entry, text: &mut Vec<u8>) -> Result<(), NoMemory>
+    requires { AreInTable entry.now.attributes }
+    ensures ok { OnOk result (text.new.items ≡ record_text entry.now) }
+{
+    text.clear();
+    text.extend_from_slice(b"\n")?;
+    put_entry(text, entry)
+}
+
+/// How many access control subentries the tree has.
+pub fn access_subentries(tree: &Tree) -> usize
+    ensures exact { result ≡ access_subentries (entries_of tree.now) }
+{
+    tree.entries_form_a_tree();
+    match tree.suffix() {
+        Some(suffix) => count_below(tree, suffix),
+        None => 0,
+    }
+}
+
+// How many access control subentries are the entry of the number and those below it.
+fn count_below(tree: &Tree, base: EntryNo) -> usize
+    ensures exact { result ≡ length (filter (is_access_at tree.now) (scoped Sub base.0 tree.now)) }
+{
+    tree.entries_form_a_tree();
+    let mut count = 0;
+    for no in tree.below(base, Scope::Sub) {
+        if is_access_at(tree, no) {
+            count += 1;
+        }
+    }
+    count
+}
+
+// Whether the entry of the number is an access control subentry.
+fn is_access_at(tree: &Tree, no: EntryNo) -> bool
+    ensures exact { result ≡ is_access_at tree.now no.0 }
+{
+    match tree.at(no) {
+        Some(entry) => is_access_subentry(entry),
+        None => false,
+    }
+}
+
+#[tactic(auto, unfolding(dir_tree::specs::Points::is_access_subentry, dir_tree::specs::Points::is_subentry))]
+fn is_access_subentry(entry: &Entry) -> bool
+    ensures exact { result ≡ is_access_subentry entry.now }
+{
+    entry.has_class("2.5.17.0") && entry.has_class("2.5.17.1")
+}

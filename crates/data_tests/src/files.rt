@@ -1,0 +1,81 @@
+//! Data files: loaded whole, refused at a line, and written again (RFC 2849).
+
+use data_file::{DataCause, DataFault, access_subentries, load, put_tree};
+use ldif_core::LineCause;
+use op_write::LoadCause;
+use std::alloc::Global;
+use std::test::Fail;
+use wire_io::{MemSink, PutFault};
+
+// A file of three entries, the last two not in the order of their names, each without a value of its own RDN.
+const FILE: &str =
+    "version: 1\n\ndn: dc=example\nobjectClass: organization\nobjectClass: dcObject\no: Example\n\ndn: ou=b,dc=example\nobjectClass: organizationalUnit\n\n# the last\ndn: OU=a, DC=Example\nobjectclass: ORGANIZATIONALUNIT\n";
+
+// The same as it is written.
+const WRITTEN: &str =
+    "version: 1\n\ndn: dc=example\nobjectClass: organization\nobjectClass: dcObject\no: Example\ndc: example\n\ndn: ou=a,dc=Example\nobjectClass: ORGANIZATIONALUNIT\nou: a\n\ndn: ou=b,dc=example\nobjectClass: organizationalUnit\nou: b\n";
+
+// Puts the tree of a file into a sink that fails at chosen calls.
+fn put_again(
+    alloc: Global,
+    text: &str,
+    failing: &[u64],
+) -> Result<(Result<(), PutFault>, MemSink), Fail> {
+    let tree = load(alloc, text.as_bytes())?;
+    let mut out = MemSink::new(alloc, failing.to_vec(alloc)?);
+    let put = put_tree(alloc, &tree, &mut out);
+    Ok((put, out))
+}
+
+#[test]
+fn a_file_is_loaded_and_written_in_the_order_of_names(rt: HostRuntime) -> Result<(), Fail> {
+    for text in [FILE, WRITTEN] {
+        let (put, out) = put_again(rt.alloc(), text, &[])?;
+        assert_eq!(rt; put, Ok(()));
+        assert_eq!(rt; out.bytes(), WRITTEN.as_bytes());
+    }
+    Ok(())
+}
+
+#[test]
+fn after_a_refusal_a_front_was_put(rt: HostRuntime) -> Result<(), Fail> {
+    let (put, out) = put_again(rt.alloc(), FILE, &[1])?;
+    assert_eq!(rt; put, Err(PutFault::Failed));
+    assert_eq!(rt; out.bytes(), b"version: 1\n".as_slice());
+    Ok(())
+}
+
+#[test]
+fn a_file_is_refused_at_its_first_bad_line(rt: HostRuntime) -> Result<(), Fail> {
+    let rows = [
+        ("", 1, DataCause::Line(LineCause::Syntax)),
+        ("version: 1\n# c\n", 1, DataCause::Line(LineCause::Syntax)),
+        (
+            "dn: dc=t\nobjectClass; domain\n",
+            2,
+            DataCause::Line(LineCause::Syntax),
+        ),
+        (
+            "dn: dc=t\nobjectClass: domain\nshoe: 9\n",
+            3,
+            DataCause::Record(LoadCause::Kind),
+        ),
+        (
+            "\ndn: dc=t\ndc: t\n",
+            2,
+            DataCause::Record(LoadCause::Rule(65)),
+        ),
+    ];
+    for (text, line, cause) in rows {
+        let found = load(rt.alloc(), text.as_bytes()).err();
+        assert_eq!(rt; found, Some(DataFault::Bad { line, cause }), "{text:?}");
+    }
+    Ok(())
+}
+
+#[test]
+fn a_file_without_subentries_has_none_for_access_control(rt: HostRuntime) -> Result<(), Fail> {
+    let tree = load(rt.alloc(), FILE.as_bytes())?;
+    assert_eq!(rt; access_subentries(&tree), 0);
+    Ok(())
+}

@@ -1,0 +1,9 @@
+//! Tests of data files: their records, the entries that are loaded of them, and what is written.
+#![tactic(auto)]
+
+#[cfg(test)]
+mod files;
+#[cfg(test)]
+mod loads;
+#[cfg(test)]
+mod records;

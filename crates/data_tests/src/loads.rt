@@ -1,0 +1,220 @@
+//! Records of a data file, loaded: the entries that they leave, and each fault with its line and cause.
+use dir_tree::{Entry, Scope, Tree};
+use dn_names::print;
+use ldif_core::{BadLine, Position, Record, RecordLine, RecordLines, next_record};
+use load_laws::what_is_written_loads_again;
+use op_write::{
+    LoadFault, a_file_begins_with_a_record, load_record, loading_puts_an_entry_in,
+    records_are_loaded_one_by_one,
+};
+use plain_values::Octets;
+use schema_core::row;
+use std::alloc::Global;
+use std::str;
+use std::test::Fail;
+
+// Loads the records of a file in order, up to the first fault.
+fn load_all(alloc: Global, tree: &mut Tree, text: &[u8]) -> Result<Result<(), LoadFault>, BadLine> {
+    let mut at = Position { offset: 0, line: 1 };
+    'places: while let Some((record, after)) = next_record(alloc, text, at)? {
+        if let Err(fault) = load_record(alloc, tree, &record) {
+            return Ok(Err(fault));
+        }
+        at = after;
+    }
+    Ok(Ok(()))
+}
+
+// What loading the records answers, as text.
+fn answer(alloc: Global, tree: &mut Tree, text: &str) -> Result<String, Fail> {
+    match load_all(alloc, tree, text.as_bytes())? {
+        Ok(()) => Ok(format!(in alloc; "loaded")?),
+        Err(fault) => Ok(format!(in alloc; "{fault}")?),
+    }
+}
+
+// Appends a line of an entry: its name, and each type with the octets of its values.
+fn put_line(alloc: Global, out: &mut String, entry: &Entry) -> Result<(), Fail> {
+    print(alloc, entry.name(), out)?;
+    for index in 0..entry.kinds() {
+        let kind = entry.kind_at(index).ok_or("no type at the index")?;
+        write!(out, " {}=", row(kind).ok_or("no such type")?.name)?;
+        for value in entry.values(kind) {
+            write!(out, "{};", str::from_utf8(value.octets())?)?;
+        }
+    }
+    out.push('\n')?;
+    Ok(())
+}
+
+// The entries in the order of their names, each on a line.
+fn shown(alloc: Global, tree: &Tree) -> Result<String, Fail> {
+    let mut out = String::new(alloc);
+    if let Some(suffix) = tree.suffix() {
+        for no in tree.below(suffix, Scope::Sub) {
+            put_line(
+                alloc,
+                &mut out,
+                tree.at(no).ok_or("no entry of the number")?,
+            )?;
+        }
+    }
+    Ok(out)
+}
+
+#[test]
+fn entries_stand_in_the_order_of_their_names_with_their_own_values_last(
+    rt: HostRuntime,
+) -> Result<(), Fail> {
+    let rows = [
+        (
+            "dn: dc=Example\nobjectClass: domain\n",
+            "dc=Example objectClass=domain; dc=Example;\n",
+        ),
+        (
+            "dn: dc=Example\ndc: EXAMPLE\nobjectClass: domain\n",
+            "dc=Example dc=EXAMPLE; objectClass=domain;\n",
+        ),
+        (
+            "version: 1\n\ndn: dc=a\nobjectClass: domain\nobjectClass: top\n\ndn: ou=z,dc=A\nobjectClass: organizationalUnit\n\n\
+             dn: ou=y,dc=a\nobjectClass: organizationalUnit\nou: x\n\ndn: ou=w,ou=z,dc=a\nobjectClass: organizationalUnit",
+            "dc=a objectClass=domain;top; dc=a;\nou=y,dc=a objectClass=organizationalUnit; ou=x;y;\n\
+             ou=z,dc=A objectClass=organizationalUnit; ou=z;\nou=w,ou=z,dc=a objectClass=organizationalUnit; ou=w;\n",
+        ),
+        (
+            "dn: dc=a\nobjectClass: domain\n\ndn: cn=A+sn=B,dc=a\nobjectClass: person\nsn: C\n",
+            "dc=a objectClass=domain; dc=a;\ncn=A+sn=B,dc=a objectClass=person; sn=C;B; cn=A;\n",
+        ),
+    ];
+    for (text, want) in rows {
+        let mut tree = Tree::new(rt.alloc());
+        let found = answer(rt.alloc(), &mut tree, text)?;
+        assert_eq!(rt; found.as_str(), "loaded", "{text:?}");
+        let entries = shown(rt.alloc(), &tree)?;
+        assert_eq!(rt; entries.as_str(), want, "{text:?}");
+    }
+    Ok(())
+}
+
+#[test]
+fn the_first_fault_is_told_with_its_line(rt: HostRuntime) -> Result<(), Fail> {
+    let rows = [
+        ("dn:\nobjectClass: domain\n", "line 1: name"),
+        ("dn:    \nobjectClass: domain\n", "line 1: name"),
+        ("# c\ndn: zz=a\nzz: x\n", "line 2: name"),
+        ("dn: dc=a\nzz: x\nobjectClass: none\n", "line 2: type"),
+        (
+            "dn: dc=a\nobjectClass: domain\nDC: b\n2.5.4.999: x\n",
+            "line 4: type",
+        ),
+        ("dn: dc=a\nobjectClass: none\nzz: x\n", "line 2: value"),
+        (
+            "dn: dc=a\nobjectClass: domain\nseeAlso: a=b\n",
+            "line 3: value",
+        ),
+        (
+            "dn: dc=a\nobjectClass: domain\ndescription: x\nobjectClass: DOMAIN\nzz: x\n",
+            "line 4: twice",
+        ),
+        (
+            "dn: dc=a\nobjectClass: domain\n\ndn: DC= A\nobjectClass: top\n",
+            "line 4: twice",
+        ),
+        (
+            "dn: dc=a\nobjectClass: domain\n\ndn: dc=b\nobjectClass: top\n",
+            "line 4: order",
+        ),
+        (
+            "dn: dc=a\nobjectClass: domain\n\ndn: ou=b,ou=c,dc=a\nobjectClass: top\n",
+            "line 4: order",
+        ),
+        ("dn: dc=a\ndescription: x\n", "line 1: rule 65"),
+        ("dn: dc=a\nobjectClass: top\n", "line 1: rule 65"),
+        (
+            "dn: dc=a\nobjectClass: domain\n\ndn: cn=b,dc=a\nobjectClass: person\n",
+            "line 4: rule 65",
+        ),
+        ("dn: dc=a\nobjectClass: domain\ndc: b\n", "line 1: rule 19"),
+    ];
+    for (text, want) in rows {
+        let mut tree = Tree::new(rt.alloc());
+        let found = answer(rt.alloc(), &mut tree, text)?;
+        assert_eq!(rt; found.as_str(), want, "{text:?}");
+    }
+    Ok(())
+}
+
+#[test]
+fn a_record_with_a_fault_leaves_the_tree(rt: HostRuntime) -> Result<(), Fail> {
+    let rows = [
+        "dn: dc=a\nobjectClass: domain\n",
+        "dn: ou=c,ou=b,dc=a\nobjectClass: organizationalUnit\n",
+        "dn: ou=b,dc=a\nobjectClass: organizationalUnit\nou: b\nou: B\n",
+        "dn: ou=b,dc=a\nobjectClass: domain\n",
+    ];
+    let mut tree = Tree::new(rt.alloc());
+    let _loaded = answer(rt.alloc(), &mut tree, "dn: dc=a\nobjectClass: domain\n")?;
+    for text in rows {
+        let found = answer(rt.alloc(), &mut tree, text)?;
+        assert_ne!(rt; found.as_str(), "loaded", "{text:?}");
+        let entries = shown(rt.alloc(), &tree)?;
+        assert_eq!(rt;
+            entries.as_str(),
+            "dc=a objectClass=domain; dc=a;\n",
+            "{text:?}"
+        );
+    }
+    Ok(())
+}
+
+// A line of octets all alike.
+fn long_line(alloc: Global, line: u64, kind: &str, count: usize) -> Result<RecordLine, Fail> {
+    let mut value = Vec::new(alloc);
+    for _ in 0..count {
+        value.push(b'x')?;
+    }
+    Ok(RecordLine {
+        line,
+        kind: Octets::from_vec(kind.as_bytes().to_vec(alloc)?),
+        value: Octets::from_vec(value),
+    })
+}
+
+// A domain with a password of so many octets.
+fn with_password(alloc: Global, count: usize) -> Result<Record, Fail> {
+    let mut lines = Vec::new(alloc);
+    lines.push(RecordLine {
+        line: 8,
+        kind: Octets::from_vec(b"objectClass".to_vec(alloc)?),
+        value: Octets::from_vec(b"domain".to_vec(alloc)?),
+    })?;
+    lines.push(long_line(alloc, 9, "userPassword", count)?)?;
+    Ok(Record {
+        line: 7,
+        name: Octets::from_vec(b"dc=a".to_vec(alloc)?),
+        lines: RecordLines::from_vec(lines),
+    })
+}
+
+#[test]
+fn a_value_has_at_most_65536_octets(rt: HostRuntime) -> Result<(), Fail> {
+    let rows = [(0, "loaded"), (65_536, "loaded"), (65_537, "line 9: value")];
+    for (count, want) in rows {
+        let mut tree = Tree::new(rt.alloc());
+        let record = with_password(rt.alloc(), count)?;
+        let found = match load_record(rt.alloc(), &mut tree, &record) {
+            Ok(()) => format!(in rt.alloc(); "loaded")?,
+            Err(fault) => format!(in rt.alloc(); "{fault}")?,
+        };
+        assert_eq!(rt; found.as_str(), want, "{count} octets");
+    }
+    Ok(())
+}
+
+#[test]
+fn laws_compute_nothing() {
+    loading_puts_an_entry_in();
+    records_are_loaded_one_by_one();
+    a_file_begins_with_a_record();
+    what_is_written_loads_again();
+}
