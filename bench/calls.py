@@ -1,7 +1,7 @@
 #!/usr/bin/env python3
-"""Measures calls that no command makes yet: keys of values, and names.
+"""Measures calls by themselves: keys and names, or trees and records.
 
-The program in calls.txt is built in a folder beside copies of the crates that it uses, and run.
+The program of that name in the folder calls is built beside copies of the crates that it uses, and run.
 """
 
 import argparse
@@ -10,40 +10,64 @@ import shutil
 import subprocess
 import sys
 import tempfile
+from typing import NamedTuple
 
 HERE = pathlib.Path(__file__).resolve().parent
 CRATES = HERE.parent / "crates"
-USED = ("match_rules", "schema_core", "regular_text", "dn_names")
 
 
-def make_repository(folder):
+class Program(NamedTuple):
+    """What a program names, what that stands on besides, and the program's own files."""
+
+    named: tuple
+    below: tuple
+    files: dict
+
+
+PROGRAMS = {
+    "names": Program(
+        ("dn_names", "match_rules"), ("schema_core", "regular_text"), {"src/main.rt": "names.txt"}
+    ),
+    "trees": Program(
+        ("ldif_core", "dir_tree", "dn_names"),
+        ("match_rules", "schema_core", "regular_text", "plain_values"),
+        {
+            "src/main.rt": "trees.txt",
+            "proofs/read_all/Invariants.antt": "trees_places.txt",
+        },
+    ),
+}
+
+
+def make_repository(folder, program):
     """Puts the crates, their list and the program into a folder; gives the program's own."""
+    used = program.named + program.below
     lines = (HERE.parent / "crates.txt").read_text().splitlines()
-    chosen = [line for line in lines if line.split(":")[0] in USED]
-    chosen.append("bench_calls: dn_names match_rules")
+    chosen = [line for line in lines if line.split(":")[0] in used]
+    chosen.append("bench_calls: " + " ".join(program.named))
+    folder.mkdir(parents=True, exist_ok=True)
     (folder / "crates.txt").write_text("\n".join(chosen) + "\n")
-    for crate in USED:
+    for crate in used:
         shutil.copytree(CRATES / crate, folder / "crates" / crate)
-    program = folder / "crates" / "bench_calls"
-    (program / "src").mkdir(parents=True)
-    shutil.copy(HERE / "calls.txt", program / "src" / "main.rt")
-    return program
+    own = folder / "crates" / "bench_calls"
+    for target, source in program.files.items():
+        (own / target).parent.mkdir(parents=True, exist_ok=True)
+        shutil.copy(HERE / "calls" / source, own / target)
+    return own
 
 
 def main():
     """Builds the program and runs it."""
     words = argparse.ArgumentParser(description=__doc__)
+    words.add_argument("program", choices=sorted(PROGRAMS))
     words.add_argument("--folder", help="where to build; kept afterwards, for a second run")
     asked = words.parse_args()
-    if asked.folder:
-        folder = pathlib.Path(asked.folder)
-        program = folder / "crates" / "bench_calls"
-        if not program.exists():
-            program = make_repository(folder)
-        return subprocess.run(["rt", "run"], cwd=program, check=False).returncode
     with tempfile.TemporaryDirectory() as name:
-        program = make_repository(pathlib.Path(name))
-        return subprocess.run(["rt", "run"], cwd=program, check=False).returncode
+        folder = pathlib.Path(asked.folder or name)
+        own = folder / "crates" / "bench_calls"
+        if not own.exists():
+            own = make_repository(folder, PROGRAMS[asked.program])
+        return subprocess.run(["rt", "run"], cwd=own, check=False).returncode
 
 
 if __name__ == "__main__":

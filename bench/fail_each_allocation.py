@@ -1,5 +1,5 @@
 #!/usr/bin/env python3
-"""Runs a replay once for each of its allocations, which then fails.
+"""Runs a replay over a data file once for each of its allocations, which then fails.
 
 Each run has to end with status 8, or with the status and the lines of the run without a failure.
 """
@@ -23,25 +23,24 @@ def build_library(folder):
     return library
 
 
-def run(program, script, library, failing, folder):
+def run(words, library, failing, folder):
     """Runs a replay with one failing allocation; gives its status, its lines and how many it made."""
     counted = folder / "allocations"
     counted.unlink(missing_ok=True)
     environment = dict(os.environ, LD_PRELOAD=str(library), FAIL_AT=str(failing))
     environment["ALLOCATIONS"] = str(counted)
-    done = subprocess.run(
-        [program, "replay", "data", script], env=environment, capture_output=True, check=False
-    )
+    done = subprocess.run(words, env=environment, capture_output=True, check=False)
     return done.returncode, done.stdout, int(counted.read_text())
 
 
-def try_script(program, script, library, folder):
+def try_script(program, data, script, library, folder):
     """Tries each allocation of a replay; gives whether all answers are allowed."""
-    status, lines, allocations = run(program, script, library, 0, folder)
+    words = [program, "replay", "--dump", data, script]
+    status, lines, allocations = run(words, library, 0, folder)
     refused = same = 0
     good = True
     for failing in range(1, allocations + 1):
-        answer = run(program, script, library, failing, folder)
+        answer = run(words, library, failing, folder)
         if answer[0] == NO_MEMORY:
             refused += 1
         elif answer[:2] == (status, lines):
@@ -57,12 +56,16 @@ def main():
     """Tries each script of the words."""
     words = argparse.ArgumentParser(description=__doc__)
     words.add_argument("--program", default=str(HERE.parent / "crates/aclserver/out/aclserver"))
+    words.add_argument("data")
     words.add_argument("scripts", nargs="+")
     asked = words.parse_args()
     with tempfile.TemporaryDirectory() as name:
         folder = pathlib.Path(name)
         library = build_library(folder)
-        results = [try_script(asked.program, script, library, folder) for script in asked.scripts]
+        results = [
+            try_script(asked.program, asked.data, script, library, folder)
+            for script in asked.scripts
+        ]
     return 0 if all(results) else 1
 
 

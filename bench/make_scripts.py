@@ -201,6 +201,8 @@ def over_limit(name):
     return Case(name, script + b"#", 0, 0, 9, answer)
 
 
+ONE_ENTRY = b"version: 1\n\ndn: dc=bench\nobjectClass: domain\ndc: bench\n"
+
 MAKERS = {
     "empty": lambda name: Case(name, b"", 0, 0, 0, b""),
     "pipelined_half": lambda name: pipelined(name, BINDS // 2),
@@ -238,12 +240,12 @@ def write_case(folder, case):
 
 
 def main():
-    """Writes all scripts, an empty data file and the list of cases into a folder."""
+    """Writes all scripts, a data file of one entry and the list of cases into a folder."""
     parser = argparse.ArgumentParser(description=__doc__)
     parser.add_argument("folder", type=Path, help="where the scripts are put")
     folder = parser.parse_args().folder
     folder.mkdir(parents=True, exist_ok=True)
-    (folder / "empty.ldif").write_bytes(b"")
+    (folder / "one.ldif").write_bytes(ONE_ENTRY)
     rows = [write_case(folder, maker(name)) for name, maker in MAKERS.items()]
     (folder / "cases.json").write_text(json.dumps(rows, indent=1) + "\n")
     for row in rows:

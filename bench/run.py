@@ -43,7 +43,7 @@ class Bench(NamedTuple):
 
 def spawn(bench, name):
     """Starts the program on a script, with its standard output in the file for it."""
-    words = [bench.program, "replay", str(bench.folder / "empty.ldif")]
+    words = [bench.program, "replay", str(bench.folder / "one.ldif")]
     words.append(str(bench.folder / f"{name}.script"))
     flags = os.O_WRONLY | os.O_CREAT | os.O_TRUNC
     opened = (os.POSIX_SPAWN_OPEN, 1, bench.output, flags, 0o600)

@@ -1,7 +1,6 @@
 -- Lemmas on how the program ends once the text of an outcome was to be printed.
-use Rattle.std.proofs.Common.{◌≡◌, ℕ, ◌<◌, Bool, true, false, List, [], length, take, Option, Result, Ok, Err, refl, sym, ap, ◌∙◌, subst, if◌then◌else◌, nat_lt}
+use Rattle.std.proofs.Common.{◌≡◌, ℕ, Bool, true, false, List, length, take, Option, Result, Ok, Err, refl, sym, ap, ◌∙◌, subst, if◌then◌else◌, nat_lt}
 use Rattle.std.proofs.Math.Seq.{take-length}
-use Rattle.plain_values.specs.Counts.{Rose, NeverFalls}
 use Rattle.wire_io.specs.declared.answers.PutFault.{PutFault}
 use Rattle.wire_io.specs.declared.answers.PutFault.TheVariants as put
 use Rattle.wire_io.specs.Pieces.{pieces}
@@ -9,8 +8,8 @@ use Rattle.wire_io.specs.Putting.{appended, PutsAll, PutCause}
 use Rattle.session_hub.specs.Loops.{buffer_length}
 use Rattle.acl_program.specs.declared.status.Status.{Status}
 use Rattle.acl_program.specs.declared.status.Status.TheVariants.{Done, Usage, BadData, ShelfFault, SinkFault, LinkFault, TurnsSpent, NoMemory, BadScript}
-use Rattle.acl_program.specs.Outcomes.{Outcome, NoCommand, NoFile, BadLine, Replayed, OutOfMemory, text_of, status_of, settled}
-use Rattle.acl_program.specs.Running.{Puts, PutsFront}
+use Rattle.acl_program.specs.Outcomes.{Outcome, NoCommand, NoFile, BadDataLine, BadLine, Checked, Dumped, Replayed, OutOfMemory, text_of, status_of, settled}
+use Rattle.acl_program.specs.Running.{PutsFront}
 use Rattle.acl_program.specs.Playing.{Ends}
 
 -- no outcome has the status of a sink's fault
@@ -22,8 +21,11 @@ status_of-not_sink : (outcome : Outcome) → SinkFault ≡ status_of outcome →
 unfolding status_of
 status_of-not_sink NoCommand is = cc
 status_of-not_sink NoFile is = cc
+status_of-not_sink (BadDataLine line cause) is = cc
 status_of-not_sink (BadLine line) is = cc
-status_of-not_sink (Replayed events turns) is = done_or_spent-not_sink (nat_lt (length (pieces buffer_length events)) turns) is
+status_of-not_sink (Checked entries) is = cc
+status_of-not_sink (Dumped entries) is = cc
+status_of-not_sink (Replayed events turns dump entries) is = done_or_spent-not_sink (nat_lt (length (pieces buffer_length events)) turns) is
 status_of-not_sink OutOfMemory is = cc
 
 -- the whole text is a front of it

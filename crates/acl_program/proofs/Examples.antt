@@ -46,10 +46,10 @@ unfolding two_events replay_text lines_of line_of pieces pieces_of steps_of_even
 one_line = refl
 
 -- Stop is the event after the last piece
-four_turns : status_of (Replayed two_events 4) ≡ Done
+four_turns : status_of (Replayed two_events 4 false []) ≡ Done
 unfolding two_events status_of pieces pieces_of
 four_turns = refl
 
-three_turns : status_of (Replayed two_events 3) ≡ TurnsSpent
+three_turns : status_of (Replayed two_events 3 true []) ≡ TurnsSpent
 unfolding two_events status_of pieces pieces_of
 three_turns = refl

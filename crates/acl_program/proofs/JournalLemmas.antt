@@ -1,5 +1,5 @@
 -- Lemmas on what a journal tells of the connections opened, and on the events that it heard.
-use Rattle.std.proofs.Common.{◌≡◌, ℕ, suc, ◌+◌, ◌<◌, ◌≤◌, Bool, true, false, ◌||◌, List, [], ◌∷◌, ◌++◌, length, refl, sym, ap, ◌∙◌, subst, arith, append_assoc, append-nil, flat_map}
+use Rattle.std.proofs.Common.{◌≡◌, ℕ, ◌<◌, ◌≤◌, true, List, [], ◌∷◌, ◌++◌, length, refl, sym, ap, ◌∙◌, arith, append_assoc, append-nil, flat_map}
 use Rattle.wire_io.specs.declared.journal.Event.{Event}
 use Rattle.wire_io.specs.declared.journal.Event.TheVariants as event
 use Rattle.wire_io.specs.declared.journal.Item.{Item}
@@ -7,14 +7,14 @@ use Rattle.wire_io.specs.declared.journal.Item.TheVariants as item
 use Rattle.wire_io.specs.Journal.{heard, opened_by, was_stopped, stops, taken_of, is_hung_up}
 use Rattle.wire_io.specs.Pieces.{steps_of, step_of}
 use Rattle.wire_io.specs.Rising.{rising}
-use Rattle.session_model.specs.Journaled.{steps_of as journal_steps, step_of_item, step_of_event, steps_of_events}
-use Rattle.session_model.specs.Run.{Session, Sessions, State, Open, Closing, TurnedAway, Away, Unopened, Step, Opened, Bytes, Ended, Gone, HungUp, step, hears, run_from, start}
+use Rattle.session_model.specs.Journaled.{steps_of as journal_steps, steps_of_events}
+use Rattle.session_model.specs.Run.{Sessions, State, Open, Closing, TurnedAway, Away, Unopened, Step, Opened, Bytes, Ended, Gone, HungUp, step, hears, run_from, start}
 use Rattle.session_model.specs.Serving.{sessions}
 use Rattle.session_model.specs.Replaying.{is_away, IsReplay}
 use Rattle.session_hub.specs.declared.requester.Requester.{Requester}
 use Rattle.session_hub.specs.Answering.{Tree, rules}
 use Rattle.acl_program.specs.Lines.{line_of, lines_of}
-use Rattle.acl_program.specs.Playing.{journal_text, journal_lines}
+use Rattle.acl_program.specs.Playing.{journal_text}
 
 -- the numbers that steps open, in order
 abbrev opened_in : List Step → List ℕ

@@ -5,4 +5,6 @@ mod PrintLemmas
 mod JournalLemmas
 mod PlayLemmas
 mod OutcomeLemmas
+mod DueLemmas
+mod PerformLemmas
 mod RunLemmas

@@ -1,5 +1,5 @@
--- Lemmas on a script read from a shelf.
-use Rattle.std.proofs.Common.{◌≡◌, ℕ, ◌≤◌, List, [], length, Option, Some, None, Result, Ok, Err, refl, sym, ap, ◌∙◌, subst, inl, inr}
+-- Lemmas on a data file and a script read from a shelf.
+use Rattle.std.proofs.Common.{◌≡◌, ℕ, ◌≤◌, List, length, Option, Some, None, Result, Ok, Err, refl, sym, subst, inl, inr}
 use Rattle.wire_io.specs.Files.{Files, file_of}
 use Rattle.wire_io.specs.ReadWhole.{GivesFile, IsLonger, IsLongerFile, ReadCause}
 use Rattle.wire_io.specs.declared.answers.ReadFault.{ReadFault}
@@ -11,8 +11,17 @@ use Rattle.script_text.proofs.Theorems.{script_of-err}
 use Rattle.wire_io.specs.Scripted.{LinkState}
 use Rattle.acl_program.specs.declared.loading.Trouble.{Trouble}
 use Rattle.acl_program.specs.declared.loading.Trouble.TheVariants as trouble
-use Rattle.acl_program.specs.Causes.{HoldsOf, HoldsIn, IsUnread, IsBadScript, IsGoodScript, most_script}
-use Rattle.acl_program.specs.Playing.{Loads, ReadsScript, trouble_of_file, trouble_of_script}
+use Rattle.plain_values.specs.Counts.{NeverFalls}
+use Rattle.dir_tree.specs.Trees.{Numbered}
+use Rattle.schema_rules.specs.Checking.{entries_of}
+use Rattle.op_write.specs.declared.fault.LoadCause.TheVariants.{Limit}
+use Rattle.op_write.specs.DataFile.{OfRecord, loads}
+use Rattle.data_file.specs.declared.fault.DataCause.TheVariants as DataCause
+use Rattle.data_file.specs.declared.fault.DataFault.{DataFault}
+use Rattle.data_file.specs.declared.fault.DataFault.TheVariants as loading
+use Rattle.data_file.specs.Files.{IsDataFault, cause_of}
+use Rattle.acl_program.specs.Causes.{HoldsOf, HoldsIn, IsUnread, IsBadData, IsGoodData, IsBadScript, IsGoodScript, most_data, most_script}
+use Rattle.acl_program.specs.Troubles.{Loads, LoadsData, ReadsScript, ReadsData, data_trouble_of_file, trouble_of_data, trouble_of_file, trouble_of_script}
 
 -- what holds of the content that was given holds of the file, where the shelf tells
 HoldsIn-given : (files : Option Files) (name content : List ℕ) (P : List ℕ → Type 0) → GivesFile files name content → P content → HoldsIn files name P
@@ -27,6 +36,7 @@ loads_given :
 unfolding Loads ReadsScript
 loads_given files name content before after (Ok link) gives reads = (HoldsIn-given files name content (IsGoodScript link.plan.to_come) gives reads.0, reads.1)
 loads_given files name content before after (Err trouble.NoFile) gives reads = absurd reads
+loads_given files name content before after (Err (trouble.BadData line cause)) gives reads = absurd reads
 loads_given files name content before after (Err (trouble.BadLine line)) gives reads = HoldsIn-given files name content (IsBadScript line) gives reads
 loads_given files name content before after (Err trouble.NoMemory) gives reads = tt
 
@@ -65,3 +75,51 @@ pub ReadsScript-refused :
 unfolding ReadsScript IsBadScript
 ReadsScript-refused content (script.Bad line) short cause = inl (short, script_of-err content line cause)
 ReadsScript-refused content script.NoMemory short cause = tt
+
+-- the tree of a file that was given
+data_given :
+    (files : Option Files) (name content : List ℕ) (before after : ℕ) (result : Result (List Numbered) Trouble)
+    → GivesFile files name content → NeverFalls before after → ReadsData content result → LoadsData files name before after result
+unfolding LoadsData ReadsData
+data_given files name content before after (Ok rows) gives stays reads = (HoldsIn-given files name content (IsGoodData (entries_of rows)) gives reads.0, reads.1, stays)
+data_given files name content before after (Err trouble.NoFile) gives stays reads = absurd reads
+data_given files name content before after (Err (trouble.BadData line cause)) gives stays reads = HoldsIn-given files name content (IsBadData line (cause_of cause)) gives reads
+data_given files name content before after (Err (trouble.BadLine line)) gives stays reads = absurd reads
+data_given files name content before after (Err trouble.NoMemory) gives stays reads = tt
+
+pub LoadsData-read :
+    {T : Type 0} (files : Option Files) (name content lent : List ℕ) (before after : ℕ) (text : T) (result : Result (List Numbered) Trouble)
+    → lent ≡ content → GivesFile files name content → ReadCause {T = T} files name most_data before after (Ok text) → ReadsData lent result → LoadsData files name before after result
+unfolding ReadCause
+LoadsData-read files name content lent before after text result same gives stays reads =
+    let P : List ℕ → Type 0 = λ octets. ReadsData octets result in data_given files name content before after result gives stays (subst P same reads)
+
+-- a file that is too long is not accepted
+data_too_long : (file : Option (List ℕ)) (line : ℕ) → IsLongerFile file most_data line → HoldsOf (IsBadData line (OfRecord Limit)) file
+unfolding IsLongerFile IsBadData
+data_too_long None line longer = absurd longer
+data_too_long (Some content) line longer = inr (longer.0, longer.1, refl)
+
+LoadsData-too_long :
+    (files : Option Files) (name : List ℕ) (before after line : ℕ)
+    → IsLonger files name most_data line → LoadsData files name before after (Err (trouble.BadData line (DataCause.Record Limit)))
+unfolding LoadsData IsLonger HoldsIn
+LoadsData-too_long None name before after line longer = tt
+LoadsData-too_long (Some files) name before after line longer = data_too_long (file_of name files) line longer
+
+-- the file wasn't read, or is too long
+pub LoadsData-refused :
+    (T : Type 0) (files : Option Files) (name : List ℕ) (before after : ℕ) (fault : ReadFault)
+    → ReadCause {T = T} files name most_data before after (Err fault) → LoadsData files name before after (Err (data_trouble_of_file fault))
+unfolding LoadsData ReadCause IsUnread
+LoadsData-refused T files name before after read.Absent cause = inr cause.0
+LoadsData-refused T files name before after read.Failed cause = inl cause
+LoadsData-refused T files name before after (read.TooLong line) cause = LoadsData-too_long files name before after line cause.0
+LoadsData-refused T files name before after read.NoMemory cause = tt
+
+-- the text isn't accepted
+pub ReadsData-refused :
+    (content : List ℕ) (fault : DataFault) → length content ≤ most_data → IsDataFault fault (loads content) → ReadsData content (Err (trouble_of_data fault))
+unfolding ReadsData IsBadData
+ReadsData-refused content (loading.Bad line cause) short is = inl (short, is)
+ReadsData-refused content loading.NoMemory short is = tt

@@ -1,20 +1,18 @@
 -- What the loop's clauses say where the link gives a script's events: the journal tells the replay's lines.
-use Rattle.std.proofs.Common.{◌≡◌, ℕ, zero, suc, ◌<◌, ◌≤◌, false, true, List, [], ◌∷◌, ◌++◌, length, take, Option, Some, None, refl, sym, ap, ◌∙◌, subst, arith, append-nil, length-append}
-use Rattle.std.proofs.Math.Seq.{take-append_seam, take-length}
-use Rattle.std.proofs.lemmas.List.{take-append-le}
+use Rattle.std.proofs.Common.{◌≡◌, ℕ, zero, suc, ◌<◌, ◌≤◌, false, true, List, [], ◌∷◌, ◌++◌, length, take, Some, refl, sym, ap, ◌∙◌, subst, arith, append-nil, length-append}
+use Rattle.std.proofs.Math.Seq.{take-append_seam}
 use Rattle.script_text.specs.declared.event.ScriptEvent.{ScriptEvent}
 use Rattle.wire_io.specs.declared.journal.Event.{Event}
 use Rattle.wire_io.specs.declared.journal.Item.{Item}
-use Rattle.wire_io.specs.Journal.{heard, was_stopped, is_held, hold_after_all}
+use Rattle.wire_io.specs.Journal.{heard, is_held, hold_after_all}
 use Rattle.wire_io.specs.Pieces.{pieces, steps_of, Plays as BringsOn}
 use Rattle.wire_io.specs.Plan.{Plan}
 use Rattle.wire_io.specs.Scripted.{LinkState, fresh_link}
 use Rattle.session_model.specs.Journaled.{steps_of_events, all_taken}
-use Rattle.session_model.specs.Serving.{sessions, Served}
 use Rattle.session_model.specs.Replaying.{IsReplay, replayed}
 use Rattle.session_hub.specs.declared.ended.Ended.{Ended}
 use Rattle.session_hub.specs.declared.ended.Ended.TheVariants as ended
-use Rattle.session_hub.specs.Answering.{Tree, rules}
+use Rattle.session_hub.specs.Answering.{rules}
 use Rattle.session_hub.specs.Loops.{buffer_length, Serves, PlaysOut, PlayedOut, EndsFor, EndsAt, ServedAs}
 use Rattle.acl_program.specs.Lines.{lines_of, heard_of, replay_text}
 use Rattle.acl_program.specs.Playing.{Plays, journal_text}

@@ -1,10 +1,11 @@
 -- Lemmas on texts put one after another, and on the lines of a journal.
-use Rattle.std.proofs.Common.{◌≡◌, ℕ, zero, suc, ◌+◌, ◌<◌, ◌≤◌, List, [], ◌∷◌, ◌++◌, length, take, drop, get_or, Option, Some, None, Result, Ok, Err, refl, sym, ap, ◌∙◌, subst, arith, append-nil, append_assoc, add-one, inl, inr}
+use Rattle.std.proofs.Common.{◌≡◌, ℕ, zero, suc, ◌+◌, ◌<◌, ◌≤◌, Bool, List, [], ◌∷◌, ◌++◌, length, take, drop, get_or, Option, Some, None, Result, Ok, Err, refl, sym, ap, ◌∙◌, subst, arith, append-nil, append_assoc, add-one, inl, inr}
+use Rattle.std.specs.Prelude.{codes, decimal}
 use Rattle.std.proofs.Math.Seq.{take-suc, take-append-add, take-append_seam}
 use Rattle.std.proofs.lemmas.Grind.{flat_map-append}
 use Rattle.std.proofs.lemmas.List.{take-append-le, take-append-drop}
 use Rattle.std.proofs.lemmas.Bool.{cases_lt}
-use Rattle.plain_values.specs.Counts.{NeverFalls, Rose}
+use Rattle.plain_values.specs.Counts.{NeverFalls}
 use Rattle.plain_values.proofs.Theorems.{NeverFalls-refl}
 use Rattle.wire_io.specs.declared.answers.PutFault.{PutFault}
 use Rattle.wire_io.specs.declared.answers.PutFault.TheVariants as put
@@ -13,7 +14,7 @@ use Rattle.wire_io.specs.Journal.{opened_by, taken_of, is_hung_up}
 use Rattle.wire_io.specs.Rising.{rising}
 use Rattle.wire_io.specs.Putting.{appended, PutsAll, PutCause}
 use Rattle.wire_io.proofs.Theorems.{appended-appended}
-use Rattle.acl_program.specs.Lines.{line_of}
+use Rattle.acl_program.specs.Lines.{shown, ending, line_of}
 use Rattle.acl_program.specs.Playing.{journal_lines, journal_text}
 
 -- no octets put change nothing
@@ -117,3 +118,66 @@ PutsAll-opened old new journal conns result is puts =
 pub PutCause-done : (before after : ℕ) (done : Unit {0}) → NeverFalls before after → PutCause before after (Ok done)
 unfolding PutCause
 PutCause-done before after done stays = stays
+
+-- one text was put, and then another was to be
+pub PutsAll-then :
+    (old now new : Option (List ℕ)) (first second : List ℕ) (done : Unit {0}) (result : Result (Unit {0}) PutFault)
+    → PutsAll old first (Ok done) now → PutsAll now second result new → PutsAll old (first ++ second) result new
+unfolding PutsAll
+PutsAll-then old now new first second done (Ok answer) before puts =
+    puts ∙ ap (λ put. appended put second) before ∙ appended-appended old first second
+PutsAll-then old now new first second done (Err fault) before puts =
+    PutsAll-front old now new first second [] (first ++ second) fault (ap (λ text. first ++ text) (sym (append-nil second))) before puts
+
+-- the first was refused
+pub PutsAll-first :
+    (old new : Option (List ℕ)) (first second : List ℕ) (fault : PutFault) → PutsAll {T = Unit {0}} old first (Err fault) new → PutsAll {T = Unit {0}} old (first ++ second) (Err fault) new
+unfolding PutsAll
+PutsAll-first old new first second fault puts =
+    let other : (k : ℕ) × (take puts.0 first ≡ take k (first ++ second)) = front_in puts.0 first second in
+    (other.0, puts.1 ∙ ap (λ text. appended old text) other.1)
+
+-- nothing was to be put
+pub PutsAll-nothing : (old : Option (List ℕ)) (done : Unit {0}) → PutsAll old [] (Ok done) old
+unfolding PutsAll
+PutsAll-nothing old done = appended-none old
+
+pub PutCause-nothing : (before : ℕ) (done : Unit {0}) → PutCause before before (Ok done)
+unfolding PutCause
+PutCause-nothing before done = NeverFalls-refl before
+
+-- the causes of two puttings
+pub PutCause-then : (before middle after : ℕ) (done : Unit {0}) (result : Result (Unit {0}) PutFault)
+    → PutCause before middle (Ok done) → PutCause middle after result → PutCause before after result
+unfolding PutCause
+PutCause-then before middle after done (Ok answer) first second = record { never_falls = omega (arith, first.never_falls, second.never_falls) }
+PutCause-then before middle after done (Err put.Failed) first second =
+    record {
+      never_falls = omega (arith, first.never_falls, second.never_falls);
+      rose = elim second.rose [ inl more ↦ inl (omega (arith, first.never_falls)) | inr last ↦ inr last ];
+    }
+PutCause-then before middle after done (Err put.NoMemory) first second = record { never_falls = omega (arith, first.never_falls, second.never_falls) }
+
+-- a line is its number and a space, and what follows them
+pub line_parts : (conn : ℕ) (sent : List ℕ) (hung_up : Bool) → (decimal conn ++ codes " ") ++ (shown sent ++ (ending hung_up ++ codes "\n")) ≡ line_of conn sent hung_up
+unfolding line_of
+line_parts conn sent hung_up = append_assoc (decimal conn) (codes " ") (shown sent ++ (ending hung_up ++ codes "\n"))
+
+-- the number was put, and what follows it
+pub PutsAll-line :
+    (old now new : Option (List ℕ)) (conn : ℕ) (said sent : List ℕ) (closed hung_up : Bool) (done : Unit {0}) (result : Result (Unit {0}) PutFault)
+    → said ≡ sent → closed ≡ hung_up → PutsAll old (decimal conn ++ codes " ") (Ok done) now
+    → PutsAll now (shown said ++ (ending closed ++ codes "\n")) result new → PutsAll old (line_of conn sent hung_up) result new
+PutsAll-line old now new conn said sent closed hung_up done result is_said is_closed number puts =
+    let P : List ℕ → Type 0 = λ text. PutsAll old text result new in
+    let line : (decimal conn ++ codes " ") ++ (shown said ++ (ending closed ++ codes "\n")) ≡ line_of conn sent hung_up =
+    line_parts conn said closed ∙ ap (λ octets. line_of conn octets closed) is_said ∙ ap (λ end. line_of conn sent end) is_closed in
+    subst P line (PutsAll-then old now new (decimal conn ++ codes " ") (shown said ++ (ending closed ++ codes "\n")) done result number puts)
+
+-- the number of the line was refused
+pub PutsAll-number :
+    (old new : Option (List ℕ)) (conn : ℕ) (sent : List ℕ) (hung_up : Bool) (fault : PutFault)
+    → PutsAll {T = Unit {0}} old (decimal conn ++ codes " ") (Err fault) new → PutsAll {T = Unit {0}} old (line_of conn sent hung_up) (Err fault) new
+PutsAll-number old new conn sent hung_up fault puts =
+    let P : List ℕ → Type 0 = λ text. PutsAll {T = Unit {0}} old text (Err fault) new in
+    subst P (line_parts conn sent hung_up) (PutsAll-first old new (decimal conn ++ codes " ") (shown sent ++ (ending hung_up ++ codes "\n")) fault puts)

@@ -4,4 +4,5 @@ pub mod Outcomes
 pub mod Causes
 pub mod Running
 -- what the crate's inside promises itself
+pub mod Troubles
 pub mod Playing

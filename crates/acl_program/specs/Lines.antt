@@ -1,6 +1,6 @@
 -- The lines of a replay: for each connection its number, what was sent to it in hexadecimal (RFC 4648 8), and whether
 -- it was hung up.
-use Rattle.std.specs.Prelude.{ℕ, Bool, true, false, List, [], ◌∷◌, ◌++◌, take, length, codes, decimal, flat_map, if◌then◌else◌}
+use Rattle.std.specs.Prelude.{ℕ, Bool, true, false, List, [], ◌∷◌, ◌++◌, take, codes, decimal, flat_map}
 use Rattle.hex.specs.Hex.{encode_lower}
 use Rattle.script_text.specs.declared.event.ScriptEvent.{ScriptEvent}
 use Rattle.wire_io.specs.declared.journal.Event.{Event}

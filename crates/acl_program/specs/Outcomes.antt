@@ -1,37 +1,80 @@
 -- What the program comes to: one row an outcome, with the text that it prints and how it ends.
-use Rattle.std.specs.Prelude.{ℕ, ◌++◌, nat_lt, List, [], length, codes, decimal, if◌then◌else◌, Result, Ok, Err}
+use Rattle.std.specs.Prelude.{ℕ, Bool, true, false, ◌++◌, nat_lt, List, [], length, codes, decimal, if◌then◌else◌, Result, Ok, Err}
 use Rattle.script_text.specs.declared.event.ScriptEvent.{ScriptEvent}
 use Rattle.wire_io.specs.declared.answers.PutFault.{PutFault}
 use Rattle.wire_io.specs.declared.answers.PutFault.TheVariants as put
 use Rattle.wire_io.specs.Pieces.{pieces}
 use Rattle.session_hub.specs.Loops.{buffer_length}
+use Rattle.dir_tree.specs.Entries.{EntryInformation}
+use Rattle.ldif_core.specs.declared.types.LineCause.{LineCause}
+use Rattle.ldif_core.specs.declared.types.LineCause.TheVariants.{Syntax, Changetype, Base64}
+use Rattle.schema_rules.specs.Rules.{access_subentries}
+use Rattle.op_write.specs.declared.fault.LoadCause.{LoadCause}
+use Rattle.op_write.specs.declared.fault.LoadCause.TheVariants.{Name, Kind, Value, Twice, Order, Rule, Limit}
+use Rattle.op_write.specs.DataFile.{FileCause, OfLine, OfRecord, OfMemory, ldif_text}
 use Rattle.acl_program.specs.declared.status.Status.{Status}
 use Rattle.acl_program.specs.declared.status.Status.TheVariants.{Done, Usage, BadData, ShelfFault, SinkFault, LinkFault, TurnsSpent, NoMemory, BadScript}
 use Rattle.acl_program.specs.Lines.{replay_text}
 
--- no command is asked for; a file wasn't read; a script's first bad line; a script was replayed for so many turns;
--- memory ran out before anything was printed
+-- no command is asked for; a file wasn't read; the data file's first bad line, and why; a script's first bad line; a data
+-- file was checked, or put again; a script was replayed for so many turns, and the tree put after it if that was asked
+-- for; memory ran out before anything was printed
 pub data Outcome : Type 0 where
   NoCommand : Outcome
   NoFile : Outcome
+  BadDataLine : (line : ℕ) (cause : FileCause) → Outcome
   BadLine : (line : ℕ) → Outcome
-  Replayed : (events : List ScriptEvent) (turns : ℕ) → Outcome
+  Checked : (entries : List EntryInformation) → Outcome
+  Dumped : (entries : List EntryInformation) → Outcome
+  Replayed : (events : List ScriptEvent) (turns : ℕ) (dump : Bool) (entries : List EntryInformation) → Outcome
   OutOfMemory : Outcome
+
+-- what is wrong with a line, and with a record
+abbrev pub line_cause_text : LineCause → List ℕ
+line_cause_text Syntax = codes "syntax"
+line_cause_text Changetype = codes "changetype"
+line_cause_text Base64 = codes "base64"
+
+abbrev pub record_cause_text : LoadCause → List ℕ
+record_cause_text Name = codes "name"
+record_cause_text Kind = codes "type"
+record_cause_text Value = codes "value"
+record_cause_text Twice = codes "twice"
+record_cause_text Order = codes "order"
+record_cause_text (Rule code) = codes "rule " ++ decimal code
+record_cause_text Limit = codes "limit"
+
+-- what is wrong with a file: want of memory is no fault of it
+abbrev pub cause_text : FileCause → List ℕ
+cause_text (OfLine cause) = line_cause_text cause
+cause_text (OfRecord cause) = record_cause_text cause
+cause_text OfMemory = []
+
+-- the tree as a data file, where it is asked for
+abbrev pub dump_text : Bool → List EntryInformation → List ℕ
+dump_text true entries = ldif_text entries
+dump_text false entries = []
 
 -- what is printed
 unfoldable pub text_of : Outcome → List ℕ
 text_of NoCommand = codes "usage: aclserver (serve|replay|check|dump|explain|sample) WORDS\n"
 text_of NoFile = codes "data fault\n"
+text_of (BadDataLine line cause) = codes "bad data line " ++ (decimal line ++ (codes ": " ++ (cause_text cause ++ codes "\n")))
 text_of (BadLine line) = codes "bad script line " ++ (decimal line ++ codes "\n")
-text_of (Replayed events turns) = replay_text events turns
+text_of (Checked entries) = codes "ok " ++ (decimal (length entries) ++ (codes " " ++ (decimal (access_subentries entries) ++ codes "\n")))
+text_of (Dumped entries) = ldif_text entries
+text_of (Replayed events turns dump entries) = replay_text events turns ++ dump_text dump entries
 text_of OutOfMemory = []
 
 -- how it ends, where all is printed: a replay is done where Stop was heard, which comes after the script's pieces
 unfoldable pub status_of : Outcome → Status
 status_of NoCommand = Usage
 status_of NoFile = ShelfFault
+status_of (BadDataLine line cause) = BadData
 status_of (BadLine line) = BadScript
-status_of (Replayed events turns) = if nat_lt (length (pieces buffer_length events)) turns then Done else TurnsSpent
+status_of (Checked entries) = Done
+status_of (Dumped entries) = Done
+status_of (Replayed events turns dump entries) = if nat_lt (length (pieces buffer_length events)) turns then Done else TurnsSpent
 status_of OutOfMemory = NoMemory
 
 -- the number that the program exits with

@@ -1,13 +1,12 @@
 -- What the program puts, and when it ends as it does.
 use Rattle.std.specs.Prelude.{◌≡◌, ◌⊎◌, ℕ, List, take, Option}
-use Rattle.plain_values.specs.Counts.{Rose}
-use Rattle.script_text.specs.declared.event.ScriptEvent.{ScriptEvent}
 use Rattle.wire_io.specs.Files.{Files}
 use Rattle.wire_io.specs.Putting.{appended}
 use Rattle.acl_program.specs.declared.status.Status.{Status}
 use Rattle.acl_program.specs.declared.status.Status.TheVariants.{Done, Usage, BadData, ShelfFault, SinkFault, LinkFault, TurnsSpent, NoMemory, BadScript}
-use Rattle.acl_program.specs.Outcomes.{Outcome, Replayed, text_of, status_of}
-use Rattle.acl_program.specs.Causes.{Comes, AsksReplay, HoldsIn, IsTold, IsBadScript, IsGoodScript}
+use Rattle.acl_program.specs.Outcomes.{Outcome, text_of, status_of}
+use Rattle.op_write.specs.DataFile.{FileCause}
+use Rattle.acl_program.specs.Causes.{Comes, LacksData, LacksScript, RefusesData, RefusesScript}
 
 -- a front of the text was put
 abbrev pub PutsFront : Option (List ℕ) → List ℕ → Option (List ℕ) → Type 0
@@ -23,14 +22,18 @@ Puts outcome old status new = (status ≡ status_of outcome) × (new ≡ appende
 unfoldable pub Prints : List (List ℕ) → Option Files → ℕ → ℕ → Option (List ℕ) → Status → Option (List ℕ) → Type 0
 Prints words files before after old status new = (outcome : Outcome) × Comes words files before after outcome × Puts outcome old status new
 
--- the words ask for a script file that the shelf tells, and that is a script of these events
-unfoldable pub Accepts : List (List ℕ) → Option Files → List ScriptEvent → ℕ → Type 0
-Accepts words files events turns = (script : List ℕ) × AsksReplay words script turns × IsTold files script (IsGoodScript events)
+-- it ended as the outcome does, but for want of memory
+abbrev pub EndsAs : Outcome → Status → Type 0
+EndsAs outcome status = (status ≡ NoMemory) ⊎ (status ≡ status_of outcome)
 
--- the words ask for a script file that, where the shelf tells it, is no script, or is too long
-unfoldable pub Refuses : List (List ℕ) → Option Files → Type 0
-Refuses words files = (script : List ℕ) × (turns : ℕ) × AsksReplay words script turns × (line : ℕ) × HoldsIn files script (IsBadScript line)
-
--- the script was replayed, but for want of memory
-abbrev pub IsReplayed : List ScriptEvent → ℕ → Status → Type 0
-IsReplayed events turns status = (status ≡ NoMemory) ⊎ (status ≡ status_of (Replayed events turns))
+-- what came where it ended with one of these statuses
+unfoldable pub IsCause : List (List ℕ) → Option Files → ℕ → ℕ → Status → Type 0
+IsCause words files before after BadData = (line : ℕ) × (cause : FileCause) × RefusesData words files line cause
+IsCause words files before after ShelfFault = LacksData words files before after ⊎ LacksScript words files before after
+IsCause words files before after BadScript = (line : ℕ) × RefusesScript words files line
+IsCause words files before after Done = Unit {0}
+IsCause words files before after Usage = Unit {0}
+IsCause words files before after SinkFault = Unit {0}
+IsCause words files before after LinkFault = ⊥
+IsCause words files before after TurnsSpent = Unit {0}
+IsCause words files before after NoMemory = Unit {0}

@@ -2,11 +2,13 @@
 //! any link to its connections.
 #![tactic(auto)]
 
+mod data;
 mod loading;
 mod printing;
 mod program;
 mod replay;
 mod status;
+mod troubles;
 
 pub use program::run;
 pub use status::Status;

@@ -1,25 +1,75 @@
-//! Reading a script from a shelf.
+//! Reading a data file and a script from a shelf.
 
 ghost use Rattle.std.specs.Prelude.{◌≡◌, ◌≤◌, length};
-ghost use Rattle.acl_program.specs.Causes.{most_script};
-ghost use Rattle.acl_program.specs.Playing.{Loads, ReadsScript, trouble_of_file, trouble_of_script};
+ghost use Rattle.acl_program.specs.Causes.{most_data, most_script};
+ghost use Rattle.acl_program.specs.Troubles.{Loads, LoadsData, ReadsScript, ReadsData, data_trouble_of_file, trouble_of_data, trouble_of_file, trouble_of_script};
 
+use data_file::{DataCause, DataFault, load};
+use dir_tree::Tree;
+use op_write::LoadCause;
 use script_text::ScriptFault;
 use std::alloc::Global;
 use wire_io::{ReadFault, ScriptLink, Shelf, read_all};
 
+/// The most octets that a data file may have.
+const MOST_DATA: u64 = 67_108_864;
+
 /// The most octets that a script file may have.
 const MOST_SCRIPT: u64 = 67_108_864;
 
-/// Why a script wasn't read.
-#[derive(Clone, Copy, Debug, PartialEq, Eq)]
+/// Why a file wasn't read.
+#[derive(Clone, Copy, Debug, PartialEq)]
 pub(crate) enum Trouble {
     /// The shelf has no such file, or could not read it.
     NoFile,
+    /// The data file's first bad line and its cause, or the line where it becomes too long.
+    BadData(u64, DataCause),
     /// The script's first bad line, or the line where it becomes too long.
     BadLine(u64),
     /// There was no memory.
     NoMemory,
+}
+
+/// The tree of the data file.
+pub(crate) fn load_data<H: Shelf>(alloc: Global, shelf: &mut H, name: &str) -> Result<Tree, Trouble>
+    ensures exact { LoadsData (H.files shelf.old) name.now (H.faults shelf.old) (H.faults shelf.new) result }
+    ensures kept { H.files shelf.new ≡ H.files shelf.old }
+{
+    match read_all(alloc, shelf, name, MOST_DATA) {
+        Ok(text) => read_data(alloc, text.as_slice()),
+        Err(fault) => Err(unread_data(fault)),
+    }
+}
+
+/// The tree of the data file's text.
+fn read_data(alloc: Global, text: &[u8]) -> Result<Tree, Trouble>
+    requires { length text.now ≤ most_data }
+    ensures exact { ReadsData text.now result }
+{
+    match load(alloc, text) {
+        Ok(tree) => Ok(tree),
+        Err(fault) => Err(misread_data(fault)),
+    }
+}
+
+fn unread_data(fault: ReadFault) -> Trouble
+    ensures exact { result ≡ data_trouble_of_file fault }
+{
+    match fault {
+        ReadFault::Absent => Trouble::NoFile,
+        ReadFault::Failed => Trouble::NoFile,
+        ReadFault::TooLong { line } => Trouble::BadData(line, DataCause::Record(LoadCause::Limit)),
+        ReadFault::NoMemory => Trouble::NoMemory,
+    }
+}
+
+fn misread_data(fault: DataFault) -> Trouble
+    ensures exact { result ≡ trouble_of_data fault }
+{
+    match fault {
+        DataFault::Bad { line, cause } => Trouble::BadData(line, cause),
+        DataFault::NoMemory => Trouble::NoMemory,
+    }
 }
 
 /// A link that gives the events of the script file.

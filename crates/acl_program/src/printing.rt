@@ -1,73 +1,48 @@
-//! The texts that the program prints.
+//! The lines of a replay, and the tree after them.
 
-ghost use Rattle.std.specs.Prelude.{◌≡◌, IfOk, string_bytes, length, slice_get};
+ghost use Rattle.std.specs.Prelude.{◌≡◌, ◌++◌, IfOk, string_bytes, decimal, codes};
+ghost use Rattle.std.specs.Option.{option_map};
 ghost use Rattle.acl_program.specs.Lines.{shown, ending, line_of};
-ghost use Rattle.acl_program.specs.Outcomes.{NoCommand, NoFile, BadLine, status_of, text_of};
-ghost use Rattle.acl_program.specs.Playing.{Ends, journal_lines, journal_text, outcome_of};
+ghost use Rattle.acl_program.specs.Playing.{journal_lines, journal_text, dumped_text, IsDumpable};
 ghost use Rattle.wire_io.specs.Putting.{PutsAll, PutCause};
 ghost use Rattle.wire_io.specs.Journal.{taken_of, is_hung_up};
 
-use crate::loading::Trouble;
-use crate::status::Status;
+use data_file::put_tree;
+use dir_tree::Tree;
 use std::alloc::{AllocError, Global};
 use wire_io::{PutFault, ScriptLink, Sink, write_all};
 
-const USAGE: &[u8] = b"usage: aclserver (serve|replay|check|dump|explain|sample) WORDS\n";
-
-/// Prints that the words are no command.
-#[tactic(auto, unfolding(crate::specs::Outcomes::text_of, crate::specs::Outcomes::status_of))]
-pub(crate) fn print_usage<K: Sink>(out: &mut K) -> Status
-    ensures ends { Ends NoCommand (K.put out.old) (K.faults out.old) result (K.put out.new) (K.faults out.new) }
+/// Prints the lines of all connections that the link opened, and then the tree, where there is one to print.
+pub(crate) fn print_replay<K: Sink>(
+    alloc: Global,
+    link: &ScriptLink,
+    dumped: Option<&Tree>,
+    out: &mut K,
+) -> Result<(), PutFault>
+    requires { IsDumpable (option_map (λ tree. tree.now) dumped) }
+    ensures tells { PutsAll (K.put out.old) (journal_text link.now.journal ++ dumped_text (option_map (λ tree. tree.now) dumped.entry)) result (K.put out.new) }
+    ensures cause { PutCause (K.faults out.old) (K.faults out.new) result }
 {
-    let put = write_all(out, USAGE);
-    Status::Usage.after(put)
-}
-
-/// Prints why a script wasn't read.
-pub(crate) fn print_trouble<K: Sink>(alloc: Global, trouble: Trouble, out: &mut K) -> Status
-    ensures ends { Ends (outcome_of trouble) (K.put out.old) (K.faults out.old) result (K.put out.new) (K.faults out.new) }
-{
-    match trouble {
-        Trouble::NoFile => print_data_fault(out),
-        Trouble::BadLine(line) => print_bad_line(alloc, line, out),
-        Trouble::NoMemory => Status::NoMemory,
+    match print_lines(alloc, link, out) {
+        Ok(()) => print_dumped(alloc, dumped, out),
+        Err(fault) => Err(fault),
     }
 }
 
-/// Prints that a file wasn't read.
-#[tactic(auto, unfolding(crate::specs::Outcomes::text_of, crate::specs::Outcomes::status_of))]
-fn print_data_fault<K: Sink>(out: &mut K) -> Status
-    ensures ends { Ends NoFile (K.put out.old) (K.faults out.old) result (K.put out.new) (K.faults out.new) }
+/// Prints the tree, where there is one.
+fn print_dumped<K: Sink>(alloc: Global, dumped: Option<&Tree>, out: &mut K) -> Result<(), PutFault>
+    requires { IsDumpable (option_map (λ tree. tree.now) dumped) }
+    ensures tells { PutsAll (K.put out.old) (dumped_text (option_map (λ tree. tree.now) dumped.entry)) result (K.put out.new) }
+    ensures cause { PutCause (K.faults out.old) (K.faults out.new) result }
 {
-    let put = write_all(out, b"data fault\n");
-    Status::ShelfFault.after(put)
-}
-
-/// Prints the number of a script's bad line.
-#[tactic(auto, unfolding(crate::specs::Outcomes::text_of, crate::specs::Outcomes::status_of))]
-fn print_bad_line<K: Sink>(alloc: Global, line: u64, out: &mut K) -> Status
-    ensures ends { Ends (BadLine line) (K.put out.old) (K.faults out.old) result (K.put out.new) (K.faults out.new) }
-{
-    let Ok(text) = bad_line(alloc, line) else {
-        return Status::NoMemory;
-    };
-    let put = write_all(out, text.as_bytes());
-    Status::BadScript.after(put)
-}
-
-#[tactic(auto, unfolding(crate::specs::Outcomes::text_of))]
-fn bad_line(alloc: Global, line: u64) -> Result<String, AllocError>
-    ensures { IfOk result (λ text. string_bytes text ≡ text_of (BadLine line)) }
-{
-    format!(in alloc; "bad script line {line}\n")
+    match dumped {
+        Some(tree) => put_tree(alloc, tree, out),
+        None => Ok(()),
+    }
 }
 
 /// Prints the lines of all connections that the link opened.
-pub(crate) fn print_lines<K: Sink>(
-    alloc: Global,
-    link: &ScriptLink,
-    out: &mut K,
-) -> Result<(), PutFault>
+fn print_lines<K: Sink>(alloc: Global, link: &ScriptLink, out: &mut K) -> Result<(), PutFault>
     ensures tells { PutsAll (K.put out.old) (journal_text link.now.journal) result (K.put out.new) }
     ensures cause { PutCause (K.faults out.old) (K.faults out.new) result }
 {
@@ -97,7 +72,8 @@ fn print_each<K: Sink>(
     Ok(())
 }
 
-/// Prints the line of a connection.
+/// Prints the line of a connection: first its number, and then the rest, so that what was sent to it is
+/// written out once.
 fn print_line<K: Sink>(
     alloc: Global,
     link: &ScriptLink,
@@ -107,20 +83,54 @@ fn print_line<K: Sink>(
     ensures tells { PutsAll (K.put out.old) (line_of conn (taken_of conn link.now.journal) (is_hung_up conn link.now.journal)) result (K.put out.new) }
     ensures cause { PutCause (K.faults out.old) (K.faults out.new) result }
 {
-    let Ok(line) = line(alloc, conn, link.said_of(conn), link.hung_up(conn)) else {
-        return Err(PutFault::NoMemory);
-    };
-    write_all(out, line.as_bytes())
+    match print_number(alloc, conn, out) {
+        Ok(()) => print_sent(alloc, link.said_of(conn), link.hung_up(conn), out),
+        Err(fault) => Err(fault),
+    }
 }
 
-/// The line of a connection, by what was sent to it and whether it was hung up.
-#[tactic(auto, unfolding(crate::specs::Lines::line_of))]
-fn line(alloc: Global, conn: u32, sent: &[u8], hung_up: bool) -> Result<String, AllocError>
-    ensures { IfOk result (λ line. string_bytes line ≡ line_of conn sent.now hung_up) }
+/// Prints the number of a connection and a space.
+fn print_number<K: Sink>(alloc: Global, conn: u32, out: &mut K) -> Result<(), PutFault>
+    ensures tells { PutsAll (K.put out.old) (decimal conn ++ codes " ") result (K.put out.new) }
+    ensures cause { PutCause (K.faults out.old) (K.faults out.new) result }
 {
-    let sent = shown(alloc, sent)?;
-    let ending = ending(hung_up);
-    format!(in alloc; "{conn} {sent}{ending}\n")
+    let Ok(text) = number(alloc, conn) else {
+        return Err(PutFault::NoMemory);
+    };
+    write_all(out, text.as_bytes())
+}
+
+/// Prints what was sent to a connection, and whether it was hung up.
+fn print_sent<K: Sink>(
+    alloc: Global,
+    sent: &[u8],
+    hung_up: bool,
+    out: &mut K,
+) -> Result<(), PutFault>
+    ensures tells { PutsAll (K.put out.old) (shown sent.now ++ (ending hung_up ++ codes "\n")) result (K.put out.new) }
+    ensures cause { PutCause (K.faults out.old) (K.faults out.new) result }
+{
+    let Ok(text) = sent_text(alloc, sent, hung_up) else {
+        return Err(PutFault::NoMemory);
+    };
+    write_all(out, text.as_bytes())
+}
+
+/// The number of a connection and a space.
+fn number(alloc: Global, conn: u32) -> Result<String, AllocError>
+    ensures { IfOk result (λ text. string_bytes text ≡ decimal conn ++ codes " ") }
+{
+    format!(in alloc; "{conn} ")
+}
+
+/// The line of a connection after its number, by what was sent to it and whether it was hung up.
+fn sent_text(alloc: Global, sent: &[u8], hung_up: bool) -> Result<String, AllocError>
+    ensures { IfOk result (λ text. string_bytes text ≡ shown sent.now ++ (ending hung_up ++ codes "\n")) }
+{
+    let mut text = shown(alloc, sent)?;
+    text.push_str(ending(hung_up))?;
+    text.push_str("\n")?;
+    Ok(text)
 }
 
 /// Octets in hexadecimal, or `-` where there are none.

@@ -1,26 +1,31 @@
 //! The program's one call.
 
-ghost use Rattle.std.specs.Prelude.{◌≡◌, ℕ, List, map, string_bytes};
+ghost use Rattle.std.specs.Prelude.{◌≡◌, map, string_bytes};
 ghost use Rattle.plain_values.specs.Counts.{Rose};
-ghost use Rattle.script_text.specs.declared.event.ScriptEvent.{ScriptEvent};
-ghost use Rattle.acl_program.specs.Causes.{IsNoCommand, AsksReplay, IsUnread};
-ghost use Rattle.acl_program.specs.Running.{Prints, Accepts, Refuses, IsReplayed};
+ghost use Rattle.acl_program.specs.Causes.{IsNoCommand, IsDue};
+ghost use Rattle.acl_program.specs.Outcomes.{Outcome};
+ghost use Rattle.acl_program.specs.Running.{Prints, EndsAs, IsCause};
 ghost use Rattle.acl_program.specs.Playing.{Runs, Performs};
 ghost use Rattle.command_words.specs.Command.{view};
 
-use crate::printing::print_usage;
-use crate::replay::replay;
+use crate::data::{check, dump};
+use crate::replay::{Asked, replay};
 use crate::status::Status;
+use crate::troubles::print_usage;
 use command_words::{Command, read_words};
 use std::alloc::Global;
 use wire_io::{Link, Shelf, Sink};
 
 /// Does what the words after the program's name ask for, and says how it ended.
 ///
-/// `replay DATA SCRIPT [--turns N]` reads the script file from the shelf, serves its events as those
-/// of a link's connections, at most N of them, and puts one line for each connection: its number,
-/// what was sent to it, and whether it was hung up. No file is read for DATA, and the link is left as it is.
-/// Other words put a line on how to call the program.
+/// `check DATA` loads the data file and puts `ok E S`, the numbers of its entries and of its access control subentries.
+/// `dump DATA` puts the loaded tree as a data file. `replay DATA SCRIPT [--dump] [--turns N]` loads the data file, reads
+/// the script file, serves its events as those of a link's connections, at most N of them, and puts one line for each
+/// connection: its number, what was sent to it, and whether it was hung up; with `--dump` the tree follows as a data
+/// file. The link is left as it is. Other words put a line on how to call the program.
+///
+/// The data file is read before the script. A file that isn't there, or that the shelf can't read, puts `data fault`; a
+/// file that isn't accepted puts its first bad line.
 pub fn run<H: Shelf, K: Sink, L: Link>(
     alloc: Global,
     words: &[String],
@@ -31,15 +36,13 @@ pub fn run<H: Shelf, K: Sink, L: Link>(
     // what is put: the text of an outcome that comes, with its status; or a front of it
     ensures text { Prints (map string_bytes words.now) (H.files shelf.old) (H.faults shelf.old) (H.faults shelf.new)
         (K.put out.old) result (K.put out.new) }
-    // where the script is told and accepted, it is replayed
-    ensures complete { (events : List ScriptEvent) (turns : ℕ) → Accepts (map string_bytes words.now) (H.files shelf.old) events turns
+    // where the files are told and accepted, the command is done
+    ensures complete { (outcome : Outcome) → IsDue (map string_bytes words.now) (H.files shelf.old) outcome
         → (Rose (H.faults shelf.old) (H.faults shelf.new) → ⊥) → (Rose (K.faults out.old) (K.faults out.new) → ⊥)
-        → IsReplayed events turns result }
+        → EndsAs outcome result }
     // each refusal
     ensures usage { result ≡ Status.Usage → IsNoCommand (map string_bytes words.now) }
-    ensures shelf_fault { result ≡ Status.ShelfFault → (script : List ℕ) × (turns : ℕ) × AsksReplay (map string_bytes words.now) script turns
-        × IsUnread (H.files shelf.old) script (H.faults shelf.old) (H.faults shelf.new) }
-    ensures bad_script { result ≡ Status.BadScript → Refuses (map string_bytes words.now) (H.files shelf.old) }
+    ensures refused { IsCause (map string_bytes words.now) (H.files shelf.old) (H.faults shelf.old) (H.faults shelf.new) result }
     ensures sink_fault { result ≡ Status.SinkFault → Rose (K.faults out.old) (K.faults out.new) }
     // what stays
     ensures link { (L.journal link.new ≡ L.journal link.old) × (L.plan link.new ≡ L.plan link.old)
@@ -75,6 +78,23 @@ fn perform<H: Shelf, K: Sink>(
     ensures kept { H.files shelf.new ≡ H.files shelf.old }
 {
     match command {
-        Command::Replay { script, turns, .. } => replay(alloc, script, turns, shelf, out),
+        Command::Replay {
+            data,
+            script,
+            turns,
+            dump,
+        } => replay(
+            alloc,
+            &Asked {
+                data,
+                script,
+                turns,
+                dump,
+            },
+            shelf,
+            out,
+        ),
+        Command::Check { data } => check(alloc, data, shelf, out),
+        Command::Dump { data } => dump(alloc, data, shelf, out),
     }
 }

@@ -1,44 +1,96 @@
-//! The command `replay`: a script's events served, and what was sent to each of its connections.
+//! The command `replay`: a script's events served over a data file's tree, and what was sent to each of its connections.
 
-ghost use Rattle.std.specs.Prelude.{◌≡◌, []};
+ghost use Rattle.std.specs.Prelude.{◌≡◌, [], Some};
+ghost use Rattle.std.specs.Option.{option_map};
+ghost use Rattle.command_words.specs.Command.{Replay};
 ghost use Rattle.wire_io.specs.Scripted.{fresh_link};
-ghost use Rattle.acl_program.specs.Outcomes.{Replayed};
-ghost use Rattle.acl_program.specs.Playing.{Ends, Plays, Replays, Shows};
+ghost use Rattle.schema_rules.specs.Checking.{entries_of};
+ghost use Rattle.acl_program.specs.Outcomes.{dump_text};
+ghost use Rattle.acl_program.specs.Playing.{Performs, Plays, Shows, dumped_text, IsDumpable, Played, Replays};
 
-use crate::loading::load_script;
-use crate::printing::{print_lines, print_trouble};
+use crate::loading::{load_data, load_script};
+use crate::printing::print_replay;
 use crate::status::Status;
+use crate::troubles::print_trouble;
+use dir_tree::Tree;
 use session_hub::{Ended, serve_loop};
 use std::alloc::Global;
 use wire_io::{ScriptLink, Shelf, Sink};
 
-/// Serves the events of the script file, at most so many, and prints the lines of its connections.
+/// What a replay is asked for: its two files, how many events are heard at most, and whether the tree is put.
+#[derive(Clone, Copy, Debug)]
+pub(crate) struct Asked<'a> {
+    pub(crate) data: &'a str,
+    pub(crate) script: &'a str,
+    pub(crate) turns: u64,
+    pub(crate) dump: bool,
+}
+
+/// Loads the data file, serves the events of the script file, at most so many, and prints the lines of its connections;
+/// then the tree, if that is asked for.
 pub(crate) fn replay<H: Shelf, K: Sink>(
     alloc: Global,
-    script: &str,
-    turns: u64,
+    asked: &Asked<'_>,
     shelf: &mut H,
     out: &mut K,
 ) -> Status
-    ensures replays { Replays script.now turns (H.files shelf.old) (H.faults shelf.old) (H.faults shelf.new)
+    ensures performs { Performs (Replay asked.now.data.now asked.now.script.now asked.now.turns asked.now.dump)
+        (H.files shelf.old) (H.faults shelf.old) (H.faults shelf.new)
         (K.put out.old) (K.faults out.old) result (K.put out.new) (K.faults out.new) }
     ensures kept { H.files shelf.new ≡ H.files shelf.old }
 {
-    match load_script(alloc, shelf, script) {
-        Ok(link) => play(alloc, link, turns, out),
+    match load_data(alloc, shelf, asked.data) {
+        Ok(tree) => replay_over(alloc, &tree, asked, shelf, out),
         Err(trouble) => print_trouble(alloc, trouble, out),
     }
 }
 
-/// Serves the link's events, at most so many, and prints the lines of its connections.
-fn play<K: Sink>(alloc: Global, link: ScriptLink, turns: u64, out: &mut K) -> Status
+/// The same over the tree of the data file.
+fn replay_over<H: Shelf, K: Sink>(
+    alloc: Global,
+    tree: &Tree,
+    asked: &Asked<'_>,
+    shelf: &mut H,
+    out: &mut K,
+) -> Status
+    requires table { IsDumpable (Some tree.now) }
+    ensures replays { Replays asked.now.script.now asked.now.turns asked.now.dump (entries_of tree.now)
+        (H.files shelf.old) (H.faults shelf.old) (H.faults shelf.new)
+        (K.put out.old) (K.faults out.old) result (K.put out.new) (K.faults out.new) }
+    ensures kept { H.files shelf.new ≡ H.files shelf.old }
+{
+    match load_script(alloc, shelf, asked.script) {
+        Ok(link) => play(alloc, link, asked.turns, dumped(tree, asked.dump), out),
+        Err(fault) => print_trouble(alloc, fault, out),
+    }
+}
+
+/// The tree, where it is to be put.
+fn dumped(tree: &Tree, dump: bool) -> Option<&Tree>
+    requires table { IsDumpable (Some tree.now) }
+    ensures text { dumped_text (option_map (λ tree. tree.now) result) ≡ dump_text dump (entries_of tree.now) }
+    ensures table { IsDumpable (option_map (λ tree. tree.now) result) }
+{
+    if dump { Some(tree) } else { None }
+}
+
+/// Serves the link's events, at most so many, and prints the lines of its connections, and then the tree.
+fn play<K: Sink>(
+    alloc: Global,
+    link: ScriptLink,
+    turns: u64,
+    dumped: Option<&Tree>,
+    out: &mut K,
+) -> Status
     requires fresh { link ≡ fresh_link link.plan.to_come [] [] [] }
-    ensures ends { Ends (Replayed link.plan.to_come turns) (K.put out.old) (K.faults out.old) result (K.put out.new) (K.faults out.new) }
+    requires table { IsDumpable (option_map (λ tree. tree.now) dumped) }
+    ensures ends { Played link.plan.to_come turns (dumped_text (option_map (λ tree. tree.now) dumped.entry))
+        (K.put out.old) (K.faults out.old) result (K.put out.new) (K.faults out.new) }
 {
     let mut link = link;
     match serve(alloc, &mut link, turns) {
-        Ended::Stopped => show(alloc, &link, Status::Done, out),
-        Ended::TurnsSpent => show(alloc, &link, Status::TurnsSpent, out),
+        Ended::Stopped => show(alloc, &link, dumped, Status::Done, out),
+        Ended::TurnsSpent => show(alloc, &link, dumped, Status::TurnsSpent, out),
         Ended::LinkFault => Status::LinkFault,
         Ended::NoMemory => Status::NoMemory,
     }
@@ -52,10 +104,18 @@ fn serve(alloc: Global, link: &mut ScriptLink, turns: u64) -> Ended
     serve_loop(alloc, link, turns)
 }
 
-/// Prints the lines of all connections, and then ends so.
-fn show<K: Sink>(alloc: Global, link: &ScriptLink, status: Status, out: &mut K) -> Status
-    ensures ends { Shows link.now.journal status (K.put out.old) (K.faults out.old) result (K.put out.new) (K.faults out.new) }
+/// Prints the lines of all connections and the tree, and then ends so.
+fn show<K: Sink>(
+    alloc: Global,
+    link: &ScriptLink,
+    dumped: Option<&Tree>,
+    status: Status,
+    out: &mut K,
+) -> Status
+    requires table { IsDumpable (option_map (λ tree. tree.now) dumped) }
+    ensures ends { Shows link.now.journal (dumped_text (option_map (λ tree. tree.now) dumped.entry)) status
+        (K.put out.old) (K.faults out.old) result (K.put out.new) (K.faults out.new) }
 {
-    let put = print_lines(alloc, link, out);
+    let put = print_replay(alloc, link, dumped, out);
     status.after(put)
 }

@@ -1,27 +1,27 @@
 -- The definitions on known command lines.
-use Rattle.std.proofs.Common.{◌≡◌, [], ◌∷◌, Some, None, refl}
+use Rattle.std.proofs.Common.{◌≡◌, true, false, [], ◌∷◌, Some, None, refl}
 use Rattle.std.specs.Prelude.{codes}
 use Rattle.command_words.specs.Number.{number_of}
-use Rattle.command_words.specs.Command.{Replay}
+use Rattle.command_words.specs.Command.{Replay, Check, Dump}
 use Rattle.command_words.specs.Reading.{option_role, dashed_role, role_of, line_from, is_line, line_of, command_said, command_of}
 
 -- `replay d s`
-two_operands : command_of (codes "replay" ∷ codes "d" ∷ codes "s" ∷ []) ≡ Some (Replay (codes "d") (codes "s") 1000000000000)
+two_operands : command_of (codes "replay" ∷ codes "d" ∷ codes "s" ∷ []) ≡ Some (Replay (codes "d") (codes "s") 1000000000000 false)
 unfolding option_role dashed_role role_of line_from is_line line_of command_said command_of
 two_operands = refl
 
 -- `replay --turns 007 d s`
-apart : command_of (codes "replay" ∷ codes "--turns" ∷ codes "007" ∷ codes "d" ∷ codes "s" ∷ []) ≡ Some (Replay (codes "d") (codes "s") 7)
+apart : command_of (codes "replay" ∷ codes "--turns" ∷ codes "007" ∷ codes "d" ∷ codes "s" ∷ []) ≡ Some (Replay (codes "d") (codes "s") 7 false)
 unfolding option_role dashed_role role_of line_from is_line line_of command_said command_of number_of
 apart = refl
 
 -- `replay d --turns=0 -- -s`
-joined : command_of (codes "replay" ∷ codes "d" ∷ codes "--turns=0" ∷ codes "--" ∷ codes "-s" ∷ []) ≡ Some (Replay (codes "d") (codes "-s") 0)
+joined : command_of (codes "replay" ∷ codes "d" ∷ codes "--turns=0" ∷ codes "--" ∷ codes "-s" ∷ []) ≡ Some (Replay (codes "d") (codes "-s") 0 false)
 unfolding option_role dashed_role role_of line_from is_line line_of command_said command_of number_of
 joined = refl
 
 -- `replay - s`, where `-` is an operand
-dash : command_of (codes "replay" ∷ codes "-" ∷ codes "s" ∷ []) ≡ Some (Replay (codes "-") (codes "s") 1000000000000)
+dash : command_of (codes "replay" ∷ codes "-" ∷ codes "s" ∷ []) ≡ Some (Replay (codes "-") (codes "s") 1000000000000 false)
 unfolding option_role dashed_role role_of line_from is_line line_of command_said command_of
 dash = refl
 
@@ -44,6 +44,76 @@ given_twice = refl
 unknown_option : command_of (codes "replay" ∷ codes "d" ∷ codes "s" ∷ codes "--help" ∷ []) ≡ None
 unfolding option_role dashed_role role_of line_from is_line line_of command_said command_of
 unknown_option = refl
+
+-- `replay --dump d s`
+dumped : command_of (codes "replay" ∷ codes "--dump" ∷ codes "d" ∷ codes "s" ∷ []) ≡ Some (Replay (codes "d") (codes "s") 1000000000000 true)
+unfolding option_role dashed_role role_of line_from is_line line_of command_said command_of
+dumped = refl
+
+-- `replay d s --turns 7 --dump`
+dumped_last : command_of (codes "replay" ∷ codes "d" ∷ codes "s" ∷ codes "--turns" ∷ codes "7" ∷ codes "--dump" ∷ []) ≡ Some (Replay (codes "d") (codes "s") 7 true)
+unfolding option_role dashed_role role_of line_from is_line line_of command_said command_of number_of
+dumped_last = refl
+
+-- `replay d -- --dump`
+dump_as_operand : command_of (codes "replay" ∷ codes "d" ∷ codes "--" ∷ codes "--dump" ∷ []) ≡ Some (Replay (codes "d") (codes "--dump") 1000000000000 false)
+unfolding option_role dashed_role role_of line_from is_line line_of command_said command_of
+dump_as_operand = refl
+
+-- `replay d s --dump=1`
+dump_with_value : command_of (codes "replay" ∷ codes "d" ∷ codes "s" ∷ codes "--dump=1" ∷ []) ≡ None
+unfolding option_role dashed_role role_of line_from is_line line_of command_said command_of
+dump_with_value = refl
+
+-- `replay d s --dump=`
+dump_with_nothing : command_of (codes "replay" ∷ codes "d" ∷ codes "s" ∷ codes "--dump=" ∷ []) ≡ None
+unfolding option_role dashed_role role_of line_from is_line line_of command_said command_of
+dump_with_nothing = refl
+
+-- `replay --dump d s --dump`
+dumped_twice : command_of (codes "replay" ∷ codes "--dump" ∷ codes "d" ∷ codes "s" ∷ codes "--dump" ∷ []) ≡ None
+unfolding option_role dashed_role role_of line_from is_line line_of command_said command_of
+dumped_twice = refl
+
+-- `replay d s --turns --dump`
+dump_for_turns : command_of (codes "replay" ∷ codes "d" ∷ codes "s" ∷ codes "--turns" ∷ codes "--dump" ∷ []) ≡ None
+unfolding option_role dashed_role role_of line_from is_line line_of command_said command_of
+dump_for_turns = refl
+
+-- `check d`
+checked : command_of (codes "check" ∷ codes "d" ∷ []) ≡ Some (Check (codes "d"))
+unfolding option_role dashed_role role_of line_from is_line line_of command_said command_of
+checked = refl
+
+-- `check -- -d`
+checked_after : command_of (codes "check" ∷ codes "--" ∷ codes "-d" ∷ []) ≡ Some (Check (codes "-d"))
+unfolding option_role dashed_role role_of line_from is_line line_of command_said command_of
+checked_after = refl
+
+-- `check d s`
+check_of_two : command_of (codes "check" ∷ codes "d" ∷ codes "s" ∷ []) ≡ None
+unfolding option_role dashed_role role_of line_from is_line line_of command_said command_of
+check_of_two = refl
+
+-- `check d --dump`, whose option is none of the command
+check_dumped : command_of (codes "check" ∷ codes "d" ∷ codes "--dump" ∷ []) ≡ None
+unfolding option_role dashed_role role_of line_from is_line line_of command_said command_of
+check_dumped = refl
+
+-- `dump d`
+dump_command : command_of (codes "dump" ∷ codes "d" ∷ []) ≡ Some (Dump (codes "d"))
+unfolding option_role dashed_role role_of line_from is_line line_of command_said command_of
+dump_command = refl
+
+-- `dump`
+dump_of_nothing : command_of (codes "dump" ∷ []) ≡ None
+unfolding option_role dashed_role role_of line_from is_line line_of command_said command_of
+dump_of_nothing = refl
+
+-- `dump --turns=1 d`
+dump_turned : command_of (codes "dump" ∷ codes "--turns=1" ∷ codes "d" ∷ []) ≡ None
+unfolding option_role dashed_role role_of line_from is_line line_of command_said command_of
+dump_turned = refl
 
 -- the greatest number, and the first above it
 greatest : number_of (codes "18446744073709551615") ≡ Some 18446744073709551615

@@ -39,16 +39,27 @@ command_named-sound word name given =
     let found = find-found (λ (other : CommandName). bytes_eq word (row_of other).name) all_commands name given in
     (bytes_eq-Decides word (row_of name).name).0 found.passes
 
+-- nothing is of an empty list
+none-contained : {X : Type 0} (x : X) → Contains [] x → ⊥
+none-contained x contained = omega (arith, contained.1)
+
 -- each option of a command is found by its name
 pub option_named-complete : (command : CommandName) (name : OptionName) → Contains (row_of command).options name → option_named (row_of command) (option_word name) ≡ Some name
 option_named-complete commands.Replay options.Turns of_row = refl
+option_named-complete commands.Replay options.Dump of_row = refl
+option_named-complete commands.Check name of_row = absurd (none-contained name of_row)
+option_named-complete commands.Dump name of_row = absurd (none-contained name of_row)
 
 pub command_named-complete : (name : CommandName) → command_named (row_of name).name ≡ Some name
 command_named-complete commands.Replay = refl
+command_named-complete commands.Check = refl
+command_named-complete commands.Dump = refl
 
 -- names are not empty and have no `=`
 pub option_word-some : (name : OptionName) → option_word name ≢ []
 option_word-some options.Turns empty = cc
+option_word-some options.Dump empty = cc
 
 pub option_word-no_equals : (name : OptionName) → split_at_equals (option_word name) ≡ None
 option_word-no_equals options.Turns = refl
+option_word-no_equals options.Dump = refl

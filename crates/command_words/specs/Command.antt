@@ -1,5 +1,5 @@
 -- What the words ask for: the commands, and the words that write each.
-use Rattle.std.specs.Prelude.{◌≡◌, ℕ, List, [], ◌∷◌}
+use Rattle.std.specs.Prelude.{◌≡◌, ℕ, Bool, List, [], ◌∷◌, length, ◌==◌}
 use Rattle.command_words.specs.declared.command.Command.{Command}
 use Rattle.command_words.specs.declared.command.Command.TheVariants as command
 use Rattle.command_words.specs.declared.table.CommandName.{CommandName}
@@ -12,20 +12,29 @@ use Rattle.command_words.specs.Number.{SaysNumber}
 
 -- what words may ask for, with texts as octets
 pub data CommandView : Type 0 where
-  Replay : (data_file script : List ℕ) (turns : ℕ) → CommandView
+  Replay : (data_file script : List ℕ) (turns : ℕ) (dump : Bool) → CommandView
+  Check : (data_file : List ℕ) → CommandView
+  Dump : (data_file : List ℕ) → CommandView
 
 -- a command as it is read, with its texts as octets
 abbrev pub view : Command → CommandView
-view (command.Replay data_file script turns) = Replay data_file.now script.now turns
+view (command.Replay data_file script turns dump) = Replay data_file.now script.now turns dump
+view (command.Check data_file) = Check data_file.now
+view (command.Dump data_file) = Dump data_file.now
 
 -- how many events are heard where the words don't say
 abbrev pub default_turns : ℕ
 default_turns = 1000000000000
 
--- the command that a command's line says
+-- the command that a command's line says: its operands, its number of turns, and whether it has `--dump`
 abbrev pub Says : CommandName → Line → CommandView → Type 0
-Says commands.Replay line (Replay data_file script turns) =
-    (texts_of Operands line ≡ data_file ∷ script ∷ []) × SaysNumber default_turns (texts_of (Arguments options.Turns) line) turns
+Says commands.Replay line (Replay data_file script turns dump) =
+    (texts_of Operands line ≡ data_file ∷ script ∷ [])
+    × SaysNumber default_turns (texts_of (Arguments options.Turns) line) turns
+    × (dump ≡ (length (texts_of (Arguments options.Dump) line) == 1))
+Says commands.Check line (Check data_file) = texts_of Operands line ≡ data_file ∷ []
+Says commands.Dump line (Dump data_file) = texts_of Operands line ≡ data_file ∷ []
+Says name line asked = ⊥
 
 -- the words are a command's name and a line of it that says this command
 pub record IsCommand (words : List (List ℕ)) (asked : CommandView) : Type 0 where

@@ -1,5 +1,5 @@
 -- The words read from left to right: a function that gives the command of a list of words.
-use Rattle.std.specs.Prelude.{ℕ, Bool, ◌&&◌, List, [], ◌∷◌, length, Option, Some, None, option_map, option_and_then, slice_get, nat_le, ◌==◌, if◌then◌else◌}
+use Rattle.std.specs.Prelude.{ℕ, Bool, ◌&&◌, List, [], ◌∷◌, length, Option, Some, None, option_map, option_and_then, slice_get, is_some, nat_le, ◌==◌, if◌then◌else◌}
 use Rattle.std.specs.List.{list_all}
 use Rattle.command_words.specs.declared.table.CommandName.{CommandName}
 use Rattle.command_words.specs.declared.table.CommandName.TheVariants as commands
@@ -12,7 +12,7 @@ use Rattle.command_words.specs.declared.table.Sought.TheVariants.{Operands, Argu
 use Rattle.command_words.specs.Table.{Row, row_of, command_named, option_named, takes_argument}
 use Rattle.command_words.specs.Line.{Item, Operand, Flag, Joined, Apart, Line, begins_with_dash, is_operand, texts_of}
 use Rattle.command_words.specs.Number.{number_said}
-use Rattle.command_words.specs.Command.{CommandView, Replay, default_turns}
+use Rattle.command_words.specs.Command.{CommandView, Replay, Check, Dump, default_turns}
 
 -- what one word is: an operand, the delimiter, an option whose argument is the next word, an option without
 -- an argument, or an option's argument
@@ -113,7 +113,9 @@ command_said commands.Replay text = do
   data_file ← text Operands 0
   script ← text Operands 1
   turns ← number_said default_turns (text (Arguments options.Turns) 0)
-  Some (Replay data_file script turns)
+  Some (Replay data_file script turns (is_some (text (Arguments options.Dump) 0)))
+command_said commands.Check text = option_map Check (text Operands 0)
+command_said commands.Dump text = option_map Dump (text Operands 0)
 
 -- the command of these words
 unfoldable pub command_of : List (List ℕ) → Option CommandView

@@ -1,6 +1,6 @@
 -- The program's commands, one row each: the name, how many operands it takes, and its options.
 -- Operands, options and option-arguments are those of POSIX.1, Utility Conventions (12.1); the options are GNU's long ones.
-use Rattle.std.specs.Prelude.{ℕ, Bool, true, List, [], ◌∷◌, Option, bytes_eq, codes, find}
+use Rattle.std.specs.Prelude.{ℕ, Bool, true, false, List, [], ◌∷◌, Option, bytes_eq, codes, find}
 use Rattle.command_words.specs.declared.table.CommandName.{CommandName}
 use Rattle.command_words.specs.declared.table.CommandName.TheVariants as commands
 use Rattle.command_words.specs.declared.table.OptionName.{OptionName}
@@ -14,23 +14,29 @@ pub record Row : Type 0 where
 
 -- the table of commands
 abbrev pub row_of : CommandName → Row
-row_of commands.Replay = record { name = codes "replay"; operands = 2; options = options.Turns ∷ [] }
+row_of commands.Replay = record { name = codes "replay"; operands = 2; options = options.Dump ∷ options.Turns ∷ [] }
+row_of commands.Check = record { name = codes "check"; operands = 1; options = [] }
+row_of commands.Dump = record { name = codes "dump"; operands = 1; options = [] }
 
 -- all commands
 abbrev pub all_commands : List CommandName
-all_commands = commands.Replay ∷ []
+all_commands = commands.Replay ∷ commands.Check ∷ commands.Dump ∷ []
 
 -- the table of options: what follows the two dashes
 abbrev pub option_word : OptionName → List ℕ
 option_word options.Turns = codes "turns"
+option_word options.Dump = codes "dump"
 
 -- whether the option has an argument
 abbrev pub takes_argument : OptionName → Bool
 takes_argument options.Turns = true
+takes_argument options.Dump = false
 
 -- the same option
 abbrev pub is_same_option : OptionName → OptionName → Bool
 is_same_option options.Turns options.Turns = true
+is_same_option options.Dump options.Dump = true
+is_same_option one other = false
 
 -- the command of this name
 abbrev pub command_named : List ℕ → Option CommandName

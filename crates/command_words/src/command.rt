@@ -6,7 +6,7 @@ ghost use Rattle.command_words.specs.Reading.{line_read, text_in, command_said, 
 ghost use Rattle.command_words.specs.Table.{row_of};
 
 use crate::number::number_said;
-use crate::scan::{has_line, text_in};
+use crate::scan::{has_line, has_option, text_in};
 use crate::table::{CommandName, OptionName, Place, Sought};
 
 /// How many events are heard where `--turns` isn't given.
@@ -15,11 +15,21 @@ const DEFAULT_TURNS: u64 = 1_000_000_000_000;
 /// What the words of the program ask for. Its texts are parts of the words.
 #[derive(Clone, Copy, Debug, Drop)]
 pub enum Command<'a> {
-    /// `replay DATA SCRIPT [--turns N]`: the names of the two files, and how many events are heard at most.
+    /// `replay DATA SCRIPT [--dump] [--turns N]`: the names of the two files, how many events are heard at
+    /// most, and whether the tree that is left is asked for.
     Replay {
         data: &'a str,
         script: &'a str,
         turns: u64,
+        dump: bool,
+    },
+    /// `check DATA`: the name of the file.
+    Check {
+        data: &'a str,
+    },
+    /// `dump DATA`: the name of the file.
+    Dump {
+        data: &'a str,
     },
 }
 
@@ -66,6 +76,8 @@ fn read_line(command: CommandName, words: &[String]) -> Option<Command<'_>>
 {
     match command {
         CommandName::Replay => read_replay(words),
+        CommandName::Check => read_check(words),
+        CommandName::Dump => read_dump(words),
     }
 }
 
@@ -83,9 +95,29 @@ fn read_replay(words: &[String]) -> Option<Command<'_>>
         0,
     );
     let turns = number_said(turns, DEFAULT_TURNS)?;
+    let dump = has_option(CommandName::Replay, words, OptionName::Dump);
     Some(Command::Replay {
         data,
         script,
         turns,
+        dump,
     })
+}
+
+#[tactic(auto, unfolding(crate::specs::Reading::command_said))]
+fn read_check(words: &[String]) -> Option<Command<'_>>
+    ensures { option_map view result
+        ≡ command_said CommandName.Check (text_in (line_read (row_of CommandName.Check) (map string_bytes words.now))) }
+{
+    let data = text_in(CommandName::Check, words, Sought::Operands, 0)?;
+    Some(Command::Check { data })
+}
+
+#[tactic(auto, unfolding(crate::specs::Reading::command_said))]
+fn read_dump(words: &[String]) -> Option<Command<'_>>
+    ensures { option_map view result
+        ≡ command_said CommandName.Dump (text_in (line_read (row_of CommandName.Dump) (map string_bytes words.now))) }
+{
+    let data = text_in(CommandName::Dump, words, Sought::Operands, 0)?;
+    Some(Command::Dump { data })
 }

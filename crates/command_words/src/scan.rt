@@ -1,6 +1,6 @@
 // A line read for one thing: its operands, or the arguments of an option.
 
-ghost use Rattle.std.specs.Prelude.{◌≡◌, ◌+◌, ◌<◌, ◌^◌, ◌++◌, ℕ, List, map, length, option_map, option_to_list, option_copied, string_bytes};
+ghost use Rattle.std.specs.Prelude.{◌≡◌, ◌+◌, ◌<◌, ◌^◌, ◌++◌, ℕ, List, map, length, option_map, option_to_list, option_copied, is_some, string_bytes};
 ghost use Rattle.command_words.specs.Table.{row_of};
 ghost use Rattle.command_words.specs.Line.{texts_of};
 ghost use Rattle.command_words.specs.Reading.{line_read, text_in};
@@ -64,6 +64,14 @@ pub fn text_in(command: CommandName, words: &[String], sought: Sought, index: us
         ≡ text_in (line_read (row_of command) (map string_bytes words.now)) sought index }
 {
     pick(command, words, sought, index)?.text
+}
+
+/// Whether the line has an option.
+pub fn has_option(command: CommandName, words: &[String], name: OptionName) -> bool
+    ensures { result
+        ≡ is_some (text_in (line_read (row_of command) (map string_bytes words.now)) (Sought.Arguments name) 0) }
+{
+    text_in(command, words, Sought::Arguments(name), 0).is_some()
 }
 
 /// Whether the line has as many operands as the command wants.

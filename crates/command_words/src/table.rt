@@ -7,12 +7,15 @@ ghost use Rattle.command_words.specs.Table.{row_of, all_commands, command_named,
 #[derive(Clone, Copy, Debug, Drop)]
 pub enum CommandName {
     Replay,
+    Check,
+    Dump,
 }
 
 /// The options of the program's commands.
 #[derive(Clone, Copy, Debug, Drop)]
 pub enum OptionName {
     Turns,
+    Dump,
 }
 
 /// Where in a line a word stands: before the delimiter `--`, after an option whose argument it must be,
@@ -35,7 +38,7 @@ impl CommandName {
     pub fn all() -> &'static [CommandName]
         ensures { result.now ≡ all_commands }
     {
-        &[CommandName::Replay]
+        &[CommandName::Replay, CommandName::Check, CommandName::Dump]
     }
 
     /// The command of this name.
@@ -53,6 +56,8 @@ impl CommandName {
     {
         match self {
             CommandName::Replay => "replay",
+            CommandName::Check => "check",
+            CommandName::Dump => "dump",
         }
     }
 
@@ -61,6 +66,8 @@ impl CommandName {
     {
         match self {
             CommandName::Replay => 2,
+            CommandName::Check => 1,
+            CommandName::Dump => 1,
         }
     }
 
@@ -68,7 +75,9 @@ impl CommandName {
         ensures { result.now ≡ (row_of self).options }
     {
         match self {
-            CommandName::Replay => &[OptionName::Turns],
+            CommandName::Replay => &[OptionName::Dump, OptionName::Turns],
+            CommandName::Check => &[],
+            CommandName::Dump => &[],
         }
     }
 
@@ -90,6 +99,7 @@ impl OptionName {
     {
         match self {
             OptionName::Turns => "turns",
+            OptionName::Dump => "dump",
         }
     }
 
@@ -98,6 +108,7 @@ impl OptionName {
     {
         match self {
             OptionName::Turns => true,
+            OptionName::Dump => false,
         }
     }
 
@@ -106,6 +117,8 @@ impl OptionName {
     {
         match (self, other) {
             (OptionName::Turns, OptionName::Turns) => true,
+            (OptionName::Dump, OptionName::Dump) => true,
+            _ => false,
         }
     }
 }

@@ -14,7 +14,10 @@ fn words_that_are_no_command_get_the_usage(rt: HostRuntime) -> Result<(), Fail> 
         "replay d",
         "replay d s t",
         "serve d",
-        "replay d s --dump",
+        "replay d s --dump=x",
+        "check",
+        "check d s",
+        "dump d --turns 1",
         "replay d s --turns",
         "--help",
     ];
@@ -50,8 +53,13 @@ fn a_script_that_breaks_the_grammar_is_named_by_its_first_bad_line(
 }
 
 #[test]
-fn a_script_that_is_not_there_is_a_fault_of_the_data(rt: HostRuntime) -> Result<(), Fail> {
-    for line in ["replay d other", "replay s d"] {
+fn a_file_that_is_not_there_is_a_fault_of_the_data(rt: HostRuntime) -> Result<(), Fail> {
+    for line in [
+        "replay d other",
+        "replay other s",
+        "check other",
+        "dump other",
+    ] {
         let ran = run_line(rt.alloc(), line, b"open 1\n")?;
         assert_eq!(rt; ran.put.as_str(), "data fault\n", "{line}");
         assert_eq!(rt; ran.status, Status::ShelfFault, "{line}");
@@ -64,7 +72,9 @@ fn each_call_of_the_shelf_may_fail(rt: HostRuntime) -> Result<(), Fail> {
     let rows = [
         (0u64, "data fault\n", Status::ShelfFault),
         (1, "data fault\n", Status::ShelfFault),
-        (2, "1 -\n2 -\n", Status::Done),
+        (2, "data fault\n", Status::ShelfFault),
+        (3, "data fault\n", Status::ShelfFault),
+        (4, "1 -\n2 -\n", Status::Done),
     ];
     for (call, put, status) in rows {
         let ran = run_failing(rt.alloc(), "replay d s", b"open 1\nopen 2\n", &[call], &[])?;
@@ -84,17 +94,25 @@ fn each_call_of_the_sink_may_fail(rt: HostRuntime) -> Result<(), Fail> {
             "",
             Status::SinkFault,
         ),
+        ("replay d s", "open 1\nopen 2\n", 1, "1 ", Status::SinkFault),
         (
             "replay d s",
             "open 1\nopen 2\n",
-            1,
+            2,
             "1 -\n",
             Status::SinkFault,
         ),
         (
             "replay d s",
             "open 1\nopen 2\n",
-            2,
+            3,
+            "1 -\n2 ",
+            Status::SinkFault,
+        ),
+        (
+            "replay d s",
+            "open 1\nopen 2\n",
+            4,
             "1 -\n2 -\n",
             Status::Done,
         ),

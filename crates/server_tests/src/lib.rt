@@ -7,6 +7,10 @@ mod causes;
 #[cfg(test)]
 mod cuts;
 #[cfg(test)]
+mod data;
+#[cfg(test)]
 mod replays;
 #[cfg(test)]
 mod runs;
+#[cfg(test)]
+mod sets;

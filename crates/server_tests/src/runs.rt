@@ -1,5 +1,6 @@
 // The program run in memory.
 
+use crate::sets::TWO_ENTRIES;
 use acl_program::{Status, run};
 use std::alloc::{AllocError, Global};
 use std::process::Abort;
@@ -24,9 +25,15 @@ fn words_of(alloc: Global, line: &str) -> Result<Vec<String>, AllocError> {
     Ok(words)
 }
 
-/// A shelf with the script as the file `s`, and nothing else.
-fn shelf_of(alloc: Global, script: &[u8], failing: &[u64]) -> Result<MemShelf, AllocError> {
+/// A shelf with the data as the file `d` and the script as the file `s`, and nothing else.
+fn shelf_of(
+    alloc: Global,
+    data: &[u8],
+    script: &[u8],
+    failing: &[u64],
+) -> Result<MemShelf, AllocError> {
     let mut files = Vec::new(alloc);
+    files.push((String::from_str(alloc, "d")?, data.to_vec(alloc)?))?;
     files.push((String::from_str(alloc, "s")?, script.to_vec(alloc)?))?;
     Ok(MemShelf::new(files, failing.to_vec(alloc)?))
 }
@@ -39,22 +46,49 @@ fn no_link(alloc: Global) -> Result<ScriptLink, AllocError> {
     }
 }
 
-/// Runs the program on the words of the line, over a script, where these calls of the shelf and of
-/// the sink fail.
-pub fn run_failing(
+/// The calls of the shelf and of the sink that fail.
+#[derive(Clone, Copy)]
+pub struct Failing<'a> {
+    pub shelf: &'a [u64],
+    pub sink: &'a [u64],
+}
+
+/// Runs the program on the words of the line, over a data file and a script, where these calls fail.
+fn run_over(
     alloc: Global,
     line: &str,
+    data: &[u8],
     script: &[u8],
-    shelf_fails: &[u64],
-    sink_fails: &[u64],
+    failing: Failing<'_>,
 ) -> Result<Ran, AllocError> {
     let words = words_of(alloc, line)?;
-    let mut shelf = shelf_of(alloc, script, shelf_fails)?;
-    let mut out = MemSink::new(alloc, sink_fails.to_vec(alloc)?);
+    let mut shelf = shelf_of(alloc, data, script, failing.shelf)?;
+    let mut out = MemSink::new(alloc, failing.sink.to_vec(alloc)?);
     let mut link = no_link(alloc)?;
     let status = run(alloc, words.as_slice(), &mut shelf, &mut out, &mut link);
     let put = String::from_utf8_lossy(alloc, out.bytes())?;
     Ok(Ran { status, put })
+}
+
+/// The same over two entries.
+pub fn run_failing(
+    alloc: Global,
+    line: &str,
+    script: &[u8],
+    shelf: &[u64],
+    sink: &[u64],
+) -> Result<Ran, AllocError> {
+    let failing = Failing { shelf, sink };
+    run_over(alloc, line, TWO_ENTRIES.as_bytes(), script, failing)
+}
+
+/// Runs the program over a data file, and a script that only opens a connection.
+pub fn run_data(alloc: Global, line: &str, data: &[u8]) -> Result<Ran, AllocError> {
+    let failing = Failing {
+        shelf: &[],
+        sink: &[],
+    };
+    run_over(alloc, line, data, b"open 1\n", failing)
 }
 
 /// The same with no failing call.

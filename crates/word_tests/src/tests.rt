@@ -22,10 +22,29 @@ fn answer(alloc: Global, words: &[String]) -> Result<String, AllocError> {
                 data,
                 script,
                 turns,
+                dump,
             },
-        ) => format!(in alloc; "[{data}] [{script}] {turns}"),
+        ) => format!(in alloc;
+            "[{data}] [{script}] {turns}{}",
+            if dump { " dump" } else { "" }
+        ),
+        Some(Command::Check { data }) => format!(in alloc; "check [{data}]"),
+        Some(Command::Dump { data }) => format!(in alloc; "dump [{data}]"),
         None => String::from_str(alloc, "usage"),
     }
+}
+
+// Each of these lines asks for what stands beside it.
+fn assert_read(rt: &impl Abort, alloc: Global, rows: &[(&str, &str)]) -> Result<(), AllocError> {
+    for (line, expected) in rows {
+        let words = words_of(alloc, *line)?;
+        assert_eq!(rt;
+            answer(alloc, words.as_slice())?.as_str(),
+            *expected,
+            "{line}"
+        );
+    }
+    Ok(())
 }
 
 // None of these lines asks for anything.
@@ -43,7 +62,7 @@ fn assert_refused(rt: &impl Abort, alloc: Global, lines: &[&str]) -> Result<(), 
 
 #[test]
 fn each_way_of_writing_a_replay_is_read(rt: HostRuntime) -> Result<(), Fail> {
-    let rows: [(&str, &str); 23] = [
+    let rows = [
         ("replay d s", "[d] [s] 1000000000000"),
         ("replay d s --turns 5", "[d] [s] 5"),
         ("replay d s --turns=5", "[d] [s] 5"),
@@ -77,15 +96,59 @@ fn each_way_of_writing_a_replay_is_read(rt: HostRuntime) -> Result<(), Fail> {
         ),
         ("replay turns --turns 3 3", "[turns] [3] 3"),
     ];
-    let alloc = rt.alloc();
-    for (line, expected) in rows {
-        let words = words_of(alloc, line)?;
-        assert_eq!(rt;
-            answer(alloc, words.as_slice())?.as_str(),
-            expected,
-            "{line}"
-        );
-    }
+    assert_read(&rt, rt.alloc(), &rows)?;
+    Ok(())
+}
+
+#[test]
+fn a_dump_after_a_replay_is_asked_for_in_any_place(rt: HostRuntime) -> Result<(), Fail> {
+    let rows = [
+        ("replay --dump d s", "[d] [s] 1000000000000 dump"),
+        ("replay d --dump s", "[d] [s] 1000000000000 dump"),
+        ("replay d s --dump", "[d] [s] 1000000000000 dump"),
+        ("replay --dump -- d s", "[d] [s] 1000000000000 dump"),
+        ("replay d s --dump --", "[d] [s] 1000000000000 dump"),
+        ("replay d s --dump --turns 5", "[d] [s] 5 dump"),
+        ("replay d s --turns 5 --dump", "[d] [s] 5 dump"),
+        ("replay --dump d --turns=5 s", "[d] [s] 5 dump"),
+        ("replay --turns 5 --dump 5 s", "[5] [s] 5 dump"),
+        ("replay --dump true s", "[true] [s] 1000000000000 dump"),
+        ("replay --dump - -", "[-] [-] 1000000000000 dump"),
+        (
+            "replay --dump -- --dump s",
+            "[--dump] [s] 1000000000000 dump",
+        ),
+        ("replay -- --dump s", "[--dump] [s] 1000000000000"),
+        ("replay d -- --dump", "[d] [--dump] 1000000000000"),
+        ("replay dump s", "[dump] [s] 1000000000000"),
+    ];
+    assert_read(&rt, rt.alloc(), &rows)?;
+    Ok(())
+}
+
+#[test]
+fn a_check_and_a_dump_have_one_file(rt: HostRuntime) -> Result<(), Fail> {
+    let rows = [
+        ("check d", "check [d]"),
+        ("check -- d", "check [d]"),
+        ("check d --", "check [d]"),
+        ("check -- -d", "check [-d]"),
+        ("check -- --", "check [--]"),
+        ("check -", "check [-]"),
+        ("check ", "check []"),
+        ("check check", "check [check]"),
+        ("check caf\u{e9}", "check [caf\u{e9}]"),
+        ("dump d", "dump [d]"),
+        ("dump -- d", "dump [d]"),
+        ("dump d --", "dump [d]"),
+        ("dump -- --dump", "dump [--dump]"),
+        ("dump -- --", "dump [--]"),
+        ("dump -", "dump [-]"),
+        ("dump ", "dump []"),
+        ("dump dump", "dump [dump]"),
+        ("dump \u{20ac}", "dump [\u{20ac}]"),
+    ];
+    assert_read(&rt, rt.alloc(), &rows)?;
     Ok(())
 }
 
@@ -95,29 +158,45 @@ fn all_other_words_ask_for_nothing(rt: HostRuntime) -> Result<(), Fail> {
         "",
         "Replay d s",
         "replay2 d s",
+        "Check d",
+        "checks d",
+        "chec d",
+        "DUMP d",
+        "dumps d",
+        "--dump d",
+        "--check d",
         "serve d 127.0.0.1:389",
-        "check d",
-        "dump d",
         "explain d anonymous dc=example entry Read",
         "sample 4",
         "-- replay d s",
+        "-- check d",
+        "-- dump d",
         "--turns 5 replay d s",
+        "--dump replay d s",
         "replay",
         "replay d",
         "replay d s t",
         "replay d s ",
         "replay -- d",
         "replay d -- s --turns 5",
+        "replay d -- s --dump",
+        "replay --dump d",
+        "replay --dump d s t",
+        "check",
+        "check --",
+        "check d s",
+        "check d ",
+        "check d -- s",
+        "check -- d --",
+        "dump",
+        "dump --",
+        "dump d s",
+        "dump d ",
+        "dump d -- s",
+        "dump -- d --",
     ];
     let alloc = rt.alloc();
-    for line in rows {
-        let words = words_of(alloc, line)?;
-        assert_eq!(rt;
-            answer(alloc, words.as_slice())?.as_str(),
-            "usage",
-            "{line}"
-        );
-    }
+    assert_refused(&rt, alloc, &rows)?;
     assert_eq!(rt; answer(alloc, &[])?.as_str(), "usage", "no words");
     Ok(())
 }
@@ -128,7 +207,6 @@ fn what_is_no_option_of_the_command_is_refused(rt: HostRuntime) -> Result<(), Fa
         "replay d s -h",
         "replay d s --help",
         "replay d s --version",
-        "replay d s --dump",
         "replay d s --sessions 5",
         "replay d s -turns 5",
         "replay d s -turns=5",
@@ -145,16 +223,52 @@ fn what_is_no_option_of_the_command_is_refused(rt: HostRuntime) -> Result<(), Fa
         "replay d s --turns 5 --turns 5",
         "replay d s --turns=5 --turns=6",
         "replay --turns 5 d s --turns=5",
+        "replay d s -dump",
+        "replay d s --dum",
+        "replay d s --dumps",
+        "replay d s --Dump",
+        "replay d s --check",
+        "check d -h",
+        "check d --help",
+        "check d --dump",
+        "check --dump d",
+        "check d --turns 5",
+        "check d --turns=5",
+        "check -d",
+        "dump d --help",
+        "dump d --version",
+        "dump d --dump",
+        "dump --dump d",
+        "dump d --turns 5",
+        "dump d --turns=5",
+        "dump -d",
     ];
-    let alloc = rt.alloc();
-    for line in rows {
-        let words = words_of(alloc, line)?;
-        assert_eq!(rt;
-            answer(alloc, words.as_slice())?.as_str(),
-            "usage",
-            "{line}"
-        );
-    }
+    assert_refused(&rt, rt.alloc(), &rows)?;
+    Ok(())
+}
+
+#[test]
+fn a_dump_with_a_value_or_given_twice_is_refused(rt: HostRuntime) -> Result<(), Fail> {
+    let rows = [
+        "replay d s --dump=",
+        "replay d s --dump=x",
+        "replay d s --dump=1",
+        "replay d s --dump=true",
+        "replay d s --dump==",
+        "replay --dump=d s",
+        "replay --dump=d d s",
+        "replay d s --dump x",
+        "replay d s --turns=5 --dump=5",
+        "replay d s --dump --dump",
+        "replay --dump d s --dump",
+        "replay --dump d --dump s",
+        "replay --dump --turns 5 d s --dump",
+        "replay d s --dump --dump=x",
+        "replay d s --dump --dump --dump",
+        "replay d s --turns --dump",
+        "replay d s --turns --dump 5",
+    ];
+    assert_refused(&rt, rt.alloc(), &rows)?;
     Ok(())
 }
 
@@ -176,16 +290,9 @@ fn what_is_no_number_of_turns_is_refused(rt: HostRuntime) -> Result<(), Fail> {
         "replay d s --turns=18446744073709551616",
         "replay d s --turns 99999999999999999999",
         "replay d s --turns 000000000000000000001",
+        "replay d s --dump --turns=x",
     ];
-    let alloc = rt.alloc();
-    for line in rows {
-        let words = words_of(alloc, line)?;
-        assert_eq!(rt;
-            answer(alloc, words.as_slice())?.as_str(),
-            "usage",
-            "{line}"
-        );
-    }
+    assert_refused(&rt, rt.alloc(), &rows)?;
     Ok(())
 }
 

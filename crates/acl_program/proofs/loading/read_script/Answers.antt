@@ -1,5 +1,4 @@
-use Rattle.std.proofs.Common.{ap, Err, subst, sym}
-use Rattle.acl_program.specs.Playing.{ReadsScript}
+use Rattle.acl_program.specs.Troubles.{ReadsScript}
 use Rattle.acl_program.proofs.LoadLemmas.{ReadsScript-refused}
 use Rattle.acl_program.proofs.loading.read_script.Goals as goal
 

@@ -1,9 +1,14 @@
-use Rattle.acl_program.proofs.PrintLemmas.{PutsAll-no_memory, PutCause-no_memory}
+use Rattle.acl_program.proofs.PrintLemmas.{PutsAll-line, PutsAll-number, PutCause-then}
 use Rattle.acl_program.proofs.printing.print_line.Goals as goal
 
--- there was no memory for the line, and nothing was put
-pub returns-in_default-clause-tells : goal.returns-in_default-clause-tells
-returns-in_default-clause-tells g c = PutsAll-no_memory _ _
+-- the number was put, and the rest was to be
+pub returns-in-Ok-clause-tells : goal.returns-in-Ok-clause-tells
+returns-in-Ok-clause-tells g c =
+    PutsAll-line _ _ _ _ _ _ _ _ _ _ c.said_of.ensures.exact c.hung_up.ensures.exact c.in-Ok.ensures.tells c.print_sent.ensures.tells
 
-pub returns-in_default-clause-cause : goal.returns-in_default-clause-cause
-returns-in_default-clause-cause g c = PutCause-no_memory _
+pub returns-in-Ok-clause-cause : goal.returns-in-Ok-clause-cause
+returns-in-Ok-clause-cause g c = PutCause-then _ _ _ _ _ c.in-Ok.ensures.cause c.print_sent.ensures.cause
+
+-- the number was refused
+pub returns-in-Err-clause-tells : goal.returns-in-Err-clause-tells
+returns-in-Err-clause-tells g c = PutsAll-number _ _ _ _ _ _ c.in-Err.ensures.tells

@@ -1,14 +1,16 @@
-use Rattle.acl_program.proofs.RunLemmas.{Loads-fresh, Replays-played, Replays-refused}
+use Rattle.command_words.specs.Command.{Replay}
+use Rattle.acl_program.proofs.RunLemmas.{LoadsData-table}
+use Rattle.acl_program.proofs.PerformLemmas.{Performs-replayed, Performs-refused}
 use Rattle.acl_program.proofs.replay.replay.Goals as goal
 
--- the link is fresh
-pub play-requires : goal.play-requires
-play-requires g c = record { fresh = Loads-fresh _ _ _ _ _ c.in-Ok.ensures.exact }
+-- the types of the tree are in the table
+pub replay_over-requires : goal.replay_over-requires
+replay_over-requires g c = record { table = LoadsData-table _ _ _ _ _ c.in-Ok.ensures.exact }
 
--- the script was read
-pub returns-in-Ok-clause-replays : goal.returns-in-Ok-clause-replays
-returns-in-Ok-clause-replays g c = Replays-played _ _ _ _ _ _ _ _ _ _ _ c.in-Ok.ensures.exact c.play.ensures.ends
+-- the data file was loaded
+pub returns-in-Ok-clause-performs : goal.returns-in-Ok-clause-performs
+returns-in-Ok-clause-performs g c = Performs-replayed _ _ _ _ _ _ _ _ _ _ _ _ _ _ _ c.in-Ok.ensures.exact c.in-Ok.ensures.kept c.replay_over.ensures.replays
 
 -- it wasn't
-pub returns-in-Err-clause-replays : goal.returns-in-Err-clause-replays
-returns-in-Err-clause-replays g c = Replays-refused _ _ _ _ _ _ _ _ _ _ _ c.in-Err.ensures.exact c.print_trouble.ensures.ends
+pub returns-in-Err-clause-performs : goal.returns-in-Err-clause-performs
+returns-in-Err-clause-performs g c = Performs-refused (Replay c.args.asked.now.data.now c.args.asked.now.script.now c.args.asked.now.turns c.args.asked.now.dump) _ _ _ _ _ _ _ _ _ c.in-Err.ensures.exact c.print_trouble.ensures.ends

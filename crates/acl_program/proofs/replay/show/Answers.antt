@@ -3,9 +3,9 @@ use Rattle.acl_program.specs.Playing.{Shows}
 use Rattle.acl_program.proofs.EndsLemmas.{Ends-put}
 use Rattle.acl_program.proofs.replay.show.Goals as goal
 
--- the lines were to be put, and how the sink answered
+-- the lines and the tree were to be put, and how the sink answered
 pub returns : goal.returns
 unfolding Shows
 returns g c = record {
-  ends = λ outcome text status. Ends-put outcome _ _ _ _ _ _ _ _ (sym text) (sym status) c.after.ensures.exact c.print_lines-put.ensures.tells c.print_lines-put.ensures.cause;
+  ends = λ outcome text status. Ends-put outcome _ _ _ _ _ _ _ _ (sym text) (sym status) c.after.ensures.exact c.print_replay-put.ensures.tells c.print_replay-put.ensures.cause;
 }

@@ -1,7 +1,7 @@
 use Rattle.acl_program.specs.Outcomes.{OutOfMemory}
 use Rattle.acl_program.proofs.EndsLemmas.{Ends-no_memory}
 use Rattle.acl_program.proofs.PrintLemmas.{appended-none}
-use Rattle.acl_program.proofs.printing.print_trouble.Goals as goal
+use Rattle.acl_program.proofs.troubles.print_trouble.Goals as goal
 
 -- nothing is printed for want of memory
 pub returns-in-NoMemory : goal.returns-in-NoMemory

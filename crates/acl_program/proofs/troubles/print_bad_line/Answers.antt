@@ -1,8 +1,7 @@
 use Rattle.std.proofs.Common.{refl, ◌∙◌}
-use Rattle.acl_program.specs.Outcomes.{BadLine, text_of, status_of}
-use Rattle.acl_program.proofs.EndsLemmas.{Ends-put, Ends-no_memory}
-use Rattle.acl_program.proofs.PrintLemmas.{appended-none}
-use Rattle.acl_program.proofs.printing.print_bad_line.Goals as goal
+use Rattle.acl_program.specs.Outcomes.{BadLine, status_of}
+use Rattle.acl_program.proofs.EndsLemmas.{Ends-put}
+use Rattle.acl_program.proofs.troubles.print_bad_line.Goals as goal
 
 -- the text was to be put, and how the sink answered
 pub returns : goal.returns

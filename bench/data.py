@@ -1,0 +1,81 @@
+#!/usr/bin/env python3
+"""Makes data files of people and measures `check` and `dump` over them.
+
+Usage: data.py FOLDER [--program PATH] [--runs N]
+
+The files have a suffix, one unit and people below it, in the order of their names; the last file has
+an entry more than a tree may have, and is refused. Each answer is compared with the one that is due.
+Seconds are those of the processor, the least of the runs; memory is the most that the program had at
+once, and beside it the octets for each entry.
+"""
+import argparse
+import os
+import subprocess
+import sys
+
+HERE = os.path.dirname(os.path.abspath(__file__))
+MOST_ENTRIES = 200_000
+DONE, BAD_DATA = 0, 3
+HEAD = ('version: 1\n\ndn: dc=bench\nobjectClass: domain\ndc: bench\n')
+UNIT = ('\ndn: ou=people,dc=bench\nobjectClass: organizationalUnit\nou: people\n')
+
+
+def person(number):
+    uid = 'u%06d' % number
+    return ('\ndn: uid=%s,ou=people,dc=bench\nobjectClass: inetOrgPerson\nuid: %s\ncn: Person %06d\n'
+            'sn: Person\nmail: %s@bench.example\ntelephoneNumber: +1 555 %07d\nuserPassword: secret%06d\n'
+            % (uid, uid, number, uid, number, number))
+
+
+def make(path, entries):
+    with open(path, 'w') as out:
+        out.write(HEAD + UNIT)
+        for number in range(1, entries - 1):
+            out.write(person(number))
+
+
+def run(program, words, answer, wanted=DONE):
+    """The seconds and the most KiB of one run, whose text and status have to be those wanted."""
+    with subprocess.Popen([program] + words, stdout=subprocess.PIPE) as child:
+        text = child.stdout.read()
+        _, status, usage = os.wait4(child.pid, 0)
+        child.returncode = os.waitstatus_to_exitcode(status)
+    if child.returncode != wanted or text != answer:
+        sys.exit('data.py: wrong answer to %s' % ' '.join(words))
+    return usage.ru_utime + usage.ru_stime, usage.ru_maxrss
+
+
+def tries(path, entries):
+    """The commands to measure over a file of so many entries, each with its text and status."""
+    with open(path, 'rb') as file:
+        text = file.read()
+    if entries <= MOST_ENTRIES:
+        return (('check', b'ok %d 0\n' % entries, DONE), ('dump', text, DONE))
+    line = text.count(b'\n', 0, text.rindex(b'dn: ')) + 1
+    return (('check', b'bad data line %d: limit\n' % line, BAD_DATA),)
+
+
+def main():
+    parser = argparse.ArgumentParser()
+    parser.add_argument('folder')
+    parser.add_argument('--program', default=os.path.join(HERE, '..', 'aclserver'))
+    parser.add_argument('--runs', type=int, default=3)
+    args = parser.parse_args()
+    os.makedirs(args.folder, exist_ok=True)
+    print('| command | entries | file MB | seconds | file MB/s | memory MiB | octets an entry |')
+    print('|---|---:|---:|---:|---:|---:|---:|')
+    for entries in (MOST_ENTRIES // 10, MOST_ENTRIES, MOST_ENTRIES + 1):
+        path = os.path.join(args.folder, 'people_%d.ldif' % entries)
+        make(path, entries)
+        size = os.path.getsize(path)
+        for command, answer, status in tries(path, entries):
+            runs = [run(args.program, [command, path], answer, status) for _ in range(args.runs)]
+            seconds = min(run[0] for run in runs)
+            memory = min(run[1] for run in runs)
+            print('| `%s` | %s | %.1f | %.2f | %.1f | %.0f | %.0f |' % (
+                command, format(entries, ','), size / 1e6, seconds, size / 1e6 / seconds, memory / 1024,
+                memory * 1024 / entries))
+
+
+if __name__ == '__main__':
+    main()

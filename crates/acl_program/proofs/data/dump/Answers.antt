@@ -1,0 +1,16 @@
+use Rattle.command_words.specs.Command.{Dump}
+use Rattle.acl_program.proofs.RunLemmas.{LoadsData-table}
+use Rattle.acl_program.proofs.PerformLemmas.{Performs-dumped, Performs-refused}
+use Rattle.acl_program.proofs.data.dump.Goals as goal
+
+-- the types of the tree are in the table
+pub print_tree-requires : goal.print_tree-requires
+print_tree-requires g c = LoadsData-table _ _ _ _ _ c.in-Ok.ensures.exact
+
+-- the data file was loaded
+pub returns-in-Ok-clause-performs : goal.returns-in-Ok-clause-performs
+returns-in-Ok-clause-performs g c = Performs-dumped _ _ _ _ _ _ _ _ _ _ c.in-Ok.ensures.exact c.print_tree.ensures.ends
+
+-- it wasn't
+pub returns-in-Err-clause-performs : goal.returns-in-Err-clause-performs
+returns-in-Err-clause-performs g c = Performs-refused (Dump c.args.name.now) _ _ _ _ _ _ _ _ _ c.in-Err.ensures.exact c.print_trouble.ensures.ends

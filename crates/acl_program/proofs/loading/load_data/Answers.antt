@@ -1,0 +1,10 @@
+use Rattle.acl_program.proofs.LoadLemmas.{LoadsData-read, LoadsData-refused}
+use Rattle.acl_program.proofs.loading.load_data.Goals as goal
+
+-- the file was read
+pub returns-in-Ok-clause-exact : goal.returns-in-Ok-clause-exact
+returns-in-Ok-clause-exact g c = LoadsData-read _ _ _ _ _ _ _ _ c.as_slice.ensures.value c.in-Ok.ensures.ok c.in-Ok.ensures.cause c.read_data.ensures.exact
+
+-- it wasn't
+pub returns-in-Err-clause-exact : goal.returns-in-Err-clause-exact
+returns-in-Err-clause-exact g c = rw c.unread_data.ensures.exact (LoadsData-refused _ _ _ _ _ _ c.in-Err.ensures.cause)

@@ -1,0 +1,12 @@
+use Rattle.acl_program.specs.Troubles.{ReadsData}
+use Rattle.acl_program.proofs.LoadLemmas.{ReadsData-refused}
+use Rattle.acl_program.proofs.loading.read_data.Goals as goal
+
+-- the text is accepted
+pub returns-in-Ok : goal.returns-in-Ok
+unfolding ReadsData
+returns-in-Ok c = record { exact = (record { short = c.requires; loaded = c.in-Ok.ensures.ok }, c.in-Ok.ensures.table) }
+
+-- it isn't
+pub returns-in-Err : goal.returns-in-Err
+returns-in-Err c = record { exact = rw c.misread_data.ensures.exact (ReadsData-refused _ _ c.requires c.in-Err.ensures.bad) }

@@ -1,0 +1,14 @@
+use Rattle.acl_program.proofs.RunLemmas.{Loads-fresh, Replays-played, Replays-refused}
+use Rattle.acl_program.proofs.replay.replay_over.Goals as goal
+
+-- the link is fresh
+pub play-requires : goal.play-requires
+play-requires g c = record { fresh = Loads-fresh _ _ _ _ _ c.in-Ok.ensures.exact; table = c.dumped.ensures.table }
+
+-- the script was read
+pub returns-in-Ok-clause-replays : goal.returns-in-Ok-clause-replays
+returns-in-Ok-clause-replays g c = Replays-played _ _ _ _ _ _ _ _ _ _ _ _ _ _ c.in-Ok.ensures.exact c.dumped.ensures.text c.play.ensures.ends
+
+-- it wasn't
+pub returns-in-Err-clause-replays : goal.returns-in-Err-clause-replays
+returns-in-Err-clause-replays g c = Replays-refused _ _ _ _ _ _ _ _ _ _ _ _ _ c.in-Err.ensures.exact c.print_trouble.ensures.ends

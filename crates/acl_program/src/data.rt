@@ -1,0 +1,81 @@
+//! The commands `check` and `dump`: a data file loaded, and counted or put again.
+
+ghost use Rattle.std.specs.Prelude.{◌≡◌, IfOk, string_bytes};
+ghost use Rattle.command_words.specs.Command.{Check, Dump};
+ghost use Rattle.schema_rules.specs.Checking.{entries_of};
+ghost use Rattle.data_file.specs.Files.{AreOfTable};
+ghost use Rattle.acl_program.specs.Outcomes.{Checked, Dumped, status_of, text_of};
+ghost use Rattle.acl_program.specs.Playing.{Ends, Performs};
+
+use crate::loading::load_data;
+use crate::status::Status;
+use crate::troubles::print_trouble;
+use data_file::{access_subentries, put_tree};
+use dir_tree::Tree;
+use std::alloc::{AllocError, Global};
+use wire_io::{Shelf, Sink, write_all};
+
+/// Loads the data file, and prints how many entries and access control subentries it has.
+pub(crate) fn check<H: Shelf, K: Sink>(
+    alloc: Global,
+    name: &str,
+    shelf: &mut H,
+    out: &mut K,
+) -> Status
+    ensures performs { Performs (Check name.now) (H.files shelf.old) (H.faults shelf.old) (H.faults shelf.new)
+        (K.put out.old) (K.faults out.old) result (K.put out.new) (K.faults out.new) }
+    ensures kept { H.files shelf.new ≡ H.files shelf.old }
+{
+    match load_data(alloc, shelf, name) {
+        Ok(tree) => print_counts(alloc, &tree, out),
+        Err(trouble) => print_trouble(alloc, trouble, out),
+    }
+}
+
+/// Prints how many entries and access control subentries the tree has.
+#[tactic(auto, unfolding(crate::specs::Outcomes::text_of, crate::specs::Outcomes::status_of))]
+fn print_counts<K: Sink>(alloc: Global, tree: &Tree, out: &mut K) -> Status
+    ensures ends { Ends (Checked (entries_of tree.now)) (K.put out.old) (K.faults out.old) result (K.put out.new) (K.faults out.new) }
+{
+    let Ok(text) = counts(alloc, tree) else {
+        return Status::NoMemory;
+    };
+    let put = write_all(out, text.as_bytes());
+    Status::Done.after(put)
+}
+
+#[tactic(auto, unfolding(crate::specs::Outcomes::text_of))]
+fn counts(alloc: Global, tree: &Tree) -> Result<String, AllocError>
+    ensures { IfOk result (λ text. string_bytes text ≡ text_of (Checked (entries_of tree.now))) }
+{
+    let entries = tree.len();
+    let subentries = access_subentries(tree);
+    format!(in alloc; "ok {entries} {subentries}\n")
+}
+
+/// Loads the data file, and prints the tree as a data file.
+pub(crate) fn dump<H: Shelf, K: Sink>(
+    alloc: Global,
+    name: &str,
+    shelf: &mut H,
+    out: &mut K,
+) -> Status
+    ensures performs { Performs (Dump name.now) (H.files shelf.old) (H.faults shelf.old) (H.faults shelf.new)
+        (K.put out.old) (K.faults out.old) result (K.put out.new) (K.faults out.new) }
+    ensures kept { H.files shelf.new ≡ H.files shelf.old }
+{
+    match load_data(alloc, shelf, name) {
+        Ok(tree) => print_tree(alloc, &tree, out),
+        Err(trouble) => print_trouble(alloc, trouble, out),
+    }
+}
+
+/// Prints the tree as a data file.
+#[tactic(auto, unfolding(crate::specs::Outcomes::text_of, crate::specs::Outcomes::status_of))]
+fn print_tree<K: Sink>(alloc: Global, tree: &Tree, out: &mut K) -> Status
+    requires { AreOfTable (entries_of tree.now) }
+    ensures ends { Ends (Dumped (entries_of tree.now)) (K.put out.old) (K.faults out.old) result (K.put out.new) (K.faults out.new) }
+{
+    let put = put_tree(alloc, tree, out);
+    Status::Done.after(put)
+}

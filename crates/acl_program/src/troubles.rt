@@ -1,0 +1,120 @@
+//! What is printed of words that are no command, and of files that aren't read.
+
+ghost use Rattle.std.specs.Prelude.{◌≡◌, IfOk, string_bytes};
+ghost use Rattle.data_file.specs.Files.{cause_of};
+ghost use Rattle.acl_program.specs.Outcomes.{NoCommand, NoFile, BadDataLine, BadLine, cause_text, line_cause_text, record_cause_text, status_of, text_of};
+ghost use Rattle.acl_program.specs.Playing.{Ends};
+ghost use Rattle.acl_program.specs.Troubles.{outcome_of};
+
+use crate::loading::Trouble;
+use crate::status::Status;
+use data_file::DataCause;
+use ldif_core::LineCause;
+use op_write::LoadCause;
+use std::alloc::{AllocError, Global};
+use wire_io::{Sink, write_all};
+
+const USAGE: &[u8] = b"usage: aclserver (serve|replay|check|dump|explain|sample) WORDS\n";
+
+/// Prints that the words are no command.
+#[tactic(auto, unfolding(crate::specs::Outcomes::text_of, crate::specs::Outcomes::status_of))]
+pub(crate) fn print_usage<K: Sink>(out: &mut K) -> Status
+    ensures ends { Ends NoCommand (K.put out.old) (K.faults out.old) result (K.put out.new) (K.faults out.new) }
+{
+    let put = write_all(out, USAGE);
+    Status::Usage.after(put)
+}
+
+/// Prints why a file wasn't read.
+pub(crate) fn print_trouble<K: Sink>(alloc: Global, trouble: Trouble, out: &mut K) -> Status
+    ensures ends { Ends (outcome_of trouble) (K.put out.old) (K.faults out.old) result (K.put out.new) (K.faults out.new) }
+{
+    match trouble {
+        Trouble::NoFile => print_data_fault(out),
+        Trouble::BadData(line, cause) => print_bad_data(alloc, line, cause, out),
+        Trouble::BadLine(line) => print_bad_line(alloc, line, out),
+        Trouble::NoMemory => Status::NoMemory,
+    }
+}
+
+/// Prints that a file wasn't read.
+#[tactic(auto, unfolding(crate::specs::Outcomes::text_of, crate::specs::Outcomes::status_of))]
+fn print_data_fault<K: Sink>(out: &mut K) -> Status
+    ensures ends { Ends NoFile (K.put out.old) (K.faults out.old) result (K.put out.new) (K.faults out.new) }
+{
+    let put = write_all(out, b"data fault\n");
+    Status::ShelfFault.after(put)
+}
+
+/// Prints the number of a data file's bad line, and its cause.
+#[tactic(auto, unfolding(crate::specs::Outcomes::text_of, crate::specs::Outcomes::status_of))]
+fn print_bad_data<K: Sink>(alloc: Global, line: u64, cause: DataCause, out: &mut K) -> Status
+    ensures ends { Ends (BadDataLine line (cause_of cause)) (K.put out.old) (K.faults out.old) result (K.put out.new) (K.faults out.new) }
+{
+    let Ok(text) = bad_data(alloc, line, cause) else {
+        return Status::NoMemory;
+    };
+    let put = write_all(out, text.as_bytes());
+    Status::BadData.after(put)
+}
+
+#[tactic(auto, unfolding(crate::specs::Outcomes::text_of))]
+fn bad_data(alloc: Global, line: u64, cause: DataCause) -> Result<String, AllocError>
+    ensures { IfOk result (λ text. string_bytes text ≡ text_of (BadDataLine line (cause_of cause))) }
+{
+    let cause = cause_text(alloc, cause)?;
+    format!(in alloc; "bad data line {line}: {cause}\n")
+}
+
+/// What is wrong with a data file, in words.
+fn cause_text(alloc: Global, cause: DataCause) -> Result<String, AllocError>
+    ensures { IfOk result (λ text. string_bytes text ≡ cause_text (cause_of cause)) }
+{
+    match cause {
+        DataCause::Line(cause) => String::from_str(alloc, line_cause_text(cause)),
+        DataCause::Record(cause) => record_cause_text(alloc, cause),
+    }
+}
+
+fn line_cause_text(cause: LineCause) -> &'static str
+    ensures { result.now ≡ line_cause_text cause }
+{
+    match cause {
+        LineCause::Syntax => "syntax",
+        LineCause::Changetype => "changetype",
+        LineCause::Base64 => "base64",
+    }
+}
+
+fn record_cause_text(alloc: Global, cause: LoadCause) -> Result<String, AllocError>
+    ensures { IfOk result (λ text. string_bytes text ≡ record_cause_text cause) }
+{
+    match cause {
+        LoadCause::Name => String::from_str(alloc, "name"),
+        LoadCause::Kind => String::from_str(alloc, "type"),
+        LoadCause::Value => String::from_str(alloc, "value"),
+        LoadCause::Twice => String::from_str(alloc, "twice"),
+        LoadCause::Order => String::from_str(alloc, "order"),
+        LoadCause::Rule(code) => format!(in alloc; "rule {code}"),
+        LoadCause::Limit => String::from_str(alloc, "limit"),
+    }
+}
+
+/// Prints the number of a script's bad line.
+#[tactic(auto, unfolding(crate::specs::Outcomes::text_of, crate::specs::Outcomes::status_of))]
+fn print_bad_line<K: Sink>(alloc: Global, line: u64, out: &mut K) -> Status
+    ensures ends { Ends (BadLine line) (K.put out.old) (K.faults out.old) result (K.put out.new) (K.faults out.new) }
+{
+    let Ok(text) = bad_line(alloc, line) else {
+        return Status::NoMemory;
+    };
+    let put = write_all(out, text.as_bytes());
+    Status::BadScript.after(put)
+}
+
+#[tactic(auto, unfolding(crate::specs::Outcomes::text_of))]
+fn bad_line(alloc: Global, line: u64) -> Result<String, AllocError>
+    ensures { IfOk result (λ text. string_bytes text ≡ text_of (BadLine line)) }
+{
+    format!(in alloc; "bad script line {line}\n")
+}
