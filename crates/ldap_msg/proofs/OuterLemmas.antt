@@ -9,8 +9,7 @@ use Rattle.ber_core.specs.Heading.{IsUnreadable, IsHeading, header_at}
 use Rattle.ber_core.proofs.Theorems.{heading_sound, heading_begins, header_again, unreadable_again, element_again, element_there}
 use Rattle.ldap_msg.specs.declared.kinds.Frame.{Frame}
 use Rattle.ldap_msg.specs.declared.kinds.Frame.TheVariants.{Whole, More, Bad}
-use Rattle.ldap_msg.specs.declared.kinds.TheConstants.{MAX_CONTENT}
-use Rattle.ldap_msg.specs.Streams.{IsOuter, SpellsTooMuch, IsBrokenLength, IsBroken, IsFrame, framed, frame_at}
+use Rattle.ldap_msg.specs.Streams.{most_content, IsOuter, SpellsTooMuch, IsBrokenLength, IsBroken, IsFrame, framed, frame_at}
 use Rattle.ldap_msg.proofs.StreamLemmas.{frame_opened, frame_there, frame_bound}
 
 -- ---- whole messages
@@ -78,7 +77,7 @@ bad_length (b ∷ octets) broken =
       | inl first ↦
           let unreadable : header_at (48 ∷ b ∷ octets) ≡ header.Bad = ap header_at (sym (append-nil (48 ∷ b ∷ octets))) ∙ unreadable_again (48 ∷ b ∷ octets) [] (inr first) in
           rw unreadable refl
-      | inr much ↦ rw (too_much (b ∷ octets) much, lt-ltb MAX_CONTENT much.len much.above) refl
+      | inr much ↦ rw (too_much (b ∷ octets) much, lt-ltb most_content much.len much.above) refl
     ]
 
 pub broken_frame : (s : List ℕ) → IsBroken s → frame_at s ≡ Bad
@@ -95,7 +94,7 @@ broken_frame (tag ∷ octets) broken =
     ]
 
 -- a header's length octets behind its tag
-spelled_there : (octets : List ℕ) (n len : ℕ) → IsHeader (take n (48 ∷ octets)) 48 len → MAX_CONTENT < len → SpellsTooMuch octets
+spelled_there : (octets : List ℕ) (n len : ℕ) → IsHeader (take n (48 ∷ octets)) 48 len → most_content < len → SpellsTooMuch octets
 spelled_there octets zero len h above = absurd h
 spelled_there octets (suc n) len h above = record {
   spelled = take n octets;
@@ -125,7 +124,7 @@ some_octets (b ∷ octets) t = inr t
 framed_bad : (octets : List ℕ) (h : Header) → header_at (48 ∷ octets) ≡ h → framed (length (48 ∷ octets)) h ≡ Bad → IsBrokenLength octets
 unfolding framed
 framed_bad octets (header.Head tag head len) heading e =
-    elim (cases_lt MAX_CONTENT len) [
+    elim (cases_lt most_content len) [
       | inl above ↦
           let begins = heading_begins (48 ∷ octets) tag head len heading in
           let tag_is : tag ≡ 48 = first_is (48 ∷ octets) octets tag head len refl begins.heads in
@@ -133,10 +132,10 @@ framed_bad octets (header.Head tag head len) heading e =
       | inr fits ↦
           elim (cases_lt (length (48 ∷ octets)) (head + len)) [
             | inl short ↦
-                let more : More ≡ Bad = rw (le-ltb MAX_CONTENT len fits, lt-ltb (length (48 ∷ octets)) (head + len) short) at e in
+                let more : More ≡ Bad = rw (le-ltb most_content len fits, lt-ltb (length (48 ∷ octets)) (head + len) short) at e in
                 absurd cc
             | inr there ↦
-                let is : Whole (head + len) ≡ Bad = rw (le-ltb MAX_CONTENT len fits, le-ltb (length (48 ∷ octets)) (head + len) there) at e in
+                let is : Whole (head + len) ≡ Bad = rw (le-ltb most_content len fits, le-ltb (length (48 ∷ octets)) (head + len) there) at e in
                 absurd cc
           ]
     ]

@@ -8,8 +8,7 @@ use Rattle.ber_core.specs.Heading.{IsFront, IsHeading, header_at}
 use Rattle.ber_core.proofs.Theorems.{heading_sound, header_bound, heading_again, heading_bound}
 use Rattle.ldap_msg.specs.declared.kinds.Frame.{Frame}
 use Rattle.ldap_msg.specs.declared.kinds.Frame.TheVariants.{Whole, More, Bad}
-use Rattle.ldap_msg.specs.declared.kinds.TheConstants.{MAX_CONTENT}
-use Rattle.ldap_msg.specs.Streams.{framed, frame_at}
+use Rattle.ldap_msg.specs.Streams.{most_content, framed, frame_at}
 
 -- what a whole message at the front says of its header
 pub record IsFramed (s : List ℕ) (n : ℕ) : Type 0 where
@@ -18,7 +17,7 @@ pub record IsFramed (s : List ℕ) (n : ℕ) : Type 0 where
   pub len : ℕ
   pub heading : header_at s ≡ header.Head tag head len
   pub size : n ≡ head + len
-  pub fits : len ≤ MAX_CONTENT
+  pub fits : len ≤ most_content
   pub there : n ≤ length s
 
 abbrev number : Frame → ℕ
@@ -29,17 +28,17 @@ number Bad = 0
 framed_whole : (s : List ℕ) (h : Header) (n : ℕ) → header_at s ≡ h → framed (length s) h ≡ Whole n → IsFramed s n
 unfolding framed
 framed_whole s (header.Head tag head len) n heading e =
-    elim (cases_lt MAX_CONTENT len) [
+    elim (cases_lt most_content len) [
       | inl above ↦
-          let bad : Bad ≡ Whole n = rw (lt-ltb MAX_CONTENT len above) at e in
+          let bad : Bad ≡ Whole n = rw (lt-ltb most_content len above) at e in
           absurd cc
       | inr fits ↦
           elim (cases_lt (length s) (head + len)) [
             | inl short ↦
-                let more : More ≡ Whole n = rw (le-ltb MAX_CONTENT len fits, lt-ltb (length s) (head + len) short) at e in
+                let more : More ≡ Whole n = rw (le-ltb most_content len fits, lt-ltb (length s) (head + len) short) at e in
                 absurd cc
             | inr there ↦
-                let is : Whole (head + len) ≡ Whole n = rw (le-ltb MAX_CONTENT len fits, le-ltb (length s) (head + len) there) at e in
+                let is : Whole (head + len) ≡ Whole n = rw (le-ltb most_content len fits, le-ltb (length s) (head + len) there) at e in
                 let size : head + len ≡ n = ap number is in
                 record { tag = tag; head = head; len = len; heading = heading; size = sym size; fits = fits; there = omega arith }
           ]
@@ -71,7 +70,7 @@ pub framed_there : (s : List ℕ) (n : ℕ) → IsFramed s n → framed (length 
 unfolding framed
 framed_there s n f =
     let there : f.head + f.len ≤ length s = omega (arith, f.size, f.there) in
-    rw (f.heading, le-ltb MAX_CONTENT f.len f.fits, le-ltb (length s) (f.head + f.len) there) (ap (λ (k : ℕ). Whole k) (sym f.size))
+    rw (f.heading, le-ltb most_content f.len f.fits, le-ltb (length s) (f.head + f.len) there) (ap (λ (k : ℕ). Whole k) (sym f.size))
 
 pub frame_there : (s behind : List ℕ) (n : ℕ) → s ≡ 48 ∷ behind → IsFramed s n → frame_at s ≡ Whole n
 unfolding frame_at
@@ -109,9 +108,9 @@ short_bound s f = let bound = header_bound (s ++ f.tail) f.tag f.len f.heads in 
 framed_more : (s : List ℕ) (h : Header) → header_at s ≡ h → framed (length s) h ≡ More → length s ≤ 1048581
 unfolding framed
 framed_more s (header.Head tag head len) heading e =
-    elim (cases_lt MAX_CONTENT len) [
+    elim (cases_lt most_content len) [
       | inl above ↦
-          let bad : Bad ≡ More = rw (lt-ltb MAX_CONTENT len above) at e in
+          let bad : Bad ≡ More = rw (lt-ltb most_content len above) at e in
           absurd cc
       | inr fits ↦
           elim (cases_lt (length s) (head + len)) [
@@ -119,7 +118,7 @@ framed_more s (header.Head tag head len) heading e =
                 let bound = heading_bound s tag head len heading in
                 omega (arith, bound.1)
             | inr there ↦
-                let is : Whole (head + len) ≡ More = rw (le-ltb MAX_CONTENT len fits, le-ltb (length s) (head + len) there) at e in
+                let is : Whole (head + len) ≡ More = rw (le-ltb most_content len fits, le-ltb (length s) (head + len) there) at e in
                 absurd cc
           ]
     ]

@@ -8,7 +8,10 @@ use Rattle.ber_core.specs.Element.{Elem, SpellsLength}
 use Rattle.ber_core.specs.Heading.{header_at}
 use Rattle.ldap_msg.specs.declared.kinds.Frame.{Frame}
 use Rattle.ldap_msg.specs.declared.kinds.Frame.TheVariants.{Whole, More, Bad}
-use Rattle.ldap_msg.specs.declared.kinds.TheConstants.{MAX_CONTENT}
+
+-- the most content octets of a message
+abbrev pub most_content : ℕ
+most_content = 1048576
 
 -- ---- the relations
 
@@ -16,7 +19,7 @@ use Rattle.ldap_msg.specs.declared.kinds.TheConstants.{MAX_CONTENT}
 pub record IsOuter (bytes : List ℕ) : Type 0 where
   pub content : List ℕ
   pub element : Elem 48 content bytes
-  pub fits : length content ≤ MAX_CONTENT
+  pub fits : length content ≤ most_content
 
 -- the octets of a list of messages, one after the other
 abbrev pub joined : List (List ℕ) → List ℕ
@@ -40,7 +43,7 @@ pub record SpellsTooMuch (octets : List ℕ) : Type 0 where
   pub len : ℕ
   pub joins : octets ≡ spelled ++ after
   pub spells : SpellsLength spelled len
-  pub above : MAX_CONTENT < len
+  pub above : most_content < len
 
 -- a length that no message has: its first octet is 128 or above 132, or it is all there and above the limit
 abbrev pub IsBrokenLength : List ℕ → Type 0
@@ -63,7 +66,7 @@ IsFrame s Bad = IsBroken s
 -- what a header says of a stream of so many octets
 unfoldable pub framed : ℕ → Header → Frame
 framed n (header.Head tag head len) =
-    if nat_lt MAX_CONTENT len then Bad
+    if nat_lt most_content len then Bad
     else if nat_lt n (head + len) then More
     else Whole (head + len)
 framed n header.Short = More
