@@ -11,8 +11,7 @@ use Rattle.dn_names.specs.Names.{Keyed, TypeAndValue, RdnSequence}
 use Rattle.dn_names.specs.NameText.{read_name}
 use Rattle.dn_names.specs.GoodNames.{IsGoodPair, IsGoodRdn, IsGoodName}
 use Rattle.dn_names.specs.Resolving.{naming_value}
-use Rattle.dn_names.proofs.Theorems.{IsGoodName-from_NameText}
-use Rattle.dn_names.proofs.ParseLemmas.{NameText-Gives}
+use Rattle.dn_names.proofs.Theorems.{IsGoodName-from_NameText, NameText-Gives}
 use Rattle.dir_tree.specs.Entries.{EntryInformation, values_of, has_key}
 use Rattle.dir_tree.specs.Changes.{with_value, put_value}
 use Rattle.dir_tree.specs.Trees.{Numbered, is_before}

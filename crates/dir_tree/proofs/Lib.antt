@@ -3,7 +3,6 @@ pub mod ChangeLemmas
 pub mod GoodLemmas
 pub mod ClassLemmas
 pub mod Examples
-pub mod ListedLemmas
 pub mod ValuesLaws
 pub mod GoodLaws
 pub mod Theorems

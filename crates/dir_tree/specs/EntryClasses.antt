@@ -1,9 +1,9 @@
 -- The classes of an entry (X.501 8.3 and 13.3): those that its objectClass lists, and their superclasses.
-use Rattle.std.specs.Prelude.{ℕ, zero, suc, Bool, List, [], ◌∷◌, ◌++◌, Option, position}
+use Rattle.std.specs.Prelude.{ℕ, zero, suc, Bool, List, [], ◌∷◌, ◌++◌}
 use Rattle.std.specs.List.{flat_map, list_any}
 use Rattle.std.specs.Option.{option_map_or}
 use Rattle.std.specs.Str.{bytes_eq}
-use Rattle.schema_core.specs.Classes.{classes, class_oid_of, superior_of}
+use Rattle.schema_core.specs.Classes.{class_oid_of, class_with, superior_of}
 use Rattle.dir_tree.specs.Entries.{Attribute, EntryInformation, values_of}
 
 -- the number of objectClass in the table of attribute types
@@ -22,10 +22,6 @@ oids_up (suc most) number = own_oid number ++ option_map_or (oids_up most) (supe
 -- those of the class and of all its superclasses: each superior has a smaller number
 abbrev pub oids_of : ℕ → List (List ℕ)
 oids_of number = oids_up number number
-
--- the number of the class in the table that has the object identifier
-abbrev pub class_with : List ℕ → Option ℕ
-class_with oid = position (λ row. bytes_eq oid row.oid) classes
 
 -- the object identifiers of a listed class and of its superclasses; outside the table a class has its own alone
 abbrev pub oids_of_listed : List ℕ → List (List ℕ)

@@ -2,12 +2,11 @@
 
 ghost use Rattle.std.specs.Prelude.{◌≡◌};
 ghost use Rattle.std.specs.List.{list_any};
-ghost use Rattle.std.specs.Option.{option_map};
 ghost use Rattle.std.specs.Str.{bytes_eq};
-ghost use Rattle.dir_tree.specs.EntryClasses.{own_oid, oids_of, class_with, oids_of_listed};
+ghost use Rattle.dir_tree.specs.EntryClasses.{own_oid, oids_of, oids_of_listed};
 
 use dn_names::Value;
-use schema_core::{ClassId, class_oid, superior};
+use schema_core::{ClassId, class_oid, class_with, superior};
 
 /// Whether the class or one of its superclasses has the object identifier.
 fn is_below(class: ClassId, oid: &str) -> bool
@@ -30,20 +29,6 @@ fn has_oid(class: ClassId, oid: &str) -> bool
         Some(own) => oid == own,
         None => false,
     }
-}
-
-/// The class of the table that has the object identifier.
-fn class_with(oid: &[u8]) -> Option<ClassId>
-    ensures exact { option_map (λ class. class.0) result ≡ class_with oid.now }
-{
-    let mut class = ClassId(0);
-    while let Some(own) = class_oid(class) {
-        if oid == own.as_bytes() {
-            return Some(class);
-        }
-        class = ClassId(class.0 + 1);
-    }
-    None
 }
 
 /// Whether the listed class or one of its superclasses has the object identifier.

@@ -9,7 +9,7 @@ use Rattle.ldif_core.specs.Places.{records_from}
 use Rattle.ldif_core.proofs.Theorems.{file-reread}
 use Rattle.schema_rules.specs.Checking.{entries_of}
 use Rattle.schema_rules.specs.Rules.{broken_rule, MeetsRules}
-use Rattle.schema_rules.proofs.RuleLemmas.{Meets-from_broken_rule}
+use Rattle.schema_rules.proofs.Theorems.{Meets-from_broken_rule}
 use Rattle.op_write.specs.declared.fault.LoadFault.{LoadFault}
 use Rattle.op_write.specs.Loading.{◌>>=◌, placed, loaded_entry}
 use Rattle.op_write.specs.DataFile.{put_entry_in, in_file, loads_after, loads_records, file_start, loads, ldif_text}

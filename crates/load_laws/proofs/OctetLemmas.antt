@@ -9,9 +9,7 @@ use Rattle.base64.specs.GeneralPurpose.{IsBytes}
 use Rattle.dn_names.specs.Names.{TypeAndValue, RdnSequence, IsTextRdn, IsTextName}
 use Rattle.dn_names.specs.GoodNames.{IsGoodPair, IsGoodRdn, IsGoodName}
 use Rattle.dn_names.specs.Printing.{print_name}
-use Rattle.dn_names.proofs.GoodNameLemmas.{all_reverse}
-use Rattle.dn_names.proofs.NamingTextLemmas.{is_utf8-naming_value}
-use Rattle.dn_names.proofs.PrintTextLemmas.{IsUtf8-print_name}
+use Rattle.dn_names.proofs.Theorems.{all_reverse, is_utf8-naming_value, IsUtf8-print_name}
 
 -- each is an octet
 abbrev AreBelow : List ℕ → Type 0

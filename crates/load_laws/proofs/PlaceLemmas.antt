@@ -12,8 +12,7 @@ use Rattle.dir_tree.specs.Entries.{EntryInformation}
 use Rattle.dir_tree.specs.Points.{is_access_subentry}
 use Rattle.dir_tree.specs.Trees.{superior_name}
 use Rattle.schema_rules.specs.Rules.{broken_rule, stands_wrong, is_misplaced, access_subentries, is_past_limits}
-use Rattle.schema_rules.proofs.ListPlaceLemmas.{nothing_found}
-use Rattle.schema_rules.proofs.RuleLemmas.{Meets-from_broken_rule, broken_rule-from_Meets}
+use Rattle.schema_rules.proofs.Theorems.{nothing_found, Meets-from_broken_rule, broken_rule-from_Meets}
 use Rattle.op_write.specs.Loading.{has_entry, lacks_superior_entry, ruled, placed}
 use Rattle.load_laws.proofs.OrderLemmas.{AreInOrder, AreRooted, before_place, after_place, apart-before, superior-before, has_entry-after, lacks_superior_entry-front}
 

@@ -3,9 +3,10 @@ use Rattle.std.proofs.Common.{◌≡◌, ℕ, ◌<◌, List, map, find, position
 use Rattle.std.proofs.lemmas.Simd.{map-map}
 use Rattle.std.proofs.lemmas.Option.{slice_get-map}
 use Rattle.std.specs.Option.{option_and_then}
+use Rattle.std.specs.Str.{bytes_eq}
 use Rattle.schema_core.specs.declared.kinds.ClassId.{ClassId}
 use Rattle.schema_core.specs.declared.classes.ClassRow.{ClassRow}
-use Rattle.schema_core.specs.Classes.{Class, classes, class_at, class_of, superior_of}
+use Rattle.schema_core.specs.Classes.{Class, classes, class_at, class_of, class_with, superior_of}
 use Rattle.schema_core.specs.ClassRows.{NumberedClass, numbered_of_row, numbered}
 use Rattle.schema_core.specs.Naming.{Named, is_named, is_same_name}
 use Rattle.schema_core.specs.Oid.{named_class, oid_among}
@@ -19,6 +20,14 @@ pub position-rows :
 position-rows rows text same =
     let names = λ (row : NumberedClass). is_named row.name row.oid text in
     sym (position-map names numbered_of_row rows) ∙ ap (position names) same ∙ position-map names numbered classes
+
+-- the first of them that has an object identifier is the table's
+pub position-rows_with :
+    (rows : List ClassRow) (oid : List ℕ) → map numbered_of_row rows ≡ map numbered classes
+    → position (λ row. bytes_eq oid row.oid.now) rows ≡ class_with oid
+position-rows_with rows oid same =
+    let has = λ (row : NumberedClass). bytes_eq oid row.oid in
+    sym (position-map has numbered_of_row rows) ∙ ap (position has) same ∙ position-map has numbered classes
 
 -- the program's row of a number is the table's
 pub slice_get_rows :
@@ -34,6 +43,12 @@ pub class_of_fits : (text : List ℕ) (number : ℕ) → class_of text ≡ Some 
 unfolding classes
 class_of_fits text number found =
     let within : number < 19 = position_within (λ row. is_named row.name row.oid text) classes number found in
+    omega arith
+
+pub class_with_fits : (oid : List ℕ) (number : ℕ) → class_with oid ≡ Some number → Fits w8 number
+unfolding classes
+class_with_fits oid number found =
+    let within : number < 19 = position_within (λ row. bytes_eq oid row.oid) classes number found in
     omega arith
 
 -- a numbered row's name with its object identifier

@@ -1,10 +1,11 @@
 -- What the crates above may cite.
 use Rattle.std.proofs.Common.{◌≡◌, ℕ, true, List, [], length, Option, Some, None, IsSome, IsSomeAnd, IsTrue, refl, ap, ◌∙◌, arith, inl, inr}
 use Rattle.std.specs.Option.{option_map_or}
+use Rattle.std.specs.Str.{bytes_eq}
 use Rattle.std.proofs.lemmas.Option.{slice_get_cases}
 use Rattle.std.proofs.lemmas.Slice.Eq.{bytes_eq-Decides}
 use Rattle.schema_core.specs.Attributes.{Attribute, attributes, IsAttrId, attribute_at, attr_of, NamesAttribute, name_of, syntax_of}
-use Rattle.schema_core.specs.Classes.{Class, classes, IsClassId, class_at, class_of, NamesClass}
+use Rattle.schema_core.specs.Classes.{Class, classes, IsClassId, class_at, class_of, class_with, NamesClass}
 use Rattle.schema_core.specs.Naming.{is_same_name, is_named, is_keystring}
 use Rattle.schema_core.specs.Oid.{is_dotted_oid, oid_of, named_attribute, named_class}
 use Rattle.schema_core.proofs.NamingLemmas.{from_same_name, or_left, or_right, list_all_get}
@@ -75,6 +76,9 @@ IsAttrId-from_attr_of text number found = position_within (λ row. is_named row.
 
 pub IsClassId-from_class_of : (text : List ℕ) (number : ℕ) → class_of text ≡ Some number → IsClassId number
 IsClassId-from_class_of text number found = position_within (λ row. is_named row.name row.oid text) classes number found
+
+pub IsClassId-from_class_with : (oid : List ℕ) (number : ℕ) → class_with oid ≡ Some number → IsClassId number
+IsClassId-from_class_with oid number found = position_within (λ row. bytes_eq oid row.oid) classes number found
 
 -- a row's own name and object identifier find it
 pub attr_of-name :

@@ -4,6 +4,7 @@
 use Rattle.std.specs.Prelude.{ℕ, ◌<◌, ◌==◌, List, [], ◌∷◌, ◌++◌, Option, IsSomeAnd, IsTrue, length, codes, slice_get, position, option_map, option_and_then}
 use Rattle.std.specs.List.{filter_map, slice_split}
 use Rattle.std.specs.Option.{option_map_or}
+use Rattle.std.specs.Str.{bytes_eq}
 use Prim.Native.String.{String}
 use Rattle.schema_core.specs.declared.kinds.ClassKind.{ClassKind}
 use Rattle.schema_core.specs.declared.kinds.ClassKind.TheVariants.{Abstract, Structural, Auxiliary}
@@ -83,6 +84,10 @@ class_at number = slice_get classes number
 -- the number of the row that the text names
 abbrev pub class_of : List ℕ → Option ℕ
 class_of text = position (λ row. is_named row.name row.oid text) classes
+
+-- the number of the row that has the object identifier
+abbrev pub class_with : List ℕ → Option ℕ
+class_with oid = position (λ row. bytes_eq oid row.oid) classes
 
 -- the text names the row with this number
 abbrev pub NamesClass : List ℕ → ℕ → Type 0

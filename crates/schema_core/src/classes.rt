@@ -1,8 +1,9 @@
 //! The table of object classes.
 ghost use Rattle.std.specs.Prelude.{◌≡◌, ◌<◌, IfSome, map, find, option_map, position, slice_get};
 ghost use Rattle.std.specs.Option.{option_copied};
+ghost use Rattle.std.specs.Str.{bytes_eq};
 ghost use Rattle.schema_core.specs.Oid.{oid_among, named_class};
-ghost use Rattle.schema_core.specs.Classes.{classes, IsClassId, class_at, class_of, kind_of, class_oid_of, superior_of, required_of, allowed_of};
+ghost use Rattle.schema_core.specs.Classes.{classes, IsClassId, class_at, class_of, class_with, kind_of, class_oid_of, superior_of, required_of, allowed_of};
 ghost use Rattle.schema_core.specs.Naming.{is_named, is_same_name};
 ghost use Rattle.schema_core.specs.ClassRows.{numbered, numbered_of_row};
 
@@ -98,6 +99,22 @@ pub fn class(text: &str) -> Option<ClassId>
     ensures fits { IfSome result (λ class. IsClassId class.0) }
 {
     let index = place_of(rows(), text)?;
+    Some(ClassId(index as u8))
+}
+
+// The place of the first row that has the object identifier.
+fn place_with(rows: &[ClassRow], oid: &[u8]) -> Option<usize>
+    ensures exact { result ≡ position (λ row. bytes_eq oid.now row.oid.now) rows.now }
+{
+    rows.iter().position(|row| oid == row.oid.as_bytes())
+}
+
+/// The class that has the object identifier, in dotted form. None exactly where no row has it.
+pub fn class_with(oid: &[u8]) -> Option<ClassId>
+    ensures exact { option_map (λ class. class.0) result ≡ class_with oid.now }
+    ensures fits { IfSome result (λ class. IsClassId class.0) }
+{
+    let index = place_with(rows(), oid)?;
     Some(ClassId(index as u8))
 }
 

@@ -12,7 +12,7 @@ mod oids;
 mod roles;
 
 pub use attributes::{attr, row};
-pub use classes::{allowed, class, class_kind, class_oid, required, superior};
+pub use classes::{allowed, class, class_kind, class_oid, class_with, required, superior};
 pub use kinds::{AttrId, ClassId, ClassKind, Row, Syntax};
 pub use laws::{
     a_dotted_form_is_its_own, a_text_finds_the_row_that_it_names, classes_are_complete,

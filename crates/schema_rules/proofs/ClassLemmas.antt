@@ -2,12 +2,11 @@
 use Rattle.std.proofs.Common.{◌≡◌, ℕ, ◌==◌, Bool, true, false, not, ◌&&◌, ◌||◌, zero, suc, ◌<◌, ◌≤◌, List, [], ◌∷◌, length, Option, Some, None, refl, ap, sym, ◌∙◌, arith}
 use Rattle.std.specs.List.{list_any, flat_map, cons_option}
 use Rattle.std.specs.Option.{option_map_or}
-use Rattle.schema_core.specs.Classes.{superior_of}
+use Rattle.schema_core.specs.Classes.{class_with, superior_of}
 use Rattle.schema_core.proofs.Theorems.{superior_of_below}
 use Rattle.std.proofs.lemmas.Grind.{flat_map-append}
 use Rattle.std.proofs.lemmas.List.Folds.{list_any-append}
 use Rattle.dn_names.specs.Names.{Keyed}
-use Rattle.dir_tree.specs.EntryClasses.{class_with}
 use Rattle.schema_rules.specs.Listed.{classes_up, with_superclasses, is_structural, are_in_line}
 use Rattle.schema_rules.specs.Classes.{classes_in, structural_in, is_apart, is_apart_from}
 use Rattle.schema_rules.proofs.ListLemmas.{list_any-filter, list_any-filter_map, list_any-same, none_passes}

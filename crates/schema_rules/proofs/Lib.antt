@@ -1,5 +1,4 @@
 pub mod ListLemmas
-pub mod ListedLemmas
 pub mod ClassLemmas
 pub mod ContentLemmas
 pub mod EntryLemmas
@@ -10,3 +9,4 @@ pub mod RuleLemmas
 pub mod RootLemmas
 pub mod StayLemmas
 pub mod Examples
+pub mod Theorems

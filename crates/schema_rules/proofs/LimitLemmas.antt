@@ -10,11 +10,11 @@ use Rattle.std.proofs.Math.Bool.{or-false}
 use Rattle.std.proofs.lemmas.Option.{cond_some, same_Some}
 use Rattle.std.proofs.lemmas.Slice.Eq.{bytes_eq-Decides}
 use Rattle.schema_core.specs.Attributes.{attributes, syntax_of}
-use Rattle.schema_core.specs.Classes.{classes, required_of}
+use Rattle.schema_core.specs.Classes.{classes, class_with, required_of}
 use Rattle.schema_core.proofs.Theorems.{length-classes}
 use Rattle.dn_names.specs.Names.{Keyed}
 use Rattle.dir_tree.specs.Entries.{EntryInformation, Attribute, values_of, has_kind, kinds_of}
-use Rattle.dir_tree.specs.EntryClasses.{object_class, class_with, oids_of, oids_of_listed, has_class}
+use Rattle.dir_tree.specs.EntryClasses.{object_class, oids_of, oids_of_listed, has_class}
 use Rattle.dir_tree.specs.Points.{is_subentry, is_access_subentry}
 use Rattle.schema_rules.specs.Listed.{with_superclasses, required_by}
 use Rattle.schema_rules.specs.Rules.{breaks_classes, has_unread, is_unread}

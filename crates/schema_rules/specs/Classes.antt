@@ -4,7 +4,7 @@ use Rattle.std.specs.List.{filter_map, list_any}
 use Rattle.std.specs.Option.{option_map_or}
 use Rattle.dn_names.specs.Names.{Keyed}
 use Rattle.dir_tree.specs.Entries.{Attribute, has_kind}
-use Rattle.dir_tree.specs.EntryClasses.{class_with}
+use Rattle.schema_core.specs.Classes.{class_with}
 use Rattle.schema_rules.specs.Listed.{is_structural, are_in_line, with_superclasses, is_among, required_by, permitted_by}
 
 -- the classes of the table that have the keys

@@ -4,9 +4,9 @@ use Rattle.std.specs.List.{filter_map, flat_map, list_any}
 use Rattle.std.specs.Option.{option_map_or}
 use Rattle.schema_core.specs.declared.kinds.ClassKind.{ClassKind}
 use Rattle.schema_core.specs.declared.kinds.ClassKind.TheVariants.{Abstract, Structural, Auxiliary}
-use Rattle.schema_core.specs.Classes.{kind_of, superior_of, required_of, allowed_of}
+use Rattle.schema_core.specs.Classes.{class_with, kind_of, superior_of, required_of, allowed_of}
 use Rattle.dir_tree.specs.Entries.{Attribute, values_of}
-use Rattle.dir_tree.specs.EntryClasses.{object_class, class_with}
+use Rattle.dir_tree.specs.EntryClasses.{object_class}
 
 -- the numbers of the listed classes that are in the table, in order
 abbrev pub listed_classes : List Attribute → List ℕ

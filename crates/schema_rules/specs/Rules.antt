@@ -5,11 +5,12 @@ use Rattle.std.specs.List.{flat_map, list_any}
 use Rattle.std.specs.Option.{option_map, option_map_or}
 use Rattle.schema_core.specs.declared.kinds.Syntax.{Syntax}
 use Rattle.schema_core.specs.declared.kinds.Syntax.TheVariants.{Text, Ascii, Phone, Country, Octets, Oid, Name, Subtree, Aci}
-use Rattle.schema_core.specs.Attributes.{attribute_at, syntax_of}
+use Rattle.schema_core.specs.Attributes.{is_single, syntax_of}
+use Rattle.schema_core.specs.Classes.{class_with}
 use Rattle.dn_names.specs.Names.{TypeAndValue, RdnSequence}
 use Rattle.dn_names.specs.NameOrder.{is_same}
 use Rattle.dir_tree.specs.Entries.{EntryInformation, kinds_of, values_of, has_kind, has_key}
-use Rattle.dir_tree.specs.EntryClasses.{object_class, class_with, has_class}
+use Rattle.dir_tree.specs.EntryClasses.{object_class, has_class}
 use Rattle.dir_tree.specs.Points.{is_point, is_subentry, is_access_subentry}
 use Rattle.dir_tree.specs.Trees.{superior_name}
 use Rattle.schema_rules.specs.Listed.{all_classes, structural_classes, are_in_line, is_among, required_by, permitted_by}
@@ -80,9 +81,6 @@ unfoldable pub has_unread : EntryInformation → Bool
 has_unread entry = list_any (λ kind. option_map_or is_unread (syntax_of kind) false) (kinds_of entry.attributes)
 
 -- constraintViolation (19): a single-valued attribute has two values
-abbrev pub is_single : ℕ → Bool
-is_single kind = option_map_or (λ row. row.single) (attribute_at kind) false
-
 unfoldable pub has_two_values : EntryInformation → Bool
 has_two_values entry = list_any (λ attribute. is_single attribute.kind && nat_lt 1 (length attribute.values)) entry.attributes
 

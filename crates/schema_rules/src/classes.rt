@@ -1,25 +1,9 @@
 //! Classes of the table, with their superclasses.
 
 ghost use Rattle.std.specs.Prelude.{◌≡◌};
-ghost use Rattle.std.specs.Option.{option_map};
-ghost use Rattle.dir_tree.specs.EntryClasses.{class_with};
 ghost use Rattle.schema_rules.specs.Listed.{is_among, with_superclasses, is_structural, are_in_line};
 
-use schema_core::{ClassId, ClassKind, class_kind, class_oid, superior};
-
-/// The class of the table that has the object identifier.
-pub(crate) fn class_with(oid: &[u8]) -> Option<ClassId>
-    ensures exact { option_map (λ class. class.0) result ≡ class_with oid.now }
-{
-    let mut class = ClassId(0);
-    while let Some(own) = class_oid(class) {
-        if oid == own.as_bytes() {
-            return Some(class);
-        }
-        class = ClassId(class.0 + 1);
-    }
-    None
-}
+use schema_core::{ClassId, ClassKind, class_kind, superior};
 
 /// Whether the class is the other one or a superclass of it.
 pub(crate) fn is_or_above(class: ClassId, other: ClassId) -> bool

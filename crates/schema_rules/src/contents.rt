@@ -4,17 +4,15 @@ ghost use Rattle.std.specs.Prelude.{◌≡◌, ◌==◌, not, false, ◌||◌, �
 ghost use Rattle.std.specs.List.{list_any};
 ghost use Rattle.std.specs.Option.{option_map_or};
 ghost use Rattle.dir_tree.specs.Entries.{has_kind, kinds_of};
-ghost use Rattle.dir_tree.specs.EntryClasses.{class_with};
-ghost use Rattle.schema_core.specs.Classes.{required_of, allowed_of};
+ghost use Rattle.schema_core.specs.Classes.{class_with, required_of, allowed_of};
 ghost use Rattle.schema_rules.specs.Classes.{class_lacks, class_permits};
 ghost use Rattle.schema_rules.specs.Listed.{all_classes, is_among, permitted_by};
 ghost use Rattle.schema_rules.specs.Rules.{lacks_required, has_unpermitted, is_permitted_besides};
 
-use crate::classes::class_with;
 use crate::points::is_subentry;
 use dir_tree::Entry;
 use dn_names::Value;
-use schema_core::{AttrId, ClassId, allowed, required, superior};
+use schema_core::{AttrId, ClassId, allowed, class_with, required, superior};
 
 /// Whether an attribute that a class requires is absent.
 pub(crate) fn lacks_required(entry: &Entry) -> bool

@@ -2,9 +2,9 @@
 
 ghost use Rattle.std.specs.Prelude.{◌≡◌, ◌≤◌, ◌+◌, ◌&&◌, [], false, length, min, nat_lt, slice_get, sum_by};
 ghost use Rattle.std.specs.Option.{option_map_or};
-ghost use Rattle.schema_core.specs.Attributes.{syntax_of};
+ghost use Rattle.schema_core.specs.Attributes.{is_single, syntax_of};
 ghost use Rattle.dir_tree.specs.Entries.{kinds_of};
-ghost use Rattle.schema_rules.specs.Rules.{is_unread, has_unread, is_single, has_two_values, octets_in};
+ghost use Rattle.schema_rules.specs.Rules.{is_unread, has_unread, has_two_values, octets_in};
 
 use dir_tree::Entry;
 use dn_names::Value;
