@@ -1,10 +1,12 @@
--- Where some texts leave the outer grammar of names, what some are read as, and how some values are printed.
+-- Where some texts leave the outer grammar of names, what some are read as, how some values are printed, and how
+-- some are kept.
 use Rattle.std.proofs.Common.{◌≡◌, [], ◌∷◌, Some, None, refl}
 use Rattle.std.specs.Prelude.{codes}
 use Rattle.dn_names.specs.Classes.{class_of}
 use Rattle.dn_names.specs.Modes.{text_fault}
 use Rattle.dn_names.specs.Reading.{parts_of, value_octets, pair_of, rdn_of, written_of}
 use Rattle.dn_names.specs.Printing.{print_value}
+use Rattle.dn_names.specs.Pieces.{octets_in, key_in, split_of}
 
 in_grammar : text_fault (codes "cn=a\\,b+uid=x, dc=example") ≡ None
 unfolding text_fault class_of
@@ -44,3 +46,16 @@ printed_spaces = refl
 printed_nul : print_value (0 ∷ 35 ∷ []) ≡ codes "\\00#"
 unfolding print_value class_of
 printed_nul = refl
+
+-- A value with its key behind it, one that is its own key, and one whose key is empty.
+kept_octets : octets_in (split_of (codes "Ann") (codes "ann")) (codes "Annann") ≡ codes "Ann"
+kept_octets = refl
+
+kept_key : key_in (split_of (codes "Ann") (codes "ann")) (codes "Annann") ≡ codes "ann"
+kept_key = refl
+
+kept_once : key_in 3 (codes "ann") ≡ codes "ann"
+kept_once = refl
+
+no_key : key_in (split_of (codes "ann") []) (codes "ann") ≡ []
+no_key = refl

@@ -1,11 +1,11 @@
 -- The order of lists, for loops that compare them place by place.
-use Rattle.std.proofs.Common.{◌≡◌, ℕ, ◌+◌, ◌≤◌, List, [], ◌∷◌, map, length, take, drop, refl, sym, ap, ◌∙◌, arith, length-drop, Ordering, Vec, min}
+use Rattle.std.proofs.Common.{◌≡◌, ℕ, ◌+◌, ◌≤◌, List, [], ◌∷◌, map, length, take, drop, refl, sym, ap, ◌∙◌, arith, length-drop, Ordering, min}
 use Rattle.std.specs.Ordering.{nat_cmp, ordering_then}
 use Rattle.std.specs.declared.cmp.Ordering.TheVariants.{Less, Equal}
 use Rattle.std.specs.Cmp.{nat_cmp_is}
 use Rattle.std.specs.Cmp.Lexicographic.{slice_cmp}
 use Rattle.std.proofs.lemmas.List.{drop_all, take-map, take_min, drop-map, drop_min}
-use Rattle.dn_names.specs.Names.{TypeAndValue, rdns_of}
+use Rattle.dn_names.specs.Names.{SharedRdn, rdns_of}
 use Rattle.dn_names.specs.NameOrder.{rdn_cmp, name_cmp}
 
 -- the order of mapped lists is the order by what the elements are mapped to
@@ -26,16 +26,16 @@ slice_cmp-end R xs ys i past at within =
     ∙ first_ended R (length xs) ys (drop i ys) (omega (arith, length-drop i ys))
 
 -- names that are kept as vectors
-pub name_cmp-rdns_of : {Z : Type 0} (xs ys : List (Vec TypeAndValue Z)) → name_cmp (rdns_of xs) (rdns_of ys) ≡ slice_cmp (λ rdn next. rdn_cmp rdn.items next.items) xs ys
+pub name_cmp-rdns_of : {Z : Type 0} (xs ys : List (SharedRdn Z)) → name_cmp (rdns_of xs) (rdns_of ys) ≡ slice_cmp (λ rdn next. rdn_cmp rdn.value next.value) xs ys
 unfolding name_cmp
-name_cmp-rdns_of {Z} xs ys = slice_cmp-map (λ (rdn : Vec TypeAndValue Z). rdn.items) rdn_cmp xs ys
+name_cmp-rdns_of {Z} xs ys = slice_cmp-map (λ (rdn : SharedRdn Z). rdn.value) rdn_cmp xs ys
 
 -- and a front of one
-pub name_cmp-front : {Z : Type 0} (len : ℕ) (xs ys : List (Vec TypeAndValue Z)) → name_cmp (take len (rdns_of xs)) (rdns_of ys) ≡ slice_cmp (λ rdn next. rdn_cmp rdn.items next.items) (take (min len (length xs)) xs) ys
+pub name_cmp-front : {Z : Type 0} (len : ℕ) (xs ys : List (SharedRdn Z)) → name_cmp (take len (rdns_of xs)) (rdns_of ys) ≡ slice_cmp (λ rdn next. rdn_cmp rdn.value next.value) (take (min len (length xs)) xs) ys
 name_cmp-front {Z} len xs ys =
-    ap (λ t. name_cmp t (rdns_of ys)) (take-map (λ (rdn : Vec TypeAndValue Z). rdn.items) len xs ∙ ap rdns_of (sym (take_min len xs)))
+    ap (λ t. name_cmp t (rdns_of ys)) (take-map (λ (rdn : SharedRdn Z). rdn.value) len xs ∙ ap rdns_of (sym (take_min len xs)))
     ∙ name_cmp-rdns_of (take (min len (length xs)) xs) ys
 
 -- the RDNs from one on
-pub rdns_of-drop : {Z : Type 0} (first : ℕ) (xs : List (Vec TypeAndValue Z)) → rdns_of (drop (min first (length xs)) xs) ≡ drop first (rdns_of xs)
-rdns_of-drop {Z} first xs = ap rdns_of (drop_min first xs) ∙ sym (drop-map (λ (rdn : Vec TypeAndValue Z). rdn.items) first xs)
+pub rdns_of-drop : {Z : Type 0} (first : ℕ) (xs : List (SharedRdn Z)) → rdns_of (drop (min first (length xs)) xs) ≡ drop first (rdns_of xs)
+rdns_of-drop {Z} first xs = ap rdns_of (drop_min first xs) ∙ sym (drop-map (λ (rdn : SharedRdn Z). rdn.value) first xs)

@@ -1,13 +1,13 @@
 -- A name is printed from its last RDN on, and what is printed of texts is a text.
-use Rattle.std.proofs.Common.{◌≡◌, ℕ, ◌+◌, ◌-◌, ◌<◌, false, List, [], ◌∷◌, ◌++◌, length, take, drop, get_or, reverse, Vec, refl, sym, ap, ◌∙◌, arith, append_assoc}
+use Rattle.std.proofs.Common.{◌≡◌, ℕ, ◌+◌, ◌-◌, ◌<◌, false, List, [], ◌∷◌, ◌++◌, length, take, drop, get_or, reverse, refl, sym, ap, ◌∙◌, arith, append_assoc}
 use Rattle.std.specs.Prelude.{◌==◌, if◌then◌else◌}
 use Rattle.std.proofs.lemmas.List.{drop_more, take_more, drop-map, take-map, get_or-reverse, length-reverse}
 use Rattle.std.proofs.lemmas.Bool.Decides.{nat_tests}
 use Rattle.dn_names.specs.Printing.{join_from, print_rdn}
-use Rattle.dn_names.specs.Names.{TypeAndValue, RdnSequence, rdns_of, IsTextRdn, IsTextName}
+use Rattle.dn_names.specs.Names.{TypeAndValue, RdnSequence, SharedRdn, rdns_of, IsTextRdn, IsTextName}
 use Rattle.dn_names.proofs.ResolveLemmas.{rdns_of-reverse, rdns_of-push}
 
-module _ {Z : Type 0} (rdns : List (Vec TypeAndValue Z)) (index : ℕ) (rdn : Vec TypeAndValue Z) (within : index < length rdns) (is : rdn ≡ get_or rdns (length rdns - 1 - index) rdn) where
+module _ {Z : Type 0} (rdns : List (SharedRdn Z)) (index : ℕ) (rdn : SharedRdn Z) (within : index < length rdns) (is : rdn ≡ get_or rdns (length rdns - 1 - index) rdn) where
   from_end : get_or (reverse rdns) index rdn ≡ rdn
   from_end = get_or-reverse rdns index rdn within ∙ sym is
 
@@ -15,21 +15,21 @@ module _ {Z : Type 0} (rdns : List (Vec TypeAndValue Z)) (index : ℕ) (rdn : Ve
   inside = omega (arith, within, length-reverse rdns)
 
   -- the RDNs that are left, root last
-  pub drop-reverse : drop index (reverse (rdns_of rdns)) ≡ rdn.items ∷ drop (index + 1) (reverse (rdns_of rdns))
+  pub drop-reverse : drop index (reverse (rdns_of rdns)) ≡ rdn.value ∷ drop (index + 1) (reverse (rdns_of rdns))
   drop-reverse =
       ap (drop index) (sym (rdns_of-reverse rdns))
-      ∙ drop-map (λ (r : Vec TypeAndValue Z). r.items) index (reverse rdns)
+      ∙ drop-map (λ (r : SharedRdn Z). r.value) index (reverse rdns)
       ∙ ap rdns_of (drop_more (reverse rdns) index rdn inside ∙ ap (λ x. x ∷ drop (index + 1) (reverse rdns)) from_end)
-      ∙ ap (λ t. rdn.items ∷ t) (sym (drop-map (λ (r : Vec TypeAndValue Z). r.items) (index + 1) (reverse rdns)) ∙ ap (drop (index + 1)) (rdns_of-reverse rdns))
+      ∙ ap (λ t. rdn.value ∷ t) (sym (drop-map (λ (r : SharedRdn Z). r.value) (index + 1) (reverse rdns)) ∙ ap (drop (index + 1)) (rdns_of-reverse rdns))
 
   -- those that have come
-  pub take-reverse : take (index + 1) (reverse (rdns_of rdns)) ≡ take index (reverse (rdns_of rdns)) ++ rdn.items ∷ []
+  pub take-reverse : take (index + 1) (reverse (rdns_of rdns)) ≡ take index (reverse (rdns_of rdns)) ++ rdn.value ∷ []
   take-reverse =
       ap (take (index + 1)) (sym (rdns_of-reverse rdns))
-      ∙ take-map (λ (r : Vec TypeAndValue Z). r.items) (index + 1) (reverse rdns)
+      ∙ take-map (λ (r : SharedRdn Z). r.value) (index + 1) (reverse rdns)
       ∙ ap rdns_of (take_more (reverse rdns) index rdn inside ∙ ap (λ x. take index (reverse rdns) ++ x ∷ []) from_end)
       ∙ rdns_of-push (take index (reverse rdns)) rdn (take index (reverse rdns) ++ rdn ∷ []) refl
-      ∙ ap (λ t. t ++ rdn.items ∷ []) (sym (take-map (λ (r : Vec TypeAndValue Z). r.items) index (reverse rdns)) ∙ ap (take index) (rdns_of-reverse rdns))
+      ∙ ap (λ t. t ++ rdn.value ∷ []) (sym (take-map (λ (r : SharedRdn Z). r.value) index (reverse rdns)) ∙ ap (take index) (rdns_of-reverse rdns))
 
 pub IsTextName-push : (name : RdnSequence) (rdn : List TypeAndValue) → IsTextName name → IsTextRdn rdn → IsTextName (name ++ rdn ∷ [])
 IsTextName-push [] rdn a b = (b, tt)

@@ -13,6 +13,7 @@ pub mod Printing
 pub mod GoodNames
 pub mod NameValues
 -- what only this crate's inside promises itself
+pub mod Pieces
 pub mod Modes
 pub mod Reading
 pub mod KeyReading

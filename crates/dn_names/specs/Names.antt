@@ -1,7 +1,8 @@
 -- What names are (X.501 9.2 and 9.3): a list of RDNs, root first; an RDN is a list of types with values.
-use Rattle.std.specs.Prelude.{◌≡◌, ℕ, true, List, map, Vec}
+use Rattle.std.specs.Prelude.{◌≡◌, ℕ, true, List, map}
 use Rattle.std.specs.List.{AllByRecursion}
 use Rattle.std.specs.Str.{is_utf8}
+use Rattle.std.specs.declared.rc.Rc.{Rc}
 
 -- a value: its octets, and the key by which it is compared
 pub record Keyed : Type 0 where
@@ -17,9 +18,13 @@ pub record TypeAndValue : Type 0 where
 abbrev pub RdnSequence : Type 0
 RdnSequence = List (List TypeAndValue)
 
--- the lists of RDNs that the program keeps as vectors
-abbrev pub rdns_of : {Z : Type 0} → List (Vec TypeAndValue Z) → RdnSequence
-rdns_of rdns = map (λ rdn. rdn.items) rdns
+-- an RDN as the program keeps it: pairs that names may share
+abbrev pub SharedRdn : Type 0 → Type 0
+SharedRdn Z = Rc (List TypeAndValue) Z
+
+-- the RDNs that the program keeps so
+abbrev pub rdns_of : {Z : Type 0} → List (SharedRdn Z) → RdnSequence
+rdns_of rdns = map (λ rdn. rdn.value) rdns
 
 -- each value of an RDN is UTF-8
 abbrev pub IsTextRdn : List TypeAndValue → Type 0

@@ -7,7 +7,7 @@ ghost use Rattle.dn_names.specs.Printing.{print_octet, print_value, print_pair, 
 ghost use Rattle.dn_names.specs.declared.printing.Shown.TheVariants.{Key};
 ghost use Rattle.dn_names.specs.KeyReading.{strip};
 
-use crate::name::{Dn, Pair};
+use crate::name::{Dn, Pair, Rdn};
 use crate::printing::{is_escaped, type_name};
 
 /// Whether the octets are the key that a value of Name syntax has which is this name: the name printed with each
@@ -141,12 +141,12 @@ fn after_marked_rdn<'a>(octets: &'a [u8], rdn: &[Pair], first: bool) -> Option<&
 
 // The octets after a printed name.
 #[tactic(auto, unfolding(crate::specs::Printing::print_by))]
-fn after_rdns<'a>(octets: &'a [u8], rdns: &[Vec<Pair>]) -> Option<&'a [u8]>
+fn after_rdns<'a>(octets: &'a [u8], rdns: &[Rdn]) -> Option<&'a [u8]>
     ensures exact { option_map (λ rest. rest.now) result ≡ strip (print_by (shown_of Key) (rdns_of rdns.now)) octets.now }
 {
     let mut rest = octets;
     for index in 0..rdns.len() {
-        match after_marked_rdn(rest, &rdns[rdns.len() - 1 - index], index == 0) {
+        match after_marked_rdn(rest, rdns[rdns.len() - 1 - index].as_slice(), index == 0) {
             Some(others) => rest = others,
             None => return None,
         }

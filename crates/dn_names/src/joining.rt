@@ -6,7 +6,7 @@ ghost use Rattle.dn_names.specs.Names.{rdns_of};
 ghost use Rattle.dn_names.specs.NameOrder.{is_prefix_of};
 
 use crate::error::BadName;
-use crate::name::{Dn, append_copies, copy_rdns};
+use crate::name::{Dn, append_rdns, copy_rdns};
 use std::alloc::{AllocError, Global};
 
 const MOST_RDNS: usize = 64;
@@ -40,7 +40,7 @@ pub fn join(alloc: Global, superior: &Dn, below: &Dn) -> Result<Dn, BadName>
     if is_too_long(superior, below) {
         return Err(BadName::TooMany);
     }
-    match join_copies(alloc, superior, below) {
+    match join_rdns(alloc, superior, below) {
         Ok(name) => Ok(name),
         Err(_) => Err(BadName::NoMemory),
     }
@@ -52,10 +52,10 @@ fn is_too_long(superior: &Dn, below: &Dn) -> bool
     below.len() > MOST_RDNS || superior.len() > MOST_RDNS - below.len()
 }
 
-fn join_copies(alloc: Global, superior: &Dn, below: &Dn) -> Result<Dn, AllocError>
+fn join_rdns(alloc: Global, superior: &Dn, below: &Dn) -> Result<Dn, AllocError>
     ensures ok { IfOk result (λ name. name ≡ superior.now ++ below.now) }
 {
     let mut rdns = copy_rdns(alloc, &superior.rdns)?;
-    append_copies(alloc, &mut rdns, &below.rdns)?;
+    append_rdns(&mut rdns, &below.rdns)?;
     Ok(Dn { rdns })
 }

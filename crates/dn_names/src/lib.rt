@@ -13,11 +13,13 @@ mod modes;
 mod name;
 mod octets;
 mod order;
+mod pairs;
 mod parsing;
 mod parts;
 mod printing;
 mod resolve;
 mod scan;
+mod sharing;
 mod value;
 
 pub use error::BadName;

@@ -27,7 +27,7 @@ pub fn make_value(alloc: Global, kind: AttrId, octets: Vec<u8>) -> Result<Value,
 {
     match row(kind) {
         Some(row) => match syntax_key(alloc, row.syntax, &octets) {
-            Ok(key) => Ok(Value { octets, key }),
+            Ok(key) => Ok(Value::from_parts(octets, key)?),
             Err(fault) => Err(fault),
         },
         None => Err(PrepareFault::NotOfSyntax),

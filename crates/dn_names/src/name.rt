@@ -4,10 +4,12 @@ ghost use Rattle.std.specs.Prelude.{◌≡◌, ◌++◌, IfOk, OnOk, length, sli
 ghost use Rattle.std.specs.Option.{option_map};
 ghost use Rattle.dn_names.specs.Names.{rdns_of};
 
+use crate::pairs::Pairs;
 use crate::value::Value;
 use schema_core::AttrId;
 use std::alloc::{AllocError, Global};
 use std::marker::Model;
+use std::rc::Rc;
 
 /// A type with a value, as an RDN has them.
 #[derive(Debug, Drop)]
@@ -42,22 +44,15 @@ impl Pair {
     {
         &self.value
     }
-
-    /// The same pair in memory of its own.
-    pub(crate) fn copy(&self, alloc: Global) -> Result<Pair, AllocError>
-        ensures ok { IfOk result (λ pair. pair ≡ self.now) }
-    {
-        Ok(Pair {
-            kind: self.kind,
-            value: self.value.copy(alloc)?,
-        })
-    }
 }
+
+/// The pairs of an RDN, which names may share.
+pub(crate) type Rdn = Rc<Pairs>;
 
 /// A name: a list of RDNs, root first. An RDN has pairs of distinct types in the order of the table.
 #[derive(Debug, Drop)]
 pub struct Dn {
-    pub(crate) rdns: Vec<Vec<Pair>>,
+    pub(crate) rdns: Vec<Rdn>,
 }
 
 impl Model for Dn {
@@ -83,7 +78,7 @@ impl Dn {
         self.rdns.get(index).map(|rdn| rdn.as_slice())
     }
 
-    /// The same name in memory of its own; the error comes where there is none.
+    /// The same name; RDNs are shared. The error comes where memory is refused.
     pub fn copy(&self, alloc: Global) -> Result<Dn, AllocError>
         ensures ok { IfOk result (λ name. name ≡ self.now) }
     {
@@ -93,36 +88,22 @@ impl Dn {
     }
 }
 
-/// The same RDNs in memory of their own.
-pub(crate) fn copy_rdns(alloc: Global, rdns: &[Vec<Pair>]) -> Result<Vec<Vec<Pair>>, AllocError>
+/// The same RDNs, shared.
+pub(crate) fn copy_rdns(alloc: Global, rdns: &[Rdn]) -> Result<Vec<Rdn>, AllocError>
     ensures ok { IfOk result (λ copies. rdns_of copies.items ≡ rdns_of rdns.now) }
 {
-    let mut copies = Vec::with_capacity(alloc, rdns.len())?;
-    append_copies(alloc, &mut copies, rdns)?;
+    let mut copies = Vec::new(alloc);
+    append_rdns(&mut copies, rdns)?;
     Ok(copies)
 }
 
-/// Puts copies of RDNs at the end.
-pub(crate) fn append_copies(
-    alloc: Global,
-    out: &mut Vec<Vec<Pair>>,
-    rdns: &[Vec<Pair>],
-) -> Result<(), AllocError>
+/// Puts RDNs, shared, at the end.
+pub(crate) fn append_rdns(out: &mut Vec<Rdn>, rdns: &[Rdn]) -> Result<(), AllocError>
     ensures ok { OnOk result (rdns_of out.new.items ≡ rdns_of out.old.items ++ rdns_of rdns.now) }
 {
+    out.reserve_exact(rdns.len())?;
     for rdn in rdns {
-        out.push(copy_pairs(alloc, rdn)?)?;
+        out.push(rdn.clone()?)?;
     }
     Ok(())
-}
-
-// The same pairs in memory of their own.
-fn copy_pairs(alloc: Global, pairs: &[Pair]) -> Result<Vec<Pair>, AllocError>
-    ensures ok { IfOk result (λ copies. copies.items ≡ pairs.now) }
-{
-    let mut copies = Vec::with_capacity(alloc, pairs.len())?;
-    for pair in pairs {
-        copies.push(pair.copy(alloc)?)?;
-    }
-    Ok(copies)
 }

@@ -6,7 +6,7 @@ ghost use Rattle.std.specs.Cmp.Lexicographic.{slice_cmp};
 ghost use Rattle.dn_names.specs.Names.{rdns_of};
 ghost use Rattle.dn_names.specs.NameOrder.{pair_cmp, rdn_cmp, name_cmp, is_same, is_prefix_of};
 
-use crate::name::{Dn, Pair};
+use crate::name::{Dn, Pair, Rdn};
 use std::cmp::Ordering;
 
 /// Whether the names are the same.
@@ -40,14 +40,14 @@ pub fn compare_front(name: &Dn, len: usize, other: &Dn) -> Ordering
     compare_rdns(&name.rdns[..len], &other.rdns)
 }
 
-fn compare_rdns(one: &[Vec<Pair>], other: &[Vec<Pair>]) -> Ordering
-    ensures exact { result ≡ slice_cmp (λ rdn next. rdn_cmp rdn.items next.items) one.now other.now }
+fn compare_rdns(one: &[Rdn], other: &[Rdn]) -> Ordering
+    ensures exact { result ≡ slice_cmp (λ rdn next. rdn_cmp rdn.value next.value) one.now other.now }
 {
     for (index, rdn) in one.iter().enumerate() {
         if index == other.len() {
             return Ordering::Greater;
         }
-        let order = compare_pairs(rdn, &other[index]);
+        let order = compare_pairs(rdn.as_slice(), other[index].as_slice());
         if order != Ordering::Equal {
             return order;
         }

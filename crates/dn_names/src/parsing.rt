@@ -1,6 +1,6 @@
 //! Names from their texts.
 
-ghost use Rattle.std.specs.Prelude.{◌≡◌, ◌≤◌, ◌<◌, ◌+◌, ◌^◌, ◌==◌, nat_lt, [], length, map, Ok, Err, IfOk, IfErr, vec_len};
+ghost use Rattle.std.specs.Prelude.{◌≡◌, ◌≤◌, ◌<◌, ◌+◌, ◌^◌, ◌==◌, nat_lt, [], length, map, Ok, Err, IfOk, IfErr, vec_len, vec_capacity};
 ghost use Rattle.dn_names.specs.Names.{rdns_of};
 ghost use Rattle.dn_names.specs.Reading.{rdn_of, parts_of, written_of};
 ghost use Rattle.dn_names.specs.Resolving.{rdn_from, rdns_from, from_root, UnlessMemory};
@@ -9,11 +9,13 @@ ghost use Rattle.dn_names.specs.NameCause.{NameCause};
 ghost use Rattle.dn_names.specs.NameText.{NameText, RdnText, Gives, read_name, read_rdn};
 
 use crate::error::BadName;
-use crate::name::{Dn, Pair};
+use crate::name::{Dn, Pair, Rdn};
+use crate::pairs::Pairs;
 use crate::parts::{count_marks, cut, is_blank};
 use crate::resolve::add;
 use crate::scan::fault_place;
-use std::alloc::Global;
+use std::alloc::{AllocError, Global};
+use std::rc::Rc;
 
 /// Reads a name (RFC 4514). A text of nothing but spaces is the name of no RDN.
 ///
@@ -98,12 +100,23 @@ fn read_pairs(alloc: Global, text: &[u8], first: usize) -> Result<Vec<Pair>, Bad
     }
 }
 
+// A vector with room for the RDNs of a name's text.
+fn make_room(alloc: Global, text: &[u8]) -> Result<Vec<Rdn>, AllocError>
+    ensures empty { IfOk result (λ rdns. rdns.items ≡ []) }
+    ensures fits { IfOk result (λ rdns. vec_capacity rdns ≡ length (parts_of 44 text.now)) }
+{
+    match count_marks(text, b',').checked_add(1) {
+        Some(count) => Vec::with_capacity(alloc, count),
+        None => Err(AllocError),
+    }
+}
+
 // The RDNs of a name's text, in the text's order.
-fn read_rdns(alloc: Global, text: &[u8]) -> Result<Vec<Vec<Pair>>, BadName>
+fn read_rdns(alloc: Global, text: &[u8]) -> Result<Vec<Rdn>, BadName>
     ensures ok { IfOk result (λ rdns. rdns_from 0 (map rdn_of (parts_of 44 text.now)) ≡ Ok (rdns_of rdns.items)) }
     ensures part { IfErr result (λ e. UnlessMemory e (rdns_from 0 (map rdn_of (parts_of 44 text.now)) ≡ Err e)) }
 {
-    let mut rdns = Vec::new(alloc);
+    let mut rdns = make_room(alloc, text)?;
     let mut index = 0;
     let mut rest = text;
     'rdns: loop {
@@ -113,7 +126,7 @@ fn read_rdns(alloc: Global, text: &[u8]) -> Result<Vec<Vec<Pair>>, BadName>
             Err(error) => return Err(error),
         };
         let count = pairs.len();
-        rdns.push(pairs)?;
+        rdns.push(Rc::new(alloc, Pairs::from_vec(pairs))?)?;
         match after {
             Some(others) => {
                 index += count;

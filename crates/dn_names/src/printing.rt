@@ -9,7 +9,7 @@ ghost use Rattle.std.specs.Str.{is_utf8};
 ghost use Rattle.schema_core.specs.Attributes.{name_of};
 
 use crate::classes::{Class, classify};
-use crate::name::{Dn, Pair};
+use crate::name::{Dn, Pair, Rdn};
 use schema_core::{AttrId, row};
 use std::alloc::{AllocError, Global};
 use std::str;
@@ -112,13 +112,13 @@ fn put_rdn(out: &mut Vec<u8>, rdn: &[Pair], shown: Shown) -> Result<(), AllocErr
 
 // Writes a name, the last RDN first.
 #[tactic(auto, unfolding(crate::specs::Printing::print_by))]
-fn put_rdns(out: &mut Vec<u8>, rdns: &[Vec<Pair>], shown: Shown) -> Result<(), AllocError>
+fn put_rdns(out: &mut Vec<u8>, rdns: &[Rdn], shown: Shown) -> Result<(), AllocError>
     ensures ok { OnOk result (out.new.items ≡ out.old.items ++ print_by (shown_of shown) (rdns_of rdns.now)) }
     ensures text { OnOk result (IsTextName (reverse (rdns_of rdns.now))) }
 {
     for index in 0..rdns.len() {
         put_mark(out, b',', index == 0)?;
-        put_rdn(out, &rdns[rdns.len() - 1 - index], shown)?;
+        put_rdn(out, rdns[rdns.len() - 1 - index].as_slice(), shown)?;
     }
     Ok(())
 }

@@ -1,6 +1,7 @@
 //! Values of attributes.
 
-ghost use Rattle.std.specs.Prelude.{◌≡◌, IfOk};
+ghost use Rattle.std.specs.Prelude.{◌≡◌, ◌++◌, IfOk};
+ghost use Rattle.dn_names.specs.Pieces.{split_of};
 
 use std::alloc::{AllocError, Global};
 use std::marker::Model;
@@ -8,39 +9,106 @@ use std::marker::Model;
 /// A value of an attribute: its octets as they were given, and the key by which it is compared.
 #[derive(Debug, Drop)]
 pub struct Value {
-    pub(crate) octets: Vec<u8>,
-    pub(crate) key: Vec<u8>,
+    // the octets, and behind them the key where it is another
+    text: Vec<u8>,
+    // where the octets end: at the text's end where the key is the octets, past it where the key is empty
+    split: usize,
 }
 
 impl Model for Value {
     ghost use Rattle.dn_names.specs.Names.{Keyed};
+    ghost use Rattle.dn_names.specs.Pieces.{octets_in, key_in};
 
     ghost Value = { Keyed };
 
-    ghost view = { λ value. record { octets = value.octets.items; key = value.key.items } };
+    ghost view = { λ value. record {
+      octets = octets_in value.split value.text.items;
+      key = key_in value.split value.text.items;
+    } };
 }
 
 impl Value {
+    /// The value of octets with a key; the error comes where memory is refused.
+    pub(crate) fn from_parts(octets: Vec<u8>, key: Vec<u8>) -> Result<Value, AllocError>
+        ensures ok { IfOk result (λ value. value ≡ record { octets = octets.items; key = key.items }) }
+    {
+        if octets.as_slice() == key.as_slice() {
+            Ok(Value::from_one(octets))
+        } else {
+            Value::from_two(octets, &key)
+        }
+    }
+
+    // The value whose key is its octets.
+    fn from_one(octets: Vec<u8>) -> Value
+        ensures exact { result ≡ record { octets = octets.items; key = octets.items } }
+    {
+        let mut text = octets;
+        text.shrink_to_fit();
+        let split = text.len();
+        Value { text, split }
+    }
+
+    // The value of octets with another key.
+    fn from_two(octets: Vec<u8>, key: &[u8]) -> Result<Value, AllocError>
+        ensures ok { IfOk result (λ value. value ≡ record { octets = octets.items; key = key.now }) }
+    {
+        let split = split_of(&octets, key)?;
+        Ok(Value {
+            text: append(octets, key)?,
+            split,
+        })
+    }
+
     /// The octets.
     pub fn octets(&self) -> &[u8]
         ensures exact { result.now ≡ self.now.octets }
     {
-        &self.octets
+        &self.text[..self.split.min(self.text.len())]
     }
 
     /// The key: values of one syntax match exactly where their keys are equal.
     pub fn key(&self) -> &[u8]
         ensures exact { result.now ≡ self.now.key }
     {
-        &self.key
+        if self.split == self.text.len() {
+            &self.text
+        } else {
+            &self.text[self.split.min(self.text.len())..]
+        }
     }
 
     /// The same value in memory of its own; the error comes where there is none.
     pub fn copy(&self, alloc: Global) -> Result<Value, AllocError>
         ensures ok { IfOk result (λ value. value ≡ self.now) }
     {
-        let octets = self.octets.as_slice().to_vec(alloc)?;
-        let key = self.key.as_slice().to_vec(alloc)?;
-        Ok(Value { octets, key })
+        Ok(Value {
+            text: self.text.as_slice().to_vec(alloc)?,
+            split: self.split,
+        })
     }
+}
+
+// Where octets and another key are split.
+fn split_of(octets: &[u8], key: &[u8]) -> Result<usize, AllocError>
+    ensures ok { IfOk result (λ split. split ≡ split_of octets.now key.now) }
+{
+    if !key.is_empty() {
+        return Ok(octets.len());
+    }
+    match octets.len().checked_add(1) {
+        Some(past) => Ok(past),
+        None => Err(AllocError),
+    }
+}
+
+// The octets and then the key, in no more memory than they take.
+fn append(octets: Vec<u8>, key: &[u8]) -> Result<Vec<u8>, AllocError>
+    ensures ok { IfOk result (λ text. text.items ≡ octets.items ++ key.now) }
+{
+    let mut text = octets;
+    text.reserve_exact(key.len())?;
+    text.extend_from_slice(key)?;
+    text.shrink_to_fit();
+    Ok(text)
 }

@@ -12,8 +12,8 @@ loop-index-preserved c =
     let l = c.loop-index in
     let rdns = c.args.rdns.now in
     let rdn = c.index-rdns-rdns.result in
-    let there = rw c.deref.ensures.value at c.in-Some.ensures.exact in
-    strip_next 44 (print_rdn (shown_of Key)) (reverse (rdns_of rdns)) l.index rdn.items l.rest.now _ (drop-reverse rdns l.index rdn c.loop-index-test.true c.index-rdns-rdns.is) l.invariant c.in-Some.others.now (sym there)
+    let there = rw (c.as_slice.ensures.exact, c.deref.ensures) at c.in-Some.ensures.exact in
+    strip_next 44 (print_rdn (shown_of Key)) (reverse (rdns_of rdns)) l.index rdn.value l.rest.now _ (drop-reverse rdns l.index rdn c.loop-index-test.true c.index-rdns-rdns.is) l.invariant c.in-Some.others.now (sym there)
 
 pub returns-in-None : goal.returns-in-None
 unfolding print_by
@@ -21,5 +21,5 @@ returns-in-None c =
     let l = c.loop-index in
     let rdns = c.args.rdns.now in
     let rdn = c.index-rdns-rdns.result in
-    let there = rw c.deref.ensures.value at c.in-None.ensures.exact in
-    record { exact = strip_stop 44 (print_rdn (shown_of Key)) (reverse (rdns_of rdns)) l.index rdn.items l.rest.now _ (drop-reverse rdns l.index rdn c.loop-index-test.true c.index-rdns-rdns.is) l.invariant (sym there) }
+    let there = rw (c.as_slice.ensures.exact, c.deref.ensures) at c.in-None.ensures.exact in
+    record { exact = strip_stop 44 (print_rdn (shown_of Key)) (reverse (rdns_of rdns)) l.index rdn.value l.rest.now _ (drop-reverse rdns l.index rdn c.loop-index-test.true c.index-rdns-rdns.is) l.invariant (sym there) }

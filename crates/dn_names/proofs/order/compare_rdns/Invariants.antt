@@ -7,6 +7,6 @@ use Rattle.dn_names.proofs.order.compare_rdns.Given as goal
 abbrev pub invariant-loop-index : goal.invariant-loop-index
 invariant-loop-index l = record {
   within : l.index ≤ length l.other;
-  exact : slice_cmp (λ rdn next. rdn_cmp rdn.items next.items) (drop l.index l.one) (drop l.index l.other)
-      ≡ slice_cmp (λ rdn next. rdn_cmp rdn.items next.items) l.one l.other;
+  exact : slice_cmp (λ rdn next. rdn_cmp rdn.value next.value) (drop l.index l.one) (drop l.index l.other)
+      ≡ slice_cmp (λ rdn next. rdn_cmp rdn.value next.value) l.one l.other;
 }

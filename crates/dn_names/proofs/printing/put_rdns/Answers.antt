@@ -10,10 +10,10 @@ loop-index-preserved c =
     let l = c.loop-index in
     let rdns = c.args.rdns.now in
     let rdn = c.index-rdns-rdns.result in
-    let text = rw (c.deref.ensures.value) at c.in_ok-put_rdn.ensures.text in
-    let more = rw (c.deref.ensures.value) at c.in_ok-put_rdn.ensures.ok in
+    let text = rw (c.as_slice.ensures.exact, c.deref.ensures) at c.in_ok-put_rdn.ensures.text in
+    let more = rw (c.as_slice.ensures.exact, c.deref.ensures) at c.in_ok-put_rdn.ensures.ok in
     record {
-      exact = next_rdn (shown_of c.args.shown) (reverse (rdns_of rdns)) l.index rdn.items l.out.items c.put_mark.new.out.items c.put_rdn.new.out.items _
+      exact = next_rdn (shown_of c.args.shown) (reverse (rdns_of rdns)) l.index rdn.value l.out.items c.put_mark.new.out.items c.put_rdn.new.out.items _
           (drop-reverse rdns l.index rdn c.loop-index-test.true c.index-rdns-rdns.is) c.in_ok-put_mark.ensures.ok more l.invariant.exact;
-      text = rw (take-reverse rdns l.index rdn c.loop-index-test.true c.index-rdns-rdns.is) (IsTextName-push (take l.index (reverse (rdns_of rdns))) rdn.items l.invariant.text text);
+      text = rw (take-reverse rdns l.index rdn c.loop-index-test.true c.index-rdns-rdns.is) (IsTextName-push (take l.index (reverse (rdns_of rdns))) rdn.value l.invariant.text text);
     }
