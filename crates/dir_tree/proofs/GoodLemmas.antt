@@ -1,5 +1,5 @@
 -- Attributes stay good: each has a value, and no two of its values match.
-use Rattle.std.proofs.Common.{◌≡◌, ◌≢◌, ℕ, ◌==◌, nat_lt, Bool, true, false, cond, filter, length, List, [], ◌∷◌, ◌++◌, Vec, refl, if◌then◌else◌}
+use Rattle.std.proofs.Common.{◌≡◌, ◌≢◌, ℕ, ◌==◌, nat_lt, Bool, true, false, cond, filter, length, List, [], ◌∷◌, ◌++◌, refl, if◌then◌else◌}
 use Rattle.std.specs.Cmp.{IsEquivalence}
 use Rattle.std.specs.Cmp.Lexicographic.{nat_list_eq_equiv}
 use Rattle.std.specs.List.{AllByRecursion, IsDistinct}
@@ -108,18 +108,17 @@ good-cut_attributes kind key (first ∷ rest) good =
     })
     (good-cut_attributes kind key rest good.1)
 
-module _ {Z : Type 0} where
-  apart-kinds :
-      (kind : AttrId) (rows : List (AttrId × Vec Keyed Z))
-      → AllByRecursion (λ other. is_kind kind other ≡ false) (keys_of rows)
-      → AllByRecursion (λ other. (kind.0 == other) ≡ false) (kinds_of (attributes_of rows))
-  apart-kinds kind [] apart = tt
-  apart-kinds kind (row ∷ rows) apart = (apart.0, apart-kinds kind rows apart.1)
+apart-kinds :
+    (kind : AttrId) (rows : List (AttrId × List Keyed))
+    → AllByRecursion (λ other. is_kind kind other ≡ false) (keys_of rows)
+    → AllByRecursion (λ other. (kind.0 == other) ≡ false) (kinds_of (attributes_of rows))
+apart-kinds kind [] apart = tt
+apart-kinds kind (row ∷ rows) apart = (apart.0, apart-kinds kind rows apart.1)
 
-  -- distinct keys are distinct types
-  pub distinct-kinds :
-      (rows : List (AttrId × Vec Keyed Z)) → IsDistinct is_kind (keys_of rows)
-      → IsDistinct (λ one other. one == other) (kinds_of (attributes_of rows))
-  unfolding IsDistinct
-  distinct-kinds [] distinct = tt
-  distinct-kinds (row ∷ rows) distinct = (apart-kinds row.0 rows distinct.0, distinct-kinds rows distinct.1)
+-- distinct keys are distinct types
+pub distinct-kinds :
+    (rows : List (AttrId × List Keyed)) → IsDistinct is_kind (keys_of rows)
+    → IsDistinct (λ one other. one == other) (kinds_of (attributes_of rows))
+unfolding IsDistinct
+distinct-kinds [] distinct = tt
+distinct-kinds (row ∷ rows) distinct = (apart-kinds row.0 rows distinct.0, distinct-kinds rows distinct.1)

@@ -1,5 +1,5 @@
 -- What the map finds is what the attributes have.
-use Rattle.std.proofs.Common.{◌≡◌, ℕ, ◌==◌, Bool, List, [], ◌∷◌, map, slice_get, Option, Some, None, Vec, refl, ap, ◌∙◌, arith}
+use Rattle.std.proofs.Common.{◌≡◌, ℕ, ◌==◌, Bool, List, [], ◌∷◌, map, slice_get, Option, Some, None, refl, ap, ◌∙◌, arith}
 use Rattle.std.specs.Option.{option_map, option_map_or}
 use Rattle.std.specs.Map.{lookup, keys_of}
 use Rattle.std.proofs.lemmas.Option.{slice_get-map}
@@ -12,35 +12,34 @@ use Rattle.dir_tree.specs.Rows.{attribute_of, attributes_of}
 abbrev pub is_kind : AttrId → AttrId → Bool
 is_kind one other = one.0 == other.0
 
-module _ {Z : Type 0} where
-  -- the values that the map finds, none where it finds nothing
-  abbrev pub found_values : Option (Vec Keyed Z) → List Keyed
-  found_values found = option_map_or (λ values. values.items) found []
+-- the values that the map finds, none where it finds nothing
+abbrev pub found_values : Option (List Keyed) → List Keyed
+found_values found = option_map_or (λ values. values) found []
 
-  -- the values of a type are those that the map finds
-  pub values_of-rows :
-      (kind : AttrId) (rows : List (AttrId × Vec Keyed Z))
-      → values_of kind.0 (attributes_of rows) ≡ found_values (lookup (is_kind kind) rows)
-  values_of-rows kind [] = refl
-  values_of-rows kind (row ∷ rows) = grind (arith, values_of-rows kind rows)
+-- the values of a type are those that the map finds
+pub values_of-rows :
+    (kind : AttrId) (rows : List (AttrId × List Keyed))
+    → values_of kind.0 (attributes_of rows) ≡ found_values (lookup (is_kind kind) rows)
+values_of-rows kind [] = refl
+values_of-rows kind (row ∷ rows) = grind (arith, values_of-rows kind rows)
 
-  -- the types are the numbers of the map's keys
-  pub kinds_of-rows :
-      (rows : List (AttrId × Vec Keyed Z)) → kinds_of (attributes_of rows) ≡ map (λ kind. kind.0) (keys_of rows)
-  kinds_of-rows [] = refl
-  kinds_of-rows (row ∷ rows) = ap (λ rest. row.0.0 ∷ rest) (kinds_of-rows rows)
+-- the types are the numbers of the map's keys
+pub kinds_of-rows :
+    (rows : List (AttrId × List Keyed)) → kinds_of (attributes_of rows) ≡ map (λ kind. kind.0) (keys_of rows)
+kinds_of-rows [] = refl
+kinds_of-rows (row ∷ rows) = ap (λ rest. row.0.0 ∷ rest) (kinds_of-rows rows)
 
-  -- so one of them is the number of the key at its place
-  kind_of :
-      (found : Option (AttrId × Vec Keyed Z))
-      → option_map (λ attribute. attribute.kind) (option_map attribute_of found) ≡ option_map (λ row. row.0.0) found
-  kind_of None = refl
-  kind_of (Some row) = refl
+-- so one of them is the number of the key at its place
+kind_of :
+    (found : Option (AttrId × List Keyed))
+    → option_map (λ attribute. attribute.kind) (option_map attribute_of found) ≡ option_map (λ row. row.0.0) found
+kind_of None = refl
+kind_of (Some row) = refl
 
-  pub slice_get-kinds :
-      (rows : List (AttrId × Vec Keyed Z)) (index : ℕ)
-      → slice_get (kinds_of (attributes_of rows)) index ≡ option_map (λ row. row.0.0) (slice_get rows index)
-  slice_get-kinds rows index =
-      slice_get-map (λ (attribute : Attribute). attribute.kind) (attributes_of rows) index
-      ∙ ap (option_map (λ (attribute : Attribute). attribute.kind)) (slice_get-map attribute_of rows index)
-      ∙ kind_of (slice_get rows index)
+pub slice_get-kinds :
+    (rows : List (AttrId × List Keyed)) (index : ℕ)
+    → slice_get (kinds_of (attributes_of rows)) index ≡ option_map (λ row. row.0.0) (slice_get rows index)
+slice_get-kinds rows index =
+    slice_get-map (λ (attribute : Attribute). attribute.kind) (attributes_of rows) index
+    ∙ ap (option_map (λ (attribute : Attribute). attribute.kind)) (slice_get-map attribute_of rows index)
+    ∙ kind_of (slice_get rows index)

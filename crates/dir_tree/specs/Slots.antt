@@ -1,5 +1,5 @@
 -- How a tree is kept: entries in slots by their numbers, and the numbers in the order of the names.
-use Rattle.std.specs.Prelude.{◌≡◌, ◌≢◌, ℕ, suc, ◌≤◌, ◌==◌, Bool, true, List, [], ◌∷◌, length, map, Option, Some, None, is_some, get_or}
+use Rattle.std.specs.Prelude.{◌≡◌, ◌≢◌, ℕ, suc, ◌+◌, ◌/◌, ◌≤◌, ◌==◌, nat_lt, if◌then◌else◌, Bool, true, List, [], ◌∷◌, length, map, Option, Some, None, is_some, get_or}
 use Rattle.std.specs.List.{AllByRecursion, list_any}
 use Rattle.dn_names.specs.Names.{RdnSequence}
 use Rattle.dir_tree.specs.Entries.{EntryInformation}
@@ -35,6 +35,10 @@ count_full (Some entry ∷ slots) = suc (count_full slots)
 -- each number's slot has what it had
 abbrev pub HasSameSlots : List (Option EntryInformation) → List (Option EntryInformation) → Type 0
 HasSameSlots old new = (id : ℕ) → slot_of new id ≡ slot_of old id
+
+-- how many slots there is room for, once there is room for one more: where there was none, an eighth more
+abbrev pub with_room : ℕ → ℕ → ℕ
+with_room len capacity = if nat_lt len capacity then capacity else len + len / 8 + 1
 
 -- whether an entry's name comes before the name
 abbrev pub has_before : RdnSequence → List Numbered → Bool

@@ -5,7 +5,7 @@ ghost use Rattle.dir_tree.specs.Entries.{has_kind};
 ghost use Rattle.dir_tree.specs.Changes.{put_value, cut_attribute, is_filled, other_attributes};
 ghost use Rattle.dir_tree.specs.Rows.{attributes_of};
 
-use crate::values::{copy_values, drop_key};
+use crate::values::Values;
 use dn_names::Value;
 use indexmap::IndexMap;
 use schema_core::AttrId;
@@ -13,7 +13,7 @@ use std::alloc::{AllocError, Global};
 
 /// Puts the value last of its type, and a new type last.
 pub(crate) fn put_value(
-    attributes: &mut IndexMap<AttrId, Vec<Value>>,
+    attributes: &mut IndexMap<AttrId, Values>,
     kind: AttrId,
     value: Value,
 ) -> Result<(), AllocError>
@@ -30,7 +30,7 @@ pub(crate) fn put_value(
 
 /// Puts the value last of its type, which is there.
 fn put_last(
-    attributes: &mut IndexMap<AttrId, Vec<Value>>,
+    attributes: &mut IndexMap<AttrId, Values>,
     kind: AttrId,
     value: Value,
 ) -> Result<(), AllocError>
@@ -39,15 +39,16 @@ fn put_last(
         ≡ put_value kind.0 value (attributes_of attributes.old.entries)) }
     ensures err { OnErr result (attributes_of attributes.new.entries ≡ attributes_of attributes.old.entries) }
 {
+    let alloc = *attributes.allocator();
     if let Some(values) = attributes.get_mut(&kind) {
-        values.push(value)?;
+        values.push(alloc, value)?;
     }
     Ok(())
 }
 
 /// Puts the value in an attribute of its own at the end: its type is not there.
 fn put_first(
-    attributes: &mut IndexMap<AttrId, Vec<Value>>,
+    attributes: &mut IndexMap<AttrId, Values>,
     kind: AttrId,
     value: Value,
 ) -> Result<(), AllocError>
@@ -56,21 +57,18 @@ fn put_first(
         ≡ put_value kind.0 value (attributes_of attributes.old.entries)) }
     ensures err { OnErr result (attributes_of attributes.new.entries ≡ attributes_of attributes.old.entries) }
 {
-    // most attributes have one value
-    let mut values = Vec::with_capacity(*attributes.allocator(), 1)?;
-    values.push(value)?;
-    put_attribute(attributes, kind, values)
+    put_attribute(attributes, kind, Values::one(value))
 }
 
 /// Puts an attribute at the end: its type is not there.
 fn put_attribute(
-    attributes: &mut IndexMap<AttrId, Vec<Value>>,
+    attributes: &mut IndexMap<AttrId, Values>,
     kind: AttrId,
-    values: Vec<Value>,
+    values: Values,
 ) -> Result<(), AllocError>
     requires { has_kind kind.0 (attributes_of attributes.old.entries) ≡ false }
     ensures ok { OnOk result (attributes_of attributes.new.entries
-        ≡ attributes_of attributes.old.entries ++ record { kind = kind.0; values = values.items } ∷ []) }
+        ≡ attributes_of attributes.old.entries ++ record { kind = kind.0; values = values } ∷ []) }
     ensures err { OnErr result (attributes_of attributes.new.entries ≡ attributes_of attributes.old.entries) }
 {
     attributes.insert(kind, values)?;
@@ -78,29 +76,30 @@ fn put_attribute(
 }
 
 /// Takes the values that have the key out of the attribute of the type, which may be left with none.
-pub(crate) fn cut_values(attributes: &mut IndexMap<AttrId, Vec<Value>>, kind: AttrId, key: &[u8])
+pub(crate) fn cut_values(attributes: &mut IndexMap<AttrId, Values>, kind: AttrId, key: &[u8])
     ensures exact { attributes_of attributes.new.entries
         ≡ map (cut_attribute kind.0 key.now) (attributes_of attributes.old.entries) }
 {
+    let alloc = *attributes.allocator();
     if let Some(values) = attributes.get_mut(&kind) {
-        drop_key(values, key);
+        values.drop_key(alloc, key);
     }
 }
 
 /// Takes out the attributes that have no values.
-pub(crate) fn drop_empty(attributes: &mut IndexMap<AttrId, Vec<Value>>)
+pub(crate) fn drop_empty(attributes: &mut IndexMap<AttrId, Values>)
     ensures exact { attributes_of attributes.new.entries
         ≡ filter is_filled (attributes_of attributes.old.entries) }
 {
     attributes.retain(
-        |_kind: &AttrId, values: &mut Vec<Value>| -> bool
-            ensures { (result ≡ nat_lt 0 (length values.old.items)) × (values.new ≡ values.old) }
-        { values.len() > 0 },
+        |_kind: &AttrId, values: &mut Values| -> bool
+            ensures { (result ≡ nat_lt 0 (length values.old)) × (values.new ≡ values.old) }
+        { !values.is_empty() },
     );
 }
 
 /// Takes out the attribute of the type. Answers whether there was one.
-pub(crate) fn drop_kind(attributes: &mut IndexMap<AttrId, Vec<Value>>, kind: AttrId) -> bool
+pub(crate) fn drop_kind(attributes: &mut IndexMap<AttrId, Values>, kind: AttrId) -> bool
     ensures found { result ≡ has_kind kind.0 (attributes_of attributes.old.entries) }
     ensures exact { attributes_of attributes.new.entries
         ≡ other_attributes kind.0 (attributes_of attributes.old.entries) }
@@ -113,13 +112,13 @@ pub(crate) fn drop_kind(attributes: &mut IndexMap<AttrId, Vec<Value>>, kind: Att
 /// The same attributes in memory of their own.
 pub(crate) fn copy_attributes(
     alloc: Global,
-    attributes: &IndexMap<AttrId, Vec<Value>>,
-) -> Result<IndexMap<AttrId, Vec<Value>>, AllocError>
+    attributes: &IndexMap<AttrId, Values>,
+) -> Result<IndexMap<AttrId, Values>, AllocError>
     ensures ok { IfOk result (λ copies. attributes_of copies.entries ≡ attributes_of attributes.now.entries) }
 {
     let mut copies = IndexMap::with_capacity(alloc, attributes.len())?;
     for (kind, values) in attributes.iter() {
-        put_attribute(&mut copies, *kind, copy_values(alloc, values)?)?;
+        put_attribute(&mut copies, *kind, values.copy(alloc)?)?;
     }
     Ok(copies)
 }

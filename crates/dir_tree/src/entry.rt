@@ -8,7 +8,7 @@ ghost use Rattle.dir_tree.specs.EntryClasses.{has_class};
 
 use crate::attributes::{copy_attributes, cut_values, drop_empty, drop_kind, put_value};
 use crate::classes::is_any_kind_of;
-use crate::values::has_key;
+use crate::values::{Values, has_key};
 use dn_names::{Dn, Value};
 use indexmap::IndexMap;
 use schema_core::AttrId;
@@ -23,7 +23,7 @@ pub type NoMemory = AllocError;
 #[derive(Debug, Drop)]
 pub struct Entry {
     name: Dn,
-    attributes: IndexMap<AttrId, Vec<Value>>,
+    attributes: IndexMap<AttrId, Values>,
 }
 
 impl Model for Entry {
@@ -132,7 +132,7 @@ impl Entry {
         is_any_kind_of(self.values(AttrId::OBJECT_CLASS), oid)
     }
 
-    /// The same entry in memory of its own; the error comes where there is none.
+    /// The same entry, whose attributes have memory of their own; the error comes where there is none.
     pub fn copy(&self, alloc: Global) -> Result<Entry, NoMemory>
         ensures ok { IfOk result (λ entry. entry ≡ self.now) }
     {
@@ -140,6 +140,20 @@ impl Entry {
             name: self.name.copy(alloc)?,
             attributes: copy_attributes(alloc, &self.attributes)?,
         })
+    }
+
+    /// Lets the name share memory with another, as far as the two are alike.
+    pub(crate) fn share_name(&mut self, other: &Dn)
+        ensures exact { self.new ≡ self.old }
+    {
+        self.name.share_with(other);
+    }
+
+    /// Gives back the memory that the attributes do not need.
+    pub(crate) fn fit(&mut self)
+        ensures exact { self.new ≡ self.old }
+    {
+        self.attributes.shrink_to_fit();
     }
 
     /// Attributes have distinct types, each has a value, and its values have distinct keys. Computes nothing.

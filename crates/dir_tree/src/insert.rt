@@ -17,18 +17,18 @@ impl Tree {
     ghost use Rattle.dir_tree.specs.Refusals.{lacks_superior, insert_refusal};
     ghost use Rattle.dir_tree.specs.Places.{place_of};
 
-    /// Puts the entry in, and gives the number by which it is known: one that is not in use.
+    /// Puts the entry in, and gives the number by which it is known: one that is not in use. Its name shares memory with
+    /// that of its superior, and the memory that its attributes do not need is given back.
     ///
     /// The refusals come in their order: `NameTaken` exactly where an entry has the name, `NoSuperior` exactly where
     /// the tree has entries and the superior is none of them, `Full` exactly where it has 200,000, and `NoMemory`
-    /// where there is none. The first entry, of any name, is the suffix.
+    /// where there is none. The entry's name may not be empty; the first entry, of any such name, is the suffix.
     pub fn insert(&mut self, entry: Entry) -> Result<EntryNo, InsertRefusal>
         requires { entry.name ≢ [] }
         ensures ok { IfOk result (λ no. self.new ≡ put_entry no.0 entry self.old) }
         ensures fits { IfOk result (λ no. no.0 < most_entries) }
         ensures only { IfOk result (λ no. entry_of no.0 self.old ≡ None) }
         ensures exact { OnOk result (insert_refusal entry.name self.old ≡ None) }
-
         // Want of memory may come before the other causes.
         ensures cause { IfErr result (λ refusal. (refusal ≡ InsertRefusal.NoMemory)
             ⊎ (insert_refusal entry.name self.old ≡ Some refusal)) }
@@ -37,6 +37,9 @@ impl Tree {
         if let Some(refusal) = self.insert_refusal(entry.name()) {
             return Err(refusal);
         }
+        let mut entry = entry;
+        self.share_name(&mut entry);
+        entry.fit();
         let place = self.place_of(entry.name(), entry.name().len());
         match self.put_in(place, entry) {
             Ok(no) => Ok(no),
@@ -71,6 +74,18 @@ impl Tree {
         ensures exact { result ≡ has_name (take len name.now) self.now }
     {
         self.search(name, len).is_some()
+    }
+
+    // Lets the entry's name share memory with that of its superior, if the tree has it.
+    fn share_name(&self, entry: &mut Entry)
+        ensures exact { entry.new ≡ entry.old }
+    {
+        let len = entry.name().len().saturating_sub(1);
+        if let Some(no) = self.search(entry.name(), len) {
+            if let Some(superior) = self.at(no) {
+                entry.share_name(superior.name());
+            }
+        }
     }
 
     // Puts the entry, which is not refused, in at its place.

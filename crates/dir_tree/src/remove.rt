@@ -21,7 +21,6 @@ impl Tree {
         ensures ok { IfOk result (λ entry. entry_of no.0 self.old ≡ Some entry) }
         ensures only { OnOk result (self.new ≡ without no.0 self.old) }
         ensures exact { OnOk result (remove_refusal no.0 self.old ≡ None) }
-
         ensures cause { IfErr result (λ refusal. remove_refusal no.0 self.old ≡ Some refusal) }
         ensures kept { OnErr result (self.new ≡ self.old) }
     {

@@ -18,7 +18,8 @@ impl Tree {
     ghost use Rattle.dir_tree.specs.Refusals.{refusal_in_place, replace_refusal};
     ghost use Rattle.dir_tree.specs.Places.{place_of};
 
-    /// Gives the entry's place to another, which is known by the same number. Takes no memory.
+    /// Gives the entry's place to another, which is known by the same number. Needs no memory; what the attributes of
+    /// the other do not need is given back.
     ///
     /// The refusals come in their order: `Absent` exactly where the number is not in use, `NameTaken` exactly where
     /// another entry has the new name, `Elsewhere` exactly where the new name is empty or has another superior, and
@@ -27,13 +28,14 @@ impl Tree {
         ensures ok { IfOk result (λ old. entry_of no.0 self.old ≡ Some old) }
         ensures only { OnOk result (self.new ≡ put_entry no.0 entry (without no.0 self.old)) }
         ensures exact { OnOk result (replace_refusal no.0 entry.name self.old ≡ None) }
-
         ensures cause { IfErr result (λ refusal.
             replace_refusal no.0 entry.name self.old ≡ Some refusal) }
         ensures kept { OnErr result (self.new ≡ self.old) }
     {
         match self.replaceable(no, entry.name()) {
             Ok(from) => {
+                let mut entry = entry;
+                entry.fit();
                 let place = self.place_of(entry.name(), entry.name().len());
                 Ok(self.change(no, from, place, entry))
             }

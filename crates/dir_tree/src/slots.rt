@@ -1,8 +1,8 @@
 //! Entries in slots by their numbers, and numbers in order.
 
-ghost use Rattle.std.specs.Prelude.{◌≡◌, ◌≢◌, ℕ, ◌<◌, ◌≤◌, ◌+◌, length, IfSome, IsSome, is_some, IfOk, Some, None, true, insert, remove, set, get_or, vec_len, vec_capacity, OnErr};
+ghost use Rattle.std.specs.Prelude.{◌≡◌, ◌≢◌, ℕ, ◌<◌, ◌≤◌, ◌+◌, length, IfSome, IsSome, is_some, IfOk, Some, None, true, insert, remove, set, get_or, vec_len, vec_capacity, OnOk, OnErr};
 ghost use Rattle.std.specs.Option.{option_map};
-ghost use Rattle.dir_tree.specs.Slots.{slot_of, count_full, HasSameSlots};
+ghost use Rattle.dir_tree.specs.Slots.{slot_of, count_full, HasSameSlots, with_room};
 ghost use Rattle.dir_tree.specs.Trees.{most_entries};
 ghost use Rattle.dir_tree.specs.Places.{place_without};
 
@@ -34,13 +34,30 @@ pub(crate) fn free_slot(
     ensures kept { HasSameSlots slots.old.items slots.new.items }
     ensures count { count_full slots.new.items ≡ full }
     ensures fits { length slots.new.items ≤ most_entries }
+    ensures only { vec_capacity slots.new ≤ with_room (vec_len slots.old) (vec_capacity slots.old) }
 {
     let len = slots.len();
     if len == full {
-        slots.push(None)?;
+        make_room(slots)?;
+        slots.push_reserved(None);
         return Ok(len);
     }
     Ok(empty_slot(slots, low))
+}
+
+// Makes room for one more slot; where there is none, for an eighth more, since a slot is large.
+fn make_room(slots: &mut Vec<Option<Entry>>) -> Result<(), AllocError>
+    ensures ok { OnOk result (vec_len slots.new < vec_capacity slots.new) }
+    ensures exact { OnOk result
+        (vec_capacity slots.new ≡ with_room (vec_len slots.old) (vec_capacity slots.old)) }
+    ensures kept { slots.new.items ≡ slots.old.items }
+    ensures err { OnErr result (vec_capacity slots.new ≡ vec_capacity slots.old) }
+{
+    let len = slots.len();
+    if len >= slots.capacity() {
+        slots.reserve_exact(len / 8 + 1)?;
+    }
+    Ok(())
 }
 
 // The number of an empty slot.

@@ -9,7 +9,7 @@ pub returns : goal.returns
 returns c = record {
   exact =
       ap attributes_of
-      (filter-RetainsPairs _ (λ row. nat_lt 0 (length row.1.items)) _ (λ k v b w g call. search rules) _ _
+      (filter-RetainsPairs _ (λ row. nat_lt 0 (length row.1)) _ (λ k v b w g call. search rules) _ _
       c.retain.ensures.filtered)
       ∙ filter-rows c.args.attributes.now.entries;
 }

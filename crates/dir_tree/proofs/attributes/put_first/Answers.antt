@@ -5,4 +5,4 @@ use Rattle.dir_tree.proofs.attributes.put_first.Goals as goal
 pub returns-clause-ok : goal.returns-clause-ok
 returns-clause-ok c =
     rw (put_value-new c.args.kind.0 c.args.value _ c.requires)
-    (rw (c.in_ok-push.ensures.items, c.in_ok-values.ensures.items) at c.put_attribute.ensures.ok)
+    (rw c.one.ensures.exact at c.put_attribute.ensures.ok)

@@ -12,14 +12,14 @@ returns-in_err-push-clause-err c =
     rw p.1
     (ap attributes_of (c.get_mut.follows.holds c.push.new.self).0
     ∙ attributes_of-set_value c.args.kind c.in-Some.values.now c.push.new.self c.args.attributes.now.entries
-    c.in-Some.ensures.value c.in_err-push.ensures.items)
+    c.in-Some.ensures.value c.in_err-push.ensures.err)
 
 -- the values have the new one last
 pub returns-in_ok-push-clause-ok : goal.returns-in_ok-push-clause-ok
 returns-in_ok-push-clause-ok c =
     ap attributes_of (c.get_mut.follows.holds c.push.new.self).0
     ∙ put_value-set_value c.args.kind c.in-Some.values.now c.push.new.self c.args.value c.args.attributes.now.entries
-    c.in-Some.ensures.value c.in_ok-push.ensures.items
+    c.in-Some.ensures.value c.in_ok-push.ensures.ok
 
 -- the type is there
 pub returns-in_default-clause-ok : goal.returns-in_default-clause-ok

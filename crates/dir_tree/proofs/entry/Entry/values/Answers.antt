@@ -7,7 +7,7 @@ pub returns-in-Some : goal.returns-in-Some
 returns-in-Some c = record {
   exact =
       rw (← c.self.view_is)
-      (c.as_slice.ensures.value ∙ ap found_values c.in-Some.ensures.value
+      (c.as_slice.ensures.exact ∙ ap found_values c.in-Some.ensures.value
       ∙ sym (values_of-rows c.args.kind c.self.inside.attributes.entries));
 }
 
