@@ -77,6 +77,10 @@ adds_then plan P Q R a b c first second start told is =
       λ holds all. subst R (append_assoc told x.0 y.0) (y.3 (x.3 holds) (subst (λ z. all_taken z ≡ true) (sym (append_assoc told x.0 y.0)) all)),
     )
 
+-- one call after another that left the plan
+pub adds_after : (plan now : Option Plan) (P Q R : List Item → Type 0) (a b c : Option (List Item)) → now ≡ plan → Adds plan P Q a b → Adds now Q R b c → Adds plan P R a c
+adds_after plan now P Q R a b c same first second = adds_then plan P Q R a b c first (subst (λ p. Adds p Q R b c) same second)
+
 -- what holds may be weakened at both ends
 pub adds_as : (plan : Option Plan) (P P' Q Q' : List Item → Type 0) (a b : Option (List Item)) → ((told : List Item) → P' told → P told) → ((told : List Item) → Q told → Q' told) →
     Adds plan P Q a b → Adds plan P' Q' a b

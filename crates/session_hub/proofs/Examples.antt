@@ -1,5 +1,5 @@
 -- The definitions, computed on known messages and streams.
-use Rattle.std.proofs.Common.{◌≡◌, ℕ, true, false, List, [], ◌∷◌, ◌++◌, Some, None, refl}
+use Rattle.std.proofs.Common.{◌≡◌, true, false, [], ◌∷◌, Some, None, refl}
 use Rattle.ber_core.specs.Heading.{length_at, header_at}
 use Rattle.ber_core.specs.Integer.{int_at, int_octets}
 use Rattle.ber_core.specs.Spelling.{length_octets}
@@ -9,8 +9,8 @@ use Rattle.ldap_msg.specs.declared.kinds.Reply.TheVariants as reply
 use Rattle.ldap_msg.specs.Streams.{framed, frame_at, whole_of, rest_behind, whole, rest_of, is_broken}
 use Rattle.ldap_msg.specs.Pieces.{piece_of, piece_at, tagged_at, number_in, pieces_of, are_pieces}
 use Rattle.ldap_msg.specs.Messages.{auth_of, bind_of, request_of, marked_behind, message_in, message_of}
-use Rattle.ldap_msg.specs.Replies.{element_octets, result_octets, optional_octets, operation_tag, operation_content, reply_content, reply_octets, notice_octets}
-use Rattle.session_model.specs.Rules.{Rules, talk}
+use Rattle.ldap_msg.specs.Replies.{element_octets, result_octets, optional_octets, operation_tag, operation_content, reply_content, reply_octets}
+use Rattle.session_model.specs.Rules.{talk}
 use Rattle.session_model.specs.Kept.{speech}
 use Rattle.session_hub.specs.declared.requester.Requester.TheVariants.{Anonymous}
 use Rattle.session_hub.specs.Answering.{rules, reply_to, coded}

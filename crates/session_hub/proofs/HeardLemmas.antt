@@ -1,5 +1,5 @@
 -- An event heard, by what a hub makes of it.
-use Rattle.std.proofs.Common.{◌≡◌, ◌≤◌, ◌<◌, ℕ, nat_lt, false, List, [], ◌∷◌, ◌++◌, length, refl, ap, sym, ◌∙◌, subst, arith}
+use Rattle.std.proofs.Common.{◌≡◌, ◌≤◌, ◌<◌, ℕ, nat_lt, false, List, [], ◌∷◌, ◌++◌, length, Option, Result, OnOk, OnErr, refl, ap, sym, ◌∙◌, subst, arith}
 use Rattle.std.proofs.lemmas.Bool.Decides.{nat_tests}
 use Rattle.wire_io.specs.declared.journal.Event.{Event as Told}
 use Rattle.wire_io.specs.declared.journal.Event.TheVariants as event
@@ -19,7 +19,9 @@ use Rattle.session_hub.specs.declared.event.Event.{Event}
 use Rattle.session_hub.specs.declared.event.Event.TheVariants as came
 use Rattle.session_hub.specs.Events.{step_of}
 use Rattle.session_hub.specs.Telling.{told_of, IsOf}
-use Rattle.session_hub.specs.Adding.{IsCalm, IsBusy, IsHeard}
+use Rattle.wire_io.specs.Plan.{Plan}
+use Rattle.session_hub.specs.Adding.{Adds, IsCalm, IsBusy, IsHeard}
+use Rattle.session_hub.proofs.AddingLemmas.{adds_nothing}
 
 -- what a hub holds after a step, with the tree
 held_is : (s : Step) (kept : List (Kept Requester)) → heard rules s (held kept) ≡ held (held_after s kept)
@@ -93,3 +95,18 @@ pause_goes kept told h = idle_goes event.Idle kept told refl (λ _. refl) h
 pub stop_goes : (kept : List (Kept Requester)) (told : List Item) → IsHeard kept event.Stop told → IsCalm kept told
 unfolding opens
 stop_goes kept told h = idle_goes event.Stop kept told refl (λ _. refl) h
+
+-- what was added for an event was added for an answer that tells it
+pub ok_as_heard : {X E : Type 0} (plan : Option Plan) (kept : List (Kept Requester)) (e shown : Told) (Q : List Item → Type 0) (a b : Option (List Item)) (result : Result X E) → shown ≡ e →
+    OnOk result (Adds plan (IsHeard kept e) Q a b) → OnOk result (Adds plan (IsHeard kept shown) Q a b)
+ok_as_heard plan kept e shown Q a b result is adds = subst (λ x. OnOk result (Adds plan (IsHeard kept x) Q a b)) (sym is) adds
+
+-- the same where it is an error
+pub err_as_heard : {X E : Type 0} (plan : Option Plan) (kept : List (Kept Requester)) (e shown : Told) (Q : List Item → Type 0) (a b : Option (List Item)) (result : Result X E) → shown ≡ e →
+    OnErr result (Adds plan (IsHeard kept e) Q a b) → OnErr result (Adds plan (IsHeard kept shown) Q a b)
+err_as_heard plan kept e shown Q a b result is adds = subst (λ x. OnErr result (Adds plan (IsHeard kept x) Q a b)) (sym is) adds
+
+-- nothing is added for an event that leaves nothing to do
+pub adds_no_item : (plan : Option Plan) (kept : List (Kept Requester)) (e shown : Told) (journal : Option (List Item)) → shown ≡ e →
+    ((told : List Item) → IsHeard kept e told → IsCalm kept told) → Adds plan (IsHeard kept shown) (IsCalm kept) journal journal
+adds_no_item plan kept e shown journal is leads = subst (λ x. Adds plan (IsHeard kept x) (IsCalm kept) journal journal) (sym is) (adds_nothing plan (IsHeard kept e) (IsCalm kept) journal journal refl leads)

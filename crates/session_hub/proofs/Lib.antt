@@ -9,4 +9,6 @@ pub mod ServingLemmas
 pub mod HeardLemmas
 pub mod LoopLemmas
 pub mod PlayLemmas
+pub mod RefusalLemmas
+pub mod TurnLemmas
 pub mod Examples

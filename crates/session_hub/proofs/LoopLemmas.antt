@@ -11,7 +11,6 @@ use Rattle.wire_io.specs.declared.journal.Item.TheVariants as item
 use Rattle.wire_io.specs.Journal.{heard, was_stopped, stops, was_opened}
 use Rattle.wire_io.specs.Telling.{event_of, NextTells, MayCome}
 use Rattle.plain_values.specs.Counts.{NeverFalls}
-use Rattle.plain_values.proofs.Theorems.{Rose-after-never_falls}
 use Rattle.wire_io.specs.Answers.{LinkCause, IsPlanned}
 use Rattle.wire_io.specs.Playing.{NextPlays}
 use Rattle.wire_io.specs.Plan.{Plan}
@@ -201,16 +200,15 @@ stops_is buf answer.Idle h = cc
 stops_is buf answer.Stop h = refl
 
 -- what a plan with no failing calls says of a fault
-pub may_fail : (plan now : Option Plan) → failing_of now ≡ failing_of plan → IsPlanned (λ told. told.failing) now → MayFail plan
+may_fail : (plan : Option Plan) → IsPlanned (λ told. told.failing) plan → MayFail plan
 unfolding IsPlanned
-may_fail None now same planned = tt
-may_fail (Some plan) None same planned = cc
-may_fail (Some plan) (Some now) same planned = λ none. planned (let is : now.failing ≡ plan.failing = cc in is ∙ none)
+may_fail None planned = tt
+may_fail (Some plan) planned = planned
 
-pub ends_failed : (plan now : Option Plan) (first before after : ℕ) → failing_of now ≡ failing_of plan → NeverFalls first before → LinkCause {T = Answer} now before after (Err fault.Failed) →
-    EndsFor plan first after ended.LinkFault
+-- the cause of each end
+pub ends_failed : (plan : Option Plan) (before after : ℕ) → LinkCause {T = Answer} plan before after (Err fault.Failed) → EndsFor plan before after ended.LinkFault
 unfolding EndsFor LinkCause
-ends_failed plan now first before after same kept cause = (Rose-after-never_falls kept cause.0, may_fail plan now same cause.1)
+ends_failed plan before after cause = (cause.0, may_fail plan cause.1)
 
 pub ends_stopped : (plan : Option Plan) (before after : ℕ) → NeverFalls before after → EndsFor plan before after ended.Stopped
 unfolding EndsFor

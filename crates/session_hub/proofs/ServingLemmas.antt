@@ -1,8 +1,9 @@
 -- The calls of a link within a block.
-use Rattle.std.proofs.Common.{◌≡◌, ◌≤◌, ◌==◌, ℕ, Bool, true, false, ◌||◌, List, [], ◌∷◌, ◌++◌, length, take, drop, Option, Result, Ok, Err, OnOk, OnErr, refl, ap, sym, ◌∙◌, subst, arith, true≢false, length-drop, drop_of_length-le, ◌<◌}
+use Rattle.std.proofs.Common.{◌≡◌, ◌≤◌, ◌==◌, ℕ, Bool, true, false, ◌||◌, List, [], ◌∷◌, ◌++◌, length, take, drop, Option, Result, Ok, Err, OnOk, OnErr, refl, ap, sym, ◌∙◌, subst, arith, true≢false, length-drop, drop_of_length-le, ◌<◌, ◌⊎◌, inl, inr}
 use Rattle.std.proofs.lemmas.Bool.Decides.{nat_tests}
 use Rattle.wire_io.specs.declared.journal.Item.{Item}
 use Rattle.wire_io.specs.declared.journal.Item.TheVariants as item
+use Rattle.wire_io.specs.declared.answers.Took.{Took}
 use Rattle.wire_io.specs.declared.answers.Took.TheVariants as took
 use Rattle.wire_io.specs.Journal.{heard, was_stopped, stops}
 use Rattle.wire_io.specs.Plan.{Plan}
@@ -18,7 +19,7 @@ use Rattle.session_hub.specs.declared.requester.Requester.{Requester}
 use Rattle.session_hub.specs.Answering.{rules}
 use Rattle.session_hub.specs.Hubs.{held}
 use Rattle.session_hub.specs.Adding.{Adds, IsBlock, no_holds, Never, IsCalm, IsBusy, IsSent}
-use Rattle.session_hub.proofs.AddingLemmas.{adds_nothing, adds_one, adds_then}
+use Rattle.session_hub.proofs.AddingLemmas.{adds_nothing, adds_one, adds_after}
 
 block_taken : (plan : Option Plan) (c : ℕ) (octets : List ℕ) → IsBlock plan (item.Taken c octets ∷ [])
 unfolding heard was_stopped stops no_holds all_taken
@@ -38,6 +39,15 @@ queue_falls c n old new is some fits =
     let now : length (queue_of c new) ≡ length (drop n (queue_of c old)) = ap length (ap (queue_of c) is ∙ queue_of-taken_off c n old) in
     omega (arith, length-drop n (queue_of c old))
 
+-- nothing is queued of a connection that is forgotten
+pub queue_of-forgotten : (c : ℕ) (ks : List (Kept Requester)) → queue_of c (forgotten c ks) ≡ []
+queue_of-forgotten c [] = refl
+queue_of-forgotten c (k ∷ ks) = grind (arith, nat_tests, queue_of-forgotten c ks)
+
+-- a queue that is emptied gets shorter
+pub falls_to_none : (old new : List ℕ) → 0 < length old → new ≡ [] → length new < length old
+falls_to_none old new some none = let empty : length new ≡ 0 = ap length none in omega arith
+
 -- octets of the queue were taken
 pub took_goes : (plan : Option Plan) (c n : ℕ) (turned : Bool) (kept : List (Kept Requester)) (octets : List ℕ) (before after : Option (List Item)) →
     TookTells before c octets (took.Took n) after → octets ≡ queue_of c kept → n ≤ length octets →
@@ -52,7 +62,7 @@ took_goes plan c n turned kept octets before after tells is fits =
 refused : (told : List Item) (i : Item) → is_no_refusal i ≡ false → all_taken (told ++ i ∷ []) ≡ true → ⊥
 refused told i refuses all = true≢false (sym all ∙ all_taken-append told i ∙ grind (arith))
 
-pub later_goes : (plan : Option Plan) (c lost now : ℕ) (octets : List ℕ) (P : List Item → Type 0) (before after : Option (List Item)) →
+later_goes : (plan : Option Plan) (c lost now : ℕ) (octets : List ℕ) (P : List Item → Type 0) (before after : Option (List Item)) →
     TookTells before c octets took.Later after → WriteCause plan lost now took.Later → Adds plan P Never before after
 unfolding TookTells heard was_stopped stops no_holds
 later_goes plan c lost now octets P before after tells cause =
@@ -60,13 +70,21 @@ later_goes plan c lost now octets P before after tells cause =
     (record { events = refl; stops = refl; holds = refl; taken = λ told is later _. absurd (WriteCause-never_later told lost now later (subst (λ p. WriteCause p lost now took.Later) is cause)) })
     (λ told all _. refused told (item.Later c) refl all)
 
-pub gone_goes : (plan : Option Plan) (c lost now : ℕ) (octets : List ℕ) (P : List Item → Type 0) (before after : Option (List Item)) →
+gone_goes : (plan : Option Plan) (c lost now : ℕ) (octets : List ℕ) (P : List Item → Type 0) (before after : Option (List Item)) →
     TookTells before c octets took.Gone after → WriteCause plan lost now took.Gone → Adds plan P Never before after
 unfolding TookTells heard was_stopped stops no_holds
 gone_goes plan c lost now octets P before after tells cause =
     adds_one plan P Never before after (item.Gone c) tells
     (record { events = refl; stops = refl; holds = refl; taken = λ told is _ gone. absurd (WriteCause-never_gone told lost now gone (subst (λ p. WriteCause p lost now took.Gone) is cause)) })
     (λ told all _. refused told (item.Gone c) refl all)
+
+-- a write that took nothing
+pub refused_goes : (plan : Option Plan) (c lost now : ℕ) (octets : List ℕ) (answer : Took) (P : List Item → Type 0) (before after : Option (List Item)) →
+    (answer ≡ took.Later) ⊎ (answer ≡ took.Gone) → TookTells before c octets answer after → WriteCause plan lost now answer → Adds plan P Never before after
+refused_goes plan c lost now octets answer P before after (inl is) tells cause =
+    later_goes plan c lost now octets P before after (subst (λ t. TookTells before c octets t after) is tells) (subst (WriteCause plan lost now) is cause)
+refused_goes plan c lost now octets answer P before after (inr is) tells cause =
+    gone_goes plan c lost now octets P before after (subst (λ t. TookTells before c octets t after) is tells) (subst (WriteCause plan lost now) is cause)
 
 -- no memory, and nothing was done
 pub write_fails : (plan : Option Plan) (c : ℕ) (octets : List ℕ) (P Q : List Item → Type 0) (before after : Option (List Item)) →
@@ -98,12 +116,15 @@ IsCalm-sound kept told calm = calm.tracks.sound
 pub sent_goes : (c : ℕ) (turned : Bool) (kept : List (Kept Requester)) (queue : List ℕ) (told : List Item) → queue ≡ queue_of c kept → queue ≡ [] → IsBusy c turned kept told → IsSent c turned kept told
 sent_goes c turned kept queue told is empty busy = (busy, sym is ∙ empty)
 
--- one call and then another, whose answer is the answer
-pub on_ok_then : {X E : Type 0} (plan : Option Plan) (P Q R : List Item → Type 0) (a b c : Option (List Item)) (result : Result X E) → Adds plan P Q a b → OnOk result (Adds plan Q R b c) → OnOk result (Adds plan P R a c)
-on_ok_then plan P Q R a b c result first second = on_ok_weaker result (adds_then plan P Q R a b c first) second
+-- one call that left the plan and then another, whose answer is the answer
+pub on_ok_after : {X E : Type 0} (plan now : Option Plan) (P Q R : List Item → Type 0) (a b c : Option (List Item)) (result : Result X E) → now ≡ plan → Adds plan P Q a b →
+    OnOk result (Adds now Q R b c) → OnOk result (Adds plan P R a c)
+on_ok_after plan now P Q R a b c result same first second = on_ok_weaker result (adds_after plan now P Q R a b c same first) second
 
-pub on_err_then : {X E : Type 0} (plan : Option Plan) (P Q R : List Item → Type 0) (a b c : Option (List Item)) (result : Result X E) → Adds plan P Q a b → OnErr result (Adds plan Q R b c) → OnErr result (Adds plan P R a c)
-on_err_then plan P Q R a b c result first second = on_err_weaker result (adds_then plan P Q R a b c first) second
+-- the same where it is an error
+pub on_err_after : {X E : Type 0} (plan now : Option Plan) (P Q R : List Item → Type 0) (a b c : Option (List Item)) (result : Result X E) → now ≡ plan → Adds plan P Q a b →
+    OnErr result (Adds now Q R b c) → OnErr result (Adds plan P R a c)
+on_err_after plan now P Q R a b c result same first second = on_err_weaker result (adds_after plan now P Q R a b c same first) second
 
 -- a list that is found empty
 pub emptied : (xs : List ℕ) → true ≡ (length xs == 0) → xs ≡ []
@@ -119,6 +140,11 @@ pub hung_up_goes : (c : ℕ) (turned : Bool) (kept now : List (Kept Requester)) 
     IsCalm now (told ++ item.HungUp c ∷ [])
 hung_up_goes c turned kept now told is leaving sent =
     subst (λ ks. IsCalm ks (told ++ item.HungUp c ∷ [])) (sym is) (busy_hung_up rules tt c turned (held kept) told sent.0 sent.1 leaving)
+
+-- what holds holds on a success
+pub on_ok_any : {X E P : Type 0} (r : Result X E) → P → OnOk r P
+on_ok_any (Ok x) holds = holds
+on_ok_any (Err e) holds = tt
 
 -- what holds holds on an error
 pub on_err_any : {X E P : Type 0} (r : Result X E) → P → OnErr r P

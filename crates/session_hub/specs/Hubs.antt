@@ -1,8 +1,8 @@
 -- What a hub holds, and what each step leaves of it.
-use Rattle.std.specs.Prelude.{◌≡◌, ◌<◌, ◌≤◌, ℕ, cond, List, [], ◌++◌, length, take, drop, Some, slice_get, slice_set}
+use Rattle.std.specs.Prelude.{◌≡◌, ◌<◌, ◌≤◌, ℕ, true, false, cond, List, [], ◌++◌, length, take, drop, Some, slice_get, slice_set}
 use Rattle.std.specs.List.{AllByRecursion}
-use Rattle.session_model.specs.Run.{Session, Sessions, Step, is_held}
-use Rattle.session_model.specs.Kept.{Kept, Held, heard, kept_of, changed}
+use Rattle.session_model.specs.Run.{Session, Sessions, Step, Opened, Bytes, Ended, Gone, HungUp, is_held, most_held}
+use Rattle.session_model.specs.Kept.{Kept, Held, heard, kept_of, is_kept, closing_of, changed, forgotten}
 use Rattle.session_model.specs.Keeping.{Keeps}
 use Rattle.session_hub.specs.declared.requester.Requester.{Requester}
 use Rattle.session_hub.specs.Answering.{Tree, rules}
@@ -15,6 +15,18 @@ held kept = record { tree = tt; kept = kept }
 -- the connections held after a step
 unfoldable pub held_after : Step → List (Kept Requester) → List (Kept Requester)
 held_after s kept = (heard rules s (held kept)).kept
+
+-- a step that takes memory: the opening of a connection that is then held, and octets of one that is open
+abbrev pub TakesMemory : Step → List (Kept Requester) → Type 0
+TakesMemory (Opened c) kept = (is_kept (kept_of c kept) ≡ false) × (length kept < most_held)
+TakesMemory (Bytes c piece) kept = (is_kept (kept_of c kept) ≡ true) × (closing_of c kept ≡ false)
+TakesMemory (Ended c) kept = ⊥
+TakesMemory (Gone c) kept = ⊥
+TakesMemory (HungUp c) kept = ⊥
+
+-- but for one number the connections held are the same
+abbrev pub OthersStay : ℕ → List (Kept Requester) → List (Kept Requester) → Type 0
+OthersStay c old new = forgotten c new ≡ forgotten c old
 
 -- each connection held has at most so many unread octets
 abbrev pub IsBounded : List (Kept Requester) → Type 0

@@ -9,3 +9,4 @@ pub mod Loops
 -- what only the crate's inside promises itself
 pub mod Telling
 pub mod Adding
+pub mod Turns

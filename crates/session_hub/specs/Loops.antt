@@ -1,8 +1,9 @@
 -- What a loop over a link adds to the link's journal, and what it answers when it ends.
-use Rattle.std.specs.Prelude.{◌≡◌, ◌<◌, ◌≤◌, ℕ, true, false, List, [], ◌++◌, length, Option, Some, None}
+use Rattle.std.specs.Prelude.{◌≡◌, ◌<◌, ◌≤◌, ℕ, Bool, true, false, ◌&&◌, List, [], ◌∷◌, ◌++◌, length, Option, Some, None}
 use Rattle.plain_values.specs.Counts.{Rose, NeverFalls}
 use Rattle.wire_io.specs.declared.journal.Item.{Item}
-use Rattle.wire_io.specs.Journal.{heard, was_stopped, is_held}
+use Rattle.wire_io.specs.declared.journal.Item.TheVariants as item
+use Rattle.wire_io.specs.Journal.{heard, was_stopped, is_held, hangs_up}
 use Rattle.wire_io.specs.Plan.{Plan}
 use Rattle.wire_io.specs.Pieces.{Plays, steps_of}
 use Rattle.session_model.specs.Journaled.{all_taken}
@@ -51,6 +52,30 @@ unfoldable pub PlaysOut : ℕ → Option (List Item) → Option Plan → Ended �
 PlaysOut turns before plan_before ended after plan_after =
     (start told : List Item) (plan : Plan) → before ≡ Some start → after ≡ Some (start ++ told) → plan_before ≡ Some plan →
     (left : Plan) × (plan_after ≡ Some left) × PlayedOut turns start told plan left ended
+
+-- the first item hangs up the connection
+unfoldable pub hangs_up_first : ℕ → List Item → Bool
+hangs_up_first c [] = false
+hangs_up_first c (i ∷ journal) = hangs_up c i
+
+-- each connection whose write took nothing is hung up next
+unfoldable pub hangs_up_refused : List Item → Bool
+hangs_up_refused [] = true
+hangs_up_refused (item.Later c ∷ journal) = hangs_up_first c journal && hangs_up_refused journal
+hangs_up_refused (item.Gone c ∷ journal) = hangs_up_first c journal && hangs_up_refused journal
+hangs_up_refused (_ ∷ journal) = hangs_up_refused journal
+
+-- the same of what a link adds to a journal that it tells
+unfoldable pub HangsUpRefused : Option (List Item) → Option (List Item) → Type 0
+HangsUpRefused before after =
+    (start : List Item) → before ≡ Some start → (told : List Item) × (after ≡ Some (start ++ told)) × (hangs_up_refused told ≡ true)
+
+-- the same of a loop; with want of memory a connection may be left that wasn't hung up
+abbrev pub LeavesNoRefused : Option (List Item) → Ended → Option (List Item) → Type 0
+LeavesNoRefused before Stopped after = HangsUpRefused before after
+LeavesNoRefused before TurnsSpent after = HangsUpRefused before after
+LeavesNoRefused before LinkFault after = HangsUpRefused before after
+LeavesNoRefused before NoMemory after = Unit {0}
 
 -- a link that plays a plan fails only where a failing call is planned
 abbrev pub MayFail : Option Plan → Type 0

@@ -92,6 +92,7 @@ impl Connection {
     /// kept unless the connection closes now. After `AllocError` the unread octets are lost.
     pub fn hear(&mut self, alloc: Global, piece: &[u8]) -> Result<(), AllocError>
         ensures ok { OnOk result (self.new ≡ heard_piece rules piece.now self.old (said_to self.old.who (self.old.rest ++ piece.now))) }
+        ensures number { self.new.number ≡ self.old.number }
         ensures bounded { length self.old.rest ≤ most_unread → length self.new.rest ≤ most_unread }
     {
         self.rest.extend_from_slice(piece)?;

@@ -1,9 +1,10 @@
 //! The hub of all sessions.
 
-ghost use Rattle.std.specs.Prelude.{◌≡◌, ◌≤◌, ◌+◌, ℕ, [], length, IfOk, OnOk};
+ghost use Rattle.std.specs.Prelude.{◌≡◌, ◌≤◌, ◌+◌, ℕ, [], length, IfOk, OnOk, OnErr};
 ghost use Rattle.session_model.specs.Run as run;
 ghost use Rattle.session_model.specs.Kept.{queue_of, closing_of, taken_off, forgotten};
-ghost use Rattle.session_hub.specs.Hubs.{held_after, IsBounded};
+ghost use Rattle.session_hub.specs.Hubs.{held_after, IsBounded, TakesMemory, OthersStay};
+ghost use Rattle.session_model.specs.Replaying.{number_of};
 ghost use Rattle.session_hub.specs.Following.{FollowsStep, FollowsTaking, QueuesReply, ClosesWith, CountsHeld};
 ghost use Rattle.session_hub.specs.Events.{step_of};
 
@@ -86,10 +87,13 @@ impl Hub {
     /// Hears an event (RFC 4511 5.1): a connection that opens is held where there is room, the
     /// whole messages of octets are answered, and the end of a peer's octets closes. An event of a
     /// connection that isn't held, and the opening of one that is, change nothing.
-    /// `AllocError` comes for want of memory alone; nothing is then said of what is held.
+    /// `AllocError` comes where a connection is to be held or octets are to be answered, and there is
+    /// no memory; the other connections are then as they were.
     pub fn hear(&mut self, event: Event<'_>) -> Result<(), AllocError>
         ensures exact { OnOk result (self.new ≡ held_after (step_of event.entry) self.old) }
         ensures run { OnOk result (FollowsStep (step_of event.entry) self.old self.new) }
+        ensures cause { OnErr result (TakesMemory (step_of event.entry) self.old) }
+        ensures kept { OnErr result (OthersStay (number_of (step_of event.entry)) self.old self.new) }
         ensures bounded { IsBounded self.new }
     {
         let heard = self.hear_event(event);
@@ -115,6 +119,8 @@ impl Hub {
 
     fn hear_event(&mut self, event: Event<'_>) -> Result<(), AllocError>
         ensures ok { OnOk result (self.new ≡ held_after (step_of event.entry) self.old) }
+        ensures cause { OnErr result (TakesMemory (step_of event.entry) self.old) }
+        ensures kept { OnErr result (OthersStay (number_of (step_of event.entry)) self.old self.new) }
     {
         match event {
             Event::Opened(conn) => self.open(conn),
@@ -128,6 +134,8 @@ impl Hub {
 
     fn open(&mut self, conn: u32) -> Result<(), AllocError>
         ensures ok { OnOk result (self.new ≡ held_after (run.Opened conn) self.old) }
+        ensures cause { OnErr result (TakesMemory (run.Opened conn) self.old) }
+        ensures kept { OnErr result (OthersStay conn self.old self.new) }
     {
         if is_at(&self.connections, conn) {
             return Ok(());
@@ -148,6 +156,8 @@ impl Hub {
 
     fn hear_piece(&mut self, conn: u32, piece: &[u8]) -> Result<(), AllocError>
         ensures ok { OnOk result (self.new ≡ held_after (run.Bytes conn piece.now) self.old) }
+        ensures cause { OnErr result (TakesMemory (run.Bytes conn piece.now) self.old) }
+        ensures kept { OnErr result (OthersStay conn self.old self.new) }
     {
         hear_at(self.alloc, &mut self.connections, conn, piece)
     }

@@ -1,24 +1,30 @@
 //! One event of a link, served.
 
-ghost use Rattle.std.specs.Prelude.{◌≡◌, ◌≤◌, Bool, false, length, OnOk, OnErr};
+ghost use Rattle.std.specs.Prelude.{◌≡◌, ◌<◌, Bool, false, [], length, OnOk, OnErr};
 ghost use Rattle.plain_values.specs.Counts.{NeverFalls};
+ghost use Rattle.session_model.specs.Kept.{queue_of};
 ghost use Rattle.session_model.specs.Serving.{Sound};
+ghost use Rattle.wire_io.specs.Telling.{NoteTells};
 ghost use Rattle.wire_io.specs.declared.journal.Event.TheVariants as event;
+ghost use Rattle.wire_io.specs.declared.journal.Item.TheVariants as item;
 ghost use Rattle.session_hub.specs.Answering.{rules};
 ghost use Rattle.session_hub.specs.Telling.{told_of, IsOf};
 ghost use Rattle.session_hub.specs.Adding.{Adds, Never, IsCalm, IsBusy, IsSent, IsHeard};
+ghost use Rattle.session_hub.specs.Loops.{HangsUpRefused};
 
 use crate::{Event, Hub, MAX_CONNECTIONS};
 use std::alloc::AllocError;
 use wire_io::{Heard, Link, Took};
 
-/// Forgets a connection that takes no more, and hangs it up. After this each of its writes was
-/// refused, and nothing is said of the journal but what was added.
+/// Forgets a connection that takes no more, and hangs it up. Nothing else is said of the journal: a
+/// write was refused before.
 fn drop_lost<L: Link>(hub: &mut Hub, link: &mut L, conn: u32) -> Result<(), AllocError>
     ensures ok { (turned : Bool) → OnOk result (Adds (L.plan link.old)
-        Never (IsSent conn turned hub.new) (L.journal link.old) (L.journal link.new)) }
+        Never (IsBusy conn turned hub.new) (L.journal link.old) (L.journal link.new)) }
     ensures err { OnErr result (Adds (L.plan link.old)
         Never (Sound rules tt) (L.journal link.old) (L.journal link.new)) }
+    ensures hung_up { NoteTells (L.journal link.old) (item.HungUp conn) result (L.journal link.new) }
+    ensures emptied { queue_of conn hub.new ≡ [] }
     ensures plan { L.plan link.new ≡ L.plan link.old }
     ensures faults { L.faults link.new ≡ L.faults link.old }
     ensures lost { NeverFalls (L.lost link.old) (L.lost link.new) }
@@ -27,24 +33,43 @@ fn drop_lost<L: Link>(hub: &mut Hub, link: &mut L, conn: u32) -> Result<(), Allo
     link.hang_up(conn)
 }
 
-/// Sends the connection's queue. A connection that takes no more now, or was found lost, is
-/// forgotten and hung up.
+/// Sends octets of the connection's queue. A connection that takes no more now, or was found lost,
+/// is forgotten and hung up, and nothing of it is queued any more.
+fn send_some<L: Link>(hub: &mut Hub, link: &mut L, conn: u32) -> Result<(), AllocError>
+    requires { 0 < length (queue_of conn hub.old) }
+    ensures ok { (turned : Bool) → OnOk result (Adds (L.plan link.old)
+        (IsBusy conn turned hub.old) (IsBusy conn turned hub.new) (L.journal link.old) (L.journal link.new)) }
+    ensures err { (turned : Bool) → OnErr result (Adds (L.plan link.old)
+        (IsBusy conn turned hub.old) (Sound rules tt) (L.journal link.old) (L.journal link.new)) }
+    ensures falls { OnOk result (length (queue_of conn hub.new) < length (queue_of conn hub.old)) }
+    ensures refused { OnOk result (HangsUpRefused (L.journal link.old) (L.journal link.new)) }
+    ensures plan { L.plan link.new ≡ L.plan link.old }
+    ensures faults { L.faults link.new ≡ L.faults link.old }
+    ensures lost { NeverFalls (L.lost link.old) (L.lost link.new) }
+{
+    match link.write(conn, hub.queue(conn)) {
+        Took::Took(count) => {
+            hub.took(conn, count);
+            Ok(())
+        }
+        Took::NoMemory => Err(AllocError),
+        Took::Later | Took::Gone => drop_lost(hub, link, conn),
+    }
+}
+
+/// Sends the connection's queue, or hangs the connection up where it takes no more.
 pub fn send_queue<L: Link>(hub: &mut Hub, link: &mut L, conn: u32) -> Result<(), AllocError>
     ensures ok { (turned : Bool) → OnOk result (Adds (L.plan link.old)
         (IsBusy conn turned hub.old) (IsSent conn turned hub.new) (L.journal link.old) (L.journal link.new)) }
     ensures err { (turned : Bool) → OnErr result (Adds (L.plan link.old)
         (IsBusy conn turned hub.old) (Sound rules tt) (L.journal link.old) (L.journal link.new)) }
+    ensures refused { OnOk result (HangsUpRefused (L.journal link.old) (L.journal link.new)) }
     ensures plan { L.plan link.new ≡ L.plan link.old }
     ensures faults { L.faults link.new ≡ L.faults link.old }
     ensures lost { NeverFalls (L.lost link.old) (L.lost link.new) }
 {
     'sending: while !hub.queue(conn).is_empty() {
-        match link.write(conn, hub.queue(conn)) {
-            Took::Took(count) => hub.took(conn, count),
-            Took::NoMemory => return Err(AllocError),
-            Took::Later => return drop_lost(hub, link, conn),
-            Took::Gone => return drop_lost(hub, link, conn),
-        }
+        send_some(hub, link, conn)?;
     }
     Ok(())
 }
@@ -55,6 +80,7 @@ pub fn finish<L: Link>(hub: &mut Hub, link: &mut L, conn: u32) -> Result<(), All
         (IsBusy conn false hub.old) (IsCalm hub.new) (L.journal link.old) (L.journal link.new)) }
     ensures err { OnErr result (Adds (L.plan link.old)
         (IsBusy conn false hub.old) (Sound rules tt) (L.journal link.old) (L.journal link.new)) }
+    ensures refused { OnOk result (HangsUpRefused (L.journal link.old) (L.journal link.new)) }
     ensures plan { L.plan link.new ≡ L.plan link.old }
     ensures faults { L.faults link.new ≡ L.faults link.old }
     ensures lost { NeverFalls (L.lost link.old) (L.lost link.new) }
@@ -74,6 +100,7 @@ pub fn greet<L: Link>(hub: &mut Hub, link: &mut L, conn: u32) -> Result<(), Allo
         (IsHeard hub.old (event.Opened conn)) (IsCalm hub.new) (L.journal link.old) (L.journal link.new)) }
     ensures err { OnErr result (Adds (L.plan link.old)
         (IsHeard hub.old (event.Opened conn)) (Sound rules tt) (L.journal link.old) (L.journal link.new)) }
+    ensures refused { OnOk result (HangsUpRefused (L.journal link.old) (L.journal link.new)) }
     ensures plan { L.plan link.new ≡ L.plan link.old }
     ensures faults { L.faults link.new ≡ L.faults link.old }
     ensures lost { NeverFalls (L.lost link.old) (L.lost link.new) }
@@ -100,6 +127,7 @@ pub fn hear_and_finish<L: Link>(
         (IsHeard hub.old (told_of heard.entry)) (IsCalm hub.new) (L.journal link.old) (L.journal link.new)) }
     ensures err { OnErr result (Adds (L.plan link.old)
         (IsHeard hub.old (told_of heard.entry)) (Sound rules tt) (L.journal link.old) (L.journal link.new)) }
+    ensures refused { OnOk result (HangsUpRefused (L.journal link.old) (L.journal link.new)) }
     ensures plan { L.plan link.new ≡ L.plan link.old }
     ensures faults { L.faults link.new ≡ L.faults link.old }
     ensures lost { NeverFalls (L.lost link.old) (L.lost link.new) }

@@ -1,11 +1,13 @@
 use Rattle.std.proofs.Common.{◌++◌, sym, ap, ◌∙◌, slice_set}
 use Rattle.std.proofs.lemmas.List.{set-get_or}
 use Rattle.std.proofs.lemmas.Result.{on_ok_weaker}
-use Rattle.session_model.specs.Kept.{Kept, heard_piece}
+use Rattle.session_model.specs.Kept.{Kept, is_kept, heard_piece}
 use Rattle.session_hub.specs.declared.requester.Requester.{Requester}
 use Rattle.session_hub.specs.Answering.{rules}
 use Rattle.session_hub.specs.Answers.{said_to}
 use Rattle.session_hub.proofs.HearLemmas.{hears_nowhere, hears_closing, hears_open}
+use Rattle.session_hub.proofs.PlaceLemmas.{closing_at, kept_at_is, forgotten-set}
+use Rattle.session_hub.proofs.ServingLemmas.{on_err_any}
 use Rattle.session_hub.proofs.places.hear_at.Goals as goal
 
 -- the connection isn't held
@@ -28,3 +30,18 @@ returns-else-is_closing-clause-ok c =
     ∙ hears_open c.args.number c.in-Some.at c.args.piece.now c.args.connections.now c.index-connections-at.result c.in-Some.ensures c.index-connections-at.is
     (ap (λ (k : Kept Requester). k.closing) c.index-connections-at.is ∙ sym c.is_closing.ensures ∙ c.if-is_closing.false))
     c.hear.ensures.ok
+
+-- and there is no memory
+pub returns-else-is_closing-clause-cause : goal.returns-else-is_closing-clause-cause
+returns-else-is_closing-clause-cause c =
+    on_err_any c.hear.result (
+      ap is_kept (kept_at_is c.args.number c.in-Some.at c.args.connections.now c.index-connections-at.result c.in-Some.ensures c.index-connections-at.is),
+      closing_at c.args.number c.in-Some.at c.args.connections.now c.index-connections-at.result c.in-Some.ensures c.index-connections-at.is
+          ∙ (ap (λ (k : Kept Requester). k.closing) c.index-connections-at.is ∙ sym c.is_closing.ensures ∙ c.if-is_closing.false),
+    )
+
+pub returns-else-is_closing-clause-kept : goal.returns-else-is_closing-clause-kept
+returns-else-is_closing-clause-kept c =
+    on_err_any c.hear.result
+    (forgotten-set c.args.number c.in-Some.at c.args.connections.now c.index-connections-at.result c.hear.new.self c.in-Some.ensures c.index-connections-at.is
+    (c.hear.ensures.number ∙ ap (λ (k : Kept Requester). k.number) (sym c.index-connections-at.is)))

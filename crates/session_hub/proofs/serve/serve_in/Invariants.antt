@@ -1,6 +1,5 @@
-use Rattle.std.proofs.Common.{◌≡◌}
 use Rattle.plain_values.specs.Counts.{NeverFalls}
-use Rattle.session_hub.specs.Adding.{Running, Playing, failing_of}
+use Rattle.session_hub.specs.Turns.{IsUnderWay}
 use Rattle.session_hub.proofs.serve.serve_in.Given as goal
 
 -- the loop has heard as many events as it took turns
@@ -9,9 +8,7 @@ invariant-loop-turn g l =
     let journal = g.L.Link.journal in
     let plan = g.L.Link.plan in
     record {
-      running : Running l._turn (journal l.fn.link) (journal l.link) l.hub;
-      playing : Playing (journal l.fn.link) (plan l.fn.link) (journal l.link) (plan l.link);
-      failing : failing_of (plan l.link) ≡ failing_of (plan l.fn.link);
+      under_way : IsUnderWay l._turn (journal l.fn.link) (journal l.link) (plan l.fn.link) (plan l.link) l.hub;
       faults : NeverFalls (g.L.Link.faults l.fn.link) (g.L.Link.faults l.link);
       lost : NeverFalls (g.L.Link.lost l.fn.link) (g.L.Link.lost l.link);
     }

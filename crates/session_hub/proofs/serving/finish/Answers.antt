@@ -3,6 +3,7 @@ use Rattle.session_model.specs.Kept.{closing_of}
 use Rattle.session_hub.specs.Adding.{IsSent}
 use Rattle.session_hub.proofs.AddingLemmas.{adds_then, adds_as}
 use Rattle.session_hub.proofs.ServingLemmas.{calm_goes, hung_up_goes, hangs_up_one, hangs_up_none, on_err_any, IsBusy-sound}
+use Rattle.session_hub.proofs.RefusalLemmas.{refused_then, refused_hung_up}
 use Rattle.session_hub.proofs.serving.finish.Goals as goal
 
 -- the connection goes on
@@ -26,3 +27,6 @@ returns-clause-ok g c =
     adds_then _ _ (IsSent c.args.conn false c.send_queue.new.hub) _ _ _ _ (c.in_ok-send_queue.ensures.ok false)
     (hangs_up_one _ _ c.args.conn _ _ _ _ c.in_ok-hang_up.field-0 c.in_ok-hang_up.ensures.tells
     (λ told sent. hung_up_goes c.args.conn false c.send_queue.new.hub c.drop_conn.new.self told c.drop_conn.ensures.exact leaving sent))
+
+pub returns-clause-refused : goal.returns-clause-refused
+returns-clause-refused g c = refused_then _ _ _ c.in_ok-send_queue.ensures.refused (refused_hung_up _ _ _ c.args.conn c.in_ok-hang_up.field-0 c.in_ok-hang_up.ensures.tells)

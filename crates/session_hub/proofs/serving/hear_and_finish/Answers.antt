@@ -1,6 +1,6 @@
 use Rattle.std.proofs.Common.{refl}
 use Rattle.session_hub.proofs.AddingLemmas.{adds_nothing}
-use Rattle.session_hub.proofs.ServingLemmas.{on_ok_then, on_err_then, on_err_any}
+use Rattle.session_hub.proofs.ServingLemmas.{on_ok_after, on_err_after, on_err_any}
 use Rattle.session_hub.proofs.HeardLemmas.{event_goes, event_sound}
 use Rattle.session_hub.proofs.serving.hear_and_finish.Goals as goal
 
@@ -12,10 +12,10 @@ returns-in_err-hear-clause-err g c =
 -- the block is ended
 pub returns-clause-ok : goal.returns-clause-ok
 returns-clause-ok g c =
-    on_ok_then _ _ _ _ _ _ _ c.finish.result
+    on_ok_after _ _ _ _ _ _ _ _ c.finish.result refl
     (adds_nothing _ _ _ _ _ refl (λ told h. event_goes c.args.conn c.args.heard c.args.hub.now c.hear.new.self told c.requires c.in_ok-hear.ensures.exact h)) c.finish.ensures.ok
 
 pub returns-clause-err : goal.returns-clause-err
 returns-clause-err g c =
-    on_err_then _ _ _ _ _ _ _ c.finish.result
+    on_err_after _ _ _ _ _ _ _ _ c.finish.result refl
     (adds_nothing _ _ _ _ _ refl (λ told h. event_goes c.args.conn c.args.heard c.args.hub.now c.hear.new.self told c.requires c.in_ok-hear.ensures.exact h)) c.finish.ensures.err
