@@ -45,29 +45,32 @@ fn after_a_refusal_a_front_was_put(rt: HostRuntime) -> Result<(), Fail> {
     Ok(())
 }
 
+// A file, and the line and the cause of its refusal.
+static BAD: [(&str, u64, DataCause); 5] = [
+    ("", 1, DataCause::Line(LineCause::Syntax)),
+    ("version: 1\n# c\n", 1, DataCause::Line(LineCause::Syntax)),
+    (
+        "dn: dc=t\nobjectClass; domain\n",
+        2,
+        DataCause::Line(LineCause::Syntax),
+    ),
+    (
+        "dn: dc=t\nobjectClass: domain\nshoe: 9\n",
+        3,
+        DataCause::Record(LoadCause::Kind),
+    ),
+    (
+        "\ndn: dc=t\ndc: t\n",
+        2,
+        DataCause::Record(LoadCause::Rule(65)),
+    ),
+];
+
 #[test]
 fn a_file_is_refused_at_its_first_bad_line(rt: HostRuntime) -> Result<(), Fail> {
-    let rows = [
-        ("", 1, DataCause::Line(LineCause::Syntax)),
-        ("version: 1\n# c\n", 1, DataCause::Line(LineCause::Syntax)),
-        (
-            "dn: dc=t\nobjectClass; domain\n",
-            2,
-            DataCause::Line(LineCause::Syntax),
-        ),
-        (
-            "dn: dc=t\nobjectClass: domain\nshoe: 9\n",
-            3,
-            DataCause::Record(LoadCause::Kind),
-        ),
-        (
-            "\ndn: dc=t\ndc: t\n",
-            2,
-            DataCause::Record(LoadCause::Rule(65)),
-        ),
-    ];
-    for (text, line, cause) in rows {
+    for (text, line, cause) in &BAD {
         let found = load(rt.alloc(), text.as_bytes()).err();
+        let (line, cause) = (*line, *cause);
         assert_eq!(rt; found, Some(DataFault::Bad { line, cause }), "{text:?}");
     }
     Ok(())

@@ -62,107 +62,125 @@ fn shown(alloc: Global, tree: &Tree) -> Result<String, Fail> {
     Ok(out)
 }
 
+// A file, and the entries that are loaded of it.
+static LOADED: [(&str, &str); 4] = [
+    (
+        "dn: dc=Example\nobjectClass: domain\n",
+        "dc=Example objectClass=domain; dc=Example;\n",
+    ),
+    (
+        "dn: dc=Example\ndc: EXAMPLE\nobjectClass: domain\n",
+        "dc=Example dc=EXAMPLE; objectClass=domain;\n",
+    ),
+    (
+        "version: 1\n\ndn: dc=a\nobjectClass: domain\nobjectClass: top\n\ndn: ou=z,dc=A\nobjectClass: organizationalUnit\n\n\
+             dn: ou=y,dc=a\nobjectClass: organizationalUnit\nou: x\n\ndn: ou=w,ou=z,dc=a\nobjectClass: organizationalUnit",
+        "dc=a objectClass=domain;top; dc=a;\nou=y,dc=a objectClass=organizationalUnit; ou=x;y;\n\
+             ou=z,dc=A objectClass=organizationalUnit; ou=z;\nou=w,ou=z,dc=a objectClass=organizationalUnit; ou=w;\n",
+    ),
+    (
+        "dn: dc=a\nobjectClass: domain\n\ndn: cn=A+sn=B,dc=a\nobjectClass: person\nsn: C\n",
+        "dc=a objectClass=domain; dc=a;\ncn=A+sn=B,dc=a objectClass=person; sn=C;B; cn=A;\n",
+    ),
+];
+
+// What loading a file into a tree answers, and the entries then.
+fn left(alloc: Global, tree: &mut Tree, text: &str) -> Result<(String, String), Fail> {
+    let found = answer(alloc, tree, text)?;
+    Ok((found, shown(alloc, tree)?))
+}
+
+// The same of an empty tree.
+fn loaded(alloc: Global, text: &str) -> Result<(String, String), Fail> {
+    let mut tree = Tree::new(alloc);
+    left(alloc, &mut tree, text)
+}
+
 #[test]
 fn entries_stand_in_the_order_of_their_names_with_their_own_values_last(
     rt: HostRuntime,
 ) -> Result<(), Fail> {
-    let rows = [
-        (
-            "dn: dc=Example\nobjectClass: domain\n",
-            "dc=Example objectClass=domain; dc=Example;\n",
-        ),
-        (
-            "dn: dc=Example\ndc: EXAMPLE\nobjectClass: domain\n",
-            "dc=Example dc=EXAMPLE; objectClass=domain;\n",
-        ),
-        (
-            "version: 1\n\ndn: dc=a\nobjectClass: domain\nobjectClass: top\n\ndn: ou=z,dc=A\nobjectClass: organizationalUnit\n\n\
-             dn: ou=y,dc=a\nobjectClass: organizationalUnit\nou: x\n\ndn: ou=w,ou=z,dc=a\nobjectClass: organizationalUnit",
-            "dc=a objectClass=domain;top; dc=a;\nou=y,dc=a objectClass=organizationalUnit; ou=x;y;\n\
-             ou=z,dc=A objectClass=organizationalUnit; ou=z;\nou=w,ou=z,dc=a objectClass=organizationalUnit; ou=w;\n",
-        ),
-        (
-            "dn: dc=a\nobjectClass: domain\n\ndn: cn=A+sn=B,dc=a\nobjectClass: person\nsn: C\n",
-            "dc=a objectClass=domain; dc=a;\ncn=A+sn=B,dc=a objectClass=person; sn=C;B; cn=A;\n",
-        ),
-    ];
-    for (text, want) in rows {
-        let mut tree = Tree::new(rt.alloc());
-        let found = answer(rt.alloc(), &mut tree, text)?;
-        assert_eq!(rt; found.as_str(), "loaded", "{text:?}");
-        let entries = shown(rt.alloc(), &tree)?;
-        assert_eq!(rt; entries.as_str(), want, "{text:?}");
+    for (text, want) in &LOADED {
+        let (found, entries) = loaded(rt.alloc(), text)?;
+        let (found, entries) = (found.as_str(), entries.as_str());
+        assert_eq!(rt; (found, entries), ("loaded", *want), "{text:?}");
     }
     Ok(())
+}
+
+// A file, and its first fault.
+static FAULTS: [(&str, &str); 15] = [
+    ("dn:\nobjectClass: domain\n", "line 1: name"),
+    ("dn:    \nobjectClass: domain\n", "line 1: name"),
+    ("# c\ndn: zz=a\nzz: x\n", "line 2: name"),
+    ("dn: dc=a\nzz: x\nobjectClass: none\n", "line 2: type"),
+    (
+        "dn: dc=a\nobjectClass: domain\nDC: b\n2.5.4.999: x\n",
+        "line 4: type",
+    ),
+    ("dn: dc=a\nobjectClass: none\nzz: x\n", "line 2: value"),
+    (
+        "dn: dc=a\nobjectClass: domain\nseeAlso: a=b\n",
+        "line 3: value",
+    ),
+    (
+        "dn: dc=a\nobjectClass: domain\ndescription: x\nobjectClass: DOMAIN\nzz: x\n",
+        "line 4: twice",
+    ),
+    (
+        "dn: dc=a\nobjectClass: domain\n\ndn: DC= A\nobjectClass: top\n",
+        "line 4: twice",
+    ),
+    (
+        "dn: dc=a\nobjectClass: domain\n\ndn: dc=b\nobjectClass: top\n",
+        "line 4: order",
+    ),
+    (
+        "dn: dc=a\nobjectClass: domain\n\ndn: ou=b,ou=c,dc=a\nobjectClass: top\n",
+        "line 4: order",
+    ),
+    ("dn: dc=a\ndescription: x\n", "line 1: rule 65"),
+    ("dn: dc=a\nobjectClass: top\n", "line 1: rule 65"),
+    (
+        "dn: dc=a\nobjectClass: domain\n\ndn: cn=b,dc=a\nobjectClass: person\n",
+        "line 4: rule 65",
+    ),
+    ("dn: dc=a\nobjectClass: domain\ndc: b\n", "line 1: rule 19"),
+];
+
+// What loading a file into an empty tree answers.
+fn answer_alone(alloc: Global, text: &str) -> Result<String, Fail> {
+    let mut tree = Tree::new(alloc);
+    answer(alloc, &mut tree, text)
 }
 
 #[test]
 fn the_first_fault_is_told_with_its_line(rt: HostRuntime) -> Result<(), Fail> {
-    let rows = [
-        ("dn:\nobjectClass: domain\n", "line 1: name"),
-        ("dn:    \nobjectClass: domain\n", "line 1: name"),
-        ("# c\ndn: zz=a\nzz: x\n", "line 2: name"),
-        ("dn: dc=a\nzz: x\nobjectClass: none\n", "line 2: type"),
-        (
-            "dn: dc=a\nobjectClass: domain\nDC: b\n2.5.4.999: x\n",
-            "line 4: type",
-        ),
-        ("dn: dc=a\nobjectClass: none\nzz: x\n", "line 2: value"),
-        (
-            "dn: dc=a\nobjectClass: domain\nseeAlso: a=b\n",
-            "line 3: value",
-        ),
-        (
-            "dn: dc=a\nobjectClass: domain\ndescription: x\nobjectClass: DOMAIN\nzz: x\n",
-            "line 4: twice",
-        ),
-        (
-            "dn: dc=a\nobjectClass: domain\n\ndn: DC= A\nobjectClass: top\n",
-            "line 4: twice",
-        ),
-        (
-            "dn: dc=a\nobjectClass: domain\n\ndn: dc=b\nobjectClass: top\n",
-            "line 4: order",
-        ),
-        (
-            "dn: dc=a\nobjectClass: domain\n\ndn: ou=b,ou=c,dc=a\nobjectClass: top\n",
-            "line 4: order",
-        ),
-        ("dn: dc=a\ndescription: x\n", "line 1: rule 65"),
-        ("dn: dc=a\nobjectClass: top\n", "line 1: rule 65"),
-        (
-            "dn: dc=a\nobjectClass: domain\n\ndn: cn=b,dc=a\nobjectClass: person\n",
-            "line 4: rule 65",
-        ),
-        ("dn: dc=a\nobjectClass: domain\ndc: b\n", "line 1: rule 19"),
-    ];
-    for (text, want) in rows {
-        let mut tree = Tree::new(rt.alloc());
-        let found = answer(rt.alloc(), &mut tree, text)?;
-        assert_eq!(rt; found.as_str(), want, "{text:?}");
+    for (text, want) in &FAULTS {
+        let found = answer_alone(rt.alloc(), text)?;
+        assert_eq!(rt; found.as_str(), *want, "{text:?}");
     }
     Ok(())
 }
 
+const DOMAIN: &str = "dc=a objectClass=domain; dc=a;\n";
+
+// Records with a fault.
+static LEFT: [&str; 4] = [
+    "dn: dc=a\nobjectClass: domain\n",
+    "dn: ou=c,ou=b,dc=a\nobjectClass: organizationalUnit\n",
+    "dn: ou=b,dc=a\nobjectClass: organizationalUnit\nou: b\nou: B\n",
+    "dn: ou=b,dc=a\nobjectClass: domain\n",
+];
+
 #[test]
 fn a_record_with_a_fault_leaves_the_tree(rt: HostRuntime) -> Result<(), Fail> {
-    let rows = [
-        "dn: dc=a\nobjectClass: domain\n",
-        "dn: ou=c,ou=b,dc=a\nobjectClass: organizationalUnit\n",
-        "dn: ou=b,dc=a\nobjectClass: organizationalUnit\nou: b\nou: B\n",
-        "dn: ou=b,dc=a\nobjectClass: domain\n",
-    ];
     let mut tree = Tree::new(rt.alloc());
     let _loaded = answer(rt.alloc(), &mut tree, "dn: dc=a\nobjectClass: domain\n")?;
-    for text in rows {
-        let found = answer(rt.alloc(), &mut tree, text)?;
+    for text in &LEFT {
+        let (found, entries) = left(rt.alloc(), &mut tree, text)?;
         assert_ne!(rt; found.as_str(), "loaded", "{text:?}");
-        let entries = shown(rt.alloc(), &tree)?;
-        assert_eq!(rt;
-            entries.as_str(),
-            "dc=a objectClass=domain; dc=a;\n",
-            "{text:?}"
-        );
+        assert_eq!(rt; entries.as_str(), DOMAIN, "{text:?}");
     }
     Ok(())
 }
@@ -196,17 +214,24 @@ fn with_password(alloc: Global, count: usize) -> Result<Record, Fail> {
     })
 }
 
+// How many octets a value has, and what loading its record answers.
+static OCTETS: [(usize, &str); 3] = [(0, "loaded"), (65_536, "loaded"), (65_537, "line 9: value")];
+
+// What loading a domain with a password of so many octets answers.
+fn answer_of(alloc: Global, count: usize) -> Result<String, Fail> {
+    let mut tree = Tree::new(alloc);
+    let record = with_password(alloc, count)?;
+    match load_record(alloc, &mut tree, &record) {
+        Ok(()) => Ok(format!(in alloc; "loaded")?),
+        Err(fault) => Ok(format!(in alloc; "{fault}")?),
+    }
+}
+
 #[test]
 fn a_value_has_at_most_65536_octets(rt: HostRuntime) -> Result<(), Fail> {
-    let rows = [(0, "loaded"), (65_536, "loaded"), (65_537, "line 9: value")];
-    for (count, want) in rows {
-        let mut tree = Tree::new(rt.alloc());
-        let record = with_password(rt.alloc(), count)?;
-        let found = match load_record(rt.alloc(), &mut tree, &record) {
-            Ok(()) => format!(in rt.alloc(); "loaded")?,
-            Err(fault) => format!(in rt.alloc(); "{fault}")?,
-        };
-        assert_eq!(rt; found.as_str(), want, "{count} octets");
+    for (count, want) in &OCTETS {
+        let found = answer_of(rt.alloc(), *count)?;
+        assert_eq!(rt; found.as_str(), *want, "{count} octets");
     }
     Ok(())
 }

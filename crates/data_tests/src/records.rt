@@ -12,6 +12,7 @@ use ldif_core::{
 };
 use schema_core::attr;
 use std::alloc::Global;
+use std::process::Abort;
 use std::test::Fail;
 
 // The records of a file.
@@ -43,77 +44,82 @@ fn shown(alloc: Global, records: &[Record]) -> Result<Vec<u8>, Fail> {
     Ok(out)
 }
 
-#[test]
-fn files_without_a_record_give_none(rt: HostRuntime) -> Result<(), Fail> {
-    let rows = [
-        ("", ""),
-        ("\n\r\n\n", ""),
-        ("# c\n# d\n  e", ""),
-        ("version: 1\n", ""),
-        ("version: 1", ""),
-    ];
+// Each file of the rows has its records.
+fn check_records(
+    rt: &impl Abort,
+    alloc: Global,
+    rows: &'static [(&'static str, &'static str)],
+) -> Result<(), Fail> {
     for (text, want) in rows {
-        let records = read_all(rt.alloc(), text.as_bytes())?;
-        let found = shown(rt.alloc(), &records)?;
+        let records = read_all(alloc, text.as_bytes())?;
+        let found = shown(alloc, &records)?;
         assert_eq!(rt; found.as_slice(), want.as_bytes(), "{text:?}");
     }
     Ok(())
 }
+
+// Files without a record.
+static NONE: [(&str, &str); 5] = [
+    ("", ""),
+    ("\n\r\n\n", ""),
+    ("# c\n# d\n  e", ""),
+    ("version: 1\n", ""),
+    ("version: 1", ""),
+];
+
+#[test]
+fn files_without_a_record_give_none(rt: HostRuntime) -> Result<(), Fail> {
+    check_records(&rt, rt.alloc(), &NONE)
+}
+
+// A file, and its records as text.
+static LINES: [(&str, &str); 10] = [
+    ("# c\nversion: 1\n\ndn: dc=t\na: x\n", "4 dn dc=t\n5 a x\n"),
+    ("vers\n ion: 1\ndn: dc=t\na: x", "3 dn dc=t\n4 a x\n"),
+    ("\n\ndn: dc=t\r\na: x\r\n\r\n", "3 dn dc=t\n4 a x\n"),
+    (
+        "dn: dc=t\na: x\n\n\ndn: dc=u\nb: y\n",
+        "1 dn dc=t\n2 a x\n5 dn dc=u\n6 b y\n",
+    ),
+    ("dn: d\n c=\n t\na: x\n  y\n", "1 dn dc=t\n4 a x y\n"),
+    ("dn: dc=t\na: x\n\n b: y\n", "1 dn dc=t\n2 a x\n3 b y\n"),
+    ("dn: dc=t\na\n b:\n  x\n", "1 dn dc=t\n2 ab x\n"),
+    (
+        "dn: dc=t\n# c\n  d\na: x\n#\nb: y",
+        "1 dn dc=t\n4 a x\n6 b y\n",
+    ),
+    ("dn:dc=t\na:   x  \n", "1 dn dc=t\n2 a x  \n"),
+    ("dn: dc=t\na:\nb: \n", "1 dn dc=t\n2 a \n3 b \n"),
+];
 
 #[test]
 fn records_are_read_with_their_lines(rt: HostRuntime) -> Result<(), Fail> {
-    let rows = [
-        ("# c\nversion: 1\n\ndn: dc=t\na: x\n", "4 dn dc=t\n5 a x\n"),
-        ("vers\n ion: 1\ndn: dc=t\na: x", "3 dn dc=t\n4 a x\n"),
-        ("\n\ndn: dc=t\r\na: x\r\n\r\n", "3 dn dc=t\n4 a x\n"),
-        (
-            "dn: dc=t\na: x\n\n\ndn: dc=u\nb: y\n",
-            "1 dn dc=t\n2 a x\n5 dn dc=u\n6 b y\n",
-        ),
-        ("dn: d\n c=\n t\na: x\n  y\n", "1 dn dc=t\n4 a x y\n"),
-        ("dn: dc=t\na: x\n\n b: y\n", "1 dn dc=t\n2 a x\n3 b y\n"),
-        ("dn: dc=t\na\n b:\n  x\n", "1 dn dc=t\n2 ab x\n"),
-        (
-            "dn: dc=t\n# c\n  d\na: x\n#\nb: y",
-            "1 dn dc=t\n4 a x\n6 b y\n",
-        ),
-        ("dn:dc=t\na:   x  \n", "1 dn dc=t\n2 a x  \n"),
-        ("dn: dc=t\na:\nb: \n", "1 dn dc=t\n2 a \n3 b \n"),
-    ];
-    for (text, want) in rows {
-        let records = read_all(rt.alloc(), text.as_bytes())?;
-        let found = shown(rt.alloc(), &records)?;
-        assert_eq!(rt; found.as_slice(), want.as_bytes(), "{text:?}");
-    }
-    Ok(())
+    check_records(&rt, rt.alloc(), &LINES)
 }
+
+// A file, and its records as text.
+static VALUES: [(&str, &str); 10] = [
+    ("dn: dc=t\na: : x\nb: <y\n", "1 dn dc=t\n2 a : x\n3 b <y\n"),
+    ("dn: dc=t\na: x\ry\n", "1 dn dc=t\n2 a x\ry\n"),
+    ("dn: dc=t\na: x\r\r\n", "1 dn dc=t\n2 a x\r\n"),
+    ("dn: dc=t\na: x\r", "1 dn dc=t\n2 a x\r\n"),
+    ("dn: dc=t\na: \u{E9}\0\n", "1 dn dc=t\n2 a \u{E9}\0\n"),
+    ("dn:: ZGM9dA==\na::  YWI=\n", "1 dn dc=t\n2 a ab\n"),
+    ("dn: dc=t\na::YQ\n ==\nb::\n", "1 dn dc=t\n2 a a\n4 b \n"),
+    ("dn:\na-1: x\n", "1 dn \n2 a-1 x\n"),
+    (
+        "dn: dc=t\n2.5.4.0: x\n0.10: y\n",
+        "1 dn dc=t\n2 2.5.4.0 x\n3 0.10 y\n",
+    ),
+    (
+        "dn: dc=t\ndn: x\nversion: 1\n",
+        "1 dn dc=t\n2 dn x\n3 version 1\n",
+    ),
+];
 
 #[test]
 fn values_are_read_as_they_stand_or_from_base64(rt: HostRuntime) -> Result<(), Fail> {
-    let rows = [
-        ("dn: dc=t\na: : x\nb: <y\n", "1 dn dc=t\n2 a : x\n3 b <y\n"),
-        ("dn: dc=t\na: x\ry\n", "1 dn dc=t\n2 a x\ry\n"),
-        ("dn: dc=t\na: x\r\r\n", "1 dn dc=t\n2 a x\r\n"),
-        ("dn: dc=t\na: x\r", "1 dn dc=t\n2 a x\r\n"),
-        ("dn: dc=t\na: \u{E9}\0\n", "1 dn dc=t\n2 a \u{E9}\0\n"),
-        ("dn:: ZGM9dA==\na::  YWI=\n", "1 dn dc=t\n2 a ab\n"),
-        ("dn: dc=t\na::YQ\n ==\nb::\n", "1 dn dc=t\n2 a a\n4 b \n"),
-        ("dn:\na-1: x\n", "1 dn \n2 a-1 x\n"),
-        (
-            "dn: dc=t\n2.5.4.0: x\n0.10: y\n",
-            "1 dn dc=t\n2 2.5.4.0 x\n3 0.10 y\n",
-        ),
-        (
-            "dn: dc=t\ndn: x\nversion: 1\n",
-            "1 dn dc=t\n2 dn x\n3 version 1\n",
-        ),
-    ];
-    for (text, want) in rows {
-        let records = read_all(rt.alloc(), text.as_bytes())?;
-        let found = shown(rt.alloc(), &records)?;
-        assert_eq!(rt; found.as_slice(), want.as_bytes(), "{text:?}");
-    }
-    Ok(())
+    check_records(&rt, rt.alloc(), &VALUES)
 }
 
 // The number of the line that is bad for the cause, where there is one.
@@ -124,84 +130,93 @@ fn bad_line(alloc: Global, text: &str, why: LineCause) -> Option<u64> {
     }
 }
 
-#[test]
-fn a_line_that_starts_no_record_is_bad(rt: HostRuntime) {
-    let rows = [
-        ("version: 2\n", 1),
-        ("version:1\n\ndn: dc=t\na: x\n", 1),
-        ("\nversion: 1\n", 2),
-        ("version: 1\nversion: 1\n", 2),
-        (" dn: dc=t\na: x\n", 1),
-        (" \n", 1),
-        ("\n  dn: dc=t\na: x\n", 1),
-        ("# c\ndn: dc=t\n# d\n\na: x", 2),
-        ("dn:: !!", 1),
-        ("DN: dc=t\na: x\n", 1),
-        ("a: x\ndn: dc=t\n", 1),
-        ("changetype: add\na: x\n", 1),
-        ("dn\na: x\n", 1),
-        ("dn:< x\na: x\n", 1),
-    ];
+// Each file of the rows has its bad line, for the cause.
+fn check_bad_lines(
+    rt: &impl Abort,
+    alloc: Global,
+    why: LineCause,
+    rows: &'static [(&'static str, u64)],
+) {
     for (text, number) in rows {
-        let bad = bad_line(rt.alloc(), text, LineCause::Syntax);
-        assert_eq!(rt; bad, Some(number), "{text:?}");
+        let bad = bad_line(alloc, text, why);
+        assert_eq!(rt; bad, Some(*number), "{text:?}");
     }
 }
+
+// A file, and its bad line.
+static NO_START: [(&str, u64); 14] = [
+    ("version: 2\n", 1),
+    ("version:1\n\ndn: dc=t\na: x\n", 1),
+    ("\nversion: 1\n", 2),
+    ("version: 1\nversion: 1\n", 2),
+    (" dn: dc=t\na: x\n", 1),
+    (" \n", 1),
+    ("\n  dn: dc=t\na: x\n", 1),
+    ("# c\ndn: dc=t\n# d\n\na: x", 2),
+    ("dn:: !!", 1),
+    ("DN: dc=t\na: x\n", 1),
+    ("a: x\ndn: dc=t\n", 1),
+    ("changetype: add\na: x\n", 1),
+    ("dn\na: x\n", 1),
+    ("dn:< x\na: x\n", 1),
+];
+
+#[test]
+fn a_line_that_starts_no_record_is_bad(rt: HostRuntime) {
+    check_bad_lines(&rt, rt.alloc(), LineCause::Syntax, &NO_START)
+}
+
+// A file, and its bad line.
+static NO_FORM: [(&str, u64); 14] = [
+    ("dn: dc=t\na: x\n\n  b: y\n", 3),
+    ("dn: dc=t\n", 1),
+    ("dn: dc=t\nab\n", 2),
+    ("dn: dc=t\n: x\n", 2),
+    ("dn: dc=t\na:< x\n", 2),
+    ("dn: dc=t\nchangetype:< x\n", 2),
+    ("dn: dc=t\na : x\n", 2),
+    ("dn: dc=t\na_b: x\n", 2),
+    ("dn: dc=t\n1a: x\n", 2),
+    ("dn: dc=t\ncn;lang-en: x\n", 2),
+    ("dn: dc=t\n1: x\n", 2),
+    ("dn: dc=t\n1.02: x\n", 2),
+    ("dn: dc=t\n1.2.: x\n", 2),
+    ("dn: dc=t\na: x\n  y\n\n# c\n  d\ndn: dc=u\nab\n", 8),
+];
 
 #[test]
 fn a_line_of_no_form_is_bad(rt: HostRuntime) {
-    let rows = [
-        ("dn: dc=t\na: x\n\n  b: y\n", 3),
-        ("dn: dc=t\n", 1),
-        ("dn: dc=t\nab\n", 2),
-        ("dn: dc=t\n: x\n", 2),
-        ("dn: dc=t\na:< x\n", 2),
-        ("dn: dc=t\nchangetype:< x\n", 2),
-        ("dn: dc=t\na : x\n", 2),
-        ("dn: dc=t\na_b: x\n", 2),
-        ("dn: dc=t\n1a: x\n", 2),
-        ("dn: dc=t\ncn;lang-en: x\n", 2),
-        ("dn: dc=t\n1: x\n", 2),
-        ("dn: dc=t\n1.02: x\n", 2),
-        ("dn: dc=t\n1.2.: x\n", 2),
-        ("dn: dc=t\na: x\n  y\n\n# c\n  d\ndn: dc=u\nab\n", 8),
-    ];
-    for (text, number) in rows {
-        let bad = bad_line(rt.alloc(), text, LineCause::Syntax);
-        assert_eq!(rt; bad, Some(number), "{text:?}");
-    }
+    check_bad_lines(&rt, rt.alloc(), LineCause::Syntax, &NO_FORM)
 }
+
+// A file, and its bad line.
+static CHANGES: [(&str, u64); 4] = [
+    ("version: 1\n\ndn: dc=t\nchangetype: add\n", 4),
+    ("dn: dc=t\nChangeTYPE:: YWRk\n", 2),
+    ("dn: dc=t\nchangetype:: !!\n", 2),
+    ("dn: dc=t\nchange\n type: add\n", 2),
+];
 
 #[test]
 fn a_change_is_refused_at_its_line(rt: HostRuntime) {
-    let rows = [
-        ("version: 1\n\ndn: dc=t\nchangetype: add\n", 4),
-        ("dn: dc=t\nChangeTYPE:: YWRk\n", 2),
-        ("dn: dc=t\nchangetype:: !!\n", 2),
-        ("dn: dc=t\nchange\n type: add\n", 2),
-    ];
-    for (text, number) in rows {
-        let bad = bad_line(rt.alloc(), text, LineCause::Changetype);
-        assert_eq!(rt; bad, Some(number), "{text:?}");
-    }
+    check_bad_lines(&rt, rt.alloc(), LineCause::Changetype, &CHANGES)
 }
+
+// A file, and its bad line.
+static BASE64: [(&str, u64); 8] = [
+    ("dn:: ZGM9dA\na: x\n", 1),
+    ("dn:: !!\nab\n", 1),
+    ("dn: dc=t\na:: YQ\n", 2),
+    ("dn: dc=t\na:: YR==\n", 2),
+    ("dn: dc=t\na:: Y Q==\n", 2),
+    ("dn: dc=t\na:: YQ== \n", 2),
+    ("dn: dc=t\na::< x\n", 2),
+    ("dn: dc=t\na: x\nb:: !\nab\nchangetype: x\n", 3),
+];
 
 #[test]
 fn base64_is_padded_and_leaves_no_bits(rt: HostRuntime) {
-    let rows = [
-        ("dn:: ZGM9dA\na: x\n", 1),
-        ("dn:: !!\nab\n", 1),
-        ("dn: dc=t\na:: YQ\n", 2),
-        ("dn: dc=t\na:: YR==\n", 2),
-        ("dn: dc=t\na:: Y Q==\n", 2),
-        ("dn: dc=t\na:: YQ== \n", 2),
-        ("dn: dc=t\na::< x\n", 2),
-        ("dn: dc=t\na: x\nb:: !\nab\nchangetype: x\n", 3),
-    ];
-    for (text, number) in rows {
-        let bad = bad_line(rt.alloc(), text, LineCause::Base64);
-        assert_eq!(rt; bad, Some(number), "{text:?}");
-    }
+    check_bad_lines(&rt, rt.alloc(), LineCause::Base64, &BASE64)
 }
 
 #[test]
@@ -246,27 +261,29 @@ fn written(alloc: Global, octets: &[u8]) -> Result<Vec<u8>, Fail> {
     Ok(out)
 }
 
+// The octets of a value, and what is written of it behind its type.
+static WRITTEN: [(&[u8], &str); 16] = [
+    (b"", ": "),
+    (b"a", ": a"),
+    (b"a b:<", ": a b:<"),
+    (b"#", ": #"),
+    (b"\x01\x7F", ": \x01\x7F"),
+    (b" ", ":: IA=="),
+    (b" a", ":: IGE="),
+    (b"a ", ":: YSA="),
+    (b":a", ":: OmE="),
+    (b"<a", ":: PGE="),
+    (b"a\nb", ":: YQpi"),
+    (b"a\rb", ":: YQ1i"),
+    (b"\0", ":: AA=="),
+    (b"\x80", ":: gA=="),
+    (b"\xFF\xFF\xFF", ":: ////"),
+    (b"abcd\xC3\xA9", ":: YWJjZMOp"),
+];
+
 #[test]
 fn a_value_is_written_as_it_is_or_in_base64(rt: HostRuntime) -> Result<(), Fail> {
-    let rows: [(&[u8], &str); 16] = [
-        (b"", ": "),
-        (b"a", ": a"),
-        (b"a b:<", ": a b:<"),
-        (b"#", ": #"),
-        (b"\x01\x7F", ": \x01\x7F"),
-        (b" ", ":: IA=="),
-        (b" a", ":: IGE="),
-        (b"a ", ":: YSA="),
-        (b":a", ":: OmE="),
-        (b"<a", ":: PGE="),
-        (b"a\nb", ":: YQpi"),
-        (b"a\rb", ":: YQ1i"),
-        (b"\0", ":: AA=="),
-        (b"\x80", ":: gA=="),
-        (b"\xFF\xFF\xFF", ":: ////"),
-        (b"abcd\xC3\xA9", ":: YWJjZMOp"),
-    ];
-    for (octets, want) in rows {
+    for (octets, want) in &WRITTEN {
         let found = written(rt.alloc(), octets)?;
         let want = format!(in rt.alloc(); "# c\ndn: dc=t\nuserPassword{want}\n")?;
         assert_eq!(rt; found.as_slice(), want.as_bytes(), "{octets:?}");

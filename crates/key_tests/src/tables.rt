@@ -1,7 +1,7 @@
 //! The tables of the schema: each row by name in odd case and by object identifier.
 use schema_core::{
-    AttrId, ClassId, ClassKind, Syntax, allowed, attr, class, class_kind, class_oid, oid_of,
-    required, row, superior,
+    AttrId, ClassId, ClassKind, Row, Syntax, allowed, attr, class, class_kind, class_oid,
+    class_with, oid_of, required, row, superior,
 };
 
 // Number, name in odd case, object identifier, name, syntax, marks: n naming, s single, o operational.
@@ -44,28 +44,28 @@ static ATTRIBUTES: [(u8, &str, &str, &str, Syntax, &str); 35] = [
     (34, "SuBeNtRyAcI", "2.5.24.6", "subentryACI", Syntax::Aci, "o"),
 ];
 
-// Number, name in odd case, object identifier, kind, number of the superior.
+// Number, name in odd case, object identifier, kind, superior.
 #[rattlefmt::skip]
-static CLASSES: [(u8, &str, &str, ClassKind, Option<u8>); 19] = [
+static CLASSES: [(u8, &str, &str, ClassKind, Option<ClassId>); 19] = [
     (0, "ToP", "2.5.6.0", ClassKind::Abstract, None),
-    (1, "CoUnTrY", "2.5.6.2", ClassKind::Structural, Some(0)),
-    (2, "LoCaLiTy", "2.5.6.3", ClassKind::Structural, Some(0)),
-    (3, "OrGaNiZaTiOn", "2.5.6.4", ClassKind::Structural, Some(0)),
-    (4, "OrGaNiZaTiOnAlUnIt", "2.5.6.5", ClassKind::Structural, Some(0)),
-    (5, "PeRsOn", "2.5.6.6", ClassKind::Structural, Some(0)),
-    (6, "OrGaNiZaTiOnAlPeRsOn", "2.5.6.7", ClassKind::Structural, Some(5)),
-    (7, "OrGaNiZaTiOnAlRoLe", "2.5.6.8", ClassKind::Structural, Some(0)),
-    (8, "GrOuPoFnAmEs", "2.5.6.9", ClassKind::Structural, Some(0)),
-    (9, "DeViCe", "2.5.6.14", ClassKind::Structural, Some(0)),
-    (10, "GrOuPoFuNiQuEnAmEs", "2.5.6.17", ClassKind::Structural, Some(0)),
-    (11, "DoMaIn", "0.9.2342.19200300.100.4.13", ClassKind::Structural, Some(0)),
-    (12, "AcCoUnT", "0.9.2342.19200300.100.4.5", ClassKind::Structural, Some(0)),
-    (13, "InEtOrGpErSoN", "2.16.840.1.113730.3.2.2", ClassKind::Structural, Some(6)),
-    (14, "DcObJeCt", "1.3.6.1.4.1.1466.344", ClassKind::Auxiliary, Some(0)),
-    (15, "UiDoBjEcT", "1.3.6.1.1.3.1", ClassKind::Auxiliary, Some(0)),
-    (16, "SiMpLeSeCuRiTyObJeCt", "0.9.2342.19200300.100.4.19", ClassKind::Auxiliary, Some(0)),
-    (17, "SuBeNtRy", "2.5.17.0", ClassKind::Structural, Some(0)),
-    (18, "AcCeSsCoNtRoLsUbEnTrY", "2.5.17.1", ClassKind::Auxiliary, Some(0)),
+    (1, "CoUnTrY", "2.5.6.2", ClassKind::Structural, Some(ClassId(0))),
+    (2, "LoCaLiTy", "2.5.6.3", ClassKind::Structural, Some(ClassId(0))),
+    (3, "OrGaNiZaTiOn", "2.5.6.4", ClassKind::Structural, Some(ClassId(0))),
+    (4, "OrGaNiZaTiOnAlUnIt", "2.5.6.5", ClassKind::Structural, Some(ClassId(0))),
+    (5, "PeRsOn", "2.5.6.6", ClassKind::Structural, Some(ClassId(0))),
+    (6, "OrGaNiZaTiOnAlPeRsOn", "2.5.6.7", ClassKind::Structural, Some(ClassId(5))),
+    (7, "OrGaNiZaTiOnAlRoLe", "2.5.6.8", ClassKind::Structural, Some(ClassId(0))),
+    (8, "GrOuPoFnAmEs", "2.5.6.9", ClassKind::Structural, Some(ClassId(0))),
+    (9, "DeViCe", "2.5.6.14", ClassKind::Structural, Some(ClassId(0))),
+    (10, "GrOuPoFuNiQuEnAmEs", "2.5.6.17", ClassKind::Structural, Some(ClassId(0))),
+    (11, "DoMaIn", "0.9.2342.19200300.100.4.13", ClassKind::Structural, Some(ClassId(0))),
+    (12, "AcCoUnT", "0.9.2342.19200300.100.4.5", ClassKind::Structural, Some(ClassId(0))),
+    (13, "InEtOrGpErSoN", "2.16.840.1.113730.3.2.2", ClassKind::Structural, Some(ClassId(6))),
+    (14, "DcObJeCt", "1.3.6.1.4.1.1466.344", ClassKind::Auxiliary, Some(ClassId(0))),
+    (15, "UiDoBjEcT", "1.3.6.1.1.3.1", ClassKind::Auxiliary, Some(ClassId(0))),
+    (16, "SiMpLeSeCuRiTyObJeCt", "0.9.2342.19200300.100.4.19", ClassKind::Auxiliary, Some(ClassId(0))),
+    (17, "SuBeNtRy", "2.5.17.0", ClassKind::Structural, Some(ClassId(0))),
+    (18, "AcCeSsCoNtRoLsUbEnTrY", "2.5.17.1", ClassKind::Auxiliary, Some(ClassId(0))),
 ];
 
 // Class, attribute types that it requires, attribute types that it allows besides.
@@ -100,19 +100,25 @@ static DOTTED: [(&str, Option<&str>); 16] = [
     ("nothing", None),
 ];
 
+// The row with the marks.
+fn marked(name: &'static str, oid: &'static str, syntax: Syntax, marks: &str) -> Row {
+    Row {
+        name,
+        oid,
+        syntax,
+        naming: marks.contains('n'),
+        single: marks.contains('s'),
+        operational: marks.contains('o'),
+    }
+}
+
 #[test]
 fn each_attribute_type_is_found_by_name_and_by_identifier(rt: HostRuntime) {
     for (number, odd, oid, name, syntax, marks) in ATTRIBUTES.iter() {
         let known = Some(AttrId(*number));
-        assert_eq!(rt; attr(odd), known, "{odd}");
-        assert_eq!(rt; attr(oid), known, "{oid}");
-        let found = row(AttrId(*number)).expect(&rt, "a row");
-        assert_eq!(rt; found.name, *name, "{name}");
-        assert_eq!(rt; found.oid, *oid, "{name}");
-        assert_eq!(rt; found.syntax, *syntax, "{name}");
-        assert_eq!(rt; found.naming, marks.contains('n'), "{name}");
-        assert_eq!(rt; found.single, marks.contains('s'), "{name}");
-        assert_eq!(rt; found.operational, marks.contains('o'), "{name}");
+        assert_eq!(rt; (attr(odd), attr(oid)), (known, known), "{name}");
+        let want = Some(marked(name, oid, *syntax, marks));
+        assert_eq!(rt; row(AttrId(*number)), want, "{name}");
     }
 }
 
@@ -120,11 +126,12 @@ fn each_attribute_type_is_found_by_name_and_by_identifier(rt: HostRuntime) {
 fn each_class_is_found_by_name_and_by_identifier(rt: HostRuntime) {
     for (number, odd, oid, kind, below) in CLASSES.iter() {
         let known = ClassId(*number);
-        assert_eq!(rt; class(odd), Some(known), "{odd}");
-        assert_eq!(rt; class(oid), Some(known), "{oid}");
-        assert_eq!(rt; class_kind(known), Some(*kind), "{odd}");
-        assert_eq!(rt; class_oid(known), Some(*oid), "{odd}");
-        assert_eq!(rt; superior(known).map(|class| class.0), *below, "{odd}");
+        let found = (class(odd), class(oid), class_with(oid.as_bytes()));
+        assert_eq!(rt; found, (Some(known), Some(known), Some(known)), "{odd}");
+        assert_eq!(rt; class_with(odd.as_bytes()), None, "{odd}");
+        let found = (class_kind(known), class_oid(known), superior(known));
+        let want = (Some(*kind), Some(*oid), *below);
+        assert_eq!(rt; found, want, "{odd}");
     }
 }
 
@@ -156,27 +163,30 @@ fn a_text_has_the_dotted_form_of_its_name_or_its_own(rt: HostRuntime) {
     }
 }
 
+static NO_ATTRIBUTES: [&str; 8] = [
+    "",
+    "cn ",
+    "commonName",
+    "2.5.4",
+    "2.5.4.03",
+    "person",
+    "2.5.6.6",
+    "autonomousArea",
+];
+
+static NO_CLASSES: [&str; 6] = ["", "people", "2.5.6", "cn", "2.5.4.3", "autonomousArea"];
+
 #[test]
 fn what_no_row_has_finds_nothing(rt: HostRuntime) {
-    for text in [
-        "",
-        "cn ",
-        "commonName",
-        "2.5.4",
-        "2.5.4.03",
-        "person",
-        "2.5.6.6",
-        "autonomousArea",
-    ] {
+    for text in &NO_ATTRIBUTES {
         assert_eq!(rt; attr(text), None, "{text}");
     }
-    for text in ["", "people", "2.5.6", "cn", "2.5.4.3", "autonomousArea"] {
+    for text in &NO_CLASSES {
         assert_eq!(rt; class(text), None, "{text}");
     }
+    let last = ClassId(19);
+    let found = (class_kind(last), class_oid(last), superior(last));
+    assert_eq!(rt; found, (None, None, None));
     assert_eq!(rt; row(AttrId(35)), None);
-    assert_eq!(rt; class_kind(ClassId(19)), None);
-    assert_eq!(rt; class_oid(ClassId(19)), None);
-    assert_eq!(rt; superior(ClassId(19)), None);
-    assert!(rt; required(ClassId(19)).is_empty());
-    assert!(rt; allowed(ClassId(19)).is_empty());
+    assert_eq!(rt; (required(last).len(), allowed(last).len()), (0, 0));
 }

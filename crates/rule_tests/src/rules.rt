@@ -4,9 +4,13 @@ use dn_names::{make_value, parse};
 use schema_core::attr;
 use schema_rules::{Broken, a_tree_stays_good, check_entry};
 use std::alloc::Global;
+use std::process::Abort;
 use std::test::Fail;
 
 type Attributes = &'static [(&'static str, &'static str)];
+
+// A name, attributes, and the code of the rule that such an entry breaks, or 0.
+type Row = (&'static str, Attributes, u8);
 
 fn put(alloc: Global, entry: &mut Entry, kind: &str, octets: Vec<u8>) -> Result<(), Fail> {
     let kind = attr(kind).ok_or("no such type")?;
@@ -69,382 +73,368 @@ fn code(tree: &Tree, entry: &Entry) -> u8 {
     }
 }
 
-#[test]
-fn a_value_of_the_own_rdn_is_among_the_attributes(rt: HostRuntime) -> Result<(), Fail> {
-    let tree = tree(rt.alloc())?;
-    let rows: [(&str, Attributes, u8); 6] = [
-        (
-            "cn=ann,dc=example",
-            &[("objectClass", "person"), ("cn", "Ann"), ("sn", "Lee")],
-            0,
-        ),
-        // compared by keys, in any place of its type
-        (
-            "cn=ann,dc=example",
-            &[
-                ("objectClass", "person"),
-                ("cn", "Annie"),
-                ("cn", " ANN "),
-                ("sn", "Lee"),
-            ],
-            0,
-        ),
-        // another type has it, or it is absent
-        (
-            "cn=ann,dc=example",
-            &[("objectClass", "person"), ("cn", "Annie"), ("sn", "Ann")],
-            67,
-        ),
-        // each value of an RDN of two, and no other RDN
-        (
-            "cn=ann+sn=lee,dc=example",
-            &[("objectClass", "person"), ("cn", "Ann"), ("sn", "Lee")],
-            0,
-        ),
-        (
-            "cn=ann+sn=king,dc=example",
-            &[("objectClass", "person"), ("cn", "Ann"), ("sn", "Lee")],
-            67,
-        ),
-        // this rule comes before that of classes
-        ("cn=ann,dc=example", &[("cn", "Annie")], 67),
-    ];
+// Each entry of the rows breaks the rule of its row first.
+fn check_rows(rt: &impl Abort, alloc: Global, rows: &'static [Row]) -> Result<(), Fail> {
+    let tree = tree(alloc)?;
     for (name, attributes, want) in rows {
-        let entry = entry(rt.alloc(), name, attributes)?;
-        assert_eq!(rt; code(&tree, &entry), want, "{name} {attributes:?}");
+        let entry = entry(alloc, name, attributes)?;
+        assert_eq!(rt; code(&tree, &entry), *want, "{name} {attributes:?}");
     }
     Ok(())
 }
+
+static OWN_VALUES: [Row; 6] = [
+    (
+        "cn=ann,dc=example",
+        &[("objectClass", "person"), ("cn", "Ann"), ("sn", "Lee")],
+        0,
+    ),
+    // compared by keys, in any place of its type
+    (
+        "cn=ann,dc=example",
+        &[
+            ("objectClass", "person"),
+            ("cn", "Annie"),
+            ("cn", " ANN "),
+            ("sn", "Lee"),
+        ],
+        0,
+    ),
+    // another type has it, or it is absent
+    (
+        "cn=ann,dc=example",
+        &[("objectClass", "person"), ("cn", "Annie"), ("sn", "Ann")],
+        67,
+    ),
+    // each value of an RDN of two, and no other RDN
+    (
+        "cn=ann+sn=lee,dc=example",
+        &[("objectClass", "person"), ("cn", "Ann"), ("sn", "Lee")],
+        0,
+    ),
+    (
+        "cn=ann+sn=king,dc=example",
+        &[("objectClass", "person"), ("cn", "Ann"), ("sn", "Lee")],
+        67,
+    ),
+    // this rule comes before that of classes
+    ("cn=ann,dc=example", &[("cn", "Annie")], 67),
+];
+
+#[test]
+fn a_value_of_the_own_rdn_is_among_the_attributes(rt: HostRuntime) -> Result<(), Fail> {
+    check_rows(&rt, rt.alloc(), &OWN_VALUES)
+}
+
+static CLASSES: [Row; 8] = [
+    // no class, and one outside the table
+    ("cn=ann,dc=example", &[("cn", "Ann")], 65),
+    (
+        "cn=ann,dc=example",
+        &[
+            ("objectClass", "person"),
+            ("cn", "Ann"),
+            ("sn", "Lee"),
+            ("objectClass", "1.3.6.1.4.1.32473.1"),
+        ],
+        65,
+    ),
+    // abstract and auxiliary classes alone (X.501 8.3.2)
+    (
+        "cn=ann,dc=example",
+        &[("objectClass", "top"), ("cn", "Ann")],
+        65,
+    ),
+    (
+        "cn=ann,dc=example",
+        &[("objectClass", "uidObject"), ("uid", "ann"), ("cn", "Ann")],
+        65,
+    ),
+    // classes in one line, and in two
+    (
+        "cn=ann,dc=example",
+        &[
+            ("objectClass", "person"),
+            ("cn", "Ann"),
+            ("sn", "Lee"),
+            ("objectClass", "top"),
+            ("objectClass", "inetOrgPerson"),
+        ],
+        0,
+    ),
+    (
+        "cn=ann,dc=example",
+        &[
+            ("objectClass", "person"),
+            ("cn", "Ann"),
+            ("sn", "Lee"),
+            ("objectClass", "organizationalRole"),
+        ],
+        65,
+    ),
+    (
+        "cn=ann,dc=example",
+        &[
+            ("objectClass", "person"),
+            ("cn", "Ann"),
+            ("sn", "Lee"),
+            ("objectClass", "uidObject"),
+            ("uid", "ann"),
+        ],
+        0,
+    ),
+    // the class of access control subentries without that of subentries
+    (
+        "cn=ann,dc=example",
+        &[
+            ("objectClass", "person"),
+            ("cn", "Ann"),
+            ("sn", "Lee"),
+            ("objectClass", "accessControlSubentry"),
+        ],
+        65,
+    ),
+];
 
 #[test]
 fn classes_go_together(rt: HostRuntime) -> Result<(), Fail> {
-    let tree = tree(rt.alloc())?;
-    let rows: [(&str, Attributes, u8); 8] = [
-        // no class, and one outside the table
-        ("cn=ann,dc=example", &[("cn", "Ann")], 65),
-        (
-            "cn=ann,dc=example",
-            &[
-                ("objectClass", "person"),
-                ("cn", "Ann"),
-                ("sn", "Lee"),
-                ("objectClass", "1.3.6.1.4.1.32473.1"),
-            ],
-            65,
-        ),
-        // abstract and auxiliary classes alone (X.501 8.3.2)
-        (
-            "cn=ann,dc=example",
-            &[("objectClass", "top"), ("cn", "Ann")],
-            65,
-        ),
-        (
-            "cn=ann,dc=example",
-            &[("objectClass", "uidObject"), ("uid", "ann"), ("cn", "Ann")],
-            65,
-        ),
-        // classes in one line, and in two
-        (
-            "cn=ann,dc=example",
-            &[
-                ("objectClass", "person"),
-                ("cn", "Ann"),
-                ("sn", "Lee"),
-                ("objectClass", "top"),
-                ("objectClass", "inetOrgPerson"),
-            ],
-            0,
-        ),
-        (
-            "cn=ann,dc=example",
-            &[
-                ("objectClass", "person"),
-                ("cn", "Ann"),
-                ("sn", "Lee"),
-                ("objectClass", "organizationalRole"),
-            ],
-            65,
-        ),
-        (
-            "cn=ann,dc=example",
-            &[
-                ("objectClass", "person"),
-                ("cn", "Ann"),
-                ("sn", "Lee"),
-                ("objectClass", "uidObject"),
-                ("uid", "ann"),
-            ],
-            0,
-        ),
-        // the class of access control subentries without that of subentries
-        (
-            "cn=ann,dc=example",
-            &[
-                ("objectClass", "person"),
-                ("cn", "Ann"),
-                ("sn", "Lee"),
-                ("objectClass", "accessControlSubentry"),
-            ],
-            65,
-        ),
-    ];
-    for (name, attributes, want) in rows {
-        let entry = entry(rt.alloc(), name, attributes)?;
-        assert_eq!(rt; code(&tree, &entry), want, "{name} {attributes:?}");
-    }
-    Ok(())
+    check_rows(&rt, rt.alloc(), &CLASSES)
 }
+
+static CONTENTS: [Row; 10] = [
+    // person requires sn, and so do the classes below it (RFC 4519 3.12, RFC 2798 section 3)
+    (
+        "cn=ann,dc=example",
+        &[("objectClass", "person"), ("cn", "Ann")],
+        65,
+    ),
+    (
+        "cn=ann,dc=example",
+        &[("objectClass", "inetOrgPerson"), ("cn", "Ann")],
+        65,
+    ),
+    (
+        "cn=ann,dc=example",
+        &[
+            ("objectClass", "inetOrgPerson"),
+            ("cn", "Ann"),
+            ("sn", "Lee"),
+        ],
+        0,
+    ),
+    // what only inetOrgPerson allows, and what person allows
+    (
+        "cn=ann,dc=example",
+        &[
+            ("objectClass", "person"),
+            ("cn", "Ann"),
+            ("sn", "Lee"),
+            ("mail", "ann@example.org"),
+        ],
+        65,
+    ),
+    (
+        "cn=ann,dc=example",
+        &[
+            ("objectClass", "inetOrgPerson"),
+            ("cn", "Ann"),
+            ("sn", "Lee"),
+            ("mail", "ann@example.org"),
+            ("description", "x"),
+        ],
+        0,
+    ),
+    // an auxiliary class requires its attribute
+    (
+        "cn=ann,dc=example",
+        &[
+            ("objectClass", "person"),
+            ("cn", "Ann"),
+            ("sn", "Lee"),
+            ("objectClass", "simpleSecurityObject"),
+        ],
+        65,
+    ),
+    // operational attributes (X.501 14.3)
+    (
+        "cn=ann,dc=example",
+        &[
+            ("objectClass", "person"),
+            ("cn", "Ann"),
+            ("sn", "Lee"),
+            ("administrativeRole", "autonomousArea"),
+            ("accessControlScheme", "2.5.28.1"),
+        ],
+        0,
+    ),
+    (
+        "cn=ann,dc=example",
+        &[
+            ("objectClass", "person"),
+            ("cn", "Ann"),
+            ("sn", "Lee"),
+            ("subtreeSpecification", "{ }"),
+        ],
+        65,
+    ),
+    (
+        "cn=ann,dc=example",
+        &[
+            ("objectClass", "person"),
+            ("cn", "Ann"),
+            ("sn", "Lee"),
+            ("prescriptiveACI", "{ }"),
+        ],
+        65,
+    ),
+    (
+        "cn=policy,dc=example",
+        &[
+            ("objectClass", "subentry"),
+            ("cn", "policy"),
+            ("subtreeSpecification", "{ }"),
+            ("administrativeRole", "autonomousArea"),
+        ],
+        65,
+    ),
+];
 
 #[test]
 fn attributes_go_with_the_classes(rt: HostRuntime) -> Result<(), Fail> {
-    let tree = tree(rt.alloc())?;
-    let rows: [(&str, Attributes, u8); 10] = [
-        // person requires sn, and so do the classes below it (RFC 4519 3.12, RFC 2798 section 3)
-        (
-            "cn=ann,dc=example",
-            &[("objectClass", "person"), ("cn", "Ann")],
-            65,
-        ),
-        (
-            "cn=ann,dc=example",
-            &[("objectClass", "inetOrgPerson"), ("cn", "Ann")],
-            65,
-        ),
-        (
-            "cn=ann,dc=example",
-            &[
-                ("objectClass", "inetOrgPerson"),
-                ("cn", "Ann"),
-                ("sn", "Lee"),
-            ],
-            0,
-        ),
-        // what only inetOrgPerson allows, and what person allows
-        (
-            "cn=ann,dc=example",
-            &[
-                ("objectClass", "person"),
-                ("cn", "Ann"),
-                ("sn", "Lee"),
-                ("mail", "ann@example.org"),
-            ],
-            65,
-        ),
-        (
-            "cn=ann,dc=example",
-            &[
-                ("objectClass", "inetOrgPerson"),
-                ("cn", "Ann"),
-                ("sn", "Lee"),
-                ("mail", "ann@example.org"),
-                ("description", "x"),
-            ],
-            0,
-        ),
-        // an auxiliary class requires its attribute
-        (
-            "cn=ann,dc=example",
-            &[
-                ("objectClass", "person"),
-                ("cn", "Ann"),
-                ("sn", "Lee"),
-                ("objectClass", "simpleSecurityObject"),
-            ],
-            65,
-        ),
-        // operational attributes (X.501 14.3)
-        (
-            "cn=ann,dc=example",
-            &[
-                ("objectClass", "person"),
-                ("cn", "Ann"),
-                ("sn", "Lee"),
-                ("administrativeRole", "autonomousArea"),
-                ("accessControlScheme", "2.5.28.1"),
-            ],
-            0,
-        ),
-        (
-            "cn=ann,dc=example",
-            &[
-                ("objectClass", "person"),
-                ("cn", "Ann"),
-                ("sn", "Lee"),
-                ("subtreeSpecification", "{ }"),
-            ],
-            65,
-        ),
-        (
-            "cn=ann,dc=example",
-            &[
-                ("objectClass", "person"),
-                ("cn", "Ann"),
-                ("sn", "Lee"),
-                ("prescriptiveACI", "{ }"),
-            ],
-            65,
-        ),
-        (
-            "cn=policy,dc=example",
-            &[
-                ("objectClass", "subentry"),
-                ("cn", "policy"),
-                ("subtreeSpecification", "{ }"),
-                ("administrativeRole", "autonomousArea"),
-            ],
-            65,
-        ),
-    ];
-    for (name, attributes, want) in rows {
-        let entry = entry(rt.alloc(), name, attributes)?;
-        assert_eq!(rt; code(&tree, &entry), want, "{name} {attributes:?}");
-    }
-    Ok(())
+    check_rows(&rt, rt.alloc(), &CONTENTS)
 }
+
+static UNREAD: [Row; 4] = [
+    (
+        "cn=ann,dc=example",
+        &[
+            ("objectClass", "person"),
+            ("cn", "Ann"),
+            ("sn", "Lee"),
+            ("entryACI", "{ }"),
+        ],
+        21,
+    ),
+    (
+        "cn=ann,dc=example",
+        &[
+            ("objectClass", "person"),
+            ("cn", "Ann"),
+            ("sn", "Lee"),
+            ("subentryACI", "{ }"),
+        ],
+        21,
+    ),
+    (
+        "cn=local,ou=area,dc=example",
+        &[
+            ("objectClass", "subentry"),
+            ("cn", "local"),
+            ("subtreeSpecification", "{ }"),
+        ],
+        21,
+    ),
+    // before the rule of single values
+    (
+        "cn=ann,dc=example",
+        &[
+            ("objectClass", "person"),
+            ("cn", "Ann"),
+            ("sn", "Lee"),
+            ("entryACI", "{ }"),
+            ("accessControlScheme", "2.5.28.1"),
+            ("accessControlScheme", "2.5.28.2"),
+        ],
+        21,
+    ),
+];
 
 #[test]
 fn values_of_two_syntaxes_are_not_read(rt: HostRuntime) -> Result<(), Fail> {
-    let tree = tree(rt.alloc())?;
-    let rows: [(&str, Attributes, u8); 4] = [
-        (
-            "cn=ann,dc=example",
-            &[
-                ("objectClass", "person"),
-                ("cn", "Ann"),
-                ("sn", "Lee"),
-                ("entryACI", "{ }"),
-            ],
-            21,
-        ),
-        (
-            "cn=ann,dc=example",
-            &[
-                ("objectClass", "person"),
-                ("cn", "Ann"),
-                ("sn", "Lee"),
-                ("subentryACI", "{ }"),
-            ],
-            21,
-        ),
-        (
-            "cn=local,ou=area,dc=example",
-            &[
-                ("objectClass", "subentry"),
-                ("cn", "local"),
-                ("subtreeSpecification", "{ }"),
-            ],
-            21,
-        ),
-        // before the rule of single values
-        (
-            "cn=ann,dc=example",
-            &[
-                ("objectClass", "person"),
-                ("cn", "Ann"),
-                ("sn", "Lee"),
-                ("entryACI", "{ }"),
-                ("accessControlScheme", "2.5.28.1"),
-                ("accessControlScheme", "2.5.28.2"),
-            ],
-            21,
-        ),
-    ];
-    for (name, attributes, want) in rows {
-        let entry = entry(rt.alloc(), name, attributes)?;
-        assert_eq!(rt; code(&tree, &entry), want, "{name} {attributes:?}");
-    }
-    Ok(())
+    check_rows(&rt, rt.alloc(), &UNREAD)
 }
+
+static SINGLE: [Row; 4] = [
+    // RFC 4524 and RFC 2798 give dc and employeeNumber one value
+    (
+        "dc=example,dc=example",
+        &[
+            ("objectClass", "domain"),
+            ("dc", "example"),
+            ("dc", "other"),
+        ],
+        19,
+    ),
+    (
+        "cn=ann,dc=example",
+        &[
+            ("objectClass", "inetOrgPerson"),
+            ("cn", "Ann"),
+            ("cn", "Anna"),
+            ("sn", "Lee"),
+            ("employeeNumber", "1"),
+        ],
+        0,
+    ),
+    (
+        "cn=ann,dc=example",
+        &[
+            ("objectClass", "inetOrgPerson"),
+            ("cn", "Ann"),
+            ("sn", "Lee"),
+            ("employeeNumber", "1"),
+            ("employeeNumber", "2"),
+        ],
+        19,
+    ),
+    // before the rule of places
+    (
+        "cn=ann,cn=policy,ou=area,dc=example",
+        &[
+            ("objectClass", "person"),
+            ("cn", "Ann"),
+            ("sn", "Lee"),
+            ("accessControlScheme", "2.5.28.1"),
+            ("accessControlScheme", "2.5.28.2"),
+        ],
+        19,
+    ),
+];
 
 #[test]
 fn a_single_valued_attribute_has_one_value(rt: HostRuntime) -> Result<(), Fail> {
-    let tree = tree(rt.alloc())?;
-    let rows: [(&str, Attributes, u8); 4] = [
-        // RFC 4524 and RFC 2798 give dc and employeeNumber one value
-        (
-            "dc=example,dc=example",
-            &[
-                ("objectClass", "domain"),
-                ("dc", "example"),
-                ("dc", "other"),
-            ],
-            19,
-        ),
-        (
-            "cn=ann,dc=example",
-            &[
-                ("objectClass", "inetOrgPerson"),
-                ("cn", "Ann"),
-                ("cn", "Anna"),
-                ("sn", "Lee"),
-                ("employeeNumber", "1"),
-            ],
-            0,
-        ),
-        (
-            "cn=ann,dc=example",
-            &[
-                ("objectClass", "inetOrgPerson"),
-                ("cn", "Ann"),
-                ("sn", "Lee"),
-                ("employeeNumber", "1"),
-                ("employeeNumber", "2"),
-            ],
-            19,
-        ),
-        // before the rule of places
-        (
-            "cn=ann,cn=policy,ou=area,dc=example",
-            &[
-                ("objectClass", "person"),
-                ("cn", "Ann"),
-                ("sn", "Lee"),
-                ("accessControlScheme", "2.5.28.1"),
-                ("accessControlScheme", "2.5.28.2"),
-            ],
-            19,
-        ),
-    ];
-    for (name, attributes, want) in rows {
-        let entry = entry(rt.alloc(), name, attributes)?;
-        assert_eq!(rt; code(&tree, &entry), want, "{name} {attributes:?}");
-    }
-    Ok(())
+    check_rows(&rt, rt.alloc(), &SINGLE)
 }
+
+static PLACES: [Row; 4] = [
+    // RFC 3672 section 2
+    (
+        "cn=ann,cn=policy,ou=area,dc=example",
+        &[("objectClass", "person"), ("cn", "Ann"), ("sn", "Lee")],
+        64,
+    ),
+    (
+        "cn=ann,ou=area,dc=example",
+        &[("objectClass", "person"), ("cn", "Ann"), ("sn", "Lee")],
+        0,
+    ),
+    // names are compared by their keys
+    (
+        "cn=ann,CN=Policy,ou=area,dc=example",
+        &[("objectClass", "person"), ("cn", "Ann"), ("sn", "Lee")],
+        64,
+    ),
+    // a superior that is not there
+    (
+        "cn=ann,cn=none,dc=example",
+        &[("objectClass", "person"), ("cn", "Ann"), ("sn", "Lee")],
+        0,
+    ),
+];
 
 #[test]
 fn nothing_stands_below_a_subentry(rt: HostRuntime) -> Result<(), Fail> {
-    let tree = tree(rt.alloc())?;
-    let rows: [(&str, Attributes, u8); 4] = [
-        // RFC 3672 section 2
-        (
-            "cn=ann,cn=policy,ou=area,dc=example",
-            &[("objectClass", "person"), ("cn", "Ann"), ("sn", "Lee")],
-            64,
-        ),
-        (
-            "cn=ann,ou=area,dc=example",
-            &[("objectClass", "person"), ("cn", "Ann"), ("sn", "Lee")],
-            0,
-        ),
-        // names are compared by their keys
-        (
-            "cn=ann,CN=Policy,ou=area,dc=example",
-            &[("objectClass", "person"), ("cn", "Ann"), ("sn", "Lee")],
-            64,
-        ),
-        // a superior that is not there
-        (
-            "cn=ann,cn=none,dc=example",
-            &[("objectClass", "person"), ("cn", "Ann"), ("sn", "Lee")],
-            0,
-        ),
-    ];
-    for (name, attributes, want) in rows {
-        let entry = entry(rt.alloc(), name, attributes)?;
-        assert_eq!(rt; code(&tree, &entry), want, "{name} {attributes:?}");
-    }
-    Ok(())
+    check_rows(&rt, rt.alloc(), &PLACES)
 }
 
 #[test]

@@ -1,11 +1,12 @@
 // Data files: what is checked, put again and refused.
 
-use crate::runs::{Ran, run_data, run_line};
+use crate::runs::{assert_ran, run_data, run_line};
 use crate::sets::{
     ONE_SUBENTRY, ORGANISATION, OTHER_ADMINISTRATORS, OTHER_PEOPLE, POINT, POINT_WITH_DENIAL,
     TWO_ENTRIES, TWO_SUBENTRIES, TWO_SUBENTRIES_AND_GROUP, WITHOUT_HIDDEN_PART,
 };
 use acl_program::Status;
+use std::alloc::{AllocError, Global};
 use std::process::Abort;
 use std::test::*;
 
@@ -13,61 +14,77 @@ use std::test::*;
 const TWO_ENTRIES_PUT: &str =
     "version: 1\n\ndn: dc=u\nobjectClass: domain\ndc: u\n\ndn: ou=b,dc=u\nobjectClass: organizationalUnit\nou: a\nou: b\n";
 
-fn assert_ran(rt: &impl Abort, ran: &Ran, put: &str, status: Status, what: &str) {
-    assert_eq!(rt; ran.put.as_str(), put, "{what}");
-    assert_eq!(rt; ran.status, status, "{what}");
+/// The check of a data file puts this and ends so.
+fn assert_check(
+    rt: &impl Abort,
+    alloc: Global,
+    data: &[u8],
+    put: &str,
+    status: Status,
+    what: &str,
+) -> Result<(), AllocError> {
+    let ran = run_data(alloc, "check d", data)?;
+    assert_ran(rt, &ran, put, status, what);
+    Ok(())
 }
+
+const RULE_21_AT_9: &str = "bad data line 9: rule 21\n";
+
+/// A data file, what its check prints, how it ends, and what it shows.
+static TREES: [(&str, &str, Status, &str); 10] = [
+    (TWO_ENTRIES, "ok 2 0\n", Status::Done, "two entries"),
+    (
+        ORGANISATION,
+        RULE_21_AT_9,
+        Status::BadData,
+        "an organisation",
+    ),
+    (
+        WITHOUT_HIDDEN_PART,
+        RULE_21_AT_9,
+        Status::BadData,
+        "without its hidden part",
+    ),
+    (
+        OTHER_ADMINISTRATORS,
+        RULE_21_AT_9,
+        Status::BadData,
+        "other administrators",
+    ),
+    (OTHER_PEOPLE, RULE_21_AT_9, Status::BadData, "other people"),
+    (ONE_SUBENTRY, RULE_21_AT_9, Status::BadData, "one subentry"),
+    (
+        POINT,
+        "bad data line 1: rule 21\n",
+        Status::BadData,
+        "a point",
+    ),
+    (
+        POINT_WITH_DENIAL,
+        "bad data line 1: rule 21\n",
+        Status::BadData,
+        "a point with a denial",
+    ),
+    (
+        TWO_SUBENTRIES,
+        "bad data line 6: rule 21\n",
+        Status::BadData,
+        "two subentries",
+    ),
+    (
+        TWO_SUBENTRIES_AND_GROUP,
+        "bad data line 6: rule 21\n",
+        Status::BadData,
+        "two subentries and a group",
+    ),
+];
 
 #[test]
 fn trees_are_checked_and_those_with_subentries_are_refused_yet(
     rt: HostRuntime,
 ) -> Result<(), Fail> {
-    let refused = "bad data line 9: rule 21\n";
-    let rows = [
-        (TWO_ENTRIES, "ok 2 0\n", Status::Done, "two entries"),
-        (ORGANISATION, refused, Status::BadData, "an organisation"),
-        (
-            WITHOUT_HIDDEN_PART,
-            refused,
-            Status::BadData,
-            "without its hidden part",
-        ),
-        (
-            OTHER_ADMINISTRATORS,
-            refused,
-            Status::BadData,
-            "other administrators",
-        ),
-        (OTHER_PEOPLE, refused, Status::BadData, "other people"),
-        (ONE_SUBENTRY, refused, Status::BadData, "one subentry"),
-        (
-            POINT,
-            "bad data line 1: rule 21\n",
-            Status::BadData,
-            "a point",
-        ),
-        (
-            POINT_WITH_DENIAL,
-            "bad data line 1: rule 21\n",
-            Status::BadData,
-            "a point with a denial",
-        ),
-        (
-            TWO_SUBENTRIES,
-            "bad data line 6: rule 21\n",
-            Status::BadData,
-            "two subentries",
-        ),
-        (
-            TWO_SUBENTRIES_AND_GROUP,
-            "bad data line 6: rule 21\n",
-            Status::BadData,
-            "two subentries and a group",
-        ),
-    ];
-    for (data, put, status, what) in rows {
-        let ran = run_data(rt.alloc(), "check d", data.as_bytes())?;
-        assert_ran(&rt, &ran, put, status, what);
+    for (data, put, status, what) in &TREES {
+        assert_check(&rt, rt.alloc(), data.as_bytes(), put, *status, what)?;
     }
     Ok(())
 }
@@ -81,14 +98,14 @@ fn an_ordinary_site_is_refused_at_its_first_subentry(rt: HostRuntime) -> Result<
             "\ndn: uid=p{number:02},ou=people,dc=example\nobjectClass: inetOrgPerson\nuid: p{number:02}\ncn: P {number:02}\nsn: P\nmail: p{number:02}@example.com\ntelephoneNumber: +1 555 10{number:02}\nuserPassword: pw{number:02}\n"
         )?.as_str())?;
     }
-    let ran = run_data(alloc, "check d", data.as_bytes())?;
-    assert_ran(
+    assert_check(
         &rt,
-        &ran,
+        alloc,
+        data.as_bytes(),
         "bad data line 9: rule 21\n",
         Status::BadData,
         "forty people more",
-    );
+    )?;
     Ok(())
 }
 
@@ -115,67 +132,68 @@ fn a_tree_is_put_again_alone_and_after_the_lines_of_a_replay(rt: HostRuntime) ->
     Ok(())
 }
 
+/// A data file, and what its refusal prints.
+static BAD_FILES: [(&str, &str); 20] = [
+    ("", "bad data line 1: syntax\n"),
+    ("# nothing\n\n", "bad data line 1: syntax\n"),
+    (
+        "version: 1\n\ndn: dc=t\nchangetype: add\n",
+        "bad data line 4: changetype\n",
+    ),
+    ("dn: dc=t\nobjectClass\n", "bad data line 2: syntax\n"),
+    ("dn: dc=t\ndc:: dA\n", "bad data line 2: base64\n"),
+    ("dn: =t\ndc: t\n", "bad data line 1: name\n"),
+    ("dn: \ndc: t\n", "bad data line 1: name\n"),
+    ("dn: dc=t\nzz: t\n", "bad data line 2: type\n"),
+    ("dn: c=nl\nc: Nether\n", "bad data line 2: value\n"),
+    (
+        "dn: dc=t\nobjectClass: domain\nobjectClass: DOMAIN\n",
+        "bad data line 3: twice\n",
+    ),
+    (
+        "dn: dc=t\nobjectClass: domain\n\ndn: DC=T\nobjectClass: domain\n",
+        "bad data line 4: twice\n",
+    ),
+    (
+        "dn: dc=t\nobjectClass: domain\n\ndn: ou=a,ou=b,dc=t\nobjectClass: organizationalUnit\n",
+        "bad data line 4: order\n",
+    ),
+    ("dn: dc=t\ndescription: d\n", "bad data line 1: rule 65\n"),
+    (
+        "dn: dc=t\nobjectClass: dcObject\n",
+        "bad data line 1: rule 65\n",
+    ),
+    (
+        "dn: dc=t\nobjectClass: domain\ndc: u\n",
+        "bad data line 1: rule 19\n",
+    ),
+    // of two causes the one that is tried first
+    ("dn: =t\nchangetype: add\n", "bad data line 2: changetype\n"),
+    ("dn: =t\nzz: t\n", "bad data line 1: name\n"),
+    ("dn: dc=t\nzz: t\nc: Nether\n", "bad data line 2: type\n"),
+    (
+        "dn: dc=t\nobjectClass: domain\n\ndn: dc=T\nc: Nether\n",
+        "bad data line 5: value\n",
+    ),
+    (
+        "dn: dc=t\nobjectClass: dcObject\ndc: u\n",
+        "bad data line 1: rule 65\n",
+    ),
+];
+
 #[test]
 fn a_file_is_refused_at_its_first_bad_line_for_the_first_cause(
     rt: HostRuntime,
 ) -> Result<(), Fail> {
-    let rows = [
-        ("", "bad data line 1: syntax\n"),
-        ("# nothing\n\n", "bad data line 1: syntax\n"),
-        (
-            "version: 1\n\ndn: dc=t\nchangetype: add\n",
-            "bad data line 4: changetype\n",
-        ),
-        ("dn: dc=t\nobjectClass\n", "bad data line 2: syntax\n"),
-        ("dn: dc=t\ndc:: dA\n", "bad data line 2: base64\n"),
-        ("dn: =t\ndc: t\n", "bad data line 1: name\n"),
-        ("dn: \ndc: t\n", "bad data line 1: name\n"),
-        ("dn: dc=t\nzz: t\n", "bad data line 2: type\n"),
-        ("dn: c=nl\nc: Nether\n", "bad data line 2: value\n"),
-        (
-            "dn: dc=t\nobjectClass: domain\nobjectClass: DOMAIN\n",
-            "bad data line 3: twice\n",
-        ),
-        (
-            "dn: dc=t\nobjectClass: domain\n\ndn: DC=T\nobjectClass: domain\n",
-            "bad data line 4: twice\n",
-        ),
-        (
-            "dn: dc=t\nobjectClass: domain\n\ndn: ou=a,ou=b,dc=t\nobjectClass: organizationalUnit\n",
-            "bad data line 4: order\n",
-        ),
-        ("dn: dc=t\ndescription: d\n", "bad data line 1: rule 65\n"),
-        (
-            "dn: dc=t\nobjectClass: dcObject\n",
-            "bad data line 1: rule 65\n",
-        ),
-        (
-            "dn: dc=t\nobjectClass: domain\ndc: u\n",
-            "bad data line 1: rule 19\n",
-        ),
-        // of two causes the one that is tried first
-        ("dn: =t\nchangetype: add\n", "bad data line 2: changetype\n"),
-        ("dn: =t\nzz: t\n", "bad data line 1: name\n"),
-        ("dn: dc=t\nzz: t\nc: Nether\n", "bad data line 2: type\n"),
-        (
-            "dn: dc=t\nobjectClass: domain\n\ndn: dc=T\nc: Nether\n",
-            "bad data line 5: value\n",
-        ),
-        (
-            "dn: dc=t\nobjectClass: dcObject\ndc: u\n",
-            "bad data line 1: rule 65\n",
-        ),
-    ];
-    for (data, put) in rows {
-        let ran = run_data(rt.alloc(), "check d", data.as_bytes())?;
-        assert_ran(&rt, &ran, put, Status::BadData, data);
+    for (data, put) in &BAD_FILES {
+        assert_check(&rt, rt.alloc(), data.as_bytes(), put, Status::BadData, data)?;
     }
     Ok(())
 }
 
 #[test]
 fn a_data_file_is_refused_before_its_script(rt: HostRuntime) -> Result<(), Fail> {
-    for line in ["replay s s", "replay s other"] {
+    for line in &["replay s s", "replay s other"] {
         let ran = run_line(rt.alloc(), line, b"nothing\n")?;
         assert_ran(
             &rt,
@@ -192,13 +210,13 @@ fn a_data_file_is_refused_before_its_script(rt: HostRuntime) -> Result<(), Fail>
 fn a_file_of_one_octet_too_many_is_refused_where_it_stands(rt: HostRuntime) -> Result<(), Fail> {
     let alloc = rt.alloc();
     let data = vec![in alloc; b'\n'; 67_108_865]?;
-    let ran = run_data(alloc, "check d", data.as_slice())?;
-    assert_ran(
+    assert_check(
         &rt,
-        &ran,
+        alloc,
+        data.as_slice(),
         "bad data line 67108865: limit\n",
         Status::BadData,
         "line feeds",
-    );
+    )?;
     Ok(())
 }

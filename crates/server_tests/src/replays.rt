@@ -1,6 +1,6 @@
 // Scripts and the lines that they give.
 
-use crate::runs::{assert_replay, run_line};
+use crate::runs::{assert_ran, assert_replay, run_line};
 use acl_program::Status;
 use std::test::*;
 
@@ -124,46 +124,48 @@ fn each_script_gives_its_lines(rt: HostRuntime) -> Result<(), Fail> {
     Ok(())
 }
 
+/// A script of one request, what it prints, and what it shows.
+static REQUESTS: [(&str, &str, &str); 7] = [
+    (
+        "open 1\nsend 1 300a02010177058003312e32",
+        "1 300c02010178070a010204000400\n",
+        "an extended request",
+    ),
+    (
+        "open 1\nsend 1 300e020101600702010304008000a000",
+        "1 300c02010161070a013504000400\n",
+        "a bind with controls",
+    ),
+    (
+        "open 1\nsend 1 30070201054a026161",
+        "1 300c0201056b070a013504000400\n",
+        "a delete",
+    ),
+    (
+        "open 1\nsend 1 300b0201026606040261613000",
+        "1 300c02010267070a013504000400\n",
+        "a modify",
+    ),
+    (
+        "open 1\nsend 1 300b0201036806040261613000",
+        "1 300c02010369070a013504000400\n",
+        "an add",
+    ),
+    (
+        "open 1\nsend 1 30100201046c0b04026161040262620101ff",
+        "1 300c0201046d070a013504000400\n",
+        "a rename",
+    ),
+    (
+        "open 1\nsend 1 30120201056e0d0402616130070402636e040178",
+        "1 300c0201056f070a013504000400\n",
+        "a compare",
+    ),
+];
+
 #[test]
 fn each_request_is_answered_in_the_response_of_its_kind(rt: HostRuntime) -> Result<(), Fail> {
-    let rows = [
-        (
-            "open 1\nsend 1 300a02010177058003312e32",
-            "1 300c02010178070a010204000400\n",
-            "an extended request",
-        ),
-        (
-            "open 1\nsend 1 300e020101600702010304008000a000",
-            "1 300c02010161070a013504000400\n",
-            "a bind with controls",
-        ),
-        (
-            "open 1\nsend 1 30070201054a026161",
-            "1 300c0201056b070a013504000400\n",
-            "a delete",
-        ),
-        (
-            "open 1\nsend 1 300b0201026606040261613000",
-            "1 300c02010267070a013504000400\n",
-            "a modify",
-        ),
-        (
-            "open 1\nsend 1 300b0201036806040261613000",
-            "1 300c02010369070a013504000400\n",
-            "an add",
-        ),
-        (
-            "open 1\nsend 1 30100201046c0b04026161040262620101ff",
-            "1 300c0201046d070a013504000400\n",
-            "a rename",
-        ),
-        (
-            "open 1\nsend 1 30120201056e0d0402616130070402636e040178",
-            "1 300c0201056f070a013504000400\n",
-            "a compare",
-        ),
-    ];
-    for (script, put, what) in rows {
+    for (script, put, what) in &REQUESTS {
         assert_replay(&rt, rt.alloc(), script.as_bytes(), put, Status::Done, what)?;
     }
     Ok(())
@@ -195,52 +197,40 @@ fn a_connection_past_the_most_is_turned_away_until_another_ends(
     Ok(())
 }
 
+const FOUR_EVENTS: &str =
+    "open 1\nsend 1 300c020101600702010304008000\nsend 1 300c020102600702010304008000\nsend 1 300c020103600702010304008000\n";
+
+/// A line with a number of turns, what it prints of four events, and how it ends.
+static TURNS: [(&str, &str, Status); 6] = [
+    ("replay d s --turns 0", "", Status::TurnsSpent),
+    ("replay d s --turns 1", "1 -\n", Status::TurnsSpent),
+    (
+        "replay d s --turns=3",
+        "1 300c02010161070a010004000400300c02010261070a010004000400\n",
+        Status::TurnsSpent,
+    ),
+    (
+        "replay d s --turns 4",
+        "1 300c02010161070a010004000400300c02010261070a010004000400300c02010361070a010004000400\n",
+        Status::TurnsSpent,
+    ),
+    (
+        "replay d s --turns 5",
+        "1 300c02010161070a010004000400300c02010261070a010004000400300c02010361070a010004000400\n",
+        Status::Done,
+    ),
+    (
+        "replay --turns 007 d s",
+        "1 300c02010161070a010004000400300c02010261070a010004000400300c02010361070a010004000400\n",
+        Status::Done,
+    ),
+];
+
 #[test]
 fn as_many_events_are_heard_as_there_are_turns(rt: HostRuntime) -> Result<(), Fail> {
-    let script =
-        "open 1\nsend 1 300c020101600702010304008000\nsend 1 300c020102600702010304008000\nsend 1 300c020103600702010304008000\n";
-    let (one, two, three) = (
-        "300c02010161070a010004000400",
-        "300c02010261070a010004000400",
-        "300c02010361070a010004000400",
-    );
-    let alloc = rt.alloc();
-    let rows = [
-        (
-            "replay d s --turns 0",
-            String::new(alloc),
-            Status::TurnsSpent,
-        ),
-        (
-            "replay d s --turns 1",
-            format!(in alloc; "1 -\n")?,
-            Status::TurnsSpent,
-        ),
-        (
-            "replay d s --turns=3",
-            format!(in alloc; "1 {one}{two}\n")?,
-            Status::TurnsSpent,
-        ),
-        (
-            "replay d s --turns 4",
-            format!(in alloc; "1 {one}{two}{three}\n")?,
-            Status::TurnsSpent,
-        ),
-        (
-            "replay d s --turns 5",
-            format!(in alloc; "1 {one}{two}{three}\n")?,
-            Status::Done,
-        ),
-        (
-            "replay --turns 007 d s",
-            format!(in alloc; "1 {one}{two}{three}\n")?,
-            Status::Done,
-        ),
-    ];
-    for (line, put, status) in rows {
-        let ran = run_line(alloc, line, script.as_bytes())?;
-        assert_eq!(rt; ran.put.as_str(), put.as_str(), "{line}");
-        assert_eq!(rt; ran.status, status, "{line}");
+    for (line, put, status) in &TURNS {
+        let ran = run_line(rt.alloc(), line, FOUR_EVENTS.as_bytes())?;
+        assert_ran(&rt, &ran, put, *status, line);
     }
     Ok(())
 }

@@ -13,6 +13,18 @@ pub struct Ran {
     pub put: String,
 }
 
+impl Ran {
+    /// What the run put, and how it ended.
+    pub fn end(&self) -> (&str, Status) {
+        (self.put.as_str(), self.status)
+    }
+}
+
+/// The run put this and ended so.
+pub fn assert_ran(rt: &impl Abort, ran: &Ran, put: &str, status: Status, what: &str) {
+    assert_eq!(rt; ran.end(), (put, status), "{what}");
+}
+
 /// The words of a line, with one space between two words; none of an empty line.
 fn words_of(alloc: Global, line: &str) -> Result<Vec<String>, AllocError> {
     let mut words = Vec::new(alloc);
@@ -106,7 +118,6 @@ pub fn assert_replay(
     what: &str,
 ) -> Result<(), AllocError> {
     let ran = run_line(alloc, "replay d s", script)?;
-    assert_eq!(rt; ran.put.as_str(), put, "{what}");
-    assert_eq!(rt; ran.status, status, "{what}");
+    assert_ran(rt, &ran, put, status, what);
     Ok(())
 }

@@ -53,38 +53,46 @@ fn listed(rt: &HostRuntime, tree: &Tree, base: &str, scope: Scope) -> Result<Str
     Ok(out)
 }
 
+// The same in the tree of the names above.
+fn listed_of_names(rt: &HostRuntime, base: &str, scope: Scope) -> Result<String, Fail> {
+    let tree = tree_of(rt, &NAMES)?;
+    listed(rt, &tree, base, scope)
+}
+
+// A base, a scope, and the names that it takes in.
+static SCOPES: [(&str, Scope, &str); 6] = [
+    ("dc=example,dc=com", Scope::Base, "dc=example,dc=com\n"),
+    (
+        "dc=example,dc=com",
+        Scope::One,
+        "ou=groups,dc=example,dc=com\nou=lab,dc=example,dc=com\nou=people,dc=example,dc=com\n",
+    ),
+    (
+        "ou=people,dc=example,dc=com",
+        Scope::Sub,
+        "ou=people,dc=example,dc=com\nuid=ada,ou=people,dc=example,dc=com\ncn=key,uid=ada,ou=people,dc=example,dc=com\nuid=bob,ou=people,dc=example,dc=com\n",
+    ),
+    (
+        "OU=People,DC=Example,DC=Com",
+        Scope::One,
+        "uid=ada,ou=people,dc=example,dc=com\nuid=bob,ou=people,dc=example,dc=com\n",
+    ),
+    (
+        "ou=lab,dc=example,dc=com",
+        Scope::Sub,
+        "ou=lab,dc=example,dc=com\n",
+    ),
+    ("ou=lab,dc=example,dc=com", Scope::One, ""),
+];
+
 #[test]
 fn a_scope_takes_in_what_is_in_it_in_the_order_of_names(rt: HostRuntime) -> Result<(), Fail> {
+    for (base, scope, want) in &SCOPES {
+        let found = listed_of_names(&rt, base, *scope)?;
+        assert_eq!(rt; found.as_str(), *want, "{scope:?} of {base}");
+    }
     let tree = tree_of(&rt, &NAMES)?;
     assert_eq!(rt; tree.len(), 8);
-    let rows = [
-        ("dc=example,dc=com", Scope::Base, "dc=example,dc=com\n"),
-        (
-            "dc=example,dc=com",
-            Scope::One,
-            "ou=groups,dc=example,dc=com\nou=lab,dc=example,dc=com\nou=people,dc=example,dc=com\n",
-        ),
-        (
-            "ou=people,dc=example,dc=com",
-            Scope::Sub,
-            "ou=people,dc=example,dc=com\nuid=ada,ou=people,dc=example,dc=com\ncn=key,uid=ada,ou=people,dc=example,dc=com\nuid=bob,ou=people,dc=example,dc=com\n",
-        ),
-        (
-            "OU=People,DC=Example,DC=Com",
-            Scope::One,
-            "uid=ada,ou=people,dc=example,dc=com\nuid=bob,ou=people,dc=example,dc=com\n",
-        ),
-        (
-            "ou=lab,dc=example,dc=com",
-            Scope::Sub,
-            "ou=lab,dc=example,dc=com\n",
-        ),
-        ("ou=lab,dc=example,dc=com", Scope::One, ""),
-    ];
-    for (base, scope, want) in rows {
-        let found = listed(&rt, &tree, base, scope)?;
-        assert_eq!(rt; found.as_str(), want, "{scope:?} of {base}");
-    }
     tree.entries_form_a_tree();
     all_but_the_suffix_have_superiors();
     putting_in_undoes_taking_out();
@@ -121,68 +129,85 @@ fn shown(rt: &HostRuntime, tree: &Tree, no: Option<EntryNo>) -> Result<String, F
     Ok(out)
 }
 
+// The printed name of the entry of so many RDNs of a name, or of the whole name for 9.
+fn found_by(rt: &HostRuntime, text: &str, len: usize) -> Result<String, Fail> {
+    let tree = tree_of(rt, &NAMES)?;
+    let name = name(rt.alloc(), text)?;
+    let no = if len == 9 {
+        tree.find(&name)
+    } else {
+        tree.find_prefix(&name, len)
+    };
+    shown(rt, &tree, no)
+}
+
+fn suffix(rt: &HostRuntime) -> Result<String, Fail> {
+    let tree = tree_of(rt, &NAMES)?;
+    shown(rt, &tree, tree.suffix())
+}
+
+// A name, how many RDNs of it are sought or 9 for the whole, and the name of the entry that is found.
+static FRONTS: [(&str, usize, &str); 10] = [
+    (
+        "UID=Ada,ou=people,dc=example,dc=com",
+        9,
+        "uid=ada,ou=people,dc=example,dc=com",
+    ),
+    ("uid=eve,ou=people,dc=example,dc=com", 9, "none"),
+    ("dc=com", 9, "none"),
+    ("", 9, "none"),
+    (
+        "cn=key,uid=ada,ou=people,dc=example,dc=com",
+        5,
+        "cn=key,uid=ada,ou=people,dc=example,dc=com",
+    ),
+    (
+        "cn=key,uid=ada,ou=people,dc=example,dc=com",
+        3,
+        "ou=people,dc=example,dc=com",
+    ),
+    (
+        "cn=key,uid=ada,ou=people,dc=example,dc=com",
+        2,
+        "dc=example,dc=com",
+    ),
+    ("cn=key,uid=ada,ou=people,dc=example,dc=com", 1, "none"),
+    ("cn=key,uid=ada,ou=people,dc=example,dc=com", 0, "none"),
+    ("cn=key,uid=ada,ou=people,dc=example,dc=com", 6, "none"),
+];
+
 #[test]
 fn an_entry_is_found_by_its_name_and_by_a_front_of_a_name(rt: HostRuntime) -> Result<(), Fail> {
-    let tree = tree_of(&rt, &NAMES)?;
-    let suffix = shown(&rt, &tree, tree.suffix())?;
-    assert_eq!(rt; suffix.as_str(), "dc=example,dc=com");
-    let rows = [
-        (
-            "UID=Ada,ou=people,dc=example,dc=com",
-            9,
-            "uid=ada,ou=people,dc=example,dc=com",
-        ),
-        ("uid=eve,ou=people,dc=example,dc=com", 9, "none"),
-        ("dc=com", 9, "none"),
-        ("", 9, "none"),
-        (
-            "cn=key,uid=ada,ou=people,dc=example,dc=com",
-            5,
-            "cn=key,uid=ada,ou=people,dc=example,dc=com",
-        ),
-        (
-            "cn=key,uid=ada,ou=people,dc=example,dc=com",
-            3,
-            "ou=people,dc=example,dc=com",
-        ),
-        (
-            "cn=key,uid=ada,ou=people,dc=example,dc=com",
-            2,
-            "dc=example,dc=com",
-        ),
-        ("cn=key,uid=ada,ou=people,dc=example,dc=com", 1, "none"),
-        ("cn=key,uid=ada,ou=people,dc=example,dc=com", 0, "none"),
-        ("cn=key,uid=ada,ou=people,dc=example,dc=com", 6, "none"),
-    ];
-    for (text, len, want) in rows {
-        let name = name(rt.alloc(), text)?;
-        let no = if len == 9 {
-            tree.find(&name)
-        } else {
-            tree.find_prefix(&name, len)
-        };
-        let found = shown(&rt, &tree, no)?;
-        assert_eq!(rt; found.as_str(), want, "{len} of {text}");
+    assert_eq!(rt; suffix(&rt)?.as_str(), "dc=example,dc=com");
+    for (text, len, want) in &FRONTS {
+        let found = found_by(&rt, text, *len)?;
+        assert_eq!(rt; found.as_str(), *want, "{len} of {text}");
     }
     Ok(())
 }
 
+// The printed name of the superior of the entry of a name.
+fn superior_of(rt: &HostRuntime, text: &str) -> Result<String, Fail> {
+    let tree = tree_of(rt, &NAMES)?;
+    let no = tree.find(&name(rt.alloc(), text)?).ok_or("no entry")?;
+    shown(rt, &tree, tree.superior(no))
+}
+
+// A name, and that of the superior.
+static SUPERIORS: [(&str, &str); 3] = [
+    ("dc=example,dc=com", "none"),
+    ("ou=lab,dc=example,dc=com", "dc=example,dc=com"),
+    (
+        "cn=key,uid=ada,ou=people,dc=example,dc=com",
+        "uid=ada,ou=people,dc=example,dc=com",
+    ),
+];
+
 #[test]
 fn a_superior_is_the_entry_without_the_last_rdn(rt: HostRuntime) -> Result<(), Fail> {
-    let tree = tree_of(&rt, &NAMES)?;
-    let rows = [
-        ("dc=example,dc=com", "none"),
-        ("ou=lab,dc=example,dc=com", "dc=example,dc=com"),
-        (
-            "cn=key,uid=ada,ou=people,dc=example,dc=com",
-            "uid=ada,ou=people,dc=example,dc=com",
-        ),
-    ];
-    for (text, want) in rows {
-        let name = name(rt.alloc(), text)?;
-        let no = tree.find(&name).ok_or("no entry")?;
-        let found = shown(&rt, &tree, tree.superior(no))?;
-        assert_eq!(rt; found.as_str(), want, "{text}");
+    for (text, want) in &SUPERIORS {
+        let found = superior_of(&rt, text)?;
+        assert_eq!(rt; found.as_str(), *want, "{text}");
     }
     Ok(())
 }
@@ -198,29 +223,31 @@ fn put_in(rt: &HostRuntime, text: &str) -> Result<(Option<InsertRefusal>, usize)
     Ok((refusal, tree.len()))
 }
 
+// A name, the refusal of an entry of that name, and how many entries there are then.
+static INSERTED: [(&str, Option<InsertRefusal>, usize); 6] = [
+    ("dc=example,dc=com", Some(InsertRefusal::NameTaken), 8),
+    (
+        "OU=LAB,dc=example,dc=com",
+        Some(InsertRefusal::NameTaken),
+        8,
+    ),
+    ("dc=com", Some(InsertRefusal::NoSuperior), 8),
+    (
+        "cn=x,ou=none,dc=example,dc=com",
+        Some(InsertRefusal::NoSuperior),
+        8,
+    ),
+    ("dc=org", Some(InsertRefusal::NoSuperior), 8),
+    ("cn=x,ou=lab,dc=example,dc=com", None, 9),
+];
+
 #[test]
 fn an_entry_comes_in_under_its_superior_and_under_no_name_twice(
     rt: HostRuntime,
 ) -> Result<(), Fail> {
-    let rows = [
-        ("dc=example,dc=com", Some(InsertRefusal::NameTaken), 8),
-        (
-            "OU=LAB,dc=example,dc=com",
-            Some(InsertRefusal::NameTaken),
-            8,
-        ),
-        ("dc=com", Some(InsertRefusal::NoSuperior), 8),
-        (
-            "cn=x,ou=none,dc=example,dc=com",
-            Some(InsertRefusal::NoSuperior),
-            8,
-        ),
-        ("dc=org", Some(InsertRefusal::NoSuperior), 8),
-        ("cn=x,ou=lab,dc=example,dc=com", None, 9),
-    ];
-    for (text, refusal, len) in rows {
+    for (text, refusal, len) in &INSERTED {
         let found = put_in(&rt, text)?;
-        assert_eq!(rt; found, (refusal, len), "{text}");
+        assert_eq!(rt; found, (*refusal, *len), "{text}");
     }
     Ok(())
 }
@@ -238,35 +265,45 @@ fn taken_out(
     Ok((once, twice))
 }
 
+const BELOW: Option<RemoveRefusal> = Some(RemoveRefusal::HasBelow);
+
+const ABSENT: Option<RemoveRefusal> = Some(RemoveRefusal::Absent);
+
+// A name, and the refusals of taking its entry out once and once more.
+static REMOVED: [(&str, Option<RemoveRefusal>, Option<RemoveRefusal>); 4] = [
+    ("dc=example,dc=com", BELOW, BELOW),
+    ("ou=groups,dc=example,dc=com", BELOW, BELOW),
+    ("ou=lab,dc=example,dc=com", None, ABSENT),
+    ("cn=key,uid=ada,ou=people,dc=example,dc=com", None, ABSENT),
+];
+
 #[test]
 fn an_entry_goes_out_unless_one_stands_below(rt: HostRuntime) -> Result<(), Fail> {
-    let below = Some(RemoveRefusal::HasBelow);
-    let absent = Some(RemoveRefusal::Absent);
-    let rows = [
-        ("dc=example,dc=com", below, below),
-        ("ou=groups,dc=example,dc=com", below, below),
-        ("ou=lab,dc=example,dc=com", None, absent),
-        ("cn=key,uid=ada,ou=people,dc=example,dc=com", None, absent),
-    ];
-    for (text, once, twice) in rows {
+    for (text, once, twice) in &REMOVED {
         let found = taken_out(&rt, text)?;
-        assert_eq!(rt; found, (once, twice), "{text}");
+        assert_eq!(rt; found, (*once, *twice), "{text}");
     }
     Ok(())
 }
 
+// Takes an entry out and puts it in again: what its name finds in between, whether it finds the entry then, and how
+// many entries there are.
+fn out_and_in(rt: &HostRuntime, text: &str) -> Result<(Option<EntryNo>, bool, usize), Fail> {
+    let mut tree = tree_of(rt, &NAMES)?;
+    let name = name(rt.alloc(), text)?;
+    let entry = tree.remove(tree.find(&name).ok_or("no entry")?)?;
+    let between = tree.find(&name);
+    if entry.name().len() == 0 {
+        return Ok((between, false, 0));
+    }
+    let again = tree.insert(entry)?;
+    Ok((between, tree.find(&name) == Some(again), tree.len()))
+}
+
 #[test]
 fn an_entry_that_went_out_comes_in_again(rt: HostRuntime) -> Result<(), Fail> {
-    let mut tree = tree_of(&rt, &NAMES)?;
-    let name = name(rt.alloc(), "ou=lab,dc=example,dc=com")?;
-    let no = tree.find(&name).ok_or("no entry")?;
-    let entry = tree.remove(no)?;
-    assert_eq!(rt; tree.find(&name), None);
-    if entry.name().len() > 0 {
-        let again = tree.insert(entry)?;
-        assert_eq!(rt; tree.find(&name), Some(again));
-    }
-    assert_eq!(rt; tree.len(), 8);
+    let found = out_and_in(&rt, "ou=lab,dc=example,dc=com")?;
+    assert_eq!(rt; found, (None, true, 8));
     Ok(())
 }
 
@@ -285,15 +322,17 @@ fn replaced(
     Ok((refusal, tree.find(&new_name) == Some(no)))
 }
 
+// The name of an entry, and the name of one that takes its place.
+static REPLACED: [(&str, &str); 4] = [
+    ("ou=lab,dc=example,dc=com", "OU=Lab,dc=example,dc=com"),
+    ("ou=lab,dc=example,dc=com", "ou=zoo,dc=example,dc=com"),
+    ("ou=lab,dc=example,dc=com", "ou=aaa,dc=example,dc=com"),
+    ("ou=people,dc=example,dc=com", "OU=PEOPLE,dc=example,dc=com"),
+];
+
 #[test]
 fn an_entry_takes_the_place_of_another_under_its_number(rt: HostRuntime) -> Result<(), Fail> {
-    let rows = [
-        ("ou=lab,dc=example,dc=com", "OU=Lab,dc=example,dc=com"),
-        ("ou=lab,dc=example,dc=com", "ou=zoo,dc=example,dc=com"),
-        ("ou=lab,dc=example,dc=com", "ou=aaa,dc=example,dc=com"),
-        ("ou=people,dc=example,dc=com", "OU=PEOPLE,dc=example,dc=com"),
-    ];
-    for (old, new) in rows {
+    for (old, new) in &REPLACED {
         let found = replaced(&rt, &NAMES, old, new)?;
         assert_eq!(rt; found, (None, true), "{old} to {new}");
     }
@@ -307,49 +346,51 @@ fn an_entry_takes_the_place_of_another_under_its_number(rt: HostRuntime) -> Resu
     Ok(())
 }
 
+// The name of an entry, the name of one that does not take its place, and the refusal.
+static REFUSED: [(&str, &str, ReplaceRefusal); 8] = [
+    (
+        "ou=none,dc=example,dc=com",
+        "ou=lab,dc=example,dc=com",
+        ReplaceRefusal::Absent,
+    ),
+    (
+        "ou=lab,dc=example,dc=com",
+        "ou=people,dc=example,dc=com",
+        ReplaceRefusal::NameTaken,
+    ),
+    (
+        "ou=people,dc=example,dc=com",
+        "ou=lab,dc=example,dc=com",
+        ReplaceRefusal::NameTaken,
+    ),
+    ("ou=lab,dc=example,dc=com", "", ReplaceRefusal::Elsewhere),
+    (
+        "ou=lab,dc=example,dc=com",
+        "ou=lab,ou=people,dc=example,dc=com",
+        ReplaceRefusal::Elsewhere,
+    ),
+    (
+        "dc=example,dc=com",
+        "dc=example,dc=org",
+        ReplaceRefusal::Elsewhere,
+    ),
+    (
+        "ou=people,dc=example,dc=com",
+        "ou=folk,dc=example,dc=com",
+        ReplaceRefusal::HasBelow,
+    ),
+    (
+        "dc=example,dc=com",
+        "dc=other,dc=com",
+        ReplaceRefusal::HasBelow,
+    ),
+];
+
 #[test]
 fn an_entry_does_not_take_a_place_that_is_not_its_own(rt: HostRuntime) -> Result<(), Fail> {
-    let rows = [
-        (
-            "ou=none,dc=example,dc=com",
-            "ou=lab,dc=example,dc=com",
-            ReplaceRefusal::Absent,
-        ),
-        (
-            "ou=lab,dc=example,dc=com",
-            "ou=people,dc=example,dc=com",
-            ReplaceRefusal::NameTaken,
-        ),
-        (
-            "ou=people,dc=example,dc=com",
-            "ou=lab,dc=example,dc=com",
-            ReplaceRefusal::NameTaken,
-        ),
-        ("ou=lab,dc=example,dc=com", "", ReplaceRefusal::Elsewhere),
-        (
-            "ou=lab,dc=example,dc=com",
-            "ou=lab,ou=people,dc=example,dc=com",
-            ReplaceRefusal::Elsewhere,
-        ),
-        (
-            "dc=example,dc=com",
-            "dc=example,dc=org",
-            ReplaceRefusal::Elsewhere,
-        ),
-        (
-            "ou=people,dc=example,dc=com",
-            "ou=folk,dc=example,dc=com",
-            ReplaceRefusal::HasBelow,
-        ),
-        (
-            "dc=example,dc=com",
-            "dc=other,dc=com",
-            ReplaceRefusal::HasBelow,
-        ),
-    ];
-    for (old, new, want) in rows {
+    for (old, new, want) in &REFUSED {
         let found = replaced(&rt, &NAMES, old, new)?;
-        assert_eq!(rt; found, (Some(want), false), "{old} to {new}");
+        assert_eq!(rt; found, (Some(*want), false), "{old} to {new}");
     }
     Ok(())
 }

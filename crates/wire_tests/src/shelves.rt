@@ -35,30 +35,38 @@ fn a_file_is_fetched_in_pieces_of_the_buffer(rt: HostRuntime) -> Result<(), Fail
     Ok(())
 }
 
+/// A file, a limit within which it is, and its octets.
+static WITHIN: [(&str, u64, &[u8]); 3] = [
+    ("f", 4, b"a\nb\n"),
+    ("f", u64::MAX, b"a\nb\n"),
+    ("e", 0, b""),
+];
+
 #[test]
 fn a_file_within_the_limit_is_read_whole(rt: HostRuntime) -> Result<(), Fail> {
     let mut shelf = shelf(rt.alloc(), &[])?;
-    for (name, limit, want) in [
-        ("f", 4u64, b"a\nb\n".as_slice()),
-        ("f", u64::MAX, b"a\nb\n".as_slice()),
-        ("e", 0, b"".as_slice()),
-    ] {
-        let content = read_all(rt.alloc(), &mut shelf, name, limit)?;
-        assert_eq!(rt; content.as_slice(), want, "{name} with limit {limit}");
+    for (name, limit, want) in &WITHIN {
+        let content = read_all(rt.alloc(), &mut shelf, name, *limit)?;
+        assert_eq!(rt; content.as_slice(), *want, "{name} with limit {limit}");
     }
     Ok(())
 }
+
+/// A limit, and the line of the first octet past it.
+static PAST: [(u64, u64); 4] = [(0, 1), (1, 1), (2, 2), (3, 2)];
 
 #[test]
 fn a_file_past_the_limit_is_refused_at_the_line_of_its_first_octet_past_it(
     rt: HostRuntime,
 ) -> Result<(), Fail> {
     let mut shelf = shelf(rt.alloc(), &[])?;
-    for (limit, line) in [(0u64, 1u64), (1, 1), (2, 2), (3, 2)] {
-        match read_all(rt.alloc(), &mut shelf, "f", limit) {
-            Ok(_) => assert!(rt; false, "read whole with limit {limit}"),
-            Err(fault) => assert_eq!(rt; fault, ReadFault::TooLong { line }, "with limit {limit}"),
-        }
+    for (limit, line) in &PAST {
+        let fault = read_all(rt.alloc(), &mut shelf, "f", *limit).err();
+        assert_eq!(rt;
+            fault,
+            Some(ReadFault::TooLong { line: *line }),
+            "with limit {limit}"
+        );
     }
     Ok(())
 }
@@ -66,22 +74,23 @@ fn a_file_past_the_limit_is_refused_at_the_line_of_its_first_octet_past_it(
 #[test]
 fn a_file_that_is_not_there_is_absent(rt: HostRuntime) -> Result<(), Fail> {
     let mut shelf = shelf(rt.alloc(), &[])?;
-    match read_all(rt.alloc(), &mut shelf, "g", 9) {
-        Ok(_) => assert!(rt; false, "read a file that isn't there"),
-        Err(fault) => assert_eq!(rt; fault, ReadFault::Absent),
-    }
+    let fault = read_all(rt.alloc(), &mut shelf, "g", 9).err();
+    assert_eq!(rt; fault, Some(ReadFault::Absent), "a file that isn't there");
     Ok(())
+}
+
+/// Why `f` is not read whole where this call fails.
+fn fault_at(alloc: Global, call: u64) -> Result<Option<ReadFault>, AllocError> {
+    let mut shelf = shelf(alloc, &[call])?;
+    Ok(read_all(alloc, &mut shelf, "f", 9).err())
 }
 
 #[test]
 fn reading_fails_at_each_call_that_is_to_fail(rt: HostRuntime) -> Result<(), Fail> {
     // the whole of `f` takes two calls: one for its octets, one for its end
-    for call in [0u64, 1] {
-        let mut shelf = shelf(rt.alloc(), &[call])?;
-        match read_all(rt.alloc(), &mut shelf, "f", 9) {
-            Ok(_) => assert!(rt; false, "read whole though call {call} fails"),
-            Err(fault) => assert_eq!(rt; fault, ReadFault::Failed, "at call {call}"),
-        }
+    for call in 0..2u64 {
+        let fault = fault_at(rt.alloc(), call)?;
+        assert_eq!(rt; fault, Some(ReadFault::Failed), "at call {call}");
     }
     let mut shelf = shelf(rt.alloc(), &[2])?;
     let content = read_all(rt.alloc(), &mut shelf, "f", 9)?;
@@ -96,9 +105,7 @@ fn the_systems_files_are_read_and_one_that_is_not_there_is_a_fault(
     let mut shelf = FileShelf::new(rt.clone()?);
     let content = read_all(rt.alloc(), &mut shelf, "/dev/null", 0)?;
     assert_eq!(rt; content.len(), 0);
-    match read_all(rt.alloc(), &mut shelf, "/no/such/file", 9) {
-        Ok(_) => assert!(rt; false, "read a file that isn't there"),
-        Err(fault) => assert_eq!(rt; fault, ReadFault::Failed),
-    }
+    let fault = read_all(rt.alloc(), &mut shelf, "/no/such/file", 9).err();
+    assert_eq!(rt; fault, Some(ReadFault::Failed), "a file that isn't there");
     Ok(())
 }

@@ -13,18 +13,21 @@ fn pieces_are_put_one_after_another(rt: HostRuntime) -> Result<(), Fail> {
     Ok(())
 }
 
+/// A piece, and what putting it answers.
+static PUTS: [(&[u8], Result<(), PutFault>); 4] = [
+    (b"a", Ok(())),
+    (b"b", Err(PutFault::Failed)),
+    (b"c", Ok(())),
+    (b"d", Err(PutFault::Failed)),
+];
+
 #[test]
 fn a_sink_fails_at_the_calls_that_are_to_fail_and_puts_nothing_there(
     rt: HostRuntime,
 ) -> Result<(), Fail> {
     let mut sink = MemSink::new(rt.alloc(), [1, 3].to_vec(rt.alloc())?);
-    for (piece, want) in [
-        (b"a".as_slice(), Ok(())),
-        (b"b".as_slice(), Err(PutFault::Failed)),
-        (b"c".as_slice(), Ok(())),
-        (b"d".as_slice(), Err(PutFault::Failed)),
-    ] {
-        assert_eq!(rt; write_all(&mut sink, piece), want);
+    for (piece, want) in &PUTS {
+        assert_eq!(rt; write_all(&mut sink, piece), *want);
     }
     assert_eq!(rt; sink.bytes(), b"ac".as_slice());
     Ok(())

@@ -29,14 +29,17 @@ fn a_text_is_made_of_a_string_and_gives_it_back(rt: HostRuntime) -> Result<(), F
     Ok(())
 }
 
+/// A count, and the next one.
+static COUNTS: [(u64, u64); 4] = [
+    (0, 1),
+    (41, 42),
+    (u64::MAX - 1, u64::MAX),
+    (u64::MAX, u64::MAX),
+];
+
 #[test]
 fn a_count_rises_by_one_and_stays_at_its_last_value(rt: HostRuntime) {
-    for (count, want) in [
-        (0u64, 1u64),
-        (41, 42),
-        (u64::MAX - 1, u64::MAX),
-        (u64::MAX, u64::MAX),
-    ] {
-        assert_eq!(rt; raised(count), want, "at {count}");
+    for (count, want) in &COUNTS {
+        assert_eq!(rt; raised(*count), *want, "at {count}");
     }
 }
