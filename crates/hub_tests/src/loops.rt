@@ -11,6 +11,10 @@ const SCRIPT: &str =
 /// The answer to the bind.
 const BOUND: &[u8] = b"\x30\x0c\x02\x01\x01\x61\x07\x0a\x01\x00\x04\x00\x04\x00";
 
+/// The notice of disconnection, for octets that are no message (RFC 4511 4.4.1).
+const NOTICE: &[u8] =
+    b"\x30\x24\x02\x01\x00\x78\x1f\x0a\x01\x02\x04\x00\x04\x00\x8a\x161.3.6.1.4.1.1466.20036";
+
 #[test]
 fn each_connection_gets_its_own_answers(rt: HostRuntime) -> Result<(), Fail> {
     let mut link = ScriptLink::read(rt.alloc(), SCRIPT.as_bytes())?;
@@ -18,7 +22,7 @@ fn each_connection_gets_its_own_answers(rt: HostRuntime) -> Result<(), Fail> {
     assert_eq!(rt; link.said_of(1), BOUND);
     assert_eq!(rt; link.hung_up(1), true, "after the unbind");
     assert_eq!(rt; link.hung_up(2), true, "after the notice");
-    assert_eq!(rt; link.said_of(2).len() > 0, true);
+    assert_eq!(rt; link.said_of(2), NOTICE);
     Ok(())
 }
 
