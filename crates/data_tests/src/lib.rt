@@ -1,4 +1,5 @@
-//! Tests of data files: their records, the entries that are loaded of them, and what is written.
+//! Tests of the rules of entries, and of data files: their records, the entries that are loaded of them, and what is
+//! written.
 #![tactic(auto)]
 
 #[cfg(test)]
@@ -7,3 +8,5 @@ mod files;
 mod loads;
 #[cfg(test)]
 mod records;
+#[cfg(test)]
+mod rules;

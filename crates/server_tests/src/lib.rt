@@ -1,5 +1,5 @@
-//! Tests of the whole program over files, sinks and links in memory: tables of scripts and words,
-//! with what each prints and how it ends.
+//! Tests of the hub of sessions and of its loop, and of the whole program over files, sinks and links in memory: tables
+//! of events, scripts and words, with what is sent or printed and how it ends.
 #![tactic(auto)]
 
 #[cfg(test)]
@@ -8,6 +8,10 @@ mod causes;
 mod cuts;
 #[cfg(test)]
 mod data;
+#[cfg(test)]
+mod hubs;
+#[cfg(test)]
+mod loops;
 #[cfg(test)]
 mod replays;
 #[cfg(test)]

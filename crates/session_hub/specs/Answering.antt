@@ -31,12 +31,16 @@ response_to tag r =
     else if tag == 0x6e then reply.Compare r
     else reply.Extended r None None
 
--- success for no name and no password, unwillingToPerform for any other, authMethodNotSupported for another method
+-- success for no name and no password, unwillingToPerform for any other
+abbrev pub simple_code : List ℕ → List ℕ → ℕ
+simple_code [] [] = 0
+simple_code [] (octet ∷ octets) = 53
+simple_code (letter ∷ letters) password = 53
+
+-- authMethodNotSupported for another method
 abbrev pub auth_code : List ℕ → Auth → ℕ
 auth_code name (Other tag) = 7
-auth_code [] (Simple []) = 0
-auth_code [] (Simple (octet ∷ octets)) = 53
-auth_code (letter ∷ letters) (Simple password) = 53
+auth_code name (Simple password) = simple_code name password
 
 -- protocolError for a version other than 3
 abbrev pub bind_code : BindRequest → ℕ

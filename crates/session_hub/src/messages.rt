@@ -2,7 +2,7 @@
 
 ghost use Rattle.std.specs.Prelude.{◌≡◌, ◌++◌, length, IfOk, OnOk, OnErr, Some, None};
 ghost use Rattle.ldap_msg.specs.Streams.{frame_at};
-ghost use Rattle.session_hub.specs.Answering.{rules, reply_to as reply_of, response_to as response_of, bind_code as code_of, is_unbind, requester_after, octets_of, answer_read, coded};
+ghost use Rattle.session_hub.specs.Answering.{rules, reply_to as reply_of, response_to as response_of, bind_code as code_of, auth_code, simple_code, is_unbind, requester_after, octets_of, answer_read, coded};
 ghost use Rattle.session_hub.specs.Answers.{Gives};
 
 use crate::Requester;
@@ -26,18 +26,28 @@ fn result_of(alloc: Global, code: u8) -> LdapResult
 fn bind_code(request: &BindRequest) -> u8
     ensures { result ≡ code_of request.now }
 {
-    if request.version != 3 {
-        return 2;
+    if request.version == 3 {
+        auth_code(request.name.as_slice(), &request.auth)
+    } else {
+        2
     }
-    match &request.auth {
+}
+
+fn auth_code(name: &[u8], auth: &Auth) -> u8
+    ensures { result ≡ auth_code name.now auth.now }
+{
+    match auth {
         Auth::Other(_) => 7,
-        Auth::Simple(password) => {
-            if request.name.is_empty() && password.is_empty() {
-                0
-            } else {
-                53
-            }
-        }
+        Auth::Simple(password) => simple_code(name, password.as_slice()),
+    }
+}
+
+fn simple_code(name: &[u8], password: &[u8]) -> u8
+    ensures { result ≡ simple_code name.now password.now }
+{
+    match (name, password) {
+        ([], []) => 0,
+        _ => 53,
     }
 }
 

@@ -44,7 +44,17 @@ fn written(alloc: Global, id: u32, reply: &Reply) -> Result<Vec<u8>, NoMemory>
     Ok(out)
 }
 
-/// The plain reply in the nth row of the table below.
+/// The reply in the nth row of the table below.
+fn reply_of(alloc: Global, row: usize) -> Result<Reply, NoMemory>
+    ensures { IfOk result (λ reply. IsShort reply) }
+{
+    match row {
+        7 => extended(alloc, b"1.2", b"v"),
+        8 => missing(alloc, b"dc=t"),
+        _ => Ok(plain(alloc, row)),
+    }
+}
+
 fn plain(alloc: Global, row: usize) -> Reply
     ensures { IsShort result }
 {
@@ -60,70 +70,71 @@ fn plain(alloc: Global, row: usize) -> Reply
     }
 }
 
+static SPELLINGS: [(u32, &[u8], &str); 10] = [
+    (
+        1,
+        b"\x07\x30\x0c\x02\x01\x01\x61\x07\x0a\x01\x00\x04\x00\x04\x00",
+        "a bind",
+    ),
+    (
+        2,
+        b"\x07\x30\x0c\x02\x01\x02\x65\x07\x0a\x01\x35\x04\x00\x04\x00",
+        "a search's end",
+    ),
+    (
+        127,
+        b"\x07\x30\x0c\x02\x01\x7f\x67\x07\x0a\x01\x00\x04\x00\x04\x00",
+        "a modify",
+    ),
+    (
+        128,
+        b"\x07\x30\x0d\x02\x02\x00\x80\x69\x07\x0a\x01\x00\x04\x00\x04\x00",
+        "an add",
+    ),
+    (
+        1,
+        b"\x07\x30\x0c\x02\x01\x01\x6b\x07\x0a\x01\x00\x04\x00\x04\x00",
+        "a delete",
+    ),
+    (
+        2_147_483_647,
+        b"\x07\x30\x0f\x02\x04\x7f\xff\xff\xff\x6d\x07\x0a\x01\x00\x04\x00\x04\x00",
+        "a rename with the greatest messageID",
+    ),
+    (
+        1,
+        b"\x07\x30\x0c\x02\x01\x01\x6f\x07\x0a\x01\x06\x04\x00\x04\x00",
+        "a compare",
+    ),
+    (
+        1,
+        b"\x07\x30\x14\x02\x01\x01\x78\x0f\x0a\x01\x02\x04\x00\x04\x00\x8a\x031.2\x8b\x01v",
+        "an extended operation with a name and a value",
+    ),
+    (
+        1,
+        b"\x07\x30\x10\x02\x01\x01\x6f\x0b\x0a\x01\x20\x04\x04dc=t\x04\x00",
+        "a matched name",
+    ),
+    (
+        1,
+        b"\x07\x30\x0d\x02\x01\x01\x78\x08\x0a\x02\x00\x80\x04\x00\x04\x00",
+        "an extended operation, with a code of two octets",
+    ),
+];
+
 #[test]
 fn each_reply_has_one_spelling(rt: HostRuntime) -> Result<(), Fail> {
-    let rows: [(u32, &[u8], &str); 8] = [
-        (
-            1,
-            b"\x07\x30\x0c\x02\x01\x01\x61\x07\x0a\x01\x00\x04\x00\x04\x00",
-            "a bind",
-        ),
-        (
-            2,
-            b"\x07\x30\x0c\x02\x01\x02\x65\x07\x0a\x01\x35\x04\x00\x04\x00",
-            "a search's end",
-        ),
-        (
-            127,
-            b"\x07\x30\x0c\x02\x01\x7f\x67\x07\x0a\x01\x00\x04\x00\x04\x00",
-            "a modify",
-        ),
-        (
-            128,
-            b"\x07\x30\x0d\x02\x02\x00\x80\x69\x07\x0a\x01\x00\x04\x00\x04\x00",
-            "an add",
-        ),
-        (
-            1,
-            b"\x07\x30\x0c\x02\x01\x01\x6b\x07\x0a\x01\x00\x04\x00\x04\x00",
-            "a delete",
-        ),
-        (
-            2_147_483_647,
-            b"\x07\x30\x0f\x02\x04\x7f\xff\xff\xff\x6d\x07\x0a\x01\x00\x04\x00\x04\x00",
-            "a rename with the greatest messageID",
-        ),
-        (
-            1,
-            b"\x07\x30\x0c\x02\x01\x01\x6f\x07\x0a\x01\x06\x04\x00\x04\x00",
-            "a compare",
-        ),
-        (
-            1,
-            b"\x07\x30\x0d\x02\x01\x01\x78\x08\x0a\x02\x00\x80\x04\x00\x04\x00",
-            "an extended operation, with a code of two octets",
-        ),
-    ];
-    for (row, (id, want, what)) in rows.iter().enumerate() {
-        let reply = plain(rt.alloc(), row);
+    for (row, (id, want, what)) in SPELLINGS.iter().enumerate() {
+        let reply = reply_of(rt.alloc(), row)?;
         let out = written(rt.alloc(), *id, &reply)?;
         assert_eq!(rt; out.as_slice(), *want, "{what}");
     }
     Ok(())
 }
 
-#[test]
-fn names_and_values_are_written_where_they_are_given(rt: HostRuntime) -> Result<(), Fail> {
-    let named = extended(rt.alloc(), b"1.2", b"v")?;
-    let out = written(rt.alloc(), 1, &named)?;
-    let want = b"\x07\x30\x14\x02\x01\x01\x78\x0f\x0a\x01\x02\x04\x00\x04\x00\x8a\x031.2\x8b\x01v";
-    assert_eq!(rt; out.as_slice(), want.as_slice());
-    let absent = missing(rt.alloc(), b"dc=t")?;
-    let out = written(rt.alloc(), 1, &absent)?;
-    let want = b"\x07\x30\x10\x02\x01\x01\x6f\x0b\x0a\x01\x20\x04\x04dc=t\x04\x00";
-    assert_eq!(rt; out.as_slice(), want.as_slice());
-    Ok(())
-}
+static NOTICE: &[u8] =
+    b"\x07\x30\x24\x02\x01\x00\x78\x1f\x0a\x01\x02\x04\x00\x04\x00\x8a\x161.3.6.1.4.1.1466.20036";
 
 #[test]
 fn the_notice_of_disconnection_is_written_behind_what_was_there(
@@ -131,8 +142,6 @@ fn the_notice_of_disconnection_is_written_behind_what_was_there(
 ) -> Result<(), Fail> {
     let mut out = [7].to_vec(rt.alloc())?;
     put_notice(&mut out)?;
-    let want =
-        b"\x07\x30\x24\x02\x01\x00\x78\x1f\x0a\x01\x02\x04\x00\x04\x00\x8a\x161.3.6.1.4.1.1466.20036";
-    assert_eq!(rt; out.as_slice(), want.as_slice());
+    assert_eq!(rt; out.as_slice(), NOTICE);
     Ok(())
 }

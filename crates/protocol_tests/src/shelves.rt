@@ -4,34 +4,51 @@ use std::alloc::{AllocError, Global};
 use std::test::Fail;
 use wire_io::{FetchFault, FileShelf, MemShelf, ReadFault, Shelf, read_all};
 
+fn file(alloc: Global, name: &str, octets: &[u8]) -> Result<(String, Vec<u8>), AllocError> {
+    Ok((String::from_str(alloc, name)?, octets.to_vec(alloc)?))
+}
+
 /// A shelf with the file `f`, whose octets are `a`, LF, `b`, LF, and the empty file `e`.
 fn shelf(alloc: Global, failing: &[u64]) -> Result<MemShelf, AllocError> {
     let mut files = Vec::new(alloc);
-    files.push((String::from_str(alloc, "f")?, b"a\nb\n".to_vec(alloc)?))?;
-    files.push((String::from_str(alloc, "e")?, Vec::new(alloc)))?;
+    files.push(file(alloc, "f", b"a\nb\n")?)?;
+    files.push(file(alloc, "e", b"")?)?;
     Ok(MemShelf::new(files, failing.to_vec(alloc)?))
 }
+
+/// What fetching from the place on answers, with a buffer of three octets, and the first two of these then.
+fn fetched(shelf: &mut MemShelf, name: &str, from: u64) -> (Result<usize, FetchFault>, (u8, u8)) {
+    let mut buf = [0u8; 3];
+    let answer = shelf.fetch(name, from, &mut buf);
+    (answer, (buf[0], buf[1]))
+}
+
+/// A file, a place in it, what fetching from there answers, and the first two octets of the buffer then.
+static FETCHED: [(&str, u64, Result<usize, FetchFault>, (u8, u8), &str); 6] = [
+    ("f", 0, Ok(3), (b'a', b'\n'), "as many as the buffer has"),
+    ("f", 3, Ok(1), (b'\n', 0), "the last"),
+    ("f", 4, Ok(0), (0, 0), "the file ends here"),
+    ("f", u64::MAX, Ok(0), (0, 0), "the file ended before"),
+    ("e", 0, Ok(0), (0, 0), "an empty file is there"),
+    (
+        "g",
+        0,
+        Err(FetchFault::Absent),
+        (0, 0),
+        "a file that isn't there",
+    ),
+];
 
 #[test]
 fn a_file_is_fetched_in_pieces_of_the_buffer(rt: HostRuntime) -> Result<(), Fail> {
     let mut shelf = shelf(rt.alloc(), &[])?;
-    let mut buf = [0u8; 3];
-    assert_eq!(rt; shelf.fetch("f", 0, &mut buf), Ok(3));
-    assert_eq!(rt; buf.as_slice(), b"a\nb".as_slice());
-    assert_eq!(rt; shelf.fetch("f", 3, &mut buf), Ok(1));
-    assert_eq!(rt; buf[0], b'\n');
-    assert_eq!(rt; shelf.fetch("f", 4, &mut buf), Ok(0), "the file ends here");
-    assert_eq!(rt;
-        shelf.fetch("f", u64::MAX, &mut buf),
-        Ok(0),
-        "the file ended before"
-    );
-    assert_eq!(rt;
-        shelf.fetch("e", 0, &mut buf),
-        Ok(0),
-        "an empty file is there"
-    );
-    assert_eq!(rt; shelf.fetch("g", 0, &mut buf), Err(FetchFault::Absent));
+    for (name, from, answer, octets, what) in &FETCHED {
+        assert_eq!(rt;
+            fetched(&mut shelf, *name, *from),
+            (*answer, *octets),
+            "{what}"
+        );
+    }
     Ok(())
 }
 

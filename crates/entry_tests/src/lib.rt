@@ -1,0 +1,14 @@
+//! Tests of keys, tables and names, of entries and of the tree that they form, with expected values from the public
+//! standards.
+#![tactic(auto)]
+
+#[cfg(test)]
+mod entries;
+#[cfg(test)]
+mod keys;
+#[cfg(test)]
+mod names;
+#[cfg(test)]
+mod tables;
+#[cfg(test)]
+mod trees;

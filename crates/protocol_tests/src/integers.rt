@@ -1,0 +1,56 @@
+//! Contents of integers (X.690 8.3).
+
+use ber_core::{int_len, put_int, read_int};
+use std::alloc::{AllocError, Global};
+use std::test::Fail;
+
+// The integer, written behind an octet, without that.
+fn written(alloc: Global, value: i64) -> Result<Vec<u8>, AllocError> {
+    let mut out = [7].to_vec(alloc)?;
+    put_int(&mut out, value)?;
+    let _first = out.remove(0);
+    Ok(out)
+}
+
+static INTEGERS: [(i64, &[u8]); 12] = [
+    (-1, &[0xff]),
+    (0, &[0]),
+    (127, &[0x7f]),
+    (128, &[0, 0x80]),
+    (255, &[0, 0xff]),
+    (256, &[1, 0]),
+    (-128, &[0x80]),
+    (-129, &[0xff, 0x7f]),
+    (-256, &[0xff, 0]),
+    (2_147_483_647, &[0x7f, 0xff, 0xff, 0xff]),
+    (i64::MAX, &[0x7f, 0xff, 0xff, 0xff, 0xff, 0xff, 0xff, 0xff]),
+    (i64::MIN, &[0x80, 0, 0, 0, 0, 0, 0, 0]),
+];
+
+#[test]
+fn integers_are_read_and_written_in_the_shortest_form(rt: HostRuntime) -> Result<(), Fail> {
+    for (value, content) in &INTEGERS {
+        let octets = written(rt.alloc(), *value)?;
+        assert_eq!(rt;
+            (read_int(*content), octets.as_slice(), int_len(*value)),
+            (Some(*value), *content, content.len()),
+            "{value}"
+        );
+    }
+    Ok(())
+}
+
+static NO_INTEGERS: [(&[u8], &str); 5] = [
+    (&[], "no octet"),
+    (&[0, 0x7f], "a zero that only repeats the sign"),
+    (&[0xff, 0x80], "a set octet that only repeats the sign"),
+    (&[0, 0, 0x80], "two zeros"),
+    (&[1, 0, 0, 0, 0, 0, 0, 0, 0], "nine octets"),
+];
+
+#[test]
+fn other_contents_are_no_integer(rt: HostRuntime) {
+    for (content, what) in &NO_INTEGERS {
+        assert_eq!(rt; read_int(*content), None, "{what}");
+    }
+}

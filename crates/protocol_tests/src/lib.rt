@@ -1,0 +1,26 @@
+//! Tests of what stands at the outside: words of the command line, scripts, messages and their pieces, and the forms of
+//! files, sinks and links, with expected values from the public standards.
+#![tactic(auto)]
+
+#[cfg(test)]
+mod frames;
+#[cfg(test)]
+mod headers;
+#[cfg(test)]
+mod integers;
+#[cfg(test)]
+mod links;
+#[cfg(test)]
+mod replies;
+#[cfg(test)]
+mod requests;
+#[cfg(test)]
+mod scripts;
+#[cfg(test)]
+mod shelves;
+#[cfg(test)]
+mod sinks;
+#[cfg(test)]
+mod values;
+#[cfg(test)]
+mod words;

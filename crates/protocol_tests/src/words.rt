@@ -1,0 +1,258 @@
+use command_words::{
+    Command, read_words, reading_is_complete, reading_is_sound, words_have_one_command,
+};
+use std::alloc::{AllocError, Global};
+use std::test::*;
+
+// The words of a line, with one space between two words.
+fn words_of(alloc: Global, line: &str) -> Result<Vec<String>, AllocError> {
+    let mut words = Vec::new(alloc);
+    for word in line.split(' ') {
+        words.push(String::from_str(alloc, word)?)?;
+    }
+    Ok(words)
+}
+
+// What words ask for, in one line: each text between brackets.
+fn answer(alloc: Global, words: &[String]) -> Result<String, AllocError> {
+    match read_words(words) {
+        Some(
+            Command::Replay {
+                data,
+                script,
+                turns,
+                dump,
+            },
+        ) => format!(in alloc;
+            "[{data}] [{script}] {turns}{}",
+            if dump { " dump" } else { "" }
+        ),
+        Some(Command::Check { data }) => format!(in alloc; "check [{data}]"),
+        Some(Command::Dump { data }) => format!(in alloc; "dump [{data}]"),
+        None => String::from_str(alloc, "usage"),
+    }
+}
+
+// What the words of a line ask for.
+fn asked(alloc: Global, line: &str) -> Result<String, AllocError> {
+    let words = words_of(alloc, line)?;
+    answer(alloc, words.as_slice())
+}
+
+static READ: [(&str, &str); 56] = [
+    // a replay
+    ("replay d s", "[d] [s] 1000000000000"),
+    ("replay d s --turns 5", "[d] [s] 5"),
+    ("replay d s --turns=5", "[d] [s] 5"),
+    ("replay --turns 5 d s", "[d] [s] 5"),
+    ("replay --turns=5 d s", "[d] [s] 5"),
+    ("replay d --turns 5 s", "[d] [s] 5"),
+    ("replay d --turns=5 s", "[d] [s] 5"),
+    ("replay d s --turns 0", "[d] [s] 0"),
+    ("replay d s --turns 007", "[d] [s] 7"),
+    (
+        "replay d s --turns=18446744073709551615",
+        "[d] [s] 18446744073709551615",
+    ),
+    ("replay d s --turns=00000000000000000001", "[d] [s] 1"),
+    ("replay -- d s", "[d] [s] 1000000000000"),
+    ("replay d -- s", "[d] [s] 1000000000000"),
+    ("replay d s --", "[d] [s] 1000000000000"),
+    ("replay --turns 5 -- d s", "[d] [s] 5"),
+    ("replay -- -d --turns", "[-d] [--turns] 1000000000000"),
+    ("replay --turns=5 -- --turns=6 -", "[--turns=6] [-] 5"),
+    ("replay -- -- --", "[--] [--] 1000000000000"),
+    ("replay - -", "[-] [-] 1000000000000"),
+    ("replay  s", "[] [s] 1000000000000"),
+    (
+        "replay replay d=--turns",
+        "[replay] [d=--turns] 1000000000000",
+    ),
+    (
+        "replay caf\u{e9} \u{20ac}",
+        "[caf\u{e9}] [\u{20ac}] 1000000000000",
+    ),
+    ("replay turns --turns 3 3", "[turns] [3] 3"),
+    // a dump after a replay, in any place
+    ("replay --dump d s", "[d] [s] 1000000000000 dump"),
+    ("replay d --dump s", "[d] [s] 1000000000000 dump"),
+    ("replay d s --dump", "[d] [s] 1000000000000 dump"),
+    ("replay --dump -- d s", "[d] [s] 1000000000000 dump"),
+    ("replay d s --dump --", "[d] [s] 1000000000000 dump"),
+    ("replay d s --dump --turns 5", "[d] [s] 5 dump"),
+    ("replay d s --turns 5 --dump", "[d] [s] 5 dump"),
+    ("replay --dump d --turns=5 s", "[d] [s] 5 dump"),
+    ("replay --turns 5 --dump 5 s", "[5] [s] 5 dump"),
+    ("replay --dump true s", "[true] [s] 1000000000000 dump"),
+    ("replay --dump - -", "[-] [-] 1000000000000 dump"),
+    (
+        "replay --dump -- --dump s",
+        "[--dump] [s] 1000000000000 dump",
+    ),
+    ("replay -- --dump s", "[--dump] [s] 1000000000000"),
+    ("replay d -- --dump", "[d] [--dump] 1000000000000"),
+    ("replay dump s", "[dump] [s] 1000000000000"),
+    // a check and a dump of one file
+    ("check d", "check [d]"),
+    ("check -- d", "check [d]"),
+    ("check d --", "check [d]"),
+    ("check -- -d", "check [-d]"),
+    ("check -- --", "check [--]"),
+    ("check -", "check [-]"),
+    ("check ", "check []"),
+    ("check check", "check [check]"),
+    ("check caf\u{e9}", "check [caf\u{e9}]"),
+    ("dump d", "dump [d]"),
+    ("dump -- d", "dump [d]"),
+    ("dump d --", "dump [d]"),
+    ("dump -- --dump", "dump [--dump]"),
+    ("dump -- --", "dump [--]"),
+    ("dump -", "dump [-]"),
+    ("dump ", "dump []"),
+    ("dump dump", "dump [dump]"),
+    ("dump \u{20ac}", "dump [\u{20ac}]"),
+];
+
+#[test]
+fn each_way_of_writing_a_command_is_read(rt: HostRuntime) -> Result<(), Fail> {
+    for (line, want) in &READ {
+        let got = asked(rt.alloc(), *line)?;
+        assert_eq!(rt; got.as_str(), *want, "{line}");
+    }
+    Ok(())
+}
+
+static REFUSED: [&str; 110] = [
+    // other words
+    "",
+    "Replay d s",
+    "replay2 d s",
+    "Check d",
+    "checks d",
+    "chec d",
+    "DUMP d",
+    "dumps d",
+    "--dump d",
+    "--check d",
+    "serve d 127.0.0.1:389",
+    "explain d anonymous dc=example entry Read",
+    "sample 4",
+    "-- replay d s",
+    "-- check d",
+    "-- dump d",
+    "--turns 5 replay d s",
+    "--dump replay d s",
+    "replay",
+    "replay d",
+    "replay d s t",
+    "replay d s ",
+    "replay -- d",
+    "replay d -- s --turns 5",
+    "replay d -- s --dump",
+    "replay --dump d",
+    "replay --dump d s t",
+    "check",
+    "check --",
+    "check d s",
+    "check d ",
+    "check d -- s",
+    "check -- d --",
+    "dump",
+    "dump --",
+    "dump d s",
+    "dump d ",
+    "dump d -- s",
+    "dump -- d --",
+    // what is no option of the command
+    "replay d s -h",
+    "replay d s --help",
+    "replay d s --version",
+    "replay d s --sessions 5",
+    "replay d s -turns 5",
+    "replay d s -turns=5",
+    "replay d s --turn 5",
+    "replay d s --turnss 5",
+    "replay d s --Turns 5",
+    "replay d s --=5",
+    "replay d s ---",
+    "replay -d s",
+    "replay d s --turns",
+    "replay d s --turns -",
+    "replay d s --turns --",
+    "replay d s --turns -- 5",
+    "replay d s --turns 5 --turns 5",
+    "replay d s --turns=5 --turns=6",
+    "replay --turns 5 d s --turns=5",
+    "replay d s -dump",
+    "replay d s --dum",
+    "replay d s --dumps",
+    "replay d s --Dump",
+    "replay d s --check",
+    "check d -h",
+    "check d --help",
+    "check d --dump",
+    "check --dump d",
+    "check d --turns 5",
+    "check d --turns=5",
+    "check -d",
+    "dump d --help",
+    "dump d --version",
+    "dump d --dump",
+    "dump --dump d",
+    "dump d --turns 5",
+    "dump d --turns=5",
+    "dump -d",
+    // a dump with a value, or given twice
+    "replay d s --dump=",
+    "replay d s --dump=x",
+    "replay d s --dump=1",
+    "replay d s --dump=true",
+    "replay d s --dump==",
+    "replay --dump=d s",
+    "replay --dump=d d s",
+    "replay d s --dump x",
+    "replay d s --turns=5 --dump=5",
+    "replay d s --dump --dump",
+    "replay --dump d s --dump",
+    "replay --dump d --dump s",
+    "replay --dump --turns 5 d s --dump",
+    "replay d s --dump --dump=x",
+    "replay d s --dump --dump --dump",
+    "replay d s --turns --dump",
+    "replay d s --turns --dump 5",
+    // what is no number of turns
+    "replay d s --turns=",
+    "replay d s --turns ",
+    "replay d s --turns=-1",
+    "replay d s --turns -1",
+    "replay d s --turns=+1",
+    "replay d s --turns +1",
+    "replay d s --turns=1x",
+    "replay d s --turns 0x1",
+    "replay d s --turns 1.0",
+    "replay d s --turns 1_000",
+    "replay d s --turns=1=1",
+    "replay d s --turns \u{661}",
+    "replay d s --turns=18446744073709551616",
+    "replay d s --turns 99999999999999999999",
+    "replay d s --turns 000000000000000000001",
+    "replay d s --dump --turns=x",
+];
+
+#[test]
+fn all_other_words_ask_for_nothing(rt: HostRuntime) -> Result<(), Fail> {
+    for line in &REFUSED {
+        let got = asked(rt.alloc(), *line)?;
+        assert_eq!(rt; got.as_str(), "usage", "{line}");
+    }
+    let none = answer(rt.alloc(), &[])?;
+    assert_eq!(rt; none.as_str(), "usage", "no words");
+    Ok(())
+}
+
+#[test]
+fn the_laws_can_be_called() {
+    reading_is_sound();
+    reading_is_complete();
+    words_have_one_command();
+}
