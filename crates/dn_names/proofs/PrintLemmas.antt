@@ -3,8 +3,9 @@ use Rattle.std.proofs.Common.{◌≡◌, ℕ, ◌+◌, ◌-◌, ◌<◌, false, 
 use Rattle.std.specs.Prelude.{◌==◌, if◌then◌else◌}
 use Rattle.std.proofs.lemmas.List.{drop_more, take_more, drop-map, take-map, get_or-reverse, length-reverse}
 use Rattle.std.proofs.lemmas.Bool.Decides.{nat_tests}
-use Rattle.dn_names.specs.Printing.{join_from, print_rdn}
-use Rattle.dn_names.specs.Names.{TypeAndValue, RdnSequence, SharedRdn, rdns_of, IsTextRdn, IsTextName}
+use Rattle.std.specs.List.{AllByRecursion}
+use Rattle.dn_names.specs.Printing.{join_from}
+use Rattle.dn_names.specs.Names.{SharedRdn, rdns_of}
 use Rattle.dn_names.proofs.ResolveLemmas.{rdns_of-reverse, rdns_of-push}
 
 module _ {Z : Type 0} (rdns : List (SharedRdn Z)) (index : ℕ) (rdn : SharedRdn Z) (within : index < length rdns) (is : rdn ≡ get_or rdns (length rdns - 1 - index) rdn) where
@@ -31,20 +32,20 @@ module _ {Z : Type 0} (rdns : List (SharedRdn Z)) (index : ℕ) (rdn : SharedRdn
       ∙ rdns_of-push (take index (reverse rdns)) rdn (take index (reverse rdns) ++ rdn ∷ []) refl
       ∙ ap (λ t. t ++ rdn.value ∷ []) (sym (take-map (λ (r : SharedRdn Z). r.value) index (reverse rdns)) ∙ ap (take index) (rdns_of-reverse rdns))
 
-pub IsTextName-push : (name : RdnSequence) (rdn : List TypeAndValue) → IsTextName name → IsTextRdn rdn → IsTextName (name ++ rdn ∷ [])
-IsTextName-push [] rdn a b = (b, tt)
-IsTextName-push (r ∷ rs) rdn a b = (a.0, IsTextName-push rs rdn a.1 b)
+pub AllByRecursion-push : {A : Type 0} (P : A → Type 0) (xs : List A) (x : A) → AllByRecursion P xs → P x → AllByRecursion P (xs ++ x ∷ [])
+AllByRecursion-push P [] x a b = (b, tt)
+AllByRecursion-push P (y ∷ ys) x a b = (a.0, AllByRecursion-push P ys x a.1 b)
 
 not_first : (i : ℕ) → (i + 1 == 0) ≡ false
 not_first i = grind (arith, nat_tests)
 
--- one RDN more is written
-pub next_rdn : (shown : TypeAndValue → List ℕ) (name : RdnSequence) (i : ℕ) (rdn : List TypeAndValue) (out mid new total : List ℕ) → drop i name ≡ rdn ∷ drop (i + 1) name → mid ≡ out ++ (if i == 0 then [] else 44 ∷ []) → new ≡ mid ++ print_rdn shown rdn → out ++ join_from 44 (print_rdn shown) (i == 0) (drop i name) ≡ total → new ++ join_from 44 (print_rdn shown) (i + 1 == 0) (drop (i + 1) name) ≡ total
-next_rdn shown name i rdn out mid new total left mark more e =
-    let rest = join_from 44 (print_rdn shown) false (drop (i + 1) name) in
-    ap (λ b. new ++ join_from 44 (print_rdn shown) b (drop (i + 1) name)) (not_first i)
-    ∙ ap (λ t. t ++ rest) (more ∙ ap (λ t. t ++ print_rdn shown rdn) mark)
-    ∙ append_assoc (out ++ (if i == 0 then [] else 44 ∷ [])) (print_rdn shown rdn) rest
-    ∙ append_assoc out (if i == 0 then [] else 44 ∷ []) (print_rdn shown rdn ++ rest)
-    ∙ ap (λ t. out ++ join_from 44 (print_rdn shown) (i == 0) t) (sym left)
+-- one item more is written
+pub next_item : {A : Type 0} (mark : ℕ) (show : A → List ℕ) (xs : List A) (i : ℕ) (x : A) (out mid new total : List ℕ) → drop i xs ≡ x ∷ drop (i + 1) xs → mid ≡ out ++ (if i == 0 then [] else mark ∷ []) → new ≡ mid ++ show x → out ++ join_from mark show (i == 0) (drop i xs) ≡ total → new ++ join_from mark show (i + 1 == 0) (drop (i + 1) xs) ≡ total
+next_item mark show xs i x out mid new total left marked more e =
+    let rest = join_from mark show false (drop (i + 1) xs) in
+    ap (λ b. new ++ join_from mark show b (drop (i + 1) xs)) (not_first i)
+    ∙ ap (λ t. t ++ rest) (more ∙ ap (λ t. t ++ show x) marked)
+    ∙ append_assoc (out ++ (if i == 0 then [] else mark ∷ [])) (show x) rest
+    ∙ append_assoc out (if i == 0 then [] else mark ∷ []) (show x ++ rest)
+    ∙ ap (λ t. out ++ join_from mark show (i == 0) t) (sym left)
     ∙ e

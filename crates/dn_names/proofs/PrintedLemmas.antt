@@ -2,24 +2,28 @@
 use Rattle.std.proofs.Common.{◌≡◌, ◌≢◌, ℕ, Bool, true, false, List, [], ◌∷◌, ◌++◌, inl, inr, refl, sym, ap, subst, ◌∙◌, arith}
 use Rattle.std.specs.Prelude.{◌==◌, if◌then◌else◌, slice_index}
 use Rattle.std.proofs.lemmas.Bool.Decides.{nat_tests}
+use Rattle.dn_names.specs.declared.classes.Class.{Class}
+use Rattle.dn_names.specs.declared.classes.Class.TheVariants.{Space, Nul}
 use Rattle.dn_names.specs.Classes.{class_of, is_plain, is_escapable, is_hex}
 use Rattle.dn_names.specs.Spelling.{IsPiece, SpellsOctets, SpellsValue}
 use Rattle.dn_names.specs.Printing.{is_escaped, print_octet, is_empty, print_from, print_value}
 
 -- how a printed octet stands for the octet
-escaped_escapable : (first last : Bool) (x : ℕ) → is_escaped first last (class_of x) ≡ true → is_escapable (class_of x) ≡ true
-unfolding class_of
-escaped_escapable true true x h = grind (arith, nat_tests)
-escaped_escapable true false x h = grind (arith, nat_tests)
-escaped_escapable false true x h = grind (arith, nat_tests)
-escaped_escapable false false x h = grind (arith, nat_tests)
+escaped_class : (first last : Bool) (k : Class) → is_escaped first last k ≡ true → is_escapable k ≡ true
+escaped_class first last Space h = refl
+escaped_class first last k h = cc
 
-bare_plain : (first last : Bool) (x : ℕ) → is_escaped first last (class_of x) ≡ false → (x == 0) ≡ false → is_plain (class_of x) ≡ true
+abbrev is_nul : Class → Bool
+is_nul Nul = true
+is_nul k = false
+
+not_nul : (x : ℕ) → (x == 0) ≡ false → is_nul (class_of x) ≡ false
 unfolding class_of
-bare_plain true true x h z = grind (arith, nat_tests)
-bare_plain true false x h z = grind (arith, nat_tests)
-bare_plain false true x h z = grind (arith, nat_tests)
-bare_plain false false x h z = grind (arith, nat_tests)
+not_nul x z = grind (arith, nat_tests)
+
+bare_class : (first last : Bool) (k : Class) → is_escaped first last k ≡ false → is_nul k ≡ false → is_plain k ≡ true
+bare_class first last Space h z = refl
+bare_class first last k h z = cc
 
 zero_hex : is_hex (class_of 48) ≡ true
 unfolding class_of
@@ -28,10 +32,10 @@ zero_hex = refl
 piece_printed : (first last : Bool) (x : ℕ) → IsPiece x (print_octet first last x)
 piece_printed first last x =
     elim (is_escaped first last (class_of x)) as (λ b. is_escaped first last (class_of x) ≡ b → IsPiece x (if b then 92 ∷ x ∷ [] else if x == 0 then 92 ∷ 48 ∷ 48 ∷ [] else x ∷ [])) [
-      | true ↦ λ e. inr (inl (refl, escaped_escapable first last x e))
+      | true ↦ λ e. inr (inl (refl, escaped_class first last (class_of x) e))
       | false ↦ λ e. elim (x == 0) as (λ z. (x == 0) ≡ z → IsPiece x (if z then 92 ∷ 48 ∷ 48 ∷ [] else x ∷ [])) [
         | true ↦ λ z. inr (inr (48, 48, refl, zero_hex, zero_hex, grind (arith, nat_tests)))
-        | false ↦ λ z. inl (refl, bare_plain first last x e z)
+        | false ↦ λ z. inl (refl, bare_class first last (class_of x) e (not_nul x z))
       ] refl
     ] refl
 
@@ -63,12 +67,28 @@ octets_printed : (first : Bool) (octets : List ℕ) → SpellsOctets octets (pri
 octets_printed first [] = tt
 octets_printed first (x ∷ xs) = (print_octet first (is_empty xs) x, print_from false xs, refl, piece_printed first (is_empty xs) x, octets_printed false xs, λ nil. subst (λ (t : List ℕ). print_octet first (is_empty t) x ≢ 32 ∷ []) (sym nil) (last_octet first x))
 
-front_octet : (last : Bool) (x : ℕ) (rest : List ℕ) → (slice_index (print_octet true last x ++ rest) 0 ≢ 32) × (slice_index (print_octet true last x ++ rest) 0 ≢ 35)
+bare_front : (last : Bool) (x : ℕ) → is_escaped true last (class_of x) ≡ false → (x ≢ 32) × (x ≢ 35)
 unfolding class_of
-front_octet true x rest = ((λ e. grind (arith, nat_tests, e)), λ e. grind (arith, nat_tests, e))
-front_octet false x rest = ((λ e. grind (arith, nat_tests, e)), λ e. grind (arith, nat_tests, e))
+bare_front last x h = ((λ e. (let clash = rw e at h in cc)), λ e. (let clash = rw e at h in cc))
 
-value_front : (octets : List ℕ) → (slice_index (print_from true octets) 0 ≢ 32) × (slice_index (print_from true octets) 0 ≢ 35)
+-- a value may begin so
+abbrev IsFront : List ℕ → Type 0
+IsFront text = (slice_index text 0 ≢ 32) × (slice_index text 0 ≢ 35)
+
+front_octet : (last : Bool) (x : ℕ) (rest : List ℕ) → IsFront (print_octet true last x ++ rest)
+front_octet last x rest =
+    elim (is_escaped true last (class_of x)) as (λ b. is_escaped true last (class_of x) ≡ b → IsFront ((if b then 92 ∷ x ∷ [] else if x == 0 then 92 ∷ 48 ∷ 48 ∷ [] else x ∷ []) ++ rest)) [
+      | true ↦ λ h. backslash (x ∷ rest)
+      | false ↦ λ h. elim (x == 0) as (λ z. IsFront ((if z then 92 ∷ 48 ∷ 48 ∷ [] else x ∷ []) ++ rest)) [
+        | true ↦ backslash (48 ∷ 48 ∷ rest)
+        | false ↦ bare_front last x h
+      ]
+    ] refl
+  where
+    backslash : (more : List ℕ) → IsFront (92 ∷ more)
+    backslash more = ((λ e. omega (arith, e)), λ e. omega (arith, e))
+
+value_front : (octets : List ℕ) → IsFront (print_from true octets)
 value_front [] = ((λ e. omega (arith, e)), λ e. omega (arith, e))
 value_front (x ∷ xs) = front_octet (is_empty xs) x (print_from false xs)
 

@@ -1,10 +1,10 @@
 -- What is left after two fronts is what is left of what is left.
-use Rattle.std.proofs.Common.{◌≡◌, ℕ, ◌+◌, ◌<◌, length, drop, true, false, List, [], ◌∷◌, ◌++◌, Option, Some, None, refl, sym, ap, ◌∙◌, append_assoc, arith, eqb-true}
-use Rattle.std.proofs.lemmas.List.{drop_more}
+use Rattle.std.proofs.Common.{◌≡◌, ℕ, ◌+◌, ◌-◌, ◌<◌, length, drop, get_or, true, false, List, [], ◌∷◌, ◌++◌, Option, Some, None, refl, sym, ap, ◌∙◌, append_assoc, arith, eqb-true}
+use Rattle.std.proofs.lemmas.List.{drop_more, length-drop}
 use Rattle.std.proofs.lemmas.Bool.{cond-true}
 use Rattle.std.proofs.lemmas.Bool.Decides.{nat_tests}
 use Rattle.std.specs.Prelude.{◌==◌, if◌then◌else◌}
-use Rattle.dn_names.specs.Printing.{join_from}
+use Rattle.dn_names.specs.Printing.{print_octet, is_empty, print_from, join_from}
 use Rattle.dn_names.specs.KeyReading.{strip}
 
 -- where the first is there
@@ -69,6 +69,37 @@ module _ {A : Type 0} (mark : ℕ) (show : A → List ℕ) (xs : List A) (i : �
       sym (strip_two_none (if i == 0 then [] else mark ∷ []) (show x) (join_from mark show false (drop (i + 1) xs)) rest there)
       ∙ ap (λ t. strip (join_from mark show (i == 0) t) rest) (sym left)
       ∙ e
+
+length_of : (xs : List ℕ) → is_empty xs ≡ (length xs == 0)
+length_of [] = refl
+length_of (x ∷ xs) = grind (arith, nat_tests)
+
+-- nothing stands behind the last octet
+is_last : (xs : List ℕ) (i : ℕ) → i < length xs → is_empty (drop (i + 1) xs) ≡ (i == length xs - 1)
+is_last xs i within = length_of (drop (i + 1) xs) ∙ ap (λ n. n == 0) (length-drop (i + 1) xs) ∙ none_left (length xs) i within
+  where
+    none_left : (n i : ℕ) → i < n → (n - (i + 1) == 0) ≡ (i == n - 1)
+    none_left n i within = grind (arith, nat_tests)
+
+module _ (value : List ℕ) (i : ℕ) (within : i < length value) (rest : List ℕ) (total : Option (List ℕ)) (e : strip (print_from (i == 0) (drop i value)) rest ≡ total) where
+  this_octet : strip (print_octet (i == 0) (i == length value - 1) (get_or value i 0) ++ print_from false (drop (i + 1) value)) rest ≡ total
+  this_octet =
+      ap (λ b. strip (print_octet (i == 0) b (get_or value i 0) ++ print_from false (drop (i + 1) value)) rest) (sym (is_last value i within))
+      ∙ ap (λ t. strip (print_from (i == 0) t) rest) (sym (drop_more value i 0 within))
+      ∙ e
+
+  -- one octet more of a value is there
+  pub strip_octet : (others : List ℕ) → strip (print_octet (i == 0) (i == length value - 1) (get_or value i 0)) rest ≡ Some others → strip (print_from (i + 1 == 0) (drop (i + 1) value)) others ≡ total
+  strip_octet others there =
+      ap (λ b. strip (print_from b (drop (i + 1) value)) others) (not_first i)
+      ∙ sym (strip_some (print_octet (i == 0) (i == length value - 1) (get_or value i 0)) (print_from false (drop (i + 1) value)) rest others there)
+      ∙ this_octet
+
+  -- and where it isn't
+  pub strip_no_octet : strip (print_octet (i == 0) (i == length value - 1) (get_or value i 0)) rest ≡ None → None ≡ total
+  strip_no_octet there =
+      sym (strip_none (print_octet (i == 0) (i == length value - 1) (get_or value i 0)) (print_from false (drop (i + 1) value)) rest there)
+      ∙ this_octet
 
 -- where the front goes on and the octets have ended
 pub strip_ended : (front : List ℕ) (i : ℕ) (rest : List ℕ) (total : Option (List ℕ)) → i < length front → (length rest == 0) ≡ true → strip (drop i front) rest ≡ total → None ≡ total

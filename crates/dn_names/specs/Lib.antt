@@ -14,6 +14,7 @@ pub mod GoodNames
 pub mod NameValues
 -- what only this crate's inside promises itself
 pub mod Pieces
+pub mod Texts
 pub mod Modes
 pub mod Reading
 pub mod KeyReading

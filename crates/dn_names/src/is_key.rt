@@ -52,7 +52,7 @@ fn after_octet(octets: &[u8], octet: u8, first: bool, last: bool) -> Option<&[u8
 }
 
 // The octets after a printed value.
-#[tactic(auto, using(crate::proofs::StripLemmas::strip_some, crate::proofs::StripLemmas::strip_none), unfolding(crate::specs::Printing::print_value))]
+#[tactic(auto, unfolding(crate::specs::Printing::print_value))]
 fn after_value<'a>(octets: &'a [u8], value: &[u8]) -> Option<&'a [u8]>
     ensures exact { option_map (λ rest. rest.now) result ≡ strip (print_value value.now) octets.now }
 {

@@ -20,6 +20,7 @@ mod printing;
 mod resolve;
 mod scan;
 mod sharing;
+mod short;
 mod value;
 
 pub use error::BadName;

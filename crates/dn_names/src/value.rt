@@ -3,16 +3,16 @@
 ghost use Rattle.std.specs.Prelude.{◌≡◌, ◌++◌, IfOk};
 ghost use Rattle.dn_names.specs.Pieces.{split_of};
 
+use crate::short::{Text, front};
 use std::alloc::{AllocError, Global};
 use std::marker::Model;
 
 /// A value of an attribute: its octets as they were given, and the key by which it is compared.
 #[derive(Debug, Drop)]
 pub struct Value {
-    // the octets, and behind them the key where it is another
-    text: Vec<u8>,
-    // where the octets end: at the text's end where the key is the octets, past it where the key is empty
-    split: usize,
+    // the octets, and behind them the key where it is another; split where the octets end, at the text's end
+    // where the key is the octets, and past it where the key is empty
+    text: Text,
 }
 
 impl Model for Value {
@@ -22,8 +22,8 @@ impl Model for Value {
     ghost Value = { Keyed };
 
     ghost view = { λ value. record {
-      octets = octets_in value.split value.text.items;
-      key = key_in value.split value.text.items;
+      octets = octets_in value.text.split value.text.octets;
+      key = key_in value.text.split value.text.octets;
     } };
 }
 
@@ -43,10 +43,10 @@ impl Value {
     fn from_one(octets: Vec<u8>) -> Value
         ensures exact { result ≡ record { octets = octets.items; key = octets.items } }
     {
-        let mut text = octets;
-        text.shrink_to_fit();
-        let split = text.len();
-        Value { text, split }
+        let split = octets.len();
+        Value {
+            text: Text::from_vec(octets, split),
+        }
     }
 
     // The value of octets with another key.
@@ -55,8 +55,7 @@ impl Value {
     {
         let split = split_of(&octets, key)?;
         Ok(Value {
-            text: append(octets, key)?,
-            split,
+            text: Text::from_vec(append(octets, key)?, split),
         })
     }
 
@@ -64,17 +63,19 @@ impl Value {
     pub fn octets(&self) -> &[u8]
         ensures exact { result.now ≡ self.now.octets }
     {
-        &self.text[..self.split.min(self.text.len())]
+        front(self.text.as_slice(), self.text.split())
     }
 
     /// The key: values of one syntax match exactly where their keys are equal.
     pub fn key(&self) -> &[u8]
         ensures exact { result.now ≡ self.now.key }
     {
-        if self.split == self.text.len() {
-            &self.text
+        let text = self.text.as_slice();
+        let split = self.text.split();
+        if split == text.len() {
+            text
         } else {
-            &self.text[self.split.min(self.text.len())..]
+            &text[split.min(text.len())..]
         }
     }
 
@@ -83,8 +84,7 @@ impl Value {
         ensures ok { IfOk result (λ value. value ≡ self.now) }
     {
         Ok(Value {
-            text: self.text.as_slice().to_vec(alloc)?,
-            split: self.split,
+            text: self.text.copy(alloc)?,
         })
     }
 }
@@ -102,13 +102,12 @@ fn split_of(octets: &[u8], key: &[u8]) -> Result<usize, AllocError>
     }
 }
 
-// The octets and then the key, in no more memory than they take.
+// The octets and then the key.
 fn append(octets: Vec<u8>, key: &[u8]) -> Result<Vec<u8>, AllocError>
     ensures ok { IfOk result (λ text. text.items ≡ octets.items ++ key.now) }
 {
     let mut text = octets;
     text.reserve_exact(key.len())?;
     text.extend_from_slice(key)?;
-    text.shrink_to_fit();
     Ok(text)
 }

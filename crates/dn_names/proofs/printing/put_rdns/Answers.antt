@@ -1,8 +1,8 @@
 -- One RDN more is written.
 use Rattle.std.proofs.Common.{reverse, take}
-use Rattle.dn_names.specs.Names.{rdns_of}
-use Rattle.dn_names.specs.Printing.{shown_of}
-use Rattle.dn_names.proofs.PrintLemmas.{drop-reverse, take-reverse, IsTextName-push, next_rdn}
+use Rattle.dn_names.specs.Names.{IsTextRdn, rdns_of}
+use Rattle.dn_names.specs.Printing.{print_rdn, shown_of}
+use Rattle.dn_names.proofs.PrintLemmas.{drop-reverse, take-reverse, AllByRecursion-push, next_item}
 use Rattle.dn_names.proofs.printing.put_rdns.Goals as goal
 
 pub loop-index-preserved : goal.loop-index-preserved
@@ -13,7 +13,7 @@ loop-index-preserved c =
     let text = rw (c.as_slice.ensures.exact, c.deref.ensures) at c.in_ok-put_rdn.ensures.text in
     let more = rw (c.as_slice.ensures.exact, c.deref.ensures) at c.in_ok-put_rdn.ensures.ok in
     record {
-      exact = next_rdn (shown_of c.args.shown) (reverse (rdns_of rdns)) l.index rdn.value l.out.items c.put_mark.new.out.items c.put_rdn.new.out.items _
+      exact = next_item 44 (print_rdn (shown_of c.args.shown)) (reverse (rdns_of rdns)) l.index rdn.value l.out.items c.put_mark.new.out.items c.put_rdn.new.out.items _
           (drop-reverse rdns l.index rdn c.loop-index-test.true c.index-rdns-rdns.is) c.in_ok-put_mark.ensures.ok more l.invariant.exact;
-      text = rw (take-reverse rdns l.index rdn c.loop-index-test.true c.index-rdns-rdns.is) (IsTextName-push (take l.index (reverse (rdns_of rdns))) rdn.value l.invariant.text text);
+      text = rw (take-reverse rdns l.index rdn c.loop-index-test.true c.index-rdns-rdns.is) (AllByRecursion-push IsTextRdn (take l.index (reverse (rdns_of rdns))) rdn.value l.invariant.text text);
     }
