@@ -6,9 +6,9 @@ use Rattle.wire_io.specs.declared.answers.PutFault.TheVariants as put
 use Rattle.wire_io.specs.Pieces.{pieces}
 use Rattle.session_hub.specs.Loops.{buffer_length}
 use Rattle.dir_tree.specs.Entries.{EntryInformation}
+use Rattle.dir_tree.specs.Points.{access_subentries}
 use Rattle.ldif_core.specs.declared.types.LineCause.{LineCause}
 use Rattle.ldif_core.specs.declared.types.LineCause.TheVariants.{Syntax, Changetype, Base64}
-use Rattle.schema_rules.specs.Rules.{access_subentries}
 use Rattle.op_write.specs.declared.fault.LoadCause.{LoadCause}
 use Rattle.op_write.specs.declared.fault.LoadCause.TheVariants.{Name, Kind, Value, Twice, Order, Rule, Limit}
 use Rattle.op_write.specs.DataFile.{FileCause, OfLine, OfRecord, OfMemory, ldif_text}

@@ -10,7 +10,7 @@ ghost use Rattle.acl_program.specs.Playing.{Ends, Performs};
 use crate::loading::load_data;
 use crate::status::Status;
 use crate::troubles::print_trouble;
-use data_file::{access_subentries, put_tree};
+use data_file::put_tree;
 use dir_tree::Tree;
 use std::alloc::{AllocError, Global};
 use wire_io::{Shelf, Sink, write_all};
@@ -49,7 +49,7 @@ fn counts(alloc: Global, tree: &Tree) -> Result<String, AllocError>
     ensures { IfOk result (λ text. string_bytes text ≡ text_of (Checked (entries_of tree.now))) }
 {
     let entries = tree.len();
-    let subentries = access_subentries(tree);
+    let subentries = tree.access_subentries();
     format!(in alloc; "ok {entries} {subentries}\n")
 }
 

@@ -1,10 +1,9 @@
 -- How a file is loaded record by record: what one step does, and what a fault of the crates below is here; and how one
--- is written, and access control subentries are counted, entry by entry.
-use Rattle.std.specs.Prelude.{◌≡◌, ℕ, Bool, false, List, [], ◌∷◌, Result, Err}
+-- is written, entry by entry.
+use Rattle.std.specs.Prelude.{◌≡◌, ℕ, List, [], ◌∷◌, Result, Err}
 use Rattle.std.specs.List.{flat_map}
 use Rattle.std.specs.Option.{option_map_or}
 use Rattle.dir_tree.specs.Entries.{EntryInformation}
-use Rattle.dir_tree.specs.Points.{is_access_subentry}
 use Rattle.dir_tree.specs.Trees.{Numbered, entry_of}
 use Rattle.ldif_core.specs.declared.types.Position.{Position}
 use Rattle.ldif_core.specs.declared.types.Record.{Record}
@@ -51,7 +50,3 @@ records_text entries = flat_map record_text entries
 -- those of the entry of a number: nothing where the number is not in use
 abbrev pub text_at : List Numbered → ℕ → List ℕ
 text_at rows id = option_map_or record_text (entry_of id rows) []
-
--- the entry of the number is an access control subentry
-abbrev pub is_access_at : List Numbered → ℕ → Bool
-is_access_at rows id = option_map_or is_access_subentry (entry_of id rows) false

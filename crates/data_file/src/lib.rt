@@ -7,4 +7,4 @@ mod writing;
 
 pub use fault::{DataCause, DataFault, NoMemory};
 pub use loading::load;
-pub use writing::{access_subentries, put_tree};
+pub use writing::put_tree;

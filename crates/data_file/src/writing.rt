@@ -1,16 +1,14 @@
 //! A tree, written as a data file.
 
-ghost use Rattle.std.specs.Prelude.{◌≡◌, ◌∷◌, length, filter, flat_map, OnOk};
+ghost use Rattle.std.specs.Prelude.{◌≡◌, ◌∷◌, flat_map, OnOk};
 ghost use Rattle.wire_io.specs.Putting.{PutsAll, PutCause};
-ghost use Rattle.dir_tree.specs.Points.{is_access_subentry};
 ghost use Rattle.dir_tree.specs.Scopes.{scoped};
 ghost use Rattle.dir_tree.specs.declared.scope.Scope.TheVariants.{Sub};
 ghost use Rattle.ldif_core.specs.Written.{AreInTable};
 ghost use Rattle.schema_rules.specs.Checking.{entries_of};
-ghost use Rattle.schema_rules.specs.Rules.{access_subentries};
 ghost use Rattle.op_write.specs.DataFile.{ldif_text};
 ghost use Rattle.data_file.specs.Files.{AreOfTable};
-ghost use Rattle.data_file.specs.Steps.{record_text, records_text, text_at, is_access_at};
+ghost use Rattle.data_file.specs.Steps.{record_text, records_text, text_at};
 
 use crate::fault::NoMemory;
 use dir_tree::{Entry, EntryNo, Scope, Tree};
@@ -105,46 +103,4 @@ fn write_record(entry: &Entry, text: &mut Vec<u8>) -> Result<(), NoMemory>
     text.clear();
     text.extend_from_slice(b"\n")?;
     put_entry(text, entry)
-}
-
-/// How many access control subentries the tree has.
-pub fn access_subentries(tree: &Tree) -> usize
-    ensures exact { result ≡ access_subentries (entries_of tree.now) }
-{
-    tree.entries_form_a_tree();
-    match tree.suffix() {
-        Some(suffix) => count_below(tree, suffix),
-        None => 0,
-    }
-}
-
-// How many access control subentries are the entry of the number and those below it.
-fn count_below(tree: &Tree, base: EntryNo) -> usize
-    ensures exact { result ≡ length (filter (is_access_at tree.now) (scoped Sub base.0 tree.now)) }
-{
-    tree.entries_form_a_tree();
-    let mut count = 0;
-    for no in tree.below(base, Scope::Sub) {
-        if is_access_at(tree, no) {
-            count += 1;
-        }
-    }
-    count
-}
-
-// Whether the entry of the number is an access control subentry.
-fn is_access_at(tree: &Tree, no: EntryNo) -> bool
-    ensures exact { result ≡ is_access_at tree.now no.0 }
-{
-    match tree.at(no) {
-        Some(entry) => is_access_subentry(entry),
-        None => false,
-    }
-}
-
-#[tactic(auto, unfolding(dir_tree::specs::Points::is_access_subentry, dir_tree::specs::Points::is_subentry))]
-fn is_access_subentry(entry: &Entry) -> bool
-    ensures exact { result ≡ is_access_subentry entry.now }
-{
-    entry.has_class("2.5.17.0") && entry.has_class("2.5.17.1")
 }

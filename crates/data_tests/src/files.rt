@@ -1,6 +1,6 @@
 //! Data files: loaded whole, refused at a line, and written again (RFC 2849).
 
-use data_file::{DataCause, DataFault, access_subentries, load, put_tree};
+use data_file::{DataCause, DataFault, load, put_tree};
 use ldif_core::LineCause;
 use op_write::LoadCause;
 use std::alloc::Global;
@@ -79,6 +79,6 @@ fn a_file_is_refused_at_its_first_bad_line(rt: HostRuntime) -> Result<(), Fail> 
 #[test]
 fn a_file_without_subentries_has_none_for_access_control(rt: HostRuntime) -> Result<(), Fail> {
     let tree = load(rt.alloc(), FILE.as_bytes())?;
-    assert_eq!(rt; access_subentries(&tree), 0);
+    assert_eq!(rt; tree.access_subentries(), 0);
     Ok(())
 }

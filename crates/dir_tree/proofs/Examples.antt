@@ -8,7 +8,7 @@ use Rattle.dn_names.specs.Names.{Keyed}
 use Rattle.dir_tree.specs.Entries.{EntryInformation, values_of, kinds_of}
 use Rattle.dir_tree.specs.Changes.{with_value, without_value, without_kind}
 use Rattle.dir_tree.specs.EntryClasses.{object_class, oids_of_classes, has_class}
-use Rattle.dir_tree.specs.Points.{administrative_role, is_point, is_specific_point, is_inner_point, is_subentry, is_access_subentry}
+use Rattle.dir_tree.specs.Points.{administrative_role, is_point, is_specific_point, is_inner_point, is_subentry, is_access_subentry, access_subentries}
 
 -- a value of its octets and its key
 abbrev value : String → String → Keyed
@@ -127,3 +127,8 @@ no_access_subentry = refl
 an_access_subentry : is_access_subentry (with [] (subentry ∷ access_control ∷ [])) ≡ true
 unfolding is_access_subentry is_subentry has_class attributes classes
 an_access_subentry = refl
+
+-- a subentry of another kind does not count, nor does an entry that is none
+access_subentries_counted : access_subentries (ann ∷ with [] (subentry ∷ access_control ∷ []) ∷ with [] (subentry ∷ []) ∷ []) ≡ 1
+unfolding is_access_subentry is_subentry has_class attributes classes
+access_subentries_counted = refl

@@ -15,6 +15,7 @@ pub mod CountLemmas
 pub mod SlotLemmas
 pub mod WalkLemmas
 pub mod KeptLemmas
+pub mod AccessLemmas
 pub mod FrontLemmas
 pub mod ReplaceLemmas
 pub mod TreeLemmas

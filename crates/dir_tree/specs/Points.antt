@@ -1,5 +1,5 @@
 -- Administrative points and subentries (X.501 14.3, RFC 3672 section 2), as an entry's own attributes say.
-use Rattle.std.specs.Prelude.{ℕ, nat_lt, Bool, ◌&&◌, ◌||◌, not, length, codes}
+use Rattle.std.specs.Prelude.{ℕ, nat_lt, Bool, ◌&&◌, ◌||◌, not, List, length, filter, codes}
 use Prim.Native.String.{String}
 use Rattle.dir_tree.specs.Entries.{EntryInformation, values_of, has_key}
 use Rattle.dir_tree.specs.EntryClasses.{has_class}
@@ -31,3 +31,7 @@ is_subentry entry = has_class (codes "2.5.17.0") entry
 -- an access control subentry: a subentry that has this class too
 unfoldable pub is_access_subentry : EntryInformation → Bool
 is_access_subentry entry = is_subentry entry && has_class (codes "2.5.17.1") entry
+
+-- how many access control subentries there are
+abbrev pub access_subentries : List EntryInformation → ℕ
+access_subentries entries = length (filter is_access_subentry entries)

@@ -1,9 +1,10 @@
--- How a tree is kept: entries in slots by their numbers, and the numbers in the order of the names.
+-- How a tree is kept: entries in slots by their numbers, the numbers in the order of the names, and a count.
 use Rattle.std.specs.Prelude.{◌≡◌, ◌≢◌, ℕ, suc, ◌+◌, ◌/◌, ◌≤◌, ◌==◌, nat_lt, if◌then◌else◌, Bool, true, List, [], ◌∷◌, length, map, Option, Some, None, is_some, get_or}
 use Rattle.std.specs.List.{AllByRecursion, list_any}
 use Rattle.dn_names.specs.Names.{RdnSequence}
 use Rattle.dir_tree.specs.Entries.{EntryInformation}
-use Rattle.dir_tree.specs.Trees.{Numbered, most_entries, is_before, has_name, superior_name, IsInOrder}
+use Rattle.dir_tree.specs.Points.{access_subentries}
+use Rattle.dir_tree.specs.Trees.{Numbered, entries_of, most_entries, is_before, has_name, superior_name, IsInOrder}
 
 -- the slot of the number
 abbrev pub slot_of : List (Option EntryInformation) → ℕ → Option EntryInformation
@@ -60,3 +61,8 @@ pub record IsKept (slots : List (Option EntryInformation)) (order : List ℕ) : 
   pub used : (id : ℕ) → has_id id order ≡ is_some (slot_of slots id)
   pub count : count_full slots ≡ length order
   pub ordered : IsOrderedTree (rows_of slots order)
+
+-- and the count is that of their access control subentries
+pub record IsCounted (slots : List (Option EntryInformation)) (order : List ℕ) (subentries : ℕ) : Type 0 where
+  pub kept : IsKept slots order
+  pub counted : subentries ≡ access_subentries (entries_of (rows_of slots order))

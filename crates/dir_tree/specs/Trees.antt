@@ -21,6 +21,10 @@ most_entries = 200000
 abbrev pub ids_of : List Numbered → List ℕ
 ids_of rows = map (λ row. row.id) rows
 
+-- the entries, without their numbers
+abbrev pub entries_of : List Numbered → List EntryInformation
+entries_of rows = map (λ row. row.entry) rows
+
 -- whether the row's entry has the name
 abbrev pub is_named : RdnSequence → Numbered → Bool
 is_named name row = is_same name row.entry.name

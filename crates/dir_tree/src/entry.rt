@@ -1,10 +1,11 @@
 //! Entries: a name with attributes.
 
-ghost use Rattle.std.specs.Prelude.{◌≡◌, not, [], IfOk, OnOk, OnErr, length, slice_get};
+ghost use Rattle.std.specs.Prelude.{◌≡◌, not, [], ◌∷◌, IfOk, OnOk, OnErr, length, slice_get};
 ghost use Rattle.std.specs.Option.{option_map};
 ghost use Rattle.dir_tree.specs.Entries.{kinds_of, values_of, has_key, has_kind, IsGoodAttributes};
 ghost use Rattle.dir_tree.specs.Changes.{with_value, without_value, without_kind};
 ghost use Rattle.dir_tree.specs.EntryClasses.{has_class};
+ghost use Rattle.dir_tree.specs.Points.{is_point, is_subentry, is_access_subentry, access_subentries};
 
 use crate::attributes::{copy_attributes, cut_values, drop_empty, drop_kind, put_value};
 use crate::classes::is_any_kind_of;
@@ -130,6 +131,35 @@ impl Entry {
         ensures exact { result ≡ has_class oid.now self.now }
     {
         is_any_kind_of(self.values(AttrId::OBJECT_CLASS), oid)
+    }
+
+    /// Whether the entry is an administrative point. Takes no memory.
+    pub fn is_point(&self) -> bool
+        ensures exact { result ≡ is_point self.now }
+    {
+        !self.values(AttrId::ADMINISTRATIVE_ROLE).is_empty()
+    }
+
+    /// Whether the entry is a subentry. Takes no memory.
+    pub fn is_subentry(&self) -> bool
+        ensures exact { result ≡ is_subentry self.now }
+    {
+        self.has_class("2.5.17.0")
+    }
+
+    /// Whether the entry is an access control subentry. Takes no memory.
+    pub fn is_access_subentry(&self) -> bool
+        ensures exact { result ≡ is_access_subentry self.now }
+    {
+        // The rarer class first: for most entries one look at the classes is enough.
+        self.has_class("2.5.17.1") && self.has_class("2.5.17.0")
+    }
+
+    /// How many access control subentries the entry alone is: 1 or 0.
+    pub(crate) fn access_subentries(&self) -> usize
+        ensures exact { result ≡ access_subentries (self.now ∷ []) }
+    {
+        if self.is_access_subentry() { 1 } else { 0 }
     }
 
     /// The same entry, whose attributes have memory of their own; the error comes where there is none.

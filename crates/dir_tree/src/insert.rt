@@ -100,6 +100,7 @@ impl Tree {
     {
         self.order.reserve(1)?;
         let number = free_slot(&mut self.slots, self.low, self.order.len())?;
+        self.subentries += entry.access_subentries();
         fill_slot(&mut self.slots, number, entry);
         put_number(&mut self.order, place, number as u32);
         self.low = number + 1;

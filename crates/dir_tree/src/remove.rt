@@ -65,6 +65,8 @@ impl Tree {
     {
         let _number = self.order.remove(place);
         self.low = self.low.min(no.0 as usize);
-        take_entry(&mut self.slots, no.0)
+        let entry = take_entry(&mut self.slots, no.0);
+        self.subentries -= entry.access_subentries();
+        entry
     }
 }

@@ -102,7 +102,10 @@ impl Tree {
         ensures exact { self.new ≡ put_entry no.0 entry (without no.0 self.old) }
     {
         move_number(&mut self.order, from, place);
-        replace_entry(&mut self.slots, no.0, entry)
+        self.subentries += entry.access_subentries();
+        let old = replace_entry(&mut self.slots, no.0, entry);
+        self.subentries -= old.access_subentries();
+        old
     }
 }
 

@@ -17,22 +17,24 @@ pub struct Tree {
     pub(crate) slots: Vec<Option<Entry>>,
     pub(crate) order: Vec<u32>,
     pub(crate) low: usize,
+    pub(crate) subentries: usize,
 }
 
 impl Model for Tree {
     ghost use Rattle.std.specs.Prelude.{List};
     ghost use Rattle.dir_tree.specs.Trees.{Numbered};
-    ghost use Rattle.dir_tree.specs.Slots.{rows_of, IsKept};
+    ghost use Rattle.dir_tree.specs.Slots.{rows_of, IsCounted};
 
     ghost Value = { List Numbered };
 
     ghost view = { λ tree. rows_of tree.slots.items tree.order.items };
 
-    ghost invariant = { λ tree. IsKept tree.slots.items tree.order.items };
+    ghost invariant = { λ tree. IsCounted tree.slots.items tree.order.items tree.subentries };
 }
 
 impl Tree {
-    ghost use Rattle.dir_tree.specs.Trees.{IsTree, entry_of, suffix_of, find_name, find_front, superior_of};
+    ghost use Rattle.dir_tree.specs.Points.{access_subentries};
+    ghost use Rattle.dir_tree.specs.Trees.{IsTree, entries_of, entry_of, suffix_of, find_name, find_front, superior_of};
 
     /// A tree without entries. Takes no memory.
     pub fn new(alloc: Global) -> Tree
@@ -42,6 +44,7 @@ impl Tree {
             slots: Vec::new(alloc),
             order: Vec::new(alloc),
             low: 0,
+            subentries: 0,
         }
     }
 
@@ -57,6 +60,13 @@ impl Tree {
         ensures exact { result ≡ length self.now }
     {
         self.order.len()
+    }
+
+    /// The number of access control subentries, which the tree keeps: no entry is looked at.
+    pub fn access_subentries(&self) -> usize
+        ensures exact { result ≡ access_subentries (entries_of self.now) }
+    {
+        self.subentries
     }
 
     /// The number of the first entry, the suffix; None exactly where there is no entry.

@@ -1,5 +1,5 @@
 -- What the functions of an entry's attributes see of it.
-use Rattle.std.proofs.Common.{◌≡◌, ◌≢◌, ℕ, ◌+◌, ◌-◌, ◌==◌, nat_lt, true, false, not, ◌||◌, if◌then◌else◌, List, [], ◌∷◌, ◌++◌, length, get_or, slice_get, Some, None, refl, sym, ap, ◌∙◌, inl, inr, append-nil, arith}
+use Rattle.std.proofs.Common.{◌≡◌, ◌≢◌, ℕ, ◌+◌, ◌-◌, ◌==◌, true, false, not, ◌||◌, if◌then◌else◌, List, [], ◌∷◌, ◌++◌, length, get_or, slice_get, Some, None, refl, sym, ap, ◌∙◌, inl, inr, append-nil, arith}
 use Rattle.std.specs.List.{AllByRecursion, flat_map}
 use Rattle.std.specs.Option.{option_map, option_map_or}
 use Rattle.std.proofs.lemmas.Bool.Decides.{nat_tests}
@@ -25,11 +25,6 @@ filled_kind kind (first ∷ rest) good =
       | true ↦ not_empty first.values good.0.filled
       | false ↦ filled_kind kind rest good.1
     ]
-
--- the two ways to say that there is a value
-pub some_values : {X : Type 0} (xs : List X) → not (length xs == 0) ≡ nat_lt 0 (length xs)
-some_values [] = grind (arith, nat_tests)
-some_values (x ∷ xs) = grind (arith, nat_tests)
 
 -- the pairs of the RDN at the last place
 pub last_rdn :

@@ -2,7 +2,6 @@ pub mod ListLemmas
 pub mod ClassLemmas
 pub mod ContentLemmas
 pub mod EntryLemmas
-pub mod LimitLemmas
 pub mod TreeLemmas
 pub mod ListPlaceLemmas
 pub mod RuleLemmas

@@ -1,10 +1,10 @@
 -- Tests of lists that are made from other lists, and loops over the places of a list.
-use Rattle.std.proofs.Common.{◌≡◌, ℕ, ◌+◌, ◌≤◌, ◌==◌, Bool, true, false, not, ◌&&◌, ◌||◌, if◌then◌else◌, List, [], ◌∷◌, map, length, take, slice_get, filter, Option, Some, None, refl, sym, ap, ◌∙◌, inl, inr, true≢false, add-zero, arith}
-use Rattle.std.specs.List.{list_any, flat_map, filter_map, cons_option, sum_by}
+use Rattle.std.proofs.Common.{◌≡◌, ℕ, ◌+◌, ◌≤◌, ◌==◌, Bool, true, false, not, ◌&&◌, ◌||◌, if◌then◌else◌, List, [], ◌∷◌, map, length, min, take, slice_get, filter, Option, Some, None, refl, sym, ap, ◌∙◌, inl, inr, true≢false, add-zero, arith}
+use Rattle.std.specs.List.{list_any, filter_map, cons_option, sum_by}
 use Rattle.std.specs.Option.{option_map_or}
 use Rattle.std.proofs.lemmas.Bool.Decides.{nat_tests}
 use Rattle.std.proofs.lemmas.List.{take_all}
-use Rattle.std.proofs.lemmas.List.Folds.{list_any-append, list_any_more, list_any_at}
+use Rattle.std.proofs.lemmas.List.Folds.{list_any_more, list_any_at}
 use Rattle.std.proofs.lemmas.List.Sums.{sum_by_more}
 use Rattle.std.proofs.lemmas.Option.{slice_get_cases}
 use Rattle.std.proofs.Math.Bool.{or-false}
@@ -57,15 +57,6 @@ list_any-same one other [] same = refl
 list_any-same one other (x ∷ xs) same =
     ap (λ first. first || list_any one xs) (same x)
     ∙ ap (λ later. other x || later) (list_any-same one other xs same)
-
--- a test of joined lists is one of each
-pub list_any-flat_map :
-    {X Y : Type 0} (test : Y → Bool) (lists : X → List Y) (xs : List X)
-    → list_any test (flat_map lists xs) ≡ list_any (λ x. list_any test (lists x)) xs
-list_any-flat_map test lists [] = refl
-list_any-flat_map test lists (x ∷ xs) =
-    list_any-append test (lists x) (flat_map lists xs)
-    ∙ ap (λ later. list_any test (lists x) || later) (list_any-flat_map test lists xs)
 
 -- one place more
 pub any_step :
@@ -127,3 +118,8 @@ sum_step count parts xs index =
           ∙ sym (add-zero so_far)
           ∙ ap (λ found. so_far + sum_by count (option_map_or parts found [])) (sym past.1)
     ]
+
+-- and one of a sum that stops at the limit
+pub min_more :
+    (total so_far more : ℕ) → total ≡ min 67108865 so_far → min 67108865 (total + more) ≡ min 67108865 (so_far + more)
+min_more total so_far more is = omega arith

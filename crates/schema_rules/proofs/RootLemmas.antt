@@ -7,9 +7,8 @@ use Rattle.dn_names.specs.Names.{RdnSequence}
 use Rattle.dn_names.specs.NameOrder.{is_same, type_and_key}
 use Rattle.dn_names.proofs.Theorems.{is_same-types_and_keys}
 use Rattle.dir_tree.specs.Entries.{EntryInformation}
-use Rattle.dir_tree.specs.Trees.{Numbered, IsTree, has_name, superior_name}
+use Rattle.dir_tree.specs.Trees.{Numbered, entries_of, IsTree, has_name, superior_name}
 use Rattle.dir_tree.specs.Refusals.{lacks_superior}
-use Rattle.schema_rules.specs.Checking.{entries_of}
 
 -- names that are the same have as many RDNs
 length-same : (x y : RdnSequence) → is_same x y ≡ true → length x ≡ length y

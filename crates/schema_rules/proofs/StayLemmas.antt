@@ -4,9 +4,8 @@ use Rattle.std.specs.List.{AllByRecursion}
 use Rattle.std.proofs.lemmas.List.{map-append}
 use Rattle.dn_names.specs.NameOrder.{is_same}
 use Rattle.dir_tree.specs.Entries.{EntryInformation}
-use Rattle.dir_tree.specs.Trees.{Numbered, IsTree, is_before, put_row, has_name, superior_name}
+use Rattle.dir_tree.specs.Trees.{Numbered, entries_of, IsTree, is_before, put_row, has_name, superior_name}
 use Rattle.dir_tree.specs.Refusals.{lacks_superior}
-use Rattle.schema_rules.specs.Checking.{entries_of}
 use Rattle.schema_rules.specs.Rules.{broken_rule, MeetsRules}
 use Rattle.schema_rules.proofs.ListPlaceLemmas.{stands, all_at}
 use Rattle.schema_rules.proofs.RuleLemmas.{broken_rule-past}

@@ -6,8 +6,7 @@ use Rattle.std.proofs.lemmas.Bool.Decides.{nat_tests}
 use Rattle.std.proofs.lemmas.Option.{same_Some, none-some}
 use Rattle.dn_names.specs.Names.{RdnSequence}
 use Rattle.dn_names.specs.NameOrder.{is_same}
-use Rattle.dir_tree.specs.Trees.{Numbered, AreDistinct, is_named, find_name, find_front, entry_of, superior_name}
-use Rattle.schema_rules.specs.Checking.{entries_of}
+use Rattle.dir_tree.specs.Trees.{Numbered, entries_of, AreDistinct, is_named, find_name, find_front, entry_of, superior_name}
 use Rattle.schema_rules.specs.Rules.{named_in}
 
 -- a number that is found is one of the rows

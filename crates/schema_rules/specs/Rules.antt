@@ -1,6 +1,6 @@
 -- When an entry may not stand in a tree: the rules in the order in which they are tried, each with its result code
 -- (RFC 4511 appendix A). X.501 and X.511 leave the order open; it is this profile's.
-use Rattle.std.specs.Prelude.{◌≡◌, ℕ, ◌-◌, nat_lt, nat_le, ◌==◌, Bool, true, false, not, ◌&&◌, ◌||◌, List, [], ◌∷◌, ◌++◌, length, drop, filter, find, sum_by, codes, Option, Some, None, is_none}
+use Rattle.std.specs.Prelude.{◌≡◌, ℕ, ◌-◌, nat_lt, nat_le, ◌==◌, Bool, true, false, not, ◌&&◌, ◌||◌, List, [], ◌∷◌, ◌++◌, length, drop, find, sum_by, codes, Option, Some, None, is_none}
 use Rattle.std.specs.List.{flat_map, list_any}
 use Rattle.std.specs.Option.{option_map, option_map_or}
 use Rattle.schema_core.specs.declared.kinds.Syntax.{Syntax}
@@ -12,6 +12,7 @@ use Rattle.dn_names.specs.NameOrder.{is_same}
 use Rattle.dir_tree.specs.Entries.{EntryInformation, kinds_of, values_of, has_kind, has_key}
 use Rattle.dir_tree.specs.EntryClasses.{object_class, has_class}
 use Rattle.dir_tree.specs.Points.{is_point, is_subentry, is_access_subentry}
+pub use Rattle.dir_tree.specs.Points.{access_subentries}
 use Rattle.dir_tree.specs.Trees.{superior_name}
 use Rattle.schema_rules.specs.Listed.{all_classes, structural_classes, are_in_line, is_among, required_by, permitted_by}
 
@@ -98,10 +99,6 @@ unfoldable pub is_misplaced : List EntryInformation → EntryInformation → Boo
 is_misplaced entries entry = stands_wrong (named_in (superior_name entry.name) entries) entry
 
 -- adminLimitExceeded (11): entries, access control subentries, or the octets of the entry's values
-
--- how many access control subentries there are
-abbrev pub access_subentries : List EntryInformation → ℕ
-access_subentries entries = length (filter is_access_subentry entries)
 
 -- the octets of the values together
 abbrev pub octets_in : EntryInformation → ℕ

@@ -1,7 +1,8 @@
 //! Whether an entry may be added to a tree.
 
 ghost use Rattle.std.specs.Prelude.{◌≡◌, ◌≢◌, None, IfOk, IfErr};
-ghost use Rattle.schema_rules.specs.Checking.{entries_of, IsCause};
+ghost use Rattle.dir_tree.specs.Trees.{entries_of};
+ghost use Rattle.schema_rules.specs.Checking.{IsCause};
 ghost use Rattle.schema_rules.specs.Rules.{broken_rule};
 
 use crate::broken::Broken;

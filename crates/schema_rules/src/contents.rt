@@ -9,7 +9,6 @@ ghost use Rattle.schema_rules.specs.Classes.{class_lacks, class_permits};
 ghost use Rattle.schema_rules.specs.Listed.{all_classes, is_among, permitted_by};
 ghost use Rattle.schema_rules.specs.Rules.{lacks_required, has_unpermitted, is_permitted_besides};
 
-use crate::points::is_subentry;
 use dir_tree::Entry;
 use dn_names::Value;
 use schema_core::{AttrId, ClassId, allowed, class_with, required, superior};
@@ -112,7 +111,7 @@ fn is_permitted_besides(entry: &Entry, kind: AttrId) -> bool
 {
     match kind {
         AttrId(33) => true,
-        AttrId(29 | 31 | 34) => !is_subentry(entry),
+        AttrId(29 | 31 | 34) => !entry.is_subentry(),
         _ => false,
     }
 }

@@ -2,9 +2,8 @@
 
 ghost use Rattle.std.specs.Prelude.{◌≡◌, ◌≢◌, ℕ, List, [], false, None};
 ghost use Rattle.dir_tree.specs.Entries.{EntryInformation};
-ghost use Rattle.dir_tree.specs.Trees.{Numbered, IsTree, has_name, put_row};
+ghost use Rattle.dir_tree.specs.Trees.{Numbered, entries_of, IsTree, has_name, put_row};
 ghost use Rattle.dir_tree.specs.Refusals.{lacks_superior};
-ghost use Rattle.schema_rules.specs.Checking.{entries_of};
 ghost use Rattle.schema_rules.specs.Rules.{broken_rule, MeetsRules};
 
 /// Where each entry of a tree meets the rules, each still does with an entry more that the tree takes and that

@@ -3,27 +3,11 @@
 ghost use Rattle.std.specs.Prelude.{◌≡◌, ◌&&◌, ◌||◌, not};
 ghost use Rattle.std.specs.Option.{option_map};
 ghost use Rattle.dir_tree.specs.Points.{is_point, is_subentry};
-ghost use Rattle.dir_tree.specs.Trees.{superior_name};
-ghost use Rattle.schema_rules.specs.Checking.{entries_of};
+ghost use Rattle.dir_tree.specs.Trees.{entries_of, superior_name};
 ghost use Rattle.schema_rules.specs.Rules.{named_in, stands_wrong, is_misplaced};
 
 use dir_tree::{Entry, Tree};
 use dn_names::Dn;
-use schema_core::AttrId;
-
-/// Whether the entry is a subentry.
-pub(crate) fn is_subentry(entry: &Entry) -> bool
-    ensures exact { result ≡ is_subentry entry.now }
-{
-    entry.has_class("2.5.17.0")
-}
-
-// Whether the entry is an administrative point.
-fn is_point(entry: &Entry) -> bool
-    ensures exact { result ≡ is_point entry.now }
-{
-    !entry.values(AttrId::ADMINISTRATIVE_ROLE).is_empty()
-}
 
 /// Whether the entry stands below a subentry, or is a subentry and stands below no administrative point.
 pub(crate) fn is_misplaced(tree: &Tree, entry: &Entry) -> bool
@@ -31,7 +15,7 @@ pub(crate) fn is_misplaced(tree: &Tree, entry: &Entry) -> bool
 {
     match superior_in(tree, entry.name()) {
         Some(superior) => stands_wrong_below(superior, entry),
-        None => is_subentry(entry),
+        None => entry.is_subentry(),
     }
 }
 
@@ -40,7 +24,7 @@ fn stands_wrong_below(superior: &Entry, entry: &Entry) -> bool
     ensures exact { result
         ≡ (is_subentry superior.now || is_subentry entry.now && not (is_point superior.now)) }
 {
-    is_subentry(superior) || is_subentry(entry) && !is_point(superior)
+    superior.is_subentry() || entry.is_subentry() && !superior.is_point()
 }
 
 // The entry whose name is the name without its last RDN; None exactly where there is none.

@@ -1,7 +1,7 @@
 //! The table of the rules, in the order in which they are tried.
 
 ghost use Rattle.std.specs.Prelude.{◌≡◌};
-ghost use Rattle.schema_rules.specs.Checking.{entries_of};
+ghost use Rattle.dir_tree.specs.Trees.{entries_of};
 ghost use Rattle.schema_rules.specs.Rules.{breaks_classes, broken_rule};
 
 use crate::contents::{has_unpermitted, lacks_required};

@@ -10,5 +10,5 @@ returns c = record {
   exact = rw (← c.self.view_is)
       (c.entry_at.ensures.exact
       ∙ ap (λ (slots : List (Option EntryInformation)). slot_of slots c.args.no.0) c.deref.ensures.value
-      ∙ sym (entry_of-rows_of c.self.inside.slots.items c.self.inside.order.items c.args.no.0 (c.self.invariant.used c.args.no.0)));
+      ∙ sym (entry_of-rows_of c.self.inside.slots.items c.self.inside.order.items c.args.no.0 (c.self.invariant.kept.used c.args.no.0)));
 }

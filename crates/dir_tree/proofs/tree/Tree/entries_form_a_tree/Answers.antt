@@ -6,5 +6,5 @@ use Rattle.dir_tree.proofs.tree.Tree.entries_form_a_tree.Goals as goal
 
 pub returns : goal.returns
 returns c = record {
-  exact = subst (λ (rows : List Numbered). IsTree rows) c.self.view_is (IsTree-kept c.self.inside.slots.items c.self.inside.order.items c.self.invariant);
+  exact = subst (λ (rows : List Numbered). IsTree rows) c.self.view_is (IsTree-kept c.self.inside.slots.items c.self.inside.order.items c.self.invariant.kept);
 }

@@ -4,6 +4,7 @@ use Rattle.dir_tree.specs.Trees.{entry_of, has_below}
 use Rattle.dir_tree.specs.Places.{place_of}
 use Rattle.dir_tree.specs.Slots.{rows_of}
 use Rattle.dir_tree.proofs.SlotLemmas.{entry_of-rows_of}
+use Rattle.dir_tree.proofs.AccessLemmas.{counts_beside}
 use Rattle.dir_tree.proofs.KeptLemmas.{place_within, kept_without, shown_without, slot_known}
 use Rattle.dir_tree.proofs.tree.Tree.take_out.Goals as goal
 
@@ -11,26 +12,34 @@ pub remove-number-requires : goal.remove-number-requires
 remove-number-requires c =
     let known : entry_of c.args.no.0 (rows_of c.self.inside.slots.items c.self.inside.order.items) ≡ Some c.requires.entry = rw c.self.view_is c.requires.known in
     let placed : c.args.place ≡ place_of c.requires.entry.name (rows_of c.self.inside.slots.items c.self.inside.order.items) = rw c.self.view_is c.requires.placed in
-    omega (arith, place_within c.self.inside.slots.items c.self.inside.order.items c.args.no.0 c.args.place c.requires.entry c.self.invariant known placed)
+    omega (arith, place_within c.self.inside.slots.items c.self.inside.order.items c.args.no.0 c.args.place c.requires.entry c.self.invariant.kept known placed)
 
-pub take_entry-requires : goal.take_entry-requires
-take_entry-requires c = slot_known c.self.inside.slots.items c.self.inside.order.items c.args.no.0 c.requires.entry c.self.invariant (rw c.self.view_is c.requires.known)
+pub take_entry-entry-requires : goal.take_entry-entry-requires
+take_entry-entry-requires c = slot_known c.self.inside.slots.items c.self.inside.order.items c.args.no.0 c.requires.entry c.self.invariant.kept (rw c.self.view_is c.requires.known)
+
+-- the entry that was taken counted beside those that are left
+pub overflow_sub-self : goal.overflow_sub-self
+overflow_sub-self c =
+    omega (arith, counts_beside _ _ _ c.self.invariant c.args.no.0 _ c.take_entry-entry.ensures.ok, c.access_subentries.ensures.exact)
 
 pub invariant_of-self : goal.invariant_of-self
 invariant_of-self c =
     let known : entry_of c.args.no.0 (rows_of c.self.inside.slots.items c.self.inside.order.items) ≡ Some c.requires.entry = rw c.self.view_is c.requires.known in
     let placed : c.args.place ≡ place_of c.requires.entry.name (rows_of c.self.inside.slots.items c.self.inside.order.items) = rw c.self.view_is c.requires.placed in
     let alone : has_below c.requires.entry.name (rows_of c.self.inside.slots.items c.self.inside.order.items) ≡ false = rw c.self.view_is c.requires.alone in
-    rw (c.take_entry.ensures.exact, c.remove-number.ensures.items)
-    (kept_without c.self.inside.slots.items c.self.inside.order.items c.args.no.0 c.args.place c.requires.entry c.self.invariant known placed alone)
+    let beside = counts_beside _ _ _ c.self.invariant c.args.no.0 _ c.take_entry-entry.ensures.ok in
+    rw (c.take_entry-entry.ensures.exact, c.remove-number.ensures.items) (record {
+      kept = kept_without c.self.inside.slots.items c.self.inside.order.items c.args.no.0 c.args.place c.requires.entry c.self.invariant.kept known placed alone;
+      counted = rw (shown_without c.self.inside.slots.items c.self.inside.order.items c.args.no.0 c.args.place c.requires.entry c.self.invariant.kept known placed) (omega (arith, c.access_subentries.ensures.exact));
+    })
 
 pub returns-clause-ok : goal.returns-clause-ok
 returns-clause-ok c =
-    rw (← c.self.view_is) (entry_of-rows_of c.self.inside.slots.items c.self.inside.order.items c.args.no.0 (c.self.invariant.used c.args.no.0) ∙ c.take_entry.ensures.ok)
+    rw (← c.self.view_is) (entry_of-rows_of c.self.inside.slots.items c.self.inside.order.items c.args.no.0 (c.self.invariant.kept.used c.args.no.0) ∙ c.take_entry-entry.ensures.ok)
 
 pub returns-clause-exact : goal.returns-clause-exact
 returns-clause-exact c =
     let known : entry_of c.args.no.0 (rows_of c.self.inside.slots.items c.self.inside.order.items) ≡ Some c.requires.entry = rw c.self.view_is c.requires.known in
     let placed : c.args.place ≡ place_of c.requires.entry.name (rows_of c.self.inside.slots.items c.self.inside.order.items) = rw c.self.view_is c.requires.placed in
-    rw (c.take_entry.ensures.exact, c.remove-number.ensures.items, ← c.self.view_is)
-    (shown_without c.self.inside.slots.items c.self.inside.order.items c.args.no.0 c.args.place c.requires.entry c.self.invariant known placed)
+    rw (c.take_entry-entry.ensures.exact, c.remove-number.ensures.items, ← c.self.view_is)
+    (shown_without c.self.inside.slots.items c.self.inside.order.items c.args.no.0 c.args.place c.requires.entry c.self.invariant.kept known placed)

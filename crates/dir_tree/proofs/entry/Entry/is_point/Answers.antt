@@ -1,7 +1,7 @@
 -- A role is there.
 use Rattle.dir_tree.specs.Points.{is_point}
-use Rattle.schema_rules.proofs.EntryLemmas.{some_values}
-use Rattle.schema_rules.proofs.points.is_point.Goals as goal
+use Rattle.dir_tree.proofs.AccessLemmas.{some_values}
+use Rattle.dir_tree.proofs.entry.Entry.is_point.Goals as goal
 
 pub returns : goal.returns
 unfolding is_point

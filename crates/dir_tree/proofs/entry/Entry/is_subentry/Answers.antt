@@ -1,6 +1,6 @@
 -- The class of subentries.
 use Rattle.dir_tree.specs.Points.{is_subentry}
-use Rattle.schema_rules.proofs.points.is_subentry.Goals as goal
+use Rattle.dir_tree.proofs.entry.Entry.is_subentry.Goals as goal
 
 pub returns : goal.returns
 unfolding is_subentry
