@@ -7,7 +7,7 @@ ghost use Rattle.schema_core.specs.Naming.{is_keystring};
 ghost use Rattle.schema_core.specs.Oid.{is_number, parts, is_dotted_oid};
 ghost use Rattle.ldif_core.specs.Fields.{is_kind, is_changetype, is_dn};
 
-use crate::lines::position_of;
+use plain_values::position_of;
 
 // Whether each octet is a letter, a digit or a hyphen.
 fn are_key_octets(octets: &[u8]) -> bool

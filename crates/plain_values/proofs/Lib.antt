@@ -1,2 +1,4 @@
 mod Examples
+mod LinesLemmas
+mod PositionLemmas
 pub mod Theorems

@@ -1,11 +1,14 @@
 //! Octets and texts for the fields of enums and structs: contracts see each as the list of its
-//! octets. Here too are the words that every crate shares for a count of faults.
+//! octets. Here too are the first line of a text, and the words that every crate shares for a count of
+//! faults.
 #![tactic(auto)]
 
 mod counts;
+mod lines;
 mod octets;
 mod text;
 
 pub use counts::raised;
+pub use lines::{first_line, position_of};
 pub use octets::Octets;
 pub use text::Text;
