@@ -11,7 +11,7 @@ use Rattle.dn_names.specs.declared.error.BadName.{BadName}
 use Rattle.dn_names.specs.declared.error.BadName.TheVariants.{TooMany}
 use Rattle.dn_names.specs.Names.{Keyed, TypeAndValue, RdnSequence}
 use Rattle.dn_names.specs.Spelling.{WrittenPair, IsJoined, SpellsRdn, SpellsName}
-use Rattle.dn_names.specs.Values.{of_text, plain_key}
+use Rattle.dn_names.specs.Values.{plain_key}
 use Rattle.dn_names.specs.Resolving.{naming_value, pair_meaning, put_pair, add_pair, or_part, and_then, rdn_from, rdns_from, from_root, resolve, resolve_rdn}
 use Rattle.dn_names.specs.NameText.{NameText, RdnText}
 use Rattle.dn_names.specs.GoodNames.{IsGoodPair, IsInTableOrder, IsGoodRdn, IsGoodName}
@@ -40,7 +40,7 @@ kind_good (Some number) octets pair is = value_good number octets (naming_value 
 -- a pair that has a meaning is good
 pair_meaning-good : (written : WrittenPair) (pair : TypeAndValue) → pair_meaning written ≡ Some pair → IsGoodPair pair
 unfolding pair_meaning
-pair_meaning-good written pair is = kind_good (of_text attr_of written.kind) written.octets pair is
+pair_meaning-good written pair is = kind_good (attr_of written.kind) written.octets pair is
 
 add_found : (pairs next : List TypeAndValue) (meaning : Option TypeAndValue) → option_and_then (λ pair. put_pair pair pairs) meaning ≡ Some next → (pair : TypeAndValue) × (meaning ≡ Some pair) × (put_pair pair pairs ≡ Some next)
 add_found pairs next None is = absurd cc

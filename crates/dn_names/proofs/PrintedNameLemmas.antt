@@ -4,15 +4,13 @@ use Rattle.std.specs.Prelude.{◌==◌, ◌&&◌, ◌||◌, nat_le, if◌then◌
 use Rattle.std.specs.Char.{is_ascii_alphabetic, is_ascii_alphanumeric}
 use Rattle.std.specs.Option.{option_map, option_map_or, option_and_then}
 use Rattle.std.specs.List.{AllByRecursion, list_all}
-use Rattle.std.specs.Str.{is_utf8}
-use Rattle.std.proofs.lemmas.Bool.{false≢true, cond-true, cond-false}
+use Rattle.std.proofs.lemmas.Bool.{false≢true, cond-false}
 use Rattle.std.proofs.lemmas.Bool.Decides.{nat_tests}
 use Rattle.std.proofs.lemmas.List.{append-nil, length-map, length-reverse, reverse-reverse}
 use Rattle.std.proofs.lemmas.Option.{slice_get_within}
-use Rattle.std.proofs.lemmas.Str.{IsUtf8-from_ascii, is_utf8-from_IsUtf8}
 use Rattle.regular_text.specs.Grammar.{Matches}
 use Rattle.regular_text.specs.Grammar.Grammar.{One, Many}
-use Rattle.schema_core.specs.Attributes.{Attribute, attributes, attribute_at, attr_of, name_of, is_naming, syntax_of, IsAttrId}
+use Rattle.schema_core.specs.Attributes.{Attribute, attributes, attribute_at, name_of, is_naming, syntax_of, IsAttrId}
 use Rattle.schema_core.specs.Naming.{is_keystring}
 use Rattle.schema_core.proofs.Theorems.{attr_of-name_of, is_keystring-name_of}
 use Rattle.dn_names.specs.declared.error.BadName.TheVariants.{TooMany}
@@ -20,13 +18,12 @@ use Rattle.dn_names.specs.declared.printing.Shown.TheVariants.{Octets}
 use Rattle.dn_names.specs.Classes.{class_of, is_letter, is_word}
 use Rattle.dn_names.specs.Names.{Keyed, TypeAndValue, RdnSequence}
 use Rattle.dn_names.specs.Spelling.{WrittenPair, IsKind, SpellsPair, IsJoined, SpellsRdn, SpellsName}
-use Rattle.dn_names.specs.Values.{of_text, plain_key}
+use Rattle.dn_names.specs.Values.{plain_key}
 use Rattle.dn_names.specs.Resolving.{naming_value, pair_meaning, put_pair, add_pair, and_then, rdn_from, rdns_from, from_root, resolve}
 use Rattle.dn_names.specs.NameText.{NameText}
 use Rattle.dn_names.specs.Printing.{print_value, join_from, print_pair, print_rdn, shown_of, print_by, print_name}
 use Rattle.dn_names.specs.GoodNames.{IsGoodPair, IsInTableOrder, IsGoodRdn, IsGoodName}
 use Rattle.dn_names.proofs.PartsLemmas.{and_parts}
-use Rattle.dn_names.proofs.NamingTextLemmas.{ascii_all}
 use Rattle.dn_names.proofs.OrderedLemmas.{put_pair-last}
 use Rattle.dn_names.proofs.GoodNameLemmas.{all_reverse, all_push}
 use Rattle.dn_names.proofs.ResolveLemmas.{rdn_from-add}
@@ -71,23 +68,6 @@ keystring_kind (x ∷ xs) h =
     let both = and_parts (is_ascii_alphabetic x) (list_all (λ x. is_ascii_alphanumeric x || x == 45) xs) h in
     inl (x ∷ [], xs, refl, (x, refl, letter_class x both.0), words_match xs both.1)
 
-ascii_word : (x : ℕ) → (is_ascii_alphanumeric x || x == 45) ≡ true → x < 128
-ascii_word x h = grind (arith, nat_tests)
-
-keystring_words : (text : List ℕ) → is_keystring text ≡ true → list_all (λ x. is_ascii_alphanumeric x || x == 45) text ≡ true
-keystring_words [] h = refl
-keystring_words (x ∷ xs) h =
-    let both = and_parts (is_ascii_alphabetic x) (list_all (λ x. is_ascii_alphanumeric x || x == 45) xs) h in
-    let first : (is_ascii_alphanumeric x || x == 45) ≡ true = letter_word x both.0 in
-    ap (λ b. b && list_all (λ x. is_ascii_alphanumeric x || x == 45) xs) first ∙ both.1
-  where
-    letter_word : (x : ℕ) → is_ascii_alphabetic x ≡ true → (is_ascii_alphanumeric x || x == 45) ≡ true
-    letter_word x h = grind (arith, nat_tests)
-
-keystring_text : (text : List ℕ) → is_keystring text ≡ true → is_utf8 text ≡ true
-keystring_text text h =
-    is_utf8-from_IsUtf8 text (IsUtf8-from_ascii text (ascii_all (λ x. is_ascii_alphanumeric x || x == 45) ascii_word text (keystring_words text h)))
-
 -- a printed pair spells what it writes, and means the pair
 pair_printed : (pair : TypeAndValue) → IsGoodPair pair → SpellsPair (write pair) (print_pair (shown_of Octets) pair)
 pair_printed pair good = record {
@@ -105,10 +85,7 @@ pair_meant : (pair : TypeAndValue) → IsGoodPair pair → pair_meaning (write p
 unfolding pair_meaning
 pair_meant pair good =
     let there = good_kind pair.kind pair.value.octets pair.value good in
-    let kind : of_text attr_of (name_of pair.kind) ≡ Some pair.kind =
-    cond-true (is_utf8 (name_of pair.kind)) (attr_of (name_of pair.kind)) None (keystring_text (name_of pair.kind) (is_keystring-name_of pair.kind there))
-    ∙ attr_of-name_of pair.kind there in
-    ap (λ k. option_and_then (λ number. option_map (λ value. record { kind = number; value = value }) (naming_value number pair.value.octets)) k) kind
+    ap (λ k. option_and_then (λ number. option_map (λ value. record { kind = number; value = value }) (naming_value number pair.value.octets)) k) (attr_of-name_of pair.kind there)
     ∙ ap (option_map (λ value. record { kind = pair.kind; value = value })) good
 
 pub joined_printed : {A R : Type 0} (mark : ℕ) (show : A → List ℕ) (write_item : A → R) (P : R → List ℕ → Type 0) (Q : A → Type 0) → ((x : A) → Q x → P (write_item x) (show x)) → (x : A) (xs : List A) → AllByRecursion Q (x ∷ xs) → IsJoined mark P (map write_item (x ∷ xs)) (join_from mark show true (x ∷ xs))

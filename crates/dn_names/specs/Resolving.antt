@@ -5,7 +5,7 @@ use Rattle.dn_names.specs.declared.error.BadName.{BadName}
 use Rattle.dn_names.specs.declared.error.BadName.TheVariants.{Text, Part, TooMany, NoMemory}
 use Rattle.dn_names.specs.Names.{Keyed, TypeAndValue, RdnSequence}
 use Rattle.dn_names.specs.Spelling.{WrittenPair}
-use Rattle.dn_names.specs.Values.{of_text, plain_key}
+use Rattle.dn_names.specs.Values.{plain_key}
 
 -- a value of a type that may name, of at most 65,536 octets and of the type's syntax
 unfoldable pub naming_value : ℕ → List ℕ → Option Keyed
@@ -18,7 +18,7 @@ naming_value number octets =
 unfoldable pub pair_meaning : WrittenPair → Option TypeAndValue
 pair_meaning pair =
     option_and_then (λ number. option_map (λ value. record { kind = number; value = value }) (naming_value number pair.octets))
-    (of_text attr_of pair.kind)
+    (attr_of pair.kind)
 
 -- a pair among others in the order of the table; nothing where its type is there
 abbrev pub put_pair : TypeAndValue → List TypeAndValue → Option (List TypeAndValue)

@@ -3,13 +3,12 @@
 ghost use Rattle.std.specs.Prelude.{◌≡◌, ◌↔◌, true, false, Some, None, IfOk, IsErrOf, MatchOption};
 ghost use Rattle.std.specs.Str.{is_utf8};
 ghost use Rattle.std.specs.Option.{option_map};
-ghost use Rattle.schema_core.specs.Attributes.{attr_of};
 ghost use Rattle.schema_core.specs.Oid.{oid_of};
 ghost use Rattle.match_rules.specs.declared.errors.PrepareFault.TheVariants.{NotOfSyntax};
 ghost use Rattle.dn_names.specs.Values.{of_text, plain_key};
 
 use match_rules::{PrepareFault, Rule, prepare};
-use schema_core::{AttrId, Syntax, attr, oid_of};
+use schema_core::{Syntax, oid_of};
 use std::alloc::Global;
 use std::str;
 
@@ -21,16 +20,6 @@ pub(crate) fn as_text(octets: &[u8]) -> Option<&str>
     match str::from_utf8(octets) {
         Ok(text) => Some(text),
         Err(_) => None,
-    }
-}
-
-/// The attribute type that the octets name.
-pub(crate) fn kind_of(octets: &[u8]) -> Option<AttrId>
-    ensures exact { option_map (λ kind. kind.0) result ≡ of_text attr_of octets.now }
-{
-    match as_text(octets) {
-        Some(text) => attr(text),
-        None => None,
     }
 }
 

@@ -6,9 +6,8 @@ use Rattle.ldif_core.specs.declared.types.RecordLine.{RecordLine}
 use Rattle.ldif_core.specs.declared.types.BadLine.{BadLine}
 use Rattle.ldif_core.specs.declared.types.BadLine.TheVariants.{Bad}
 use Rattle.ldif_core.specs.declared.types.LineCause.TheVariants.{Syntax, Changetype, Base64}
-use Rattle.ldif_core.specs.Places.{records_from}
+use Rattle.ldif_core.specs.Places.{file_start, records_from}
 use Rattle.ldif_core.specs.Written.{written_line}
-use Rattle.ldif_core.specs.WrittenFile.{start_of_file}
 use Rattle.ldif_core.proofs.OnLiterals.{ldif_on_literals}
 
 -- lines that end in LF, as a file
@@ -16,7 +15,7 @@ abbrev ended : List (List ℕ) → List ℕ
 ended lines = flat_map (λ line. line ++ 10 ∷ []) lines
 
 abbrev records_in : List ℕ → List (Result Record BadLine)
-records_in text = records_from text start_of_file
+records_in text = records_from text file_start
 
 abbrev line : ℕ → List ℕ → List ℕ → RecordLine
 line number kind value = record { line = number; kind = kind; value = value }

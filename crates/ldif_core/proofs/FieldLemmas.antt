@@ -1,10 +1,25 @@
 -- Lemmas on the field of a line, by the place of its first colon.
-use Rattle.std.proofs.Common.{◌≡◌, ℕ, ◌+◌, ◌<◌, ◌&&◌, refl, Bool, true, false, List, length, take, drop, None}
+use Rattle.std.proofs.Common.{◌≡◌, ℕ, ◌+◌, ◌<◌, ◌&&◌, refl, sym, ◌∙◌, ap, arith, Bool, true, false, List, length, take, drop, None}
 use Rattle.std.specs.List.{position_or_len, list_any}
 use Rattle.std.proofs.lemmas.Bool.{and_from}
+use Rattle.std.proofs.lemmas.List.Elements.{All-from_get_or}
+use Rattle.std.proofs.lemmas.List.Folds.{list_any_at, list_any_none}
+use Rattle.std.proofs.lemmas.List.Sums.{fails_before_first, passes_at_first}
 use Rattle.ldif_core.specs.Fields.{is_colon, is_kind, field_after, field_of}
-use Rattle.ldif_core.proofs.KindLemmas.{list_any-here, list_any-nowhere}
 use Rattle.ldif_core.proofs.LogicalLemmas.{choose, other_choice}
+
+-- whether an octet passes, by the place of the first that does
+list_any-here : (test : ℕ → Bool) (xs : List ℕ) → position_or_len test xs < length xs → list_any test xs ≡ true
+list_any-here test xs within = list_any_at test xs (position_or_len test xs) 0 within (passes_at_first test xs 0 within)
+
+list_any-nowhere : (test : ℕ → Bool) (xs : List ℕ) → position_or_len test xs ≡ length xs → list_any test xs ≡ false
+list_any-nowhere test xs none =
+    list_any_none test xs (All-from_get_or (λ octet. test octet ≡ false) xs 0 (λ i within. fails_before_first test xs i 0 (omega arith)))
+
+-- what a call answered of the front of a text that was cut at a place
+pub at_front : (test : List ℕ → Bool) (whole front : List ℕ) (end place : ℕ) (found answer : Bool) → end ≡ place → front ≡ take end whole → found ≡ test front → found ≡ answer
+    → test (take place whole) ≡ answer
+at_front test whole front end place found answer there cut called is = ap test (ap (λ n. take n whole) (sym there) ∙ sym cut) ∙ sym called ∙ is
 
 -- two tests, of which one fails
 fails_left : (one other : Bool) → one ≡ false → (one && other) ≡ false

@@ -2,7 +2,6 @@ pub mod OnLiterals
 mod Examples
 mod PhysicalLemmas
 mod LogicalLemmas
-mod KindLemmas
 mod FieldLemmas
 mod ContentLemmas
 mod RecordLemmas

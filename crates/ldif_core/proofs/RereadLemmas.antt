@@ -16,10 +16,10 @@ use Rattle.dir_tree.specs.Entries.{EntryInformation}
 use Rattle.ldif_core.specs.Lines.{Line, numbered}
 use Rattle.ldif_core.specs.Fields.{Field, field_of, decoded, value_of}
 use Rattle.ldif_core.specs.Records.{◌>>=◌, is_version, without_version, attribute_lines, records}
-use Rattle.ldif_core.specs.Places.{content_from, body_from, records_from}
+use Rattle.ldif_core.specs.Places.{file_start, content_from, body_from, records_from}
 use Rattle.ldif_core.specs.Steps.{before_blank, after_blank}
 use Rattle.ldif_core.specs.Written.{written_value, written_line, written_entry}
-use Rattle.ldif_core.specs.WrittenFile.{TypeAndOctets, values_in, IsWritable, lines_from, record_from, start_of_file, written_entries, written_file, entry_records}
+use Rattle.ldif_core.specs.WrittenFile.{TypeAndOctets, values_in, IsWritable, lines_from, record_from, written_entries, written_file, entry_records}
 use Rattle.ldif_core.proofs.RecordLemmas.{before-line, after-line, before-blank, after-blank, before-nil, after-nil, lines-cons, record-good, records-first, records-nil}
 use Rattle.ldif_core.proofs.ContentLemmas.{records-blank}
 use Rattle.ldif_core.proofs.WrittenLineLemmas.{says, attribute-says, name-says, lines-inside, IsRow, row-of, filled-of}
@@ -113,12 +113,12 @@ body-entry : (entry : EntryInformation) (rows : List Line) → without_version (
 unfolding without_version is_version
 body-entry entry rows = refl
 
-body-start : (text : List ℕ) (rows : List Line) → content_from text start_of_file ≡ rows → body_from text start_of_file ≡ without_version rows
+body-start : (text : List ℕ) (rows : List Line) → content_from text file_start ≡ rows → body_from text file_start ≡ without_version rows
 unfolding body_from
 body-start text rows is = ap without_version is
 
 -- a written file gives the records of its entries
-pub file-reread : (entries : List EntryInformation) → AllByRecursion IsWritable entries → records_from (written_file entries) start_of_file ≡ entry_records 2 entries
+pub file-reread : (entries : List EntryInformation) → AllByRecursion IsWritable entries → records_from (written_file entries) file_start ≡ entry_records 2 entries
 unfolding records_from
 file-reread entries are =
     let rows = record { number = 1; octets = codes "version: 1" } ∷ file_rows 2 entries in
@@ -127,7 +127,7 @@ file-reread entries are =
     ∙ file-records 2 entries are
 
 -- the record of one entry gives it alone
-pub entry-reread : (entry : EntryInformation) → IsWritable entry → records_from (written_entry entry) start_of_file ≡ Ok (record_from 1 entry) ∷ []
+pub entry-reread : (entry : EntryInformation) → IsWritable entry → records_from (written_entry entry) file_start ≡ Ok (record_from 1 entry) ∷ []
 unfolding records_from
 entry-reread entry is =
     let rows = entry_rows 1 entry ++ [] in

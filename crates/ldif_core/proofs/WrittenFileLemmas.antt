@@ -15,9 +15,9 @@ use Rattle.dir_tree.specs.Entries.{Attribute, EntryInformation}
 use Rattle.ldif_core.specs.Lines.{Line, numbered, is_continuation, continued, beginning, logical}
 use Rattle.ldif_core.specs.Fields.{is_changetype}
 use Rattle.ldif_core.specs.Records.{is_comment, without_comments}
-use Rattle.ldif_core.specs.Places.{physical_from, logical_from, content_from}
+use Rattle.ldif_core.specs.Places.{file_start, physical_from, logical_from, content_from}
 use Rattle.ldif_core.specs.Written.{written_value, written_line, written_values, written_attributes, written_entry, AreInTable}
-use Rattle.ldif_core.specs.WrittenFile.{TypeAndOctets, values_in, IsWritable, start_of_file, written_entries}
+use Rattle.ldif_core.specs.WrittenFile.{TypeAndOctets, values_in, IsWritable, written_entries}
 use Rattle.ldif_core.proofs.LogicalLemmas.{other_choice, choose}
 use Rattle.ldif_core.proofs.TableNames.{not_changetype-name_of}
 use Rattle.ldif_core.proofs.WrittenLineLemmas.{lines-inside, lines-written, IsRow}
@@ -141,6 +141,6 @@ content-rows [] rows = refl
 content-rows (line ∷ rest) rows =
     choose (not (is_comment line)) _ _ (ap not rows.0.says) ∙ ap (λ later. line ∷ later) (content-rows rest rows.1)
 
-pub content-read : (text : List ℕ) (rows : List Line) → numbered 1 (lines text) ≡ rows → AllByRecursion IsRow rows → content_from text start_of_file ≡ rows
+pub content-read : (text : List ℕ) (rows : List Line) → numbered 1 (lines text) ≡ rows → AllByRecursion IsRow rows → content_from text file_start ≡ rows
 unfolding content_from logical_from physical_from
 content-read text rows read are = ap (λ found. without_comments (logical found)) read ∙ ap without_comments (logical-rows rows are) ∙ content-rows rows are

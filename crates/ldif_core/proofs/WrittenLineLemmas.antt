@@ -1,16 +1,16 @@
 -- Lemmas on one written line, read again.
-use Rattle.std.proofs.Common.{◌≡◌, ℕ, ◌+◌, ◌<◌, ◌==◌, ◌&&◌, ◌||◌, not, sym, ◌∙◌, ap, refl, arith, Bool, true, false, List, [], ◌∷◌, ◌++◌, length, take, drop, Some, Ok}
+use Rattle.std.proofs.Common.{◌≡◌, ◌≢◌, ℕ, ◌+◌, ◌<◌, ◌==◌, ◌&&◌, ◌||◌, not, sym, ◌∙◌, ap, refl, arith, Bool, true, false, List, [], ◌∷◌, ◌++◌, length, take, drop, Some, Ok}
 use Rattle.std.specs.Prelude.{codes}
 use Rattle.std.specs.Char.{is_ascii_alphabetic, is_ascii_alphanumeric}
-use Rattle.std.specs.List.{list_all, position_or_len, slice_split}
+use Rattle.std.specs.List.{list_all, position_or_len}
 use Rattle.std.specs.Result.{result_ok}
-use Rattle.std.specs.Str.Lines.{lines, lines_of_parts}
+use Rattle.std.specs.Str.Lines.{lines}
 use Rattle.std.proofs.lemmas.Bool.{and_parts}
 use Rattle.std.proofs.lemmas.Bool.Decides.{nat_tests}
 use Rattle.std.proofs.lemmas.List.{append_assoc, length-append, take_at, drop_at}
 use Rattle.std.proofs.lemmas.List.Elements.{All-from_get_or}
-use Rattle.std.proofs.lemmas.List.Splits.{slice_split_at, length-slice_split}
 use Rattle.base64.specs.Engines.{standard}
+use Rattle.plain_values.proofs.Theorems.{lines-ended}
 use Rattle.base64.specs.GeneralPurpose.{IsBytes, encode_of}
 use Rattle.base64.proofs.EngineFacts.{decode_of-encode_of}
 use Rattle.schema_core.specs.Naming.{is_keystring}
@@ -19,7 +19,6 @@ use Rattle.ldif_core.specs.Fields.{Field, is_colon, is_kind, is_dn, is_changetyp
 use Rattle.ldif_core.specs.Records.{is_comment, is_blank}
 use Rattle.ldif_core.specs.Written.{is_plain, written_value, written_line}
 use Rattle.ldif_core.proofs.LogicalLemmas.{choose, other_choice}
-use Rattle.ldif_core.proofs.PhysicalLemmas.{lines_of_parts-cons}
 use Rattle.ldif_core.proofs.FieldLemmas.{field_of-kind}
 use Rattle.ldif_core.proofs.OctetLemmas.{is_inside, is_name_octet, is_code_octet, list_all-join, passes-at, keystring-name, keystring-inside, encoded-code, written-inside, strip-inside}
 
@@ -137,13 +136,12 @@ name-says number value line said =
     ∙ ap (with_name number) said.octets
 
 -- a written line is cut off whole
-no_feed : (octet : ℕ) → is_inside octet ≡ true → (octet == 10) ≡ false
+no_feed : (octet : ℕ) → is_inside octet ≡ true → octet ≢ 10
 no_feed octet is = grind (arith, nat_tests)
 
 pub lines-inside : (line rest : List ℕ) → list_all is_inside line ≡ true → lines (line ++ 10 ∷ rest) ≡ line ∷ lines rest
 lines-inside line rest all =
-    ap lines_of_parts (slice_split_at (λ octet. octet == 10) line 10 rest (All-from_get_or (λ octet. (octet == 10) ≡ false) line 0 (λ k within. no_feed _ (passes-at is_inside refl line all k))) refl)
-    ∙ lines_of_parts-cons line (slice_split (λ octet. octet == 10) rest) (omega (arith, length-slice_split (λ octet. octet == 10) rest))
+    lines-ended line rest (All-from_get_or (λ octet. octet ≢ 10) line 0 (λ k within. no_feed _ (passes-at is_inside refl line all k)))
     ∙ ap (λ first. first ∷ lines rest) (strip-inside line all)
 
 pub lines-written : (kind value rest : List ℕ) → is_keystring kind ≡ true → lines (written_line kind value ++ rest) ≡ (kind ++ written_value value) ∷ lines rest

@@ -13,6 +13,10 @@ pub record IsPlace (text : List ℕ) (place : Position) : Type 0 where
   pub within : place.offset ≤ length text
   pub counted : place.line ≤ place.offset + 1
 
+-- the place where a file begins
+abbrev pub file_start : Position
+file_start = record { offset = 0; line = 1 }
+
 -- the lines as they stand
 unfoldable pub physical_from : List ℕ → Position → List Line
 physical_from text place = numbered place.line (lines (drop place.offset text))

@@ -5,7 +5,6 @@ use Rattle.base64.specs.GeneralPurpose.{IsBytes}
 use Rattle.schema_core.specs.Attributes.{name_of}
 use Rattle.dn_names.specs.Printing.{print_name}
 use Rattle.dir_tree.specs.Entries.{Attribute, EntryInformation}
-use Rattle.ldif_core.specs.declared.types.Position.{Position}
 use Rattle.ldif_core.specs.declared.types.Record.{Record}
 use Rattle.ldif_core.specs.declared.types.RecordLine.{RecordLine}
 use Rattle.ldif_core.specs.declared.types.BadLine.{BadLine}
@@ -37,10 +36,6 @@ lines_from number (found ∷ rest) = record { line = number; kind = found.kind; 
 abbrev pub record_from : ℕ → EntryInformation → Record
 record_from number entry =
     record { line = number; name = print_name entry.name; lines = lines_from (number + 1) (values_in entry.attributes) }
-
--- the place where a file starts
-abbrev pub start_of_file : Position
-start_of_file = record { offset = 0; line = 1 }
 
 -- a file of entries: the version, and an empty line before each record
 abbrev pub written_entries : List EntryInformation → List ℕ

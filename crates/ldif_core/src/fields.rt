@@ -6,12 +6,12 @@ ghost use Rattle.ldif_core.specs.Fields.{after_spaces, field_after, field_of, de
 ghost use Rattle.ldif_core.specs.Steps.{Gives, field_in};
 
 use crate::kinds::{is_changetype, is_dn, is_kind};
-use crate::lines::{begins_with, position_of};
+use crate::lines::begins_with;
 use crate::types::{BadLine, LineCause, NoMemory, RecordLine};
 use crate::unfolded::Unfolded;
 use base64::DecodeAllocError;
 use base64::engine::general_purpose::STANDARD;
-use plain_values::Octets;
+use plain_values::{Octets, position_of};
 use std::alloc::{AllocError, Global};
 
 /// A type, and the text of its value, as it stands or in base64.

@@ -1,13 +1,12 @@
 //! The types of lines.
 
 ghost use Rattle.std.specs.Prelude.{◌≡◌, ◌==◌, ◌||◌};
-ghost use Rattle.std.specs.Char.{is_ascii_digit, is_ascii_alphanumeric};
-ghost use Rattle.std.specs.List.{list_all, list_any};
+ghost use Rattle.std.specs.Char.{is_ascii_alphanumeric};
+ghost use Rattle.std.specs.List.{list_all};
 ghost use Rattle.schema_core.specs.Naming.{is_keystring};
-ghost use Rattle.schema_core.specs.Oid.{is_number, parts, is_dotted_oid};
 ghost use Rattle.ldif_core.specs.Fields.{is_kind, is_changetype, is_dn};
 
-use crate::lines::position_of;
+use schema_core::is_dotted_oid;
 
 // Whether each octet is a letter, a digit or a hyphen.
 fn are_key_octets(octets: &[u8]) -> bool
@@ -26,44 +25,6 @@ fn is_keystring(text: &[u8]) -> bool
         return false;
     }
     text[0].is_ascii_alphabetic() && are_key_octets(text.split_at(1).1)
-}
-
-// Whether each octet is a digit.
-fn are_digits(octets: &[u8]) -> bool
-    ensures { result ≡ list_all is_ascii_digit octets.now }
-{
-    octets.iter().all(u8::is_ascii_digit)
-}
-
-// Whether the text is a decimal number without leading zeros.
-fn is_number(digits: &[u8]) -> bool
-    ensures { result ≡ is_number digits.now }
-{
-    !digits.is_empty() && are_digits(digits) && (digits.len() == 1 || digits[0] != b'0')
-}
-
-// Whether each part between the dots is a decimal number without leading zeros.
-fn are_numbers(text: &[u8]) -> bool
-    ensures { result ≡ list_all is_number (parts text.now) }
-{
-    let mut rest = text;
-    loop {
-        let end = position_of(rest, b'.');
-        if !is_number(rest.split_at(end).0) {
-            return false;
-        }
-        if end == rest.len() {
-            return true;
-        }
-        rest = rest.split_at(end + 1).1;
-    }
-}
-
-// Whether the text is at least two such numbers joined by dots.
-fn is_dotted_oid(text: &[u8]) -> bool
-    ensures { result ≡ is_dotted_oid text.now }
-{
-    position_of(text, b'.') < text.len() && are_numbers(text)
 }
 
 /// Whether the octets are the text of a type.

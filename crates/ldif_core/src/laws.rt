@@ -13,17 +13,17 @@ ghost use Rattle.std.specs.Str.{IsAscii};
 ghost use Rattle.ldif_core.specs.declared.types.Position.{Position};
 ghost use Rattle.ldif_core.specs.declared.types.Record.{Record};
 ghost use Rattle.ldif_core.specs.Fields.{is_kind, decoded};
-ghost use Rattle.ldif_core.specs.Places.{IsNext, records_from};
+ghost use Rattle.ldif_core.specs.Places.{file_start, IsNext, records_from};
 ghost use Rattle.ldif_core.specs.Written.{AreInTable, written_line, written_entry};
-ghost use Rattle.ldif_core.specs.WrittenFile.{IsWritable, record_from, entry_records, start_of_file, written_file};
+ghost use Rattle.ldif_core.specs.WrittenFile.{IsWritable, record_from, entry_records, written_file};
 
 /// A file of entries, as it is written, gives the records of the entries in their order when it is read; and the
 /// record of one entry gives this one record.
 pub fn a_written_file_is_read_again()
     ensures file { (entries : List EntryInformation) → AllByRecursion IsWritable entries
-        → records_from (written_file entries) start_of_file ≡ entry_records 2 entries }
+        → records_from (written_file entries) file_start ≡ entry_records 2 entries }
     ensures entry { (entry : EntryInformation) → IsWritable entry
-        → records_from (written_entry entry) start_of_file ≡ Ok (record_from 1 entry) ∷ [] }
+        → records_from (written_entry entry) file_start ≡ Ok (record_from 1 entry) ∷ [] }
 {}
 
 /// A written line of a type is the line of one value.

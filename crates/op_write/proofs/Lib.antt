@@ -1,6 +1,5 @@
 mod Examples
 mod FileExamples
-mod KindLemmas
 mod LineLemmas
 mod OwnLemmas
 mod PlaceLemmas

@@ -5,12 +5,12 @@ use Rattle.std.specs.List.{flat_map}
 use Rattle.dir_tree.specs.Entries.{EntryInformation}
 use Rattle.dir_tree.specs.Trees.{is_before}
 use Rattle.ldif_core.specs.declared.types.Record.{Record}
-use Rattle.ldif_core.specs.declared.types.Position.{Position}
 use Rattle.ldif_core.specs.declared.types.BadLine.{BadLine}
 use Rattle.ldif_core.specs.declared.types.BadLine.TheVariants as reading
 use Rattle.ldif_core.specs.declared.types.LineCause.{LineCause}
 use Rattle.ldif_core.specs.declared.types.LineCause.TheVariants.{Syntax}
 use Rattle.ldif_core.specs.Places.{records_from}
+pub use Rattle.ldif_core.specs.Places.{file_start}
 use Rattle.ldif_core.specs.Written.{written_entry}
 use Rattle.op_write.specs.declared.fault.LoadCause.{LoadCause}
 use Rattle.op_write.specs.declared.fault.LoadFault.{LoadFault}
@@ -61,10 +61,6 @@ loads_after entries (first ∷ rest) = record_entry entries first >>= λ entry. 
 abbrev pub loads_records : List (Result Record BadLine) → Result (List EntryInformation) FileFault
 loads_records [] = Err (record { line = 1; cause = OfLine Syntax })
 loads_records (first ∷ rest) = loads_after [] (first ∷ rest)
-
--- the place where a file begins
-abbrev pub file_start : Position
-file_start = record { offset = 0; line = 1 }
 
 -- the entries of a file, in the order of their names, or its first fault
 unfoldable pub loads : List ℕ → Result (List EntryInformation) FileFault

@@ -1,9 +1,7 @@
 //! The lines of a record, each put in an entry.
 
-ghost use Rattle.std.specs.Prelude.{◌≡◌, [], false, Some, None, IfSome, MatchOption};
-ghost use Rattle.std.specs.Option.{option_map};
-ghost use Rattle.std.specs.Str.{is_utf8};
-ghost use Rattle.schema_core.specs.Attributes.{IsAttrId, attr_of};
+ghost use Rattle.std.specs.Prelude.{◌≡◌, Some};
+ghost use Rattle.schema_core.specs.Attributes.{IsAttrId};
 ghost use Rattle.dn_names.specs.NameText.{read_name};
 ghost use Rattle.op_write.specs.Loading.{named, loaded_value, with_new_kind, with_new_value, with_line, with_lines};
 ghost use Rattle.op_write.specs.Steps.{Gives, value_or_fault};
@@ -13,9 +11,8 @@ use dir_tree::Entry;
 use dn_names::{BadName, Dn, Value, make_value, parse};
 use ldif_core::RecordLine;
 use match_rules::PrepareFault;
-use schema_core::{AttrId, attr};
+use schema_core::{AttrId, attr_named};
 use std::alloc::Global;
-use std::str;
 
 const MOST_OCTETS: usize = 65_536;
 
@@ -38,27 +35,6 @@ fn not_empty(line: u64, name: Dn) -> Result<Dn, LoadFault>
         Err(bad_at(line, LoadCause::Name))
     } else {
         Ok(name)
-    }
-}
-
-// The octets as a text, where they are UTF-8.
-fn as_text(octets: &[u8]) -> Option<&str>
-    ensures exact { MatchOption result (is_utf8 octets.now ≡ false) (λ text. text.now ≡ octets.now) }
-{
-    match str::from_utf8(octets) {
-        Ok(text) => Some(text),
-        Err(_) => None,
-    }
-}
-
-// The attribute type that the octets name.
-fn kind_of(octets: &[u8]) -> Option<AttrId>
-    ensures exact { option_map (λ kind. kind.0) result ≡ attr_of octets.now }
-    ensures fits { IfSome result (λ kind. IsAttrId kind.0) }
-{
-    match as_text(octets) {
-        Some(text) => attr(text),
-        None => None,
     }
 }
 
@@ -108,7 +84,7 @@ fn with_kind(
 fn with_line(alloc: Global, entry: Entry, line: &RecordLine) -> Result<Entry, LoadFault>
     ensures exact { Gives result (with_line entry line.now) }
 {
-    match kind_of(line.kind.as_slice()) {
+    match attr_named(line.kind.as_slice()) {
         Some(kind) => with_kind(alloc, entry, line, kind),
         None => Err(bad_at(line.line, LoadCause::Kind)),
     }

@@ -1,6 +1,7 @@
--- A count of faults on known cases.
-use Rattle.std.proofs.Common.{◌≡◌, refl, inl, inr, arith}
+-- A count of faults, and lists of numbers, on known cases.
+use Rattle.std.proofs.Common.{◌≡◌, refl, inl, inr, arith, true, false, [], ◌∷◌}
 use Rattle.plain_values.specs.Counts.{Rose, NeverFalls, last_count, next_count}
+use Rattle.plain_values.specs.Numbers.{has}
 
 -- from 3 to 4 it rose
 three_to_four : Rose 3 4
@@ -23,3 +24,10 @@ next_of_three = refl
 
 next_of_the_last : next_count last_count ≡ last_count
 next_of_the_last = refl
+
+-- a number that is among others, and one that isn't
+seven_is_among : has 7 (3 ∷ 7 ∷ []) ≡ true
+seven_is_among = refl
+
+five_is_not : has 5 (3 ∷ 7 ∷ []) ≡ false
+five_is_not = refl

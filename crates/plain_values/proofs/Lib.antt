@@ -1,2 +1,5 @@
 mod Examples
+mod LinesLemmas
+mod PositionLemmas
+mod ItemLemmas
 pub mod Theorems

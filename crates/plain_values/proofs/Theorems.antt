@@ -1,6 +1,7 @@
--- Laws of a count of faults over several steps.
+-- What crates above may cite: laws of a count of faults over several steps, and of the lines of a text.
 use Rattle.std.proofs.Common.{ℕ, ◌≤◌, arith}
 use Rattle.plain_values.specs.Counts.{Rose, NeverFalls, last_count, next_count}
+pub use Rattle.plain_values.proofs.LinesLemmas.{lines_of_parts-one, lines-unended, lines-ended}
 
 -- a count that nothing touched never fell
 pub NeverFalls-refl : (count : ℕ) → NeverFalls count count

@@ -80,45 +80,53 @@ pub fn row(attribute: AttrId) -> Option<Row>
     rows().get(usize::from(attribute.0)).copied()
 }
 
-// The place of the first row that the text names.
-fn place_of(rows: &[Row], text: &str) -> Option<usize>
-    ensures exact { result ≡ position (λ row. is_named row.name.now row.oid.now text.now) rows.now }
+// The place of the first row that the octets name.
+fn place_of(rows: &[Row], octets: &[u8]) -> Option<usize>
+    ensures exact { result ≡ position (λ row. is_named row.name.now row.oid.now octets.now) rows.now }
 {
     rows.iter()
-        .position(|row| is_named(row.name, row.oid, text))
+        .position(|row| is_named(row.name, row.oid, octets))
 }
 
-/// The attribute type that a text names: by its name without regard to ASCII case, or by its object
+/// The attribute type that octets name: by its name without regard to ASCII case, or by its object
 /// identifier in dotted form. None exactly where no row has it.
+pub fn attr_named(octets: &[u8]) -> Option<AttrId>
+    ensures exact { option_map (λ attribute. attribute.0) result ≡ attr_of octets.now }
+    ensures fits { IfSome result (λ attribute. IsAttrId attribute.0) }
+{
+    let index = place_of(rows(), octets)?;
+    Some(AttrId(index as u8))
+}
+
+/// The attribute type that a text names, as `attr_named` finds it.
 pub fn attr(text: &str) -> Option<AttrId>
     ensures exact { option_map (λ attribute. attribute.0) result ≡ attr_of text.now }
     ensures fits { IfSome result (λ attribute. IsAttrId attribute.0) }
 {
-    let index = place_of(rows(), text)?;
-    Some(AttrId(index as u8))
+    attr_named(text.as_bytes())
 }
 
-// The first row whose name the text is.
-fn row_named<'rows>(rows: &'rows [Row], text: &str) -> Option<&'rows Row>
-    ensures exact { option_copied result ≡ find (λ row. is_same_name row.name.now text.now) rows.now }
+// The first row whose name the octets are.
+fn row_named<'rows>(rows: &'rows [Row], octets: &[u8]) -> Option<&'rows Row>
+    ensures exact { option_copied result ≡ find (λ row. is_same_name row.name.now octets.now) rows.now }
 {
-    rows.iter().find(|row| is_same_name(row.name, text))
+    rows.iter().find(|row| is_same_name(row.name, octets))
 }
 
-// The object identifier of the first of these rows whose name the text is.
-fn oid_in(rows: &[Row], text: &str) -> Option<&'static str>
+// The object identifier of the first of these rows whose name the octets are.
+fn oid_in(rows: &[Row], octets: &[u8]) -> Option<&'static str>
     ensures exact { option_map (λ oid. oid.now) result
-        ≡ option_map (λ row. row.oid.now) (find (λ row. is_same_name row.name.now text.now) rows.now) }
+        ≡ option_map (λ row. row.oid.now) (find (λ row. is_same_name row.name.now octets.now) rows.now) }
 {
-    match row_named(rows, text) {
+    match row_named(rows, octets) {
         Some(row) => Some(row.oid),
         None => None,
     }
 }
 
-// The object identifier of the attribute type whose name the text is.
-pub(crate) fn attribute_oid_named(text: &str) -> Option<&'static str>
-    ensures exact { option_map (λ oid. oid.now) result ≡ oid_among (map named_attribute attributes) text.now }
+// The object identifier of the attribute type whose name the octets are.
+pub(crate) fn attribute_oid_named(octets: &[u8]) -> Option<&'static str>
+    ensures exact { option_map (λ oid. oid.now) result ≡ oid_among (map named_attribute attributes) octets.now }
 {
-    oid_in(rows(), text)
+    oid_in(rows(), octets)
 }

@@ -84,12 +84,21 @@ fn rows() -> &'static [ClassRow]
     &CLASSES
 }
 
-// The place of the first row that the text names.
-fn place_of(rows: &[ClassRow], text: &str) -> Option<usize>
-    ensures exact { result ≡ position (λ row. is_named row.name.now row.oid.now text.now) rows.now }
+// The place of the first row that the octets name.
+fn place_of(rows: &[ClassRow], octets: &[u8]) -> Option<usize>
+    ensures exact { result ≡ position (λ row. is_named row.name.now row.oid.now octets.now) rows.now }
 {
     rows.iter()
-        .position(|row| is_named(row.name, row.oid, text))
+        .position(|row| is_named(row.name, row.oid, octets))
+}
+
+// The class that the octets name.
+fn class_named(octets: &[u8]) -> Option<ClassId>
+    ensures exact { option_map (λ class. class.0) result ≡ class_of octets.now }
+    ensures fits { IfSome result (λ class. IsClassId class.0) }
+{
+    let index = place_of(rows(), octets)?;
+    Some(ClassId(index as u8))
 }
 
 /// The class that a text names: by its name without regard to ASCII case, or by its object identifier
@@ -98,8 +107,7 @@ pub fn class(text: &str) -> Option<ClassId>
     ensures exact { option_map (λ class. class.0) result ≡ class_of text.now }
     ensures fits { IfSome result (λ class. IsClassId class.0) }
 {
-    let index = place_of(rows(), text)?;
-    Some(ClassId(index as u8))
+    class_named(text.as_bytes())
 }
 
 // The place of the first row that has the object identifier.
@@ -178,27 +186,27 @@ pub fn allowed(class: ClassId) -> &'static [AttrId]
     }
 }
 
-// The first row whose name the text is.
-fn row_named<'rows>(rows: &'rows [ClassRow], text: &str) -> Option<&'rows ClassRow>
-    ensures exact { option_copied result ≡ find (λ row. is_same_name row.name.now text.now) rows.now }
+// The first row whose name the octets are.
+fn row_named<'rows>(rows: &'rows [ClassRow], octets: &[u8]) -> Option<&'rows ClassRow>
+    ensures exact { option_copied result ≡ find (λ row. is_same_name row.name.now octets.now) rows.now }
 {
-    rows.iter().find(|row| is_same_name(row.name, text))
+    rows.iter().find(|row| is_same_name(row.name, octets))
 }
 
-// The object identifier of the first of these rows whose name the text is.
-fn oid_in(rows: &[ClassRow], text: &str) -> Option<&'static str>
+// The object identifier of the first of these rows whose name the octets are.
+fn oid_in(rows: &[ClassRow], octets: &[u8]) -> Option<&'static str>
     ensures exact { option_map (λ oid. oid.now) result
-        ≡ option_map (λ row. row.oid.now) (find (λ row. is_same_name row.name.now text.now) rows.now) }
+        ≡ option_map (λ row. row.oid.now) (find (λ row. is_same_name row.name.now octets.now) rows.now) }
 {
-    match row_named(rows, text) {
+    match row_named(rows, octets) {
         Some(row) => Some(row.oid),
         None => None,
     }
 }
 
-// The object identifier of the class whose name the text is.
-pub(crate) fn class_oid_named(text: &str) -> Option<&'static str>
-    ensures exact { option_map (λ oid. oid.now) result ≡ oid_among (map named_class classes) text.now }
+// The object identifier of the class whose name the octets are.
+pub(crate) fn class_oid_named(octets: &[u8]) -> Option<&'static str>
+    ensures exact { option_map (λ oid. oid.now) result ≡ oid_among (map named_class classes) octets.now }
 {
-    oid_in(rows(), text)
+    oid_in(rows(), octets)
 }

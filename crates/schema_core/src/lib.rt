@@ -11,7 +11,7 @@ mod numbers;
 mod oids;
 mod roles;
 
-pub use attributes::{attr, row};
+pub use attributes::{attr, attr_named, row};
 pub use classes::{allowed, class, class_kind, class_oid, class_with, required, superior};
 pub use kinds::{AttrId, ClassId, ClassKind, Row, Syntax};
 pub use laws::{
@@ -19,4 +19,4 @@ pub use laws::{
     rows_are_distinct, the_dotted_form_is_its_grammar,
 };
 pub use numbers::constants_are_rows;
-pub use oids::oid_of;
+pub use oids::{is_dotted_oid, oid_of};

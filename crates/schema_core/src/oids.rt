@@ -23,34 +23,35 @@ fn is_number(digits: &[u8]) -> bool
 }
 
 // Each part between the dots is a decimal number without leading zeros.
-fn are_numbers(text: &str) -> bool
+fn are_numbers(text: &[u8]) -> bool
     ensures exact { result ≡ list_all is_number (parts text.now) }
 {
-    text.split('.').all(|part| is_number(part.as_bytes()))
+    text.split(|octet| *octet == b'.').all(is_number)
 }
 
 // How many parts the dots make.
-fn part_count(text: &str) -> usize
+fn part_count(text: &[u8]) -> usize
     ensures exact { result ≡ length (parts text.now) }
 {
-    text.split('.').count()
+    text.split(|octet| *octet == b'.').count()
 }
 
-// At least two decimal numbers without leading zeros, joined by dots.
+/// Whether the octets are a dotted object identifier, known or not: at least two decimal numbers
+/// without leading zeros, joined by dots.
 #[tactic(auto, unfolding(crate::specs::Oid::is_dotted_oid))]
-fn is_dotted_oid(text: &str) -> bool
+pub fn is_dotted_oid(text: &[u8]) -> bool
     ensures exact { result ≡ is_dotted_oid text.now }
 {
     part_count(text) >= 2 && are_numbers(text)
 }
 
-// The object identifier of the attribute type, class or role that the text names.
-fn oid_named(text: &str) -> Option<&'static str>
-    ensures exact { option_map (λ oid. oid.now) result ≡ oid_among names text.now }
+// The object identifier of the attribute type, class or role whose name the octets are.
+fn oid_named(octets: &[u8]) -> Option<&'static str>
+    ensures exact { option_map (λ oid. oid.now) result ≡ oid_among names octets.now }
 {
-    attribute_oid_named(text)
-        .or(class_oid_named(text))
-        .or(role_oid_named(text))
+    attribute_oid_named(octets)
+        .or(class_oid_named(octets))
+        .or(role_oid_named(octets))
 }
 
 /// The object identifier in dotted form that a text stands for: that of the attribute type, class or
@@ -59,9 +60,9 @@ fn oid_named(text: &str) -> Option<&'static str>
 pub fn oid_of(text: &str) -> Option<&str>
     ensures exact { option_map (λ oid. oid.now) result ≡ oid_of text.now }
 {
-    match oid_named(text) {
+    match oid_named(text.as_bytes()) {
         Some(oid) => Some(oid),
-        None if is_dotted_oid(text) => Some(text),
+        None if is_dotted_oid(text.as_bytes()) => Some(text),
         None => None,
     }
 }

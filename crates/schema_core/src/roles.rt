@@ -30,27 +30,27 @@ fn rows() -> &'static [RoleRow]
     &ROLES
 }
 
-// The first row whose name the text is.
-fn row_named<'rows>(rows: &'rows [RoleRow], text: &str) -> Option<&'rows RoleRow>
-    ensures exact { option_copied result ≡ find (λ row. is_same_name row.name.now text.now) rows.now }
+// The first row whose name the octets are.
+fn row_named<'rows>(rows: &'rows [RoleRow], octets: &[u8]) -> Option<&'rows RoleRow>
+    ensures exact { option_copied result ≡ find (λ row. is_same_name row.name.now octets.now) rows.now }
 {
-    rows.iter().find(|row| is_same_name(row.name, text))
+    rows.iter().find(|row| is_same_name(row.name, octets))
 }
 
-// The object identifier of the first of these rows whose name the text is.
-fn oid_in(rows: &[RoleRow], text: &str) -> Option<&'static str>
+// The object identifier of the first of these rows whose name the octets are.
+fn oid_in(rows: &[RoleRow], octets: &[u8]) -> Option<&'static str>
     ensures exact { option_map (λ oid. oid.now) result
-        ≡ option_map (λ row. row.oid.now) (find (λ row. is_same_name row.name.now text.now) rows.now) }
+        ≡ option_map (λ row. row.oid.now) (find (λ row. is_same_name row.name.now octets.now) rows.now) }
 {
-    match row_named(rows, text) {
+    match row_named(rows, octets) {
         Some(row) => Some(row.oid),
         None => None,
     }
 }
 
-// The object identifier of the role whose name the text is.
-pub(crate) fn role_oid_named(text: &str) -> Option<&'static str>
-    ensures exact { option_map (λ oid. oid.now) result ≡ oid_among roles text.now }
+// The object identifier of the role whose name the octets are.
+pub(crate) fn role_oid_named(octets: &[u8]) -> Option<&'static str>
+    ensures exact { option_map (λ oid. oid.now) result ≡ oid_among roles octets.now }
 {
-    oid_in(rows(), text)
+    oid_in(rows(), octets)
 }

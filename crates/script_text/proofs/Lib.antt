@@ -3,7 +3,6 @@ mod Examples
 mod WordLemmas
 mod LineLemmas
 mod TextLemmas
-mod LinesLemmas
 mod ConnectionsLemmas
 mod ScriptLemmas
 mod RecordingLemmas

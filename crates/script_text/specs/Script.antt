@@ -1,7 +1,8 @@
 -- Scripts: the events that a text of lines gives, or the first line that breaks the grammar.
-use Rattle.std.specs.Prelude.{◌≡◌, ℕ, ◌+◌, ◌<◌, ◌==◌, ◌&&◌, ◌||◌, nat_eq, not, Bool, true, false, List, [], length, take, slice_index_or, Option, Some, None}
-use Rattle.std.specs.List.{filter_map, list_any, IsDistinct, AllByRecursion}
+use Rattle.std.specs.Prelude.{◌≡◌, ℕ, ◌+◌, ◌<◌, ◌&&◌, ◌||◌, nat_eq, not, Bool, true, false, List, [], length, take, slice_index_or, Option, Some, None}
+use Rattle.std.specs.List.{filter_map, IsDistinct, AllByRecursion}
 use Rattle.std.specs.Str.Lines.{lines}
+pub use Rattle.plain_values.specs.Numbers.{has}
 use Rattle.script_text.specs.declared.event.ScriptEvent.{ScriptEvent}
 use Rattle.script_text.specs.declared.event.ScriptEvent.TheVariants.{Opened, Bytes, Ended}
 use Rattle.script_text.specs.LineText.{is_silent}
@@ -26,10 +27,6 @@ opened_by events = filter_map opens events
 -- the numbers that the events end, in order
 abbrev pub ended_by : List ScriptEvent → List ℕ
 ended_by events = filter_map ends events
-
--- the number is among the numbers
-abbrev pub has : ℕ → List ℕ → Bool
-has number numbers = list_any (λ other. number == other) numbers
 
 -- the events open the number and do not end it
 abbrev pub is_open_after : List ScriptEvent → ℕ → Bool

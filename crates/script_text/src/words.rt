@@ -7,9 +7,8 @@ ghost use Rattle.std.specs.Str.Parse.{digits_value};
 ghost use Rattle.script_text.specs.LineReading.{is_space, in_range, number_of, octets_of, sent_by, event_of};
 
 use crate::event::ScriptEvent;
-use crate::lines::position_of;
 use hex::FromHexError;
-use plain_values::Octets;
+use plain_values::{Octets, position_of};
 use std::alloc::{AllocError, Global};
 
 // The number that at most ten decimal digits write.

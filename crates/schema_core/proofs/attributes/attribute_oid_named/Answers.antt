@@ -6,5 +6,5 @@ use Rattle.schema_core.proofs.attributes.attribute_oid_named.Goals as goal
 pub returns : goal.returns
 returns c =
     record {
-      exact = c.oid_in.ensures.exact ∙ oid_of_rows c.rows.result.now c.args.text.now c.rows.ensures.exact;
+      exact = c.oid_in.ensures.exact ∙ oid_of_rows c.rows.result.now c.args.octets.now c.rows.ensures.exact;
     }

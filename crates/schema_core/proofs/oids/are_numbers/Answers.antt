@@ -1,7 +1,7 @@
 -- The text is cut at its dots, and each part is tested.
-use Rattle.std.proofs.Common.{lit<, rules, tests}
+use Rattle.std.proofs.Common.{rules, tests}
 use Rattle.std.proofs.lemmas.Iterator.Search.{all_from_yields_List}
-use Rattle.std.proofs.lemmas.Iterator.Splits.{YieldsList-from_str_split}
+use Rattle.std.proofs.lemmas.Iterator.Splits.{YieldsList-from_slice_split}
 use Rattle.schema_core.specs.Oid.{is_number}
 use Rattle.schema_core.proofs.oids.are_numbers.Goals as goal
 
@@ -10,6 +10,6 @@ returns c =
     record {
       exact =
           all_from_yields_List is_number _ _ c.all.result c.all.ensures.ran
-          (YieldsList-from_str_split 46 c.args.text.now (lit< tt) c.split.ensures.text c.split.ensures.has_more c.split.ensures.pattern)
+          (YieldsList-from_slice_split _ _ c.args.text.now c.split.ensures.rest c.split.ensures.done c.split.ensures.closure (λ x r q k. search (rules, tests)))
           (λ x b q k. search (rules, tests));
     }

@@ -1,7 +1,7 @@
 -- The text is cut at its dots, and the parts are counted.
-use Rattle.std.proofs.Common.{lit<}
+use Rattle.std.proofs.Common.{rules, tests}
 use Rattle.std.proofs.lemmas.Iterator.Consumers.{count_from_yields_List}
-use Rattle.std.proofs.lemmas.Iterator.Splits.{YieldsList-from_str_split}
+use Rattle.std.proofs.lemmas.Iterator.Splits.{YieldsList-from_slice_split}
 use Rattle.schema_core.proofs.oids.part_count.Goals as goal
 
 pub returns : goal.returns
@@ -9,5 +9,5 @@ returns c =
     record {
       exact =
           count_from_yields_List _ c.count.result c.count.ensures.ran
-          (YieldsList-from_str_split 46 c.args.text.now (lit< tt) c.split.ensures.text c.split.ensures.has_more c.split.ensures.pattern);
+          (YieldsList-from_slice_split _ _ c.args.text.now c.split.ensures.rest c.split.ensures.done c.split.ensures.closure (λ x r q k. search (rules, tests)));
     }

@@ -1,4 +1,4 @@
-use Rattle.script_text.proofs.LinesLemmas.{lines-unended, lines-ended}
+use Rattle.plain_values.proofs.Theorems.{lines-unended, lines-ended}
 use Rattle.script_text.proofs.laws.lines_are_cut.Goals as goal
 
 pub returns-clause-last : goal.returns-clause-last

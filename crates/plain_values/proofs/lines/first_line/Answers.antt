@@ -1,9 +1,9 @@
-use Rattle.std.proofs.Common.{◌≡◌, ◌<◌, ◌==◌, ◌∙◌, ap, arith, length}
-use Rattle.std.proofs.lemmas.List.{take_all, drop_all}
+use Rattle.std.proofs.Common.{◌≡◌, ◌<◌, ◌==◌, ◌∙◌, sym, ap, arith, length, ◌∷◌}
+use Rattle.std.proofs.lemmas.List.{drop_all}
 use Rattle.std.specs.List.{position_or_len}
 use Rattle.std.specs.Str.Lines.{lines}
-use Rattle.script_text.proofs.LinesLemmas.{lines-first, lines-last}
-use Rattle.script_text.proofs.lines.first_line.Goals as goal
+use Rattle.plain_values.proofs.LinesLemmas.{lines-first, lines-last}
+use Rattle.plain_values.proofs.lines.first_line.Goals as goal
 
 -- a line feed ends the first line
 pub returns-then-end-text-clause-exact : goal.returns-then-end-text-clause-exact
@@ -16,7 +16,5 @@ returns-then-end-text-clause-exact c =
 pub returns-else-end-text-clause-exact : goal.returns-else-end-text-clause-exact
 returns-else-end-text-clause-exact c =
     let all : position_or_len (λ octet. octet == 10) c.args.text.now ≡ length c.args.text.now = omega arith in
-    let last = lines-last c.args.text.now c.requires all in
-    let front = c.split_at-else-end-text.ensures.front ∙ take_all c.position_of-end.result c.args.text.now c.if-end-text.false in
-    let back = c.split_at-else-end-text.ensures.back ∙ drop_all c.position_of-end.result c.args.text.now c.if-end-text.false in
-    cc (last, front, ap lines back)
+    lines-last c.args.text.now c.requires all
+    ∙ ap (λ rest. c.args.text.now ∷ lines rest) (sym (drop_all c.position_of-end.result c.args.text.now c.if-end-text.false))

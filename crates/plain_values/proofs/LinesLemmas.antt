@@ -1,4 +1,4 @@
--- Lemmas on the lines of a text.
+-- Lemmas on the lines of a text, by its first line feed.
 use Rattle.std.proofs.Common.{get_or, ◌≢◌, ◌++◌, ◌≡◌, ℕ, ◌<◌, ◌==◌, ◌∙◌, ap, refl, arith, false, List, [], ◌∷◌, length}
 use Rattle.std.specs.List.{position_or_len, slice_split, All, before_first, after_first}
 use Rattle.std.specs.Str.Lines.{lines, lines_of_parts, strip_carriage_return}
@@ -9,7 +9,7 @@ use Rattle.std.proofs.lemmas.List.Splits.{slice_split_at, slice_split_first, sli
 use Rattle.std.proofs.lemmas.List.Sums.{fails_before_first}
 
 -- the part before others is a line that ended
-pub lines_of_parts-cons : (part : List ℕ) (parts : List (List ℕ)) → 0 < length parts
+lines_of_parts-cons : (part : List ℕ) (parts : List (List ℕ)) → 0 < length parts
     → lines_of_parts (part ∷ parts) ≡ strip_carriage_return part ∷ lines_of_parts parts
 lines_of_parts-cons part [] more = absurd (omega arith)
 lines_of_parts-cons part (next ∷ parts) more = refl
@@ -22,7 +22,7 @@ lines-first text within =
     ∙ lines_of_parts-cons _ (slice_split (λ octet. octet == 10) (after_first (λ octet. octet == 10) text)) (omega (arith, length-slice_split (λ octet. octet == 10) (after_first (λ octet. octet == 10) text)))
 
 -- a text with octets and no line feed is its one line
-lines_of_parts-one : (part : List ℕ) → 0 < length part → lines_of_parts (part ∷ []) ≡ part ∷ []
+pub lines_of_parts-one : (part : List ℕ) → 0 < length part → lines_of_parts (part ∷ []) ≡ part ∷ []
 lines_of_parts-one [] filled = absurd (omega arith)
 lines_of_parts-one (octet ∷ octets) filled = grind (arith, nat_tests)
 
