@@ -37,6 +37,10 @@ fn words_of(alloc: Global, line: &str) -> Result<Vec<String>, AllocError> {
     Ok(words)
 }
 
+fn file(alloc: Global, name: &str, octets: &[u8]) -> Result<(String, Vec<u8>), AllocError> {
+    Ok((String::from_str(alloc, name)?, octets.to_vec(alloc)?))
+}
+
 /// A shelf with the data as the file `d` and the script as the file `s`, and nothing else.
 fn shelf_of(
     alloc: Global,
@@ -45,8 +49,8 @@ fn shelf_of(
     failing: &[u64],
 ) -> Result<MemShelf, AllocError> {
     let mut files = Vec::new(alloc);
-    files.push((String::from_str(alloc, "d")?, data.to_vec(alloc)?))?;
-    files.push((String::from_str(alloc, "s")?, script.to_vec(alloc)?))?;
+    files.push(file(alloc, "d", data)?)?;
+    files.push(file(alloc, "s", script)?)?;
     Ok(MemShelf::new(files, failing.to_vec(alloc)?))
 }
 
