@@ -4,7 +4,7 @@ ghost use Rattle.std.specs.Prelude.{◌≡◌};
 ghost use Rattle.dn_names.specs.Classes.{class_of};
 
 /// What an octet may be in a name's text.
-#[derive(Clone, Copy, Debug, PartialEq, Eq)]
+#[derive(Clone, Copy)]
 pub(crate) enum Class {
     /// `a` to `f` and `A` to `F`: a letter and a hexadecimal digit.
     HexLetter,

@@ -6,7 +6,7 @@ ghost use Rattle.dn_names.specs.Modes.{step_of, begin_of, after_kind_of, in_valu
 use crate::classes::Class;
 
 /// Where in a name's text reading is.
-#[derive(Clone, Copy, Debug, PartialEq, Eq)]
+#[derive(Clone, Copy)]
 pub(crate) enum Mode {
     /// Nothing but spaces has come.
     Start,

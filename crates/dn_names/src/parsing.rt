@@ -46,13 +46,8 @@ fn parse_by(alloc: Global, octets: &[u8]) -> Result<Dn, BadName>
 {
     match fault_place(octets) {
         Some(place) => Err(BadName::Text { place }),
-        None => {
-            if has_too_many(octets) {
-                Err(BadName::TooMany)
-            } else {
-                read_all(alloc, octets)
-            }
-        }
+        None if has_too_many(octets) => Err(BadName::TooMany),
+        None => read_all(alloc, octets),
     }
 }
 
@@ -63,13 +58,8 @@ fn parse_rdn_by(alloc: Global, octets: &[u8]) -> Result<Dn, BadName>
 {
     match fault_place(octets) {
         Some(place) => Err(BadName::Text { place }),
-        None => {
-            if has_one(octets) {
-                read_all(alloc, octets)
-            } else {
-                Err(BadName::TooMany)
-            }
-        }
+        None if has_one(octets) => read_all(alloc, octets),
+        None => Err(BadName::TooMany),
     }
 }
 
