@@ -1,15 +1,8 @@
 -- Attributes as the program holds them: the entries of a map.
-use Rattle.std.specs.Prelude.{List, [], ◌∷◌, map}
+use Rattle.std.specs.Prelude.{List, map}
 use Rattle.schema_core.specs.declared.kinds.AttrId.{AttrId}
 use Rattle.dn_names.specs.Names.{Keyed}
 use Rattle.dir_tree.specs.Entries.{Attribute}
-use Rattle.dir_tree.specs.declared.values.Kept.{Kept}
-use Rattle.dir_tree.specs.declared.values.Kept.TheVariants.{One, Many}
-
--- the values of an attribute
-abbrev pub values_in : Kept → List Keyed
-values_in (One value) = value ∷ []
-values_in (Many values) = values.items
 
 -- an attribute of an entry of the map
 abbrev pub attribute_of : AttrId × List Keyed → Attribute

@@ -5,7 +5,7 @@ ghost use Rattle.dir_tree.specs.Entries.{has_kind};
 ghost use Rattle.dir_tree.specs.Changes.{put_value, cut_attribute, is_filled, other_attributes};
 ghost use Rattle.dir_tree.specs.Rows.{attributes_of};
 
-use crate::values::Values;
+use crate::values::{Values, copy_values, drop_key};
 use dn_names::Value;
 use indexmap::IndexMap;
 use schema_core::AttrId;
@@ -82,7 +82,7 @@ pub(crate) fn cut_values(attributes: &mut IndexMap<AttrId, Values>, kind: AttrId
 {
     let alloc = *attributes.allocator();
     if let Some(values) = attributes.get_mut(&kind) {
-        values.drop_key(alloc, key);
+        drop_key(values, alloc, key);
     }
 }
 
@@ -118,7 +118,7 @@ pub(crate) fn copy_attributes(
 {
     let mut copies = IndexMap::with_capacity(alloc, attributes.len())?;
     for (kind, values) in attributes.iter() {
-        put_attribute(&mut copies, *kind, values.copy(alloc)?)?;
+        put_attribute(&mut copies, *kind, copy_values(alloc, values.as_slice())?)?;
     }
     Ok(copies)
 }

@@ -13,7 +13,6 @@ mod modes;
 mod name;
 mod octets;
 mod order;
-mod pairs;
 mod parsing;
 mod parts;
 mod printing;

@@ -4,8 +4,8 @@ ghost use Rattle.std.specs.Prelude.{◌≡◌, ◌++◌, IfOk, OnOk, length, sli
 ghost use Rattle.std.specs.Option.{option_map};
 ghost use Rattle.dn_names.specs.Names.{rdns_of};
 
-use crate::pairs::Pairs;
 use crate::value::Value;
+use plain_values::OneOrMany;
 use schema_core::AttrId;
 use std::alloc::{AllocError, Global};
 use std::marker::Model;
@@ -46,8 +46,8 @@ impl Pair {
     }
 }
 
-/// The pairs of an RDN, which names may share.
-pub(crate) type Rdn = Rc<Pairs>;
+/// The pairs of an RDN, in the order of the table, which names may share.
+pub(crate) type Rdn = Rc<OneOrMany<Pair>>;
 
 /// A name: a list of RDNs, root first. An RDN has pairs of distinct types in the order of the table.
 #[derive(Debug, Drop)]

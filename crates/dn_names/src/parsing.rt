@@ -10,10 +10,10 @@ ghost use Rattle.dn_names.specs.NameText.{NameText, RdnText, Gives, read_name, r
 
 use crate::error::BadName;
 use crate::name::{Dn, Pair, Rdn};
-use crate::pairs::Pairs;
 use crate::parts::{count_marks, cut, is_blank};
 use crate::resolve::add;
 use crate::scan::fault_place;
+use plain_values::OneOrMany;
 use std::alloc::{AllocError, Global};
 use std::rc::Rc;
 
@@ -116,7 +116,7 @@ fn read_rdns(alloc: Global, text: &[u8]) -> Result<Vec<Rdn>, BadName>
             Err(error) => return Err(error),
         };
         let count = pairs.len();
-        rdns.push(Rc::new(alloc, Pairs::from_vec(pairs))?)?;
+        rdns.push(Rc::new(alloc, OneOrMany::from_vec(pairs))?)?;
         match after {
             Some(others) => {
                 index += count;
