@@ -269,13 +269,19 @@ static CLASSES: [(&str, &str, bool); 17] = [
     ("1.3.6.1.4.1.32473.1", "1.3.6.1.4.1.32473", false),
 ];
 
-// Whether each value is added to an entry, and whether the entry is then of the class of the identifier.
-fn is_of(alloc: Global, values: &[(&str, &str)], oid: &str) -> Result<(bool, bool), Fail> {
+// An entry of these values, and whether each was added to it.
+fn entry_of(alloc: Global, values: &[(&str, &str)]) -> Result<(Entry, bool), Fail> {
     let mut entry = Entry::new(alloc, name(alloc, "dc=example")?)?;
     let mut added = true;
     for (kind, text) in values {
         added = put(alloc, &mut entry, kind, text)? && added;
     }
+    Ok((entry, added))
+}
+
+// Whether each value is added to an entry, and whether the entry is then of the class of the identifier.
+fn is_of(alloc: Global, values: &[(&str, &str)], oid: &str) -> Result<(bool, bool), Fail> {
+    let (entry, added) = entry_of(alloc, values)?;
     Ok((added, entry.has_class(oid)))
 }
 
@@ -311,6 +317,44 @@ static LISTED: [(&[(&str, &str)], &str, bool); 5] = [
 fn each_listed_class_counts_and_no_other_attribute(rt: HostRuntime) -> Result<(), Fail> {
     for (values, oid, has) in &LISTED {
         assert_eq!(rt; is_of(rt.alloc(), values, oid)?, (true, *has), "{oid}");
+    }
+    Ok(())
+}
+
+// Both classes of an access control subentry.
+const ACCESS: &[(&str, &str)] = &[
+    ("objectClass", "subentry"),
+    ("objectClass", "accessControlSubentry"),
+];
+
+// The values of an entry, and whether it is an administrative point, a subentry, and an access control subentry (X.501
+// 14.3, RFC 3672 section 2).
+static PLACES: [(&[(&str, &str)], (bool, bool, bool)); 6] = [
+    (&[], (false, false, false)),
+    (&[("description", "autonomousArea")], (false, false, false)),
+    (&[ROLE], (true, false, false)),
+    (&[("objectClass", "subentry")], (false, true, false)),
+    (
+        &[("objectClass", "accessControlSubentry")],
+        (false, false, false),
+    ),
+    (ACCESS, (false, true, true)),
+];
+
+fn place_of(alloc: Global, values: &[(&str, &str)]) -> Result<(bool, bool, bool), Fail> {
+    let (entry, _added) = entry_of(alloc, values)?;
+    let place = (
+        entry.is_point(),
+        entry.is_subentry(),
+        entry.is_access_subentry(),
+    );
+    Ok(place)
+}
+
+#[test]
+fn points_and_subentries_are_told_by_their_values(rt: HostRuntime) -> Result<(), Fail> {
+    for (values, want) in &PLACES {
+        assert_eq!(rt; place_of(rt.alloc(), values)?, *want, "{values:?}");
     }
     Ok(())
 }

@@ -1,7 +1,7 @@
 //! The tables of the schema: each row by name in odd case and by object identifier.
 use schema_core::{
-    AttrId, ClassId, ClassKind, Row, Syntax, allowed, attr, class, class_kind, class_oid,
-    class_with, oid_of, required, row, superior,
+    AttrId, ClassId, ClassKind, Row, Syntax, allowed, attr, attr_named, class, class_kind,
+    class_oid, class_with, is_dotted_oid, oid_of, required, row, superior,
 };
 
 // Number, name in odd case, object identifier, name, syntax, marks: n naming, s single, o operational.
@@ -116,7 +116,8 @@ fn marked(name: &'static str, oid: &'static str, syntax: Syntax, marks: &str) ->
 fn each_attribute_type_is_found_by_name_and_by_identifier(rt: HostRuntime) {
     for (number, odd, oid, name, syntax, marks) in ATTRIBUTES.iter() {
         let known = Some(AttrId(*number));
-        assert_eq!(rt; (attr(odd), attr(oid)), (known, known), "{name}");
+        let found = (attr(odd), attr(oid), attr_named(odd.as_bytes()));
+        assert_eq!(rt; found, (known, known, known), "{name}");
         let want = Some(marked(name, oid, *syntax, marks));
         assert_eq!(rt; row(AttrId(*number)), want, "{name}");
     }
@@ -160,6 +161,8 @@ fn a_class_has_the_attribute_types_of_its_own_row(rt: HostRuntime) {
 fn a_text_has_the_dotted_form_of_its_name_or_its_own(rt: HostRuntime) {
     for (text, oid) in DOTTED.iter() {
         assert_eq!(rt; oid_of(text), *oid, "{text}");
+        let is_dotted = is_dotted_oid(text.as_bytes());
+        assert_eq!(rt; is_dotted, *oid == Some(*text), "{text}");
     }
 }
 
@@ -187,6 +190,6 @@ fn what_no_row_has_finds_nothing(rt: HostRuntime) {
     let last = ClassId(19);
     let found = (class_kind(last), class_oid(last), superior(last));
     assert_eq!(rt; found, (None, None, None));
-    assert_eq!(rt; row(AttrId(35)), None);
+    assert_eq!(rt; (row(AttrId(35)), attr_named(b"c\xff")), (None, None));
     assert_eq!(rt; (required(last).len(), allowed(last).len()), (0, 0));
 }

@@ -3,7 +3,8 @@ use dir_tree::{
     Entry, EntryNo, InsertRefusal, RemoveRefusal, ReplaceRefusal, Scope, Tree,
     all_but_the_suffix_have_superiors, putting_in_undoes_taking_out, scopes_take_in_what_is_below,
 };
-use dn_names::{Dn, parse, print};
+use dn_names::{Dn, make_value, parse, print};
+use schema_core::AttrId;
 use std::alloc::Global;
 use std::test::Fail;
 
@@ -304,6 +305,45 @@ fn out_and_in(rt: &HostRuntime, text: &str) -> Result<(Option<EntryNo>, bool, us
 fn an_entry_that_went_out_comes_in_again(rt: HostRuntime) -> Result<(), Fail> {
     let found = out_and_in(&rt, "ou=lab,dc=example,dc=com")?;
     assert_eq!(rt; found, (None, true, 8));
+    Ok(())
+}
+
+// An access control subentry of the name (RFC 3672 section 2).
+fn subentry(alloc: Global, text: &str) -> Result<Entry, Fail> {
+    let mut entry = entry(alloc, text)?;
+    for class in &["subentry", "accessControlSubentry"] {
+        let octets = class.as_bytes().to_vec(alloc)?;
+        let _added = entry.push(
+            AttrId::OBJECT_CLASS,
+            make_value(alloc, AttrId::OBJECT_CLASS, octets)?,
+        )?;
+    }
+    Ok(entry)
+}
+
+// How many access control subentries the tree has after one is put in, after an entry of none takes its place, after
+// it is back there, and after it is taken out.
+fn counts(rt: &HostRuntime, text: &str) -> Result<(usize, usize, usize, usize), Fail> {
+    let alloc = rt.alloc();
+    let mut tree = tree_of(rt, &NAMES)?;
+    let given = subentry(alloc, text)?;
+    if given.name().len() == 0 {
+        return Ok((9, 9, 9, 9));
+    }
+    let no = tree.insert(given)?;
+    let first = tree.access_subentries();
+    let back = tree.replace(no, entry(alloc, text)?)?;
+    let second = tree.access_subentries();
+    let _other = tree.replace(no, back)?;
+    let third = tree.access_subentries();
+    let _last = tree.remove(no)?;
+    Ok((first, second, third, tree.access_subentries()))
+}
+
+#[test]
+fn access_control_subentries_are_counted_as_they_come_and_go(rt: HostRuntime) -> Result<(), Fail> {
+    let found = counts(&rt, "cn=x,ou=lab,dc=example,dc=com")?;
+    assert_eq!(rt; found, (1, 0, 1, 0));
     Ok(())
 }
 

@@ -1,6 +1,6 @@
-//! Octets, texts and counts.
+//! Octets, texts, items and lines, and counts.
 
-use plain_values::{Octets, Text, raised};
+use plain_values::{Octets, OneOrMany, Text, first_line, position_of, raised};
 use std::alloc::{AllocError, Global};
 use std::test::Fail;
 
@@ -66,4 +66,65 @@ fn a_count_rises_by_one_and_stays_at_its_last_value(rt: HostRuntime) {
     for (count, want) in &COUNTS {
         assert_eq!(rt; raised(*count), *want, "at {count}");
     }
+}
+
+/// What is left of the items from the first on, with one more put last and those of a number taken out: how many there were
+/// before, and they.
+fn items_through(
+    alloc: Global,
+    items: &[u32],
+    more: u32,
+    out: u32,
+) -> Result<(usize, Vec<u32>), AllocError> {
+    let mut kept = OneOrMany::from_vec(items.to_vec(alloc)?);
+    kept.push(alloc, more)?;
+    let count = kept.as_slice().len();
+    kept.retain(alloc, |item: &u32| *item != out);
+    Ok((count, kept.as_slice().to_vec(alloc)?))
+}
+
+/// Items, one more, the number that goes, how many there are before, and what is left.
+static ITEMS: [(&[u32], u32, u32, usize, &[u32]); 5] = [
+    (&[], 1, 9, 1, &[1]),
+    (&[], 1, 1, 1, &[]),
+    (&[5], 6, 9, 2, &[5, 6]),
+    (&[5], 6, 5, 2, &[6]),
+    (&[5, 6], 5, 5, 3, &[6]),
+];
+
+#[test]
+fn items_are_put_last_and_taken_out(rt: HostRuntime) -> Result<(), Fail> {
+    for (items, more, out, count, left) in &ITEMS {
+        let (found, rest) = items_through(rt.alloc(), *items, *more, *out)?;
+        assert_eq!(rt;
+            (found, rest.as_slice()),
+            (*count, *left),
+            "{items:?} {more} {out}"
+        );
+    }
+    let one = OneOrMany::one(7u32);
+    assert_eq!(rt; (one.is_empty(), one.as_slice()), (false, [7].as_slice()));
+    Ok(())
+}
+
+/// A text, its first line, and how many octets that takes with its end.
+static LINES: [(&[u8], &[u8], usize); 6] = [
+    (b"a", b"a", 1),
+    (b"a\nb", b"a", 2),
+    (b"a\r\nb", b"a", 3),
+    (b"a\r", b"a\r", 2),
+    (b"\n\n", b"", 1),
+    (b"a\rb\n", b"a\rb", 4),
+];
+
+#[test]
+fn a_line_ends_at_a_line_feed_with_or_without_a_carriage_return(rt: HostRuntime) {
+    for (text, line, size) in &LINES {
+        assert!(rt; !text.is_empty());
+        assert_eq!(rt; first_line(*text), (*line, *size), "{text:?}");
+    }
+    assert_eq!(rt;
+        (position_of(b"aba", b'b'), position_of(b"aba", b'c')),
+        (1, 3)
+    );
 }
