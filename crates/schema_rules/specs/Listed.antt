@@ -1,7 +1,8 @@
 -- The classes that an entry lists, by their numbers in the table, and what they require and allow (X.501 13.3 and 13.4).
-use Rattle.std.specs.Prelude.{ℕ, zero, suc, Bool, true, false, ◌==◌, ◌||◌, List, [], ◌∷◌, ◌++◌, filter}
-use Rattle.std.specs.List.{filter_map, flat_map, list_any}
+use Rattle.std.specs.Prelude.{ℕ, zero, suc, Bool, true, false, ◌||◌, List, [], ◌∷◌, ◌++◌, filter}
+use Rattle.std.specs.List.{filter_map, flat_map}
 use Rattle.std.specs.Option.{option_map_or}
+pub use Rattle.plain_values.specs.Numbers.{has as is_among}
 use Rattle.schema_core.specs.declared.kinds.ClassKind.{ClassKind}
 use Rattle.schema_core.specs.declared.kinds.ClassKind.TheVariants.{Abstract, Structural, Auxiliary}
 use Rattle.schema_core.specs.Classes.{class_with, kind_of, superior_of, required_of, allowed_of}
@@ -24,10 +25,6 @@ with_superclasses number = classes_up number number
 -- the classes that are listed, and their superclasses
 abbrev pub all_classes : List Attribute → List ℕ
 all_classes attributes = flat_map with_superclasses (listed_classes attributes)
-
--- the number is among the numbers
-abbrev pub is_among : ℕ → List ℕ → Bool
-is_among number numbers = list_any (λ other. number == other) numbers
 
 -- the class with this number is structural
 abbrev pub is_structural_kind : ClassKind → Bool
