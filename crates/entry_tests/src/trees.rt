@@ -4,7 +4,7 @@ use dir_tree::{
     all_but_the_suffix_have_superiors, putting_in_undoes_taking_out, scopes_take_in_what_is_below,
 };
 use dn_names::{Dn, make_value, parse, print};
-use schema_core::AttrId;
+use schema_core::attr;
 use std::alloc::Global;
 use std::test::Fail;
 
@@ -312,13 +312,16 @@ fn an_entry_that_went_out_comes_in_again(rt: HostRuntime) -> Result<(), Fail> {
 fn subentry(alloc: Global, text: &str) -> Result<Entry, Fail> {
     let mut entry = entry(alloc, text)?;
     for class in &["subentry", "accessControlSubentry"] {
-        let octets = class.as_bytes().to_vec(alloc)?;
-        let _added = entry.push(
-            AttrId::OBJECT_CLASS,
-            make_value(alloc, AttrId::OBJECT_CLASS, octets)?,
-        )?;
+        add_class(alloc, &mut entry, class)?;
     }
     Ok(entry)
+}
+
+fn add_class(alloc: Global, entry: &mut Entry, class: &str) -> Result<(), Fail> {
+    let kind = attr("objectClass").ok_or("no such type")?;
+    let value = make_value(alloc, kind, class.as_bytes().to_vec(alloc)?)?;
+    let _added = entry.push(kind, value)?;
+    Ok(())
 }
 
 // How many access control subentries the tree has after one is put in, after an entry of none takes its place, after
