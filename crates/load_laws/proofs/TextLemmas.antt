@@ -1,25 +1,24 @@
 -- The file that is written of loadable entries is one of writable entries.
-use Rattle.std.proofs.Common.{◌≡◌, ◌≢◌, ℕ, ◌<◌, ◌==◌, false, List, [], ◌∷◌, ◌++◌, map, length, codes, refl, arith}
+use Rattle.std.proofs.Common.{◌≡◌, ◌≢◌, ℕ, ◌<◌, ◌==◌, false, List, [], ◌∷◌, ◌++◌, map, length, refl, arith}
 use Rattle.std.specs.List.{AllByRecursion}
 use Rattle.std.proofs.lemmas.Bool.{or_parts, true≢false}
-use Rattle.std.proofs.lemmas.List.{append_assoc}
 use Rattle.base64.specs.GeneralPurpose.{IsBytes}
 use Rattle.schema_core.specs.Attributes.{IsAttrId, name_of}
 use Rattle.dn_names.specs.Names.{Keyed}
 use Rattle.dir_tree.specs.Entries.{Attribute, EntryInformation, values_of, IsGoodAttribute}
 use Rattle.dir_tree.specs.EntryClasses.{object_class}
 use Rattle.ldif_core.specs.Written.{AreInTable}
-use Rattle.ldif_core.specs.WrittenFile.{TypeAndOctets, values_in, IsWritable, written_entries, written_file}
+use Rattle.ldif_core.specs.WrittenFile.{TypeAndOctets, values_in, IsWritable, written_file}
 use Rattle.schema_rules.specs.Rules.{lists_none, breaks_classes}
 use Rattle.op_write.specs.DataFile.{ldif_text}
 use Rattle.load_laws.specs.Loadable.{IsLoadableValue, IsLoadable}
 use Rattle.load_laws.proofs.LineLemmas.{IsAttrId-from_loaded_value}
 use Rattle.load_laws.proofs.OctetLemmas.{IsBytes-print_name}
 
--- the two definitions of the file give one text
+-- the file of entries, as it is read again
 pub ldif_text-written_file : (entries : List EntryInformation) → ldif_text entries ≡ written_file entries
 unfolding ldif_text
-ldif_text-written_file entries = append_assoc (codes "version: 1") (10 ∷ []) (written_entries entries)
+ldif_text-written_file entries = refl
 
 -- the type and the octets of values
 abbrev of_kind : ℕ → List Keyed → List TypeAndOctets

@@ -1,7 +1,6 @@
 -- What a data file gives: the entries of its records, each joined to those before it, or the first fault (RFC 2849); and
 -- the file that is written of entries.
-use Rattle.std.specs.Prelude.{ℕ, if◌then◌else◌, List, [], ◌∷◌, ◌++◌, codes, Result, Ok, Err}
-use Rattle.std.specs.List.{flat_map}
+use Rattle.std.specs.Prelude.{ℕ, if◌then◌else◌, List, [], ◌∷◌, Result, Ok, Err}
 use Rattle.dir_tree.specs.Entries.{EntryInformation}
 use Rattle.dir_tree.specs.Trees.{is_before}
 use Rattle.ldif_core.specs.declared.types.Record.{Record}
@@ -11,7 +10,7 @@ use Rattle.ldif_core.specs.declared.types.LineCause.{LineCause}
 use Rattle.ldif_core.specs.declared.types.LineCause.TheVariants.{Syntax}
 use Rattle.ldif_core.specs.Places.{records_from}
 pub use Rattle.ldif_core.specs.Places.{file_start}
-use Rattle.ldif_core.specs.Written.{written_entry}
+use Rattle.ldif_core.specs.WrittenFile.{written_file}
 use Rattle.op_write.specs.declared.fault.LoadCause.{LoadCause}
 use Rattle.op_write.specs.declared.fault.LoadFault.{LoadFault}
 use Rattle.op_write.specs.declared.fault.LoadFault.TheVariants as loading
@@ -66,6 +65,6 @@ loads_records (first ∷ rest) = loads_after [] (first ∷ rest)
 unfoldable pub loads : List ℕ → Result (List EntryInformation) FileFault
 loads text = loads_records (records_from text file_start)
 
--- the file of entries: the version, and for each entry an empty line and its record
+-- the file of entries
 unfoldable pub ldif_text : List EntryInformation → List ℕ
-ldif_text entries = (codes "version: 1" ++ 10 ∷ []) ++ flat_map (λ entry. 10 ∷ written_entry entry) entries
+ldif_text entries = written_file entries
