@@ -26,7 +26,9 @@ class Program(NamedTuple):
 
 PROGRAMS = {
     "names": Program(
-        ("dn_names", "match_rules"), ("schema_core", "regular_text"), {"src/main.rt": "names.txt"}
+        ("dn_names", "match_rules"),
+        ("schema_core", "regular_text", "plain_values"),
+        {"src/main.rt": "names.txt"},
     ),
     "trees": Program(
         ("ldif_core", "dir_tree", "dn_names"),
