@@ -35,30 +35,30 @@ whole_front old new text put = (length text, put ∙ ap (λ front. appended old 
 -- the whole text was put
 pub Ends-whole :
     (outcome : Outcome) (old new : Option (List ℕ)) (before after : ℕ) (status : Status)
-    → status ≡ status_of outcome → new ≡ appended old (text_of outcome) → Ends outcome old before status new after
-Ends-whole outcome old new before after Done is put = record { puts = (is, put); cause = λ e. absurd (cc) }
-Ends-whole outcome old new before after Usage is put = record { puts = (is, put); cause = λ e. absurd (cc) }
-Ends-whole outcome old new before after BadData is put = record { puts = (is, put); cause = λ e. absurd (cc) }
-Ends-whole outcome old new before after ShelfFault is put = record { puts = (is, put); cause = λ e. absurd (cc) }
-Ends-whole outcome old new before after SinkFault is put = absurd (status_of-not_sink outcome is)
-Ends-whole outcome old new before after LinkFault is put = record { puts = (is, put); cause = λ e. absurd (cc) }
-Ends-whole outcome old new before after TurnsSpent is put = record { puts = (is, put); cause = λ e. absurd (cc) }
-Ends-whole outcome old new before after NoMemory is put = record { puts = whole_front old new (text_of outcome) put; cause = λ e. absurd (cc) }
-Ends-whole outcome old new before after BadScript is put = record { puts = (is, put); cause = λ e. absurd (cc) }
+    → status ≡ status_of outcome → new ≡ appended old (text_of outcome) → after ≡ before → Ends outcome old before status new after
+Ends-whole outcome old new before after Done is put stays = record { puts = (is, put); cause = stays }
+Ends-whole outcome old new before after Usage is put stays = record { puts = (is, put); cause = stays }
+Ends-whole outcome old new before after BadData is put stays = record { puts = (is, put); cause = stays }
+Ends-whole outcome old new before after ShelfFault is put stays = record { puts = (is, put); cause = stays }
+Ends-whole outcome old new before after SinkFault is put stays = absurd (status_of-not_sink outcome is)
+Ends-whole outcome old new before after LinkFault is put stays = record { puts = (is, put); cause = stays }
+Ends-whole outcome old new before after TurnsSpent is put stays = record { puts = (is, put); cause = stays }
+Ends-whole outcome old new before after NoMemory is put stays = record { puts = whole_front old new (text_of outcome) put; cause = stays }
+Ends-whole outcome old new before after BadScript is put stays = record { puts = (is, put); cause = stays }
 
 -- a front of the text was put, and memory ran out
 pub Ends-no_memory :
     (outcome : Outcome) (old new : Option (List ℕ)) (before after : ℕ) (count : ℕ)
-    → new ≡ appended old (take count (text_of outcome)) → Ends outcome old before NoMemory new after
-Ends-no_memory outcome old new before after count put = record { puts = (count, put); cause = λ e. absurd (cc) }
+    → new ≡ appended old (take count (text_of outcome)) → after ≡ before → Ends outcome old before NoMemory new after
+Ends-no_memory outcome old new before after count put stays = record { puts = (count, put); cause = stays }
 
 Ends-settled :
     (outcome : Outcome) (old new : Option (List ℕ)) (before after : ℕ) (answer : Result (Unit {0}) PutFault)
     → PutsAll old (text_of outcome) answer new → PutCause before after answer → Ends outcome old before (settled answer (status_of outcome)) new after
 unfolding PutsAll PutCause
-Ends-settled outcome old new before after (Ok done) puts cause = Ends-whole outcome old new before after (status_of outcome) refl puts
-Ends-settled outcome old new before after (Err put.Failed) puts cause = record { puts = puts; cause = λ e. cause }
-Ends-settled outcome old new before after (Err put.NoMemory) puts cause = Ends-no_memory outcome old new before after puts.0 puts.1
+Ends-settled outcome old new before after (Ok done) puts cause = Ends-whole outcome old new before after (status_of outcome) refl puts cause
+Ends-settled outcome old new before after (Err put.Failed) puts cause = record { puts = puts; cause = cause }
+Ends-settled outcome old new before after (Err put.NoMemory) puts cause = Ends-no_memory outcome old new before after puts.0 puts.1 cause
 
 -- the text was to be put, and how the sink answered
 pub Ends-put :

@@ -11,7 +11,6 @@ use Rattle.script_text.proofs.Theorems.{script_of-err}
 use Rattle.wire_io.specs.Scripted.{LinkState}
 use Rattle.acl_program.specs.declared.loading.Trouble.{Trouble}
 use Rattle.acl_program.specs.declared.loading.Trouble.TheVariants as trouble
-use Rattle.plain_values.specs.Counts.{NeverFalls}
 use Rattle.dir_tree.specs.Trees.{Numbered}
 use Rattle.schema_rules.specs.Checking.{entries_of}
 use Rattle.op_write.specs.declared.fault.LoadCause.TheVariants.{Limit}
@@ -32,19 +31,20 @@ HoldsIn-given (Some files) name content P gives holds = let Q : Option (List ℕ
 -- the script of a file that was given
 loads_given :
     (files : Option Files) (name content : List ℕ) (before after : ℕ) (result : Result LinkState Trouble)
-    → GivesFile files name content → ReadsScript content result → Loads files name before after result
+    → GivesFile files name content → after ≡ before → ReadsScript content result → Loads files name before after result
 unfolding Loads ReadsScript
-loads_given files name content before after (Ok link) gives reads = (HoldsIn-given files name content (IsGoodScript link.plan.to_come) gives reads.0, reads.1)
-loads_given files name content before after (Err trouble.NoFile) gives reads = absurd reads
-loads_given files name content before after (Err (trouble.BadData line cause)) gives reads = absurd reads
-loads_given files name content before after (Err (trouble.BadLine line)) gives reads = HoldsIn-given files name content (IsBadScript line) gives reads
-loads_given files name content before after (Err trouble.NoMemory) gives reads = tt
+loads_given files name content before after (Ok link) gives stays reads = (HoldsIn-given files name content (IsGoodScript link.plan.to_come) gives reads.0, reads.1, stays)
+loads_given files name content before after (Err trouble.NoFile) gives stays reads = absurd reads
+loads_given files name content before after (Err (trouble.BadData line cause)) gives stays reads = absurd reads
+loads_given files name content before after (Err (trouble.BadLine line)) gives stays reads = (HoldsIn-given files name content (IsBadScript line) gives reads, stays)
+loads_given files name content before after (Err trouble.NoMemory) gives stays reads = stays
 
 pub Loads-read :
-    (files : Option Files) (name content lent : List ℕ) (before after : ℕ) (result : Result LinkState Trouble)
-    → lent ≡ content → GivesFile files name content → ReadsScript lent result → Loads files name before after result
-Loads-read files name content lent before after result same gives reads =
-    let P : List ℕ → Type 0 = λ text. ReadsScript text result in loads_given files name content before after result gives (subst P same reads)
+    {T : Type 0} (files : Option Files) (name content lent : List ℕ) (before after : ℕ) (text : T) (result : Result LinkState Trouble)
+    → lent ≡ content → GivesFile files name content → ReadCause {T = T} files name most_script before after (Ok text) → ReadsScript lent result → Loads files name before after result
+unfolding ReadCause
+Loads-read files name content lent before after text result same gives stays reads =
+    let P : List ℕ → Type 0 = λ octets. ReadsScript octets result in loads_given files name content before after result gives stays (subst P same reads)
 
 -- a file that is too long is no script
 too_long : (file : Option (List ℕ)) (line : ℕ) → IsLongerFile file most_script line → HoldsOf (IsBadScript line) file
@@ -54,20 +54,20 @@ too_long (Some content) line longer = inr longer
 
 Loads-too_long :
     (files : Option Files) (name : List ℕ) (before after line : ℕ)
-    → IsLonger files name most_script line → Loads files name before after (Err (trouble.BadLine line))
+    → IsLonger files name most_script line → after ≡ before → Loads files name before after (Err (trouble.BadLine line))
 unfolding Loads IsLonger HoldsIn
-Loads-too_long None name before after line longer = tt
-Loads-too_long (Some files) name before after line longer = too_long (file_of name files) line longer
+Loads-too_long None name before after line longer stays = (tt, stays)
+Loads-too_long (Some files) name before after line longer stays = (too_long (file_of name files) line longer, stays)
 
 -- the file wasn't read, or is too long
 pub Loads-refused :
     (T : Type 0) (files : Option Files) (name : List ℕ) (before after : ℕ) (fault : ReadFault)
     → ReadCause {T = T} files name most_script before after (Err fault) → Loads files name before after (Err (trouble_of_file fault))
 unfolding Loads ReadCause IsUnread
-Loads-refused T files name before after read.Absent cause = inr cause.0
+Loads-refused T files name before after read.Absent cause = inr cause
 Loads-refused T files name before after read.Failed cause = inl cause
-Loads-refused T files name before after (read.TooLong line) cause = Loads-too_long files name before after line cause.0
-Loads-refused T files name before after read.NoMemory cause = tt
+Loads-refused T files name before after (read.TooLong line) cause = Loads-too_long files name before after line cause.0 cause.1
+Loads-refused T files name before after read.NoMemory cause = cause
 
 -- the text isn't a script
 pub ReadsScript-refused :
@@ -79,13 +79,13 @@ ReadsScript-refused content script.NoMemory short cause = tt
 -- the tree of a file that was given
 data_given :
     (files : Option Files) (name content : List ℕ) (before after : ℕ) (result : Result (List Numbered) Trouble)
-    → GivesFile files name content → NeverFalls before after → ReadsData content result → LoadsData files name before after result
+    → GivesFile files name content → after ≡ before → ReadsData content result → LoadsData files name before after result
 unfolding LoadsData ReadsData
 data_given files name content before after (Ok rows) gives stays reads = (HoldsIn-given files name content (IsGoodData (entries_of rows)) gives reads.0, reads.1, stays)
 data_given files name content before after (Err trouble.NoFile) gives stays reads = absurd reads
-data_given files name content before after (Err (trouble.BadData line cause)) gives stays reads = HoldsIn-given files name content (IsBadData line (cause_of cause)) gives reads
+data_given files name content before after (Err (trouble.BadData line cause)) gives stays reads = (HoldsIn-given files name content (IsBadData line (cause_of cause)) gives reads, stays)
 data_given files name content before after (Err (trouble.BadLine line)) gives stays reads = absurd reads
-data_given files name content before after (Err trouble.NoMemory) gives stays reads = tt
+data_given files name content before after (Err trouble.NoMemory) gives stays reads = stays
 
 pub LoadsData-read :
     {T : Type 0} (files : Option Files) (name content lent : List ℕ) (before after : ℕ) (text : T) (result : Result (List Numbered) Trouble)
@@ -102,20 +102,20 @@ data_too_long (Some content) line longer = inr (longer.0, longer.1, refl)
 
 LoadsData-too_long :
     (files : Option Files) (name : List ℕ) (before after line : ℕ)
-    → IsLonger files name most_data line → LoadsData files name before after (Err (trouble.BadData line (DataCause.Record Limit)))
+    → IsLonger files name most_data line → after ≡ before → LoadsData files name before after (Err (trouble.BadData line (DataCause.Record Limit)))
 unfolding LoadsData IsLonger HoldsIn
-LoadsData-too_long None name before after line longer = tt
-LoadsData-too_long (Some files) name before after line longer = data_too_long (file_of name files) line longer
+LoadsData-too_long None name before after line longer stays = (tt, stays)
+LoadsData-too_long (Some files) name before after line longer stays = (data_too_long (file_of name files) line longer, stays)
 
 -- the file wasn't read, or is too long
 pub LoadsData-refused :
     (T : Type 0) (files : Option Files) (name : List ℕ) (before after : ℕ) (fault : ReadFault)
     → ReadCause {T = T} files name most_data before after (Err fault) → LoadsData files name before after (Err (data_trouble_of_file fault))
 unfolding LoadsData ReadCause IsUnread
-LoadsData-refused T files name before after read.Absent cause = inr cause.0
+LoadsData-refused T files name before after read.Absent cause = inr cause
 LoadsData-refused T files name before after read.Failed cause = inl cause
-LoadsData-refused T files name before after (read.TooLong line) cause = LoadsData-too_long files name before after line cause.0
-LoadsData-refused T files name before after read.NoMemory cause = tt
+LoadsData-refused T files name before after (read.TooLong line) cause = LoadsData-too_long files name before after line cause.0 cause.1
+LoadsData-refused T files name before after read.NoMemory cause = cause
 
 -- the text isn't accepted
 pub ReadsData-refused :

@@ -10,7 +10,8 @@ use Rattle.acl_program.specs.declared.status.Status.{Status}
 use Rattle.acl_program.specs.declared.status.Status.TheVariants.{Done, Usage, BadData, ShelfFault, SinkFault, LinkFault, TurnsSpent, NoMemory, BadScript}
 use Rattle.acl_program.specs.Outcomes.{Outcome, NoCommand, NoFile, BadDataLine, BadLine, Checked, Dumped, Replayed, OutOfMemory, status_of}
 use Rattle.acl_program.specs.Causes.{IsNoCommand, LacksData, LacksScript, RefusesData, RefusesScript, Comes}
-use Rattle.acl_program.specs.Running.{Puts, IsCause}
+use Rattle.acl_program.specs.Running.{Puts, IsCause, EndsAtFaults}
+use Rattle.acl_program.specs.Playing.{Ends}
 
 -- a replay's status is one of two
 is_either : (status : Status) (stopped : Bool) → status ≡ (if stopped then Done else TurnsSpent) → (status ≡ Done) ⊎ (status ≡ TurnsSpent)
@@ -31,7 +32,7 @@ not_replayed status events turns dump entries is not_done not_spent =
 pub usage_comes : (words : List (List ℕ)) (files : Option Files) (before after : ℕ) (outcome : Outcome)
     → Usage ≡ status_of outcome → Comes words files before after outcome → IsNoCommand words
 unfolding status_of Comes
-usage_comes words files before after NoCommand is comes = comes
+usage_comes words files before after NoCommand is comes = comes.0
 usage_comes words files before after NoFile is comes = absurd (cc)
 usage_comes words files before after (BadDataLine line cause) is comes = absurd (cc)
 usage_comes words files before after (BadLine line) is comes = absurd (cc)
@@ -46,7 +47,7 @@ data_cause : (words : List (List ℕ)) (files : Option Files) (before after : �
 unfolding status_of Comes
 data_cause words files before after NoCommand is comes = absurd (cc)
 data_cause words files before after NoFile is comes = absurd (cc)
-data_cause words files before after (BadDataLine line cause) is comes = (line, cause, comes)
+data_cause words files before after (BadDataLine line cause) is comes = (line, cause, comes.0)
 data_cause words files before after (BadLine line) is comes = absurd (cc)
 data_cause words files before after (Checked entries) is comes = absurd (cc)
 data_cause words files before after (Dumped entries) is comes = absurd (cc)
@@ -71,7 +72,7 @@ unfolding status_of Comes
 script_cause words files before after NoCommand is comes = absurd (cc)
 script_cause words files before after NoFile is comes = absurd (cc)
 script_cause words files before after (BadDataLine line cause) is comes = absurd (cc)
-script_cause words files before after (BadLine line) is comes = (line, comes)
+script_cause words files before after (BadLine line) is comes = (line, comes.0)
 script_cause words files before after (Checked entries) is comes = absurd (cc)
 script_cause words files before after (Dumped entries) is comes = absurd (cc)
 script_cause words files before after (Replayed events turns dump entries) is comes = absurd (not_replayed BadScript events turns dump entries is (λ e. cc) (λ e. cc))
@@ -102,3 +103,30 @@ cause_comes words files before after outcome old LinkFault new puts comes = no_l
 cause_comes words files before after outcome old TurnsSpent new puts comes = tt
 cause_comes words files before after outcome old NoMemory new puts comes = tt
 cause_comes words files before after outcome old BadScript new puts comes = script_cause words files before after outcome puts.0 comes
+
+-- the shelf's count is as it was where its fault isn't answered
+pub count_stays : (words : List (List ℕ)) (files : Option Files) (before after : ℕ) (outcome : Outcome) (status : Status)
+    → status ≡ status_of outcome → (status ≡ ShelfFault → ⊥) → Comes words files before after outcome → after ≡ before
+unfolding status_of Comes
+count_stays words files before after NoCommand status is other comes = comes.1
+count_stays words files before after NoFile status is other comes = absurd (other is)
+count_stays words files before after (BadDataLine line cause) status is other comes = comes.1
+count_stays words files before after (BadLine line) status is other comes = comes.1
+count_stays words files before after (Checked entries) status is other comes = comes.1
+count_stays words files before after (Dumped entries) status is other comes = comes.1
+count_stays words files before after (Replayed events turns dump entries) status is other comes = comes.1
+count_stays words files before after OutOfMemory status is other comes = comes
+
+-- what the two counts say of each status
+pub faults_end : (words : List (List ℕ)) (files : Option Files) (before after : ℕ) (outcome : Outcome) (old : Option (List ℕ)) (sink_before : ℕ) (status : Status) (new : Option (List ℕ)) (sink_after : ℕ)
+    → Comes words files before after outcome → Ends outcome old sink_before status new sink_after → EndsAtFaults before after sink_before sink_after status
+unfolding EndsAtFaults
+faults_end words files before after outcome old sink_before Done new sink_after comes ends = (count_stays words files before after outcome Done ends.puts.0 (λ e. cc) comes, ends.cause)
+faults_end words files before after outcome old sink_before Usage new sink_after comes ends = (count_stays words files before after outcome Usage ends.puts.0 (λ e. cc) comes, ends.cause)
+faults_end words files before after outcome old sink_before BadData new sink_after comes ends = (count_stays words files before after outcome BadData ends.puts.0 (λ e. cc) comes, ends.cause)
+faults_end words files before after outcome old sink_before ShelfFault new sink_after comes ends = ends.cause
+faults_end words files before after outcome old sink_before SinkFault new sink_after comes ends = ends.cause
+faults_end words files before after outcome old sink_before LinkFault new sink_after comes ends = (count_stays words files before after outcome LinkFault ends.puts.0 (λ e. cc) comes, ends.cause)
+faults_end words files before after outcome old sink_before TurnsSpent new sink_after comes ends = (count_stays words files before after outcome TurnsSpent ends.puts.0 (λ e. cc) comes, ends.cause)
+faults_end words files before after outcome old sink_before NoMemory new sink_after comes ends = ends.cause
+faults_end words files before after outcome old sink_before BadScript new sink_after comes ends = (count_stays words files before after outcome BadScript ends.puts.0 (λ e. cc) comes, ends.cause)

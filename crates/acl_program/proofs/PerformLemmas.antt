@@ -1,6 +1,5 @@
 -- What the parts of a command say together of how it ended.
-use Rattle.std.proofs.Common.{◌≡◌, ℕ, ◌≤◌, Bool, List, Option, Ok, Err, refl, subst, arith, inl, inr}
-use Rattle.plain_values.specs.Counts.{Rose, NeverFalls}
+use Rattle.std.proofs.Common.{◌≡◌, ℕ, Bool, List, Option, Ok, Err, refl, subst, ◌∙◌, inl, inr}
 use Rattle.wire_io.specs.Files.{Files}
 use Rattle.command_words.specs.Command.{CommandView, Replay, Check, Dump}
 use Rattle.dir_tree.specs.Trees.{Numbered}
@@ -13,17 +12,9 @@ use Rattle.acl_program.specs.Causes.{AsksData, IsUnread, Comes, data_of}
 use Rattle.acl_program.specs.Playing.{Ends, ComesFor, ReplayComes, Replays, Performs}
 use Rattle.acl_program.specs.Troubles.{LoadsData, outcome_of}
 
--- a count that rose later rose in all
-Rose-later : (before middle after : ℕ) → NeverFalls before middle → Rose middle after → Rose before after
-Rose-later before middle after stays rose =
-    let up : before ≤ middle = stays.never_falls in
-    let on : middle ≤ after = rose.never_falls in
-    record { never_falls = omega arith; rose = elim rose.rose [ inl more ↦ inl (omega arith) | inr last ↦ inr last ] }
-
-unread_later : (files : Option Files) (name : List ℕ) (before middle after : ℕ) → NeverFalls before middle → IsUnread files name middle after → IsUnread files name before after
-unfolding IsUnread
-unread_later files name before middle after stays (inl rose) = inl (Rose-later before middle after stays rose)
-unread_later files name before middle after stays (inr lacks) = inr lacks
+-- a file that wasn't read after a count stayed
+unread_later : (files : Option Files) (name : List ℕ) (before middle after : ℕ) → middle ≡ before → IsUnread files name middle after → IsUnread files name before after
+unread_later files name before middle after stays unread = subst (λ count. IsUnread files name count after) stays unread
 
 -- a data file that wasn't read
 data_refused :
@@ -33,9 +24,9 @@ unfolding LoadsData Comes AsksData
 data_refused asked files before after trouble.NoFile loads =
     λ words is. inl (record { data_file = data_of asked; asked = (asked, is, refl); unread = loads })
 data_refused asked files before after (trouble.BadData line cause) loads =
-    λ words is. record { data_file = data_of asked; asked = (asked, is, refl); bad = loads }
+    λ words is. (record { data_file = data_of asked; asked = (asked, is, refl); bad = loads.0 }, loads.1)
 data_refused asked files before after (trouble.BadLine line) loads = absurd loads
-data_refused asked files before after trouble.NoMemory loads = λ words is. tt
+data_refused asked files before after trouble.NoMemory loads = λ words is. loads
 
 pub Performs-refused :
     (asked : CommandView) (files : Option Files) (before after : ℕ) (old : Option (List ℕ)) (sink_before : ℕ) (status : Status) (new : Option (List ℕ)) (sink_after : ℕ) (why : Trouble)
@@ -52,7 +43,7 @@ pub Performs-checked :
     → Performs (Check name) files before after old sink_before status new sink_after
 unfolding Performs LoadsData Comes
 Performs-checked name files before after old sink_before status new sink_after rows loads ends =
-    (Checked (entries_of rows), (λ words is. record { data_file = name; asked = is; good = loads.0 }), ends)
+    (Checked (entries_of rows), (λ words is. (record { data_file = name; asked = is; good = loads.0 }, loads.2)), ends)
 
 pub Performs-dumped :
     (name : List ℕ) (files : Option Files) (before after : ℕ) (old : Option (List ℕ)) (sink_before : ℕ) (status : Status) (new : Option (List ℕ)) (sink_after : ℕ) (rows : List Numbered)
@@ -60,7 +51,7 @@ pub Performs-dumped :
     → Performs (Dump name) files before after old sink_before status new sink_after
 unfolding Performs LoadsData Comes
 Performs-dumped name files before after old sink_before status new sink_after rows loads ends =
-    (Dumped (entries_of rows), (λ words is. record { data_file = name; asked = is; good = loads.0 }), ends)
+    (Dumped (entries_of rows), (λ words is. (record { data_file = name; asked = is; good = loads.0 }, loads.2)), ends)
 
 -- an outcome of a replay over a data file is one of the command
 replay_comes :
@@ -80,27 +71,33 @@ replay_comes name script turns dump rows files before middle after NoFile loads 
     })
 replay_comes name script turns dump rows files before middle after (BadDataLine line cause) loads comes = absurd comes
 replay_comes name script turns dump rows files before middle after (BadLine line) loads comes =
-    λ words is. record {
-      script = script;
-      turns = turns;
-      dump = dump;
-      entries = entries_of rows;
-      asked = record { data_file = name; asked = is; good = loads.0 };
-      bad = comes;
-    }
+    λ words is. (
+      record {
+        script = script;
+        turns = turns;
+        dump = dump;
+        entries = entries_of rows;
+        asked = record { data_file = name; asked = is; good = loads.0 };
+        bad = comes.0;
+      },
+      comes.1 ∙ loads.2,
+    )
 replay_comes name script turns dump rows files before middle after (Checked found) loads comes = absurd comes
 replay_comes name script turns dump rows files before middle after (Dumped found) loads comes = absurd comes
 replay_comes name script turns dump rows files before middle after (Replayed events asked dumped found) loads comes =
-    λ words is. record {
-      script = script;
-      asked = record {
-        data_file = name;
-        asked = rw (comes.0, comes.1) is;
-        good = rw (comes.2) loads.0;
-      };
-      good = comes.3;
-    }
-replay_comes name script turns dump rows files before middle after OutOfMemory loads comes = λ words is. tt
+    λ words is. (
+      record {
+        script = script;
+        asked = record {
+          data_file = name;
+          asked = rw (comes.0, comes.1) is;
+          good = rw (comes.2) loads.0;
+        };
+        good = comes.3;
+      },
+      comes.4 ∙ loads.2,
+    )
+replay_comes name script turns dump rows files before middle after OutOfMemory loads comes = λ words is. comes ∙ loads.2
 
 pub Performs-replayed :
     (name script : List ℕ) (turns : ℕ) (dump : Bool) (files kept : Option Files) (before middle after : ℕ)
@@ -110,5 +107,5 @@ pub Performs-replayed :
 unfolding Performs Replays
 Performs-replayed name script turns dump files kept before middle after old sink_before status new sink_after rows loads stays replays =
     let comes : ReplayComes script turns dump (entries_of rows) files middle after replays.0 =
-    subst (λ told. ReplayComes script turns dump (entries_of rows) told middle after replays.0) stays replays.1 in
+    subst (λ shown. ReplayComes script turns dump (entries_of rows) shown middle after replays.0) stays replays.1 in
     (replays.0, replay_comes name script turns dump rows files before middle after replays.0 loads comes, replays.2)

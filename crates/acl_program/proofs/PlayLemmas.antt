@@ -1,6 +1,7 @@
 -- What the loop's clauses say where the link gives a script's events: the journal tells the replay's lines.
-use Rattle.std.proofs.Common.{◌≡◌, ℕ, zero, suc, ◌<◌, ◌≤◌, false, true, List, [], ◌∷◌, ◌++◌, length, take, Some, refl, sym, ap, ◌∙◌, subst, arith, append-nil, length-append}
+use Rattle.std.proofs.Common.{◌≡◌, ℕ, ◌<◌, ◌≤◌, false, true, List, [], ◌++◌, length, take, Some, refl, sym, ap, ◌∙◌, subst, arith, append-nil, length-append}
 use Rattle.std.proofs.Math.Seq.{take-append_seam}
+use Rattle.std.proofs.lemmas.List.{take_all}
 use Rattle.script_text.specs.declared.event.ScriptEvent.{ScriptEvent}
 use Rattle.wire_io.specs.declared.journal.Event.{Event}
 use Rattle.wire_io.specs.declared.journal.Item.{Item}
@@ -33,13 +34,6 @@ front_heard turns all steps rest is as_long =
     let whole : length all ≡ length (steps ++ rest) = ap length is in
     (sym front ∙ ap (λ count. take count (steps ++ rest)) as_long ∙ ap (λ list. take turns list) (sym is), omega (arith, whole, as_long, length-append steps rest))
 
--- a front that is long enough is all
-take_all : (count : ℕ) (list : List Event) → length list ≤ count → take count list ≡ list
-take_all zero [] short = refl
-take_all zero (e ∷ list) short = absurd (omega arith)
-take_all (suc count) [] short = refl
-take_all (suc count) (e ∷ list) short = ap (λ rest. e ∷ rest) (take_all count list (omega arith))
-
 -- all of them are heard where there are no more than turns
 all_heard : (turns : ℕ) (all steps rest : List Event) → all ≡ steps ++ rest → rest ≡ [] → length steps < turns → (steps ≡ take turns all) × (length all < turns)
 all_heard turns all steps rest is none short =
@@ -58,23 +52,23 @@ unfolding is_held hold_after_all
 not_held c = refl
 
 -- the loop's clauses, by its answer
-plays_told :
-    (events : List ScriptEvent) (turns : ℕ) (how : Ended) (told : List Item) (plan left : Plan)
-    → plan.to_come ≡ events → EndsAt turns told how → ServedAs told how → PlayedOut turns [] told plan left how → (how ≡ ended.LinkFault → ⊥)
-    → Plays events turns how told
+plays_journal :
+    (events : List ScriptEvent) (turns : ℕ) (how : Ended) (known : List Item) (plan left : Plan)
+    → plan.to_come ≡ events → EndsAt turns known how → ServedAs known how → PlayedOut turns [] known plan left how → (how ≡ ended.LinkFault → ⊥)
+    → Plays events turns how known
 unfolding Plays BringsOn
-plays_told events turns ended.Stopped told plan left is ends served played fails =
-    let on : pieces buffer_length plan.to_come ≡ steps_of (heard told) ++ pieces buffer_length left.to_come = played.plays in
-    let all = all_heard turns (pieces buffer_length events) (steps_of (heard told)) (pieces buffer_length left.to_come) (ap (pieces buffer_length) (sym is) ∙ on)
-    (none_left buffer_length left.to_come (played.over refl)) (omega (arith, length-stopped told ends.0, ends.1)) in
-    (text_of_heard events turns told served.1 all.0, all.1)
-plays_told events turns ended.TurnsSpent told plan left is ends served played fails =
-    let on : pieces buffer_length plan.to_come ≡ steps_of (heard told) ++ pieces buffer_length left.to_come = played.plays in
-    let front = front_heard turns (pieces buffer_length events) (steps_of (heard told)) (pieces buffer_length left.to_come) (ap (pieces buffer_length) (sym is) ∙ on)
+plays_journal events turns ended.Stopped known plan left is ends served played fails =
+    let on : pieces buffer_length plan.to_come ≡ steps_of (heard known) ++ pieces buffer_length left.to_come = played.plays in
+    let all = all_heard turns (pieces buffer_length events) (steps_of (heard known)) (pieces buffer_length left.to_come) (ap (pieces buffer_length) (sym is) ∙ on)
+    (none_left buffer_length left.to_come (played.over refl)) (omega (arith, length-stopped known ends.0, ends.1)) in
+    (text_of_heard events turns known served.1 all.0, all.1)
+plays_journal events turns ended.TurnsSpent known plan left is ends served played fails =
+    let on : pieces buffer_length plan.to_come ≡ steps_of (heard known) ++ pieces buffer_length left.to_come = played.plays in
+    let front = front_heard turns (pieces buffer_length events) (steps_of (heard known)) (pieces buffer_length left.to_come) (ap (pieces buffer_length) (sym is) ∙ on)
     (played.steps not_held refl) in
-    (text_of_heard events turns told served.1 front.0, front.1)
-plays_told events turns ended.LinkFault told plan left is ends served played fails = absurd (fails refl)
-plays_told events turns ended.NoMemory told plan left is ends served played fails = tt
+    (text_of_heard events turns known served.1 front.0, front.1)
+plays_journal events turns ended.LinkFault known plan left is ends served played fails = absurd (fails refl)
+plays_journal events turns ended.NoMemory known plan left is ends served played fails = tt
 
 -- a link without planned faults has none
 no_fault : (plan : Plan) (before after : ℕ) (how : Ended) → plan.failing ≡ [] → EndsFor (Some plan) before after how → how ≡ ended.LinkFault → ⊥
@@ -93,12 +87,12 @@ plays_served :
 unfolding Serves PlaysOut
 plays_served events turns how journal plan after faults_before faults_after is served plays cause =
     let serves = served [] refl in
-    let told : List Item = serves.0 in
-    let same : journal ≡ told = cc (serves.1) in
-    let played = plays [] told plan refl serves.1 refl in
-    let taken : all_taken told ≡ true = played.2.taken (ap (λ p. p.later) is) (ap (λ p. p.gone) is) in
+    let known : List Item = serves.0 in
+    let same : journal ≡ known = cc (serves.1) in
+    let played = plays [] known plan refl serves.1 refl in
+    let taken : all_taken known ≡ true = played.2.taken (ap (λ p. p.later) is) (ap (λ p. p.gone) is) in
     let P : List Item → Type 0 = λ heard_all. Plays events turns how heard_all in
-    subst P (sym same) (plays_told events turns how told plan played.0 (ap (λ p. p.to_come) is) serves.2 (serves.3 taken) played.2
+    subst P (sym same) (plays_journal events turns how known plan played.0 (ap (λ p. p.to_come) is) serves.2 (serves.3 taken) played.2
     (no_fault plan faults_before faults_after how (ap (λ p. p.failing) is) cause))
 
 -- the same of a link that has only a script

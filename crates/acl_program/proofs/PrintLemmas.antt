@@ -1,61 +1,17 @@
 -- Lemmas on texts put one after another, and on the lines of a journal.
-use Rattle.std.proofs.Common.{◌≡◌, ℕ, zero, suc, ◌+◌, ◌<◌, ◌≤◌, Bool, List, [], ◌∷◌, ◌++◌, length, take, drop, get_or, Option, Some, None, Result, Ok, Err, refl, sym, ap, ◌∙◌, subst, arith, append-nil, append_assoc, add-one, inl, inr}
+use Rattle.std.proofs.Common.{◌≡◌, ℕ, ◌+◌, ◌<◌, ◌≤◌, Bool, List, [], ◌∷◌, ◌++◌, length, take, drop, get_or, Option, Result, Ok, Err, sym, ap, ◌∙◌, subst, append-nil, append_assoc, add-one}
 use Rattle.std.specs.Prelude.{codes, decimal}
-use Rattle.std.proofs.Math.Seq.{take-suc, take-append-add, take-append_seam}
+use Rattle.std.proofs.Math.Seq.{take-suc}
 use Rattle.std.proofs.lemmas.Grind.{flat_map-append}
-use Rattle.std.proofs.lemmas.List.{take-append-le, take-append-drop}
-use Rattle.std.proofs.lemmas.Bool.{cases_lt}
-use Rattle.plain_values.specs.Counts.{NeverFalls}
-use Rattle.plain_values.proofs.Theorems.{NeverFalls-refl}
+use Rattle.std.proofs.lemmas.List.{take_all, take-append-drop}
 use Rattle.wire_io.specs.declared.answers.PutFault.{PutFault}
-use Rattle.wire_io.specs.declared.answers.PutFault.TheVariants as put
 use Rattle.wire_io.specs.declared.journal.Item.{Item}
 use Rattle.wire_io.specs.Journal.{opened_by, taken_of, is_hung_up}
 use Rattle.wire_io.specs.Rising.{rising}
-use Rattle.wire_io.specs.Putting.{appended, PutsAll, PutCause}
-use Rattle.wire_io.proofs.Theorems.{appended-appended}
+use Rattle.wire_io.specs.Putting.{appended, PutsAll}
+use Rattle.wire_io.proofs.Theorems.{appended-appended, PutsAll-cut, PutsAll-then}
 use Rattle.acl_program.specs.Lines.{shown, ending, line_of}
 use Rattle.acl_program.specs.Playing.{journal_lines, journal_text}
-
--- no octets put change nothing
-pub appended-none : (old : Option (List ℕ)) → old ≡ appended old []
-appended-none None = refl
-appended-none (Some put) = ap Some (sym (append-nil put))
-
--- nothing was put for want of memory
-pub PutsAll-no_memory : (old : Option (List ℕ)) (text : List ℕ) → PutsAll {T = Unit {0}} old text (Err put.NoMemory) old
-unfolding PutsAll
-PutsAll-no_memory old text = (0, appended-none old)
-
-pub PutCause-no_memory : (before : ℕ) → PutCause {T = Unit {0}} before before (Err put.NoMemory)
-unfolding PutCause
-PutCause-no_memory before = NeverFalls-refl before
-
--- a front that is long enough is all
-take_all : (count : ℕ) (octets : List ℕ) → length octets ≤ count → take count octets ≡ octets
-take_all zero [] long = refl
-take_all zero (octet ∷ octets) long = absurd (omega arith)
-take_all (suc count) [] long = refl
-take_all (suc count) (octet ∷ octets) long = ap (λ rest. octet ∷ rest) (take_all count octets (omega arith))
-
--- a front of a line is a front of it and what follows
-front_in : (count : ℕ) (line rest : List ℕ) → (other : ℕ) × (take count line ≡ take other (line ++ rest))
-front_in count line rest =
-    elim (cases_lt (length line) count) [
-      | inl longer ↦ (length line, take_all count line (omega arith) ∙ sym (take-append_seam line rest))
-      | inr short ↦ (count, sym (take-append-le count line rest short))
-    ]
-
--- what was put before, and a front of a line, is a front of all
-pub PutsAll-front :
-    (old now new : Option (List ℕ)) (front line rest text : List ℕ) (fault : PutFault)
-    → text ≡ front ++ (line ++ rest) → now ≡ appended old front → PutsAll {T = Unit {0}} now line (Err fault) new → PutsAll {T = Unit {0}} old text (Err fault) new
-unfolding PutsAll
-PutsAll-front old now new front line rest text fault is before puts =
-    let other : (k : ℕ) × (take puts.0 line ≡ take k (line ++ rest)) = front_in puts.0 line rest in
-    let cut : take (length front + other.0) text ≡ front ++ take puts.0 line =
-    ap (λ whole. take (length front + other.0) whole) is ∙ take-append-add front (line ++ rest) other.0 ∙ ap (λ piece. front ++ piece) (sym other.1) in
-    (length front + other.0, puts.1 ∙ ap (λ put. appended put (take puts.0 line)) before ∙ appended-appended old front (take puts.0 line) ∙ ap (λ put. appended old put) (sym cut))
 
 -- the line of a connection, as the journal tells it
 abbrev pub line_in : List Item → ℕ → List ℕ
@@ -89,14 +45,22 @@ lines_split journal conns index conn within is =
     ∙ ap (λ front. front ++ journal_lines journal (drop (index + 1) conns)) (ap (journal_lines journal) (take_one conns index conn within is) ∙ journal_lines-one journal (take index conns) conn)
     ∙ append_assoc (journal_lines journal (take index conns)) (line_in journal conn) (journal_lines journal (drop (index + 1) conns))
 
+-- what was put, in the word of a whole text
+put_front : (old now : Option (List ℕ)) (front : List ℕ) → now ≡ appended old front → PutsAll {T = Unit {0}} old front (Ok tt) now
+unfolding PutsAll
+put_front old now front put = put
+
 -- a line was refused
 pub lines_refused :
     (old now new : Option (List ℕ)) (journal : List Item) (conns : List ℕ) (index conn : ℕ) (fault : PutFault)
     → index < length conns → conn ≡ get_or conns index 0 → now ≡ appended old (journal_lines journal (take index conns))
     → PutsAll {T = Unit {0}} now (line_in journal conn) (Err fault) new → PutsAll {T = Unit {0}} old (journal_lines journal conns) (Err fault) new
 lines_refused old now new journal conns index conn fault within is before puts =
-    PutsAll-front old now new (journal_lines journal (take index conns)) (line_in journal conn) (journal_lines journal (drop (index + 1) conns)) (journal_lines journal conns) fault
-    (lines_split journal conns index conn within is) before puts
+    let P : List ℕ → Type 0 = λ text. PutsAll {T = Unit {0}} old text (Err fault) new in
+    let rest : List ℕ = journal_lines journal (drop (index + 1) conns) in
+    subst P (sym (lines_split journal conns index conn within is))
+    (PutsAll-then old now new (journal_lines journal (take index conns)) (line_in journal conn ++ rest) tt (Err fault) (put_front old now (journal_lines journal (take index conns)) before)
+    (PutsAll-cut (Unit {0}) now new (line_in journal conn) rest fault puts))
 
 -- all lines were put
 pub lines_done :
@@ -113,50 +77,6 @@ pub PutsAll-opened :
 unfolding journal_text
 PutsAll-opened old new journal conns result is puts =
     let P : List ℕ → Type 0 = λ made. PutsAll old (journal_lines journal made) result new in subst P is puts
-
--- the count never fell in all
-pub PutCause-done : (before after : ℕ) (done : Unit {0}) → NeverFalls before after → PutCause before after (Ok done)
-unfolding PutCause
-PutCause-done before after done stays = stays
-
--- one text was put, and then another was to be
-pub PutsAll-then :
-    (old now new : Option (List ℕ)) (first second : List ℕ) (done : Unit {0}) (result : Result (Unit {0}) PutFault)
-    → PutsAll old first (Ok done) now → PutsAll now second result new → PutsAll old (first ++ second) result new
-unfolding PutsAll
-PutsAll-then old now new first second done (Ok answer) before puts =
-    puts ∙ ap (λ put. appended put second) before ∙ appended-appended old first second
-PutsAll-then old now new first second done (Err fault) before puts =
-    PutsAll-front old now new first second [] (first ++ second) fault (ap (λ text. first ++ text) (sym (append-nil second))) before puts
-
--- the first was refused
-pub PutsAll-first :
-    (old new : Option (List ℕ)) (first second : List ℕ) (fault : PutFault) → PutsAll {T = Unit {0}} old first (Err fault) new → PutsAll {T = Unit {0}} old (first ++ second) (Err fault) new
-unfolding PutsAll
-PutsAll-first old new first second fault puts =
-    let other : (k : ℕ) × (take puts.0 first ≡ take k (first ++ second)) = front_in puts.0 first second in
-    (other.0, puts.1 ∙ ap (λ text. appended old text) other.1)
-
--- nothing was to be put
-pub PutsAll-nothing : (old : Option (List ℕ)) (done : Unit {0}) → PutsAll old [] (Ok done) old
-unfolding PutsAll
-PutsAll-nothing old done = appended-none old
-
-pub PutCause-nothing : (before : ℕ) (done : Unit {0}) → PutCause before before (Ok done)
-unfolding PutCause
-PutCause-nothing before done = NeverFalls-refl before
-
--- the causes of two puttings
-pub PutCause-then : (before middle after : ℕ) (done : Unit {0}) (result : Result (Unit {0}) PutFault)
-    → PutCause before middle (Ok done) → PutCause middle after result → PutCause before after result
-unfolding PutCause
-PutCause-then before middle after done (Ok answer) first second = record { never_falls = omega (arith, first.never_falls, second.never_falls) }
-PutCause-then before middle after done (Err put.Failed) first second =
-    record {
-      never_falls = omega (arith, first.never_falls, second.never_falls);
-      rose = elim second.rose [ inl more ↦ inl (omega (arith, first.never_falls)) | inr last ↦ inr last ];
-    }
-PutCause-then before middle after done (Err put.NoMemory) first second = record { never_falls = omega (arith, first.never_falls, second.never_falls) }
 
 -- a line is its number and a space, and what follows them
 pub line_parts : (conn : ℕ) (sent : List ℕ) (hung_up : Bool) → (decimal conn ++ codes " ") ++ (shown sent ++ (ending hung_up ++ codes "\n")) ≡ line_of conn sent hung_up
@@ -180,4 +100,4 @@ pub PutsAll-number :
     → PutsAll {T = Unit {0}} old (decimal conn ++ codes " ") (Err fault) new → PutsAll {T = Unit {0}} old (line_of conn sent hung_up) (Err fault) new
 PutsAll-number old new conn sent hung_up fault puts =
     let P : List ℕ → Type 0 = λ text. PutsAll {T = Unit {0}} old text (Err fault) new in
-    subst P (line_parts conn sent hung_up) (PutsAll-first old new (decimal conn ++ codes " ") (shown sent ++ (ending hung_up ++ codes "\n")) fault puts)
+    subst P (line_parts conn sent hung_up) (PutsAll-cut (Unit {0}) old new (decimal conn ++ codes " ") (shown sent ++ (ending hung_up ++ codes "\n")) fault puts)

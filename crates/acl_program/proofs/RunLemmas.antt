@@ -1,5 +1,5 @@
 -- What the parts of a command say together of how the program ends, and each clause of the program from that.
-use Rattle.std.proofs.Common.{◌≡◌, ℕ, ◌<◌, ◌≤◌, Bool, List, [], ◌++◌, length, Option, Some, None, Ok, Err, refl, sym, ap, ◌∙◌, arith, inl, inr, ◌⊎◌}
+use Rattle.std.proofs.Common.{◌≡◌, ℕ, ◌<◌, ◌≤◌, Bool, List, [], ◌++◌, length, Option, Some, None, Ok, Err, refl, sym, ap, ◌∙◌, subst, arith, inl, inr, ◌⊎◌}
 use Rattle.std.proofs.lemmas.Bool.Decides.{nat_tests}
 use Rattle.plain_values.specs.Counts.{Rose}
 use Rattle.script_text.specs.declared.event.ScriptEvent.{ScriptEvent}
@@ -7,6 +7,7 @@ use Rattle.wire_io.specs.declared.journal.Item.{Item}
 use Rattle.wire_io.specs.Files.{Files}
 use Rattle.wire_io.specs.Pieces.{pieces}
 use Rattle.wire_io.specs.Scripted.{LinkState, fresh_link}
+use Rattle.wire_io.proofs.Theorems.{appended-none}
 use Rattle.session_hub.specs.declared.ended.Ended.TheVariants as ended
 use Rattle.session_hub.specs.Loops.{buffer_length}
 use Rattle.command_words.specs.Command.{CommandView, IsCommand}
@@ -20,12 +21,11 @@ use Rattle.acl_program.specs.declared.loading.Trouble.{Trouble}
 use Rattle.acl_program.specs.declared.loading.Trouble.TheVariants as trouble
 use Rattle.acl_program.specs.Outcomes.{Outcome, NoCommand, NoFile, BadLine, Replayed, OutOfMemory, dump_text, text_of, status_of}
 use Rattle.acl_program.specs.Causes.{IsNoCommand, Comes, IsDue}
-use Rattle.acl_program.specs.Running.{Prints, Puts, EndsAs, IsCause}
-use Rattle.acl_program.specs.Playing.{Plays, Played, Shows, Ends, Replays, Performs, Runs, journal_text}
+use Rattle.acl_program.specs.Running.{Prints, Puts, EndsAs, IsCause, EndsAtFaults}
+use Rattle.acl_program.specs.Playing.{IsSinkCount, Plays, Played, Shows, Ends, Replays, Performs, Runs, journal_text}
 use Rattle.acl_program.specs.Troubles.{Loads, LoadsData, outcome_of}
 use Rattle.acl_program.proofs.EndsLemmas.{Ends-no_memory}
-use Rattle.acl_program.proofs.PrintLemmas.{appended-none}
-use Rattle.acl_program.proofs.OutcomeLemmas.{usage_comes, cause_comes}
+use Rattle.acl_program.proofs.OutcomeLemmas.{usage_comes, cause_comes, faults_end}
 use Rattle.acl_program.proofs.DueLemmas.{due_comes}
 
 -- a replay is done where the script has fewer pieces than turns, and otherwise its turns are spent
@@ -65,7 +65,7 @@ no_fault events turns journal plays = plays
 -- nothing was put for want of memory
 pub Played-nothing : (events : List ScriptEvent) (turns : ℕ) (dumped : List ℕ) (old : Option (List ℕ)) (before : ℕ) → Played events turns dumped old before NoMemory old before
 unfolding Played
-Played-nothing events turns dumped old before = λ dump entries is. Ends-no_memory (Replayed events turns dump entries) old old before before 0 (appended-none old)
+Played-nothing events turns dumped old before = λ dump entries is. Ends-no_memory (Replayed events turns dump entries) old old before before 0 (appended-none old) refl
 
 -- a link that was loaded has done nothing yet
 pub Loads-fresh : (files : Option Files) (name : List ℕ) (before after : ℕ) (link : LinkState) → Loads files name before after (Ok link)
@@ -85,7 +85,7 @@ module _ (script : List ℕ) (turns : ℕ) (dump : Bool) (entries : List EntryIn
       → Played link.plan.to_come turns dumped old sink_before status new sink_after
       → Replays script turns dump entries files before after old sink_before status new sink_after
   unfolding Replays Loads Played
-  Replays-played link dumped loads is played = (Replayed link.plan.to_come turns dump entries, (refl, refl, refl, loads.0), played dump entries (sym is))
+  Replays-played link dumped loads is played = (Replayed link.plan.to_come turns dump entries, (refl, refl, refl, loads.0, loads.2), played dump entries (sym is))
 
   -- the script wasn't read
   pub Replays-refused : (why : Trouble) → Loads files script before after (Err why) → Ends (outcome_of why) old sink_before status new sink_after
@@ -94,7 +94,7 @@ module _ (script : List ℕ) (turns : ℕ) (dump : Bool) (entries : List EntryIn
   Replays-refused trouble.NoFile loads ends = (NoFile, loads, ends)
   Replays-refused (trouble.BadData line cause) loads ends = absurd loads
   Replays-refused (trouble.BadLine line) loads ends = (BadLine line, loads, ends)
-  Replays-refused trouble.NoMemory loads ends = (OutOfMemory, tt, ends)
+  Replays-refused trouble.NoMemory loads ends = (OutOfMemory, loads, ends)
 
 -- the words ask for this command
 pub Runs-performed :
@@ -110,9 +110,9 @@ Runs-performed words asked files before after old sink_before status new sink_af
 pub Runs-usage :
     (words : List (List ℕ)) (files : Option Files) (before after : ℕ) (old : Option (List ℕ)) (sink_before : ℕ) (status : Status) (new : Option (List ℕ)) (sink_after : ℕ)
     → ((asked : CommandView) → IsCommand words asked → None ≡ Some asked) → Ends NoCommand old sink_before status new sink_after
-    → Runs words files before after old sink_before status new sink_after
+    → after ≡ before → Runs words files before after old sink_before status new sink_after
 unfolding Runs Comes IsNoCommand
-Runs-usage words files before after old sink_before status new sink_after only ends = (NoCommand, (λ asked is. let none : None ≡ Some asked = only asked is in cc), ends)
+Runs-usage words files before after old sink_before status new sink_after only ends stays = (NoCommand, ((λ asked is. let none : None ≡ Some asked = only asked is in cc), stays), ends)
 
 module _ (words : List (List ℕ)) (files : Option Files) (before after : ℕ) (old : Option (List ℕ)) (sink_before : ℕ) (status : Status) (new : Option (List ℕ)) (sink_after : ℕ) where
   -- the text of an outcome that comes
@@ -120,10 +120,10 @@ module _ (words : List (List ℕ)) (files : Option Files) (before after : ℕ) (
   unfolding Runs Prints
   Runs-prints runs = (runs.0, runs.1, runs.2.puts)
 
-  -- the sink's fault has its cause
-  pub Runs-sink_cause : Runs words files before after old sink_before status new sink_after → status ≡ SinkFault → Rose sink_before sink_after
+  -- a fault ends the program
+  pub Runs-faults : Runs words files before after old sink_before status new sink_after → EndsAtFaults before after sink_before sink_after status
   unfolding Runs
-  Runs-sink_cause runs is = runs.2.cause is
+  Runs-faults runs = faults_end words files before after runs.0 old sink_before status new sink_after runs.1 runs.2
 
 -- a status that isn't one of a refusal of the sink, or of want of memory, is that of the outcome
 status_is : (outcome : Outcome) (old : Option (List ℕ)) (status : Status) (new : Option (List ℕ)) → Puts outcome old status new
@@ -168,7 +168,7 @@ module _ (words : List (List ℕ)) (files : Option Files) (before after : ℕ) (
   unfolding Runs
   Runs-complete outcome runs due shelf sink =
       elim (status_is runs.0 old status new runs.2.puts) [
-        | inl fault ↦ absurd (sink (runs.2.cause fault))
+        | inl fault ↦ absurd (sink (subst (λ ended. IsSinkCount sink_before sink_after ended) fault runs.2.cause))
         | inr (inl memory) ↦ inl memory
         | inr (inr same) ↦ elim (due_comes words files before after runs.0 outcome due shelf runs.1) [
           | inl none ↦ inl (same ∙ ap status_of none ∙ status_of-memory)

@@ -12,10 +12,11 @@ use Rattle.op_write.specs.declared.fault.LoadCause.TheVariants.{Limit}
 use Rattle.op_write.specs.DataFile.{FileCause, OfRecord, loads}
 use Rattle.acl_program.specs.Outcomes.{Outcome, NoCommand, NoFile, BadDataLine, BadLine, Checked, Dumped, Replayed, OutOfMemory}
 
--- the most octets of a data file, and of a script file
+-- the most octets of a data file
 abbrev pub most_data : ℕ
 most_data = 67108864
 
+-- the most octets of a script file
 abbrev pub most_script : ℕ
 most_script = 67108864
 
@@ -33,9 +34,9 @@ data_of (Dump data_file) = data_file
 unfoldable pub AsksData : List (List ℕ) → List ℕ → Type 0
 AsksData words data_file = (asked : CommandView) × IsCommand words asked × (data_of asked ≡ data_file)
 
--- the file of the name wasn't read: the shelf's count of faults rose, or the shelf tells that it has no such file
+-- the file wasn't read: the shelf's count of faults rose, or stayed where the shelf tells that it has no such file
 unfoldable pub IsUnread : Option Files → List ℕ → ℕ → ℕ → Type 0
-IsUnread files name before after = Rose before after ⊎ Lacks files name
+IsUnread files name before after = Rose before after ⊎ (Lacks files name × (after ≡ before))
 
 -- the content is a data file of these entries, and not too long
 pub record IsGoodData (entries : List EntryInformation) (content : List ℕ) : Type 0 where
@@ -123,16 +124,17 @@ pub record AsksBoth (words : List (List ℕ)) (files : Option Files) (events : L
   pub asked : AsksReplay words files script turns dump entries
   pub good : HoldsIn files script (IsGoodScript events)
 
--- when each outcome comes, by the words, the files that the shelf tells, and its count of faults before and after
+-- when each outcome comes, by the words, the files that the shelf tells, and its count of faults before and after: the count
+-- is as it was but where a file wasn't read
 unfoldable pub Comes : List (List ℕ) → Option Files → ℕ → ℕ → Outcome → Type 0
-Comes words files before after NoCommand = IsNoCommand words
+Comes words files before after NoCommand = IsNoCommand words × (after ≡ before)
 Comes words files before after NoFile = LacksData words files before after ⊎ LacksScript words files before after
-Comes words files before after (BadDataLine line cause) = RefusesData words files line cause
-Comes words files before after (BadLine line) = RefusesScript words files line
-Comes words files before after (Checked entries) = AsksAlone Check words files entries
-Comes words files before after (Dumped entries) = AsksAlone Dump words files entries
-Comes words files before after (Replayed events turns dump entries) = AsksBoth words files events turns dump entries
-Comes words files before after OutOfMemory = Unit {0}
+Comes words files before after (BadDataLine line cause) = RefusesData words files line cause × (after ≡ before)
+Comes words files before after (BadLine line) = RefusesScript words files line × (after ≡ before)
+Comes words files before after (Checked entries) = AsksAlone Check words files entries × (after ≡ before)
+Comes words files before after (Dumped entries) = AsksAlone Dump words files entries × (after ≡ before)
+Comes words files before after (Replayed events turns dump entries) = AsksBoth words files events turns dump entries × (after ≡ before)
+Comes words files before after OutOfMemory = after ≡ before
 
 -- the outcome that is due where the words are a command whose files the shelf tells, and which are accepted
 unfoldable pub IsDue : List (List ℕ) → Option Files → Outcome → Type 0

@@ -3,6 +3,6 @@ pub mod Lines
 pub mod Outcomes
 pub mod Causes
 pub mod Running
--- what the crate's inside promises itself
+-- for the inside of the crate alone
 pub mod Troubles
 pub mod Playing

@@ -29,12 +29,13 @@ pub data Outcome : Type 0 where
   Replayed : (events : List ScriptEvent) (turns : ℕ) (dump : Bool) (entries : List EntryInformation) → Outcome
   OutOfMemory : Outcome
 
--- what is wrong with a line, and with a record
+-- the words for what is wrong with a line
 abbrev pub line_cause_text : LineCause → List ℕ
 line_cause_text Syntax = codes "syntax"
 line_cause_text Changetype = codes "changetype"
 line_cause_text Base64 = codes "base64"
 
+-- the words for what is wrong with a record
 abbrev pub record_cause_text : LoadCause → List ℕ
 record_cause_text Name = codes "name"
 record_cause_text Kind = codes "type"

@@ -17,7 +17,7 @@ use Rattle.schema_rules.specs.Checking.{entries_of}
 use Rattle.op_write.specs.DataFile.{ldif_text}
 use Rattle.data_file.specs.Files.{AreOfTable}
 use Rattle.acl_program.specs.declared.status.Status.{Status}
-use Rattle.acl_program.specs.declared.status.Status.TheVariants.{SinkFault}
+use Rattle.acl_program.specs.declared.status.Status.TheVariants.{Done, Usage, BadData, ShelfFault, SinkFault, LinkFault, TurnsSpent, NoMemory, BadScript}
 use Rattle.acl_program.specs.Lines.{line_of, replay_text}
 use Rattle.acl_program.specs.Outcomes.{Outcome, NoCommand, NoFile, BadDataLine, BadLine, Checked, Dumped, Replayed, OutOfMemory, dump_text, text_of, status_of}
 use Rattle.acl_program.specs.Causes.{Comes, IsUnread, HoldsIn, IsBadScript, IsGoodScript}
@@ -48,27 +48,36 @@ Plays events turns ended.TurnsSpent journal = (journal_text journal ≡ replay_t
 Plays events turns ended.LinkFault journal = ⊥
 Plays events turns ended.NoMemory journal = Unit {0}
 
--- the sink's count rose where it is to blame
-abbrev pub HasSinkCause : ℕ → ℕ → Status → Type 0
-HasSinkCause before after status = status ≡ SinkFault → Rose before after
+-- the sink's count rose where it is to blame, and is otherwise as it was
+abbrev pub IsSinkCount : ℕ → ℕ → Status → Type 0
+IsSinkCount before after SinkFault = Rose before after
+IsSinkCount before after Done = after ≡ before
+IsSinkCount before after Usage = after ≡ before
+IsSinkCount before after BadData = after ≡ before
+IsSinkCount before after ShelfFault = after ≡ before
+IsSinkCount before after LinkFault = after ≡ before
+IsSinkCount before after TurnsSpent = after ≡ before
+IsSinkCount before after NoMemory = after ≡ before
+IsSinkCount before after BadScript = after ≡ before
 
 -- the text of an outcome was put, and the sink's fault has its cause
 pub record Ends (outcome : Outcome) (old : Option (List ℕ)) (before : ℕ) (status : Status) (new : Option (List ℕ)) (after : ℕ) : Type 0 where
   pub puts : Puts outcome old status new
-  pub cause : HasSinkCause before after status
+  pub cause : IsSinkCount before after status
 
 -- a replay over these entries came to an outcome: its data file aside
 abbrev pub ReplayComes : List ℕ → ℕ → Bool → List EntryInformation → Option Files → ℕ → ℕ → Outcome → Type 0
 ReplayComes script turns dump entries files before after NoCommand = ⊥
 ReplayComes script turns dump entries files before after NoFile = IsUnread files script before after
 ReplayComes script turns dump entries files before after (BadDataLine line cause) = ⊥
-ReplayComes script turns dump entries files before after (BadLine line) = HoldsIn files script (IsBadScript line)
+ReplayComes script turns dump entries files before after (BadLine line) = HoldsIn files script (IsBadScript line) × (after ≡ before)
 ReplayComes script turns dump entries files before after (Checked found) = ⊥
 ReplayComes script turns dump entries files before after (Dumped found) = ⊥
 ReplayComes script turns dump entries files before after (Replayed events asked dumped found) =
-    (asked ≡ turns) × (dumped ≡ dump) × (found ≡ entries) × HoldsIn files script (IsGoodScript events)
-ReplayComes script turns dump entries files before after OutOfMemory = Unit {0}
+    (asked ≡ turns) × (dumped ≡ dump) × (found ≡ entries) × HoldsIn files script (IsGoodScript events) × (after ≡ before)
+ReplayComes script turns dump entries files before after OutOfMemory = after ≡ before
 
+-- a replay over these entries came to some outcome, whose text was put
 unfoldable pub Replays : List ℕ → ℕ → Bool → List EntryInformation → Option Files → ℕ → ℕ → Option (List ℕ) → ℕ → Status → Option (List ℕ) → ℕ → Type 0
 Replays script turns dump entries files before after old sink_before status new sink_after =
     (outcome : Outcome) × ReplayComes script turns dump entries files before after outcome × Ends outcome old sink_before status new sink_after

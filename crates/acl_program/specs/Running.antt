@@ -1,5 +1,6 @@
 -- What the program puts, and when it ends as it does.
 use Rattle.std.specs.Prelude.{◌≡◌, ◌⊎◌, ℕ, List, take, Option}
+use Rattle.plain_values.specs.Counts.{Rose}
 use Rattle.wire_io.specs.Files.{Files}
 use Rattle.wire_io.specs.Putting.{appended}
 use Rattle.acl_program.specs.declared.status.Status.{Status}
@@ -37,3 +38,17 @@ IsCause words files before after SinkFault = Unit {0}
 IsCause words files before after LinkFault = ⊥
 IsCause words files before after TurnsSpent = Unit {0}
 IsCause words files before after NoMemory = Unit {0}
+
+-- what the counts of faults of the shelf and of the sink say of each status: a fault ends the program, so each count is
+-- as it was but where its fault is answered; the shelf's may also have risen where the sink refused the line that says
+-- so, or wanted memory for it
+unfoldable pub EndsAtFaults : ℕ → ℕ → ℕ → ℕ → Status → Type 0
+EndsAtFaults before after sink_before sink_after SinkFault = Rose sink_before sink_after
+EndsAtFaults before after sink_before sink_after ShelfFault = sink_after ≡ sink_before
+EndsAtFaults before after sink_before sink_after NoMemory = sink_after ≡ sink_before
+EndsAtFaults before after sink_before sink_after Done = (after ≡ before) × (sink_after ≡ sink_before)
+EndsAtFaults before after sink_before sink_after Usage = (after ≡ before) × (sink_after ≡ sink_before)
+EndsAtFaults before after sink_before sink_after BadData = (after ≡ before) × (sink_after ≡ sink_before)
+EndsAtFaults before after sink_before sink_after LinkFault = (after ≡ before) × (sink_after ≡ sink_before)
+EndsAtFaults before after sink_before sink_after TurnsSpent = (after ≡ before) × (sink_after ≡ sink_before)
+EndsAtFaults before after sink_before sink_after BadScript = (after ≡ before) × (sink_after ≡ sink_before)

@@ -1,6 +1,5 @@
 -- What reading the data file and the script of a command gives, and why it gives nothing.
 use Rattle.std.specs.Prelude.{◌≡◌, ℕ, List, [], Option, Result, Ok, Err}
-use Rattle.plain_values.specs.Counts.{NeverFalls}
 use Rattle.script_text.specs.declared.event.ScriptFault.{ScriptFault}
 use Rattle.script_text.specs.declared.event.ScriptFault.TheVariants as script
 use Rattle.wire_io.specs.declared.answers.ReadFault.{ReadFault}
@@ -21,11 +20,11 @@ use Rattle.acl_program.specs.Causes.{IsUnread, HoldsIn, IsBadData, IsGoodData, I
 
 -- the data file of the name was loaded, or why not
 unfoldable pub LoadsData : Option Files → List ℕ → ℕ → ℕ → Result (List Numbered) Trouble → Type 0
-LoadsData files name before after (Ok rows) = HoldsIn files name (IsGoodData (entries_of rows)) × AreOfTable (entries_of rows) × NeverFalls before after
+LoadsData files name before after (Ok rows) = HoldsIn files name (IsGoodData (entries_of rows)) × AreOfTable (entries_of rows) × (after ≡ before)
 LoadsData files name before after (Err trouble.NoFile) = IsUnread files name before after
-LoadsData files name before after (Err (trouble.BadData line cause)) = HoldsIn files name (IsBadData line (cause_of cause))
+LoadsData files name before after (Err (trouble.BadData line cause)) = HoldsIn files name (IsBadData line (cause_of cause)) × (after ≡ before)
 LoadsData files name before after (Err (trouble.BadLine line)) = ⊥
-LoadsData files name before after (Err trouble.NoMemory) = Unit {0}
+LoadsData files name before after (Err trouble.NoMemory) = after ≡ before
 
 -- the data file was loaded, or is bad at this line
 unfoldable pub ReadsData : List ℕ → Result (List Numbered) Trouble → Type 0
@@ -37,11 +36,11 @@ ReadsData content (Err trouble.NoMemory) = Unit {0}
 
 -- the script of the name was read, or why not
 unfoldable pub Loads : Option Files → List ℕ → ℕ → ℕ → Result LinkState Trouble → Type 0
-Loads files name before after (Ok link) = HoldsIn files name (IsGoodScript link.plan.to_come) × (link ≡ fresh_link link.plan.to_come [] [] [])
+Loads files name before after (Ok link) = HoldsIn files name (IsGoodScript link.plan.to_come) × (link ≡ fresh_link link.plan.to_come [] [] []) × (after ≡ before)
 Loads files name before after (Err trouble.NoFile) = IsUnread files name before after
 Loads files name before after (Err (trouble.BadData line cause)) = ⊥
-Loads files name before after (Err (trouble.BadLine line)) = HoldsIn files name (IsBadScript line)
-Loads files name before after (Err trouble.NoMemory) = Unit {0}
+Loads files name before after (Err (trouble.BadLine line)) = HoldsIn files name (IsBadScript line) × (after ≡ before)
+Loads files name before after (Err trouble.NoMemory) = after ≡ before
 
 -- the script was read, or is bad at this line
 unfoldable pub ReadsScript : List ℕ → Result LinkState Trouble → Type 0
@@ -51,23 +50,26 @@ ReadsScript content (Err (trouble.BadData line cause)) = ⊥
 ReadsScript content (Err (trouble.BadLine line)) = IsBadScript line content
 ReadsScript content (Err trouble.NoMemory) = Unit {0}
 
--- why a file wasn't read, by the fault of reading it, or of reading its text
+-- why a data file wasn't read, by the fault of reading the file
 abbrev pub data_trouble_of_file : ReadFault → Trouble
 data_trouble_of_file read.Absent = trouble.NoFile
 data_trouble_of_file read.Failed = trouble.NoFile
 data_trouble_of_file (read.TooLong line) = trouble.BadData line (DataCause.Record Limit)
 data_trouble_of_file read.NoMemory = trouble.NoMemory
 
+-- why a data file isn't accepted, by the fault of loading its text
 abbrev pub trouble_of_data : DataFault → Trouble
 trouble_of_data (loading.Bad line cause) = trouble.BadData line cause
 trouble_of_data loading.NoMemory = trouble.NoMemory
 
+-- why a script file wasn't read, by the fault of reading the file
 abbrev pub trouble_of_file : ReadFault → Trouble
 trouble_of_file read.Absent = trouble.NoFile
 trouble_of_file read.Failed = trouble.NoFile
 trouble_of_file (read.TooLong line) = trouble.BadLine line
 trouble_of_file read.NoMemory = trouble.NoMemory
 
+-- why a script file isn't accepted, by the fault of reading its text
 abbrev pub trouble_of_script : ScriptFault → Trouble
 trouble_of_script (script.Bad line) = trouble.BadLine line
 trouble_of_script script.NoMemory = trouble.NoMemory

@@ -4,7 +4,7 @@ ghost use Rattle.std.specs.Prelude.{◌≡◌, map, string_bytes};
 ghost use Rattle.plain_values.specs.Counts.{Rose};
 ghost use Rattle.acl_program.specs.Causes.{IsNoCommand, IsDue};
 ghost use Rattle.acl_program.specs.Outcomes.{Outcome};
-ghost use Rattle.acl_program.specs.Running.{Prints, EndsAs, IsCause};
+ghost use Rattle.acl_program.specs.Running.{Prints, EndsAs, IsCause, EndsAtFaults};
 ghost use Rattle.acl_program.specs.Playing.{Runs, Performs};
 ghost use Rattle.command_words.specs.Command.{view};
 
@@ -18,7 +18,7 @@ use wire_io::{Link, Shelf, Sink};
 
 /// Does what the words after the program's name ask for, and says how it ended.
 ///
-/// `check DATA` loads the data file and puts `ok E S`, the numbers of its entries and of its access control subentries.
+/// `check DATA` loads the data file and puts `ok E S`: E counts its entries, and S its access control subentries.
 /// `dump DATA` puts the loaded tree as a data file. `replay DATA SCRIPT [--dump] [--turns N]` loads the data file, reads
 /// the script file, serves its events as those of a link's connections, at most N of them, and puts one line for each
 /// connection: its number, what was sent to it, and whether it was hung up; with `--dump` the tree follows as a data
@@ -43,18 +43,23 @@ pub fn run<H: Shelf, K: Sink, L: Link>(
     // each refusal
     ensures usage { result ≡ Status.Usage → IsNoCommand (map string_bytes words.now) }
     ensures refused { IsCause (map string_bytes words.now) (H.files shelf.old) (H.faults shelf.old) (H.faults shelf.new) result }
-    ensures sink_fault { result ≡ Status.SinkFault → Rose (K.faults out.old) (K.faults out.new) }
+    ensures faults { EndsAtFaults (H.faults shelf.old) (H.faults shelf.new) (K.faults out.old) (K.faults out.new) result }
     // what stays
     ensures link { (L.journal link.new ≡ L.journal link.old) × (L.plan link.new ≡ L.plan link.old)
         × (L.faults link.new ≡ L.faults link.old) × (L.lost link.new ≡ L.lost link.old) }
     ensures shelf { H.files shelf.new ≡ H.files shelf.old }
 {
     let _link = link;
-    obey(alloc, words, shelf, out)
+    run_words(alloc, words, shelf, out)
 }
 
 /// The same, with all that is known of its outcome.
-fn obey<H: Shelf, K: Sink>(alloc: Global, words: &[String], shelf: &mut H, out: &mut K) -> Status
+fn run_words<H: Shelf, K: Sink>(
+    alloc: Global,
+    words: &[String],
+    shelf: &mut H,
+    out: &mut K,
+) -> Status
     ensures runs { Runs (map string_bytes words.now) (H.files shelf.old) (H.faults shelf.old) (H.faults shelf.new)
         (K.put out.old) (K.faults out.old) result (K.put out.new) (K.faults out.new) }
     ensures kept { H.files shelf.new ≡ H.files shelf.old }

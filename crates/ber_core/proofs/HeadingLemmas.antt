@@ -1,6 +1,6 @@
 -- The computed heading is the one that the octets have.
-use Rattle.std.proofs.Common.{◌≡◌, ℕ, suc, ◌+◌, ◌-◌, ◌%◌, ◌<◌, ◌≤◌, false, eqb, List, [], ◌∷◌, ◌++◌, length, take, drop, replicate, refl, sym, ap, subst, ◌∙◌, inl, inr, arith}
-use Rattle.std.proofs.lemmas.Bool.{cases_lt, cases_eq, lt-ltb, le-ltb, eqb-false, eq-eqb, ne_eqb}
+use Rattle.std.proofs.Common.{◌≡◌, ℕ, suc, ◌+◌, ◌-◌, ◌%◌, ◌<◌, ◌≤◌, List, [], ◌∷◌, ◌++◌, length, take, drop, replicate, refl, sym, ap, subst, ◌∙◌, inl, inr, arith}
+use Rattle.std.proofs.lemmas.Bool.{cases_lt, cases_eq, lt-ltb, le-ltb, eq-eqb, ne_eqb}
 use Rattle.std.proofs.lemmas.List.{length-append, length-take, length-replicate, take_at, append-nil, take-append-drop, append_assoc, length-take-le}
 use Rattle.ber_core.specs.declared.kinds.Header.{Header}
 use Rattle.ber_core.specs.declared.kinds.Header.TheVariants.{Head, Short, Bad}
@@ -13,10 +13,6 @@ add-two n = omega arith
 -- 0 is a tag
 zero_tag : IsTag 0
 zero_tag h = absurd (omega arith)
-
--- a tag that passed the test is one
-tag_from : (tag : ℕ) → eqb (tag % 32) 31 ≡ false → IsTag tag
-tag_from tag e = eqb-false (tag % 32) 31 e
 
 -- a long form that is all there
 whole_length : (tag b : ℕ) (octets : List ℕ) → IsTag tag → 128 ≤ b → (b ≡ 128 → ⊥) → b ≤ 132 → b - 128 ≤ length octets

@@ -4,10 +4,10 @@ use Rattle.ber_core.specs.declared.kinds.Header.{Header}
 use Rattle.ber_core.specs.declared.kinds.Header.TheVariants.{Head, Short, Bad}
 use Rattle.ber_core.specs.Element.{number_after, IsHeader}
 
--- the octets begin with a header of n octets
-pub record Begins (bytes : List ℕ) (tag n len : ℕ) : Type 0 where
-  pub within : n ≤ length bytes
-  pub heads : IsHeader (take n bytes) tag len
+-- the octets begin with a header of so many octets
+pub record Begins (bytes : List ℕ) (tag count len : ℕ) : Type 0 where
+  pub within : count ≤ length bytes
+  pub heads : IsHeader (take count bytes) tag len
 
 -- the octets are less than a whole header, and go on to be one
 pub record IsFront (bytes : List ℕ) : Type 0 where
@@ -17,11 +17,11 @@ pub record IsFront (bytes : List ℕ) : Type 0 where
   pub more : 0 < length tail
   pub heads : IsHeader (bytes ++ tail) tag len
 
--- the tag's low five bits are all set, or the length begins with 128 or an octet above 132
+-- the tag is one of several octets, or the length is indefinite or of more than four octets behind its first
 abbrev pub IsUnreadable : List ℕ → Type 0
 IsUnreadable [] = ⊥
 IsUnreadable (tag ∷ []) = tag % 32 ≡ 31
-IsUnreadable (tag ∷ b ∷ octets) = (tag % 32 ≡ 31) ⊎ ((b ≡ 128) ⊎ (132 < b))
+IsUnreadable (tag ∷ octet ∷ octets) = (tag % 32 ≡ 31) ⊎ ((octet ≡ 128) ⊎ (132 < octet))
 
 -- the answer is the one that the octets have
 abbrev pub IsHeading : List ℕ → Header → Type 0
@@ -32,11 +32,11 @@ IsHeading bytes Bad = IsUnreadable bytes
 -- what the length octets say behind a tag
 unfoldable pub length_at : ℕ → List ℕ → Header
 length_at tag [] = Short
-length_at tag (b ∷ octets) =
-    if nat_lt b 128 then Head tag 2 b
-    else if b == 128 || nat_lt 132 b then Bad
-    else if nat_lt (length octets) (b - 128) then Short
-    else Head tag (b - 128 + 2) (number_after 0 (take (b - 128) octets))
+length_at tag (octet ∷ octets) =
+    if nat_lt octet 128 then Head tag 2 octet
+    else if octet == 128 || nat_lt 132 octet then Bad
+    else if nat_lt (length octets) (octet - 128) then Short
+    else Head tag (octet - 128 + 2) (number_after 0 (take (octet - 128) octets))
 
 -- the answer, computed
 unfoldable pub header_at : List ℕ → Header

@@ -18,7 +18,7 @@ pub record SameElement (tag tag' : ℕ) (content content' bytes bytes' rest rest
 
 -- each is a number below 256
 abbrev pub AreOctets : List ℕ → Type 0
-AreOctets octets = AllByRecursion (λ b. b < 256) octets
+AreOctets octets = AllByRecursion (λ octet. octet < 256) octets
 
 -- no element is the front of another
 abbrev pub NoElementIsAFront : Type 0
@@ -35,6 +35,7 @@ pub record HeaderReadsAgain (tag len : ℕ) (rest : List ℕ) : Type 0 where
   pub spells : IsHeader (header_octets tag len) tag len
   pub again : header_at (header_octets tag len ++ rest) ≡ Head tag (length (header_octets tag len)) len
 
+-- this holds of each tag, and of each length below 2^32
 abbrev pub HeadersReadAgain : Type 0
 HeadersReadAgain = (tag len : ℕ) (rest : List ℕ) → IsTag tag → len < 2 ^ 32 → HeaderReadsAgain tag len rest
 
@@ -43,6 +44,7 @@ pub record IntegerReadsAgain (value : ℤ) : Type 0 where
   pub stands : IsInteger (int_octets value) value
   pub again : int_at (int_octets value) ≡ Some value
 
+-- this holds of each integer of 64 bits
 abbrev pub IntegersReadAgain : Type 0
 IntegersReadAgain = (value : ℤ) → FitsSigned w64 value → IntegerReadsAgain value
 

@@ -2,9 +2,9 @@
 use Rattle.std.specs.Prelude.{ℕ, ◌+◌, List, [], ◌∷◌, nat_lt, if◌then◌else◌}
 use Rattle.std.specs.Int.{bytes_high_first}
 
--- the long form with k octets of the number
+-- the long form with so many octets of the number
 abbrev pub long_form : ℕ → ℕ → List ℕ
-long_form k len = (128 + k) ∷ bytes_high_first k len
+long_form count len = (128 + count) ∷ bytes_high_first count len
 
 -- the shortest spelling of a length
 unfoldable pub length_octets : ℕ → List ℕ

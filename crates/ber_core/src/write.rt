@@ -27,8 +27,8 @@ fn put_octets(out: &mut Vec<u8>, tag: u8, len: u32) -> Result<(), NoMemory>
     out.extend_from_slice(&[tag, 132, a, b, c, d])
 }
 
-/// Appends a header: the tag octet and the length in its shortest form (X.690 8.1.3). After the
-/// error, want of memory, `out` is as before.
+/// Appends a header: the tag, which is one of a single octet, and the length, below 2^32, in its
+/// shortest form (X.690 8.1.2, 8.1.3). After the error, want of memory, `out` is as before.
 pub fn put_header(out: &mut Vec<u8>, tag: u8, len: usize) -> Result<(), NoMemory>
     requires tag { IsTag tag }
     requires len { len < 2 ^ 32 }

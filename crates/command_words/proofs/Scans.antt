@@ -20,10 +20,6 @@ same : (texts : Option (List (List ℕ))) → texts ≡ option_map (λ (later : 
 same None = refl
 same (Some texts) = refl
 
--- before the first word
-pub Scanned-start : (row : Row) (sought : Sought) (index : ℕ) (words : List (List ℕ)) → Scanned row sought index words words 0 BeforeDelimiter (record { count = 0; text = None })
-Scanned-start row sought index words = record { seen = []; picked_is = refl; few = omega arith; later = same (texts_from row sought BeforeDelimiter words) }
-
 twice : (seen texts : List (List ℕ)) (later : Option (List (List ℕ))) → option_map (λ (more : List (List ℕ)). seen ++ more) (option_map (λ (more : List (List ℕ)). texts ++ more) later) ≡ option_map (λ (more : List (List ℕ)). (seen ++ texts) ++ more) later
 twice seen texts None = refl
 twice seen texts (Some more) = ap Some (sym (append_assoc seen texts more))

@@ -4,5 +4,5 @@ pub mod Line
 pub mod Number
 pub mod Command
 pub mod Reading
--- what the crate's inside promises itself
+-- for the inside of the crate alone
 pub mod Scan

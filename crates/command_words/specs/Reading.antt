@@ -51,7 +51,7 @@ after_dashes [] = None
 after_dashes (first ∷ []) = None
 after_dashes (first ∷ second ∷ body) = if first == 45 && second == 45 then Some body else None
 
--- a word that begins with `-` and isn't `-` alone, by what follows two dashes
+-- a word that has a dash at its front and more behind it, by what follows two dashes
 unfoldable pub dashed_role : Row → Option (List ℕ) → Option Role
 dashed_role row None = None
 dashed_role row (Some []) = Some Delimiter
@@ -98,8 +98,8 @@ is_line row line = (length (texts_of Operands line) == row.operands)
 unfoldable pub line_of : Row → List (List ℕ) → Option Line
 line_of row words = option_and_then (λ line. if is_line row line then Some line else None) (line_from row BeforeDelimiter words)
 
--- the next step, where there is something
 infixl 10 ◌>>=◌
+-- the next step, where there is something
 abbrev pub ◌>>=◌ : {A B : Type 0} → Option A → (A → Option B) → Option B
 found >>= next = option_and_then next found
 

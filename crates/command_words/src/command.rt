@@ -1,4 +1,4 @@
-// The commands, and the words that ask for them.
+//! The commands, and the words that ask for them.
 
 ghost use Rattle.std.specs.Prelude.{◌≡◌, ◌∷◌, map, option_map, string_bytes, Some, IfSome};
 ghost use Rattle.command_words.specs.Command.{CommandView, IsCommand, view};
@@ -38,7 +38,7 @@ pub enum Command<'a> {
 /// The first word is the command's name. After it operands and options stand in any order, each option
 /// at most once, as `--name text`, `--name=text` or, for one without an argument, `--name`; words after
 /// `--` are operands, and so is `-` alone (POSIX.1, Utility Syntax Guidelines; GNU's long options).
-/// A number is one to twenty decimal digits with a value below 2^64. Reading takes no memory.
+/// A number stands in one to twenty decimal digits, and is below 2^64. Reading takes no memory.
 pub fn read_words(words: &[String]) -> Option<Command<'_>>
     ensures exact { option_map view result ≡ command_of (map string_bytes words.now) }
     ensures found { IfSome result (λ command. IsCommand (map string_bytes words.now) (view command)) }

@@ -1,4 +1,4 @@
-// What holds of the reading as defined, for every list of words.
+//! What holds of the reading as defined, for every list of words.
 
 ghost use Rattle.std.specs.Prelude.{◌≡◌, ℕ, List, Some};
 ghost use Rattle.command_words.specs.Command.{CommandView, IsCommand};
@@ -14,7 +14,7 @@ pub fn reading_is_complete()
     ensures { (words : List (List ℕ)) (asked : CommandView) → IsCommand words asked → command_of words ≡ Some asked }
 {}
 
-/// Operands are one command at most.
+/// Words are one command at most.
 pub fn words_have_one_command()
     ensures { (words : List (List ℕ)) (one other : CommandView) → IsCommand words one → IsCommand words other → one ≡ other }
 {}

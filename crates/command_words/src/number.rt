@@ -1,4 +1,4 @@
-// Numbers among the words.
+//! Numbers among the words.
 
 ghost use Rattle.std.specs.Prelude.{◌≡◌, option_copied};
 ghost use Rattle.std.specs.Char.{is_ascii_digit};

@@ -1,4 +1,4 @@
-// What one word of a line is.
+//! What one word of a line is.
 
 ghost use Rattle.std.specs.Prelude.{◌≡◌, option_map, option_to_list, option_copied};
 ghost use Rattle.command_words.specs.Table.{row_of};
@@ -105,7 +105,7 @@ fn option_role(command: CommandName, body: &str) -> Option<WordRole<'_>>
     }
 }
 
-/// The role of a word that begins with `-` and isn't `-` alone.
+/// The role of a word that has a dash at its front and more behind it.
 #[tactic(auto, unfolding(crate::specs::Reading::dashed_role))]
 fn dashed_role(command: CommandName, word: &str) -> Option<WordRole<'_>>
     ensures { option_map role_view result ≡ dashed_role (row_of command) (after_dashes word.now) }

@@ -1,4 +1,4 @@
-// A line read for one thing: its operands, or the arguments of an option.
+//! A line read for one thing: its operands, or the arguments of an option.
 
 ghost use Rattle.std.specs.Prelude.{◌≡◌, ◌+◌, ◌<◌, ◌^◌, ◌++◌, ℕ, List, map, length, option_map, option_to_list, option_copied, is_some, string_bytes};
 ghost use Rattle.command_words.specs.Table.{row_of};

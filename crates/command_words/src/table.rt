@@ -1,4 +1,4 @@
-// The table of commands and options, and what the reading of a line keeps.
+//! The table of commands and options, and what the reading of a line keeps.
 
 ghost use Rattle.std.specs.Prelude.{◌≡◌};
 ghost use Rattle.command_words.specs.Table.{row_of, all_commands, command_named, option_named, option_word, takes_argument, is_same_option};

@@ -91,11 +91,6 @@ MeetsRules-loaded old new given stays was is loaded meets =
     subst (λ rows. MeetsRules (entries_of rows)) (sym loaded.added)
     (stays old loaded.id loaded.entry was meets named joined.0 joined.1 joined.2)
 
--- without entries there is none to break a rule
-pub MeetsRules-none : MeetsRules []
-MeetsRules-none [] back entry is = absurd (cc)
-MeetsRules-none (first ∷ front) back entry is = absurd (cc)
-
 -- some entries, each of which meets the rules, are a good tree
 pub IsGoodTree-some : (entries : List EntryInformation) → length entries ≢ 0 → MeetsRules entries → IsGoodTree entries
 IsGoodTree-some [] some meets = absurd (some refl)

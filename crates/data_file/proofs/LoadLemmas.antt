@@ -9,14 +9,13 @@ use Rattle.ldif_core.specs.declared.types.BadLine.{BadLine}
 use Rattle.ldif_core.specs.declared.types.BadLine.TheVariants as reading
 use Rattle.ldif_core.specs.Places.{records_from, IsNext, IsBadAt}
 use Rattle.schema_rules.specs.Checking.{entries_of}
-use Rattle.op_write.specs.declared.fault.LoadFault.{LoadFault}
 use Rattle.op_write.specs.declared.fault.LoadFault.TheVariants as loading
-use Rattle.op_write.specs.Loading.{◌>>=◌, loaded_entry, IsLoaded, IsLoadFault}
+use Rattle.op_write.specs.Loading.{◌>>=◌, loaded_entry, IsLoaded}
 use Rattle.op_write.specs.DataFile.{FileFault, put_entry_in, in_file, record_entry, loads_after, loads_records, loads, file_start}
 use Rattle.data_file.specs.declared.fault.DataFault.{DataFault}
 use Rattle.data_file.specs.declared.fault.DataFault.TheVariants.{Bad, NoMemory}
 use Rattle.data_file.specs.Files.{IsDataFault, cause_of}
-use Rattle.data_file.specs.Steps.{of_line, of_record, IsRefused, IsStep}
+use Rattle.data_file.specs.Steps.{of_line, IsRefused, IsStep}
 
 -- a row that is put among rows puts its entry among their entries
 put_before : (row first : Numbered) (rows : List Numbered) (before : Bool) → entries_of (put_row row rows) ≡ put_entry_in row.entry (entries_of rows)
@@ -55,11 +54,6 @@ unfolding loads_after
 IsDataFault-line text from entries (reading.Bad line cause) is = ap (λ records. loads_after entries records) is.1
 IsDataFault-line text from entries reading.NoMemory is = tt
 
--- a record that isn't loaded is so too
-pub IsRefused-record : (fault : LoadFault) (loading : Result EntryInformation LoadFault) → IsLoadFault fault loading → IsRefused (of_record fault) (in_file loading)
-IsRefused-record (loading.Bad line cause) loading is = ap in_file is
-IsRefused-record loading.NoMemory loading is = tt
-
 pub IsDataFault-record : (fault : DataFault) (text : List ℕ) (from to : Position) (entries : List EntryInformation) (given : Record) → IsNext text from given to
     → IsRefused fault (in_file (loaded_entry entries given)) → IsDataFault fault (loads_after entries (records_from text from))
 unfolding loads_after
@@ -67,11 +61,6 @@ IsDataFault-record (Bad line cause) text from to entries given next is =
     ap (λ records. loads_after entries records) next.record_read
     ∙ ap (λ found. found >>= λ entry. loads_after (put_entry_in entry entries) (records_from text to)) is
 IsDataFault-record NoMemory text from to entries given next is = tt
-
--- the fault of the rest is that of all
-pub IsDataFault-along : (fault : DataFault) (whole rest : Result (List EntryInformation) FileFault) → whole ≡ rest → IsDataFault fault rest → IsDataFault fault whole
-IsDataFault-along (Bad line cause) whole rest same is = same ∙ is
-IsDataFault-along NoMemory whole rest same is = tt
 
 -- the fault that goes out is the one that came
 pub fault-same : {T : Type 0} (out : Result T DataFault) (fault came : DataFault) (whole : Result (List EntryInformation) FileFault) → out ≡ Err fault → fault ≡ came

@@ -1,4 +1,4 @@
 -- what public clauses cite
 pub mod Files
--- what only this crate's inside promises itself
+-- for the inside of the crate alone
 pub mod Steps

@@ -20,11 +20,12 @@ use Rattle.data_file.specs.declared.fault.DataFault.{DataFault}
 use Rattle.data_file.specs.declared.fault.DataFault.TheVariants.{Bad, NoMemory}
 use Rattle.data_file.specs.Files.{cause_of}
 
--- the fault of the file, by that of a line, and by that of a record
+-- the fault of the file, by that of a line
 abbrev pub of_line : BadLine → DataFault
 of_line (reading.Bad line cause) = Bad line (Line cause)
 of_line reading.NoMemory = NoMemory
 
+-- the fault of the file, by that of loading a record
 abbrev pub of_record : LoadFault → DataFault
 of_record (loading.Bad line cause) = Bad line (OfRecord cause)
 of_record loading.NoMemory = NoMemory
@@ -40,13 +41,14 @@ pub record IsStep (text : List ℕ) (from : Position) (old : List Numbered) (to 
   pub next : IsNext text from given to
   pub loaded : IsLoaded old given new
 
--- an empty line and the record of an entry, and those of entries
+-- an empty line and the record of an entry
 abbrev pub record_text : EntryInformation → List ℕ
 record_text entry = 10 ∷ written_entry entry
 
+-- the records of entries one after another, an empty line before each
 abbrev pub records_text : List EntryInformation → List ℕ
 records_text entries = flat_map record_text entries
 
--- those of the entry of a number: nothing where the number is not in use
+-- an empty line and the record of the entry of a number: nothing where the number is not in use
 abbrev pub text_at : List Numbered → ℕ → List ℕ
 text_at rows id = option_map_or record_text (entry_of id rows) []

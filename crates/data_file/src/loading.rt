@@ -5,23 +5,27 @@ ghost use Rattle.schema_rules.specs.Checking.{entries_of};
 ghost use Rattle.schema_rules.specs.Rules.{IsGoodTree, MeetsRules};
 ghost use Rattle.ldif_core.specs.Places.{IsPlace, records_from};
 ghost use Rattle.op_write.specs.Loading.{IsLoaded, loaded_entry};
-ghost use Rattle.op_write.specs.DataFile.{loads, loads_after, file_start, in_file};
+ghost use Rattle.op_write.specs.DataFile.{loads, loads_after, ldif_text, file_start, in_file};
 ghost use Rattle.data_file.specs.Files.{IsDataFault, AreOfTable};
 ghost use Rattle.data_file.specs.Steps.{IsStep, IsRefused, of_line, of_record};
 
 use crate::fault::{DataCause, DataFault};
 use dir_tree::Tree;
 use ldif_core::{BadLine, LineCause, Position, Record, next_record};
+use load_laws::{what_is_loaded_is_loadable, what_is_written_loads_again};
 use op_write::{LoadFault, load_record};
 use schema_rules::a_tree_stays_good;
 use std::alloc::Global;
 
 /// The tree of a data file: the entries of its records, each of which joins those before it. `Bad` comes exactly where
-/// the file isn't accepted, with its first bad line and the cause; a file without a record is bad at line 1.
+/// the file isn't accepted, with its first bad line and the cause; a file without a record is bad at line 1. `NoMemory`
+/// may come in place of any answer. The file that is written of the tree gives the same entries when it is loaded.
 pub fn load(alloc: Global, text: &[u8]) -> Result<Tree, DataFault>
     ensures ok { IfOk result (λ tree. loads text.now ≡ Ok (entries_of tree)) }
     ensures good { IfOk result (λ tree. IsGoodTree (entries_of tree)) }
     ensures table { IfOk result (λ tree. AreOfTable (entries_of tree)) }
+    ensures again { IfOk result (λ tree.
+        loads (ldif_text (entries_of tree)) ≡ Ok (entries_of tree)) }
     ensures bad { IfErr result (λ fault. IsDataFault fault (loads text.now)) }
 {
     let mut tree = Tree::new(alloc);
@@ -32,6 +36,9 @@ pub fn load(alloc: Global, text: &[u8]) -> Result<Tree, DataFault>
             cause: DataCause::Line(LineCause::Syntax),
         });
     }
+    tree.entries_form_a_tree();
+    what_is_loaded_is_loadable();
+    what_is_written_loads_again();
     Ok(tree)
 }
 
@@ -41,7 +48,6 @@ fn load_all(alloc: Global, text: &[u8], tree: &mut Tree) -> Result<(), DataFault
     ensures ok { OnOk result (
         loads_after [] (records_from text.now file_start) ≡ Ok (entries_of tree.new)) }
     ensures good { OnOk result (MeetsRules (entries_of tree.new)) }
-    ensures table { OnOk result (AreOfTable (entries_of tree.new)) }
     ensures bad { IfErr result (λ fault.
         IsDataFault fault (loads_after [] (records_from text.now file_start))) }
 {

@@ -17,7 +17,8 @@ use std::alloc::Global;
 use wire_io::{PutFault, Sink, write_all};
 
 /// Puts the data file of the tree: its version, and the record of each entry in the order of names, with an empty line
-/// before each. After a refusal a front of it was put.
+/// before each. The tree's types are all in the table. After a refusal a front of it was put; `Failed` comes where the
+/// sink's count of faults rose.
 pub fn put_tree<K: Sink>(alloc: Global, tree: &Tree, out: &mut K) -> Result<(), PutFault>
     requires table { AreOfTable (entries_of tree.now) }
     ensures tells { PutsAll (K.put out.old) (ldif_text (entries_of tree.now))

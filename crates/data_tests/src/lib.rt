@@ -7,6 +7,8 @@ mod files;
 #[cfg(test)]
 mod loads;
 #[cfg(test)]
+mod reading;
+#[cfg(test)]
 mod records;
 #[cfg(test)]
 mod rules;

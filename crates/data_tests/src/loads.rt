@@ -1,12 +1,9 @@
 //! Records of a data file, loaded: the entries that they leave, and each fault with its line and cause.
+use crate::reading::read_all;
 use dir_tree::{Entry, Scope, Tree};
 use dn_names::print;
-use ldif_core::{BadLine, Position, Record, RecordLine, RecordLines, next_record};
-use load_laws::what_is_written_loads_again;
-use op_write::{
-    LoadFault, a_file_begins_with_a_record, load_record, loading_puts_an_entry_in,
-    records_are_loaded_one_by_one,
-};
+use ldif_core::{BadLine, Record, RecordLine, RecordLines};
+use op_write::{LoadFault, load_record};
 use plain_values::Octets;
 use schema_core::row;
 use std::alloc::Global;
@@ -15,22 +12,26 @@ use std::test::Fail;
 
 // Loads the records of a file in order, up to the first fault.
 fn load_all(alloc: Global, tree: &mut Tree, text: &[u8]) -> Result<Result<(), LoadFault>, BadLine> {
-    let mut at = Position { offset: 0, line: 1 };
-    'places: while let Some((record, after)) = next_record(alloc, text, at)? {
-        if let Err(fault) = load_record(alloc, tree, &record) {
+    for record in &read_all(alloc, text)? {
+        if let Err(fault) = load_record(alloc, tree, record) {
             return Ok(Err(fault));
         }
-        at = after;
     }
     Ok(Ok(()))
 }
 
-// What loading the records answers, as text.
-fn answer(alloc: Global, tree: &mut Tree, text: &str) -> Result<String, Fail> {
-    match load_all(alloc, tree, text.as_bytes())? {
+// What was answered, as text.
+fn told(alloc: Global, answer: Result<(), LoadFault>) -> Result<String, Fail> {
+    match answer {
         Ok(()) => Ok(format!(in alloc; "loaded")?),
         Err(fault) => Ok(format!(in alloc; "{fault}")?),
     }
+}
+
+// What loading the records answers.
+fn answer(alloc: Global, tree: &mut Tree, text: &str) -> Result<String, Fail> {
+    let answer = load_all(alloc, tree, text.as_bytes())?;
+    told(alloc, answer)
 }
 
 // Appends a line of an entry: its name, and each type with the octets of its values.
@@ -163,24 +164,34 @@ fn the_first_fault_is_told_with_its_line(rt: HostRuntime) -> Result<(), Fail> {
     Ok(())
 }
 
-const DOMAIN: &str = "dc=a objectClass=domain; dc=a;\n";
+// A domain, and its entry.
+const DOMAIN: &str = "dn: dc=a\nobjectClass: domain\n";
 
-// Records with a fault.
-static LEFT: [&str; 4] = [
-    "dn: dc=a\nobjectClass: domain\n",
-    "dn: ou=c,ou=b,dc=a\nobjectClass: organizationalUnit\n",
-    "dn: ou=b,dc=a\nobjectClass: organizationalUnit\nou: b\nou: B\n",
-    "dn: ou=b,dc=a\nobjectClass: domain\n",
+const ENTRY: &str = "dc=a objectClass=domain; dc=a;\n";
+
+// A record with a fault, where the domain is loaded, and the fault.
+static LEFT: [(&str, &str); 4] = [
+    (DOMAIN, "line 1: twice"),
+    (
+        "dn: ou=c,ou=b,dc=a\nobjectClass: organizationalUnit\n",
+        "line 1: order",
+    ),
+    (
+        "dn: ou=b,dc=a\nobjectClass: organizationalUnit\nou: b\nou: B\n",
+        "line 4: twice",
+    ),
+    ("dn: ou=b,dc=a\nobjectClass: domain\n", "line 1: rule 65"),
 ];
 
 #[test]
 fn a_record_with_a_fault_leaves_the_tree(rt: HostRuntime) -> Result<(), Fail> {
     let mut tree = Tree::new(rt.alloc());
-    let _loaded = answer(rt.alloc(), &mut tree, "dn: dc=a\nobjectClass: domain\n")?;
-    for text in &LEFT {
+    let loaded = answer(rt.alloc(), &mut tree, DOMAIN)?;
+    assert_eq!(rt; loaded.as_str(), "loaded");
+    for (text, want) in &LEFT {
         let (found, entries) = left(rt.alloc(), &mut tree, text)?;
-        assert_ne!(rt; found.as_str(), "loaded", "{text:?}");
-        assert_eq!(rt; entries.as_str(), DOMAIN, "{text:?}");
+        let (found, entries) = (found.as_str(), entries.as_str());
+        assert_eq!(rt; (found, entries), (*want, ENTRY), "{text:?}");
     }
     Ok(())
 }
@@ -221,10 +232,7 @@ static OCTETS: [(usize, &str); 3] = [(0, "loaded"), (65_536, "loaded"), (65_537,
 fn answer_of(alloc: Global, count: usize) -> Result<String, Fail> {
     let mut tree = Tree::new(alloc);
     let record = with_password(alloc, count)?;
-    match load_record(alloc, &mut tree, &record) {
-        Ok(()) => Ok(format!(in alloc; "loaded")?),
-        Err(fault) => Ok(format!(in alloc; "{fault}")?),
-    }
+    told(alloc, load_record(alloc, &mut tree, &record))
 }
 
 #[test]
@@ -234,12 +242,4 @@ fn a_value_has_at_most_65536_octets(rt: HostRuntime) -> Result<(), Fail> {
         assert_eq!(rt; found.as_str(), *want, "{count} octets");
     }
     Ok(())
-}
-
-#[test]
-fn laws_compute_nothing() {
-    loading_puts_an_entry_in();
-    records_are_loaded_one_by_one();
-    a_file_begins_with_a_record();
-    what_is_written_loads_again();
 }

@@ -3,28 +3,14 @@
 ghost use Rattle.std.specs.Prelude.{IfOk};
 ghost use Rattle.ldif_core.specs.Written.{AreInTable};
 
+use crate::reading::read_all;
 use dir_tree::Entry;
 use dn_names::{make_value, parse};
-use ldif_core::{
-    BadLine, LineCause, Position, Record, RecordLines, a_written_file_is_read_again,
-    a_written_line_is_of_one_value, base64_is_padded_and_leaves_no_bits as base64_is_strict,
-    next_record, put_entry, the_types_of_a_record_have_their_form, types_stay_in_the_table,
-};
+use ldif_core::{BadLine, LineCause, Position, Record, RecordLines, next_record, put_entry};
 use schema_core::attr;
 use std::alloc::Global;
 use std::process::Abort;
 use std::test::Fail;
-
-// The records of a file.
-fn read_all(alloc: Global, text: &[u8]) -> Result<Vec<Record>, BadLine> {
-    let mut records = Vec::new(alloc);
-    let mut at = Position { offset: 0, line: 1 };
-    'places: while let Some((record, after)) = next_record(alloc, text, at)? {
-        records.push(record)?;
-        at = after;
-    }
-    Ok(records)
-}
 
 // A record as text: each line by its number, its type and its value.
 fn shown(alloc: Global, records: &[Record]) -> Result<Vec<u8>, Fail> {
@@ -308,19 +294,10 @@ fn an_entry_is_written_value_by_value(rt: HostRuntime) -> Result<(), Fail> {
 
 #[test]
 fn the_lines_of_a_record_are_taken_and_given_back(rt: HostRuntime) -> Result<(), Fail> {
-    let records = read_all(rt.alloc(), b"dn: dc=t\na: x\nb: y\n")?;
-    for record in records {
-        let lines = RecordLines::from_vec(record.lines.into_vec());
-        assert_eq!(rt; lines.as_slice().len(), 2);
-    }
+    let mut records = read_all(rt.alloc(), b"dn: dc=t\na: x\nb: y\n")?;
+    let Record { line, name, lines } = records.pop().ok_or("no record")?;
+    let lines = RecordLines::from_vec(lines.into_vec());
+    let found = shown(rt.alloc(), &[Record { line, name, lines }])?;
+    assert_eq!(rt; found.as_slice(), b"1 dn dc=t\n2 a x\n3 b y\n".as_slice());
     Ok(())
-}
-
-#[test]
-fn laws_do_nothing_when_they_are_called() {
-    a_written_file_is_read_again();
-    a_written_line_is_of_one_value();
-    base64_is_strict();
-    the_types_of_a_record_have_their_form();
-    types_stay_in_the_table();
 }

@@ -2,15 +2,15 @@
 use dir_tree::{Entry, Tree};
 use dn_names::{make_value, parse};
 use schema_core::attr;
-use schema_rules::{Broken, a_tree_stays_good, check_entry};
+use schema_rules::{Broken, check_entry};
 use std::alloc::Global;
 use std::process::Abort;
 use std::test::Fail;
 
 type Attributes = &'static [(&'static str, &'static str)];
 
-// A name, attributes, and the code of the rule that such an entry breaks, or 0.
-type Row = (&'static str, Attributes, u8);
+// A name, attributes, and the code of the rule that such an entry breaks, if it breaks one.
+type Row = (&'static str, Attributes, Option<u8>);
 
 fn put(alloc: Global, entry: &mut Entry, kind: &str, octets: Vec<u8>) -> Result<(), Fail> {
     let kind = attr(kind).ok_or("no such type")?;
@@ -32,9 +32,10 @@ fn entry(
 }
 
 fn insert(tree: &mut Tree, entry: Entry) -> Result<(), Fail> {
-    if entry.name().len() > 0 {
-        let _no = tree.insert(entry)?;
+    if entry.name().len() == 0 {
+        return Err(Fail::from("no name"));
     }
+    let _no = tree.insert(entry)?;
     Ok(())
 }
 
@@ -64,12 +65,11 @@ fn tree(alloc: Global) -> Result<Tree, Fail> {
     Ok(tree)
 }
 
-// The code of the rule that the entry breaks in the tree, or 0.
-fn code(tree: &Tree, entry: &Entry) -> u8 {
-    match check_entry(tree, None, entry) {
-        Ok(()) => 0,
-        Err(Broken::Rule(code)) => code,
-        Err(Broken::NoMemory) => 255,
+// What is answered of an entry that breaks the rule of the code, or none.
+fn answer(code: Option<u8>) -> Result<(), Broken> {
+    match code {
+        Some(code) => Err(Broken::Rule(code)),
+        None => Ok(()),
     }
 }
 
@@ -78,7 +78,8 @@ fn check_rows(rt: &impl Abort, alloc: Global, rows: &'static [Row]) -> Result<()
     let tree = tree(alloc)?;
     for (name, attributes, want) in rows {
         let entry = entry(alloc, name, attributes)?;
-        assert_eq!(rt; code(&tree, &entry), *want, "{name} {attributes:?}");
+        let found = check_entry(&tree, None, &entry);
+        assert_eq!(rt; found, answer(*want), "{name} {attributes:?}");
     }
     Ok(())
 }
@@ -87,7 +88,7 @@ static OWN_VALUES: [Row; 6] = [
     (
         "cn=ann,dc=example",
         &[("objectClass", "person"), ("cn", "Ann"), ("sn", "Lee")],
-        0,
+        None,
     ),
     // compared by keys, in any place of its type
     (
@@ -98,27 +99,27 @@ static OWN_VALUES: [Row; 6] = [
             ("cn", " ANN "),
             ("sn", "Lee"),
         ],
-        0,
+        None,
     ),
     // another type has it, or it is absent
     (
         "cn=ann,dc=example",
         &[("objectClass", "person"), ("cn", "Annie"), ("sn", "Ann")],
-        67,
+        Some(67),
     ),
     // each value of an RDN of two, and no other RDN
     (
         "cn=ann+sn=lee,dc=example",
         &[("objectClass", "person"), ("cn", "Ann"), ("sn", "Lee")],
-        0,
+        None,
     ),
     (
         "cn=ann+sn=king,dc=example",
         &[("objectClass", "person"), ("cn", "Ann"), ("sn", "Lee")],
-        67,
+        Some(67),
     ),
     // this rule comes before that of classes
-    ("cn=ann,dc=example", &[("cn", "Annie")], 67),
+    ("cn=ann,dc=example", &[("cn", "Annie")], Some(67)),
 ];
 
 #[test]
@@ -128,7 +129,7 @@ fn a_value_of_the_own_rdn_is_among_the_attributes(rt: HostRuntime) -> Result<(),
 
 static CLASSES: [Row; 8] = [
     // no class, and one outside the table
-    ("cn=ann,dc=example", &[("cn", "Ann")], 65),
+    ("cn=ann,dc=example", &[("cn", "Ann")], Some(65)),
     (
         "cn=ann,dc=example",
         &[
@@ -137,18 +138,18 @@ static CLASSES: [Row; 8] = [
             ("sn", "Lee"),
             ("objectClass", "1.3.6.1.4.1.32473.1"),
         ],
-        65,
+        Some(65),
     ),
     // abstract and auxiliary classes alone (X.501 8.3.2)
     (
         "cn=ann,dc=example",
         &[("objectClass", "top"), ("cn", "Ann")],
-        65,
+        Some(65),
     ),
     (
         "cn=ann,dc=example",
         &[("objectClass", "uidObject"), ("uid", "ann"), ("cn", "Ann")],
-        65,
+        Some(65),
     ),
     // classes in one line, and in two
     (
@@ -160,7 +161,7 @@ static CLASSES: [Row; 8] = [
             ("objectClass", "top"),
             ("objectClass", "inetOrgPerson"),
         ],
-        0,
+        None,
     ),
     (
         "cn=ann,dc=example",
@@ -170,7 +171,7 @@ static CLASSES: [Row; 8] = [
             ("sn", "Lee"),
             ("objectClass", "organizationalRole"),
         ],
-        65,
+        Some(65),
     ),
     (
         "cn=ann,dc=example",
@@ -181,7 +182,7 @@ static CLASSES: [Row; 8] = [
             ("objectClass", "uidObject"),
             ("uid", "ann"),
         ],
-        0,
+        None,
     ),
     // the class of access control subentries without that of subentries
     (
@@ -192,12 +193,12 @@ static CLASSES: [Row; 8] = [
             ("sn", "Lee"),
             ("objectClass", "accessControlSubentry"),
         ],
-        65,
+        Some(65),
     ),
 ];
 
 #[test]
-fn classes_go_together(rt: HostRuntime) -> Result<(), Fail> {
+fn the_structural_classes_of_an_entry_stand_in_one_line(rt: HostRuntime) -> Result<(), Fail> {
     check_rows(&rt, rt.alloc(), &CLASSES)
 }
 
@@ -206,12 +207,12 @@ static CONTENTS: [Row; 10] = [
     (
         "cn=ann,dc=example",
         &[("objectClass", "person"), ("cn", "Ann")],
-        65,
+        Some(65),
     ),
     (
         "cn=ann,dc=example",
         &[("objectClass", "inetOrgPerson"), ("cn", "Ann")],
-        65,
+        Some(65),
     ),
     (
         "cn=ann,dc=example",
@@ -220,7 +221,7 @@ static CONTENTS: [Row; 10] = [
             ("cn", "Ann"),
             ("sn", "Lee"),
         ],
-        0,
+        None,
     ),
     // what only inetOrgPerson allows, and what person allows
     (
@@ -231,7 +232,7 @@ static CONTENTS: [Row; 10] = [
             ("sn", "Lee"),
             ("mail", "ann@example.org"),
         ],
-        65,
+        Some(65),
     ),
     (
         "cn=ann,dc=example",
@@ -242,7 +243,7 @@ static CONTENTS: [Row; 10] = [
             ("mail", "ann@example.org"),
             ("description", "x"),
         ],
-        0,
+        None,
     ),
     // an auxiliary class requires its attribute
     (
@@ -253,7 +254,7 @@ static CONTENTS: [Row; 10] = [
             ("sn", "Lee"),
             ("objectClass", "simpleSecurityObject"),
         ],
-        65,
+        Some(65),
     ),
     // operational attributes (X.501 14.3)
     (
@@ -265,7 +266,7 @@ static CONTENTS: [Row; 10] = [
             ("administrativeRole", "autonomousArea"),
             ("accessControlScheme", "2.5.28.1"),
         ],
-        0,
+        None,
     ),
     (
         "cn=ann,dc=example",
@@ -275,7 +276,7 @@ static CONTENTS: [Row; 10] = [
             ("sn", "Lee"),
             ("subtreeSpecification", "{ }"),
         ],
-        65,
+        Some(65),
     ),
     (
         "cn=ann,dc=example",
@@ -285,7 +286,7 @@ static CONTENTS: [Row; 10] = [
             ("sn", "Lee"),
             ("prescriptiveACI", "{ }"),
         ],
-        65,
+        Some(65),
     ),
     (
         "cn=policy,dc=example",
@@ -295,12 +296,12 @@ static CONTENTS: [Row; 10] = [
             ("subtreeSpecification", "{ }"),
             ("administrativeRole", "autonomousArea"),
         ],
-        65,
+        Some(65),
     ),
 ];
 
 #[test]
-fn attributes_go_with_the_classes(rt: HostRuntime) -> Result<(), Fail> {
+fn the_classes_of_an_entry_require_and_allow_its_attributes(rt: HostRuntime) -> Result<(), Fail> {
     check_rows(&rt, rt.alloc(), &CONTENTS)
 }
 
@@ -313,7 +314,7 @@ static UNREAD: [Row; 4] = [
             ("sn", "Lee"),
             ("entryACI", "{ }"),
         ],
-        21,
+        Some(21),
     ),
     (
         "cn=ann,dc=example",
@@ -323,7 +324,7 @@ static UNREAD: [Row; 4] = [
             ("sn", "Lee"),
             ("subentryACI", "{ }"),
         ],
-        21,
+        Some(21),
     ),
     (
         "cn=local,ou=area,dc=example",
@@ -332,7 +333,7 @@ static UNREAD: [Row; 4] = [
             ("cn", "local"),
             ("subtreeSpecification", "{ }"),
         ],
-        21,
+        Some(21),
     ),
     // before the rule of single values
     (
@@ -345,7 +346,7 @@ static UNREAD: [Row; 4] = [
             ("accessControlScheme", "2.5.28.1"),
             ("accessControlScheme", "2.5.28.2"),
         ],
-        21,
+        Some(21),
     ),
 ];
 
@@ -363,7 +364,7 @@ static SINGLE: [Row; 4] = [
             ("dc", "example"),
             ("dc", "other"),
         ],
-        19,
+        Some(19),
     ),
     (
         "cn=ann,dc=example",
@@ -374,7 +375,7 @@ static SINGLE: [Row; 4] = [
             ("sn", "Lee"),
             ("employeeNumber", "1"),
         ],
-        0,
+        None,
     ),
     (
         "cn=ann,dc=example",
@@ -385,7 +386,7 @@ static SINGLE: [Row; 4] = [
             ("employeeNumber", "1"),
             ("employeeNumber", "2"),
         ],
-        19,
+        Some(19),
     ),
     // before the rule of places
     (
@@ -397,7 +398,7 @@ static SINGLE: [Row; 4] = [
             ("accessControlScheme", "2.5.28.1"),
             ("accessControlScheme", "2.5.28.2"),
         ],
-        19,
+        Some(19),
     ),
 ];
 
@@ -411,24 +412,24 @@ static PLACES: [Row; 4] = [
     (
         "cn=ann,cn=policy,ou=area,dc=example",
         &[("objectClass", "person"), ("cn", "Ann"), ("sn", "Lee")],
-        64,
+        Some(64),
     ),
     (
         "cn=ann,ou=area,dc=example",
         &[("objectClass", "person"), ("cn", "Ann"), ("sn", "Lee")],
-        0,
+        None,
     ),
     // names are compared by their keys
     (
         "cn=ann,CN=Policy,ou=area,dc=example",
         &[("objectClass", "person"), ("cn", "Ann"), ("sn", "Lee")],
-        64,
+        Some(64),
     ),
     // a superior that is not there
     (
         "cn=ann,cn=none,dc=example",
         &[("objectClass", "person"), ("cn", "Ann"), ("sn", "Lee")],
-        0,
+        None,
     ),
 ];
 
@@ -438,15 +439,16 @@ fn nothing_stands_below_a_subentry(rt: HostRuntime) -> Result<(), Fail> {
 }
 
 #[test]
-fn the_values_of_an_entry_have_so_many_octets_at_most(rt: HostRuntime) -> Result<(), Fail> {
+fn the_values_of_an_entry_have_at_most_67108864_octets(rt: HostRuntime) -> Result<(), Fail> {
     let tree = tree(rt.alloc())?;
     let attributes = [("objectClass", "person"), ("cn", "Ann"), ("sn", "Lee")];
     // the other three values have 6, 3 and 3 octets
-    for (octets, want) in [(67_108_852usize, 0), (67_108_853, 11)] {
+    for (octets, want) in [(67_108_852usize, None), (67_108_853, Some(11))] {
         let mut entry = entry(rt.alloc(), "cn=ann,dc=example", &attributes)?;
         let password = vec![in rt.alloc(); 0u8; octets]?;
         put(rt.alloc(), &mut entry, "userPassword", password)?;
-        assert_eq!(rt; code(&tree, &entry), want, "{octets}");
+        let found = check_entry(&tree, None, &entry);
+        assert_eq!(rt; found, answer(want), "{octets}");
     }
     Ok(())
 }
@@ -455,13 +457,8 @@ fn the_values_of_an_entry_have_so_many_octets_at_most(rt: HostRuntime) -> Result
 fn a_suffix_is_checked_in_a_tree_without_entries(rt: HostRuntime) -> Result<(), Fail> {
     let tree = Tree::new(rt.alloc());
     let suffix = entry(rt.alloc(), "dc=example", &DOMAIN)?;
-    assert_eq!(rt; code(&tree, &suffix), 0);
+    assert_eq!(rt; check_entry(&tree, None, &suffix), Ok(()));
     let subentry = entry(rt.alloc(), "cn=policy", &POLICY)?;
-    assert_eq!(rt; code(&tree, &subentry), 21);
+    assert_eq!(rt; check_entry(&tree, None, &subentry), answer(Some(21)));
     Ok(())
-}
-
-#[test]
-fn the_law_computes_nothing() {
-    a_tree_stays_good();
 }

@@ -1,9 +1,9 @@
 -- Lists compared place by place, where only whether they are the same counts.
-use Rattle.std.proofs.Common.{◌≡◌, ◌≢◌, ℕ, ◌+◌, ◌-◌, ◌<◌, ◌≤◌, suc, true, false, ◌&&◌, List, [], ◌∷◌, length, take, drop, get_or, refl, sym, ap, ◌∙◌, arith, Ordering, length-take}
+use Rattle.std.proofs.Common.{◌≡◌, ◌≢◌, ℕ, ◌+◌, ◌-◌, ◌<◌, ◌≤◌, suc, true, false, ◌&&◌, List, [], ◌∷◌, length, take, drop, get_or, refl, sym, ap, ◌∙◌, arith, Ordering}
 use Rattle.std.specs.Ordering.{ordering_then, is_eq}
 use Rattle.std.specs.declared.cmp.Ordering.TheVariants.{Less, Equal, Greater}
 use Rattle.std.specs.Cmp.Lexicographic.{slice_cmp}
-use Rattle.std.proofs.lemmas.List.{drop_more, drop_all, get_or-take, length-take-le}
+use Rattle.std.proofs.lemmas.List.{drop_more, get_or-take, length-take-le}
 use Rattle.std.proofs.lemmas.Bool.{false_from_ne_true}
 use Rattle.dn_names.specs.Names.{RdnSequence}
 use Rattle.dn_names.specs.NameOrder.{rdn_cmp, is_same}
@@ -21,11 +21,6 @@ same_from R xs ys i d h k =
     ap (λ t. is_eq (slice_cmp R t (drop i ys))) (drop_more xs i d h)
     ∙ ap (λ t. is_eq (slice_cmp R (get_or xs i d ∷ drop (i + 1) xs) t)) (drop_more ys i d k)
     ∙ then_same (R (get_or xs i d) (get_or ys i d)) (slice_cmp R (drop (i + 1) xs) (drop (i + 1) ys))
-
-pub same_past : {A : Type 0} (R : A → A → Ordering) (xs ys : List A) (i : ℕ) → length xs ≤ i → length ys ≤ i → is_eq (slice_cmp R (drop i xs) (drop i ys)) ≡ true
-same_past R xs ys i h k =
-    ap (λ t. is_eq (slice_cmp R t (drop i ys))) (drop_all i xs h)
-    ∙ ap (λ t. is_eq (slice_cmp R [] t)) (drop_all i ys k)
 
 -- lists that are the same are as long
 is_equal : (o : Ordering) → is_eq o ≡ true → o ≡ Equal
@@ -55,9 +50,6 @@ front_from len xs ys i h j k =
     same_from rdn_cmp (take len xs) (take len ys) i [] (omega arith) (omega arith)
     ∙ ap (λ t. is_eq (rdn_cmp t (get_or (take len ys) i [])) && is_eq (slice_cmp rdn_cmp (drop (i + 1) (take len xs)) (drop (i + 1) (take len ys)))) (get_or-take len xs i [] h)
     ∙ ap (λ t. is_eq (rdn_cmp (get_or xs i []) t) && is_eq (slice_cmp rdn_cmp (drop (i + 1) (take len xs)) (drop (i + 1) (take len ys)))) (get_or-take len ys i [] h)
-
-pub front_past : (len : ℕ) (xs ys : RdnSequence) (i : ℕ) → len ≤ i → is_eq (slice_cmp rdn_cmp (drop i (take len xs)) (drop i (take len ys))) ≡ true
-front_past len xs ys i h = same_past rdn_cmp (take len xs) (take len ys) i (omega (arith, length-take len xs)) (omega (arith, length-take len ys))
 
 -- names of other lengths have other superiors, unless neither has any
 pub superiors_differ : (one other : RdnSequence) → (length one - 1) ≢ (length other - 1) → is_same (superior_name one) (superior_name other) ≡ false

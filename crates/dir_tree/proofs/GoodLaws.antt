@@ -87,13 +87,6 @@ distinct-filter_kinds test (first ∷ rest) distinct =
     (all_kinds (λ other. (first.kind == other) ≡ false) test rest distinct.0)
     (distinct-filter_kinds test rest distinct.1)
 
--- an attribute that is cut keeps its type
-kind_case :
-    (mine : Bool) (kind : ℕ) (values : List Keyed) (first : Attribute)
-    → (if mine then record first { values = values } else first).kind ≡ first.kind
-kind_case true kind values first = refl
-kind_case false kind values first = refl
-
 kinds_of-cut :
     (kind : ℕ) (key : List ℕ) (attributes : List Attribute)
     → kinds_of (map (cut_attribute kind key) attributes) ≡ kinds_of attributes

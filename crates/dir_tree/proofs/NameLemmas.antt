@@ -59,9 +59,6 @@ like_same x y z e = ap is_eq (alike_right name_cmp_total x y z (Equal-from_same 
 pub before_like : (x y z : RdnSequence) → is_same x y ≡ true → is_before x z ≡ is_before y z
 before_like x y z e = ap is_lt (name_cmp_total.congr x y z (Equal-from_same x y e))
 
-pub like_before : (x y z : RdnSequence) → is_same x y ≡ true → is_before z x ≡ is_before z y
-like_before x y z e = ap is_lt (alike_right name_cmp_total x y z (Equal-from_same x y e))
-
 -- the order chains, and has one answer
 pub before_chain : (x y z : RdnSequence) → is_before x y ≡ true → is_before y z ≡ true → is_before x z ≡ true
 before_chain x y z e f = ap is_lt (name_cmp_total.trans x y z (Less-from_before x y e) (Less-from_before y z f))

@@ -1,7 +1,7 @@
 -- What the map finds is what the attributes have.
-use Rattle.std.proofs.Common.{◌≡◌, ℕ, ◌==◌, Bool, List, [], ◌∷◌, map, slice_get, Option, Some, None, refl, ap, ◌∙◌, arith}
+use Rattle.std.proofs.Common.{◌≡◌, ℕ, ◌==◌, Bool, List, [], ◌∷◌, slice_get, Option, Some, None, refl, ap, ◌∙◌, arith}
 use Rattle.std.specs.Option.{option_map, option_map_or}
-use Rattle.std.specs.Map.{lookup, keys_of}
+use Rattle.std.specs.Map.{lookup}
 use Rattle.std.proofs.lemmas.Option.{slice_get-map}
 use Rattle.schema_core.specs.declared.kinds.AttrId.{AttrId}
 use Rattle.dn_names.specs.Names.{Keyed}
@@ -22,12 +22,6 @@ pub values_of-rows :
     → values_of kind.0 (attributes_of rows) ≡ found_values (lookup (is_kind kind) rows)
 values_of-rows kind [] = refl
 values_of-rows kind (row ∷ rows) = grind (arith, values_of-rows kind rows)
-
--- the types are the numbers of the map's keys
-pub kinds_of-rows :
-    (rows : List (AttrId × List Keyed)) → kinds_of (attributes_of rows) ≡ map (λ kind. kind.0) (keys_of rows)
-kinds_of-rows [] = refl
-kinds_of-rows (row ∷ rows) = ap (λ rest. row.0.0 ∷ rest) (kinds_of-rows rows)
 
 -- so one of them is the number of the key at its place
 kind_of :

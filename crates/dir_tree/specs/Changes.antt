@@ -1,5 +1,5 @@
--- What changes of an entry leave. X.501 leaves the order of attributes and values open; here both stand in the
--- order in which they came, and what is taken out closes up.
+-- What changes of an entry leave. X.501 leaves the order of attributes and values open; here the earlier ones of
+-- both stand first, and what is taken out closes up.
 use Rattle.std.specs.Prelude.{ℕ, ◌==◌, nat_lt, Bool, not, if◌then◌else◌, List, [], ◌∷◌, ◌++◌, filter, map, length}
 use Rattle.std.specs.Str.{bytes_eq}
 use Rattle.dn_names.specs.Names.{Keyed}

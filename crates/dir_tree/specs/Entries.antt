@@ -1,10 +1,10 @@
--- What entries are (X.501 8.2 and 9.4): a name, and attributes in the order in which they first came.
+-- What entries are (X.501 8.2 and 9.4): a name, and attributes, the earlier ones first.
 use Rattle.std.specs.Prelude.{◌≢◌, ℕ, ◌==◌, Bool, if◌then◌else◌, List, [], ◌∷◌, map}
 use Rattle.std.specs.List.{AllByRecursion, IsDistinct, list_any}
 use Rattle.std.specs.Str.{bytes_eq}
 use Rattle.dn_names.specs.Names.{Keyed, RdnSequence}
 
--- an attribute: its type, by its number in the table, and its values in the order in which they came
+-- an attribute: its type, by its number in the table, and its values, the earlier ones first
 pub record Attribute : Type 0 where
   pub kind : ℕ
   pub values : List Keyed

@@ -31,6 +31,6 @@ oids_of_listed listed = listed ∷ option_map_or oids_of (class_with listed) []
 abbrev pub oids_of_classes : List Attribute → List (List ℕ)
 oids_of_classes attributes = flat_map (λ value. oids_of_listed value.key) (values_of object_class attributes)
 
--- a listed class, or one of its superclasses, has the object identifier
+-- the object identifier is that of a class of the entry: one that it lists, or one above such a class
 unfoldable pub has_class : List ℕ → EntryInformation → Bool
 has_class oid entry = list_any (bytes_eq oid) (oids_of_classes entry.attributes)

@@ -6,7 +6,7 @@ pub mod Points
 pub mod Trees
 pub mod Scopes
 pub mod Refusals
--- what only this crate's inside promises itself
+-- for the inside of the crate alone
 pub mod Rows
 pub mod Places
 pub mod Slots

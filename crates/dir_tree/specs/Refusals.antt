@@ -29,7 +29,7 @@ refusal_below (Some entry) rows = if has_below entry.name rows then Some removin
 abbrev pub remove_refusal : ℕ → List Numbered → Option RemoveRefusal
 remove_refusal id rows = refusal_below (entry_of id rows) rows
 
--- the name is empty, or has another superior than the old name
+-- the name is the empty one, or its superior is not that of the old name
 abbrev pub is_elsewhere : RdnSequence → RdnSequence → Bool
 is_elsewhere [] old = true
 is_elsewhere (rdn ∷ rdns) old = not (is_same (superior_name (rdn ∷ rdns)) (superior_name old))

@@ -37,7 +37,7 @@ has_name name rows = list_any (is_named name) rows
 abbrev pub find_name : RdnSequence → List Numbered → Option ℕ
 find_name name rows = option_map (λ row. row.id) (find (is_named name) rows)
 
--- the number of the entry whose name is the first RDNs of the name, as many as it says
+-- the number of the entry that the front of the name names, a front of so many RDNs
 abbrev pub find_front : ℕ → RdnSequence → List Numbered → Option ℕ
 find_front len name rows = if nat_le len (length name) then find_name (take len name) rows else None
 
@@ -93,7 +93,7 @@ abbrev pub AreDistinct : List Numbered → Type 0
 AreDistinct [] = Unit {0}
 AreDistinct (row ∷ rows) = AllByRecursion (λ later. later.id ≢ row.id) rows × AreDistinct rows
 
--- each entry but the first, the suffix, has its superior in the list
+-- the first entry is the suffix, and the superior of each other one is among them
 abbrev pub IsRooted : List Numbered → Type 0
 IsRooted [] = Unit {0}
 IsRooted (row ∷ rows) = AllByRecursion (λ later. has_name (superior_name later.entry.name) (row ∷ rows) ≡ true) rows

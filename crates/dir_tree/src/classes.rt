@@ -8,7 +8,7 @@ ghost use Rattle.dir_tree.specs.EntryClasses.{own_oid, oids_of, oids_of_listed};
 use dn_names::Value;
 use schema_core::{ClassId, class_oid, class_with, superior};
 
-/// Whether the class or one of its superclasses has the object identifier.
+/// Whether the object identifier is that of the class, or of a class above it.
 fn is_below(class: ClassId, oid: &str) -> bool
     ensures exact { result ≡ list_any (bytes_eq oid.now) (oids_of class.0) }
 {
@@ -31,7 +31,7 @@ fn has_oid(class: ClassId, oid: &str) -> bool
     }
 }
 
-/// Whether the listed class or one of its superclasses has the object identifier.
+/// Whether the object identifier is that of the class listed here, or of a class above it.
 fn is_kind_of(listed: &[u8], oid: &str) -> bool
     ensures exact { result ≡ list_any (bytes_eq oid.now) (oids_of_listed listed.now) }
 {

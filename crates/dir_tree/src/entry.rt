@@ -19,8 +19,8 @@ use std::marker::Model;
 /// No memory was left.
 pub type NoMemory = AllocError;
 
-/// An entry of the directory: its name, and its attributes in the order in which they first came. An attribute
-/// has at least one value; its values stand in the order in which they came, and have distinct keys.
+/// An entry of the directory: its name and its attributes, of which those that came earlier stand first. An attribute
+/// has one value or more, of distinct keys, and of these too the earlier ones stand first.
 #[derive(Debug, Drop)]
 pub struct Entry {
     name: Dn,
@@ -57,7 +57,7 @@ impl Entry {
         &self.name
     }
 
-    /// The values of the attribute type, in the order in which they came; empty where the entry has none.
+    /// The values of the attribute type, the earlier ones first; empty where the entry has none.
     pub fn values(&self, kind: AttrId) -> &[Value]
         ensures exact { result.now ≡ values_of kind.0 self.now.attributes }
     {
@@ -74,8 +74,8 @@ impl Entry {
         self.attributes.len()
     }
 
-    /// The type of the attribute at this place, from 0 in the order in which they first came; None exactly
-    /// past the last.
+    /// The type of the attribute at this place, counted from 0 with the earlier attributes first; None exactly past the
+    /// last.
     pub fn kind_at(&self, index: usize) -> Option<AttrId>
         ensures exact { option_map (λ kind. kind.0) result ≡ slice_get (kinds_of self.now.attributes) index }
     {

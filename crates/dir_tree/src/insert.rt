@@ -17,12 +17,13 @@ impl Tree {
     ghost use Rattle.dir_tree.specs.Refusals.{lacks_superior, insert_refusal};
     ghost use Rattle.dir_tree.specs.Places.{place_of};
 
-    /// Puts the entry in, and gives the number by which it is known: one that is not in use. Its name shares memory with
-    /// that of its superior, and the memory that its attributes do not need is given back.
+    /// Puts the entry in, and gives the number by which it is known: one that is not in use. Its name shares memory
+    /// with that of its superior, and the memory that its attributes do not need is given back.
     ///
-    /// The refusals come in their order: `NameTaken` exactly where an entry has the name, `NoSuperior` exactly where
-    /// the tree has entries and the superior is none of them, `Full` exactly where it has 200,000, and `NoMemory`
-    /// where there is none. The entry's name may not be empty; the first entry, of any such name, is the suffix.
+    /// Each refusal comes in exactly one case, and of several the first: `NameTaken` where the name is that of an
+    /// entry, `NoSuperior` where there are entries and none of them is the superior, `Full` where there are 200,000.
+    /// `NoMemory`, where memory is refused, may come before these. The name may not be empty; the first entry, of any
+    /// such name, is the suffix.
     pub fn insert(&mut self, entry: Entry) -> Result<EntryNo, InsertRefusal>
         requires { entry.name ≢ [] }
         ensures ok { IfOk result (λ no. self.new ≡ put_entry no.0 entry self.old) }

@@ -91,7 +91,7 @@ impl Tree {
         low
     }
 
-    /// The number of the entry whose name is the first `len` RDNs of the name.
+    /// The number of the entry that the front of the name names, a front of `len` RDNs.
     pub(crate) fn search(&self, name: &Dn, len: usize) -> Option<EntryNo>
         ensures exact { option_map (λ no. no.0) result ≡ find_name (take len name.now) self.now }
         ensures ordered { IsOrderedTree self.now }

@@ -42,10 +42,10 @@ pub enum ReplaceRefusal {
     /// Another entry has the new name.
     #[error("the name is taken")]
     NameTaken,
-    /// The new name is empty, or has another superior.
+    /// The entry would stand below another superior, or have the empty name.
     #[error("the superior is another")]
     Elsewhere,
-    /// The name changes, and an entry stands below.
+    /// Entries stand below, and the new name is not the same.
     #[error("an entry stands below")]
     HasBelow,
     /// There is no memory.

@@ -15,8 +15,8 @@ impl Tree {
 
     /// Takes the entry of the number out, which then is not in use. Takes no memory.
     ///
-    /// The refusals come in their order: `Absent` exactly where the number is not in use, and `HasBelow` exactly
-    /// where an entry stands below; never `NoMemory`.
+    /// Each refusal comes in exactly one case: `Absent` for a number that is not in use, and `HasBelow` for an entry
+    /// that has entries below it. `NoMemory` never comes.
     pub fn remove(&mut self, no: EntryNo) -> Result<Entry, RemoveRefusal>
         ensures ok { IfOk result (λ entry. entry_of no.0 self.old ≡ Some entry) }
         ensures only { OnOk result (self.new ≡ without no.0 self.old) }

@@ -21,9 +21,10 @@ impl Tree {
     /// Gives the entry's place to another, which is known by the same number. Needs no memory; what the attributes of
     /// the other do not need is given back.
     ///
-    /// The refusals come in their order: `Absent` exactly where the number is not in use, `NameTaken` exactly where
-    /// another entry has the new name, `Elsewhere` exactly where the new name is empty or has another superior, and
-    /// `HasBelow` exactly where the name changes by types and keys and an entry stands below; never `NoMemory`.
+    /// Each refusal comes in exactly one case, and of several the first: `Absent` for a number that is not in use,
+    /// `NameTaken` where the new name is that of another entry, `Elsewhere` for the empty name and for one below
+    /// another superior, and `HasBelow` where the new name is not the same as the old one and entries stand below.
+    /// `NoMemory` never comes.
     pub fn replace(&mut self, no: EntryNo, entry: Entry) -> Result<Entry, ReplaceRefusal>
         ensures ok { IfOk result (λ old. entry_of no.0 self.old ≡ Some old) }
         ensures only { OnOk result (self.new ≡ put_entry no.0 entry (without no.0 self.old)) }
@@ -109,7 +110,7 @@ impl Tree {
     }
 }
 
-// Whether the name is empty, or has another superior than the old name.
+// Whether the name is the empty one, or its superior is not that of the old name.
 fn is_elsewhere(name: &Dn, old: &Dn) -> bool
     ensures exact { result ≡ is_elsewhere name.now old.now }
 {

@@ -79,15 +79,15 @@ impl Tree {
         }
     }
 
-    /// The number of the entry of the name; None exactly where there is none.
+    /// The number of the entry of the name; None exactly for a name that no entry has.
     pub fn find(&self, name: &Dn) -> Option<EntryNo>
         ensures exact { option_map (λ no. no.0) result ≡ find_name name.now self.now }
     {
         self.search(name, name.len())
     }
 
-    /// The number of the entry whose name is the first `len` RDNs of the name; None exactly where there is none, or
-    /// where `len` is above the number of the name's RDNs.
+    /// The number of the entry that the front of the name names, a front of `len` RDNs. None exactly where no entry has
+    /// that name, or the name has fewer RDNs.
     pub fn find_prefix(&self, name: &Dn, len: usize) -> Option<EntryNo>
         ensures exact { option_map (λ no. no.0) result ≡ find_front len name.now self.now }
     {

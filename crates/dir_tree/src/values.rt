@@ -9,8 +9,8 @@ use dn_names::Value;
 use plain_values::OneOrMany;
 use std::alloc::{AllocError, Global};
 
-/// The values of one attribute, in the order in which they came. One value, as nearly every attribute has, takes no
-/// memory beside its own.
+/// The values of one attribute, the earlier ones first. One value, as nearly every attribute has, takes no memory
+/// beside its own.
 pub(crate) type Values = OneOrMany<Value>;
 
 /// Whether one of the values has the key.

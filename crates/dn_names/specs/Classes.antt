@@ -32,7 +32,7 @@ class_of octet =
 abbrev pub is_letter : Class → Bool
 is_letter HexLetter = true
 is_letter Letter = true
-is_letter k = false
+is_letter class = false
 
 -- a letter, a digit or a hyphen: keychar of a descriptor
 abbrev pub is_word : Class → Bool
@@ -41,20 +41,20 @@ is_word Letter = true
 is_word Zero = true
 is_word Digit = true
 is_word Dash = true
-is_word k = false
+is_word class = false
 
 -- DIGIT
 abbrev pub is_digit : Class → Bool
 is_digit Zero = true
 is_digit Digit = true
-is_digit k = false
+is_digit class = false
 
 -- HEX
 abbrev pub is_hex : Class → Bool
 is_hex HexLetter = true
 is_hex Zero = true
 is_hex Digit = true
-is_hex k = false
+is_hex class = false
 
 -- an octet that stands for itself in a value
 abbrev pub is_plain : Class → Bool
@@ -63,13 +63,13 @@ is_plain Comma = false
 is_plain Backslash = false
 is_plain Mark = false
 is_plain Nul = false
-is_plain k = true
+is_plain class = true
 
 -- an octet that stands for itself at a value's front
 abbrev pub is_first : Class → Bool
 is_first Space = false
 is_first Hash = false
-is_first k = is_plain k
+is_first class = is_plain class
 
 -- an octet that stands for itself behind a backslash
 abbrev pub is_escapable : Class → Bool
@@ -80,37 +80,44 @@ is_escapable Space = true
 is_escapable Hash = true
 is_escapable Equals = true
 is_escapable Backslash = true
-is_escapable k = false
+is_escapable class = false
 
--- an octet of one class alone
+-- the digit 0
 abbrev pub is_zero : Class → Bool
 is_zero Zero = true
-is_zero k = false
+is_zero class = false
 
+-- a digit from 1 to 9
 abbrev pub is_nonzero : Class → Bool
 is_nonzero Digit = true
-is_nonzero k = false
+is_nonzero class = false
 
+-- a dot
 abbrev pub is_dot : Class → Bool
 is_dot Dot = true
-is_dot k = false
+is_dot class = false
 
+-- a space
 abbrev pub is_space : Class → Bool
 is_space Space = true
-is_space k = false
+is_space class = false
 
+-- an equals sign
 abbrev pub is_equals : Class → Bool
 is_equals Equals = true
-is_equals k = false
+is_equals class = false
 
+-- a plus sign
 abbrev pub is_plus : Class → Bool
 is_plus Plus = true
-is_plus k = false
+is_plus class = false
 
+-- a comma
 abbrev pub is_comma : Class → Bool
 is_comma Comma = true
-is_comma k = false
+is_comma class = false
 
+-- a backslash
 abbrev pub is_backslash : Class → Bool
 is_backslash Backslash = true
-is_backslash k = false
+is_backslash class = false

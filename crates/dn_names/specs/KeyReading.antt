@@ -4,5 +4,5 @@ use Rattle.std.specs.Prelude.{ℕ, ◌==◌, List, [], ◌∷◌, Option, Some, 
 -- the octets after the front; none where they begin otherwise
 abbrev pub strip : List ℕ → List ℕ → Option (List ℕ)
 strip [] octets = Some octets
-strip (x ∷ front) [] = None
-strip (x ∷ front) (y ∷ octets) = if x == y then strip front octets else None
+strip (octet ∷ front) [] = None
+strip (octet ∷ front) (other ∷ octets) = if octet == other then strip front octets else None

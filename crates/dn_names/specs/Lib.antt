@@ -8,13 +8,13 @@ pub mod Values
 pub mod Resolving
 pub mod GoodPlaces
 pub mod NameText
+pub mod Modes
+pub mod Reading
 pub mod NameCause
 pub mod Printing
 pub mod GoodNames
 pub mod NameValues
--- what only this crate's inside promises itself
+-- for the inside of the crate alone
 pub mod Pieces
 pub mod Texts
-pub mod Modes
-pub mod Reading
 pub mod KeyReading

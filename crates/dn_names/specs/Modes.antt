@@ -13,13 +13,13 @@ begin_of HexLetter = Some Word
 begin_of Letter = Some Word
 begin_of Zero = Some FirstZero
 begin_of Digit = Some FirstNumber
-begin_of k = None
+begin_of class = None
 
 -- what may follow a whole type
 abbrev pub after_kind_of : Class → Option Mode
 after_kind_of Space = Some AfterKind
 after_kind_of Equals = Some ValueStart
-after_kind_of k = None
+after_kind_of class = None
 
 -- what may follow a part of a value
 abbrev pub in_value_of : Class → Option Mode
@@ -28,33 +28,33 @@ in_value_of Comma = Some PairStart
 in_value_of Plus = Some PairStart
 in_value_of Mark = None
 in_value_of Nul = None
-in_value_of k = Some InValue
+in_value_of class = Some InValue
 
 -- the state after an octet of a class, if one may follow
 abbrev pub step_of : Mode → Class → Option Mode
 step_of Start Space = Some Start
-step_of Start k = begin_of k
+step_of Start class = begin_of class
 step_of PairStart Space = Some PairStart
-step_of PairStart k = begin_of k
-step_of Word k = if is_word k then Some Word else after_kind_of k
+step_of PairStart class = begin_of class
+step_of Word class = if is_word class then Some Word else after_kind_of class
 step_of FirstZero Dot = Some AfterDot
-step_of FirstZero k = None
+step_of FirstZero class = None
 step_of FirstNumber Dot = Some AfterDot
-step_of FirstNumber k = if is_digit k then Some FirstNumber else None
+step_of FirstNumber class = if is_digit class then Some FirstNumber else None
 step_of AfterDot Zero = Some LaterZero
 step_of AfterDot Digit = Some LaterNumber
-step_of AfterDot k = None
+step_of AfterDot class = None
 step_of LaterZero Dot = Some AfterDot
-step_of LaterZero k = after_kind_of k
+step_of LaterZero class = after_kind_of class
 step_of LaterNumber Dot = Some AfterDot
-step_of LaterNumber k = if is_digit k then Some LaterNumber else after_kind_of k
-step_of AfterKind k = after_kind_of k
+step_of LaterNumber class = if is_digit class then Some LaterNumber else after_kind_of class
+step_of AfterKind class = after_kind_of class
 step_of ValueStart Space = Some ValueStart
 step_of ValueStart Hash = None
-step_of ValueStart k = in_value_of k
-step_of InValue k = in_value_of k
-step_of Escape k = if is_hex k then Some HalfByte else if is_escapable k then Some InValue else None
-step_of HalfByte k = if is_hex k then Some InValue else None
+step_of ValueStart class = in_value_of class
+step_of InValue class = in_value_of class
+step_of Escape class = if is_hex class then Some HalfByte else if is_escapable class then Some InValue else None
+step_of HalfByte class = if is_hex class then Some InValue else None
 
 -- a name's text may end in the state
 abbrev pub may_end : Mode → Bool

@@ -6,6 +6,7 @@ use Rattle.regular_text.specs.Grammar.Grammar.{Nothing, One, Either, Then, Many}
 use Rattle.dn_names.specs.declared.classes.Class.{Class}
 use Rattle.dn_names.specs.Classes.{class_of, is_letter, is_word, is_digit, is_hex, is_plain, is_first, is_escapable, is_zero, is_nonzero, is_dot, is_space, is_equals, is_plus, is_comma, is_backslash}
 
+-- any number of spaces
 abbrev pub spaces : Grammar Class
 spaces = Many (One is_space)
 
@@ -17,6 +18,7 @@ word = Then (One is_letter) (Many (One is_word))
 abbrev pub number : Grammar Class
 number = Either (One is_zero) (Then (One is_nonzero) (Many (One is_digit)))
 
+-- a dot and a number
 abbrev pub dot_number : Grammar Class
 dot_number = Then (One is_dot) number
 
@@ -32,10 +34,11 @@ kind = Either word oid
 abbrev pub escape : Grammar Class
 escape = Either (One is_escapable) (Then (One is_hex) (One is_hex))
 
--- one octet of a value at its front, and past it
+-- one octet of a value, as it may be spelled at the front
 abbrev pub first_piece : Grammar Class
 first_piece = Either (One is_first) (Then (One is_backslash) escape)
 
+-- one octet of a value, as it may be spelled past the front
 abbrev pub piece : Grammar Class
 piece = Either (One is_plain) (Then (One is_backslash) escape)
 
@@ -47,17 +50,19 @@ value = Then spaces (Either Nothing (Then first_piece (Many piece)))
 abbrev pub pair : Grammar Class
 pair = Then spaces (Then kind (Then spaces (Then (One is_equals) value)))
 
--- relativeDistinguishedName = attributeTypeAndValue *( PLUS attributeTypeAndValue )
+-- *( PLUS attributeTypeAndValue )
 abbrev pub more_pairs : Grammar Class
 more_pairs = Many (Then (One is_plus) pair)
 
+-- relativeDistinguishedName = attributeTypeAndValue *( PLUS attributeTypeAndValue )
 abbrev pub rdn : Grammar Class
 rdn = Then pair more_pairs
 
--- distinguishedName = [ relativeDistinguishedName *( COMMA relativeDistinguishedName ) ]
+-- *( COMMA relativeDistinguishedName )
 abbrev pub more_rdns : Grammar Class
 more_rdns = Many (Then (One is_comma) rdn)
 
+-- distinguishedName = [ relativeDistinguishedName *( COMMA relativeDistinguishedName ) ], or spaces alone
 abbrev pub name : Grammar Class
 name = Either spaces (Then rdn more_rdns)
 

@@ -14,7 +14,7 @@ pair_cmp one other = ordering_then (nat_cmp one.kind other.kind) (slice_cmp nat_
 abbrev pub rdn_cmp : List TypeAndValue → List TypeAndValue → Ordering
 rdn_cmp = slice_cmp pair_cmp
 
--- names RDN by RDN from the root, a front of another before it
+-- names by their RDNs, those next to the root first; a front of another name comes before it
 unfoldable pub name_cmp : RdnSequence → RdnSequence → Ordering
 name_cmp = slice_cmp rdn_cmp
 

@@ -41,9 +41,11 @@ abbrev pub read_by : (List (List WrittenPair) → Result RdnSequence BadName) �
 read_by meaning (Some place) octets = Err (Text place)
 read_by meaning None octets = meaning (written_of octets)
 
+-- the name that a text gives, or the first fault
 unfoldable pub read_name : List ℕ → Result RdnSequence BadName
 read_name octets = read_by resolve (text_fault octets) octets
 
+-- the name of one RDN that a text gives, or the first fault
 unfoldable pub read_rdn : List ℕ → Result RdnSequence BadName
 read_rdn octets = read_by resolve_rdn (text_fault octets) octets
 

@@ -15,7 +15,7 @@ abbrev pub read_key : Result RdnSequence BadName → Option (List ℕ)
 read_key (Ok name) = Some (name_key name)
 read_key (Err cause) = None
 
--- the key of octets of a syntax: a name's is the name printed with each value replaced by its key
+-- the key of octets of a syntax: that of a name is its printed form, with keys where the values stand
 abbrev pub value_key : Syntax → List ℕ → Option (List ℕ)
 value_key Text octets = plain_key Text octets
 value_key Ascii octets = plain_key Ascii octets

@@ -1,4 +1,4 @@
--- What names are (X.501 9.2 and 9.3): a list of RDNs, root first; an RDN is a list of types with values.
+-- What names are (X.501 9.2 and 9.3): RDNs one behind the other, from the root on, each of some types with values.
 use Rattle.std.specs.Prelude.{◌≡◌, ℕ, true, List, map}
 use Rattle.std.specs.List.{AllByRecursion}
 use Rattle.std.specs.Str.{is_utf8}

@@ -16,7 +16,7 @@ is_escaped first last Mark = true
 is_escaped first last Plus = true
 is_escaped first last Comma = true
 is_escaped first last Backslash = true
-is_escaped first last k = false
+is_escaped first last class = false
 
 -- an octet of a value, the first or the last or neither; NUL as two hexadecimal digits
 abbrev pub print_octet : Bool → Bool → ℕ → List ℕ
@@ -29,6 +29,7 @@ abbrev pub is_empty : List ℕ → Bool
 is_empty [] = true
 is_empty (x ∷ xs) = false
 
+-- the octets of a value, or what is left of them behind the first
 abbrev pub print_from : Bool → List ℕ → List ℕ
 print_from first [] = []
 print_from first (octet ∷ octets) = print_octet first (is_empty octets) octet ++ print_from false octets
@@ -46,6 +47,7 @@ join_from mark show first (x ∷ xs) = (if first then [] else mark ∷ []) ++ (s
 abbrev pub print_pair : (TypeAndValue → List ℕ) → TypeAndValue → List ℕ
 print_pair shown pair = name_of pair.kind ++ 61 ∷ print_value (shown pair)
 
+-- an RDN, a plus sign between its pairs
 abbrev pub print_rdn : (TypeAndValue → List ℕ) → List TypeAndValue → List ℕ
 print_rdn shown rdn = join_from 43 (print_pair shown) true rdn
 
@@ -62,6 +64,6 @@ shown_of Key pair = pair.value.key
 unfoldable pub print_name : RdnSequence → List ℕ
 print_name name = print_by (shown_of Octets) name
 
--- a name printed with each value replaced by its key
+-- the key of a name: its printed form, with keys where the values stand
 unfoldable pub name_key : RdnSequence → List ℕ
 name_key name = print_by (shown_of Key) name

@@ -22,13 +22,14 @@ abbrev pub put_front : ℕ → List (List ℕ) → List (List ℕ)
 put_front octet [] = (octet ∷ []) ∷ []
 put_front octet (part ∷ parts) = (octet ∷ part) ∷ parts
 
--- the parts between the marks
+-- the parts between the marks, from an octet that may stand behind a backslash
 abbrev pub parts_from : ℕ → Bool → List ℕ → List (List ℕ)
 parts_from mark escaped [] = [] ∷ []
 parts_from mark escaped (x ∷ xs) =
     if is_mark mark escaped x then [] ∷ parts_from mark false xs
     else put_front x (parts_from mark (escapes_next escaped x) xs)
 
+-- the parts of a whole text
 unfoldable pub parts_of : ℕ → List ℕ → List (List ℕ)
 parts_of mark text = parts_from mark false text
 

@@ -32,14 +32,15 @@ put_pair pair (first ∷ pairs) =
 abbrev pub add_pair : List TypeAndValue → WrittenPair → Option (List TypeAndValue)
 add_pair pairs written = option_and_then (λ pair. put_pair pair pairs) (pair_meaning written)
 
--- go on where there is a value
+-- go on with the value, or refuse the pair of this number where there is none
 abbrev pub or_part : {A B : Type 0} → ℕ → Option A → (A → Result B BadName) → Result B BadName
 or_part index None go = Err (Part index)
-or_part index (Some x) go = go x
+or_part index (Some part) go = go part
 
+-- go on with what a step gave, or keep its refusal
 abbrev pub and_then : {A B : Type 0} → Result A BadName → (A → Result B BadName) → Result B BadName
-and_then (Err e) go = Err e
-and_then (Ok x) go = go x
+and_then (Err fault) go = Err fault
+and_then (Ok value) go = go value
 
 -- an RDN's pairs, numbered from index; those before them stand in pairs
 abbrev pub rdn_from : ℕ → List TypeAndValue → List WrittenPair → Result (List TypeAndValue) BadName

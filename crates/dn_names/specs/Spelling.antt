@@ -58,10 +58,10 @@ pub record SpellsPair (pair : WrittenPair) (text : List ℕ) : Type 0 where
 
 -- at least one text, with the mark between each two
 abbrev pub IsJoined : {A : Type 0} → ℕ → (A → List ℕ → Type 0) → List A → List ℕ → Type 0
-IsJoined mark P [] text = ⊥
-IsJoined mark P (x ∷ []) text = P x text
-IsJoined mark P (x ∷ y ∷ ys) text =
-    (front : List ℕ) × (rest : List ℕ) × (text ≡ front ++ mark ∷ rest) × P x front × IsJoined mark P (y ∷ ys) rest
+IsJoined mark relation [] text = ⊥
+IsJoined mark relation (x ∷ []) text = relation x text
+IsJoined mark relation (x ∷ y ∷ ys) text =
+    (front : List ℕ) × (rest : List ℕ) × (text ≡ front ++ mark ∷ rest) × relation x front × IsJoined mark relation (y ∷ ys) rest
 
 -- pairs joined by +
 abbrev pub SpellsRdn : List WrittenPair → List ℕ → Type 0

@@ -9,8 +9,8 @@ use thiserror::Error;
 /// Why a text is no name, in the order in which the causes are tried.
 #[derive(Clone, Copy, Debug, PartialEq, Eq, Error)]
 pub enum BadName {
-    /// The octets are in no text of the grammar of names; `place` is the length of the longest front that
-    /// some text of the grammar begins with.
+    /// The octets are in no text of the grammar of names; `place` counts the octets of the longest front with
+    /// which some text of the grammar begins.
     #[error("the octets leave the grammar of names at {place}")]
     Text { place: usize },
     /// The pair of this number, from 0 in the text's order, is not good: its type is unknown, may not name, or

@@ -10,8 +10,8 @@ ghost use Rattle.dn_names.specs.KeyReading.{strip};
 use crate::name::{Dn, Pair, Rdn};
 use crate::printing::{is_escaped, type_name};
 
-/// Whether the octets are the key that a value of Name syntax has which is this name: the name printed with each
-/// value replaced by its key.
+/// Whether the octets are the key of this name, as a value of Name syntax: its printed form, with keys where the values
+/// stand.
 pub fn is_key_of(name: &Dn, key: &[u8]) -> bool
     ensures exact { IsTrue result ↔ (key.now ≡ name_key name.now) }
 {

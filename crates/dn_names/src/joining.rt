@@ -31,7 +31,8 @@ fn copy_from(alloc: Global, name: &Dn, first: usize) -> Result<Dn, AllocError>
     })
 }
 
-/// The RDNs of `superior` and then those of `below`. `TooMany` comes where they are more than 64.
+/// The RDNs of `superior` and then those of `below`. `TooMany` comes exactly where they are more than 64,
+/// `NoMemory` where memory is refused.
 pub fn join(alloc: Global, superior: &Dn, below: &Dn) -> Result<Dn, BadName>
     ensures ok { IfOk result (λ name. name ≡ superior.now ++ below.now) }
     ensures too_many { (result ≡ Err TooMany) ↔ (64 < length superior.now + length below.now) }

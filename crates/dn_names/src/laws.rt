@@ -59,7 +59,7 @@ pub fn cutting_undoes_joining()
     ensures good_local { (count : ℕ) (name : RdnSequence) → IsGoodName name → IsGoodName (drop count name) }
 {}
 
-/// Names are the same exactly where their keys are: a value of Name syntax is a name where its key is the name's.
+/// Names are the same exactly where their keys are, so that the key of a value of Name syntax says which name it is.
 pub fn a_name_has_one_key()
     ensures { (one other : RdnSequence) → IsGoodName one → IsGoodName other
         → IsTrue (is_same one other) ↔ (name_key one ≡ name_key other) }

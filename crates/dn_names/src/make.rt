@@ -15,8 +15,8 @@ use match_rules::PrepareFault;
 use schema_core::{AttrId, Syntax, row};
 use std::alloc::Global;
 
-/// The value of an attribute type of the table: the octets with their key. `NotOfSyntax` comes exactly where the
-/// octets are not of the type's syntax.
+/// The value of an attribute type of the table: the octets with their key. `NotOfSyntax` comes only where the octets
+/// are not of the type's syntax, and `NoMemory` may come in place of any answer.
 ///
 /// Of the syntaxes of subtrees and of access control items any octets are taken, and the key is the octets.
 #[tactic(auto, unfolding(crate::specs::NameValues::value_of))]

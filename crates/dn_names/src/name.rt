@@ -49,7 +49,7 @@ impl Pair {
 /// The pairs of an RDN, in the order of the table, which names may share.
 pub(crate) type Rdn = Rc<OneOrMany<Pair>>;
 
-/// A name: a list of RDNs, root first. An RDN has pairs of distinct types in the order of the table.
+/// A name: its RDNs, from the root on. The pairs of an RDN have distinct types, in the order of the table.
 #[derive(Debug, Drop)]
 pub struct Dn {
     pub(crate) rdns: Vec<Rdn>,

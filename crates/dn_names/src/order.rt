@@ -25,7 +25,7 @@ pub fn is_prefix(front: &Dn, name: &Dn) -> bool
     compare_front(name, front.len(), front).is_eq()
 }
 
-/// The order of names: RDN by RDN from the root, and a proper prefix first.
+/// The order of names: the first RDN that differs, counted from the root, decides; a name comes after its fronts.
 pub fn compare_names(one: &Dn, other: &Dn) -> Ordering
     ensures exact { result ≡ name_cmp one.now other.now }
 {

@@ -20,7 +20,8 @@ use std::rc::Rc;
 /// Reads a name (RFC 4514). A text of nothing but spaces is the name of no RDN.
 ///
 /// The errors come in this order: `Text` for octets that are in no text of the outer grammar, `TooMany` for more
-/// than 64 RDNs, `Part` for the first pair, in the text's order, that is not good.
+/// than 64 RDNs, `Part` for the first pair, in the text's order, that is not good. `NoMemory` may come in place of any
+/// answer.
 pub fn parse(alloc: Global, octets: &[u8]) -> Result<Dn, BadName>
     ensures ok { IfOk result (λ name. NameText name octets.now) }
     ensures cause { IfErr result (λ error. NameCause (λ count. count ≤ 64) octets.now error) }
@@ -30,7 +31,7 @@ pub fn parse(alloc: Global, octets: &[u8]) -> Result<Dn, BadName>
 }
 
 /// Reads an RDN as a name of one RDN. `TooMany` comes for a text of none or of more than one; the other errors
-/// are those of `parse`.
+/// are those of `parse`, and come as they do there.
 pub fn parse_rdn(alloc: Global, octets: &[u8]) -> Result<Dn, BadName>
     ensures ok { IfOk result (λ name. RdnText name octets.now) }
     ensures cause { IfErr result (λ error. NameCause (λ count. count ≡ 1) octets.now error) }

@@ -133,7 +133,7 @@ fn printed(alloc: Global, name: &Dn, shown: Shown) -> Result<Vec<u8>, AllocError
     Ok(out)
 }
 
-/// The key of a name: its text with each value replaced by its key.
+/// The key of a name: its printed form, with keys where the values stand.
 #[tactic(auto, unfolding(crate::specs::Printing::name_key))]
 pub(crate) fn make_name_key(alloc: Global, name: &Dn) -> Result<Vec<u8>, AllocError>
     ensures ok { IfOk result (λ key. key.items ≡ name_key name.now) }

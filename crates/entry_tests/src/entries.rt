@@ -1,24 +1,11 @@
 //! Entries: what each change leaves, and the classes of RFC 4519 and RFC 2798 with their superclasses.
-use dir_tree::{
-    Entry, a_change_is_of_one_type, a_change_leaves_good_attributes, a_change_leaves_other_types,
-    a_class_has_the_identifiers_of_its_superior, an_attribute_is_found_by_its_type,
-};
-use dn_names::{Dn, make_value, parse, same};
-use schema_core::{AttrId, attr, row};
+use crate::fixtures::{name, put};
+use dir_tree::Entry;
+use dn_names::same;
+use schema_core::{AttrId, row};
 use std::alloc::Global;
 use std::str;
 use std::test::Fail;
-
-fn name(alloc: Global, text: &str) -> Result<Dn, Fail> {
-    Ok(parse(alloc, text.as_bytes())?)
-}
-
-// Adds a value of the type of this name.
-fn put(alloc: Global, entry: &mut Entry, kind: &str, text: &str) -> Result<bool, Fail> {
-    let kind = attr(kind).ok_or("no such type")?;
-    let value = make_value(alloc, kind, text.as_bytes().to_vec(alloc)?)?;
-    Ok(entry.push(kind, value)?)
-}
 
 // Ann: an inetOrgPerson with two common names.
 fn ann(alloc: Global) -> Result<Entry, Fail> {
@@ -56,7 +43,6 @@ fn in_order(
     alloc: Global,
 ) -> Result<(String, (usize, Option<AttrId>, Option<AttrId>, usize)), Fail> {
     let entry = ann(alloc)?;
-    entry.is_good();
     let kinds = (
         entry.kinds(),
         entry.kind_at(2),
@@ -357,13 +343,4 @@ fn points_and_subentries_are_told_by_their_values(rt: HostRuntime) -> Result<(),
         assert_eq!(rt; place_of(rt.alloc(), values)?, *want, "{values:?}");
     }
     Ok(())
-}
-
-#[test]
-fn the_laws_compute_nothing() {
-    a_change_is_of_one_type();
-    a_change_leaves_other_types();
-    a_change_leaves_good_attributes();
-    a_class_has_the_identifiers_of_its_superior();
-    an_attribute_is_found_by_its_type();
 }

@@ -1,9 +1,6 @@
 //! Keys: the Unicode Standard's own examples of case folding (section 3.13) and of NFKC (UAX #15), and each rule's
 //! good and bad octets.
-use match_rules::{
-    Part, PrepareFault, Rule, ascii_key_law, case_law, equal, order, order_law, own_key_law,
-    phone_law, prepare, prepare_part, space_law, substring, syntax_law,
-};
+use match_rules::{Part, PrepareFault, Rule, equal, order, prepare, prepare_part, substring};
 use std::alloc::Global;
 use std::cmp::Ordering;
 use std::test::Fail;
@@ -194,15 +191,4 @@ fn keys_are_ordered_by_octets_and_the_shorter_first(rt: HostRuntime) {
             "{left} {right}"
         );
     }
-}
-
-#[test]
-fn laws_do_nothing_when_they_are_called() {
-    syntax_law();
-    ascii_key_law();
-    own_key_law();
-    case_law();
-    space_law();
-    phone_law();
-    order_law();
 }

@@ -5,6 +5,8 @@
 #[cfg(test)]
 mod entries;
 #[cfg(test)]
+mod fixtures;
+#[cfg(test)]
 mod keys;
 #[cfg(test)]
 mod names;

@@ -1,8 +1,8 @@
 //! Names: the examples of RFC 4514 section 4, and each refusal with its place or its number.
+use crate::fixtures::value;
 use dn_names::{
-    BadName, Dn, Value, a_name_has_one_key, a_printed_name_is_read_again, a_text_spells_one_name,
-    compare_front, compare_names, cutting_undoes_joining, is_key_of, is_prefix, join, local,
-    make_value, names_are_in_a_total_order, parse, parse_rdn, print, same,
+    BadName, Dn, compare_front, compare_names, is_key_of, is_prefix, join, local, make_value,
+    parse, parse_rdn, print, same,
 };
 use match_rules::PrepareFault;
 use schema_core::{AttrId, attr};
@@ -172,20 +172,29 @@ fn an_rdn_is_read_alone(rt: HostRuntime) -> Result<(), Fail> {
     Ok(())
 }
 
-// Two names, and their order.
-static ORDERS: [(&str, &str, Ordering); 8] = [
-    ("cn=A  B", "CN=a b", Ordering::Equal),
-    ("", "dc=a", Ordering::Less),
-    ("dc=a", "cn=z,dc=a", Ordering::Less),
-    ("cn=z,dc=a", "ou=a,dc=a", Ordering::Less),
-    ("ou=z,dc=a", "dc=B", Ordering::Less),
-    ("dc=b", "cn=a,dc=A", Ordering::Greater),
-    ("cn=a+uid=b", "uid=B+cn=A", Ordering::Equal),
-    ("cn=a+uid=b", "cn=a", Ordering::Greater),
+// The order of two names, their order the other way round, and whether they are the same.
+type Order = (Ordering, Ordering, bool);
+
+const SAME: Order = (Ordering::Equal, Ordering::Equal, true);
+
+const BEFORE: Order = (Ordering::Less, Ordering::Greater, false);
+
+const BEHIND: Order = (Ordering::Greater, Ordering::Less, false);
+
+// Two names, and how they stand to each other.
+static ORDERS: [(&str, &str, Order); 8] = [
+    ("cn=A  B", "CN=a b", SAME),
+    ("", "dc=a", BEFORE),
+    ("dc=a", "cn=z,dc=a", BEFORE),
+    ("cn=z,dc=a", "ou=a,dc=a", BEFORE),
+    ("ou=z,dc=a", "dc=B", BEFORE),
+    ("dc=b", "cn=a,dc=A", BEHIND),
+    ("cn=a+uid=b", "uid=B+cn=A", SAME),
+    ("cn=a+uid=b", "cn=a", BEHIND),
 ];
 
-// The order of two names, their order the other way round, and whether they are the same.
-fn orders(alloc: Global, one: &str, other: &str) -> Result<(Ordering, Ordering, bool), Fail> {
+// How two names stand to each other.
+fn orders(alloc: Global, one: &str, other: &str) -> Result<Order, Fail> {
     let name = parse(alloc, one.as_bytes())?;
     let next = parse(alloc, other.as_bytes())?;
     let order = compare_names(&name, &next);
@@ -194,10 +203,9 @@ fn orders(alloc: Global, one: &str, other: &str) -> Result<(Ordering, Ordering, 
 
 #[test]
 fn names_are_ordered_by_types_and_keys_from_the_root(rt: HostRuntime) -> Result<(), Fail> {
-    for (one, other, order) in &ORDERS {
+    for (one, other, want) in &ORDERS {
         let found = orders(rt.alloc(), one, other)?;
-        let want = (*order, order.reverse(), order.is_eq());
-        assert_eq!(rt; found, want, "{one} {other}");
+        assert_eq!(rt; found, *want, "{one} {other}");
     }
     Ok(())
 }
@@ -303,12 +311,6 @@ static KEYS: [(&str, &str, &str); 11] = [
     ("entryACI", "not an item", "not an item"),
 ];
 
-// The value of these octets, of the type of the name.
-fn value(alloc: Global, kind: &str, octets: &str) -> Result<Value, Fail> {
-    let kind = attr(kind).ok_or("no such type")?;
-    Ok(make_value(alloc, kind, octets.as_bytes().to_vec(alloc)?)?)
-}
-
 #[test]
 fn a_value_has_the_key_of_its_syntax(rt: HostRuntime) -> Result<(), Fail> {
     for (kind, octets, key) in &KEYS {
@@ -363,13 +365,4 @@ fn a_key_of_name_syntax_is_that_of_one_name(rt: HostRuntime) -> Result<(), Fail>
         assert_eq!(rt; is_key_of(&name, value.key()), *is_key, "{text}");
     }
     Ok(())
-}
-
-#[test]
-fn the_laws_are_there() {
-    a_text_spells_one_name();
-    a_printed_name_is_read_again();
-    names_are_in_a_total_order();
-    cutting_undoes_joining();
-    a_name_has_one_key();
 }

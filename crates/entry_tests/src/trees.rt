@@ -1,29 +1,27 @@
 //! Trees: each call once, and each refusal in its order.
-use dir_tree::{
-    Entry, EntryNo, InsertRefusal, RemoveRefusal, ReplaceRefusal, Scope, Tree,
-    all_but_the_suffix_have_superiors, putting_in_undoes_taking_out, scopes_take_in_what_is_below,
-};
-use dn_names::{Dn, make_value, parse, print};
-use schema_core::attr;
+use crate::fixtures::{name, put};
+use dir_tree::{Entry, EntryNo, InsertRefusal, RemoveRefusal, ReplaceRefusal, Scope, Tree};
+use dn_names::print;
 use std::alloc::Global;
 use std::test::Fail;
 
-fn name(alloc: Global, text: &str) -> Result<Dn, Fail> {
-    Ok(parse(alloc, text.as_bytes())?)
-}
-
 fn entry(alloc: Global, text: &str) -> Result<Entry, Fail> {
     Ok(Entry::new(alloc, name(alloc, text)?)?)
+}
+
+// What putting an entry in answers. One of no name can't be put in.
+fn insert(tree: &mut Tree, entry: Entry) -> Result<Result<EntryNo, InsertRefusal>, Fail> {
+    if entry.name().len() == 0 {
+        return Err(Fail::from("no name"));
+    }
+    Ok(tree.insert(entry))
 }
 
 // A tree of the names, the first of which is the suffix.
 fn tree_of(rt: &HostRuntime, names: &[&str]) -> Result<Tree, Fail> {
     let mut tree = Tree::new(rt.alloc());
     for text in names {
-        let entry = entry(rt.alloc(), text)?;
-        if entry.name().len() > 0 {
-            let _no = tree.insert(entry)?;
-        }
+        let _no = insert(&mut tree, entry(rt.alloc(), text)?)??;
     }
     Ok(tree)
 }
@@ -42,14 +40,11 @@ static NAMES: [&str; 8] = [
 // The printed names of the entries in the scope of the base, one to a line.
 fn listed(rt: &HostRuntime, tree: &Tree, base: &str, scope: Scope) -> Result<String, Fail> {
     let mut out = String::new(rt.alloc());
-    let base = name(rt.alloc(), base)?;
-    if let Some(no) = tree.find(&base) {
-        for below in tree.below(no, scope) {
-            if let Some(entry) = tree.at(below) {
-                print(rt.alloc(), entry.name(), &mut out)?;
-                out.push('\n')?;
-            }
-        }
+    let base = tree.find(&name(rt.alloc(), base)?).ok_or("no entry")?;
+    for no in tree.below(base, scope) {
+        let entry = tree.at(no).ok_or("no entry of the number")?;
+        print(rt.alloc(), entry.name(), &mut out)?;
+        out.push('\n')?;
     }
     Ok(out)
 }
@@ -94,10 +89,6 @@ fn a_scope_takes_in_what_is_in_it_in_the_order_of_names(rt: HostRuntime) -> Resu
     }
     let tree = tree_of(&rt, &NAMES)?;
     assert_eq!(rt; tree.len(), 8);
-    tree.entries_form_a_tree();
-    all_but_the_suffix_have_superiors();
-    putting_in_undoes_taking_out();
-    scopes_take_in_what_is_below();
     Ok(())
 }
 
@@ -121,23 +112,21 @@ fn shown(rt: &HostRuntime, tree: &Tree, no: Option<EntryNo>) -> Result<String, F
     let mut out = String::new(rt.alloc());
     match no {
         Some(no) => {
-            if let Some(entry) = tree.at(no) {
-                print(rt.alloc(), entry.name(), &mut out)?;
-            }
+            let entry = tree.at(no).ok_or("no entry of the number")?;
+            print(rt.alloc(), entry.name(), &mut out)?;
         }
         None => out.push_str("none")?,
     }
     Ok(out)
 }
 
-// The printed name of the entry of so many RDNs of a name, or of the whole name for 9.
-fn found_by(rt: &HostRuntime, text: &str, len: usize) -> Result<String, Fail> {
+// The printed name of the entry of so many RDNs of a name, or of the whole name.
+fn found_by(rt: &HostRuntime, text: &str, front: Option<usize>) -> Result<String, Fail> {
     let tree = tree_of(rt, &NAMES)?;
     let name = name(rt.alloc(), text)?;
-    let no = if len == 9 {
-        tree.find(&name)
-    } else {
-        tree.find_prefix(&name, len)
+    let no = match front {
+        Some(len) => tree.find_prefix(&name, len),
+        None => tree.find(&name),
     };
     shown(rt, &tree, no)
 }
@@ -147,42 +136,54 @@ fn suffix(rt: &HostRuntime) -> Result<String, Fail> {
     shown(rt, &tree, tree.suffix())
 }
 
-// A name, how many RDNs of it are sought or 9 for the whole, and the name of the entry that is found.
-static FRONTS: [(&str, usize, &str); 10] = [
+// A name, how many RDNs of it are sought or None for the whole, and the name of the entry that is found.
+static FRONTS: [(&str, Option<usize>, &str); 10] = [
     (
         "UID=Ada,ou=people,dc=example,dc=com",
-        9,
+        None,
         "uid=ada,ou=people,dc=example,dc=com",
     ),
-    ("uid=eve,ou=people,dc=example,dc=com", 9, "none"),
-    ("dc=com", 9, "none"),
-    ("", 9, "none"),
+    ("uid=eve,ou=people,dc=example,dc=com", None, "none"),
+    ("dc=com", None, "none"),
+    ("", None, "none"),
     (
         "cn=key,uid=ada,ou=people,dc=example,dc=com",
-        5,
+        Some(5),
         "cn=key,uid=ada,ou=people,dc=example,dc=com",
     ),
     (
         "cn=key,uid=ada,ou=people,dc=example,dc=com",
-        3,
+        Some(3),
         "ou=people,dc=example,dc=com",
     ),
     (
         "cn=key,uid=ada,ou=people,dc=example,dc=com",
-        2,
+        Some(2),
         "dc=example,dc=com",
     ),
-    ("cn=key,uid=ada,ou=people,dc=example,dc=com", 1, "none"),
-    ("cn=key,uid=ada,ou=people,dc=example,dc=com", 0, "none"),
-    ("cn=key,uid=ada,ou=people,dc=example,dc=com", 6, "none"),
+    (
+        "cn=key,uid=ada,ou=people,dc=example,dc=com",
+        Some(1),
+        "none",
+    ),
+    (
+        "cn=key,uid=ada,ou=people,dc=example,dc=com",
+        Some(0),
+        "none",
+    ),
+    (
+        "cn=key,uid=ada,ou=people,dc=example,dc=com",
+        Some(6),
+        "none",
+    ),
 ];
 
 #[test]
 fn an_entry_is_found_by_its_name_and_by_a_front_of_a_name(rt: HostRuntime) -> Result<(), Fail> {
     assert_eq!(rt; suffix(&rt)?.as_str(), "dc=example,dc=com");
-    for (text, len, want) in &FRONTS {
-        let found = found_by(&rt, text, *len)?;
-        assert_eq!(rt; found.as_str(), *want, "{len} of {text}");
+    for (text, front, want) in &FRONTS {
+        let found = found_by(&rt, text, *front)?;
+        assert_eq!(rt; found.as_str(), *want, "{front:?} of {text}");
     }
     Ok(())
 }
@@ -216,11 +217,7 @@ fn a_superior_is_the_entry_without_the_last_rdn(rt: HostRuntime) -> Result<(), F
 // What putting an entry in answers, and how many entries there are then.
 fn put_in(rt: &HostRuntime, text: &str) -> Result<(Option<InsertRefusal>, usize), Fail> {
     let mut tree = tree_of(rt, &NAMES)?;
-    let entry = entry(rt.alloc(), text)?;
-    if entry.name().len() == 0 {
-        return Ok((None, 0));
-    }
-    let refusal = tree.insert(entry).err();
+    let refusal = insert(&mut tree, entry(rt.alloc(), text)?)?.err();
     Ok((refusal, tree.len()))
 }
 
@@ -294,10 +291,7 @@ fn out_and_in(rt: &HostRuntime, text: &str) -> Result<(Option<EntryNo>, bool, us
     let name = name(rt.alloc(), text)?;
     let entry = tree.remove(tree.find(&name).ok_or("no entry")?)?;
     let between = tree.find(&name);
-    if entry.name().len() == 0 {
-        return Ok((between, false, 0));
-    }
-    let again = tree.insert(entry)?;
+    let again = insert(&mut tree, entry)??;
     Ok((between, tree.find(&name) == Some(again), tree.len()))
 }
 
@@ -312,16 +306,9 @@ fn an_entry_that_went_out_comes_in_again(rt: HostRuntime) -> Result<(), Fail> {
 fn subentry(alloc: Global, text: &str) -> Result<Entry, Fail> {
     let mut entry = entry(alloc, text)?;
     for class in &["subentry", "accessControlSubentry"] {
-        add_class(alloc, &mut entry, class)?;
+        let _added = put(alloc, &mut entry, "objectClass", class)?;
     }
     Ok(entry)
-}
-
-fn add_class(alloc: Global, entry: &mut Entry, class: &str) -> Result<(), Fail> {
-    let kind = attr("objectClass").ok_or("no such type")?;
-    let value = make_value(alloc, kind, class.as_bytes().to_vec(alloc)?)?;
-    let _added = entry.push(kind, value)?;
-    Ok(())
 }
 
 // How many access control subentries the tree has after one is put in, after an entry of none takes its place, after
@@ -329,11 +316,7 @@ fn add_class(alloc: Global, entry: &mut Entry, class: &str) -> Result<(), Fail> 
 fn counts(rt: &HostRuntime, text: &str) -> Result<(usize, usize, usize, usize), Fail> {
     let alloc = rt.alloc();
     let mut tree = tree_of(rt, &NAMES)?;
-    let given = subentry(alloc, text)?;
-    if given.name().len() == 0 {
-        return Ok((9, 9, 9, 9));
-    }
-    let no = tree.insert(given)?;
+    let no = insert(&mut tree, subentry(alloc, text)?)??;
     let first = tree.access_subentries();
     let back = tree.replace(no, entry(alloc, text)?)?;
     let second = tree.access_subentries();

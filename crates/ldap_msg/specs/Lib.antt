@@ -5,5 +5,5 @@ pub mod Messages
 pub mod Replies
 pub mod Laws
 pub mod Reading
--- what the crate's inside promises itself
+-- for the inside of the crate alone
 pub mod Writing

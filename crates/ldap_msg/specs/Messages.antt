@@ -49,7 +49,7 @@ SaysRequest Unbind bytes = Elem 0x42 [] bytes
 SaysRequest (Abandon id) bytes = (content : List ℕ) × Elem 0x50 content bytes × IsNumberIn 0 2147483647 content id
 SaysRequest (Unbuilt tag) bytes = IsTrue (is_unbuilt tag) × ((content : List ℕ) × Elem tag content bytes)
 
--- what follows the operation: controls, where the message is marked, and further elements
+-- what follows the operation of a marked message: controls, and further elements
 pub record Marks (bytes : List ℕ) : Type 0 where
   pub content : List ℕ
   pub controls : List ℕ
@@ -58,6 +58,7 @@ pub record Marks (bytes : List ℕ) : Type 0 where
   pub further_elements : IsFurther no_controls further
   pub joins : bytes ≡ controls ++ further
 
+-- what follows the operation of a message, marked or not
 abbrev pub SaysTail : Bool → List ℕ → Type 0
 SaysTail true bytes = Marks bytes
 SaysTail false bytes = IsFurther no_controls bytes
@@ -79,9 +80,11 @@ pub record Says (message : Message) (bytes : List ℕ) : Type 0 where
 
 -- ---- computed
 
+-- the authentication that an element says
 unfoldable pub auth_of : Piece → Auth
 auth_of piece = if piece.tag == 0x80 then Simple piece.content else Other piece.tag
 
+-- the bind request that a content says
 unfoldable pub bind_of : List ℕ → Option BindRequest
 bind_of content = do
   number ← tagged_at 0x02 content
@@ -90,6 +93,7 @@ bind_of content = do
   auth ← piece_at name.rest
   if are_pieces any_tag auth.rest then Some (record { version = version; name = name.content; auth = auth_of auth }) else None
 
+-- the request that an operation's element says
 unfoldable pub request_of : Piece → Option Request
 request_of operation =
     if operation.tag == 0x60 then (bind_of operation.content >>= λ request. Some (Bind request))
@@ -104,6 +108,7 @@ marked_behind bytes =
     if are_pieces no_controls bytes then Some false
     else (tagged_at 0xa0 bytes >>= λ controls. if are_pieces no_controls controls.rest then Some true else None)
 
+-- the message that the content of its element says
 unfoldable pub message_in : List ℕ → Option Message
 message_in content = do
   number ← tagged_at 0x02 content

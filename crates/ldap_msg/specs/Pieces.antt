@@ -21,15 +21,16 @@ abbrev pub ArePieces : (ℕ → Bool) → List (List ℕ) → List ℕ → Type 
 ArePieces allowed [] bytes = bytes ≡ []
 ArePieces allowed (piece ∷ pieces) bytes = IsPiece allowed piece × ((rest : List ℕ) × (bytes ≡ piece ++ rest) × ArePieces allowed pieces rest)
 
+-- octets that are any number of such elements
 pub record IsFurther (allowed : ℕ → Bool) (bytes : List ℕ) : Type 0 where
   pub pieces : List (List ℕ)
   pub are : ArePieces allowed pieces bytes
 
 -- the content of an INTEGER from low to high
-pub record IsNumberIn (low high : ℕ) (content : List ℕ) (n : ℕ) : Type 0 where
-  pub stands : IsInteger content (pos n)
-  pub from_low : low ≤ n
-  pub to_high : n ≤ high
+pub record IsNumberIn (low high : ℕ) (content : List ℕ) (number : ℕ) : Type 0 where
+  pub stands : IsInteger content (pos number)
+  pub from_low : low ≤ number
+  pub to_high : number ≤ high
 
 -- ---- computed
 
@@ -39,6 +40,7 @@ pub record Piece : Type 0 where
   pub content : List ℕ
   pub rest : List ℕ
 
+-- the element behind a heading that was read, where all its content is there
 unfoldable pub piece_of : List ℕ → Header → Option Piece
 piece_of bytes (header.Head tag head len) =
     if nat_lt (length (drop head bytes)) len then None
@@ -46,13 +48,15 @@ piece_of bytes (header.Head tag head len) =
 piece_of bytes header.Short = None
 piece_of bytes header.Bad = None
 
+-- the element at the front, where all its octets are there
 unfoldable pub piece_at : List ℕ → Option Piece
 piece_at bytes = piece_of bytes (header_at bytes)
 
 infixl 10 ◌>>=◌
+-- the next step, where there is something
 abbrev pub ◌>>=◌ : {A B : Type 0} → Option A → (A → Option B) → Option B
-(Some x) >>= f = f x
-None >>= f = None
+(Some value) >>= next = next value
+None >>= next = None
 
 -- an element with this tag at the front
 unfoldable pub tagged_at : ℕ → List ℕ → Option Piece
@@ -60,12 +64,13 @@ tagged_at tag bytes = do
   piece ← piece_at bytes
   if piece.tag == tag then Some piece else None
 
--- the natural number from low to high that a content stands for
+-- the integer as a natural number, where there is one and it is from low to high
 abbrev pub natural_in : ℕ → ℕ → Option ℤ → Option ℕ
 natural_in low high None = None
-natural_in low high (Some (pos n)) = if nat_le low n && nat_le n high then Some n else None
-natural_in low high (Some (negsuc n)) = None
+natural_in low high (Some (pos number)) = if nat_le low number && nat_le number high then Some number else None
+natural_in low high (Some (negsuc number)) = None
 
+-- the number from low to high that is the content of an INTEGER
 unfoldable pub number_in : ℕ → ℕ → List ℕ → Option ℕ
 number_in low high content = natural_in low high (int_at content)
 
@@ -76,9 +81,9 @@ piece_and allowed behind (Some piece) = allowed piece.tag && behind piece.rest
 
 -- the octets are at most so many elements, each with an allowed tag
 unfoldable pub pieces_of : ℕ → (ℕ → Bool) → List ℕ → Bool
-pieces_of k allowed [] = true
-pieces_of zero allowed (b ∷ bytes) = false
-pieces_of (suc k) allowed (b ∷ bytes) = piece_and allowed (pieces_of k allowed) (piece_at (b ∷ bytes))
+pieces_of most allowed [] = true
+pieces_of zero allowed (octet ∷ bytes) = false
+pieces_of (suc most) allowed (octet ∷ bytes) = piece_and allowed (pieces_of most allowed) (piece_at (octet ∷ bytes))
 
 -- the octets are elements, each with an allowed tag
 unfoldable pub are_pieces : (ℕ → Bool) → List ℕ → Bool

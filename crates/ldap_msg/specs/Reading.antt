@@ -12,12 +12,12 @@ Fails fault.NoMemory read = Unit {0}
 
 -- what was returned, seen by view, is what is computed, unless memory ran out
 abbrev pub Gives : {X Y : Type 0} → (X → Y) → Result X ReadFault → Option Y → Type 0
-Gives view (Ok x) read = read ≡ Some (view x)
-Gives view (Err e) read = Fails e read
+Gives view (Ok value) read = read ≡ Some (view value)
+Gives view (Err cause) read = Fails cause read
 
 -- what was returned, seen by view, is what is computed
 abbrev pub Finds : {X Y : Type 0} → (X → Y) → Option X → Option Y → Type 0
-Finds view (Some x) read = read ≡ Some (view x)
+Finds view (Some value) read = read ≡ Some (view value)
 Finds view None read = read ≡ None
 
 -- an element without where it lies in memory

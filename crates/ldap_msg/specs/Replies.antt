@@ -13,7 +13,7 @@ element_octets tag content = header_octets tag (length content) ++ content
 
 -- LDAPResult ::= SEQUENCE { resultCode ENUMERATED, matchedDN LDAPDN, diagnosticMessage LDAPString, ... }
 unfoldable pub result_octets : LdapResult → List ℕ
-result_octets r = element_octets 0x0a (int_octets (pos r.code)) ++ (element_octets 0x04 r.matched ++ element_octets 0x04 [])
+result_octets result = element_octets 0x0a (int_octets (pos result.code)) ++ (element_octets 0x04 result.matched ++ element_octets 0x04 [])
 
 -- an optional component
 unfoldable pub optional_octets : ℕ → Option (List ℕ) → List ℕ
@@ -22,25 +22,25 @@ optional_octets tag (Some value) = element_octets tag value
 
 -- the operation's tag
 unfoldable pub operation_tag : Reply → ℕ
-operation_tag (Bind r) = 0x61
-operation_tag (Done r) = 0x65
-operation_tag (Modify r) = 0x67
-operation_tag (Add r) = 0x69
-operation_tag (Delete r) = 0x6b
-operation_tag (Rename r) = 0x6d
-operation_tag (Compare r) = 0x6f
-operation_tag (Extended r name value) = 0x78
+operation_tag (Bind result) = 0x61
+operation_tag (Done result) = 0x65
+operation_tag (Modify result) = 0x67
+operation_tag (Add result) = 0x69
+operation_tag (Delete result) = 0x6b
+operation_tag (Rename result) = 0x6d
+operation_tag (Compare result) = 0x6f
+operation_tag (Extended result name value) = 0x78
 
 -- the operation's content
 unfoldable pub operation_content : Reply → List ℕ
-operation_content (Bind r) = result_octets r
-operation_content (Done r) = result_octets r
-operation_content (Modify r) = result_octets r
-operation_content (Add r) = result_octets r
-operation_content (Delete r) = result_octets r
-operation_content (Rename r) = result_octets r
-operation_content (Compare r) = result_octets r
-operation_content (Extended r name value) = result_octets r ++ (optional_octets 0x8a name ++ optional_octets 0x8b value)
+operation_content (Bind result) = result_octets result
+operation_content (Done result) = result_octets result
+operation_content (Modify result) = result_octets result
+operation_content (Add result) = result_octets result
+operation_content (Delete result) = result_octets result
+operation_content (Rename result) = result_octets result
+operation_content (Compare result) = result_octets result
+operation_content (Extended result name value) = result_octets result ++ (optional_octets 0x8a name ++ optional_octets 0x8b value)
 
 -- the content of the message
 unfoldable pub reply_content : ℕ → Reply → List ℕ
@@ -55,9 +55,9 @@ pub record IsWritable (id : ℕ) (reply : Reply) : Type 0 where
   pub fits : length (reply_content id reply) < 2 ^ 32
 
 -- a code of one octet, and a matched name below 2 ^ 30 octets
-pub record IsShortResult (r : LdapResult) : Type 0 where
-  pub code : r.code < 256
-  pub matched : length r.matched < 2 ^ 30
+pub record IsShortResult (result : LdapResult) : Type 0 where
+  pub code : result.code < 256
+  pub matched : length result.matched < 2 ^ 30
 
 -- a value below 2 ^ 30 octets, or none
 abbrev pub IsShortValue : Option (List ℕ) → Type 0
@@ -66,30 +66,30 @@ IsShortValue (Some value) = length value < 2 ^ 30
 
 -- a reply of such parts
 abbrev pub IsShort : Reply → Type 0
-IsShort (Bind r) = IsShortResult r
-IsShort (Done r) = IsShortResult r
-IsShort (Modify r) = IsShortResult r
-IsShort (Add r) = IsShortResult r
-IsShort (Delete r) = IsShortResult r
-IsShort (Rename r) = IsShortResult r
-IsShort (Compare r) = IsShortResult r
-IsShort (Extended r name value) = IsShortResult r × IsShortValue name × IsShortValue value
+IsShort (Bind result) = IsShortResult result
+IsShort (Done result) = IsShortResult result
+IsShort (Modify result) = IsShortResult result
+IsShort (Add result) = IsShortResult result
+IsShort (Delete result) = IsShortResult result
+IsShort (Rename result) = IsShortResult result
+IsShort (Compare result) = IsShortResult result
+IsShort (Extended result name value) = IsShortResult result × IsShortValue name × IsShortValue value
 
 -- a result with a code of one octet and the empty matched name
-pub record IsBare (r : LdapResult) : Type 0 where
-  pub code : r.code < 256
-  pub matched : r.matched ≡ []
+pub record IsBare (result : LdapResult) : Type 0 where
+  pub code : result.code < 256
+  pub matched : result.matched ≡ []
 
 -- a reply with such a result and, where it is extended, no name and no value
 abbrev pub IsPlain : Reply → Type 0
-IsPlain (Bind r) = IsBare r
-IsPlain (Done r) = IsBare r
-IsPlain (Modify r) = IsBare r
-IsPlain (Add r) = IsBare r
-IsPlain (Delete r) = IsBare r
-IsPlain (Rename r) = IsBare r
-IsPlain (Compare r) = IsBare r
-IsPlain (Extended r name value) = IsBare r × (name ≡ None) × (value ≡ None)
+IsPlain (Bind result) = IsBare result
+IsPlain (Done result) = IsBare result
+IsPlain (Modify result) = IsBare result
+IsPlain (Add result) = IsBare result
+IsPlain (Delete result) = IsBare result
+IsPlain (Rename result) = IsBare result
+IsPlain (Compare result) = IsBare result
+IsPlain (Extended result name value) = IsBare result × (name ≡ None) × (value ≡ None)
 
 -- 1.3.6.1.4.1.1466.20036
 abbrev pub notice_name : List ℕ

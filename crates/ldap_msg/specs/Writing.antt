@@ -15,11 +15,11 @@ OptionalFits (Some value) = length value < 2 ^ 32
 
 -- the lengths of the parts have spellings
 abbrev pub PartsFit : Reply → Type 0
-PartsFit (Bind r) = length r.matched < 2 ^ 32
-PartsFit (Done r) = length r.matched < 2 ^ 32
-PartsFit (Modify r) = length r.matched < 2 ^ 32
-PartsFit (Add r) = length r.matched < 2 ^ 32
-PartsFit (Delete r) = length r.matched < 2 ^ 32
-PartsFit (Rename r) = length r.matched < 2 ^ 32
-PartsFit (Compare r) = length r.matched < 2 ^ 32
-PartsFit (Extended r name value) = (length r.matched < 2 ^ 32) × OptionalFits name × OptionalFits value
+PartsFit (Bind result) = length result.matched < 2 ^ 32
+PartsFit (Done result) = length result.matched < 2 ^ 32
+PartsFit (Modify result) = length result.matched < 2 ^ 32
+PartsFit (Add result) = length result.matched < 2 ^ 32
+PartsFit (Delete result) = length result.matched < 2 ^ 32
+PartsFit (Rename result) = length result.matched < 2 ^ 32
+PartsFit (Compare result) = length result.matched < 2 ^ 32
+PartsFit (Extended result name value) = (length result.matched < 2 ^ 32) × OptionalFits name × OptionalFits value

@@ -59,8 +59,8 @@ pub fn tagged(tag: u8, bytes: &[u8]) -> Result<Element<'_>, ReadFault>
 /// The natural number of a content, from `low` to `high`.
 #[tactic(auto, unfolding(crate::specs::Pieces::number_in))]
 pub fn number(low: u32, high: u32, content: &[u8]) -> Result<u32, ReadFault>
-    ensures value { Gives (λ n. n) result (number_in low high content.now) }
-    ensures range { IfOk result (λ n. (low ≤ n) × (n ≤ high)) }
+    ensures value { Gives (λ value. value) result (number_in low high content.now) }
+    ensures range { IfOk result (λ number. (low ≤ number) × (number ≤ high)) }
 {
     match read_int(content) {
         None => Err(ReadFault::BadMessage),

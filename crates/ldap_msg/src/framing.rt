@@ -35,7 +35,7 @@ fn framing(bytes: &[u8]) -> Frame
 }
 
 /// What stands at the front of a stream: a whole message with its length, less than one, or
-/// octets that begin none (RFC 4511 5.1). A message is an element with the tag of a SEQUENCE and
+/// octets that begin none (RFC 4511 5). A message is an element with the tag of a SEQUENCE and
 /// at most `MAX_CONTENT` content octets. This takes no memory.
 pub fn frame(bytes: &[u8]) -> Frame
     // The answer is the one that the stream has.

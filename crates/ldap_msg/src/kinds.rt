@@ -13,7 +13,7 @@ pub type NoMemory = AllocError;
 /// The most content octets that a message may have here.
 pub const MAX_CONTENT: usize = 1_048_576;
 
-/// What stands at the front of a stream (RFC 4511 5.1).
+/// What stands at the front of a stream (RFC 4511 5).
 #[derive(Clone, Copy, Debug, PartialEq, Eq)]
 pub enum Frame {
     /// A whole message, of so many octets.
@@ -105,7 +105,7 @@ pub enum ReadFault {
 }
 
 impl From<AllocError> for ReadFault {
-    ghost from_gives = { λ _ e. e ≡ NoMemory };
+    ghost from_gives = { λ _ fault. fault ≡ NoMemory };
 
     fn from(_error: AllocError) -> ReadFault {
         ReadFault::NoMemory

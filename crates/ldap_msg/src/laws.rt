@@ -11,34 +11,34 @@ ghost use Rattle.ldap_msg.specs.Laws.{GoesOn, IsDone, StepsOver, StopsAt, OnlyWh
 
 /// The messages of a stream are those of its front, and then those of its rest with what came.
 pub fn streams_go_on()
-    ensures grows { (s piece : List ℕ) → GoesOn s piece }
+    ensures grows { (stream piece : List ℕ) → GoesOn stream piece }
     ensures no_messages { whole [] ≡ [] }
     ensures no_rest { rest_of [] ≡ [] }
 {}
 
 /// What follows the messages has none, and is bounded.
 pub fn rests_are_done()
-    ensures { (s : List ℕ) → IsDone s }
+    ensures { (stream : List ℕ) → IsDone stream }
 {}
 
 /// One step of a reader that takes messages where they lie.
 pub fn streams_step()
-    ensures whole { (s : List ℕ) (n : ℕ) → frame_at s ≡ Whole n → StepsOver s n }
-    ensures more { (s : List ℕ) → frame_at s ≡ More → StopsAt s false }
-    ensures bad { (s : List ℕ) → frame_at s ≡ Bad → StopsAt s true }
+    ensures whole { (stream : List ℕ) (count : ℕ) → frame_at stream ≡ Whole count → StepsOver stream count }
+    ensures more { (stream : List ℕ) → frame_at stream ≡ More → StopsAt stream false }
+    ensures bad { (stream : List ℕ) → frame_at stream ≡ Bad → StopsAt stream true }
 {}
 
-/// The messages of a stream are the longest list of outer elements whose joined octets are a front
-/// of it, and the only such list.
+/// The messages of a stream are the outer elements at its front, one behind the other and as many
+/// as there can be; no other list is that.
 pub fn messages_are_longest()
-    ensures found { (s : List ℕ) → IsWhole s (whole s) (rest_of s) }
-    ensures only { (s : List ℕ) (messages : List (List ℕ)) (rest : List ℕ) → IsWhole s messages rest → OnlyWhole s messages rest }
+    ensures found { (stream : List ℕ) → IsWhole stream (whole stream) (rest_of stream) }
+    ensures only { (stream : List ℕ) (messages : List (List ℕ)) (rest : List ℕ) → IsWhole stream messages rest → OnlyWhole stream messages rest }
 {}
 
 /// A stream is broken exactly where its rest is.
 pub fn broken_streams()
-    ensures found { (s : List ℕ) → is_broken s ≡ true → IsBroken (rest_of s) }
-    ensures only { (s : List ℕ) → IsBroken (rest_of s) → is_broken s ≡ true }
+    ensures found { (stream : List ℕ) → is_broken stream ≡ true → IsBroken (rest_of stream) }
+    ensures only { (stream : List ℕ) → IsBroken (rest_of stream) → is_broken stream ≡ true }
 {}
 
 /// Octets say one message.

@@ -16,7 +16,7 @@ use std::alloc::{AllocError, Global};
 const MAX_ID: u32 = 2_147_483_647;
 
 fn copied(alloc: Global, octets: &[u8]) -> Result<Octets, ReadFault>
-    ensures { Gives (λ o. o) result (Some octets.now) }
+    ensures { Gives (λ value. value) result (Some octets.now) }
 {
     Ok(Octets::from_vec(Vec::from_slice(alloc, octets)?))
 }
@@ -56,7 +56,7 @@ fn are_no_controls(bytes: &[u8]) -> bool
 
 #[tactic(auto, unfolding(crate::specs::Messages::auth_of))]
 fn auth(alloc: Global, element: Element<'_>) -> Result<Auth, ReadFault>
-    ensures { Gives (λ a. a) result (Some (auth_of (piece_view element.entry))) }
+    ensures { Gives (λ value. value) result (Some (auth_of (piece_view element.entry))) }
 {
     if element.tag == 0x80 {
         return Ok(Auth::Simple(copied(alloc, element.content)?));
@@ -66,7 +66,7 @@ fn auth(alloc: Global, element: Element<'_>) -> Result<Auth, ReadFault>
 
 #[tactic(auto, unfolding(crate::specs::Messages::bind_of))]
 fn bind(alloc: Global, content: &[u8]) -> Result<BindRequest, ReadFault>
-    ensures { Gives (λ r. r) result (bind_of content.now) }
+    ensures { Gives (λ value. value) result (bind_of content.now) }
 {
     let version_element = tagged(0x02, content)?;
     let version = number(1, 127, version_element.content)?;
@@ -92,7 +92,7 @@ fn is_unbuilt(tag: u8) -> bool
 
 #[tactic(auto, unfolding(crate::specs::Messages::request_of))]
 fn request(alloc: Global, operation: Element<'_>) -> Result<Request, ReadFault>
-    ensures { Gives (λ r. r) result (request_of (piece_view operation.entry)) }
+    ensures { Gives (λ value. value) result (request_of (piece_view operation.entry)) }
 {
     if operation.tag == 0x60 {
         return Ok(Request::Bind(bind(alloc, operation.content)?));
@@ -115,7 +115,7 @@ fn request(alloc: Global, operation: Element<'_>) -> Result<Request, ReadFault>
 /// Whether controls follow the operation.
 #[tactic(auto, unfolding(crate::specs::Messages::marked_behind))]
 fn marked(bytes: &[u8]) -> Result<bool, ReadFault>
-    ensures { Gives (λ b. b) result (marked_behind bytes.now) }
+    ensures { Gives (λ value. value) result (marked_behind bytes.now) }
 {
     if are_no_controls(bytes) {
         return Ok(false);
@@ -129,7 +129,7 @@ fn marked(bytes: &[u8]) -> Result<bool, ReadFault>
 
 #[tactic(auto, unfolding(crate::specs::Messages::message_in))]
 fn components(alloc: Global, content: &[u8]) -> Result<Message, ReadFault>
-    ensures { Gives (λ m. m) result (message_in content.now) }
+    ensures { Gives (λ value. value) result (message_in content.now) }
 {
     let id_element = tagged(0x02, content)?;
     let id = number(1, MAX_ID, id_element.content)?;
@@ -145,7 +145,7 @@ fn components(alloc: Global, content: &[u8]) -> Result<Message, ReadFault>
 
 #[tactic(auto, unfolding(crate::specs::Messages::message_of))]
 fn message(alloc: Global, bytes: &[u8]) -> Result<Message, ReadFault>
-    ensures { Gives (λ m. m) result (message_of bytes.now) }
+    ensures { Gives (λ value. value) result (message_of bytes.now) }
 {
     let outer = tagged(0x30, bytes)?;
     if !outer.rest.is_empty() {
@@ -155,7 +155,7 @@ fn message(alloc: Global, bytes: &[u8]) -> Result<Message, ReadFault>
 }
 
 /// The request that the octets say. They are one whole message; `BadMessage` comes exactly where
-/// they aren't a request's (RFC 4511 section 4), `NoMemory` where there was no memory.
+/// they aren't a request's (RFC 4511 section 4), and `NoMemory` may come in place of any answer.
 pub fn read_request(alloc: Global, bytes: &[u8]) -> Result<Message, ReadFault>
     // What is read is what the octets say.
     ensures found { IfOk result (λ message. Says message bytes.now) }

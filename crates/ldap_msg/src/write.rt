@@ -183,8 +183,8 @@ fn put_message(out: &mut Vec<u8>, id: u32, reply: &Reply) -> Result<(), NoMemory
     put_content(out, reply)
 }
 
-/// Appends a reply's message: the one written spelling (RFC 4511 section 4). After the error,
-/// want of memory, `out` is as before.
+/// Appends a reply's message: the one written spelling (RFC 4511 section 4), whose content has
+/// less than 2^32 octets. After the error, want of memory, `out` is as before.
 pub fn put_reply(out: &mut Vec<u8>, id: u32, reply: &Reply) -> Result<(), NoMemory>
     requires { IsWritable id reply.now }
     ensures ok { OnOk result (out.new.items ≡ out.old.items ++ reply_octets id reply.now) }

@@ -83,11 +83,6 @@ pub records-blank_ahead : (line : Option Line) (rest : List Line) → is_blank_a
 records-blank_ahead None rest blank = refl
 records-blank_ahead (Some line) rest blank = records-blank line rest blank
 
--- an empty line that was read is one of those that are left
-pub blank-counts : (line : Option Line) (rest : List Line) → is_blank_ahead line ≡ true → length rest < length (ahead line rest)
-blank-counts None rest blank = cc blank
-blank-counts (Some line) rest blank = omega arith
-
 -- after an empty line a further line is later still
 pub IsRead-blank : (line found : Option Line) (from at to : ℕ) → is_blank_ahead line ≡ true → IfSome line (λ _. from < at) → IfSome found (λ _. at < to) → IfSome found (λ _. from < to)
 IsRead-blank None found from at to blank before later = cc blank

@@ -1,11 +1,10 @@
 -- Lemmas on lines with their continuations.
-use Rattle.std.proofs.Common.{◌≡◌, ℕ, ◌<◌, ◌∙◌, sym, ap, refl, Bool, true, false, List, [], ◌∷◌, ◌++◌, length, drop, if◌then◌else◌}
+use Rattle.std.proofs.Common.{◌≡◌, ℕ, ◌<◌, ◌∙◌, sym, ap, refl, Bool, true, false, List, [], ◌∷◌, ◌++◌, drop, if◌then◌else◌}
 use Rattle.std.proofs.lemmas.List.{append-nil, append_assoc}
 use Rattle.ldif_core.specs.declared.types.Position.{Position}
 use Rattle.ldif_core.specs.Lines.{Line, is_continuation, continued, beginning, logical}
 use Rattle.ldif_core.specs.Places.{physical_from, logical_from}
 use Rattle.ldif_core.specs.Steps.{goes_on}
-use Rattle.ldif_core.proofs.PhysicalLemmas.{begins_with-filled}
 
 -- a test that holds chooses the first, one that fails the second
 pub choose : {A : Type 0} (test : Bool) (found other : A) → test ≡ true → (if test then found else other) ≡ found
@@ -54,10 +53,6 @@ logical-alone text at after line first none =
     logical-joined text at after after line line.octets first
     (sym (append-nil line.octets) ∙ ap (λ more. line.octets ++ more) (sym (continued-none (physical_from text after) none)))
     (beginning-none (physical_from text after) none)
-
--- a line that continues another has an octet
-pub is_continuation-filled : (lines : List Line) (line : Line) (rest : List Line) → lines ≡ line ∷ rest → goes_on lines ≡ true → 0 < length line.octets
-is_continuation-filled lines line rest first more = begins_with-filled 32 line.octets (ap goes_on (sym first) ∙ more)
 
 -- one continuation more was joined
 pub continued-step : (front whole : List ℕ) (lines : List Line) (line : Line) (rest : List Line) → lines ≡ line ∷ rest → goes_on lines ≡ true

@@ -101,10 +101,6 @@ file-records number (entry ∷ rest) are =
     ∙ records-entry (number + 1) entry (file_rows next rest) are.0 (file-ends next rest)
     ∙ ap (λ later. Ok (record_from (number + 1) entry) ∷ later) (file-after next rest ∙ file-records next rest are.1)
 
--- the version is left out at the start of a file
-version_row : Line
-version_row = record { number = 1; octets = codes "version: 1" }
-
 body-version : (rows : List Line) → without_version (record { number = 1; octets = codes "version: 1" } ∷ rows) ≡ rows
 unfolding without_version is_version
 body-version rows = refl

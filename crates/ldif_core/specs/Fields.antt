@@ -13,7 +13,7 @@ use Rattle.ldif_core.specs.declared.types.BadLine.TheVariants.{Bad}
 use Rattle.ldif_core.specs.declared.types.LineCause.TheVariants.{Syntax, Changetype, Base64}
 use Rattle.ldif_core.specs.Lines.{Line, begins_with}
 
--- the text of a type: a letter followed by letters, digits and hyphens, or a dotted object identifier
+-- the text of a type: a keystring or a numericoid (RFC 4512 1.4)
 unfoldable pub is_kind : List ℕ → Bool
 is_kind text = is_keystring text || is_dotted_oid text
 

@@ -5,5 +5,5 @@ pub mod Records
 pub mod Places
 pub mod Written
 pub mod WrittenFile
--- what only this crate's inside promises itself
+-- for the inside of the crate alone
 pub mod Steps

@@ -8,7 +8,7 @@ use Rattle.ldif_core.specs.declared.types.BadLine.{BadLine}
 use Rattle.ldif_core.specs.Lines.{Line, begins_with}
 use Rattle.ldif_core.specs.Fields.{attribute_line, name_line}
 
--- a comment says nothing, and ends nothing
+-- the line is a comment: it says nothing, and ends nothing
 abbrev pub is_comment : Line → Bool
 is_comment line = begins_with 35 line.octets
 
@@ -29,8 +29,8 @@ without_version (line ∷ rest) = if is_version line then rest else line ∷ res
 abbrev pub is_blank : Line → Bool
 is_blank line = length line.octets == 0
 
--- the ? of the logic: the second step, where the first gave something
 infixl 10 ◌>>=◌
+-- the ? of the logic: the second step, where the first gave something
 abbrev pub ◌>>=◌ : {A B : Type 0} → Result A BadLine → (A → Result B BadLine) → Result B BadLine
 Ok value >>= next = next value
 Err bad >>= next = Err bad

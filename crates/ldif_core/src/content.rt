@@ -10,7 +10,7 @@ use crate::types::{NoMemory, Position};
 use crate::unfolded::{Unfolded, first_unfolded};
 use std::alloc::Global;
 
-/// The first line that is no comment from a place on, if there is one, and the place after it.
+/// The next line, from a place on, that is no comment, if there is one, and the place after it.
 pub(crate) fn next_content(
     alloc: Global,
     text: &[u8],

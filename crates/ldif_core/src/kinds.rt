@@ -17,7 +17,7 @@ fn are_key_octets(octets: &[u8]) -> bool
         .all(|octet| octet.is_ascii_alphanumeric() || *octet == b'-')
 }
 
-// Whether the text is a letter followed by letters, digits and hyphens.
+// Whether the text is a keystring (RFC 4512 1.4): a letter, and then any of letters, digits and hyphens.
 fn is_keystring(text: &[u8]) -> bool
     ensures { result ≡ is_keystring text.now }
 {

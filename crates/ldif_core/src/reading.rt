@@ -70,11 +70,12 @@ fn record_after(
     Ok((record, at))
 }
 
-/// Reads the next record of a data file (RFC 2849), and gives the place after it. The first call takes the place of
-/// offset 0 and line 1, and each later call takes what the call before gave.
+/// Reads the next record of a data file (RFC 2849), and gives the place after it. A file is read from offset 0 and
+/// line 1 on; the place that a call gives is where the next call begins.
 ///
-/// None comes exactly where no record is left. `Bad` comes exactly where a line of the next record is bad, with the
-/// first such line: in each line `Syntax`, `Changetype` and `Base64` are tried in this order.
+/// None says that no further record follows, and comes in no other case. `Bad` tells the first bad line of the next
+/// record, and comes exactly where it has one: in each line `Syntax`, `Changetype` and `Base64` are tried in this
+/// order. `NoMemory` may come in place of any answer.
 pub fn next_record(
     alloc: Global,
     text: &[u8],

@@ -115,11 +115,12 @@ fn put_attributes(out: &mut Vec<u8>, entry: &Entry) -> Result<(), NoMemory>
 }
 
 /// Appends the record of an entry (RFC 2849): a line `dn` with the printed name, and a line for each value in their
-/// order. Lines end in LF and are not folded. A value stands after a colon and a space where it is empty, or where its
-/// octets are 1 to 127 without LF and CR, the first is no space, colon or `<`, and the last is no space; otherwise it
-/// stands after two colons and a space in padded base64.
+/// order. Lines end in LF and are not folded. A SAFE-STRING that does not end in a space stands as it is, after a colon
+/// and a space: ASCII with no NUL, LF and CR, and none of space, colon and `<` in front; it may be empty. Any other
+/// value stands in padded base64, after two colons and a space.
 ///
-/// The error comes where memory is refused; `out` is then as before. The empty line between records is not written.
+/// The entry's types are all in the table. The error comes where memory is refused; `out` is then as before. The empty
+/// line between records is not written.
 #[tactic(auto, unfolding(crate::specs::Written::written_entry))]
 pub fn put_entry(out: &mut Vec<u8>, entry: &Entry) -> Result<(), NoMemory>
     requires { AreInTable entry.now.attributes }

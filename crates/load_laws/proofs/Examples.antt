@@ -25,7 +25,8 @@ use Rattle.schema_rules.specs.Rules.{lacks_own_value, breaks_classes, has_unread
 use Rattle.op_write.specs.Loading.{loaded_value}
 use Rattle.op_write.specs.DataFile.{loads, ldif_text}
 use Rattle.load_laws.specs.Loadable.{IsLoadableValue, IsLoadable}
-use Rattle.load_laws.proofs.OctetLemmas.{IsBytes-from_IsUtf8}
+use Rattle.load_laws.proofs.OctetLemmas.{IsBytes-from_AreBelow, IsBytes-from_IsUtf8}
+use Rattle.load_laws.proofs.ValueLemmas.{IsLoadableValue-loaded}
 use Rattle.load_laws.proofs.LoadLemmas.{loads-ldif_text}
 
 -- a value of octets, with its key
@@ -84,6 +85,17 @@ read_acme = refl
 read_people : loaded_value 9 (codes "People") ≡ Some people
 unfolding keys
 read_people = refl
+
+-- a password too, which need not be a text: what is loaded of octets is loadable
+password : Keyed
+password = record { octets = 255 ∷ []; key = 255 ∷ [] }
+
+read_password : loaded_value 18 (255 ∷ []) ≡ Some password
+unfolding keys password
+read_password = refl
+
+loadable_password : IsLoadableValue 18 password
+loadable_password = IsLoadableValue-loaded 18 (255 ∷ []) password (IsBytes-from_AreBelow (255 ∷ []) (omega arith, tt)) read_password
 
 -- and so is each value of a name
 name_acme : naming_value 8 (codes "Acme") ≡ Some acme

@@ -6,3 +6,10 @@ mod PlaceLemmas
 mod OctetLemmas
 mod TextLemmas
 mod LoadLemmas
+mod PartLemmas
+mod DecodedLemmas
+mod FileLemmas
+mod ReadLemmas
+mod ValueLemmas
+mod LoadableLemmas
+mod JoinLemmas

@@ -1,5 +1,5 @@
 -- The printed form of a good name is a text, and so octets.
-use Rattle.std.proofs.Common.{◌≡◌, ℕ, zero, suc, ◌<◌, true, List, [], ◌∷◌, ◌++◌, subst, arith, inl, inr}
+use Rattle.std.proofs.Common.{◌≡◌, ℕ, zero, suc, ◌<◌, true, List, [], ◌∷◌, ◌++◌, take, drop, subst, arith, inl, inr}
 use Rattle.std.specs.List.{AllByRecursion}
 use Rattle.std.specs.Str.{IsUtf8}
 use Rattle.std.proofs.Math.Utf8.{encode, encodes, scalar, scalars, scalar_cases}
@@ -10,19 +10,30 @@ use Rattle.dn_names.specs.Names.{TypeAndValue, RdnSequence, IsTextRdn, IsTextNam
 use Rattle.dn_names.specs.GoodNames.{IsGoodPair, IsGoodRdn, IsGoodName}
 use Rattle.dn_names.specs.Printing.{print_name}
 use Rattle.dn_names.proofs.Theorems.{all_reverse, is_utf8-naming_value, IsUtf8-print_name}
+use Rattle.load_laws.proofs.PartLemmas.{all_take, all_drop, all_append}
 
 -- each is an octet
-abbrev AreBelow : List ℕ → Type 0
+abbrev pub AreBelow : List ℕ → Type 0
 AreBelow octets = AllByRecursion (λ octet. octet < 256) octets
 
-IsBytes-from_AreBelow : (octets : List ℕ) → AreBelow octets → IsBytes octets
+pub IsBytes-from_AreBelow : (octets : List ℕ) → AreBelow octets → IsBytes octets
 IsBytes-from_AreBelow [] below index = omega arith
 IsBytes-from_AreBelow (octet ∷ octets) below zero = below.0
 IsBytes-from_AreBelow (octet ∷ octets) below (suc index) = IsBytes-from_AreBelow octets below.1 index
 
-AreBelow-append : (one other : List ℕ) → AreBelow one → AreBelow other → AreBelow (one ++ other)
-AreBelow-append [] other below later = later
-AreBelow-append (octet ∷ one) other below later = (below.0, AreBelow-append one other below.1 later)
+pub AreBelow-from_IsBytes : (octets : List ℕ) → IsBytes octets → AreBelow octets
+AreBelow-from_IsBytes [] bytes = tt
+AreBelow-from_IsBytes (octet ∷ octets) bytes = (bytes 0, AreBelow-from_IsBytes octets (λ index. bytes (suc index)))
+
+-- parts of octets are octets
+pub AreBelow-append : (one other : List ℕ) → AreBelow one → AreBelow other → AreBelow (one ++ other)
+AreBelow-append one other below later = all_append (λ octet. octet < 256) one other below later
+
+pub below_take : (count : ℕ) (octets : List ℕ) → AreBelow octets → AreBelow (take count octets)
+below_take count octets below = all_take (λ octet. octet < 256) count octets below
+
+pub below_drop : (count : ℕ) (octets : List ℕ) → AreBelow octets → AreBelow (drop count octets)
+below_drop count octets below = all_drop (λ octet. octet < 256) count octets below
 
 -- the octets of a character
 AreBelow-encode : (c : ℕ) → c < 1114112 → AreBelow (encode c)

@@ -59,6 +59,9 @@ AreInTable-loadable [] good loadable = tt
 AreInTable-loadable (attribute ∷ attributes) good loadable =
     (in_table-first attribute.kind attribute.values good.0.filled loadable.0, AreInTable-loadable attributes good.1 loadable.1)
 
+pub AreInTable-from_IsLoadable : (entry : EntryInformation) → IsLoadable entry → AreInTable entry.attributes
+AreInTable-from_IsLoadable entry loadable = AreInTable-loadable entry.attributes loadable.good.good loadable.values
+
 -- and their octets are octets
 abbrev AreOctets : List TypeAndOctets → Type 0
 AreOctets found = AllByRecursion (λ (one : TypeAndOctets). IsBytes one.value) found
@@ -81,7 +84,7 @@ octets-values_in (attribute ∷ attributes) loadable =
 pub IsWritable-loadable : (entry : EntryInformation) → IsLoadable entry → breaks_classes entry ≡ false → IsWritable entry
 IsWritable-loadable entry loadable unbroken = record {
   filled = values_in-filled entry.attributes loadable.good.good (lists_some entry unbroken);
-  in_table = AreInTable-loadable entry.attributes loadable.good.good loadable.values;
+  in_table = AreInTable-from_IsLoadable entry loadable;
   name = IsBytes-print_name entry.name loadable.name;
   values = octets-values_in entry.attributes loadable.values;
 }

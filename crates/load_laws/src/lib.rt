@@ -1,6 +1,6 @@
-//! The law of saving: what is written of a good tree loads again.
+//! The laws of saving: what is written of a good tree loads again, and what is loaded can be written so.
 #![tactic(auto)]
 
 mod laws;
 
-pub use laws::what_is_written_loads_again;
+pub use laws::{what_is_loaded_is_loadable, what_is_written_loads_again};

@@ -1,6 +1,6 @@
 -- Keys of values: what two values must have alike to match.
--- RFC 4518 prepares a text by tables of its own. Here the preparation is NFKC, full case folding, NFKC, and then
--- the spaces: the Unicode Standard's forms stand for those tables, as a choice of this profile. So no character is
+-- RFC 4518 prepares a text by tables of its own. Here it is normalized (NFKC), folded in full as to case and normalized
+-- again, before its spaces: the Unicode Standard's forms stand for those tables, by this profile. So no character is
 -- mapped to nothing, controls stay as they are, none is prohibited, and a text of spaces alone has the empty key.
 use Rattle.std.specs.Prelude.{ℕ, Bool, ◌==◌, ◌||◌, not, List, filter, Option, Some, None, if◌then◌else◌}
 use Rattle.match_rules.specs.declared.rules.Rule.{Rule}

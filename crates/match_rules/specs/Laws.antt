@@ -16,10 +16,11 @@ use Rattle.match_rules.specs.Syntaxes.{IsOf, IsPartOf}
 abbrev pub lower_case : List ℕ → List ℕ
 lower_case = map to_ascii_lowercase
 
--- octets have no key exactly where they are not of the syntax, and parts likewise
+-- octets have no key exactly where they are not of the syntax
 abbrev pub KeyNeedsSyntax : Type 0
 KeyNeedsSyntax = (rule : Rule) (octets : List ℕ) → (key_of rule octets ≡ None) ↔ ¬ (IsOf rule octets)
 
+-- a part has no key exactly where it is none of the syntax
 abbrev pub PartKeyNeedsSyntax : Type 0
 PartKeyNeedsSyntax = (rule : Rule) (part : Part) (octets : List ℕ) → (part_key_of rule part octets ≡ None) ↔ ¬ (IsPartOf rule octets)
 
@@ -27,13 +28,15 @@ PartKeyNeedsSyntax = (rule : Rule) (part : Part) (octets : List ℕ) → (part_k
 abbrev pub TextKeyOfAscii : Type 0
 TextKeyOfAscii = (octets : List ℕ) → IsOf Text octets → IsAscii octets → key_of Text octets ≡ Some (cut_and_joined (lower_case octets))
 
+-- a value of the syntax of ASCII texts has this key too
 abbrev pub AsciiKeyOfAscii : Type 0
 AsciiKeyOfAscii = (octets : List ℕ) → IsOf Ascii octets → key_of Ascii octets ≡ Some (cut_and_joined (lower_case octets))
 
--- a telephone number's is the number in small letters without separators, and a country's the two small letters
+-- a telephone number's key is the number in small letters without separators
 abbrev pub PhoneKeyOfAscii : Type 0
 PhoneKeyOfAscii = (octets : List ℕ) → IsOf Phone octets → key_of Phone octets ≡ Some (without_separators (lower_case octets))
 
+-- a country's key is its two letters as small ones
 abbrev pub CountryKeyOfAscii : Type 0
 CountryKeyOfAscii = (octets : List ℕ) → IsOf Country octets → key_of Country octets ≡ Some (lower_case octets)
 

@@ -7,5 +7,5 @@ pub mod Syntaxes
 -- what those definitions are made of
 pub mod Folding
 pub mod Spaces
--- what the inside of the crate promises itself
+-- for the inside of the crate alone
 pub mod PartsInOrder

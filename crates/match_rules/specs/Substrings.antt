@@ -6,6 +6,6 @@ abbrev pub InOrder : List (List ℕ) → List ℕ → Type 0
 InOrder [] text = Unit {0}
 InOrder (part ∷ parts) text = (before rest : List ℕ) × (text ≡ before ++ (part ++ rest)) × InOrder parts rest
 
--- the key is the first part, then the middle parts in order with any octets round them, then the last part
+-- the key begins with the first part, ends with the last one, and has all middle parts in between, none over another
 abbrev pub IsSubstring : List ℕ → List ℕ → List (List ℕ) → List ℕ → Type 0
 IsSubstring key first middle last = (between : List ℕ) × (key ≡ first ++ (between ++ last)) × InOrder middle between

@@ -29,10 +29,11 @@ IsPartOf Phone octets = (octets ≢ []) × All IsPrintable octets
 IsPartOf Country octets = ((length octets ≡ 1) ⊎ (length octets ≡ 2)) × All IsLetter octets
 IsPartOf Octets octets = Unit {0}
 
--- the same by tests, for the definitions of keys; the two are proved to agree
+-- the same by tests, for the definitions of keys, and proved to agree with the above: a letter of ASCII
 abbrev pub is_letter : ℕ → Bool
 is_letter octet = nat_le 65 octet && nat_le octet 90 || nat_le 97 octet && nat_le octet 122
 
+-- a printable character of ASCII, by a test that is proved to agree
 abbrev pub is_printable : ℕ → Bool
 is_printable octet = nat_le 0x20 octet && nat_le octet 0x7E
 

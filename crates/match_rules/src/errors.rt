@@ -1,3 +1,5 @@
+//! Why octets have no key.
+
 ghost use Rattle.std.specs.Prelude.{◌≡◌};
 ghost use Rattle.match_rules.specs.declared.errors.PrepareFault.TheVariants.{NoMemory};
 

@@ -1,3 +1,5 @@
+//! Texts in their folded form.
+
 ghost use Rattle.std.specs.Prelude.{◌≡◌, IfOk, IsUtf8, string_bytes, encode_utf8_all, chars, map};
 ghost use Rattle.std.specs.Char.{to_ascii_lowercase};
 ghost use Rattle.match_rules.specs.Folding.{folded, folded_octets};

@@ -1,3 +1,5 @@
+//! The keys of values.
+
 ghost use Rattle.std.specs.Prelude.{◌≡◌, ◌↔◌, None, Some, IfOk, IsErrOf, IsUtf8};
 ghost use Rattle.match_rules.specs.Keys.{without_separators, prepared_text, prepared, key_of};
 ghost use Rattle.match_rules.specs.Syntaxes.{IsOf};
@@ -11,7 +13,7 @@ use std::alloc::{AllocError, Global};
 /// The key of a value: two values of one rule match where their keys are equal.
 ///
 /// `NotOfSyntax` comes exactly where the octets are not of the rule's syntax (RFC 4517, section 3.3), and then
-/// no memory is asked for.
+/// no memory is asked for; `NoMemory` may come in place of a key.
 pub fn prepare(alloc: Global, rule: Rule, octets: &[u8]) -> Result<Vec<u8>, PrepareFault>
     ensures ok { IfOk result (λ key. key_of rule octets.now ≡ Some key.items) }
     ensures not_of_syntax { IsErrOf result PrepareFault.NotOfSyntax

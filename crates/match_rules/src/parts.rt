@@ -1,3 +1,5 @@
+//! The keys of substring parts.
+
 ghost use Rattle.std.specs.Prelude.{◌≡◌, ◌↔◌, None, Some, IfOk, IsErrOf, IsUtf8};
 ghost use Rattle.match_rules.specs.Keys.{without_separators};
 ghost use Rattle.match_rules.specs.Parts.{cut_outer, prepared_part_text, prepared_part, part_key_of};
@@ -24,7 +26,8 @@ pub enum Part {
 /// The key of a substring part, which `substring` looks for in the key of a value.
 ///
 /// `NotOfSyntax` comes exactly where the octets can be no part of a value of the rule's syntax: a part of a
-/// country's name may be one letter, and any other part must be of the syntax itself.
+/// country's name may be one letter, and any other part must be of the syntax itself. `NoMemory` may come in place of a
+/// key.
 pub fn prepare_part(
     alloc: Global,
     rule: Rule,

@@ -1,3 +1,5 @@
+//! The rules, each with the syntax of its values.
+
 ghost use Rattle.std.specs.Prelude.{◌≢◌, ◌≤◌, ◌↔◌, [], All, IsTrue, IsAscii, IsUtf8};
 ghost use Rattle.match_rules.specs.Syntaxes.{IsLetter, IsPrintable, IsOf, IsPartOf};
 

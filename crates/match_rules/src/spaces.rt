@@ -1,3 +1,5 @@
+//! Spaces at the ends of a text, and runs of them within.
+
 ghost use Rattle.std.specs.Prelude.{◌≡◌, ◌≤◌, length, drop};
 ghost use Rattle.match_rules.specs.Spaces.{cut_front, cut_end, single_spaces};
 

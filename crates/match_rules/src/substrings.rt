@@ -1,3 +1,5 @@
+//! Substrings, looked for in keys.
+
 ghost use Rattle.std.specs.Prelude.{◌↔◌, map, IsTrue};
 ghost use Rattle.std.specs.Option.{option_copied};
 ghost use Rattle.match_rules.specs.Substrings.{InOrder, IsSubstring};
@@ -5,8 +7,8 @@ ghost use Rattle.match_rules.specs.PartsInOrder.{IsTextBehind, IsTextBetween};
 
 use memchr::memmem;
 
-/// Whether a key is the first part, then the middle parts in order with any octets before, between and after
-/// them, then the last part. The parts do not overlap, and an absent part is empty.
+/// Whether a key begins with the first part, ends with the last one, and has all middle parts in between, one
+/// behind the other. The parts do not overlap, and an absent part is empty.
 pub fn substring(key: &[u8], first: &[u8], middle: &[Vec<u8>], last: &[u8]) -> bool
     ensures { IsTrue result
         ↔ IsSubstring key.now first.now (map (λ part. part.items) middle.now) last.now }

@@ -49,10 +49,6 @@ lacks-found f found none name [] some e is = absurd (omega arith)
 lacks-found f found none name (row ∷ rows) some e is =
     flip none (is_some found) is ∙ ap not (has_name-found f found (superior_name name) (row ∷ rows) (e ∙ front_name name (row ∷ rows)))
 
-pub lacks-none : (name : RdnSequence) (rows : List Numbered) → length rows ≤ 0 → false ≡ lacks_superior name rows
-lacks-none name [] none = refl
-lacks-none name (row ∷ rows) none = absurd (omega arith)
-
 -- a name of the entries is one of the tree
 pub has_entry-rows : (name : RdnSequence) (rows : List Numbered) → has_entry name (entries_of rows) ≡ has_name name rows
 has_entry-rows name [] = refl

@@ -27,11 +27,12 @@ pub record FileFault : Type 0 where
   pub line : ℕ
   pub cause : FileCause
 
--- the fault of a line, and that of a record
+-- the fault of the file, by that of a line
 abbrev pub line_fault : BadLine → FileFault
 line_fault (reading.Bad line cause) = record { line = line; cause = OfLine cause }
 line_fault reading.NoMemory = record { line = 0; cause = OfMemory }
 
+-- the fault of the file, by that of loading a record
 abbrev pub record_fault : LoadFault → FileFault
 record_fault (loading.Bad line cause) = record { line = line; cause = OfRecord cause }
 record_fault loading.NoMemory = record { line = 0; cause = OfMemory }

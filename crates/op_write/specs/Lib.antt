@@ -2,5 +2,5 @@
 pub mod Loading
 pub mod DataFile
 pub mod Laws
--- what only this crate's inside promises itself
+-- for the inside of the crate alone
 pub mod Steps

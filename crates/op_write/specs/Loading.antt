@@ -19,8 +19,8 @@ use Rattle.op_write.specs.declared.fault.LoadCause.TheVariants.{Name, Kind, Valu
 use Rattle.op_write.specs.declared.fault.LoadFault.{LoadFault}
 use Rattle.op_write.specs.declared.fault.LoadFault.TheVariants.{Bad, NoMemory}
 
--- the ? of the logic: the second step, where the first gave something
 infixl 10 ◌>>=◌
+-- the ? of the logic: the second step, where the first gave something
 abbrev pub ◌>>=◌ : {A B E : Type 0} → Result A E → (A → Result B E) → Result B E
 Ok value >>= next = next value
 Err fault >>= next = Err fault

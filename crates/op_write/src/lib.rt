@@ -1,4 +1,4 @@
-//! Changes of the tree. So far: records of a data file, loaded without any decision.
+//! Changes of the tree: so far the loading of a data file's records, for which access control isn't asked.
 #![tactic(auto)]
 
 mod fault;

@@ -85,10 +85,11 @@ fn put_in(tree: &mut Tree, entry: Entry) -> Result<EntryNo, NoMemory>
     }
 }
 
-/// Adds the entry of a data record (RFC 2849) to the tree, without any decision of access. Values of its own RDN that
-/// it lacks come last. `Bad` comes exactly where the record can't be loaded, with the first fault: `Name` at the `dn`
-/// line; then `Kind`, `Value` and `Twice` line by line; then at the `dn` line `Twice`, `Order`, `Rule` and `Limit`. After
-/// any error the tree is as before.
+/// Adds the entry of a data record (RFC 2849) to the tree; access control isn't asked. Values of its own RDN that it
+/// lacks come last. `Bad` tells the first fault of a record that can't be loaded, and comes for no other record. First
+/// `Name` is tried, then `Kind`, `Value` and `Twice` for one line after another, and then `Twice`, `Order`, `Rule` and
+/// `Limit` for the entry; `Name` and these four are told at the `dn` line. After any error, of which `NoMemory` may
+/// come in place of any answer, the tree is as before.
 pub fn load_record(alloc: Global, tree: &mut Tree, given: &Record) -> Result<(), LoadFault>
     ensures ok { OnOk result (IsLoaded tree.old given.now tree.new) }
     ensures bad { IfErr result (λ fault. IsLoadFault fault (loaded_entry (entries_of tree.old) given.now)) }

@@ -1,3 +1,5 @@
+//! Counts of faults.
+
 ghost use Rattle.std.specs.Prelude.{◌≡◌};
 ghost use Rattle.plain_values.specs.Counts.{Rose, next_count};
 

@@ -1,6 +1,6 @@
 //! The first of the octets that are wanted, and the first line of a text.
 
-ghost use Rattle.std.specs.Prelude.{◌≡◌, ◌<◌, ◌≤◌, ◌==◌, ◌∷◌, length, drop};
+ghost use Rattle.std.specs.Prelude.{◌≡◌, ◌+◌, ◌<◌, ◌≤◌, ◌==◌, ◌∷◌, min, length, drop};
 ghost use Rattle.std.specs.List.{position_or_len};
 ghost use Rattle.std.specs.Str.Lines.{lines, strip_carriage_return};
 
@@ -34,6 +34,7 @@ fn without_return(line: &[u8]) -> &[u8]
 pub fn first_line(text: &[u8]) -> (&[u8], usize)
     requires { 0 < length text.now }
     ensures exact { lines text.now ≡ result.0.now ∷ lines (drop result.1 text.now) }
+    ensures taken { result.1 ≡ min (position_or_len (λ octet. octet == 10) text.now + 1) (length text.now) }
     ensures filled { 0 < result.1 }
     ensures within { result.1 ≤ length text.now }
 {

@@ -1,3 +1,5 @@
+//! Octets of a field.
+
 ghost use Rattle.std.specs.Prelude.{◌≡◌, ◌==◌, IfOk, length};
 
 use std::alloc::{AllocError, Global};

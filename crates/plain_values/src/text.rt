@@ -1,3 +1,5 @@
+//! A text of a field.
+
 ghost use Rattle.std.specs.Prelude.{◌≡◌, ◌==◌, IfOk, length, string_bytes};
 
 use std::alloc::{AllocError, Global};

@@ -17,22 +17,22 @@ fn ended(alloc: Global, code: u8) -> LdapResult
     }
 }
 
-fn extended(alloc: Global, name: &[u8], value: &[u8]) -> Result<Reply, NoMemory>
+fn extended(alloc: Global, code: u8, name: &[u8], value: &[u8]) -> Result<Reply, NoMemory>
     requires name { length name.now < 2 ^ 30 }
     requires value { length value.now < 2 ^ 30 }
     ensures { IfOk result (λ reply. IsShort reply) }
 {
     let name = Octets::from_vec(name.to_vec(alloc)?);
     let value = Octets::from_vec(value.to_vec(alloc)?);
-    Ok(Reply::Extended(ended(alloc, 2), Some(name), Some(value)))
+    Ok(Reply::Extended(ended(alloc, code), Some(name), Some(value)))
 }
 
-fn missing(alloc: Global, matched: &[u8]) -> Result<Reply, NoMemory>
+fn matching(alloc: Global, code: u8, matched: &[u8]) -> Result<Reply, NoMemory>
     requires { length matched.now < 2 ^ 30 }
     ensures { IfOk result (λ reply. IsShort reply) }
 {
     let matched = Octets::from_vec(matched.to_vec(alloc)?);
-    Ok(Reply::Compare(LdapResult { code: 32, matched }))
+    Ok(Reply::Compare(LdapResult { code, matched }))
 }
 
 #[tactic(auto, using(ldap_msg::proofs::Theorems::writable_short))]
@@ -44,80 +44,114 @@ fn written(alloc: Global, id: u32, reply: &Reply) -> Result<Vec<u8>, NoMemory>
     Ok(out)
 }
 
-/// The reply in the nth row of the table below.
-fn reply_of(alloc: Global, row: usize) -> Result<Reply, NoMemory>
+/// What a reply answers.
+#[derive(Clone, Copy)]
+enum Kind {
+    Bind,
+    Done,
+    Modify,
+    Add,
+    Delete,
+    Rename,
+    Compare,
+    Extended,
+}
+
+/// What a reply says beside its messageID.
+#[derive(Clone, Copy)]
+enum Saying {
+    /// A code alone.
+    Code(Kind, u8),
+    /// An extended operation's code with the name `1.2` and the value `v`.
+    Named(u8),
+    /// A compare's code with the matched name `dc=t`.
+    Matching(u8),
+}
+
+fn reply_of(alloc: Global, saying: Saying) -> Result<Reply, NoMemory>
     ensures { IfOk result (λ reply. IsShort reply) }
 {
-    match row {
-        7 => extended(alloc, b"1.2", b"v"),
-        8 => missing(alloc, b"dc=t"),
-        _ => Ok(plain(alloc, row)),
+    match saying {
+        Saying::Code(kind, code) => Ok(plain(alloc, kind, code)),
+        Saying::Named(code) => extended(alloc, code, b"1.2", b"v"),
+        Saying::Matching(code) => matching(alloc, code, b"dc=t"),
     }
 }
 
-fn plain(alloc: Global, row: usize) -> Reply
+fn plain(alloc: Global, kind: Kind, code: u8) -> Reply
     ensures { IsShort result }
 {
-    match row {
-        0 => Reply::Bind(ended(alloc, 0)),
-        1 => Reply::Done(ended(alloc, 53)),
-        2 => Reply::Modify(ended(alloc, 0)),
-        3 => Reply::Add(ended(alloc, 0)),
-        4 => Reply::Delete(ended(alloc, 0)),
-        5 => Reply::Rename(ended(alloc, 0)),
-        6 => Reply::Compare(ended(alloc, 6)),
-        _ => Reply::Extended(ended(alloc, 128), None, None),
+    match kind {
+        Kind::Bind => Reply::Bind(ended(alloc, code)),
+        Kind::Done => Reply::Done(ended(alloc, code)),
+        Kind::Modify => Reply::Modify(ended(alloc, code)),
+        Kind::Add => Reply::Add(ended(alloc, code)),
+        Kind::Delete => Reply::Delete(ended(alloc, code)),
+        Kind::Rename => Reply::Rename(ended(alloc, code)),
+        Kind::Compare => Reply::Compare(ended(alloc, code)),
+        Kind::Extended => Reply::Extended(ended(alloc, code), None, None),
     }
 }
 
-static SPELLINGS: [(u32, &[u8], &str); 10] = [
+/// A messageID, what the reply says, its octets behind the octet 7, and what that shows.
+static SPELLINGS: [(u32, Saying, &[u8], &str); 10] = [
     (
         1,
+        Saying::Code(Kind::Bind, 0),
         b"\x07\x30\x0c\x02\x01\x01\x61\x07\x0a\x01\x00\x04\x00\x04\x00",
         "a bind",
     ),
     (
         2,
+        Saying::Code(Kind::Done, 53),
         b"\x07\x30\x0c\x02\x01\x02\x65\x07\x0a\x01\x35\x04\x00\x04\x00",
         "a search's end",
     ),
     (
         127,
+        Saying::Code(Kind::Modify, 0),
         b"\x07\x30\x0c\x02\x01\x7f\x67\x07\x0a\x01\x00\x04\x00\x04\x00",
         "a modify",
     ),
     (
         128,
+        Saying::Code(Kind::Add, 0),
         b"\x07\x30\x0d\x02\x02\x00\x80\x69\x07\x0a\x01\x00\x04\x00\x04\x00",
         "an add",
     ),
     (
         1,
+        Saying::Code(Kind::Delete, 0),
         b"\x07\x30\x0c\x02\x01\x01\x6b\x07\x0a\x01\x00\x04\x00\x04\x00",
         "a delete",
     ),
     (
         2_147_483_647,
+        Saying::Code(Kind::Rename, 0),
         b"\x07\x30\x0f\x02\x04\x7f\xff\xff\xff\x6d\x07\x0a\x01\x00\x04\x00\x04\x00",
         "a rename with the greatest messageID",
     ),
     (
         1,
+        Saying::Code(Kind::Compare, 6),
         b"\x07\x30\x0c\x02\x01\x01\x6f\x07\x0a\x01\x06\x04\x00\x04\x00",
         "a compare",
     ),
     (
         1,
+        Saying::Named(2),
         b"\x07\x30\x14\x02\x01\x01\x78\x0f\x0a\x01\x02\x04\x00\x04\x00\x8a\x031.2\x8b\x01v",
         "an extended operation with a name and a value",
     ),
     (
         1,
+        Saying::Matching(32),
         b"\x07\x30\x10\x02\x01\x01\x6f\x0b\x0a\x01\x20\x04\x04dc=t\x04\x00",
         "a matched name",
     ),
     (
         1,
+        Saying::Code(Kind::Extended, 128),
         b"\x07\x30\x0d\x02\x01\x01\x78\x08\x0a\x02\x00\x80\x04\x00\x04\x00",
         "an extended operation, with a code of two octets",
     ),
@@ -125,8 +159,8 @@ static SPELLINGS: [(u32, &[u8], &str); 10] = [
 
 #[test]
 fn each_reply_has_one_spelling(rt: HostRuntime) -> Result<(), Fail> {
-    for (row, (id, want, what)) in SPELLINGS.iter().enumerate() {
-        let reply = reply_of(rt.alloc(), row)?;
+    for (id, saying, want, what) in &SPELLINGS {
+        let reply = reply_of(rt.alloc(), *saying)?;
         let out = written(rt.alloc(), *id, &reply)?;
         assert_eq!(rt; out.as_slice(), *want, "{what}");
     }

@@ -1,6 +1,6 @@
-use script_text::{
-    Head, ScriptFault, lines_are_cut, lines_are_texts, read_script, scripts_are_read,
-};
+//! Script files: their events, and the first bad line of other texts.
+
+use script_text::{Head, Recording, read_script};
 use std::alloc::{AllocError, Global};
 use std::test::*;
 
@@ -198,14 +198,9 @@ fn octets_that_are_no_text_are_bad_lines_or_comments(rt: HostRuntime) -> Result<
 }
 
 #[test]
-fn the_laws_are_called(rt: HostRuntime) {
-    lines_are_cut();
-    lines_are_texts();
-    scripts_are_read();
-    assert!(rt;
-        matches!(
-            read_script(rt.alloc(), b"open 0"),
-            Err(ScriptFault::Bad { line: 1 })
-        )
-    );
+fn a_new_recording_has_no_events_and_none_to_pass(rt: HostRuntime) {
+    let mut events = Recording::new(rt.alloc());
+    events.pass();
+    assert!(rt; events.first().is_none());
+    assert_eq!(rt; (events.len(), events.octets()), (0, b"".as_slice()));
 }

@@ -111,7 +111,11 @@ fn reading_fails_at_each_call_that_is_to_fail(rt: HostRuntime) -> Result<(), Fai
     }
     let mut shelf = shelf(rt.alloc(), &[2])?;
     let content = read_all(rt.alloc(), &mut shelf, "f", 9)?;
-    assert_eq!(rt; content.len(), 4, "a later call fails");
+    assert_eq!(rt;
+        content.as_slice(),
+        b"a\nb\n".as_slice(),
+        "a later call fails"
+    );
     Ok(())
 }
 
@@ -120,6 +124,9 @@ fn the_systems_files_are_read_and_one_that_is_not_there_is_a_fault(
     rt: HostRuntime,
 ) -> Result<(), Fail> {
     let mut shelf = FileShelf::new(rt.clone()?);
+    let mut buf = [7u8; 3];
+    assert_eq!(rt; shelf.fetch("/dev/zero", 1, &mut buf), Ok(3));
+    assert_eq!(rt; buf, [0, 0, 0]);
     let content = read_all(rt.alloc(), &mut shelf, "/dev/null", 0)?;
     assert_eq!(rt; content.len(), 0);
     let fault = read_all(rt.alloc(), &mut shelf, "/no/such/file", 9).err();

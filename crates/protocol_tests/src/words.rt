@@ -1,6 +1,6 @@
-use command_words::{
-    Command, read_words, reading_is_complete, reading_is_sound, words_have_one_command,
-};
+//! Words of the command line, and what they ask for.
+
+use command_words::{Command, read_words};
 use std::alloc::{AllocError, Global};
 use std::test::*;
 
@@ -248,11 +248,4 @@ fn all_other_words_ask_for_nothing(rt: HostRuntime) -> Result<(), Fail> {
     let none = answer(rt.alloc(), &[])?;
     assert_eq!(rt; none.as_str(), "usage", "no words");
     Ok(())
-}
-
-#[test]
-fn the_laws_can_be_called() {
-    reading_is_sound();
-    reading_is_complete();
-    words_have_one_command();
 }

@@ -2,7 +2,6 @@
 use Rattle.std.proofs.Common.{◌≡◌, ℕ, Bool, true, false, ◌⊎◌, inl, inr, List, [], ◌∷◌, ◌++◌, refl, sym, subst}
 use Rattle.std.specs.Prelude.{◌&&◌, ◌||◌}
 use Rattle.std.proofs.lemmas.Bool.{false≢true}
-use Rattle.std.specs.List.{AllByRecursion, concat}
 use Rattle.regular_text.specs.Grammar.{Grammar, Matches}
 use Rattle.regular_text.specs.Grammar.Grammar.{Never, Nothing, One, Either, Then, Many}
 use Rattle.regular_text.specs.Derivative.{has_empty, either, then_next}

@@ -1,5 +1,5 @@
 -- What crates above may cite of regular grammars and their machines.
-use Rattle.std.proofs.Common.{◌≡◌, ℕ, ◌+◌, Bool, true, List, [], ◌∷◌, Option, Some, None, subst, arith}
+use Rattle.std.proofs.Common.{◌≡◌, ℕ, ◌+◌, Bool, true, List, [], ◌∷◌, Some, None, subst, arith}
 use Rattle.std.specs.Prelude.{◌↔◌, MatchOption}
 use Rattle.std.specs.List.{AllByRecursion}
 use Rattle.regular_text.specs.Grammar.{Grammar, Matches, IsWithin}
@@ -30,10 +30,6 @@ fault_at-Some machine grammar_of of text mode place h =
     let same : reach machine text mode ≡ place = (let e = fault_at-reach machine grammar_of of text 0 place mode h in omega (arith, e)) in
     subst (λ (n : ℕ). IsPlace (Matches machine.class (grammar_of mode)) text n) same (reach-place machine grammar_of of text mode)
 
--- how far a machine reads is where the octets leave the grammar, or their end
-pub reach-IsPlace : {K M : Type 0} (machine : Machine K M) (grammar_of : M → Grammar K) → IsMachineOf machine grammar_of → (text : List ℕ) (mode : M) → IsPlace (Matches machine.class (grammar_of mode)) text (reach machine text mode)
-reach-IsPlace machine grammar_of of text mode = reach-place machine grammar_of of text mode
-
 -- the longest front that may end is the longest that is a text of the grammar
 pub front-IsLongestFront : {K M : Type 0} (machine : Machine K M) (grammar_of : M → Grammar K) → IsMachineOf machine grammar_of → (text : List ℕ) (mode : M) → MatchOption (front machine text mode) (HasNoFront (Matches machine.class (grammar_of mode)) text) (λ size. IsLongestFront (Matches machine.class (grammar_of mode)) text size)
 front-IsLongestFront machine grammar_of of text mode = front-longest machine grammar_of of text mode
@@ -43,13 +39,6 @@ pub IsPlace-unique : (P : List ℕ → Type 0) (text : List ℕ) (one other : �
 IsPlace-unique P text one other a b =
     let low = b.longest one a.within a.begins in
     let high = a.longest other b.within b.begins in
-    omega (arith, low, high)
-
--- and one such front
-pub IsLongestFront-unique : (P : List ℕ → Type 0) (text : List ℕ) (one other : ℕ) → IsLongestFront P text one → IsLongestFront P text other → one ≡ other
-IsLongestFront-unique P text one other a b =
-    let low = b.longest one a.within a.found in
-    let high = a.longest other b.within b.found in
     omega (arith, low, high)
 
 -- each octet of a text of a grammar is of a class that the grammar names

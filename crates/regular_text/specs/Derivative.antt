@@ -9,28 +9,28 @@ abbrev pub has_empty : {K : Type 0} → Grammar K → Bool
 has_empty Never = false
 has_empty Nothing = true
 has_empty (One test) = false
-has_empty (Either a b) = has_empty a || has_empty b
-has_empty (Then a b) = has_empty a && has_empty b
-has_empty (Many a) = true
+has_empty (Either left right) = has_empty left || has_empty right
+has_empty (Then first second) = has_empty first && has_empty second
+has_empty (Many part) = true
 
 -- Either, without an alternative that no text matches
 abbrev pub either : {K : Type 0} → Grammar K → Grammar K → Grammar K
-either Never b = b
-either a Never = a
-either a b = Either a b
+either Never right = right
+either left Never = left
+either left right = Either left right
 
 -- Then, without a part that no text matches, or that the empty text alone matches
 abbrev pub then_next : {K : Type 0} → Grammar K → Grammar K → Grammar K
-then_next Never b = Never
-then_next Nothing b = b
-then_next a b = Then a b
+then_next Never second = Never
+then_next Nothing second = second
+then_next first second = Then first second
 
 -- what may follow a first octet of the class
 abbrev pub after : {K : Type 0} → K → Grammar K → Grammar K
-after k Never = Never
-after k Nothing = Never
-after k (One test) = if test k then Nothing else Never
-after k (Either a b) = either (after k a) (after k b)
-after k (Then a b) =
-    if has_empty a then either (then_next (after k a) b) (after k b) else then_next (after k a) b
-after k (Many a) = then_next (after k a) (Many a)
+after class Never = Never
+after class Nothing = Never
+after class (One test) = if test class then Nothing else Never
+after class (Either left right) = either (after class left) (after class right)
+after class (Then first second) =
+    if has_empty first then either (then_next (after class first) second) (after class second) else then_next (after class first) second
+after class (Many part) = then_next (after class part) (Many part)

@@ -15,16 +15,16 @@ pub data Grammar (K : Type 0) : Type 0 where
 abbrev pub Matches : {K : Type 0} → (ℕ → K) → Grammar K → List ℕ → Type 0
 Matches class Never text = ⊥
 Matches class Nothing text = text ≡ []
-Matches class (One test) text = (x : ℕ) × (text ≡ x ∷ []) × (test (class x) ≡ true)
-Matches class (Either a b) text = Matches class a text ⊎ Matches class b text
-Matches class (Then a b) text = (front : List ℕ) × (rest : List ℕ) × (text ≡ front ++ rest) × Matches class a front × Matches class b rest
-Matches class (Many a) text = (parts : List (List ℕ)) × (text ≡ concat parts) × AllByRecursion (Matches class a) parts
+Matches class (One test) text = (octet : ℕ) × (text ≡ octet ∷ []) × (test (class octet) ≡ true)
+Matches class (Either left right) text = Matches class left text ⊎ Matches class right text
+Matches class (Then first second) text = (front : List ℕ) × (rest : List ℕ) × (text ≡ front ++ rest) × Matches class first front × Matches class second rest
+Matches class (Many part) text = (parts : List (List ℕ)) × (text ≡ concat parts) × AllByRecursion (Matches class part) parts
 
 -- each octet that the grammar admits is of a class that passes
 abbrev pub IsWithin : {K : Type 0} → (K → Bool) → Grammar K → Type 0
 IsWithin passes Never = Unit {0}
 IsWithin passes Nothing = Unit {0}
-IsWithin {K} passes (One test) = (k : K) → test k ≡ true → passes k ≡ true
-IsWithin passes (Either a b) = IsWithin passes a × IsWithin passes b
-IsWithin passes (Then a b) = IsWithin passes a × IsWithin passes b
-IsWithin passes (Many a) = IsWithin passes a
+IsWithin {K} passes (One test) = (class : K) → test class ≡ true → passes class ≡ true
+IsWithin passes (Either left right) = IsWithin passes left × IsWithin passes right
+IsWithin passes (Then first second) = IsWithin passes first × IsWithin passes second
+IsWithin passes (Many part) = IsWithin passes part

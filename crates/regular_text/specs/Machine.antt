@@ -23,29 +23,29 @@ grammar_at grammar_of (Some mode) = grammar_of mode
 -- where reading stops, counted from place: None at the end of a text that may end there
 abbrev pub fault_at : {K M : Type 0} → Machine K M → ℕ → List ℕ → M → Option ℕ
 fault_at machine place [] mode = if machine.ends mode then None else Some place
-fault_at machine place (x ∷ xs) mode =
-    by_step (machine.step mode (machine.class x)) (Some place) (λ next. fault_at machine (place + 1) xs next)
+fault_at machine place (octet ∷ octets) mode =
+    by_step (machine.step mode (machine.class octet)) (Some place) (λ next. fault_at machine (place + 1) octets next)
 
 -- how many octets are read before none may follow
 abbrev pub reach : {K M : Type 0} → Machine K M → List ℕ → M → ℕ
 reach machine [] mode = 0
-reach machine (x ∷ xs) mode =
-    by_step (machine.step mode (machine.class x)) 0 (λ next. suc (reach machine xs next))
+reach machine (octet ∷ octets) mode =
+    by_step (machine.step mode (machine.class octet)) 0 (λ next. suc (reach machine octets next))
 
 -- the longer of two fronts, the second of which is one octet longer than said, if it is there
 abbrev pub longer : Bool → Option ℕ → Option ℕ
-longer ends (Some n) = Some (suc n)
+longer ends (Some count) = Some (suc count)
 longer ends None = if ends then Some 0 else None
 
 -- the length of the longest front that may end, if there is one
 abbrev pub front : {K M : Type 0} → Machine K M → List ℕ → M → Option ℕ
 front machine [] mode = longer (machine.ends mode) None
-front machine (x ∷ xs) mode =
-    longer (machine.ends mode) (by_step (machine.step mode (machine.class x)) None (λ next. front machine xs next))
+front machine (octet ∷ octets) mode =
+    longer (machine.ends mode) (by_step (machine.step mode (machine.class octet)) None (λ next. front machine octets next))
 
 -- each state's grammar has the steps of the machine, ends where it may, and has some text
 pub record IsMachineOf {K M : Type 0} (machine : Machine K M) (grammar_of : M → Grammar K) : Type 0 where
-  pub same : (mode : M) (k : K) → after k (grammar_of mode) ≡ grammar_at grammar_of (machine.step mode k)
+  pub same : (mode : M) (class : K) → after class (grammar_of mode) ≡ grammar_at grammar_of (machine.step mode class)
   pub empty : (mode : M) → has_empty (grammar_of mode) ≡ machine.ends mode
   pub finish : M → List ℕ
   pub finishes : (mode : M) → fault_at machine 0 (finish mode) mode ≡ None

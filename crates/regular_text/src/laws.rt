@@ -10,12 +10,12 @@ ghost use Rattle.regular_text.specs.Machine.{Machine, fault_at, front, IsMachine
 /// A text follows an octet in the derivative of a grammar exactly where both together are in the
 /// grammar (Brzozowski 1964, theorem 3.1).
 pub fn derivative_is_exact<K>()
-    ensures { (class : ℕ → K) (grammar : Grammar K) (x : ℕ) (text : List ℕ)
-        → Matches class (after (class x) grammar) text ↔ Matches class grammar (x ∷ text) }
+    ensures { (class : ℕ → K) (grammar : Grammar K) (octet : ℕ) (text : List ℕ)
+        → Matches class (after (class octet) grammar) text ↔ Matches class grammar (octet ∷ text) }
 {}
 
-/// The machine of a grammar finds no fault exactly in the grammar's texts, and a fault's place is the
-/// length of the longest front that some text of the grammar begins with.
+/// The machine of a grammar finds no fault exactly in the grammar's texts, and a fault's place counts
+/// the octets of the longest front with which some text of the grammar begins.
 pub fn machine_is_exact<K, M>()
     ensures exact { (machine : Machine K M) (grammar_of : M → Grammar K) → IsMachineOf machine grammar_of
         → (text : List ℕ) (mode : M)
@@ -29,8 +29,8 @@ pub fn machine_is_exact<K, M>()
 pub fn front_is_longest<K, M>()
     ensures { (machine : Machine K M) (grammar_of : M → Grammar K) → IsMachineOf machine grammar_of
         → (text : List ℕ) (mode : M)
-        → let P = Matches machine.class (grammar_of mode) in
-        MatchOption (front machine text mode) (HasNoFront P text) (λ size. IsLongestFront P text size) }
+        → let language = Matches machine.class (grammar_of mode) in
+        MatchOption (front machine text mode) (HasNoFront language text) (λ size. IsLongestFront language text size) }
 {}
 
 /// Octets leave a grammar at one place alone.
@@ -44,5 +44,5 @@ pub fn place_is_unique<K>()
 pub fn octets_are_within<K>()
     ensures { (class : ℕ → K) (passes : K → Bool) (grammar : Grammar K) (text : List ℕ)
         → IsWithin passes grammar → Matches class grammar text
-        → AllByRecursion (λ x. passes (class x) ≡ true) text }
+        → AllByRecursion (λ octet. passes (class octet) ≡ true) text }
 {}

@@ -1,11 +1,11 @@
 -- What the program's rows find is what the table of attribute types has.
-use Rattle.std.proofs.Common.{◌≡◌, ℕ, ◌<◌, List, map, find, option_map, position, Some, Fits, w8, ap, sym, ◌∙◌, arith}
+use Rattle.std.proofs.Common.{◌≡◌, ℕ, ◌<◌, List, map, position, Some, Fits, w8, ap, sym, ◌∙◌, arith}
 use Rattle.std.proofs.lemmas.Simd.{map-map}
 use Rattle.schema_core.specs.declared.kinds.Row.{Row}
 use Rattle.schema_core.specs.Attributes.{attributes, attribute_of_row, attr_of}
-use Rattle.schema_core.specs.Naming.{is_named, is_same_name}
-use Rattle.schema_core.specs.Oid.{named_attribute, oid_among}
-use Rattle.schema_core.proofs.TableLemmas.{position-map, position_within, oid_among_map}
+use Rattle.schema_core.specs.Naming.{is_named}
+use Rattle.schema_core.specs.Oid.{named_attribute}
+use Rattle.schema_core.proofs.TableLemmas.{position-map, position_within}
 
 -- the first of the program's rows that a text names is the table's
 pub position-rows :
@@ -22,11 +22,8 @@ attr_of_fits text number found =
     let within : number < 35 = position_within (λ row. is_named row.name row.oid text) attributes number found in
     omega arith
 
--- the object identifier of the first of the program's rows that a text names is the table's
-pub oid_of_rows :
-    (rows : List Row) (text : List ℕ) → map attribute_of_row rows ≡ attributes
-    → option_map (λ row. row.oid.now) (find (λ row. is_same_name row.name.now text) rows)
-    ≡ oid_among (map named_attribute attributes) text
-oid_of_rows rows text same =
-    oid_among_map (λ row. named_attribute (attribute_of_row row)) rows text
-    ∙ ap (λ table. oid_among table text) (sym (map-map named_attribute attribute_of_row rows) ∙ ap (map named_attribute) same)
+-- the names of the program's rows are the table's
+pub named_rows :
+    (rows : List Row) → map attribute_of_row rows ≡ attributes
+    → map (λ row. named_attribute (attribute_of_row row)) rows ≡ map named_attribute attributes
+named_rows rows same = sym (map-map named_attribute attribute_of_row rows) ∙ ap (map named_attribute) same

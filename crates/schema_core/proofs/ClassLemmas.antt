@@ -1,5 +1,5 @@
 -- What the program's rows find is what the table of classes has.
-use Rattle.std.proofs.Common.{◌≡◌, ℕ, ◌<◌, List, map, find, position, option_map, slice_get, Option, Some, None, IfSome, refl, Fits, w8, ap, sym, ◌∙◌, arith}
+use Rattle.std.proofs.Common.{◌≡◌, ℕ, ◌<◌, List, map, position, option_map, slice_get, Option, Some, None, IfSome, refl, Fits, w8, ap, sym, ◌∙◌, arith}
 use Rattle.std.proofs.lemmas.Simd.{map-map}
 use Rattle.std.proofs.lemmas.Option.{slice_get-map}
 use Rattle.std.specs.Option.{option_and_then}
@@ -7,11 +7,11 @@ use Rattle.std.specs.Str.{bytes_eq}
 use Rattle.schema_core.specs.declared.kinds.ClassId.{ClassId}
 use Rattle.schema_core.specs.declared.classes.ClassRow.{ClassRow}
 use Rattle.schema_core.specs.Classes.{Class, classes, class_at, class_of, class_with, superior_of}
-use Rattle.schema_core.specs.ClassRows.{NumberedClass, numbered_of_row, numbered}
-use Rattle.schema_core.specs.Naming.{Named, is_named, is_same_name}
-use Rattle.schema_core.specs.Oid.{named_class, oid_among}
+use Rattle.schema_core.specs.ClassRows.{NumberedClass, numbered_of_row, named_number, numbered}
+use Rattle.schema_core.specs.Naming.{is_named}
+use Rattle.schema_core.specs.Oid.{named_class}
 use Rattle.schema_core.proofs.HierarchyLemmas.{superior_of_below}
-use Rattle.schema_core.proofs.TableLemmas.{position-map, position_within, oid_among_map}
+use Rattle.schema_core.proofs.TableLemmas.{position-map, position_within}
 
 -- the first of the program's rows that a text names is the table's
 pub position-rows :
@@ -51,21 +51,12 @@ class_with_fits oid number found =
     let within : number < 19 = position_within (λ row. bytes_eq oid row.oid) classes number found in
     omega arith
 
--- a numbered row's name with its object identifier
-abbrev named_number : NumberedClass → Named
-named_number row = record { name = row.name; oid = row.oid }
-
--- the object identifier of the first of the program's rows that a text names is the table's
-pub oid_of_rows :
-    (rows : List ClassRow) (text : List ℕ) → map numbered_of_row rows ≡ map numbered classes
-    → option_map (λ row. row.oid.now) (find (λ row. is_same_name row.name.now text) rows)
-    ≡ oid_among (map named_class classes) text
-oid_of_rows rows text same =
-    oid_among_map (λ row. named_number (numbered_of_row row)) rows text
-    ∙ ap (λ table. oid_among table text)
-    (sym (map-map named_number numbered_of_row rows)
-    ∙ ap (map named_number) same
-    ∙ map-map named_number numbered classes)
+-- the names of the program's rows are the table's
+pub named_rows :
+    (rows : List ClassRow) → map numbered_of_row rows ≡ map numbered classes
+    → map (λ row. named_number (numbered_of_row row)) rows ≡ map named_class classes
+named_rows rows same =
+    sym (map-map named_number numbered_of_row rows) ∙ ap (map named_number) same ∙ map-map named_number numbered classes
 
 -- the superior in a numbered row is the table's
 superior_of_numbered :

@@ -2,7 +2,6 @@ mod Examples
 mod TableLemmas
 mod AttributeLemmas
 mod ClassLemmas
-mod RoleLemmas
 mod OidLemmas
 mod NamingLemmas
 mod TableFacts

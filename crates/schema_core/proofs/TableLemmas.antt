@@ -33,11 +33,11 @@ position_within p xs i found =
 -- the object identifier of the first mapped element whose name the text is
 pub oid_among_map :
     {X : Type 0} (named : X → Named) (xs : List X) (text : List ℕ)
-    → option_map (λ x. (named x).oid) (find (λ x. is_same_name (named x).name text) xs)
-    ≡ oid_among (map named xs) text
+    → oid_among (map named xs) text
+    ≡ option_map (λ x. (named x).oid) (find (λ x. is_same_name (named x).name text) xs)
 oid_among_map named [] text = refl
 oid_among_map named (x ∷ xs) text =
     elim (is_same_name (named x).name text) as
-    (λ b. option_map (λ x. (named x).oid) (cond b (Some x) (find (λ x. is_same_name (named x).name text) xs))
-    ≡ option_map (λ row. row.oid) (cond b (Some (named x)) (find (λ row. is_same_name row.name text) (map named xs))))
+    (λ b. option_map (λ row. row.oid) (cond b (Some (named x)) (find (λ row. is_same_name row.name text) (map named xs)))
+    ≡ option_map (λ x. (named x).oid) (cond b (Some x) (find (λ x. is_same_name (named x).name text) xs)))
     [ true ↦ refl | false ↦ oid_among_map named xs text ]

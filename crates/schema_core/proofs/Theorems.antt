@@ -1,29 +1,19 @@
 -- What the crates above may cite.
-use Rattle.std.proofs.Common.{◌≡◌, ℕ, true, List, [], length, Option, Some, None, IsSome, IsSomeAnd, IsTrue, refl, ap, ◌∙◌, arith, inl, inr}
+use Rattle.std.proofs.Common.{◌≡◌, ℕ, true, List, [], Option, Some, None, IsSomeAnd, IsTrue, refl, ap, ◌∙◌, arith, inl, inr}
 use Rattle.std.specs.Option.{option_map_or}
 use Rattle.std.specs.Str.{bytes_eq}
 use Rattle.std.proofs.lemmas.Option.{slice_get_cases}
-use Rattle.std.proofs.lemmas.Slice.Eq.{bytes_eq-Decides}
-use Rattle.schema_core.specs.Attributes.{Attribute, attributes, IsAttrId, attribute_at, attr_of, NamesAttribute, name_of, syntax_of}
+use Rattle.schema_core.specs.Attributes.{Attribute, attributes, IsAttrId, attribute_at, attr_of, NamesAttribute, name_of}
 use Rattle.schema_core.specs.Classes.{Class, classes, IsClassId, class_at, class_of, class_with, NamesClass}
-use Rattle.schema_core.specs.Naming.{is_same_name, is_named, is_keystring}
+use Rattle.schema_core.specs.Naming.{is_named, is_keystring}
 use Rattle.schema_core.specs.Oid.{is_dotted_oid, oid_of, named_attribute, named_class}
-use Rattle.schema_core.proofs.NamingLemmas.{from_same_name, or_left, or_right, list_all_get}
+use Rattle.schema_core.proofs.NamingLemmas.{from_same_name, or_left, list_all_get}
 use Rattle.schema_core.proofs.TableLemmas.{position_within}
 use Rattle.schema_core.proofs.FoundLemmas.{position_names, names_position}
 use Rattle.schema_core.proofs.NormalLemmas as normal
 use Rattle.schema_core.proofs.TableFacts.{attributes-are_distinct, classes-are_distinct, attributes-are_keystrings, names-are_keystrings, names-are_dotted}
 pub use Rattle.schema_core.proofs.DottedLemmas.{is_dotted_oid-from, IsDottedOid-from}
 pub use Rattle.schema_core.proofs.HierarchyLemmas.{superior_of_below}
-
--- how many rows the tables have
-pub length-attributes : length attributes ≡ 35
-unfolding attributes
-length-attributes = refl
-
-pub length-classes : length classes ≡ 19
-unfolding classes
-length-classes = refl
 
 -- a number that is found is of a row that the text names
 pub NamesAttribute-from_attr_of : (text : List ℕ) (number : ℕ) → attr_of text ≡ Some number → NamesAttribute text number
@@ -63,13 +53,6 @@ attribute_at-Some number within =
       | inr past ↦ absurd (omega (arith, past.0))
     ]
 
-pub class_at-Some : (number : ℕ) → IsClassId number → (row : Class) × (class_at number ≡ Some row)
-class_at-Some number within =
-    elim ((slice_get_cases classes number).1) [
-      | inl inside ↦ (inside.0, inside.2)
-      | inr past ↦ absurd (omega (arith, past.0))
-    ]
-
 -- a number that is found is below the table's length
 pub IsAttrId-from_attr_of : (text : List ℕ) (number : ℕ) → attr_of text ≡ Some number → IsAttrId number
 IsAttrId-from_attr_of text number found = position_within (λ row. is_named row.name row.oid text) attributes number found
@@ -80,17 +63,11 @@ IsClassId-from_class_of text number found = position_within (λ row. is_named ro
 pub IsClassId-from_class_with : (oid : List ℕ) (number : ℕ) → class_with oid ≡ Some number → IsClassId number
 IsClassId-from_class_with oid number found = position_within (λ row. bytes_eq oid row.oid) classes number found
 
--- a row's own name and object identifier find it
+-- a row's own name finds it
 pub attr_of-name :
     (number : ℕ) (row : Attribute) → attribute_at number ≡ Some row → attr_of row.name ≡ Some number
 attr_of-name number row there =
     attr_of_row row.name number (Some row) there (or_left _ _ (from_same_name row.name row.name refl))
-
-pub attr_of-oid :
-    (number : ℕ) (row : Attribute) → attribute_at number ≡ Some row → attr_of row.oid ≡ Some number
-attr_of-oid number row there =
-    attr_of_row row.oid number (Some row) there
-    (or_right (is_same_name row.name row.oid) _ ((bytes_eq-Decides row.oid row.oid).1 refl))
 
 -- the name of a number finds the number, and is a keystring
 pub attr_of-name_of : (number : ℕ) → IsAttrId number → attr_of (name_of number) ≡ Some number
@@ -104,19 +81,9 @@ is_keystring-name_of number within =
     ap (λ found. is_keystring (option_map_or (λ row. row.name) found [])) row.1
     ∙ list_all_get (λ row. is_keystring row.name) attributes number row.0 attributes-are_keystrings row.1
 
--- a number of the table has a syntax
-pub syntax_of-Some : (number : ℕ) → IsAttrId number → IsSome (syntax_of number)
-syntax_of-Some number within =
-    let row = attribute_at-Some number within in
-    rw row.1 refl
-
 -- the dotted form of a text is dotted, and a dotted text is its own
 pub oid_of-is_dotted : (text oid : List ℕ) → oid_of text ≡ Some oid → is_dotted_oid oid ≡ true
 oid_of-is_dotted text oid found = normal.oid_of-is_dotted text oid names-are_dotted found
 
 pub oid_of-dotted : (text : List ℕ) → is_dotted_oid text ≡ true → oid_of text ≡ Some text
 oid_of-dotted text dotted = normal.oid_of-dotted text names-are_keystrings dotted
-
--- so the dotted form of a dotted form is itself
-pub oid_of-oid_of : (text oid : List ℕ) → oid_of text ≡ Some oid → oid_of oid ≡ Some oid
-oid_of-oid_of text oid found = oid_of-dotted oid (oid_of-is_dotted text oid found)

@@ -2,6 +2,7 @@
 use Rattle.std.specs.Prelude.{ℕ, List, Option, map, option_map}
 use Rattle.schema_core.specs.declared.kinds.ClassKind.{ClassKind}
 use Rattle.schema_core.specs.declared.classes.ClassRow.{ClassRow}
+use Rattle.schema_core.specs.Naming.{Named}
 use Rattle.schema_core.specs.Classes.{Class, class_of, numbers_of}
 
 -- the plain value of such a row
@@ -23,6 +24,10 @@ numbered_of_row row = record {
   required = map (λ attribute. attribute.0) row.required.now;
   allowed = map (λ attribute. attribute.0) row.allowed.now;
 }
+
+-- such a row's name with its object identifier
+abbrev pub named_number : NumberedClass → Named
+named_number row = record { name = row.name; oid = row.oid }
 
 -- of a row of the table
 abbrev pub numbered : Class → NumberedClass

@@ -50,6 +50,6 @@ names = map named_attribute attributes ++ map named_class classes ++ roles
 abbrev pub oid_among : List Named → List ℕ → Option (List ℕ)
 oid_among rows text = option_map (λ row. row.oid) (find (λ row. is_same_name row.name text) rows)
 
--- the dotted form of a name of the schema, or the text itself where it is a dotted object identifier
+-- the dotted object identifier for which a text stands: that of a name of the schema, or one that stands for itself
 abbrev pub oid_of : List ℕ → Option (List ℕ)
 oid_of text = option_or (oid_among names text) (if is_dotted_oid text then Some text else None)

@@ -1,12 +1,10 @@
 //! The table of attribute types.
-ghost use Rattle.std.specs.Prelude.{◌≡◌, ◌↔◌, IsSome, IfSome, map, find, option_map, position};
-ghost use Rattle.std.specs.Option.{option_copied};
+ghost use Rattle.std.specs.Prelude.{◌≡◌, ◌↔◌, IsSome, IfSome, map, option_map};
 ghost use Rattle.schema_core.specs.Oid.{oid_among, named_attribute};
 ghost use Rattle.schema_core.specs.Attributes.{attributes, attribute_of_row, IsAttrId, attr_of, attribute_at};
-ghost use Rattle.schema_core.specs.Naming.{is_named, is_same_name};
 
 use crate::kinds::{AttrId, Row, Syntax};
-use crate::naming::{is_named, is_same_name};
+use crate::naming::{NamedRow, oid_in, place_of};
 
 // A row; the marks that are named are set.
 macro_rules! attribute {
@@ -64,6 +62,18 @@ static ATTRIBUTES: [Row; 35] = [
     attribute!("subentryACI", "2.5.24.6", Aci, operational),
 ];
 
+impl NamedRow for Row {
+    ghost named = { λ row. named_attribute (attribute_of_row row) };
+
+    fn name(&self) -> &'static str {
+        self.name
+    }
+
+    fn oid(&self) -> &'static str {
+        self.oid
+    }
+}
+
 // The whole table.
 #[tactic(auto, unfolding(crate::specs::Attributes::attributes))]
 fn rows() -> &'static [Row]
@@ -80,16 +90,8 @@ pub fn row(attribute: AttrId) -> Option<Row>
     rows().get(usize::from(attribute.0)).copied()
 }
 
-// The place of the first row that the octets name.
-fn place_of(rows: &[Row], octets: &[u8]) -> Option<usize>
-    ensures exact { result ≡ position (λ row. is_named row.name.now row.oid.now octets.now) rows.now }
-{
-    rows.iter()
-        .position(|row| is_named(row.name, row.oid, octets))
-}
-
-/// The attribute type that octets name: by its name without regard to ASCII case, or by its object
-/// identifier in dotted form. None exactly where no row has it.
+/// The attribute type that octets name: by its name, ASCII letters in either case, or by its dotted
+/// object identifier. None comes exactly for octets that name no row.
 pub fn attr_named(octets: &[u8]) -> Option<AttrId>
     ensures exact { option_map (λ attribute. attribute.0) result ≡ attr_of octets.now }
     ensures fits { IfSome result (λ attribute. IsAttrId attribute.0) }
@@ -106,25 +108,8 @@ pub fn attr(text: &str) -> Option<AttrId>
     attr_named(text.as_bytes())
 }
 
-// The first row whose name the octets are.
-fn row_named<'rows>(rows: &'rows [Row], octets: &[u8]) -> Option<&'rows Row>
-    ensures exact { option_copied result ≡ find (λ row. is_same_name row.name.now octets.now) rows.now }
-{
-    rows.iter().find(|row| is_same_name(row.name, octets))
-}
-
-// The object identifier of the first of these rows whose name the octets are.
-fn oid_in(rows: &[Row], octets: &[u8]) -> Option<&'static str>
-    ensures exact { option_map (λ oid. oid.now) result
-        ≡ option_map (λ row. row.oid.now) (find (λ row. is_same_name row.name.now octets.now) rows.now) }
-{
-    match row_named(rows, octets) {
-        Some(row) => Some(row.oid),
-        None => None,
-    }
-}
-
 // The object identifier of the attribute type whose name the octets are.
+#[tactic(auto, using(crate::proofs::AttributeLemmas::named_rows))]
 pub(crate) fn attribute_oid_named(octets: &[u8]) -> Option<&'static str>
     ensures exact { option_map (λ oid. oid.now) result ≡ oid_among (map named_attribute attributes) octets.now }
 {

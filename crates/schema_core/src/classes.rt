@@ -1,14 +1,12 @@
 //! The table of object classes.
-ghost use Rattle.std.specs.Prelude.{◌≡◌, ◌<◌, IfSome, map, find, option_map, position, slice_get};
-ghost use Rattle.std.specs.Option.{option_copied};
+ghost use Rattle.std.specs.Prelude.{◌≡◌, ◌<◌, IfSome, map, option_map, position, slice_get};
 ghost use Rattle.std.specs.Str.{bytes_eq};
 ghost use Rattle.schema_core.specs.Oid.{oid_among, named_class};
 ghost use Rattle.schema_core.specs.Classes.{classes, IsClassId, class_at, class_of, class_with, kind_of, class_oid_of, superior_of, required_of, allowed_of};
-ghost use Rattle.schema_core.specs.Naming.{is_named, is_same_name};
-ghost use Rattle.schema_core.specs.ClassRows.{numbered, numbered_of_row};
+ghost use Rattle.schema_core.specs.ClassRows.{named_number, numbered, numbered_of_row};
 
 use crate::kinds::{AttrId, ClassId, ClassKind};
-use crate::naming::{is_named, is_same_name};
+use crate::naming::{NamedRow, oid_in, place_of};
 
 // A class, its superior and its attribute types by number.
 #[derive(Clone, Copy)]
@@ -76,20 +74,24 @@ static CLASSES: [ClassRow; 19] = [
         [PRESCRIPTIVE_ACI]),
 ];
 
+impl NamedRow for ClassRow {
+    ghost named = { λ row. named_number (numbered_of_row row) };
+
+    fn name(&self) -> &'static str {
+        self.name
+    }
+
+    fn oid(&self) -> &'static str {
+        self.oid
+    }
+}
+
 // The whole table.
 #[tactic(auto, unfolding(crate::specs::Attributes::attributes, crate::specs::Classes::classes))]
 fn rows() -> &'static [ClassRow]
     ensures exact { map numbered_of_row result.now ≡ map numbered classes }
 {
     &CLASSES
-}
-
-// The place of the first row that the octets name.
-fn place_of(rows: &[ClassRow], octets: &[u8]) -> Option<usize>
-    ensures exact { result ≡ position (λ row. is_named row.name.now row.oid.now octets.now) rows.now }
-{
-    rows.iter()
-        .position(|row| is_named(row.name, row.oid, octets))
 }
 
 // The class that the octets name.
@@ -101,8 +103,8 @@ fn class_named(octets: &[u8]) -> Option<ClassId>
     Some(ClassId(index as u8))
 }
 
-/// The class that a text names: by its name without regard to ASCII case, or by its object identifier
-/// in dotted form. None exactly where no row has it.
+/// The class that a text names: by its name, ASCII letters in either case, or by its dotted object
+/// identifier. None comes exactly for a text that names no row.
 pub fn class(text: &str) -> Option<ClassId>
     ensures exact { option_map (λ class. class.0) result ≡ class_of text.now }
     ensures fits { IfSome result (λ class. IsClassId class.0) }
@@ -117,7 +119,7 @@ fn place_with(rows: &[ClassRow], oid: &[u8]) -> Option<usize>
     rows.iter().position(|row| oid == row.oid.as_bytes())
 }
 
-/// The class that has the object identifier, in dotted form. None exactly where no row has it.
+/// The class with this dotted object identifier. None comes exactly for one that is of no class here.
 pub fn class_with(oid: &[u8]) -> Option<ClassId>
     ensures exact { option_map (λ class. class.0) result ≡ class_with oid.now }
     ensures fits { IfSome result (λ class. IsClassId class.0) }
@@ -155,8 +157,8 @@ pub fn class_oid(class: ClassId) -> Option<&'static str>
     Some(row_at(class)?.oid)
 }
 
-/// The class's immediate superior, which has a smaller number; None for `top` and for a number past
-/// the table.
+/// The class immediately above, which has a smaller number. Nothing is above `top`, and no class has
+/// a number past the table: for both there is None.
 pub fn superior(class: ClassId) -> Option<ClassId>
     ensures exact { option_map (λ superior. superior.0) result ≡ superior_of class.0 }
     ensures fits { IfSome result (λ superior. superior.0 < class.0) }
@@ -186,25 +188,8 @@ pub fn allowed(class: ClassId) -> &'static [AttrId]
     }
 }
 
-// The first row whose name the octets are.
-fn row_named<'rows>(rows: &'rows [ClassRow], octets: &[u8]) -> Option<&'rows ClassRow>
-    ensures exact { option_copied result ≡ find (λ row. is_same_name row.name.now octets.now) rows.now }
-{
-    rows.iter().find(|row| is_same_name(row.name, octets))
-}
-
-// The object identifier of the first of these rows whose name the octets are.
-fn oid_in(rows: &[ClassRow], octets: &[u8]) -> Option<&'static str>
-    ensures exact { option_map (λ oid. oid.now) result
-        ≡ option_map (λ row. row.oid.now) (find (λ row. is_same_name row.name.now octets.now) rows.now) }
-{
-    match row_named(rows, octets) {
-        Some(row) => Some(row.oid),
-        None => None,
-    }
-}
-
 // The object identifier of the class whose name the octets are.
+#[tactic(auto, using(crate::proofs::ClassLemmas::named_rows))]
 pub(crate) fn class_oid_named(octets: &[u8]) -> Option<&'static str>
     ensures exact { option_map (λ oid. oid.now) result ≡ oid_among (map named_class classes) octets.now }
 {

@@ -7,8 +7,8 @@ ghost use Rattle.schema_core.specs.Classes.{classes, class_of, NamesClass};
 ghost use Rattle.schema_core.specs.Naming.{are_distinct, is_keystring};
 ghost use Rattle.schema_core.specs.Oid.{names, is_dotted_oid, IsDottedOid, oid_of};
 
-/// No two rows of the three tables can be named by one text; each name is a letter followed by letters,
-/// digits and hyphens, and each object identifier is dotted (RFC 4512 section 1.4).
+/// No two rows of the three tables can be named by one text; each name is a keystring, and each object
+/// identifier a numericoid (RFC 4512 section 1.4).
 pub fn rows_are_distinct()
     ensures only { IsTrue (are_distinct names) }
     ensures keystrings { IsTrue (list_all (λ row. is_keystring row.name) names) }

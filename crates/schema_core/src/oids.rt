@@ -36,8 +36,8 @@ fn part_count(text: &[u8]) -> usize
     text.split(|octet| *octet == b'.').count()
 }
 
-/// Whether the octets are a dotted object identifier, known or not: at least two decimal numbers
-/// without leading zeros, joined by dots.
+/// Whether the octets are a dotted object identifier, known or not: two or more numbers, with a dot
+/// after each but the last. They are decimal, and only the number 0 begins with a zero.
 #[tactic(auto, unfolding(crate::specs::Oid::is_dotted_oid))]
 pub fn is_dotted_oid(text: &[u8]) -> bool
     ensures exact { result ≡ is_dotted_oid text.now }
@@ -54,9 +54,9 @@ fn oid_named(octets: &[u8]) -> Option<&'static str>
         .or(role_oid_named(octets))
 }
 
-/// The object identifier in dotted form that a text stands for: that of the attribute type, class or
-/// role that it names without regard to ASCII case, or the text itself where it is a dotted object
-/// identifier, known or not. None exactly where it is neither.
+/// The dotted object identifier for which a text stands. The name of an attribute type, a class or a
+/// role, its ASCII letters in either case, stands for what the tables give it; a dotted object
+/// identifier, known or not, stands for itself. None comes for every other text, and for no other.
 pub fn oid_of(text: &str) -> Option<&str>
     ensures exact { option_map (λ oid. oid.now) result ≡ oid_of text.now }
 {

@@ -1,12 +1,10 @@
 //! The table of roles of administrative points.
-ghost use Rattle.std.specs.Prelude.{◌≡◌, map, find, option_map};
-ghost use Rattle.std.specs.Option.{option_copied};
-ghost use Rattle.schema_core.specs.Naming.{is_same_name};
+ghost use Rattle.std.specs.Prelude.{◌≡◌, map, option_map};
 ghost use Rattle.schema_core.specs.Oid.{oid_among};
 ghost use Rattle.schema_core.specs.RoleRows.{named_of_row};
 ghost use Rattle.schema_core.specs.Roles.{roles};
 
-use crate::naming::is_same_name;
+use crate::naming::{NamedRow, oid_in};
 
 // A role's name and its object identifier in dotted form.
 #[derive(Clone, Copy)]
@@ -22,30 +20,24 @@ static ROLES: [RoleRow; 3] = [
     RoleRow { name: "accessControlInnerArea", oid: "2.5.23.3" },
 ];
 
+impl NamedRow for RoleRow {
+    ghost named = { named_of_row };
+
+    fn name(&self) -> &'static str {
+        self.name
+    }
+
+    fn oid(&self) -> &'static str {
+        self.oid
+    }
+}
+
 // The whole table.
 #[tactic(auto, unfolding(crate::specs::Roles::roles))]
 fn rows() -> &'static [RoleRow]
     ensures exact { map named_of_row result.now ≡ roles }
 {
     &ROLES
-}
-
-// The first row whose name the octets are.
-fn row_named<'rows>(rows: &'rows [RoleRow], octets: &[u8]) -> Option<&'rows RoleRow>
-    ensures exact { option_copied result ≡ find (λ row. is_same_name row.name.now octets.now) rows.now }
-{
-    rows.iter().find(|row| is_same_name(row.name, octets))
-}
-
-// The object identifier of the first of these rows whose name the octets are.
-fn oid_in(rows: &[RoleRow], octets: &[u8]) -> Option<&'static str>
-    ensures exact { option_map (λ oid. oid.now) result
-        ≡ option_map (λ row. row.oid.now) (find (λ row. is_same_name row.name.now octets.now) rows.now) }
-{
-    match row_named(rows, octets) {
-        Some(row) => Some(row.oid),
-        None => None,
-    }
 }
 
 // The object identifier of the role whose name the octets are.

@@ -58,12 +58,6 @@ with_superclasses-first (suc number) =
     (same_above (suc number) number (superior_of (suc number)) (classes_up number) with_superclasses refl
     (omega arith) (λ superior fits below. classes_up-enough number superior superior fits (omega arith)))
 
--- where the class passes, no superclass is asked
-pub list_any-own :
-    (test : ℕ → Bool) (number : ℕ) → test number ≡ true → list_any test (with_superclasses number) ≡ true
-list_any-own test number own =
-    ap (list_any test) (with_superclasses-first number) ∙ rw own refl
-
 -- and where it doesn't, the superclasses are
 pub list_any-above :
     (test : ℕ → Bool) (number : ℕ) (found : Option ℕ) → test number ≡ false → found ≡ superior_of number

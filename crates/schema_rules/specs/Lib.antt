@@ -2,5 +2,5 @@
 pub mod Listed
 pub mod Rules
 pub mod Checking
--- what only this crate's inside promises itself
+-- for the inside of the crate alone
 pub mod Classes

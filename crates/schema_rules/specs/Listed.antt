@@ -26,12 +26,13 @@ with_superclasses number = classes_up number number
 abbrev pub all_classes : List Attribute → List ℕ
 all_classes attributes = flat_map with_superclasses (listed_classes attributes)
 
--- the class with this number is structural
+-- this kind of class is the structural one
 abbrev pub is_structural_kind : ClassKind → Bool
 is_structural_kind Abstract = false
 is_structural_kind Structural = true
 is_structural_kind Auxiliary = false
 
+-- the class with this number is structural
 abbrev pub is_structural : ℕ → Bool
 is_structural number = option_map_or is_structural_kind (kind_of number) false
 
@@ -43,9 +44,10 @@ structural_classes attributes = filter is_structural (listed_classes attributes)
 abbrev pub are_in_line : ℕ → ℕ → Bool
 are_in_line one other = is_among one (with_superclasses other) || is_among other (with_superclasses one)
 
--- the attribute types that the classes require, and those that they require or allow
+-- the attribute types that the classes require
 abbrev pub required_by : List ℕ → List ℕ
 required_by classes = flat_map required_of classes
 
+-- the attribute types that the classes require or allow
 abbrev pub permitted_by : List ℕ → List ℕ
 permitted_by classes = flat_map (λ number. required_of number ++ allowed_of number) classes

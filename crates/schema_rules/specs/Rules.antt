@@ -22,6 +22,7 @@ use Rattle.schema_rules.specs.Listed.{all_classes, structural_classes, are_in_li
 abbrev pub last_pairs : RdnSequence → List TypeAndValue
 last_pairs name = flat_map (λ rdn. rdn) (drop (length name - 1) name)
 
+-- the entry lacks a value of its last RDN
 unfoldable pub lacks_own_value : EntryInformation → Bool
 lacks_own_value entry = list_any (λ pair. not (has_key pair.value.key (values_of pair.kind entry.attributes))) (last_pairs entry.name)
 
@@ -35,10 +36,11 @@ lists_none entry = length (values_of object_class entry.attributes) == 0
 abbrev pub lists_unknown : EntryInformation → Bool
 lists_unknown entry = list_any (λ value. is_none (class_with value.key)) (values_of object_class entry.attributes)
 
--- no structural class is listed, or two of which neither is a superclass of the other (X.501 8.3.2)
+-- no structural class is listed (X.501 8.3.2)
 abbrev pub lists_no_structural : EntryInformation → Bool
 lists_no_structural entry = length (structural_classes entry.attributes) == 0
 
+-- two structural classes are listed that are not in one line of superclasses (X.501 8.3.2)
 abbrev pub lists_two_lines : EntryInformation → Bool
 lists_two_lines entry =
     list_any (λ one. list_any (λ other. not (are_in_line one other)) (structural_classes entry.attributes)) (structural_classes entry.attributes)
@@ -61,6 +63,7 @@ has_unpermitted entry =
 abbrev pub lists_access_alone : EntryInformation → Bool
 lists_access_alone entry = has_class (codes "2.5.17.1") entry && not (has_class (codes "2.5.17.0") entry)
 
+-- one of these seven is the case
 unfoldable pub breaks_classes : EntryInformation → Bool
 breaks_classes entry =
     lists_none entry || lists_unknown entry || lists_no_structural entry || lists_two_lines entry
@@ -78,6 +81,7 @@ is_unread Name = false
 is_unread Subtree = true
 is_unread Aci = true
 
+-- an attribute is there whose syntax is one of the two
 unfoldable pub has_unread : EntryInformation → Bool
 has_unread entry = list_any (λ kind. option_map_or is_unread (syntax_of kind) false) (kinds_of entry.attributes)
 
@@ -91,10 +95,12 @@ has_two_values entry = list_any (λ attribute. is_single attribute.kind && nat_l
 abbrev pub named_in : RdnSequence → List EntryInformation → Option EntryInformation
 named_in name entries = find (λ other. is_same name other.name) entries
 
+-- the entry may not stand immediately below this superior, or without one
 abbrev pub stands_wrong : Option EntryInformation → EntryInformation → Bool
 stands_wrong None entry = is_subentry entry
 stands_wrong (Some superior) entry = is_subentry superior || is_subentry entry && not (is_point superior)
 
+-- the entry may not stand where its name says
 unfoldable pub is_misplaced : List EntryInformation → EntryInformation → Bool
 is_misplaced entries entry = stands_wrong (named_in (superior_name entry.name) entries) entry
 
@@ -104,17 +110,17 @@ is_misplaced entries entry = stands_wrong (named_in (superior_name entry.name) e
 abbrev pub octets_in : EntryInformation → ℕ
 octets_in entry = sum_by (λ attribute. sum_by (λ value. length value.octets) attribute.values) entry.attributes
 
+-- the tree is full, or full of access control subentries and this is one, or the values have too many octets
 unfoldable pub is_past_limits : List EntryInformation → EntryInformation → Bool
 is_past_limits entries entry =
     nat_le 200000 (length entries) || is_access_subentry entry && nat_le 256 (access_subentries entries) || nat_lt 67108864 (octets_in entry)
-
--- the table
 
 -- a rule: its result code, and whether an entry breaks it among the others
 pub record Rule : Type 0 where
   pub code : ℕ
   pub breaks : List EntryInformation → EntryInformation → Bool
 
+-- the rules, in the order in which they are tried
 abbrev pub rules : List Rule
 rules =
     record { code = 67; breaks = λ entries. lacks_own_value }
@@ -128,8 +134,6 @@ rules =
 -- the code of the first rule that the entry breaks among the others
 unfoldable pub broken_rule : List EntryInformation → EntryInformation → Option ℕ
 broken_rule entries entry = option_map (λ rule. rule.code) (find (λ rule. rule.breaks entries entry) rules)
-
--- good trees
 
 -- the entry at each place meets the rules among the others
 abbrev pub MeetsRules : List EntryInformation → Type 0

@@ -53,7 +53,7 @@ fn is_of_structural(oid: &[u8]) -> bool
     }
 }
 
-/// Whether two structural classes are listed of which neither is a superclass of the other.
+/// Whether two structural classes are listed that are not in one line of superclasses.
 pub(crate) fn lists_two_lines(entry: &Entry) -> bool
     ensures exact { result ≡ lists_two_lines entry.now }
 {

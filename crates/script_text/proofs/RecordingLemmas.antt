@@ -1,7 +1,7 @@
 -- Lemmas on events kept as rows and octets.
 use Rattle.std.proofs.Common.{◌≡◌, ℕ, suc, ◌+◌, ◌-◌, ◌<◌, ◌≤◌, ap, ◌∙◌, sym, subst, refl, arith, length, take, drop, get_or, sum_by, List, [], ◌∷◌, ◌++◌}
 use Rattle.std.proofs.lemmas.List.{drop_more, drop_all, take_all, take-append-le, drop-append-le, drop-drop, length-drop}
-use Rattle.std.proofs.lemmas.List.Sums.{sum_by-cons, sum_by-drop_more}
+use Rattle.std.proofs.lemmas.List.Sums.{sum_by-cons}
 use Rattle.script_text.specs.declared.event.ScriptEvent.{ScriptEvent}
 use Rattle.script_text.specs.declared.recording.Head.{Head}
 use Rattle.script_text.specs.declared.recording.Head.TheVariants.{Opened, Bytes, Ended}
@@ -44,14 +44,6 @@ events-at place start rows octets d within =
 pub events-none : (place : ℕ) (rows : List Row) (octets : List ℕ) → length rows ≤ place → events_from (drop place rows) octets ≡ []
 unfolding events_from
 events-none place rows octets past = rw (drop_all place rows past) refl
-
--- past the row at the place
-pub packed-next : (place start : ℕ) (rows : List Row) (octets : List ℕ) (d : Row) → place < length rows → IsPacked place start rows octets
-    → IsPacked (place + 1) (start + (get_or rows place d).size) rows octets
-packed-next place start rows octets d within is =
-    let cut : sum_by (λ r. r.size) (drop place rows) ≡ (get_or rows place d).size + sum_by (λ r. r.size) (drop (place + 1) rows) = sum_by-drop_more (λ r. r.size) rows place d within in
-    let all : start + sum_by (λ r. r.size) (drop place rows) ≡ length octets = is.packed in
-    record { within = omega arith; packed = omega arith }
 
 -- the events with one more
 pub recorded-push : (place start : ℕ) (rows : List Row) (octets piece : List ℕ) (head : Head) → IsPacked place start rows octets

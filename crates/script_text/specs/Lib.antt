@@ -2,7 +2,7 @@
 pub mod LineText
 pub mod Script
 pub mod Recording
--- What the crate's inside promises itself: the same, computed from left to right.
 pub mod LineReading
 pub mod ScriptReading
+-- For the inside of the crate alone.
 pub mod Connections

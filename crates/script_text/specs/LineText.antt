@@ -13,7 +13,7 @@ abbrev pub is_silent : List ℕ → Bool
 is_silent [] = true
 is_silent (octet ∷ octets) = octet == 35
 
--- the digits write the number of a connection: 1 to 10 decimal digits, from 1 to 4,294,967,295
+-- the digits write the number of a connection: above 0, of 32 bits, in at most ten decimal digits
 pub record IsNumber (digits : List ℕ) (number : ℕ) : Type 0 where
   pub digits_alone : AllPass is_ascii_digit digits
   pub at_most_ten : length digits ≤ 10

@@ -24,15 +24,17 @@ octets_in (event.Opened conn) = []
 octets_in (event.Bytes conn octets) = octets
 octets_in (event.Ended conn) = []
 
--- of the first event: what it is, its octets, and the events after it
+-- what the first event is, without its octets
 abbrev pub first_head : List ScriptEvent → Option Head
 first_head [] = None
 first_head (event ∷ events) = Some (head_of event)
 
+-- the octets of the first event
 abbrev pub first_octets : List ScriptEvent → List ℕ
 first_octets [] = []
 first_octets (event ∷ events) = octets_in event
 
+-- the events after the first
 abbrev pub without_first : List ScriptEvent → List ScriptEvent
 without_first [] = []
 without_first (event ∷ events) = events

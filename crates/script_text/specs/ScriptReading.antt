@@ -8,8 +8,8 @@ use Rattle.script_text.specs.LineText.{is_silent}
 use Rattle.script_text.specs.LineReading.{event_of}
 use Rattle.script_text.specs.Script.{may_follow}
 
--- the ? of the logic: the second step, if the first gave events
 infixl 10 ◌>>=◌
+-- the ? of the logic: the second step, if the first gave events
 abbrev pub ◌>>=◌ : Result (List ScriptEvent) ℕ → (List ScriptEvent → Result (List ScriptEvent) ℕ) → Result (List ScriptEvent) ℕ
 Ok events >>= next = next events
 Err number >>= next = Err number

@@ -67,12 +67,14 @@ fn read(alloc: Global, text: &[u8]) -> Result<Reading, ScriptFault>
     Ok(reading)
 }
 
-/// Reads a script: lines that end in LF or CR LF, of which the last may lack its end. A line is
-/// empty, begins with `#`, or is `open N`, `send N HEX` or `end N` with single spaces. N is 1 to 10
-/// decimal digits from 1 to 4,294,967,295; HEX is pairs of hexadecimal digits (RFC 4648 8) in either
-/// case, at least one. A number is opened once; octets and the end come on one that is open.
+/// Reads a script. A line ends in LF, or in CR and LF; that of the last one may be missing. Empty
+/// lines say nothing, nor do those whose first octet is `#`. Every other line is one of `open N`,
+/// `send N HEX` and `end N`, with one space between its parts. N writes a number of 32 bits above 0
+/// in at most ten decimal digits; HEX writes at least one octet, each in two hexadecimal digits of
+/// either case (RFC 4648 8). A number is opened once; octets and the end come on one that is open.
 ///
-/// `Bad` comes exactly where the text isn't a script, with its first bad line.
+/// `Bad` tells the first bad line of a text that is no script, and comes for no other text;
+/// `NoMemory` may come in place of any answer.
 pub fn read_script(alloc: Global, text: &[u8]) -> Result<Recording, ScriptFault>
     ensures ok { IfOk result (λ events. IsScript text.now events) }
     ensures bad { (line : ℕ) → result ≡ Err (ScriptFault.Bad line) → IsFirstBadLine text.now line }

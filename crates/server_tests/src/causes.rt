@@ -1,4 +1,4 @@
-// How the program ends, and what it prints, where it does not come to its end.
+//! How the program ends, and what it prints, where it does not come to its end.
 
 use crate::runs::{assert_ran, run_failing, run_line};
 use acl_program::Status;
@@ -71,7 +71,8 @@ fn a_file_that_is_not_there_is_a_fault_of_the_data(rt: HostRuntime) -> Result<()
     Ok(())
 }
 
-/// The call that fails, what is printed, and how the run ends.
+/// The one call that fails, what is printed, and how the run ends. Two calls are for the data file and two for the
+/// script; the call after a failing one would succeed.
 static SHELF_CALLS: [(u64, &str, Status); 5] = [
     (0u64, "data fault\n", Status::ShelfFault),
     (1, "data fault\n", Status::ShelfFault),

@@ -1,7 +1,7 @@
-// One stream of octets, cut in every way.
+//! One stream of octets, cut in every way.
 
-use crate::runs::assert_replay;
-use acl_program::Status;
+use crate::messages::NOTICE_LINE;
+use crate::runs::{Replay, assert_replay};
 use std::alloc::{AllocError, Global};
 use std::test::*;
 
@@ -9,6 +9,9 @@ use std::test::*;
 const STREAM: &str = "300c02010160070201030400800030050201024200";
 
 const ANSWER: &str = "1 300c02010161070a010004000400 closed\n";
+
+const THREE_ANSWERS: &str =
+    "1 300c02010161070a010004000400 closed\n2 300c02010161070a010004000400 closed\n3 300c02010161070a010004000400 closed\n";
 
 /// Adds the octets between two places of the stream as a line, if there are any.
 fn push_piece(
@@ -38,10 +41,11 @@ fn a_stream_cut_at_any_two_places_is_answered_the_same(rt: HostRuntime) -> Resul
             assert_replay(
                 &rt,
                 alloc,
-                script.as_bytes(),
-                ANSWER,
-                Status::Done,
-                script.as_str(),
+                &Replay {
+                    script: script.as_str(),
+                    put: ANSWER,
+                    what: script.as_str(),
+                },
             )?;
         }
     }
@@ -58,10 +62,11 @@ fn a_stream_of_single_octets_is_answered_the_same(rt: HostRuntime) -> Result<(),
     assert_replay(
         &rt,
         alloc,
-        script.as_bytes(),
-        ANSWER,
-        Status::Done,
-        "single octets",
+        &Replay {
+            script: script.as_str(),
+            put: ANSWER,
+            what: "single octets",
+        },
     )?;
     Ok(())
 }
@@ -75,15 +80,14 @@ fn three_streams_that_come_octet_by_octet_are_answered_alone(rt: HostRuntime) ->
             push_piece(alloc, &mut script, conn, place, place + 1)?;
         }
     }
-    let answer =
-        "1 300c02010161070a010004000400 closed\n2 300c02010161070a010004000400 closed\n3 300c02010161070a010004000400 closed\n";
     assert_replay(
         &rt,
         alloc,
-        script.as_bytes(),
-        answer,
-        Status::Done,
-        "three streams",
+        &Replay {
+            script: script.as_str(),
+            put: THREE_ANSWERS,
+            what: "three streams",
+        },
     )?;
     Ok(())
 }
@@ -100,20 +104,20 @@ fn the_largest_message_is_answered_and_one_octet_more_is_not(rt: HostRuntime) ->
     assert_replay(
         &rt,
         alloc,
-        script.as_bytes(),
-        "1 300c02010178070a010204000400\n",
-        Status::Done,
-        "the largest message",
+        &Replay {
+            script: script.as_str(),
+            put: "1 300c02010178070a010204000400\n",
+            what: "the largest message",
+        },
     )?;
-    let notice =
-        "1 3024020100781f0a0102040004008a16312e332e362e312e342e312e313436362e3230303336 closed\n";
     assert_replay(
         &rt,
         alloc,
-        b"open 1\nsend 1 3083100001\nsend 1 00",
-        notice,
-        Status::Done,
-        "one octet more",
+        &Replay {
+            script: "open 1\nsend 1 3083100001\nsend 1 00",
+            put: NOTICE_LINE,
+            what: "one octet more",
+        },
     )?;
     Ok(())
 }

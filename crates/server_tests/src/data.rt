@@ -1,10 +1,8 @@
-// Data files: what is checked, put again and refused.
+//! Data files: what is checked, put again and refused.
 
+use crate::messages::{BIND_SCRIPT, BOUND_LINE};
 use crate::runs::{assert_ran, run_data, run_line};
-use crate::sets::{
-    ONE_SUBENTRY, ORGANISATION, OTHER_ADMINISTRATORS, OTHER_PEOPLE, POINT, POINT_WITH_DENIAL,
-    TWO_ENTRIES, TWO_SUBENTRIES, TWO_SUBENTRIES_AND_GROUP, WITHOUT_HIDDEN_PART,
-};
+use crate::sets::{ONE_SUBENTRY, ORGANISATION, POINT, TWO_ENTRIES, TWO_SUBENTRIES};
 use acl_program::Status;
 use std::alloc::{AllocError, Global};
 use std::process::Abort;
@@ -14,77 +12,39 @@ use std::test::*;
 const TWO_ENTRIES_PUT: &str =
     "version: 1\n\ndn: dc=u\nobjectClass: domain\ndc: u\n\ndn: ou=b,dc=u\nobjectClass: organizationalUnit\nou: a\nou: b\n";
 
-/// The check of a data file puts this and ends so.
-fn assert_check(
+/// The check of a data file puts this, and refuses the file.
+fn assert_refused(
     rt: &impl Abort,
     alloc: Global,
     data: &[u8],
     put: &str,
-    status: Status,
     what: &str,
 ) -> Result<(), AllocError> {
     let ran = run_data(alloc, "check d", data)?;
-    assert_ran(rt, &ran, put, status, what);
+    assert_ran(rt, &ran, put, Status::BadData, what);
     Ok(())
 }
 
 const RULE_21_AT_9: &str = "bad data line 9: rule 21\n";
 
-/// A data file, what its check prints, how it ends, and what it shows.
-static TREES: [(&str, &str, Status, &str); 10] = [
-    (TWO_ENTRIES, "ok 2 0\n", Status::Done, "two entries"),
-    (
-        ORGANISATION,
-        RULE_21_AT_9,
-        Status::BadData,
-        "an organisation",
-    ),
-    (
-        WITHOUT_HIDDEN_PART,
-        RULE_21_AT_9,
-        Status::BadData,
-        "without its hidden part",
-    ),
-    (
-        OTHER_ADMINISTRATORS,
-        RULE_21_AT_9,
-        Status::BadData,
-        "other administrators",
-    ),
-    (OTHER_PEOPLE, RULE_21_AT_9, Status::BadData, "other people"),
-    (ONE_SUBENTRY, RULE_21_AT_9, Status::BadData, "one subentry"),
-    (
-        POINT,
-        "bad data line 1: rule 21\n",
-        Status::BadData,
-        "a point",
-    ),
-    (
-        POINT_WITH_DENIAL,
-        "bad data line 1: rule 21\n",
-        Status::BadData,
-        "a point with a denial",
-    ),
+/// A data file, what its check prints, and what it shows.
+static TREES: [(&str, &str, &str); 4] = [
+    (ORGANISATION, RULE_21_AT_9, "an organisation"),
+    (ONE_SUBENTRY, RULE_21_AT_9, "one subentry"),
+    (POINT, "bad data line 1: rule 21\n", "a point"),
     (
         TWO_SUBENTRIES,
         "bad data line 6: rule 21\n",
-        Status::BadData,
         "two subentries",
-    ),
-    (
-        TWO_SUBENTRIES_AND_GROUP,
-        "bad data line 6: rule 21\n",
-        Status::BadData,
-        "two subentries and a group",
     ),
 ];
 
 #[test]
-fn trees_are_checked_and_those_with_subentries_are_refused_yet(
-    rt: HostRuntime,
-) -> Result<(), Fail> {
-    for (data, put, status, what) in &TREES {
-        assert_check(&rt, rt.alloc(), data.as_bytes(), put, *status, what)?;
+fn a_tree_is_counted_unless_an_entry_has_a_subtree_or_an_item(rt: HostRuntime) -> Result<(), Fail> {
+    let counted = run_data(rt.alloc(), "check d", TWO_ENTRIES.as_bytes())?;
+    assert_ran(&rt, &counted, "ok 2 0\n", Status::Done, "two entries");
+    for (data, put, what) in &TREES {
+        assert_refused(&rt, rt.alloc(), data.as_bytes(), put, what)?;
     }
     Ok(())
 }
@@ -98,12 +58,11 @@ fn an_ordinary_site_is_refused_at_its_first_subentry(rt: HostRuntime) -> Result<
             "\ndn: uid=p{number:02},ou=people,dc=example\nobjectClass: inetOrgPerson\nuid: p{number:02}\ncn: P {number:02}\nsn: P\nmail: p{number:02}@example.com\ntelephoneNumber: +1 555 10{number:02}\nuserPassword: pw{number:02}\n"
         )?.as_str())?;
     }
-    assert_check(
+    assert_refused(
         &rt,
         alloc,
         data.as_bytes(),
-        "bad data line 9: rule 21\n",
-        Status::BadData,
+        RULE_21_AT_9,
         "forty people more",
     )?;
     Ok(())
@@ -116,8 +75,8 @@ fn a_tree_is_put_again_alone_and_after_the_lines_of_a_replay(rt: HostRuntime) ->
     assert_ran(&rt, &dumped, TWO_ENTRIES_PUT, Status::Done, "dump");
     let again = run_data(alloc, "dump d", TWO_ENTRIES_PUT.as_bytes())?;
     assert_ran(&rt, &again, TWO_ENTRIES_PUT, Status::Done, "what was put");
-    let bind = b"open 1\nsend 1 300c020101600702010304008000\n";
-    let whole = format!(in alloc; "1 300c02010161070a010004000400\n{TWO_ENTRIES_PUT}")?;
+    let bind = BIND_SCRIPT.as_bytes();
+    let whole = format!(in alloc; "{BOUND_LINE}{TWO_ENTRIES_PUT}")?;
     let replayed = run_line(alloc, "replay --dump d s", bind)?;
     assert_ran(&rt, &replayed, whole.as_str(), Status::Done, "replay");
     let lines = format!(in alloc; "1 -\n{TWO_ENTRIES_PUT}")?;
@@ -186,7 +145,7 @@ fn a_file_is_refused_at_its_first_bad_line_for_the_first_cause(
     rt: HostRuntime,
 ) -> Result<(), Fail> {
     for (data, put) in &BAD_FILES {
-        assert_check(&rt, rt.alloc(), data.as_bytes(), put, Status::BadData, data)?;
+        assert_refused(&rt, rt.alloc(), data.as_bytes(), put, data)?;
     }
     Ok(())
 }
@@ -210,12 +169,11 @@ fn a_data_file_is_refused_before_its_script(rt: HostRuntime) -> Result<(), Fail>
 fn a_file_of_one_octet_too_many_is_refused_where_it_stands(rt: HostRuntime) -> Result<(), Fail> {
     let alloc = rt.alloc();
     let data = vec![in alloc; b'\n'; 67_108_865]?;
-    assert_check(
+    assert_refused(
         &rt,
         alloc,
         data.as_slice(),
         "bad data line 67108865: limit\n",
-        Status::BadData,
         "line feeds",
     )?;
     Ok(())

@@ -1,18 +1,11 @@
 //! A hub that hears events.
 
-use session_hub::{Event, Hub, MAX_CONNECTIONS};
+use crate::messages::{BIND, BOUND, UNBIND};
+use session_hub::{Event, Hub};
 use std::alloc::AllocError;
 use std::test::Fail;
 
-/// An anonymous bind with messageID 1 (RFC 4511 4.2), and its answer.
-const BIND: &[u8] = b"\x30\x0c\x02\x01\x01\x60\x07\x02\x01\x03\x04\x00\x80\x00";
-
-const BOUND: &[u8] = b"\x30\x0c\x02\x01\x01\x61\x07\x0a\x01\x00\x04\x00\x04\x00";
-
 const NOTHING: &[u8] = b"";
-
-/// An unbind with messageID 2 (RFC 4511 4.3).
-const UNBIND: &[u8] = b"\x30\x05\x02\x01\x02\x42\x00";
 
 // Hears an event. It promises nothing, so that the proof of a test goes by what the test asks of the hub.
 fn hear(hub: &mut Hub, event: Event<'_>) -> Result<(), AllocError> {
@@ -107,10 +100,10 @@ fn no_more_than_the_most_are_held(rt: HostRuntime) -> Result<(), Fail> {
     }
     hear(&mut hub, Event::Bytes(255, BIND))?;
     hear(&mut hub, Event::Bytes(256, BIND))?;
-    assert_eq!(rt; held(&hub, 255), (MAX_CONNECTIONS, false, BOUND));
+    assert_eq!(rt; held(&hub, 255), (256, false, BOUND));
     assert_eq!(rt;
         held(&hub, 256),
-        (MAX_CONNECTIONS, false, NOTHING),
+        (256, false, NOTHING),
         "a connection that was turned away is not heard"
     );
     Ok(())

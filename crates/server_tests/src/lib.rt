@@ -13,6 +13,8 @@ mod hubs;
 #[cfg(test)]
 mod loops;
 #[cfg(test)]
+mod messages;
+#[cfg(test)]
 mod replays;
 #[cfg(test)]
 mod runs;

@@ -1,5 +1,6 @@
 //! The loop over the events of a script.
 
+use crate::messages::{BOUND, NOTICE};
 use session_hub::{Ended, serve_loop};
 use std::test::Fail;
 use wire_io::ScriptLink;
@@ -7,13 +8,6 @@ use wire_io::ScriptLink;
 /// Two connections: one binds anonymously and unbinds, one sends octets that begin no message.
 const SCRIPT: &str =
     "open 1\nopen 2\nsend 2 31\nsend 1 300c0201016007\nsend 1 0201030400800030050201024200\n";
-
-/// The answer to the bind.
-const BOUND: &[u8] = b"\x30\x0c\x02\x01\x01\x61\x07\x0a\x01\x00\x04\x00\x04\x00";
-
-/// The notice of disconnection, for octets that are no message (RFC 4511 4.4.1).
-const NOTICE: &[u8] =
-    b"\x30\x24\x02\x01\x00\x78\x1f\x0a\x01\x02\x04\x00\x04\x00\x8a\x161.3.6.1.4.1.1466.20036";
 
 #[test]
 fn each_connection_gets_its_own_answers(rt: HostRuntime) -> Result<(), Fail> {
@@ -32,5 +26,16 @@ fn the_loop_ends_where_its_turns_are_spent(rt: HostRuntime) -> Result<(), Fail> 
     assert_eq!(rt; serve_loop(rt.alloc(), &mut link, 4), Ended::TurnsSpent);
     assert_eq!(rt; link.said_of(1).len(), 0, "the bind is not whole yet");
     assert_eq!(rt; link.hung_up(2), true);
+    Ok(())
+}
+
+#[test]
+fn the_loop_ends_where_its_link_fails(rt: HostRuntime) -> Result<(), Fail> {
+    let alloc = rt.alloc();
+    let (events, failing) = (Vec::new(alloc), [0u64].to_vec(alloc)?);
+    let mut link = ScriptLink::new(alloc, events, failing, Vec::new(alloc), Vec::new(alloc));
+    assert_eq!(rt; serve_loop(alloc, &mut link, 100), Ended::LinkFault);
+    let again = serve_loop(alloc, &mut link, 100);
+    assert_eq!(rt; again, Ended::Stopped, "the next call gives Stop");
     Ok(())
 }

@@ -1,108 +1,103 @@
-// Scripts and the lines that they give.
+//! Scripts and the lines that they give.
 
-use crate::runs::{assert_ran, assert_replay, run_line};
+use crate::messages::{BIND_SCRIPT, BOUND_LINE, NOTICE_LINE};
+use crate::runs::{Replay, assert_ran, assert_replay, run_line};
 use acl_program::Status;
 use std::test::*;
 
-/// A script, what it prints, and what it shows.
-struct Row {
-    script: &'static str,
-    put: &'static str,
-    what: &'static str,
-}
-
-static ROWS: [Row; 19] = [
-    Row {
-        script: "open 1\nsend 1 300c020101600702010304008000\n",
-        put: "1 300c02010161070a010004000400\n",
+/// Scripts of at most one connection.
+static REPLAYS: [Replay<'static>; 19] = [
+    Replay {
+        script: BIND_SCRIPT,
+        put: BOUND_LINE,
         what: "an anonymous bind",
     },
-    Row {
+    Replay {
         script: "open 1\nsend 1 30\nsend 1 0c\nsend 1 02\nsend 1 01\nsend 1 01\nsend 1 60\nsend 1 07\nsend 1 02\nsend 1 01\nsend 1 03\nsend 1 04\nsend 1 00\nsend 1 80\nsend 1 00\n",
-        put: "1 300c02010161070a010004000400\n",
+        put: BOUND_LINE,
         what: "a bind octet by octet",
     },
-    Row {
+    Replay {
         script: "open 1\nsend 1 300c020101600702010304008000300c020101600702010304008000",
         put: "1 300c02010161070a010004000400300c02010161070a010004000400\n",
         what: "two binds in one piece",
     },
-    Row {
+    Replay {
         script: "open 1\nsend 1 30840000000c020101600702010304008000",
-        put: "1 300c02010161070a010004000400\n",
+        put: BOUND_LINE,
         what: "a long form of the length",
     },
-    Row {
+    Replay {
         script: "open 1\nsend 1 3080",
-        put: "1 3024020100781f0a0102040004008a16312e332e362e312e342e312e313436362e3230303336 closed\n",
+        put: NOTICE_LINE,
         what: "the indefinite length",
     },
-    Row {
+    Replay {
         script: "open 1\nsend 1 31",
-        put: "1 3024020100781f0a0102040004008a16312e332e362e312e342e312e313436362e3230303336 closed\n",
+        put: NOTICE_LINE,
         what: "another tag",
     },
-    Row {
+    Replay {
         script: "open 1\nsend 1 3083100000",
         put: "1 -\n",
         what: "the header of the largest message",
     },
-    Row {
+    Replay {
         script: "open 1\nsend 1 3083100001",
-        put: "1 3024020100781f0a0102040004008a16312e332e362e312e342e312e313436362e3230303336 closed\n",
+        put: NOTICE_LINE,
         what: "the header of a message that is too large",
     },
-    Row {
+    Replay {
         script: "open 1\nsend 1 308311",
         put: "1 -\n",
         what: "a length that isn't all there",
     },
-    Row {
+    Replay {
         script: "open 1\nsend 1 300c020101",
         put: "1 -\n",
         what: "a message that isn't all there",
     },
-    Row {
+    Replay {
         script: "open 1\nsend 1 301602010160110201030400a30a040845585445524e414c",
         put: "1 300c02010161070a010704000400\n",
         what: "a bind by SASL",
     },
-    Row {
+    Replay {
         script: "open 1\nsend 1 300c020101600702010304008000\nsend 1 30050201024200\n",
         put: "1 300c02010161070a010004000400 closed\n",
         what: "a bind and an unbind",
     },
-    Row {
+    Replay {
         script: "open 1\nsend 1 3033020102632e040a64633d6578616d706c650a01000a0100020100020100010100870b6f626a656374436c617373300404026463",
         put: "1 300c02010265070a013504000400\n",
         what: "a search, which isn't built",
     },
-    Row {
+    Replay {
         script: "open 1\nsend 1 300c020101600702010204008000",
         put: "1 300c02010161070a010204000400\n",
         what: "a bind of version 2",
     },
-    Row {
+    Replay {
         script: "open 1\nsend 1 300d02010160080201030401618000",
         put: "1 300c02010161070a013504000400\n",
         what: "a bind with a name",
     },
-    Row {
+    Replay {
         script: "open 1\nsend 1 3006020102500101",
         put: "1 -\n",
         what: "an abandon",
     },
-    Row {
+    Replay {
         script: "open 1\nsend 1 30050201024200300c020101600702010304008000",
         put: "1 - closed\n",
         what: "octets behind an unbind",
     },
-    Row {
+    Replay {
         script: "open 1\nend 1",
         put: "1 - closed\n",
         what: "an end",
     },
-    Row {
+    Replay {
         script: "# nothing\n\n",
         put: "",
         what: "no connection",
@@ -111,62 +106,55 @@ static ROWS: [Row; 19] = [
 
 #[test]
 fn each_script_gives_its_lines(rt: HostRuntime) -> Result<(), Fail> {
-    for row in &ROWS {
-        assert_replay(
-            &rt,
-            rt.alloc(),
-            row.script.as_bytes(),
-            row.put,
-            Status::Done,
-            row.what,
-        )?;
+    for replay in &REPLAYS {
+        assert_replay(&rt, rt.alloc(), replay)?;
     }
     Ok(())
 }
 
-/// A script of one request, what it prints, and what it shows.
-static REQUESTS: [(&str, &str, &str); 7] = [
-    (
-        "open 1\nsend 1 300a02010177058003312e32",
-        "1 300c02010178070a010204000400\n",
-        "an extended request",
-    ),
-    (
-        "open 1\nsend 1 300e020101600702010304008000a000",
-        "1 300c02010161070a013504000400\n",
-        "a bind with controls",
-    ),
-    (
-        "open 1\nsend 1 30070201054a026161",
-        "1 300c0201056b070a013504000400\n",
-        "a delete",
-    ),
-    (
-        "open 1\nsend 1 300b0201026606040261613000",
-        "1 300c02010267070a013504000400\n",
-        "a modify",
-    ),
-    (
-        "open 1\nsend 1 300b0201036806040261613000",
-        "1 300c02010369070a013504000400\n",
-        "an add",
-    ),
-    (
-        "open 1\nsend 1 30100201046c0b04026161040262620101ff",
-        "1 300c0201046d070a013504000400\n",
-        "a rename",
-    ),
-    (
-        "open 1\nsend 1 30120201056e0d0402616130070402636e040178",
-        "1 300c0201056f070a013504000400\n",
-        "a compare",
-    ),
+/// Scripts of one request each.
+static REQUESTS: [Replay<'static>; 7] = [
+    Replay {
+        script: "open 1\nsend 1 300a02010177058003312e32",
+        put: "1 300c02010178070a010204000400\n",
+        what: "an extended request",
+    },
+    Replay {
+        script: "open 1\nsend 1 300e020101600702010304008000a000",
+        put: "1 300c02010161070a013504000400\n",
+        what: "a bind with controls",
+    },
+    Replay {
+        script: "open 1\nsend 1 30070201054a026161",
+        put: "1 300c0201056b070a013504000400\n",
+        what: "a delete",
+    },
+    Replay {
+        script: "open 1\nsend 1 300b0201026606040261613000",
+        put: "1 300c02010267070a013504000400\n",
+        what: "a modify",
+    },
+    Replay {
+        script: "open 1\nsend 1 300b0201036806040261613000",
+        put: "1 300c02010369070a013504000400\n",
+        what: "an add",
+    },
+    Replay {
+        script: "open 1\nsend 1 30100201046c0b04026161040262620101ff",
+        put: "1 300c0201046d070a013504000400\n",
+        what: "a rename",
+    },
+    Replay {
+        script: "open 1\nsend 1 30120201056e0d0402616130070402636e040178",
+        put: "1 300c0201056f070a013504000400\n",
+        what: "a compare",
+    },
 ];
 
 #[test]
 fn each_request_is_answered_in_the_response_of_its_kind(rt: HostRuntime) -> Result<(), Fail> {
-    for (script, put, what) in &REQUESTS {
-        assert_replay(&rt, rt.alloc(), script.as_bytes(), put, Status::Done, what)?;
+    for replay in &REQUESTS {
+        assert_replay(&rt, rt.alloc(), replay)?;
     }
     Ok(())
 }
@@ -189,16 +177,20 @@ fn a_connection_past_the_most_is_turned_away_until_another_ends(
     assert_replay(
         &rt,
         alloc,
-        script.as_bytes(),
-        put.as_str(),
-        Status::Done,
-        "258 connections",
+        &Replay {
+            script: script.as_str(),
+            put: put.as_str(),
+            what: "258 connections",
+        },
     )?;
     Ok(())
 }
 
 const FOUR_EVENTS: &str =
     "open 1\nsend 1 300c020101600702010304008000\nsend 1 300c020102600702010304008000\nsend 1 300c020103600702010304008000\n";
+
+const THREE_BOUND: &str =
+    "1 300c02010161070a010004000400300c02010261070a010004000400300c02010361070a010004000400\n";
 
 /// A line with a number of turns, what it prints of four events, and how it ends.
 static TURNS: [(&str, &str, Status); 6] = [
@@ -209,21 +201,9 @@ static TURNS: [(&str, &str, Status); 6] = [
         "1 300c02010161070a010004000400300c02010261070a010004000400\n",
         Status::TurnsSpent,
     ),
-    (
-        "replay d s --turns 4",
-        "1 300c02010161070a010004000400300c02010261070a010004000400300c02010361070a010004000400\n",
-        Status::TurnsSpent,
-    ),
-    (
-        "replay d s --turns 5",
-        "1 300c02010161070a010004000400300c02010261070a010004000400300c02010361070a010004000400\n",
-        Status::Done,
-    ),
-    (
-        "replay --turns 007 d s",
-        "1 300c02010161070a010004000400300c02010261070a010004000400300c02010361070a010004000400\n",
-        Status::Done,
-    ),
+    ("replay d s --turns 4", THREE_BOUND, Status::TurnsSpent),
+    ("replay d s --turns 5", THREE_BOUND, Status::Done),
+    ("replay --turns 007 d s", THREE_BOUND, Status::Done),
 ];
 
 #[test]

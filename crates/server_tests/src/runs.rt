@@ -1,4 +1,4 @@
-// The program run in memory.
+//! The program run in memory.
 
 use crate::sets::TWO_ENTRIES;
 use acl_program::{Status, run};
@@ -98,6 +98,11 @@ pub fn run_failing(
     run_over(alloc, line, TWO_ENTRIES.as_bytes(), script, failing)
 }
 
+/// The same with no failing call.
+pub fn run_line(alloc: Global, line: &str, script: &[u8]) -> Result<Ran, AllocError> {
+    run_failing(alloc, line, script, &[], &[])
+}
+
 /// Runs the program over a data file, and a script that only opens a connection.
 pub fn run_data(alloc: Global, line: &str, data: &[u8]) -> Result<Ran, AllocError> {
     let failing = Failing {
@@ -107,21 +112,21 @@ pub fn run_data(alloc: Global, line: &str, data: &[u8]) -> Result<Ran, AllocErro
     run_over(alloc, line, data, b"open 1\n", failing)
 }
 
-/// The same with no failing call.
-pub fn run_line(alloc: Global, line: &str, script: &[u8]) -> Result<Ran, AllocError> {
-    run_failing(alloc, line, script, &[], &[])
+/// A script, what its replay prints, and what that shows.
+#[derive(Clone, Copy)]
+pub struct Replay<'a> {
+    pub script: &'a str,
+    pub put: &'a str,
+    pub what: &'a str,
 }
 
-/// The replay of a script prints this and ends so.
+/// The replay of the script prints that, and comes to its end.
 pub fn assert_replay(
     rt: &impl Abort,
     alloc: Global,
-    script: &[u8],
-    put: &str,
-    status: Status,
-    what: &str,
+    replay: &Replay<'_>,
 ) -> Result<(), AllocError> {
-    let ran = run_line(alloc, "replay d s", script)?;
-    assert_ran(rt, &ran, put, status, what);
+    let ran = run_line(alloc, "replay d s", replay.script.as_bytes())?;
+    assert_ran(rt, &ran, replay.put, Status::Done, replay.what);
     Ok(())
 }

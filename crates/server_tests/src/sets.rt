@@ -1,41 +1,208 @@
-// Data files: trees of people, groups and devices, with the access control items that rule them.
-
-/// An organisation with an open part, administrators and a laboratory.
-pub const ORGANISATION: &str =
-    "version: 1\n\ndn: dc=example\nobjectClass: top\nobjectClass: domain\ndc: example\nadministrativeRole: accessControlSpecificArea\n\ndn: cn=open,dc=example\nobjectClass: subentry\nobjectClass: accessControlSubentry\ncn: open\nsubtreeSpecification: { specificExclusions { chopBefore:\"ou=secret\", chopBefore:\"ou=attic\" } }\nprescriptiveACI: { identificationTag \"everyone\", precedence 10, authenticationLevel none, itemOrUserFirst userFirst: { userClasses { allUsers }, userPermissions { { protectedItems { entry, allUserAttributeTypesAndValues }, grantsAndDenials { grantBrowse, grantReturnDN, grantRead, grantCompare, grantFilterMatch, grantDiscloseOnError } }, { precedence 20, protectedItems { attributeType { userPassword }, allAttributeValues { userPassword } }, grantsAndDenials { denyRead, denyCompare, denyFilterMatch, denyDiscloseOnError } } } } }\n\ndn: cn=self,dc=example\nobjectClass: subentry\nobjectClass: accessControlSubentry\ncn: self\nsubtreeSpecification: { base \"ou=people\", minimum 1, specificationFilter item:inetOrgPerson }\nprescriptiveACI: { identificationTag \"self\", precedence 10, authenticationLevel simple, itemOrUserFirst userFirst: { userClasses { thisEntry }, userPermissions { { protectedItems { entry }, grantsAndDenials { grantModify } }, { protectedItems { attributeType { telephoneNumber }, allAttributeValues { telephoneNumber } }, grantsAndDenials { grantAdd, grantRemove } } } } }\n\ndn: cn=admins,dc=example\nobjectClass: subentry\nobjectClass: accessControlSubentry\ncn: admins\nsubtreeSpecification: { }\nprescriptiveACI: { identificationTag \"admins\", precedence 30, authenticationLevel simple, itemOrUserFirst userFirst: { userClasses { userGroup { \"cn=admins,ou=groups,dc=example\" } }, userPermissions { { protectedItems { entry, allUserAttributeTypesAndValues }, grantsAndDenials { grantAdd, grantDiscloseOnError, grantRead, grantRemove, grantBrowse, grantModify, grantRename, grantReturnDN, grantCompare, grantFilterMatch } } } } }\n\ndn: ou=groups,dc=example\nobjectClass: organizationalUnit\nou: groups\n\ndn: cn=admins,ou=groups,dc=example\nobjectClass: groupOfNames\ncn: admins\nmember: uid=ada,ou=people,dc=example\n\ndn: cn=staff,ou=groups,dc=example\nobjectClass: groupOfNames\ncn: staff\nmember: uid=bob,ou=people,dc=example\n\ndn: ou=people,dc=example\nobjectClass: organizationalUnit\nou: people\n\ndn: uid=ada,ou=people,dc=example\nobjectClass: inetOrgPerson\nuid: ada\ncn: Ada\nsn: A\nuserPassword: {SHA256}ungWv48Bz+pBQUDeXa4iI7ADYaOWF3qctBD/YfIAFa0=\n\ndn: uid=bob,ou=people,dc=example\nobjectClass: inetOrgPerson\nuid: bob\ncn: Bob\nsn: B\nmail: bob@example.com\ntelephoneNumber: +1 555 0100\nuserPassword: bob1\n\ndn: ou=lab,dc=example\nobjectClass: organizationalUnit\nou: lab\nadministrativeRole: accessControlInnerArea\n\ndn: cn=lab,ou=lab,dc=example\nobjectClass: subentry\nobjectClass: accessControlSubentry\ncn: lab\nsubtreeSpecification: { }\nprescriptiveACI: { identificationTag \"lab\", precedence 10, authenticationLevel none, itemOrUserFirst itemFirst: { protectedItems { attributeType { telephoneNumber }, allAttributeValues { telephoneNumber } }, itemPermissions { { userClasses { allUsers }, grantsAndDenials { denyRead } }, { userClasses { userGroup { \"cn=staff,ou=groups,dc=example\" } }, grantsAndDenials { grantRead } } } } }\n\ndn: uid=lin,ou=lab,dc=example\nobjectClass: inetOrgPerson\nuid: lin\ncn: Lin\nsn: L\ntelephoneNumber: +1 555 0300\n\ndn: ou=attic,dc=example\nobjectClass: organizationalUnit\nou: attic\n\ndn: ou=secret,dc=example\nobjectClass: organizationalUnit\nou: secret\n\ndn: ou=vault,ou=secret,dc=example\nobjectClass: organizationalUnit\nou: vault\n\ndn: uid=eve,ou=vault,ou=secret,dc=example\nobjectClass: inetOrgPerson\nuid: eve\ncn: Eve\nsn: E\n";
-
-/// The same without its hidden part.
-pub const WITHOUT_HIDDEN_PART: &str =
-    "version: 1\n\ndn: dc=example\nobjectClass: top\nobjectClass: domain\ndc: example\nadministrativeRole: accessControlSpecificArea\n\ndn: cn=open,dc=example\nobjectClass: subentry\nobjectClass: accessControlSubentry\ncn: open\nsubtreeSpecification: { specificExclusions { chopBefore:\"ou=secret\", chopBefore:\"ou=attic\" } }\nprescriptiveACI: { identificationTag \"everyone\", precedence 10, authenticationLevel none, itemOrUserFirst userFirst: { userClasses { allUsers }, userPermissions { { protectedItems { entry, allUserAttributeTypesAndValues }, grantsAndDenials { grantBrowse, grantReturnDN, grantRead, grantCompare, grantFilterMatch, grantDiscloseOnError } }, { precedence 20, protectedItems { attributeType { userPassword }, allAttributeValues { userPassword } }, grantsAndDenials { denyRead, denyCompare, denyFilterMatch, denyDiscloseOnError } } } } }\n\ndn: cn=self,dc=example\nobjectClass: subentry\nobjectClass: accessControlSubentry\ncn: self\nsubtreeSpecification: { base \"ou=people\", minimum 1, specificationFilter item:inetOrgPerson }\nprescriptiveACI: { identificationTag \"self\", precedence 10, authenticationLevel simple, itemOrUserFirst userFirst: { userClasses { thisEntry }, userPermissions { { protectedItems { entry }, grantsAndDenials { grantModify } }, { protectedItems { attributeType { telephoneNumber }, allAttributeValues { telephoneNumber } }, grantsAndDenials { grantAdd, grantRemove } } } } }\n\ndn: cn=admins,dc=example\nobjectClass: subentry\nobjectClass: accessControlSubentry\ncn: admins\nsubtreeSpecification: { }\nprescriptiveACI: { identificationTag \"admins\", precedence 30, authenticationLevel simple, itemOrUserFirst userFirst: { userClasses { userGroup { \"cn=admins,ou=groups,dc=example\" } }, userPermissions { { protectedItems { entry, allUserAttributeTypesAndValues }, grantsAndDenials { grantAdd, grantDiscloseOnError, grantRead, grantRemove, grantBrowse, grantModify, grantRename, grantReturnDN, grantCompare, grantFilterMatch } } } } }\n\ndn: ou=groups,dc=example\nobjectClass: organizationalUnit\nou: groups\n\ndn: cn=admins,ou=groups,dc=example\nobjectClass: groupOfNames\ncn: admins\nmember: uid=ada,ou=people,dc=example\n\ndn: cn=staff,ou=groups,dc=example\nobjectClass: groupOfNames\ncn: staff\nmember: uid=bob,ou=people,dc=example\n\ndn: ou=people,dc=example\nobjectClass: organizationalUnit\nou: people\n\ndn: uid=ada,ou=people,dc=example\nobjectClass: inetOrgPerson\nuid: ada\ncn: Ada\nsn: A\nuserPassword: {SHA256}ungWv48Bz+pBQUDeXa4iI7ADYaOWF3qctBD/YfIAFa0=\n\ndn: uid=bob,ou=people,dc=example\nobjectClass: inetOrgPerson\nuid: bob\ncn: Bob\nsn: B\nmail: bob@example.com\ntelephoneNumber: +1 555 0100\nuserPassword: bob1\n\ndn: ou=lab,dc=example\nobjectClass: organizationalUnit\nou: lab\nadministrativeRole: accessControlInnerArea\n\ndn: cn=lab,ou=lab,dc=example\nobjectClass: subentry\nobjectClass: accessControlSubentry\ncn: lab\nsubtreeSpecification: { }\nprescriptiveACI: { identificationTag \"lab\", precedence 10, authenticationLevel none, itemOrUserFirst itemFirst: { protectedItems { attributeType { telephoneNumber }, allAttributeValues { telephoneNumber } }, itemPermissions { { userClasses { allUsers }, grantsAndDenials { denyRead } }, { userClasses { userGroup { \"cn=staff,ou=groups,dc=example\" } }, grantsAndDenials { grantRead } } } } }\n\ndn: uid=lin,ou=lab,dc=example\nobjectClass: inetOrgPerson\nuid: lin\ncn: Lin\nsn: L\ntelephoneNumber: +1 555 0300\n\ndn: ou=attic,dc=example\nobjectClass: organizationalUnit\nou: attic\n";
-
-/// The same with another set of permissions for the administrators.
-pub const OTHER_ADMINISTRATORS: &str =
-    "version: 1\n\ndn: dc=example\nobjectClass: top\nobjectClass: domain\ndc: example\nadministrativeRole: accessControlSpecificArea\n\ndn: cn=open,dc=example\nobjectClass: subentry\nobjectClass: accessControlSubentry\ncn: open\nsubtreeSpecification: { specificExclusions { chopBefore:\"ou=secret\", chopBefore:\"ou=attic\" } }\nprescriptiveACI: { identificationTag \"everyone\", precedence 10, authenticationLevel none, itemOrUserFirst userFirst: { userClasses { allUsers }, userPermissions { { protectedItems { entry, allUserAttributeTypesAndValues }, grantsAndDenials { grantBrowse, grantReturnDN, grantRead, grantCompare, grantFilterMatch, grantDiscloseOnError } }, { precedence 20, protectedItems { attributeType { userPassword }, allAttributeValues { userPassword } }, grantsAndDenials { denyRead, denyCompare, denyFilterMatch, denyDiscloseOnError } } } } }\n\ndn: cn=self,dc=example\nobjectClass: subentry\nobjectClass: accessControlSubentry\ncn: self\nsubtreeSpecification: { base \"ou=people\", minimum 1, specificationFilter item:inetOrgPerson }\nprescriptiveACI: { identificationTag \"self\", precedence 10, authenticationLevel simple, itemOrUserFirst userFirst: { userClasses { thisEntry }, userPermissions { { protectedItems { entry }, grantsAndDenials { grantModify } }, { protectedItems { attributeType { telephoneNumber }, allAttributeValues { telephoneNumber }, maxValueCount { { type telephoneNumber, maxCount 2 } } }, grantsAndDenials { grantAdd, grantRemove } } } } }\n\ndn: cn=admins,dc=example\nobjectClass: subentry\nobjectClass: accessControlSubentry\ncn: admins\nsubtreeSpecification: { }\nprescriptiveACI: { identificationTag \"admins\", precedence 30, authenticationLevel simple, itemOrUserFirst userFirst: { userClasses { userGroup { \"cn=admins,ou=groups,dc=example\" } }, userPermissions { { protectedItems { entry, allUserAttributeTypesAndValues }, grantsAndDenials { grantAdd, grantDiscloseOnError, grantRead, grantRemove, grantBrowse, grantModify, grantRename, grantReturnDN, grantCompare, grantFilterMatch } } } } }\n\ndn: ou=groups,dc=example\nobjectClass: organizationalUnit\nou: groups\n\ndn: cn=admins,ou=groups,dc=example\nobjectClass: groupOfNames\ncn: admins\nmember: uid=ada,ou=people,dc=example\n\ndn: cn=staff,ou=groups,dc=example\nobjectClass: groupOfNames\ncn: staff\nmember: uid=bob,ou=people,dc=example\n\ndn: ou=people,dc=example\nobjectClass: organizationalUnit\nou: people\n\ndn: uid=ada,ou=people,dc=example\nobjectClass: inetOrgPerson\nuid: ada\ncn: Ada\nsn: A\nuserPassword: {SHA256}ungWv48Bz+pBQUDeXa4iI7ADYaOWF3qctBD/YfIAFa0=\n\ndn: uid=bob,ou=people,dc=example\nobjectClass: inetOrgPerson\nuid: bob\ncn: Bob\nsn: B\nmail: bob@example.com\ntelephoneNumber: +1 555 0100\nuserPassword: bob1\n\ndn: ou=lab,dc=example\nobjectClass: organizationalUnit\nou: lab\nadministrativeRole: accessControlInnerArea\n\ndn: cn=lab,ou=lab,dc=example\nobjectClass: subentry\nobjectClass: accessControlSubentry\ncn: lab\nsubtreeSpecification: { }\nprescriptiveACI: { identificationTag \"lab\", precedence 10, authenticationLevel none, itemOrUserFirst itemFirst: { protectedItems { attributeType { telephoneNumber }, allAttributeValues { telephoneNumber } }, itemPermissions { { userClasses { allUsers }, grantsAndDenials { denyRead } }, { userClasses { userGroup { \"cn=staff,ou=groups,dc=example\" } }, grantsAndDenials { grantRead } } } } }\n\ndn: uid=lin,ou=lab,dc=example\nobjectClass: inetOrgPerson\nuid: lin\ncn: Lin\nsn: L\ntelephoneNumber: +1 555 0300\n\ndn: ou=attic,dc=example\nobjectClass: organizationalUnit\nou: attic\n\ndn: ou=secret,dc=example\nobjectClass: organizationalUnit\nou: secret\n\ndn: ou=vault,ou=secret,dc=example\nobjectClass: organizationalUnit\nou: vault\n\ndn: uid=eve,ou=vault,ou=secret,dc=example\nobjectClass: inetOrgPerson\nuid: eve\ncn: Eve\nsn: E\n";
-
-/// The same with other permissions of people over their own entries.
-pub const OTHER_PEOPLE: &str =
-    "version: 1\n\ndn: dc=example\nobjectClass: top\nobjectClass: domain\ndc: example\nadministrativeRole: accessControlSpecificArea\n\ndn: cn=open,dc=example\nobjectClass: subentry\nobjectClass: accessControlSubentry\ncn: open\nsubtreeSpecification: { specificExclusions { chopBefore:\"ou=secret\", chopBefore:\"ou=attic\" } }\nprescriptiveACI: { identificationTag \"everyone\", precedence 10, authenticationLevel none, itemOrUserFirst userFirst: { userClasses { allUsers }, userPermissions { { protectedItems { entry, allUserAttributeTypesAndValues }, grantsAndDenials { grantBrowse, grantReturnDN, grantRead, grantCompare, grantFilterMatch, grantDiscloseOnError } }, { precedence 20, protectedItems { attributeType { userPassword }, allAttributeValues { userPassword } }, grantsAndDenials { denyRead, denyCompare, denyFilterMatch, denyDiscloseOnError } } } } }\n\ndn: cn=self,dc=example\nobjectClass: subentry\nobjectClass: accessControlSubentry\ncn: self\nsubtreeSpecification: { base \"ou=people\", minimum 1, specificationFilter item:inetOrgPerson }\nprescriptiveACI: { identificationTag \"self\", precedence 10, authenticationLevel simple, itemOrUserFirst userFirst: { userClasses { thisEntry }, userPermissions { { protectedItems { entry }, grantsAndDenials { grantModify } }, { protectedItems { attributeType { telephoneNumber }, allAttributeValues { telephoneNumber } }, grantsAndDenials { grantAdd, grantRemove } } } } }\n\ndn: cn=admins,dc=example\nobjectClass: subentry\nobjectClass: accessControlSubentry\ncn: admins\nsubtreeSpecification: { }\nprescriptiveACI: { identificationTag \"admins\", precedence 30, authenticationLevel simple, itemOrUserFirst userFirst: { userClasses { userGroup { \"cn=admins,ou=groups,dc=example\" } }, userPermissions { { protectedItems { entry, allUserAttributeTypesAndValues }, grantsAndDenials { grantAdd, grantDiscloseOnError, grantRead, grantRemove, grantBrowse, grantExport, grantImport, grantModify, grantRename, grantReturnDN, grantCompare, grantFilterMatch } } } } }\n\ndn: ou=groups,dc=example\nobjectClass: organizationalUnit\nou: groups\n\ndn: cn=admins,ou=groups,dc=example\nobjectClass: groupOfNames\ncn: admins\nmember: uid=ada,ou=people,dc=example\n\ndn: cn=staff,ou=groups,dc=example\nobjectClass: groupOfNames\ncn: staff\nmember: uid=bob,ou=people,dc=example\n\ndn: ou=people,dc=example\nobjectClass: organizationalUnit\nou: people\n\ndn: uid=ada,ou=people,dc=example\nobjectClass: inetOrgPerson\nuid: ada\ncn: Ada\nsn: A\nuserPassword: {SHA256}ungWv48Bz+pBQUDeXa4iI7ADYaOWF3qctBD/YfIAFa0=\n\ndn: uid=bob,ou=people,dc=example\nobjectClass: inetOrgPerson\nuid: bob\ncn: Bob\nsn: B\nmail: bob@example.com\ntelephoneNumber: +1 555 0100\nuserPassword: bob1\n\ndn: ou=lab,dc=example\nobjectClass: organizationalUnit\nou: lab\nadministrativeRole: accessControlInnerArea\n\ndn: cn=lab,ou=lab,dc=example\nobjectClass: subentry\nobjectClass: accessControlSubentry\ncn: lab\nsubtreeSpecification: { }\nprescriptiveACI: { identificationTag \"lab\", precedence 10, authenticationLevel none, itemOrUserFirst itemFirst: { protectedItems { attributeType { telephoneNumber }, allAttributeValues { telephoneNumber } }, itemPermissions { { userClasses { allUsers }, grantsAndDenials { denyRead } }, { userClasses { userGroup { \"cn=staff,ou=groups,dc=example\" } }, grantsAndDenials { grantRead } } } } }\n\ndn: uid=lin,ou=lab,dc=example\nobjectClass: inetOrgPerson\nuid: lin\ncn: Lin\nsn: L\ntelephoneNumber: +1 555 0300\n\ndn: ou=attic,dc=example\nobjectClass: organizationalUnit\nou: attic\n\ndn: ou=secret,dc=example\nobjectClass: organizationalUnit\nou: secret\n\ndn: ou=vault,ou=secret,dc=example\nobjectClass: organizationalUnit\nou: vault\n\ndn: uid=eve,ou=vault,ou=secret,dc=example\nobjectClass: inetOrgPerson\nuid: eve\ncn: Eve\nsn: E\n";
-
-/// A suffix with an item for subentries, and one subentry.
-pub const POINT: &str =
-    "dn: dc=t\nobjectClass: domain\ndc: t\nadministrativeRole: autonomousArea\nsubentryACI: { identificationTag \"s\", precedence 0, authenticationLevel none, itemOrUserFirst userFirst: { userClasses { allUsers }, userPermissions { { protectedItems { entry }, grantsAndDenials { grantRemove } } } } }\n\ndn: cn=a,dc=t\nobjectClass: subentry\nobjectClass: accessControlSubentry\ncn: a\nsubtreeSpecification: { }\nprescriptiveACI: { identificationTag \"a\", precedence 0, authenticationLevel none, itemOrUserFirst userFirst: { userClasses { allUsers }, userPermissions { { protectedItems { entry, allUserAttributeTypesAndValues }, grantsAndDenials { grantBrowse, grantReturnDN, grantRead, grantFilterMatch, grantDiscloseOnError } } } } }\n";
-
-/// The same with a denial besides.
-pub const POINT_WITH_DENIAL: &str =
-    "dn: dc=t\nobjectClass: domain\ndc: t\nadministrativeRole: autonomousArea\nsubentryACI: { identificationTag \"s\", precedence 0, authenticationLevel none, itemOrUserFirst userFirst: { userClasses { allUsers }, userPermissions { { protectedItems { entry }, grantsAndDenials { grantRemove } } } } }\n\ndn: cn=a,dc=t\nobjectClass: subentry\nobjectClass: accessControlSubentry\ncn: a\nsubtreeSpecification: { }\nprescriptiveACI: { identificationTag \"a\", precedence 0, authenticationLevel none, itemOrUserFirst userFirst: { userClasses { allUsers }, userPermissions { { protectedItems { entry, allUserAttributeTypesAndValues }, grantsAndDenials { grantBrowse, grantReturnDN, grantRead, grantFilterMatch, grantDiscloseOnError } } } } }\nprescriptiveACI: { identificationTag \"d\", precedence 0, authenticationLevel simple, itemOrUserFirst userFirst: { userClasses { name { \"cn=x,dc=t\" } }, userPermissions { { protectedItems { entry }, grantsAndDenials { denyBrowse } } } } }\n";
+//! Data files: trees of people, groups and devices, with the access control items that rule them.
+//!
+//! No subtree specification and no access control item is read yet: a file is refused at the first entry that has one,
+//! whatever stands behind it. So one file of each kind stands here, and its comment says what others of its kind would
+//! add once items are read.
 
 /// Two entries.
-pub const TWO_ENTRIES: &str =
-    "dn: dc=u\nobjectClass: domain\ndc: u\n\ndn: ou=b,dc=u\nobjectClass: organizationalUnit\nou:: YQ==\n";
+pub const TWO_ENTRIES: &str = "\
+    dn: dc=u\n\
+    objectClass: domain\n\
+    dc: u\n\
+    \n\
+    dn: ou=b,dc=u\n\
+    objectClass: organizationalUnit\n\
+    ou:: YQ==\n";
+
+/// An organisation with an open part, a hidden part, administrators and a laboratory.
+///
+/// Others would add: no hidden part (without `ou=secret` and what is below it); at most two telephone numbers a person
+/// (`maxValueCount { { type telephoneNumber, maxCount 2 } }` in the item of `cn=self`); administrators who may move
+/// entries (`grantExport`, `grantImport` in the item of `cn=admins`).
+pub const ORGANISATION: &str = "\
+    version: 1\n\
+    \n\
+    dn: dc=example\n\
+    objectClass: top\n\
+    objectClass: domain\n\
+    dc: example\n\
+    administrativeRole: accessControlSpecificArea\n\
+    \n\
+    dn: cn=open,dc=example\n\
+    objectClass: subentry\n\
+    objectClass: accessControlSubentry\n\
+    cn: open\n\
+    subtreeSpecification: { specificExclusions { chopBefore:\"ou=secret\", chopBefore:\"ou=attic\" } }\n\
+    prescriptiveACI: { identificationTag \"everyone\", precedence 10, authenticationLevel none, \
+    itemOrUserFirst userFirst: { userClasses { allUsers }, userPermissions { { protectedItems { entry, \
+    allUserAttributeTypesAndValues }, grantsAndDenials { grantBrowse, grantReturnDN, grantRead, grantCompare, \
+    grantFilterMatch, grantDiscloseOnError } }, { precedence 20, protectedItems { attributeType { \
+    userPassword }, allAttributeValues { userPassword } }, grantsAndDenials { denyRead, denyCompare, \
+    denyFilterMatch, denyDiscloseOnError } } } } }\n\
+    \n\
+    dn: cn=self,dc=example\n\
+    objectClass: subentry\n\
+    objectClass: accessControlSubentry\n\
+    cn: self\n\
+    subtreeSpecification: { base \"ou=people\", minimum 1, specificationFilter item:inetOrgPerson }\n\
+    prescriptiveACI: { identificationTag \"self\", precedence 10, authenticationLevel simple, itemOrUserFirst \
+    userFirst: { userClasses { thisEntry }, userPermissions { { protectedItems { entry }, grantsAndDenials { \
+    grantModify } }, { protectedItems { attributeType { telephoneNumber }, allAttributeValues { \
+    telephoneNumber } }, grantsAndDenials { grantAdd, grantRemove } } } } }\n\
+    \n\
+    dn: cn=admins,dc=example\n\
+    objectClass: subentry\n\
+    objectClass: accessControlSubentry\n\
+    cn: admins\n\
+    subtreeSpecification: { }\n\
+    prescriptiveACI: { identificationTag \"admins\", precedence 30, authenticationLevel simple, \
+    itemOrUserFirst userFirst: { userClasses { userGroup { \"cn=admins,ou=groups,dc=example\" } }, \
+    userPermissions { { protectedItems { entry, allUserAttributeTypesAndValues }, grantsAndDenials { \
+    grantAdd, grantDiscloseOnError, grantRead, grantRemove, grantBrowse, grantModify, grantRename, \
+    grantReturnDN, grantCompare, grantFilterMatch } } } } }\n\
+    \n\
+    dn: ou=groups,dc=example\n\
+    objectClass: organizationalUnit\n\
+    ou: groups\n\
+    \n\
+    dn: cn=admins,ou=groups,dc=example\n\
+    objectClass: groupOfNames\n\
+    cn: admins\n\
+    member: uid=ada,ou=people,dc=example\n\
+    \n\
+    dn: cn=staff,ou=groups,dc=example\n\
+    objectClass: groupOfNames\n\
+    cn: staff\n\
+    member: uid=bob,ou=people,dc=example\n\
+    \n\
+    dn: ou=people,dc=example\n\
+    objectClass: organizationalUnit\n\
+    ou: people\n\
+    \n\
+    dn: uid=ada,ou=people,dc=example\n\
+    objectClass: inetOrgPerson\n\
+    uid: ada\n\
+    cn: Ada\n\
+    sn: A\n\
+    userPassword: {SHA256}ungWv48Bz+pBQUDeXa4iI7ADYaOWF3qctBD/YfIAFa0=\n\
+    \n\
+    dn: uid=bob,ou=people,dc=example\n\
+    objectClass: inetOrgPerson\n\
+    uid: bob\n\
+    cn: Bob\n\
+    sn: B\n\
+    mail: bob@example.com\n\
+    telephoneNumber: +1 555 0100\n\
+    userPassword: bob1\n\
+    \n\
+    dn: ou=lab,dc=example\n\
+    objectClass: organizationalUnit\n\
+    ou: lab\n\
+    administrativeRole: accessControlInnerArea\n\
+    \n\
+    dn: cn=lab,ou=lab,dc=example\n\
+    objectClass: subentry\n\
+    objectClass: accessControlSubentry\n\
+    cn: lab\n\
+    subtreeSpecification: { }\n\
+    prescriptiveACI: { identificationTag \"lab\", precedence 10, authenticationLevel none, itemOrUserFirst \
+    itemFirst: { protectedItems { attributeType { telephoneNumber }, allAttributeValues { telephoneNumber } \
+    }, itemPermissions { { userClasses { allUsers }, grantsAndDenials { denyRead } }, { userClasses { \
+    userGroup { \"cn=staff,ou=groups,dc=example\" } }, grantsAndDenials { grantRead } } } } }\n\
+    \n\
+    dn: uid=lin,ou=lab,dc=example\n\
+    objectClass: inetOrgPerson\n\
+    uid: lin\n\
+    cn: Lin\n\
+    sn: L\n\
+    telephoneNumber: +1 555 0300\n\
+    \n\
+    dn: ou=attic,dc=example\n\
+    objectClass: organizationalUnit\n\
+    ou: attic\n\
+    \n\
+    dn: ou=secret,dc=example\n\
+    objectClass: organizationalUnit\n\
+    ou: secret\n\
+    \n\
+    dn: ou=vault,ou=secret,dc=example\n\
+    objectClass: organizationalUnit\n\
+    ou: vault\n\
+    \n\
+    dn: uid=eve,ou=vault,ou=secret,dc=example\n\
+    objectClass: inetOrgPerson\n\
+    uid: eve\n\
+    cn: Eve\n\
+    sn: E\n";
 
 /// A point with one subentry.
-pub const ONE_SUBENTRY: &str =
-    "dn: dc=u\nobjectClass: domain\ndc: u\nadministrativeRole: autonomousArea\n\ndn: ou=b,dc=u\nobjectClass: organizationalUnit\n\ndn: cn=s,dc=u\nobjectClass: subentry\nobjectClass: accessControlSubentry\ncn: s\nsubtreeSpecification: { base \"ou=b\" }\n";
+pub const ONE_SUBENTRY: &str = "\
+    dn: dc=u\n\
+    objectClass: domain\n\
+    dc: u\n\
+    administrativeRole: autonomousArea\n\
+    \n\
+    dn: ou=b,dc=u\n\
+    objectClass: organizationalUnit\n\
+    \n\
+    dn: cn=s,dc=u\n\
+    objectClass: subentry\n\
+    objectClass: accessControlSubentry\n\
+    cn: s\n\
+    subtreeSpecification: { base \"ou=b\" }\n";
+
+/// A suffix with an item for subentries, and one subentry.
+///
+/// Another would add a second item in the subentry, which denies by a user's name.
+pub const POINT: &str = "\
+    dn: dc=t\n\
+    objectClass: domain\n\
+    dc: t\n\
+    administrativeRole: autonomousArea\n\
+    subentryACI: { identificationTag \"s\", precedence 0, authenticationLevel none, itemOrUserFirst \
+    userFirst: { userClasses { allUsers }, userPermissions { { protectedItems { entry }, grantsAndDenials { \
+    grantRemove } } } } }\n\
+    \n\
+    dn: cn=a,dc=t\n\
+    objectClass: subentry\n\
+    objectClass: accessControlSubentry\n\
+    cn: a\n\
+    subtreeSpecification: { }\n\
+    prescriptiveACI: { identificationTag \"a\", precedence 0, authenticationLevel none, itemOrUserFirst \
+    userFirst: { userClasses { allUsers }, userPermissions { { protectedItems { entry, \
+    allUserAttributeTypesAndValues }, grantsAndDenials { grantBrowse, grantReturnDN, grantRead, \
+    grantFilterMatch, grantDiscloseOnError } } } } }\n";
 
 /// A point with two subentries, one of which has a filter.
-pub const TWO_SUBENTRIES: &str =
-    "dn: dc=v\nobjectClass: domain\ndc: v\nadministrativeRole: autonomousArea\n\ndn: cn=f,dc=v\nobjectClass: subentry\nobjectClass: accessControlSubentry\ncn: f\nsubtreeSpecification: { specificationFilter item:uidObject }\nprescriptiveACI: { identificationTag \"f\", precedence 9, authenticationLevel none, itemOrUserFirst userFirst: { userClasses { allUsers }, userPermissions { { protectedItems { entry }, grantsAndDenials { denyBrowse, denyDiscloseOnError } } } } }\n\ndn: cn=o,dc=v\nobjectClass: subentry\nobjectClass: accessControlSubentry\ncn: o\nsubtreeSpecification: { }\nprescriptiveACI: { identificationTag \"o\", precedence 0, authenticationLevel none, itemOrUserFirst userFirst: { userClasses { allUsers }, userPermissions { { protectedItems { entry, allUserAttributeTypesAndValues }, grantsAndDenials { grantAdd, grantDiscloseOnError, grantRead, grantRemove, grantBrowse, grantModify, grantRename, grantReturnDN, grantCompare, grantFilterMatch } } } } }\n\ndn: cn=d,dc=v\nobjectClass: device\ncn: d\n";
-
-/// The same with a group.
-pub const TWO_SUBENTRIES_AND_GROUP: &str =
-    "dn: dc=v\nobjectClass: domain\ndc: v\nadministrativeRole: autonomousArea\n\ndn: cn=f,dc=v\nobjectClass: subentry\nobjectClass: accessControlSubentry\ncn: f\nsubtreeSpecification: { specificationFilter item:uidObject }\nprescriptiveACI: { identificationTag \"f\", precedence 9, authenticationLevel none, itemOrUserFirst userFirst: { userClasses { allUsers }, userPermissions { { protectedItems { entry }, grantsAndDenials { denyBrowse, denyDiscloseOnError } } } } }\n\ndn: cn=o,dc=v\nobjectClass: subentry\nobjectClass: accessControlSubentry\ncn: o\nsubtreeSpecification: { }\nprescriptiveACI: { identificationTag \"o\", precedence 0, authenticationLevel none, itemOrUserFirst userFirst: { userClasses { allUsers }, userPermissions { { protectedItems { entry, attributeType { owner }, allAttributeValues { owner }, restrictedBy { { type owner, valuesIn member } } }, grantsAndDenials { grantAdd, grantDiscloseOnError, grantRead, grantRemove, grantBrowse, grantModify, grantRename, grantReturnDN, grantCompare, grantFilterMatch } } } } }\n\ndn: cn=d,dc=v\nobjectClass: device\ncn: d\n\ndn: cn=g,dc=v\nobjectClass: groupOfNames\ncn: g\nmember: cn=d,dc=v\n";
+///
+/// Another would add a group, and owners that are taken from an entry's members alone
+/// (`restrictedBy { { type owner, valuesIn member } }`).
+pub const TWO_SUBENTRIES: &str = "\
+    dn: dc=v\n\
+    objectClass: domain\n\
+    dc: v\n\
+    administrativeRole: autonomousArea\n\
+    \n\
+    dn: cn=f,dc=v\n\
+    objectClass: subentry\n\
+    objectClass: accessControlSubentry\n\
+    cn: f\n\
+    subtreeSpecification: { specificationFilter item:uidObject }\n\
+    prescriptiveACI: { identificationTag \"f\", precedence 9, authenticationLevel none, itemOrUserFirst \
+    userFirst: { userClasses { allUsers }, userPermissions { { protectedItems { entry }, grantsAndDenials { \
+    denyBrowse, denyDiscloseOnError } } } } }\n\
+    \n\
+    dn: cn=o,dc=v\n\
+    objectClass: subentry\n\
+    objectClass: accessControlSubentry\n\
+    cn: o\n\
+    subtreeSpecification: { }\n\
+    prescriptiveACI: { identificationTag \"o\", precedence 0, authenticationLevel none, itemOrUserFirst \
+    userFirst: { userClasses { allUsers }, userPermissions { { protectedItems { entry, \
+    allUserAttributeTypesAndValues }, grantsAndDenials { grantAdd, grantDiscloseOnError, grantRead, \
+    grantRemove, grantBrowse, grantModify, grantRename, grantReturnDN, grantCompare, grantFilterMatch } } } } \
+    }\n\
+    \n\
+    dn: cn=d,dc=v\n\
+    objectClass: device\n\
+    cn: d\n";

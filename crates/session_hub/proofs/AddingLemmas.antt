@@ -41,40 +41,40 @@ block_both plan j k p q =
       events = heard-append j k ∙ ap₂ (λ x y. x ++ y) p.events q.events;
       stops = was_stopped-both j k ∙ grind (arith, p.stops, q.stops);
       holds = no_holds-both j k ∙ grind (arith, p.holds, q.holds);
-      taken = λ told is later gone. all_taken-both j k ∙ grind (arith, p.taken told is later gone, q.taken told is later gone);
+      taken = λ known is later gone. all_taken-both j k ∙ grind (arith, p.taken known is later gone, q.taken known is later gone);
     }
 
 -- nothing is added
-pub adds_nothing : (plan : Option Plan) (P Q : List Item → Type 0) (before after : Option (List Item)) → after ≡ before → ((told : List Item) → P told → Q told) → Adds plan P Q before after
+pub adds_nothing : (plan : Option Plan) (P Q : List Item → Type 0) (before after : Option (List Item)) → after ≡ before → ((added : List Item) → P added → Q added) → Adds plan P Q before after
 unfolding Adds
-adds_nothing plan P Q before after same leads start told is = (
+adds_nothing plan P Q before after same leads start added is = (
   [],
-  same ∙ is ∙ ap (λ x. Some (start ++ x)) (sym (append-nil told)),
+  same ∙ is ∙ ap (λ x. Some (start ++ x)) (sym (append-nil added)),
   block_none plan,
-  λ holds all. subst Q (sym (append-nil told)) (leads told (holds (subst (λ x. all_taken x ≡ true) (append-nil told) all))),
+  λ holds all. subst Q (sym (append-nil added)) (leads added (holds (subst (λ x. all_taken x ≡ true) (append-nil added) all))),
 )
 
 -- one item is added
 pub adds_one : (plan : Option Plan) (P Q : List Item → Type 0) (before after : Option (List Item)) (i : Item) → after ≡ noted before i → IsBlock plan (i ∷ []) →
-    ((told : List Item) → all_taken (told ++ i ∷ []) ≡ true → P told → Q (told ++ i ∷ [])) → Adds plan P Q before after
+    ((added : List Item) → all_taken (added ++ i ∷ []) ≡ true → P added → Q (added ++ i ∷ [])) → Adds plan P Q before after
 unfolding Adds
-adds_one plan P Q before after i is_noted block leads start told is = (
+adds_one plan P Q before after i is_noted block leads start added is = (
   i ∷ [],
-  is_noted ∙ ap (λ x. noted x i) is ∙ ap (λ x. Some x) (append_assoc start told (i ∷ [])),
+  is_noted ∙ ap (λ x. noted x i) is ∙ ap (λ x. Some x) (append_assoc start added (i ∷ [])),
   block,
-  λ holds all. leads told all (holds (all_taken-front told (i ∷ []) all)),
+  λ holds all. leads added all (holds (all_taken-front added (i ∷ []) all)),
 )
 
 -- one call after another
 pub adds_then : (plan : Option Plan) (P Q R : List Item → Type 0) (a b c : Option (List Item)) → Adds plan P Q a b → Adds plan Q R b c → Adds plan P R a c
 unfolding Adds
-adds_then plan P Q R a b c first second start told is =
-    let x = first start told is in
-    let y = second start (told ++ x.0) x.1 in (
+adds_then plan P Q R a b c first second start added is =
+    let x = first start added is in
+    let y = second start (added ++ x.0) x.1 in (
       x.0 ++ y.0,
-      y.1 ∙ ap (λ z. Some (start ++ z)) (append_assoc told x.0 y.0),
+      y.1 ∙ ap (λ z. Some (start ++ z)) (append_assoc added x.0 y.0),
       block_both plan x.0 y.0 x.2 y.2,
-      λ holds all. subst R (append_assoc told x.0 y.0) (y.3 (x.3 holds) (subst (λ z. all_taken z ≡ true) (sym (append_assoc told x.0 y.0)) all)),
+      λ holds all. subst R (append_assoc added x.0 y.0) (y.3 (x.3 holds) (subst (λ z. all_taken z ≡ true) (sym (append_assoc added x.0 y.0)) all)),
     )
 
 -- one call after another that left the plan
@@ -82,8 +82,8 @@ pub adds_after : (plan now : Option Plan) (P Q R : List Item → Type 0) (a b c 
 adds_after plan now P Q R a b c same first second = adds_then plan P Q R a b c first (subst (λ p. Adds p Q R b c) same second)
 
 -- what holds may be weakened at both ends
-pub adds_as : (plan : Option Plan) (P P' Q Q' : List Item → Type 0) (a b : Option (List Item)) → ((told : List Item) → P' told → P told) → ((told : List Item) → Q told → Q' told) →
+pub adds_as : (plan : Option Plan) (P P' Q Q' : List Item → Type 0) (a b : Option (List Item)) → ((added : List Item) → P' added → P added) → ((added : List Item) → Q added → Q' added) →
     Adds plan P Q a b → Adds plan P' Q' a b
 unfolding Adds
-adds_as plan P P' Q Q' a b first last adds start told is =
-    let x = adds start told is in (x.0, x.1, x.2, λ holds all. last (told ++ x.0) (x.3 (λ taken. first told (holds taken)) all))
+adds_as plan P P' Q Q' a b first last adds start added is =
+    let x = adds start added is in (x.0, x.1, x.2, λ holds all. last (added ++ x.0) (x.3 (λ taken. first added (holds taken)) all))

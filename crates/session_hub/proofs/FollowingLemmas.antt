@@ -1,14 +1,19 @@
 -- A hub follows a run of sessions, call by call.
 use Rattle.std.proofs.Common.{◌≡◌, ◌≤◌, ◌+◌, ℕ, Bool, true, false, cond, List, [], length, drop, refl, ap, sym, ◌∙◌, subst, arith, length-drop}
-use Rattle.session_model.specs.Run.{Session, Sessions, State, Open, Closing, TurnedAway, Away, Unopened, Step, step, is_held, Gone, HungUp}
+use Rattle.session_model.specs.Run.{start, Session, Sessions, State, Open, Closing, TurnedAway, Away, Unopened, Step, step, is_held, Gone, HungUp}
 use Rattle.session_model.specs.Kept.{Kept, heard, queue_of, closing_of, taken_off, forgotten}
 use Rattle.session_model.specs.Keeping.{more_taken, shown}
 use Rattle.session_model.specs.Replaying.{is_closing}
-use Rattle.session_model.proofs.Theorems.{Keeps-step, Keeps-taken, length-kept, queue_in, closing_in, queue_of_is, closing_of_is}
+use Rattle.session_model.proofs.Theorems.{Keeps-start, Keeps-step, Keeps-taken, length-kept, queue_in, closing_in, queue_of_is, closing_of_is}
 use Rattle.session_hub.specs.declared.requester.Requester.{Requester}
 use Rattle.session_hub.specs.Answering.{Tree, rules}
 use Rattle.session_hub.specs.Hubs.{held, held_after, IsHubOf, left_of}
-use Rattle.session_hub.specs.Following.{FollowsStep, FollowsTaking, QueuesReply, ClosesWith, CountsHeld}
+use Rattle.session_hub.specs.Following.{FollowsStart, FollowsStep, FollowsTaking, QueuesReply, ClosesWith, CountsHeld}
+
+-- a hub that holds nothing is that of no steps
+pub follows_start : (kept : List (Kept Requester)) → kept ≡ [] → FollowsStart kept
+unfolding FollowsStart
+follows_start kept none = subst (λ ks. IsHubOf (start rules tt) (λ c. 0) ks) (sym none) (Keeps-start rules tt (λ c. 0) (λ c. refl))
 
 pub follows_step : (s : Step) (old new : List (Kept Requester)) → new ≡ held_after s old → FollowsStep s old new
 unfolding FollowsStep held_after

@@ -10,7 +10,6 @@ use Rattle.wire_io.specs.declared.journal.Item.{Item}
 use Rattle.wire_io.specs.declared.journal.Item.TheVariants as item
 use Rattle.wire_io.specs.Journal.{heard, was_stopped, stops, was_opened}
 use Rattle.wire_io.specs.Telling.{event_of, NextTells, MayCome}
-use Rattle.plain_values.specs.Counts.{NeverFalls}
 use Rattle.wire_io.specs.Answers.{LinkCause, IsPlanned}
 use Rattle.wire_io.specs.Playing.{NextPlays}
 use Rattle.wire_io.specs.Plan.{Plan}
@@ -55,12 +54,12 @@ unfolding is_stop
 is_stop_stop = refl
 
 -- a journal with one more event
-pub record Comes (start told : List Item) (e : Event) (after : Option (List Item)) : Type 0 where
-  pub noted : after ≡ Some (start ++ (told ++ item.Heard e ∷ []))
-  pub opens : (c : ℕ) → e ≡ event.Opened c → was_opened c told ≡ false
+pub record Comes (start added : List Item) (e : Event) (after : Option (List Item)) : Type 0 where
+  pub noted : after ≡ Some (start ++ (added ++ item.Heard e ∷ []))
+  pub opens : (c : ℕ) → e ≡ event.Opened c → was_opened c added ≡ false
 
-opened_before : (c : ℕ) (start told : List Item) → was_opened c (start ++ told) ≡ false → was_opened c told ≡ false
-opened_before c start told h = later (was_opened c start) (was_opened c told) (sym (was_opened-append c start told) ∙ h)
+opened_before : (c : ℕ) (start added : List Item) → was_opened c (start ++ added) ≡ false → was_opened c added ≡ false
+opened_before c start added h = later (was_opened c start) (was_opened c added) (sym (was_opened-append c start added) ∙ h)
   where
     later : (a b : Bool) → (a || b) ≡ false → b ≡ false
     later true b h = cc
@@ -70,33 +69,33 @@ may_open : (c : ℕ) (journal : List Item) (e : Event) → MayCome journal e →
 unfolding MayCome
 may_open c journal e may is = let comes : MayCome journal (event.Opened c) = subst (MayCome journal) is may in comes
 
-pub comes : (start told : List Item) (buf : List ℕ) (given : Answer) (before after : Option (List Item)) → before ≡ Some (start ++ told) → NextTells {E = NextFault} before buf (Ok given) after →
-    Comes start told (event_of buf given) after
+pub comes : (start added : List Item) (buf : List ℕ) (given : Answer) (before after : Option (List Item)) → before ≡ Some (start ++ added) → NextTells {E = NextFault} before buf (Ok given) after →
+    Comes start added (event_of buf given) after
 unfolding NextTells
-comes start told buf given before after is tells =
-    let says : NextTells {E = NextFault} (Some (start ++ told)) buf (Ok given) after = subst (λ b. NextTells {E = NextFault} b buf (Ok given) after) is tells in
+comes start added buf given before after is tells =
+    let says : NextTells {E = NextFault} (Some (start ++ added)) buf (Ok given) after = subst (λ b. NextTells {E = NextFault} b buf (Ok given) after) is tells in
     record {
-      noted = says.0 ∙ ap (λ x. Some x) (append_assoc start told (item.Heard (event_of buf given) ∷ []));
-      opens = λ c opened. opened_before c start told (may_open c (start ++ told) (event_of buf given) says.1 opened);
+      noted = says.0 ∙ ap (λ x. Some x) (append_assoc start added (item.Heard (event_of buf given) ∷ []));
+      opens = λ c opened. opened_before c start added (may_open c (start ++ added) (event_of buf given) says.1 opened);
     }
 
 -- an event heard before its block
-heard_calm : (start told : List Item) (e : Event) (after : Option (List Item)) (kept : List (Kept Requester)) → Comes start told e after → (all_taken told ≡ true → IsCalm kept told) →
-    all_taken (told ++ item.Heard e ∷ []) ≡ true → IsHeard kept e (told ++ item.Heard e ∷ [])
-heard_calm start told e after kept came calm all =
-    record { before = told; last = refl; opens = came.opens; calm = calm (all_taken-front told (item.Heard e ∷ []) all) }
+heard_calm : (start added : List Item) (e : Event) (after : Option (List Item)) (kept : List (Kept Requester)) → Comes start added e after → (all_taken added ≡ true → IsCalm kept added) →
+    all_taken (added ++ item.Heard e ∷ []) ≡ true → IsHeard kept e (added ++ item.Heard e ∷ [])
+heard_calm start added e after kept came calm all =
+    record { before = added; last = refl; opens = came.opens; calm = calm (all_taken-front added (item.Heard e ∷ []) all) }
 
 -- as many events as heard, and one more
-heard_more : (told more : List Item) (e : Event) (n : ℕ) → length (heard told) ≡ n → heard more ≡ [] → length (heard ((told ++ item.Heard e ∷ []) ++ more)) ≡ n + 1
-heard_more told more e n count none =
-    let all : heard ((told ++ item.Heard e ∷ []) ++ more) ≡ heard told ++ e ∷ [] =
-    heard-append (told ++ item.Heard e ∷ []) more ∙ ap (λ xs. heard (told ++ item.Heard e ∷ []) ++ xs) none ∙ append-nil (heard (told ++ item.Heard e ∷ []))
-    ∙ heard-append told (item.Heard e ∷ []) ∙ ap (λ xs. heard told ++ xs) (one_event e) in
-    ap length all ∙ length-append (heard told) (e ∷ []) ∙ ap (λ m. m + 1) count
+heard_more : (added more : List Item) (e : Event) (n : ℕ) → length (heard added) ≡ n → heard more ≡ [] → length (heard ((added ++ item.Heard e ∷ []) ++ more)) ≡ n + 1
+heard_more added more e n count none =
+    let all : heard ((added ++ item.Heard e ∷ []) ++ more) ≡ heard added ++ e ∷ [] =
+    heard-append (added ++ item.Heard e ∷ []) more ∙ ap (λ xs. heard (added ++ item.Heard e ∷ []) ++ xs) none ∙ append-nil (heard (added ++ item.Heard e ∷ []))
+    ∙ heard-append added (item.Heard e ∷ []) ∙ ap (λ xs. heard added ++ xs) (one_event e) in
+    ap length all ∙ length-append (heard added) (e ∷ []) ∙ ap (λ m. m + 1) count
 
-stopped_more : (told more : List Item) (e : Event) → was_stopped told ≡ false → is_stop e ≡ false → was_stopped more ≡ false → was_stopped ((told ++ item.Heard e ∷ []) ++ more) ≡ false
-stopped_more told more e a b d =
-    was_stopped-both (told ++ item.Heard e ∷ []) more ∙ ap (λ x. x || was_stopped more) (was_stopped-both told (item.Heard e ∷ []) ∙ ap (λ x. was_stopped told || x) (one_stop e))
+stopped_more : (added more : List Item) (e : Event) → was_stopped added ≡ false → is_stop e ≡ false → was_stopped more ≡ false → was_stopped ((added ++ item.Heard e ∷ []) ++ more) ≡ false
+stopped_more added more e a b d =
+    was_stopped-both (added ++ item.Heard e ∷ []) more ∙ ap (λ x. x || was_stopped more) (was_stopped-both added (item.Heard e ∷ []) ∙ ap (λ x. was_stopped added || x) (one_stop e))
     ∙ grind (arith, a, b, d)
 
 -- nothing is heard yet
@@ -111,15 +110,15 @@ pub running_on : (n : ℕ) (plan : Option Plan) (before a b after : Option (List
 unfolding Running Adds
 running_on n plan before a b after kept now buf given running tells goes_on adds start is =
     let so = running start is in
-    let told = so.0 in
+    let added = so.0 in
     let e = event_of buf given in
-    let came = comes start told buf given a b so.1 tells in
-    let block = adds start (told ++ item.Heard e ∷ []) came.noted in (
-      (told ++ item.Heard e ∷ []) ++ block.0,
+    let came = comes start added buf given a b so.1 tells in
+    let block = adds start (added ++ item.Heard e ∷ []) came.noted in (
+      (added ++ item.Heard e ∷ []) ++ block.0,
       block.1,
-      stopped_more told block.0 e so.2 goes_on block.2.stops,
-      heard_more told block.0 e n so.3 block.2.events,
-      block.3 (heard_calm start told e b kept came so.4),
+      stopped_more added block.0 e so.2 goes_on block.2.stops,
+      heard_more added block.0 e n so.3 block.2.events,
+      block.3 (heard_calm start added e b kept came so.4),
     )
 
 -- the turns are spent
@@ -153,14 +152,14 @@ pub running_cut : (n turns : ℕ) (plan : Option Plan) (before a b after : Optio
 unfolding Running Adds Serves
 running_cut n turns plan before a b after kept buf given running tells goes_on adds below start is =
     let so = running start is in
-    let told = so.0 in
+    let added = so.0 in
     let e = event_of buf given in
-    let came = comes start told buf given a b so.1 tells in
-    let block = adds start (told ++ item.Heard e ∷ []) came.noted in (
-      (told ++ item.Heard e ∷ []) ++ block.0,
+    let came = comes start added buf given a b so.1 tells in
+    let block = adds start (added ++ item.Heard e ∷ []) came.noted in (
+      (added ++ item.Heard e ∷ []) ++ block.0,
       block.1,
-      (stopped_more told block.0 e so.2 goes_on block.2.stops, let count = heard_more told block.0 e n so.3 block.2.events in omega arith),
-      block.3 (heard_calm start told e b kept came so.4),
+      (stopped_more added block.0 e so.2 goes_on block.2.stops, let count = heard_more added block.0 e n so.3 block.2.events in omega arith),
+      block.3 (heard_calm start added e b kept came so.4),
     )
 
 -- Stop is heard
@@ -169,15 +168,15 @@ pub running_stopped : (n turns : ℕ) (before a b : Option (List Item)) (kept : 
 unfolding Running Serves
 running_stopped n turns before a b kept buf given running tells stop below start is =
     let so = running start is in
-    let told = so.0 in
+    let added = so.0 in
     let e = event_of buf given in
-    let came = comes start told buf given a b so.1 tells in
-    let after = told ++ item.Heard e ∷ [] in
-    let count : length (heard (after ++ [])) ≡ n + 1 = heard_more told [] e n so.3 no_events in
+    let came = comes start added buf given a b so.1 tells in
+    let after = added ++ item.Heard e ∷ [] in
+    let count : length (heard (after ++ [])) ≡ n + 1 = heard_more added [] e n so.3 no_events in
     let same : length (heard after) ≡ n + 1 = ap (λ x. length (heard x)) (sym (append-nil after)) ∙ count in
-    let ends : was_stopped after ≡ true = was_stopped-both told (item.Heard e ∷ []) ∙ ap (λ x. was_stopped told || x) (one_stop e ∙ ap is_stop stop) ∙ grind (arith, so.2, is_stop_stop) in
+    let ends : was_stopped after ≡ true = was_stopped-both added (item.Heard e ∷ []) ∙ ap (λ x. was_stopped added || x) (one_stop e ∙ ap is_stop stop) ∙ grind (arith, so.2, is_stop_stop) in
     let calm : all_taken after ≡ true → IsCalm kept after =
-    λ all. stop_goes kept after (subst (λ x. IsHeard kept x after) stop (heard_calm start told e b kept came so.4 all)) in
+    λ all. stop_goes kept after (subst (λ x. IsHeard kept x after) stop (heard_calm start added e b kept came so.4 all)) in
     (after, came.noted, (ends, omega arith), λ all. (calm_served rules tt (held kept) after (calm all), calm_replay rules tt (held kept) after (calm all)))
 
 -- an answer that isn't Stop is an event that isn't, and one that is, is
@@ -200,7 +199,7 @@ stops_is buf answer.Idle h = cc
 stops_is buf answer.Stop h = refl
 
 -- what a plan with no failing calls says of a fault
-may_fail : (plan : Option Plan) → IsPlanned (λ told. told.failing) plan → MayFail plan
+may_fail : (plan : Option Plan) → IsPlanned (λ plan. plan.failing) plan → MayFail plan
 unfolding IsPlanned
 may_fail None planned = tt
 may_fail (Some plan) planned = planned
@@ -210,15 +209,15 @@ pub ends_failed : (plan : Option Plan) (before after : ℕ) → LinkCause {T = A
 unfolding EndsFor LinkCause
 ends_failed plan before after cause = (cause.0, may_fail plan cause.1)
 
-pub ends_stopped : (plan : Option Plan) (before after : ℕ) → NeverFalls before after → EndsFor plan before after ended.Stopped
+pub ends_stopped : (plan : Option Plan) (before after : ℕ) → after ≡ before → EndsFor plan before after ended.Stopped
 unfolding EndsFor
 ends_stopped plan before after kept = kept
 
-pub ends_spent : (plan : Option Plan) (before after : ℕ) → NeverFalls before after → EndsFor plan before after ended.TurnsSpent
+pub ends_spent : (plan : Option Plan) (before after : ℕ) → after ≡ before → EndsFor plan before after ended.TurnsSpent
 unfolding EndsFor
 ends_spent plan before after kept = kept
 
-pub ends_starved : (plan : Option Plan) (before after : ℕ) → NeverFalls before after → EndsFor plan before after ended.NoMemory
+pub ends_starved : (plan : Option Plan) (before after : ℕ) → after ≡ before → EndsFor plan before after ended.NoMemory
 unfolding EndsFor
 ends_starved plan before after kept = kept
 

@@ -73,13 +73,13 @@ block_after e more holds = holds
 -- nothing is played yet
 pub playing_start : (journal : Option (List Item)) (plan : Option Plan) → Playing journal plan journal plan
 unfolding Playing heard all_taken steps_of
-playing_start journal plan start told_plan is planned = (
+playing_start journal plan start start_plan is planned = (
   [],
-  told_plan,
+  start_plan,
   is ∙ ap (λ x. Some x) (sym (append-nil start)),
   planned,
   record {
-    plays = Plays-none buffer_length told_plan.to_come;
+    plays = Plays-none buffer_length start_plan.to_come;
     failing = refl;
     later = refl;
     gone = refl;
@@ -90,36 +90,36 @@ playing_start journal plan start told_plan is planned = (
 )
 
 -- one more event of the plan, and what is done in its block
-played_more : (start told more : List Item) (plan left after : Plan) (buf : List ℕ) (given : Answer) → PlayedSoFar start told plan left → length buf ≡ buffer_length →
-    NextPlays {E = NextFault} (Some (start ++ told)) (Some left) buf (Ok given) (Some after) → is_stop (event_of buf given) ≡ false → IsBlock (Some after) more →
-    PlayedSoFar start ((told ++ item.Heard (event_of buf given) ∷ []) ++ more) plan after
+played_more : (start added more : List Item) (plan left after : Plan) (buf : List ℕ) (given : Answer) → PlayedSoFar start added plan left → length buf ≡ buffer_length →
+    NextPlays {E = NextFault} (Some (start ++ added)) (Some left) buf (Ok given) (Some after) → is_stop (event_of buf given) ≡ false → IsBlock (Some after) more →
+    PlayedSoFar start ((added ++ item.Heard (event_of buf given) ∷ []) ++ more) plan after
 unfolding holds_of
-played_more start told more plan left after buf given so long plays goes_on block =
+played_more start added more plan left after buf given so long plays goes_on block =
     let e = event_of buf given in
-    let ok : (e ≡ (next_turn (holds_of (Some (start ++ told))) (length buf) left.to_come).event) × (after ≡ record left { to_come = (next_turn (holds_of (Some (start ++ told))) (length buf) left.to_come).left }) =
-    NextPlays-ok NextFault (Some (start ++ told)) left after buf given plays in
-    let all : heard ((told ++ item.Heard e ∷ []) ++ more) ≡ heard told ++ e ∷ [] =
-    heard-append (told ++ item.Heard e ∷ []) more ∙ ap (λ xs. heard (told ++ item.Heard e ∷ []) ++ xs) block.events ∙ append-nil (heard (told ++ item.Heard e ∷ []))
-    ∙ heard-append told (item.Heard e ∷ []) ∙ ap (λ xs. heard told ++ xs) (one_event e) in
+    let ok : (e ≡ (next_turn (holds_of (Some (start ++ added))) (length buf) left.to_come).event) × (after ≡ record left { to_come = (next_turn (holds_of (Some (start ++ added))) (length buf) left.to_come).left }) =
+    NextPlays-ok NextFault (Some (start ++ added)) left after buf given plays in
+    let all : heard ((added ++ item.Heard e ∷ []) ++ more) ≡ heard added ++ e ∷ [] =
+    heard-append (added ++ item.Heard e ∷ []) more ∙ ap (λ xs. heard (added ++ item.Heard e ∷ []) ++ xs) block.events ∙ append-nil (heard (added ++ item.Heard e ∷ []))
+    ∙ heard-append added (item.Heard e ∷ []) ∙ ap (λ xs. heard added ++ xs) (one_event e) in
     let one : Plays buffer_length left.to_come (e ∷ []) after.to_come =
-    subst (λ n. Plays n left.to_come (e ∷ []) after.to_come) long (Plays-heard NextFault (Some (start ++ told)) left after buf given (let n : length buf ≡ 65536 = long in omega arith) plays) in
+    subst (λ n. Plays n left.to_come (e ∷ []) after.to_come) long (Plays-heard NextFault (Some (start ++ added)) left after buf given (let n : length buf ≡ 65536 = long in omega arith) plays) in
     let later : after.later ≡ plan.later = ap (λ (x : Plan). x.later) ok.1 ∙ so.later in
     let gone : after.gone ≡ plan.gone = ap (λ (x : Plan). x.gone) ok.1 ∙ so.gone in
     record {
-      plays = subst (λ es. Plays buffer_length plan.to_come es after.to_come) (sym all) (Plays-trans buffer_length plan.to_come left.to_come after.to_come (heard told) (e ∷ []) so.plays one);
+      plays = subst (λ es. Plays buffer_length plan.to_come es after.to_come) (sym all) (Plays-trans buffer_length plan.to_come left.to_come after.to_come (heard added) (e ∷ []) so.plays one);
       failing = ap (λ (x : Plan). x.failing) ok.1 ∙ so.failing;
       later = later;
       gone = gone;
       taken = λ no_later no_gone.
-          all_taken-both (told ++ item.Heard e ∷ []) more
-          ∙ ap₂ (λ x y. x && y) (all_taken-append told (item.Heard e) ∙ ap (λ x. x && true) (so.taken no_later no_gone)) (block.taken after refl (later ∙ no_later) (gone ∙ no_gone));
+          all_taken-both (added ++ item.Heard e ∷ []) more
+          ∙ ap₂ (λ x y. x && y) (all_taken-append added (item.Heard e) ∙ ap (λ x. x && true) (so.taken no_later no_gone)) (block.taken after refl (later ∙ no_later) (gone ∙ no_gone));
       unheld = λ free c.
-          ap (is_held c) (ap (λ x. start ++ x) (append_assoc told (item.Heard e ∷ []) more) ∙ sym (append_assoc start told (item.Heard e ∷ more)))
-          ∙ still_unheld c (start ++ told) (item.Heard e ∷ more) (block_after e more block.holds) (so.unheld free c);
+          ap (is_held c) (ap (λ x. start ++ x) (append_assoc added (item.Heard e ∷ []) more) ∙ sym (append_assoc start added (item.Heard e ∷ more)))
+          ∙ still_unheld c (start ++ added) (item.Heard e ∷ more) (block_after e more block.holds) (so.unheld free c);
       steps = λ free.
-          let alone : steps_of (e ∷ []) ≡ e ∷ [] = step_alone e (holds_of (Some (start ++ told))) left.to_come (NextPlays-says NextFault (Some (start ++ told)) left after buf given plays) (so.unheld free) goes_on in
-          ap (λ es. length (steps_of es)) all ∙ ap length (steps_of-append (heard told) (e ∷ []) ∙ ap (λ xs. steps_of (heard told) ++ xs) alone)
-          ∙ length-append (steps_of (heard told)) (e ∷ []) ∙ ap (λ n. n + 1) (so.steps free) ∙ sym (length-append (heard told) (e ∷ [])) ∙ ap length (sym all);
+          let alone : steps_of (e ∷ []) ≡ e ∷ [] = step_alone e (holds_of (Some (start ++ added))) left.to_come (NextPlays-says NextFault (Some (start ++ added)) left after buf given plays) (so.unheld free) goes_on in
+          ap (λ es. length (steps_of es)) all ∙ ap length (steps_of-append (heard added) (e ∷ []) ∙ ap (λ xs. steps_of (heard added) ++ xs) alone)
+          ∙ length-append (steps_of (heard added)) (e ∷ []) ∙ ap (λ n. n + 1) (so.steps free) ∙ sym (length-append (heard added) (e ∷ [])) ∙ ap length (sym all);
     }
 
 -- one more event of the plan, in a loop
@@ -129,25 +129,25 @@ pub playing_on : (before a b after : Option (List Item)) (plan_before pa pb plan
 unfolding Playing Adds
 playing_on before a b after plan_before pa pb plan_after P Q buf given playing long tells plays goes_on adds kept start plan is planned =
     let so = playing start plan is planned in
-    let told = so.0 in
+    let added = so.0 in
     let left = so.1 in
-    let here : NextPlays {E = NextFault} (Some (start ++ told)) (Some left) buf (Ok given) pb =
+    let here : NextPlays {E = NextFault} (Some (start ++ added)) (Some left) buf (Ok given) pb =
     subst (λ x. NextPlays {E = NextFault} x (Some left) buf (Ok given) pb) so.2 (subst (λ x. NextPlays {E = NextFault} a x buf (Ok given) pb) so.3 plays) in
-    let next = NextPlays-told {E = NextFault} (Some (start ++ told)) left buf (Ok given) pb here in
-    let came = comes start told buf given a b so.2 tells in
-    let block = adds start (told ++ item.Heard (event_of buf given) ∷ []) came.noted in (
-      (told ++ item.Heard (event_of buf given) ∷ []) ++ block.0,
+    let next = NextPlays-told {E = NextFault} (Some (start ++ added)) left buf (Ok given) pb here in
+    let came = comes start added buf given a b so.2 tells in
+    let block = adds start (added ++ item.Heard (event_of buf given) ∷ []) came.noted in (
+      (added ++ item.Heard (event_of buf given) ∷ []) ++ block.0,
       next.0,
       block.1,
       kept ∙ next.1,
-      played_more start told block.0 plan left next.0 buf given so.4 long (subst (λ x. NextPlays {E = NextFault} (Some (start ++ told)) (Some left) buf (Ok given) x) next.1 here) goes_on
+      played_more start added block.0 plan left next.0 buf given so.4 long (subst (λ x. NextPlays {E = NextFault} (Some (start ++ added)) (Some left) buf (Ok given) x) next.1 here) goes_on
           (subst (λ x. IsBlock x block.0) next.1 block.2),
     )
 
 -- what a loop that ended without Stop played
-played_to : (turns : ℕ) (start told : List Item) (plan left : Plan) (end : Ended) → PlayedSoFar start told plan left → (end ≡ ended.Stopped → ⊥) →
-    (end ≡ ended.TurnsSpent → length (heard told) ≡ turns) → PlayedOut turns start told plan left end
-played_to turns start told plan left end so goes_on counts =
+played_to : (turns : ℕ) (start added : List Item) (plan left : Plan) (end : Ended) → PlayedSoFar start added plan left → (end ≡ ended.Stopped → ⊥) →
+    (end ≡ ended.TurnsSpent → length (heard added) ≡ turns) → PlayedOut turns start added plan left end
+played_to turns start added plan left end so goes_on counts =
     record {
       plays = so.plays;
       over = λ stopped. absurd (goes_on stopped);
@@ -159,21 +159,21 @@ played_to turns start told plan left end so goes_on counts =
 pub plays_ended : (turns : ℕ) (before now : Option (List Item)) (plan_before plan_now : Option Plan) (end : Ended) → Playing before plan_before now plan_now →
     (end ≡ ended.Stopped → ⊥) → (end ≡ ended.TurnsSpent → ⊥) → PlaysOut turns before plan_before end now plan_now
 unfolding Playing PlaysOut
-plays_ended turns before now plan_before plan_now end playing goes_on unspent start told plan is told_now planned =
+plays_ended turns before now plan_before plan_now end playing goes_on unspent start added plan is is_now planned =
     let so = playing start plan is planned in
-    let same : so.0 ≡ told = append_cancel_left start so.0 told (some_same (start ++ so.0) (start ++ told) (sym so.2 ∙ told_now)) in
-    (so.1, so.3, played_to turns start told plan so.1 end (subst (λ x. PlayedSoFar start x plan so.1) same so.4) goes_on (λ spent. absurd (unspent spent)))
+    let same : so.0 ≡ added = append_cancel_left start so.0 added (some_same (start ++ so.0) (start ++ added) (sym so.2 ∙ is_now)) in
+    (so.1, so.3, played_to turns start added plan so.1 end (subst (λ x. PlayedSoFar start x plan so.1) same so.4) goes_on (λ spent. absurd (unspent spent)))
 
 -- the turns are spent
 pub plays_spent : (turns : ℕ) (before now : Option (List Item)) (plan_before plan_now : Option Plan) (kept : List (Kept Requester)) → Playing before plan_before now plan_now →
     Running turns before now kept → PlaysOut turns before plan_before ended.TurnsSpent now plan_now
 unfolding Playing PlaysOut Running
-plays_spent turns before now plan_before plan_now kept playing running start told plan is told_now planned =
+plays_spent turns before now plan_before plan_now kept playing running start added plan is is_now planned =
     let so = playing start plan is planned in
     let run = running start is in
-    let same : so.0 ≡ told = append_cancel_left start so.0 told (some_same (start ++ so.0) (start ++ told) (sym so.2 ∙ told_now)) in
-    let ran : run.0 ≡ told = append_cancel_left start run.0 told (some_same (start ++ run.0) (start ++ told) (sym run.1 ∙ told_now)) in
-    (so.1, so.3, played_to turns start told plan so.1 ended.TurnsSpent (subst (λ x. PlayedSoFar start x plan so.1) same so.4) (λ h. cc) (λ _. ap (λ x. length (heard x)) (sym ran) ∙ run.3))
+    let same : so.0 ≡ added = append_cancel_left start so.0 added (some_same (start ++ so.0) (start ++ added) (sym so.2 ∙ is_now)) in
+    let ran : run.0 ≡ added = append_cancel_left start run.0 added (some_same (start ++ run.0) (start ++ added) (sym run.1 ∙ is_now)) in
+    (so.1, so.3, played_to turns start added plan so.1 ended.TurnsSpent (subst (λ x. PlayedSoFar start x plan so.1) same so.4) (λ h. cc) (λ _. ap (λ x. length (heard x)) (sym ran) ∙ run.3))
 
 -- the plan after Stop
 stop_left : (on_hold : ℕ → Bool) (len : ℕ) (events : List ScriptEvent) → events ≡ [] → (next_turn on_hold len events).left ≡ []
@@ -188,22 +188,22 @@ stopped_spent : ended.Stopped ≡ ended.TurnsSpent → ⊥
 stopped_spent h = cc
 
 -- Stop is heard
-played_stop : (turns : ℕ) (start told : List Item) (plan left after : Plan) (buf : List ℕ) (given : Answer) → PlayedSoFar start told plan left → length buf ≡ buffer_length →
-    NextPlays {E = NextFault} (Some (start ++ told)) (Some left) buf (Ok given) (Some after) → event_of buf given ≡ event.Stop →
-    PlayedOut turns start (told ++ item.Heard (event_of buf given) ∷ []) plan after ended.Stopped
-played_stop turns start told plan left after buf given so long plays stop =
+played_stop : (turns : ℕ) (start added : List Item) (plan left after : Plan) (buf : List ℕ) (given : Answer) → PlayedSoFar start added plan left → length buf ≡ buffer_length →
+    NextPlays {E = NextFault} (Some (start ++ added)) (Some left) buf (Ok given) (Some after) → event_of buf given ≡ event.Stop →
+    PlayedOut turns start (added ++ item.Heard (event_of buf given) ∷ []) plan after ended.Stopped
+played_stop turns start added plan left after buf given so long plays stop =
     let e = event_of buf given in
-    let on_hold = holds_of (Some (start ++ told)) in
+    let on_hold = holds_of (Some (start ++ added)) in
     let ok : (e ≡ (next_turn on_hold (length buf) left.to_come).event) × (after ≡ record left { to_come = (next_turn on_hold (length buf) left.to_come).left }) =
-    NextPlays-ok NextFault (Some (start ++ told)) left after buf given plays in
-    let over : left.to_come ≡ [] = says_stop on_hold e left.to_come (NextPlays-says NextFault (Some (start ++ told)) left after buf given plays) stop in
-    let all : heard (told ++ item.Heard e ∷ []) ≡ heard told ++ e ∷ [] = heard-append told (item.Heard e ∷ []) ∙ ap (λ xs. heard told ++ xs) (one_event e) in
+    NextPlays-ok NextFault (Some (start ++ added)) left after buf given plays in
+    let over : left.to_come ≡ [] = says_stop on_hold e left.to_come (NextPlays-says NextFault (Some (start ++ added)) left after buf given plays) stop in
+    let all : heard (added ++ item.Heard e ∷ []) ≡ heard added ++ e ∷ [] = heard-append added (item.Heard e ∷ []) ∙ ap (λ xs. heard added ++ xs) (one_event e) in
     let one : Plays buffer_length left.to_come (e ∷ []) after.to_come =
-    subst (λ n. Plays n left.to_come (e ∷ []) after.to_come) long (Plays-heard NextFault (Some (start ++ told)) left after buf given (let n : length buf ≡ 65536 = long in omega arith) plays) in
+    subst (λ n. Plays n left.to_come (e ∷ []) after.to_come) long (Plays-heard NextFault (Some (start ++ added)) left after buf given (let n : length buf ≡ 65536 = long in omega arith) plays) in
     record {
-      plays = subst (λ es. Plays buffer_length plan.to_come es after.to_come) (sym all) (Plays-trans buffer_length plan.to_come left.to_come after.to_come (heard told) (e ∷ []) so.plays one);
+      plays = subst (λ es. Plays buffer_length plan.to_come es after.to_come) (sym all) (Plays-trans buffer_length plan.to_come left.to_come after.to_come (heard added) (e ∷ []) so.plays one);
       over = λ _. ap (λ (x : Plan). x.to_come) ok.1 ∙ stop_left on_hold (length buf) left.to_come over;
-      taken = λ no_later no_gone. all_taken-append told (item.Heard e) ∙ ap (λ x. x && true) (so.taken no_later no_gone);
+      taken = λ no_later no_gone. all_taken-append added (item.Heard e) ∙ ap (λ x. x && true) (so.taken no_later no_gone);
       steps = λ free h. absurd (stopped_spent h);
     }
 
@@ -211,20 +211,20 @@ pub plays_stopped : (turns : ℕ) (before a b : Option (List Item)) (plan_before
     Playing before plan_before a pa → length buf ≡ buffer_length → NextTells {E = NextFault} a buf (Ok given) b → NextPlays {E = NextFault} a pa buf (Ok given) pb →
     event_of buf given ≡ event.Stop → PlaysOut turns before plan_before ended.Stopped b pb
 unfolding Playing PlaysOut
-plays_stopped turns before a b plan_before pa pb buf given playing long tells plays stop start told_all plan is told_now planned =
+plays_stopped turns before a b plan_before pa pb buf given playing long tells plays stop start all_added plan is is_now planned =
     let so = playing start plan is planned in
-    let told = so.0 in
+    let added = so.0 in
     let left = so.1 in
-    let here : NextPlays {E = NextFault} (Some (start ++ told)) (Some left) buf (Ok given) pb =
+    let here : NextPlays {E = NextFault} (Some (start ++ added)) (Some left) buf (Ok given) pb =
     subst (λ x. NextPlays {E = NextFault} x (Some left) buf (Ok given) pb) so.2 (subst (λ x. NextPlays {E = NextFault} a x buf (Ok given) pb) so.3 plays) in
-    let next = NextPlays-told {E = NextFault} (Some (start ++ told)) left buf (Ok given) pb here in
-    let came = comes start told buf given a b so.2 tells in
-    let after = told ++ item.Heard (event_of buf given) ∷ [] in
-    let same : after ≡ told_all = append_cancel_left start after told_all (some_same (start ++ after) (start ++ told_all) (sym came.noted ∙ told_now)) in (
+    let next = NextPlays-told {E = NextFault} (Some (start ++ added)) left buf (Ok given) pb here in
+    let came = comes start added buf given a b so.2 tells in
+    let after = added ++ item.Heard (event_of buf given) ∷ [] in
+    let same : after ≡ all_added = append_cancel_left start after all_added (some_same (start ++ after) (start ++ all_added) (sym came.noted ∙ is_now)) in (
       next.0,
       next.1,
       subst (λ x. PlayedOut turns start x plan next.0 ended.Stopped) same
-          (played_stop turns start told plan left next.0 buf given so.4 long (subst (λ x. NextPlays {E = NextFault} (Some (start ++ told)) (Some left) buf (Ok given) x) next.1 here) stop),
+          (played_stop turns start added plan left next.0 buf given so.4 long (subst (λ x. NextPlays {E = NextFault} (Some (start ++ added)) (Some left) buf (Ok given) x) next.1 here) stop),
     )
 
 -- the link gave no event

@@ -89,8 +89,8 @@ refused_gone c = grind (arith, nat_tests)
 pub refused_dropped : {E : Type 0} (before middle after : Option (List Item)) (c : ℕ) (octets : List ℕ) (answer : Took) (result : Result (Unit {0}) E) → (answer ≡ took.Later) ⊎ (answer ≡ took.Gone) →
     TookTells before c octets answer middle → NoteTells middle (item.HungUp c) result after → OnOk result (HangsUpRefused before after)
 unfolding TookTells NoteTells
-refused_dropped before middle after c octets answer (Err fault) is told noted_is = tt
-refused_dropped before middle after c octets answer (Ok done) (inl is) told noted_is =
-    two_added before middle after c (item.Later c) (refused_later c) (subst (λ t. TookTells before c octets t middle) is told) noted_is
-refused_dropped before middle after c octets answer (Ok done) (inr is) told noted_is =
-    two_added before middle after c (item.Gone c) (refused_gone c) (subst (λ t. TookTells before c octets t middle) is told) noted_is
+refused_dropped before middle after c octets answer (Err fault) is tells noted_is = tt
+refused_dropped before middle after c octets answer (Ok done) (inl is) tells noted_is =
+    two_added before middle after c (item.Later c) (refused_later c) (subst (λ t. TookTells before c octets t middle) is tells) noted_is
+refused_dropped before middle after c octets answer (Ok done) (inr is) tells noted_is =
+    two_added before middle after c (item.Gone c) (refused_gone c) (subst (λ t. TookTells before c octets t middle) is tells) noted_is

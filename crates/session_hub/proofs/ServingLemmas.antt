@@ -44,6 +44,16 @@ pub queue_of-forgotten : (c : ℕ) (ks : List (Kept Requester)) → queue_of c (
 queue_of-forgotten c [] = refl
 queue_of-forgotten c (k ∷ ks) = grind (arith, nat_tests, queue_of-forgotten c ks)
 
+-- octets taken of one connection's queue leave the others
+pub forgotten-taken_off : (c n : ℕ) (ks : List (Kept Requester)) → forgotten c (taken_off c n ks) ≡ forgotten c ks
+forgotten-taken_off c n [] = refl
+forgotten-taken_off c n (k ∷ ks) = grind (arith, nat_tests, forgotten-taken_off c n ks)
+
+-- what is forgotten can be forgotten again
+pub forgotten-forgotten : (c : ℕ) (ks : List (Kept Requester)) → forgotten c (forgotten c ks) ≡ forgotten c ks
+forgotten-forgotten c [] = refl
+forgotten-forgotten c (k ∷ ks) = grind (arith, nat_tests, forgotten-forgotten c ks)
+
 -- a queue that is emptied gets shorter
 pub falls_to_none : (old new : List ℕ) → 0 < length old → new ≡ [] → length new < length old
 falls_to_none old new some none = let empty : length new ≡ 0 = ap length none in omega arith
@@ -55,28 +65,28 @@ pub took_goes : (plan : Option Plan) (c n : ℕ) (turned : Bool) (kept : List (K
 unfolding TookTells
 took_goes plan c n turned kept octets before after tells is fits =
     adds_one plan (IsBusy c turned kept) (IsBusy c turned (taken_off c n kept)) before after (item.Taken c (take n octets)) tells (block_taken plan c (take n octets))
-    (λ told _ busy. subst (λ xs. IsBusy c turned (taken_off c n kept) (told ++ item.Taken c (take n xs) ∷ [])) (sym is)
-    (busy_taken rules tt c turned (held kept) told n busy (subst (λ xs. n ≤ length xs) is fits)))
+    (λ added _ busy. subst (λ xs. IsBusy c turned (taken_off c n kept) (added ++ item.Taken c (take n xs) ∷ [])) (sym is)
+    (busy_taken rules tt c turned (held kept) added n busy (subst (λ xs. n ≤ length xs) is fits)))
 
 -- nothing was taken now, or the connection was found lost
-refused : (told : List Item) (i : Item) → is_no_refusal i ≡ false → all_taken (told ++ i ∷ []) ≡ true → ⊥
-refused told i refuses all = true≢false (sym all ∙ all_taken-append told i ∙ grind (arith))
+refused : (added : List Item) (i : Item) → is_no_refusal i ≡ false → all_taken (added ++ i ∷ []) ≡ true → ⊥
+refused added i refuses all = true≢false (sym all ∙ all_taken-append added i ∙ grind (arith))
 
 later_goes : (plan : Option Plan) (c lost now : ℕ) (octets : List ℕ) (P : List Item → Type 0) (before after : Option (List Item)) →
     TookTells before c octets took.Later after → WriteCause plan lost now took.Later → Adds plan P Never before after
 unfolding TookTells heard was_stopped stops no_holds
 later_goes plan c lost now octets P before after tells cause =
     adds_one plan P Never before after (item.Later c) tells
-    (record { events = refl; stops = refl; holds = refl; taken = λ told is later _. absurd (WriteCause-never_later told lost now later (subst (λ p. WriteCause p lost now took.Later) is cause)) })
-    (λ told all _. refused told (item.Later c) refl all)
+    (record { events = refl; stops = refl; holds = refl; taken = λ known is later _. absurd (WriteCause-never_later known lost now later (subst (λ p. WriteCause p lost now took.Later) is cause)) })
+    (λ added all _. refused added (item.Later c) refl all)
 
 gone_goes : (plan : Option Plan) (c lost now : ℕ) (octets : List ℕ) (P : List Item → Type 0) (before after : Option (List Item)) →
     TookTells before c octets took.Gone after → WriteCause plan lost now took.Gone → Adds plan P Never before after
 unfolding TookTells heard was_stopped stops no_holds
 gone_goes plan c lost now octets P before after tells cause =
     adds_one plan P Never before after (item.Gone c) tells
-    (record { events = refl; stops = refl; holds = refl; taken = λ told is _ gone. absurd (WriteCause-never_gone told lost now gone (subst (λ p. WriteCause p lost now took.Gone) is cause)) })
-    (λ told all _. refused told (item.Gone c) refl all)
+    (record { events = refl; stops = refl; holds = refl; taken = λ known is _ gone. absurd (WriteCause-never_gone known lost now gone (subst (λ p. WriteCause p lost now took.Gone) is cause)) })
+    (λ added all _. refused added (item.Gone c) refl all)
 
 -- a write that took nothing
 pub refused_goes : (plan : Option Plan) (c lost now : ℕ) (octets : List ℕ) (answer : Took) (P : List Item → Type 0) (before after : Option (List Item)) →
@@ -88,33 +98,30 @@ refused_goes plan c lost now octets answer P before after (inr is) tells cause =
 
 -- no memory, and nothing was done
 pub write_fails : (plan : Option Plan) (c : ℕ) (octets : List ℕ) (P Q : List Item → Type 0) (before after : Option (List Item)) →
-    TookTells before c octets took.NoMemory after → ((told : List Item) → P told → Q told) → Adds plan P Q before after
+    TookTells before c octets took.NoMemory after → ((added : List Item) → P added → Q added) → Adds plan P Q before after
 unfolding TookTells
 write_fails plan c octets P Q before after tells leads = adds_nothing plan P Q before after tells leads
 
 -- a connection is hung up, or there was no memory
 pub hangs_up_ok : {E : Type 0} (plan : Option Plan) (c : ℕ) (P Q : List Item → Type 0) (before after : Option (List Item)) (result : Result (Unit {0}) E) →
-    NoteTells before (item.HungUp c) result after → ((told : List Item) → P told → Q (told ++ item.HungUp c ∷ [])) → OnOk result (Adds plan P Q before after)
+    NoteTells before (item.HungUp c) result after → ((added : List Item) → P added → Q (added ++ item.HungUp c ∷ [])) → OnOk result (Adds plan P Q before after)
 unfolding NoteTells
-hangs_up_ok plan c P Q before after (Ok done) tells leads = adds_one plan P Q before after (item.HungUp c) tells (block_hung_up plan c) (λ told _ holds. leads told holds)
+hangs_up_ok plan c P Q before after (Ok done) tells leads = adds_one plan P Q before after (item.HungUp c) tells (block_hung_up plan c) (λ added _ holds. leads added holds)
 hangs_up_ok plan c P Q before after (Err fault) tells leads = tt
 
 pub hangs_up_err : {E : Type 0} (plan : Option Plan) (c : ℕ) (P Q : List Item → Type 0) (before after : Option (List Item)) (result : Result (Unit {0}) E) →
-    NoteTells before (item.HungUp c) result after → ((told : List Item) → P told → Q told) → OnErr result (Adds plan P Q before after)
+    NoteTells before (item.HungUp c) result after → ((added : List Item) → P added → Q added) → OnErr result (Adds plan P Q before after)
 unfolding NoteTells
 hangs_up_err plan c P Q before after (Ok done) tells leads = tt
 hangs_up_err plan c P Q before after (Err fault) tells leads = adds_nothing plan P Q before after tells leads
 
 -- a block is sound so far
-pub IsBusy-sound : (c : ℕ) (turned : Bool) (kept : List (Kept Requester)) (told : List Item) → IsBusy c turned kept told → Sound rules tt told
-IsBusy-sound c turned kept told busy = busy.tracks.sound
-
-pub IsCalm-sound : (kept : List (Kept Requester)) (told : List Item) → IsCalm kept told → Sound rules tt told
-IsCalm-sound kept told calm = calm.tracks.sound
+pub IsBusy-sound : (c : ℕ) (turned : Bool) (kept : List (Kept Requester)) (added : List Item) → IsBusy c turned kept added → Sound rules tt added
+IsBusy-sound c turned kept added busy = busy.tracks.sound
 
 -- where nothing is queued, a block has sent all
-pub sent_goes : (c : ℕ) (turned : Bool) (kept : List (Kept Requester)) (queue : List ℕ) (told : List Item) → queue ≡ queue_of c kept → queue ≡ [] → IsBusy c turned kept told → IsSent c turned kept told
-sent_goes c turned kept queue told is empty busy = (busy, sym is ∙ empty)
+pub sent_goes : (c : ℕ) (turned : Bool) (kept : List (Kept Requester)) (queue : List ℕ) (added : List Item) → queue ≡ queue_of c kept → queue ≡ [] → IsBusy c turned kept added → IsSent c turned kept added
+sent_goes c turned kept queue added is empty busy = (busy, sym is ∙ empty)
 
 -- one call that left the plan and then another, whose answer is the answer
 pub on_ok_after : {X E : Type 0} (plan now : Option Plan) (P Q R : List Item → Type 0) (a b c : Option (List Item)) (result : Result X E) → now ≡ plan → Adds plan P Q a b →
@@ -132,14 +139,14 @@ emptied [] h = refl
 emptied (x ∷ xs) h = absurd (grind (arith, nat_tests))
 
 -- a block in which all was sent ends where the connection isn't closing
-pub calm_goes : (c : ℕ) (kept : List (Kept Requester)) (told : List Item) → closing_of c kept ≡ false → IsSent c false kept told → IsCalm kept told
-calm_goes c kept told still sent = busy_done rules tt c (held kept) told sent.0 sent.1 still
+pub calm_goes : (c : ℕ) (kept : List (Kept Requester)) (added : List Item) → closing_of c kept ≡ false → IsSent c false kept added → IsCalm kept added
+calm_goes c kept added still sent = busy_done rules tt c (held kept) added sent.0 sent.1 still
 
 -- and where it is hung up
-pub hung_up_goes : (c : ℕ) (turned : Bool) (kept now : List (Kept Requester)) (told : List Item) → now ≡ forgotten c kept → (closing_of c kept || turned) ≡ true → IsSent c turned kept told →
-    IsCalm now (told ++ item.HungUp c ∷ [])
-hung_up_goes c turned kept now told is leaving sent =
-    subst (λ ks. IsCalm ks (told ++ item.HungUp c ∷ [])) (sym is) (busy_hung_up rules tt c turned (held kept) told sent.0 sent.1 leaving)
+pub hung_up_goes : (c : ℕ) (turned : Bool) (kept now : List (Kept Requester)) (added : List Item) → now ≡ forgotten c kept → (closing_of c kept || turned) ≡ true → IsSent c turned kept added →
+    IsCalm now (added ++ item.HungUp c ∷ [])
+hung_up_goes c turned kept now added is leaving sent =
+    subst (λ ks. IsCalm ks (added ++ item.HungUp c ∷ [])) (sym is) (busy_hung_up rules tt c turned (held kept) added sent.0 sent.1 leaving)
 
 -- what holds holds on a success
 pub on_ok_any : {X E P : Type 0} (r : Result X E) → P → OnOk r P
@@ -153,12 +160,12 @@ on_err_any (Err e) holds = holds
 
 -- a connection was hung up
 pub hangs_up_one : (E : Type 0) (plan : Option Plan) (c : ℕ) (P Q : List Item → Type 0) (before after : Option (List Item)) (done : Unit {0}) →
-    NoteTells {T = Unit {0}} {E = E} before (item.HungUp c) (Ok done) after → ((told : List Item) → P told → Q (told ++ item.HungUp c ∷ [])) → Adds plan P Q before after
+    NoteTells {T = Unit {0}} {E = E} before (item.HungUp c) (Ok done) after → ((added : List Item) → P added → Q (added ++ item.HungUp c ∷ [])) → Adds plan P Q before after
 unfolding NoteTells
-hangs_up_one E plan c P Q before after done tells leads = adds_one plan P Q before after (item.HungUp c) tells (block_hung_up plan c) (λ told _ holds. leads told holds)
+hangs_up_one E plan c P Q before after done tells leads = adds_one plan P Q before after (item.HungUp c) tells (block_hung_up plan c) (λ added _ holds. leads added holds)
 
 -- it was not, for want of memory
 pub hangs_up_none : (E : Type 0) (plan : Option Plan) (c : ℕ) (P Q : List Item → Type 0) (before after : Option (List Item)) (fault : E) →
-    NoteTells {T = Unit {0}} {E = E} before (item.HungUp c) (Err fault) after → ((told : List Item) → P told → Q told) → Adds plan P Q before after
+    NoteTells {T = Unit {0}} {E = E} before (item.HungUp c) (Err fault) after → ((added : List Item) → P added → Q added) → Adds plan P Q before after
 unfolding NoteTells
 hangs_up_none E plan c P Q before after fault tells leads = adds_nothing plan P Q before after tells leads

@@ -11,9 +11,6 @@ use Rattle.session_hub.specs.declared.outcome.Outcome.{Outcome}
 use Rattle.session_hub.specs.Answering.{Tree, rules}
 use Rattle.session_hub.specs.Answers.{Gives, Speaks, SaysSoFar, said_to}
 
-pub so_far_start : (who : Requester) (stream old : List ℕ) → SaysSoFar who stream old old who 0
-so_far_start who stream old = record { within = omega arith; grows = omega arith; rest = refl; said = refl; requester = refl; closes = refl }
-
 -- a message at the front of the rest is one there of the stream
 message_fits : (stream : List ℕ) (read n : ℕ) → read ≤ length stream → frame_at (drop read stream) ≡ Whole n → read + n ≤ length stream
 message_fits stream read n within is = omega (arith, (frame_bound (drop read stream) n is).1, length-drop read stream)

@@ -1,7 +1,6 @@
 -- One turn of a loop, and what a loop is after it.
 use Rattle.std.proofs.Common.{◌≡◌, ◌<◌, ℕ, true, false, List, [], length, Option, Some, None, Ok, Err, refl, ap, sym, ◌∙◌, subst, arith}
-use Rattle.plain_values.specs.Counts.{NeverFalls}
-use Rattle.plain_values.proofs.Theorems.{NeverFalls-trans, Rose-after-never_falls}
+use Rattle.plain_values.specs.Counts.{Rose}
 use Rattle.wire_io.specs.declared.answers.Heard.{Heard as Answer}
 use Rattle.wire_io.specs.declared.answers.NextFault.{NextFault}
 use Rattle.wire_io.specs.declared.journal.Item.{Item}
@@ -103,9 +102,9 @@ MayFail-came (Some plan) None same fails = cc
 MayFail-came (Some plan) (Some now) same fails = λ none. fails (let is : now.failing ≡ plan.failing = cc in is ∙ none)
 
 -- the cause of a loop's end is that of its last turn
-pub EndsFor-came : (plan now : Option Plan) (first before after : ℕ) (end : Ended) → failing_of now ≡ failing_of plan → NeverFalls first before → EndsFor now before after end → EndsFor plan first after end
+pub EndsFor-came : (plan now : Option Plan) (first before after : ℕ) (end : Ended) → failing_of now ≡ failing_of plan → before ≡ first → EndsFor now before after end → EndsFor plan first after end
 unfolding EndsFor
-EndsFor-came plan now first before after ended.LinkFault same kept cause = (Rose-after-never_falls kept cause.0, MayFail-came plan now same cause.1)
-EndsFor-came plan now first before after ended.Stopped same kept cause = NeverFalls-trans kept cause
-EndsFor-came plan now first before after ended.TurnsSpent same kept cause = NeverFalls-trans kept cause
-EndsFor-came plan now first before after ended.NoMemory same kept cause = NeverFalls-trans kept cause
+EndsFor-came plan now first before after ended.LinkFault same kept cause = (subst (λ count. Rose count after) kept cause.0, MayFail-came plan now same cause.1)
+EndsFor-came plan now first before after ended.Stopped same kept cause = cause ∙ kept
+EndsFor-came plan now first before after ended.TurnsSpent same kept cause = cause ∙ kept
+EndsFor-came plan now first before after ended.NoMemory same kept cause = cause ∙ kept

@@ -22,14 +22,14 @@ coded code = record { code = code; matched = [] }
 
 -- the response to an operation by its tag
 abbrev pub response_to : ℕ → LdapResult → Reply
-response_to tag r =
-    if tag == 0x63 then reply.Done r
-    else if tag == 0x66 then reply.Modify r
-    else if tag == 0x68 then reply.Add r
-    else if tag == 0x4a then reply.Delete r
-    else if tag == 0x6c then reply.Rename r
-    else if tag == 0x6e then reply.Compare r
-    else reply.Extended r None None
+response_to tag result =
+    if tag == 0x63 then reply.Done result
+    else if tag == 0x66 then reply.Modify result
+    else if tag == 0x68 then reply.Add result
+    else if tag == 0x4a then reply.Delete result
+    else if tag == 0x6c then reply.Rename result
+    else if tag == 0x6e then reply.Compare result
+    else reply.Extended result None None
 
 -- success for no name and no password, unwillingToPerform for any other
 abbrev pub simple_code : List ℕ → List ℕ → ℕ
@@ -44,7 +44,7 @@ auth_code name (Simple password) = simple_code name password
 
 -- protocolError for a version other than 3
 abbrev pub bind_code : BindRequest → ℕ
-bind_code b = if b.version == 3 then auth_code b.name b.auth else 2
+bind_code bind = if bind.version == 3 then auth_code bind.name bind.auth else 2
 
 -- protocolError for an extended operation, unwillingToPerform for any other that isn't built yet
 abbrev pub unbuilt_code : ℕ → ℕ
@@ -52,7 +52,7 @@ unbuilt_code tag = if tag == 0x77 then 2 else 53
 
 -- the reply to a request, with unwillingToPerform where controls follow it; none to an unbind or an abandon
 abbrev pub reply_to : Bool → Request → Option Reply
-reply_to marked (request.Bind b) = Some (reply.Bind (coded (if marked then 53 else bind_code b)))
+reply_to marked (request.Bind bind) = Some (reply.Bind (coded (if marked then 53 else bind_code bind)))
 reply_to marked request.Unbind = None
 reply_to marked (request.Abandon id) = None
 reply_to marked (request.Unbuilt tag) = Some (response_to tag (coded (if marked then 53 else unbuilt_code tag)))
@@ -60,13 +60,13 @@ reply_to marked (request.Unbuilt tag) = Some (response_to tag (coded (if marked 
 -- an unbind closes
 abbrev pub is_unbind : Request → Bool
 is_unbind request.Unbind = true
-is_unbind (request.Bind b) = false
+is_unbind (request.Bind bind) = false
 is_unbind (request.Abandon id) = false
 is_unbind (request.Unbuilt tag) = false
 
 -- who the requester is after a request: a bind makes it anonymous
 abbrev pub requester_after : Requester → Request → Requester
-requester_after who (request.Bind b) = Anonymous
+requester_after who (request.Bind bind) = Anonymous
 requester_after who request.Unbind = who
 requester_after who (request.Abandon id) = who
 requester_after who (request.Unbuilt tag) = who
@@ -74,17 +74,17 @@ requester_after who (request.Unbuilt tag) = who
 -- the octets of a reply, if there is one
 abbrev pub octets_of : ℕ → Option Reply → List ℕ
 octets_of id None = []
-octets_of id (Some r) = reply_octets id r
+octets_of id (Some response) = reply_octets id response
 
--- the answer to a message, or to octets that are none: these get the notice of disconnection, and the connection closes
+-- the answer to a message, or to octets that are none: those get the notice of disconnection, which closes
 abbrev pub answer_read : {T : Type 0} → T → Requester → Option Message → Answered T Requester
-answer_read t who None = record { replies = notice_octets; tree = t; who = who; closes = true }
-answer_read t who (Some m) =
+answer_read tree who None = record { replies = notice_octets; tree = tree; who = who; closes = true }
+answer_read tree who (Some message) =
     record {
-      replies = octets_of m.id (reply_to m.marked m.request);
-      tree = t;
-      who = requester_after who m.request;
-      closes = is_unbind m.request;
+      replies = octets_of message.id (reply_to message.marked message.request);
+      tree = tree;
+      who = requester_after who message.request;
+      closes = is_unbind message.request;
     }
 
 -- nothing is served yet
@@ -93,4 +93,4 @@ Tree = Unit {0}
 
 -- the rules of this server
 unfoldable pub rules : Rules Tree Requester
-rules = record { nobody = Anonymous; answer = λ t who bytes. answer_read t who (message_of bytes) }
+rules = record { nobody = Anonymous; answer = λ tree who bytes. answer_read tree who (message_of bytes) }

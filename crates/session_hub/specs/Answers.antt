@@ -8,10 +8,10 @@ use Rattle.session_hub.specs.declared.outcome.Outcome.{Outcome}
 use Rattle.session_hub.specs.Answering.{Tree, rules}
 
 -- the octets sent and the outcome are those of the answer
-pub record Gives (a : Answered Tree Requester) (old new : List ℕ) (outcome : Outcome) : Type 0 where
-  pub said : new ≡ old ++ a.replies
-  pub who : outcome.who ≡ a.who
-  pub closes : outcome.closes ≡ a.closes
+pub record Gives (answered : Answered Tree Requester) (old new : List ℕ) (outcome : Outcome) : Type 0 where
+  pub said : new ≡ old ++ answered.replies
+  pub who : outcome.who ≡ answered.who
+  pub closes : outcome.closes ≡ answered.closes
 
 -- what is said to a stream by this server
 abbrev pub said_to : Requester → List ℕ → Answered Tree Requester

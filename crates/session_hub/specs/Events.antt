@@ -5,6 +5,6 @@ use Rattle.session_hub.specs.declared.event.Event.TheVariants as event
 
 -- an event as a step of its session
 abbrev pub step_of : Event → Step
-step_of (event.Opened c) = Opened c
-step_of (event.Bytes c octets) = Bytes c octets.now
-step_of (event.Ended c) = Ended c
+step_of (event.Opened number) = Opened number
+step_of (event.Bytes number octets) = Bytes number octets.now
+step_of (event.Ended number) = Ended number

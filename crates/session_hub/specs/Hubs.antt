@@ -14,39 +14,39 @@ held kept = record { tree = tt; kept = kept }
 
 -- the connections held after a step
 unfoldable pub held_after : Step → List (Kept Requester) → List (Kept Requester)
-held_after s kept = (heard rules s (held kept)).kept
+held_after next kept = (heard rules next (held kept)).kept
 
 -- a step that takes memory: the opening of a connection that is then held, and octets of one that is open
 abbrev pub TakesMemory : Step → List (Kept Requester) → Type 0
-TakesMemory (Opened c) kept = (is_kept (kept_of c kept) ≡ false) × (length kept < most_held)
-TakesMemory (Bytes c piece) kept = (is_kept (kept_of c kept) ≡ true) × (closing_of c kept ≡ false)
-TakesMemory (Ended c) kept = ⊥
-TakesMemory (Gone c) kept = ⊥
-TakesMemory (HungUp c) kept = ⊥
+TakesMemory (Opened number) kept = (is_kept (kept_of number kept) ≡ false) × (length kept < most_held)
+TakesMemory (Bytes number piece) kept = (is_kept (kept_of number kept) ≡ true) × (closing_of number kept ≡ false)
+TakesMemory (Ended number) kept = ⊥
+TakesMemory (Gone number) kept = ⊥
+TakesMemory (HungUp number) kept = ⊥
 
 -- but for one number the connections held are the same
 abbrev pub OthersStay : ℕ → List (Kept Requester) → List (Kept Requester) → Type 0
-OthersStay c old new = forgotten c new ≡ forgotten c old
+OthersStay number old new = forgotten number new ≡ forgotten number old
 
 -- each connection held has at most so many unread octets
 abbrev pub IsBounded : List (Kept Requester) → Type 0
-IsBounded kept = AllByRecursion (λ k. length k.rest ≤ most_unread) kept
+IsBounded kept = AllByRecursion (λ connection. length connection.rest ≤ most_unread) kept
 
--- the connections held are those of the sessions u, of which so much of each reply was taken
+-- the connections held are those of these sessions, of which so much of each reply was taken
 abbrev pub IsHubOf : Sessions Tree Requester → (ℕ → ℕ) → List (Kept Requester) → Type 0
-IsHubOf u taken kept = Keeps u taken (held kept)
+IsHubOf sessions taken kept = Keeps sessions taken (held kept)
 
 -- of a session, the reply beyond what was taken, where it is held
 abbrev pub left_of : Session Requester → ℕ → List ℕ
-left_of s taken = cond (is_held s.state) (drop taken s.reply) []
+left_of session taken = cond (is_held session.state) (drop taken session.reply) []
 
 -- the connection of the number is at this place
-pub record IsAt (c at : ℕ) (kept : List (Kept Requester)) : Type 0 where
+pub record IsAt (number at : ℕ) (kept : List (Kept Requester)) : Type 0 where
   pub within : at < length kept
-  pub found : slice_get kept at ≡ kept_of c kept
-  pub changes : (f : Kept Requester → Kept Requester) (k : Kept Requester) → kept_of c kept ≡ Some k → changed c f kept ≡ slice_set kept at (f k)
+  pub found : slice_get kept at ≡ kept_of number kept
+  pub changes : (change : Kept Requester → Kept Requester) (connection : Kept Requester) → kept_of number kept ≡ Some connection → changed number change kept ≡ slice_set kept at (change connection)
 
 -- none of the first connections has the number
-pub record NoneBefore (c at : ℕ) (kept : List (Kept Requester)) : Type 0 where
-  pub found : kept_of c kept ≡ kept_of c (drop at kept)
-  pub changes : (f : Kept Requester → Kept Requester) → changed c f kept ≡ take at kept ++ changed c f (drop at kept)
+pub record NoneBefore (number at : ℕ) (kept : List (Kept Requester)) : Type 0 where
+  pub found : kept_of number kept ≡ kept_of number (drop at kept)
+  pub changes : (change : Kept Requester → Kept Requester) → changed number change kept ≡ take at kept ++ changed number change (drop at kept)

@@ -1,12 +1,12 @@
 -- what public clauses cite
 pub mod Answering
-pub mod Answers
 pub mod Limits
 pub mod Hubs
 pub mod Events
 pub mod Following
 pub mod Loops
--- what only the crate's inside promises itself
+-- for the inside of the crate alone
+pub mod Answers
 pub mod Telling
 pub mod Adding
 pub mod Turns

@@ -1,18 +1,18 @@
--- The event that a link told, as a hub hears it.
+-- The event of a link, as its journal has it and as a hub hears it.
 use Rattle.std.specs.Prelude.{◌≡◌, ℕ}
-use Rattle.wire_io.specs.declared.journal.Event.{Event as Told}
-use Rattle.wire_io.specs.declared.journal.Event.TheVariants as told
+use Rattle.wire_io.specs.declared.journal.Event.{Event as JournalEvent}
+use Rattle.wire_io.specs.declared.journal.Event.TheVariants as journal_event
 use Rattle.session_hub.specs.declared.event.Event.{Event}
 use Rattle.session_hub.specs.declared.event.Event.TheVariants as event
 
--- as a link's journal has it
-abbrev pub told_of : Event → Told
-told_of (event.Opened c) = told.Opened c
-told_of (event.Bytes c octets) = told.Bytes c octets.now
-told_of (event.Ended c) = told.Ended c
+-- the event as the link's journal has it
+abbrev pub journal_event_of : Event → JournalEvent
+journal_event_of (event.Opened number) = journal_event.Opened number
+journal_event_of (event.Bytes number octets) = journal_event.Bytes number octets.now
+journal_event_of (event.Ended number) = journal_event.Ended number
 
 -- octets of this connection, or its end
 abbrev pub IsOf : ℕ → Event → Type 0
-IsOf conn (event.Opened c) = ⊥
-IsOf conn (event.Bytes c octets) = c ≡ conn
-IsOf conn (event.Ended c) = c ≡ conn
+IsOf conn (event.Opened number) = ⊥
+IsOf conn (event.Bytes number octets) = number ≡ conn
+IsOf conn (event.Ended number) = number ≡ conn

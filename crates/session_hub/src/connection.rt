@@ -29,9 +29,9 @@ impl Model for Connection {
 
     ghost Value = { Kept Requester };
 
-    ghost view = { λ c. record { number = c.number; rest = c.rest.items; who = c.who; queue = drop c.taken c.out.items; closing = c.closing } };
+    ghost view = { λ connection. record { number = connection.number; rest = connection.rest.items; who = connection.who; queue = drop connection.taken connection.out.items; closing = connection.closing } };
 
-    ghost invariant = { λ c. c.taken ≤ length c.out.items };
+    ghost invariant = { λ connection. connection.taken ≤ length connection.out.items };
 }
 
 impl Connection {
@@ -89,7 +89,8 @@ impl Connection {
     }
 
     /// Hears a piece of an open connection: its whole messages are answered, and what is left is
-    /// kept unless the connection closes now. After `AllocError` the unread octets are lost.
+    /// kept unless the connection closes now. After `AllocError` the piece is lost, or all that was
+    /// unread.
     pub fn hear(&mut self, alloc: Global, piece: &[u8]) -> Result<(), AllocError>
         ensures ok { OnOk result (self.new ≡ heard_piece rules piece.now self.old (said_to self.old.who (self.old.rest ++ piece.now))) }
         ensures number { self.new.number ≡ self.old.number }

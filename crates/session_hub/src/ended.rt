@@ -7,7 +7,7 @@ pub enum Ended {
     Stopped,
     /// As many events were heard as there were turns, and none was Stop.
     TurnsSpent,
-    /// The link's `next` failed, and its count of faults rose.
+    /// The link failed to give an event, which its count of faults shows.
     LinkFault,
     /// There was no memory.
     NoMemory,

@@ -5,7 +5,7 @@ ghost use Rattle.session_model.specs.Run as run;
 ghost use Rattle.session_model.specs.Kept.{queue_of, closing_of, taken_off, forgotten};
 ghost use Rattle.session_hub.specs.Hubs.{held_after, IsBounded, TakesMemory, OthersStay};
 ghost use Rattle.session_model.specs.Replaying.{number_of};
-ghost use Rattle.session_hub.specs.Following.{FollowsStep, FollowsTaking, QueuesReply, ClosesWith, CountsHeld};
+ghost use Rattle.session_hub.specs.Following.{FollowsStart, FollowsStep, FollowsTaking, QueuesReply, ClosesWith, CountsHeld};
 ghost use Rattle.session_hub.specs.Events.{step_of};
 
 use crate::Event;
@@ -34,15 +34,16 @@ impl Model for Hub {
 
     ghost use Rattle.session_hub.specs.Hubs.{IsBounded};
 
-    ghost view = { λ h. h.connections.items };
+    ghost view = { λ hub. hub.connections.items };
 
-    ghost invariant = { λ h. IsBounded h.connections.items };
+    ghost invariant = { λ hub. IsBounded hub.connections.items };
 }
 
 impl Hub {
     /// A hub that holds nothing. This takes no memory today; the error is for hubs that keep tables.
     pub fn new(alloc: Global) -> Result<Hub, AllocError>
         ensures ok { IfOk result (λ hub. hub ≡ []) }
+        ensures run { IfOk result FollowsStart }
     {
         Ok(Hub {
             alloc,
@@ -67,7 +68,7 @@ impl Hub {
         queue_at(&self.connections, conn)
     }
 
-    /// Whether the connection is to be hung up once its queue is empty.
+    /// Whether the connection is to be hung up when nothing is left in its queue.
     pub fn closing(&self, conn: u32) -> bool
         ensures exact { result ≡ closing_of conn self.now }
         ensures run { ClosesWith conn self.now result }
@@ -75,7 +76,8 @@ impl Hub {
         closing_at(&self.connections, conn)
     }
 
-    /// The first octets of the connection's queue were taken. No memory is taken.
+    /// The first `count` octets of the connection's queue, which has as many, were taken. No memory is
+    /// taken.
     pub fn took(&mut self, conn: u32, count: usize)
         requires { count ≤ length (queue_of conn self.old) }
         ensures exact { self.new ≡ taken_off conn count self.old }
@@ -84,9 +86,9 @@ impl Hub {
         take_off(&mut self.connections, conn, count);
     }
 
-    /// Hears an event (RFC 4511 5.1): a connection that opens is held where there is room, the
-    /// whole messages of octets are answered, and the end of a peer's octets closes. An event of a
-    /// connection that isn't held, and the opening of one that is, change nothing.
+    /// Hears an event (RFC 4511 5): a connection that opens is held where there is room, the
+    /// whole messages of octets are answered, and the end of a peer's octets closes. Nothing is
+    /// changed by the events of connections that aren't held, nor by the opening of one that is.
     /// `AllocError` comes where a connection is to be held or octets are to be answered, and there is
     /// no memory; the other connections are then as they were.
     pub fn hear(&mut self, event: Event<'_>) -> Result<(), AllocError>

@@ -1,4 +1,4 @@
-//! The hub of all sessions (RFC 4511 5.1): it hears what connections send, and answers each message.
+//! The hub of all sessions (RFC 4511 5): it hears what connections send, and answers each message.
 #![tactic(auto)]
 
 mod connection;

@@ -68,7 +68,7 @@ fn take_turn<L: Link>(hub: &mut Hub, link: &mut L, buffer: &mut [u8]) -> Result<
         (L.journal link.old) (L.plan link.old) hub.old (L.journal link.new) (L.plan link.new) hub.new) }
     ensures err { IfErr result (λ ended. EndsWith
         (L.journal link.old) (L.plan link.old) hub.old ended (L.journal link.new) (L.plan link.new)) }
-    ensures faults { OnOk result (NeverFalls (L.faults link.old) (L.faults link.new)) }
+    ensures faults { OnOk result (L.faults link.new ≡ L.faults link.old) }
     ensures cause { IfErr result (λ ended. EndsFor (L.plan link.old) (L.faults link.old) (L.faults link.new) ended) }
     ensures lost { NeverFalls (L.lost link.old) (L.lost link.new) }
 {
@@ -108,8 +108,10 @@ fn serve_in<L: Link>(hub: Hub, link: &mut L, buffer: &mut [u8], turns: u64) -> E
 }
 
 /// Serves a link's connections until it gives Stop or so many events were heard, and says why it
-/// ended (RFC 4511 5.1). The journal of a link that tells one then serves them: nothing is sent
-/// but replies, nothing is left unsent, and each connection is hung up in its own block.
+/// ended (RFC 4511 5.3). Where the link tells its journal and each write took octets, the journal
+/// then serves them: nothing is sent but replies, nothing is left unsent, and each connection is
+/// hung up in its own block. With `NoMemory` the last block may be unfinished. `LinkFault` says
+/// that the link failed, which its count of faults shows.
 pub fn serve_loop<L: Link>(alloc: Global, link: &mut L, turns: u64) -> Ended
     ensures served { Serves turns (L.journal link.old) result (L.journal link.new) }
     ensures plays { PlaysOut turns (L.journal link.old) (L.plan link.old) result (L.journal link.new) (L.plan link.new) }

@@ -2,13 +2,14 @@
 
 ghost use Rattle.std.specs.Prelude.{◌≡◌, ◌<◌, Bool, false, [], length, OnOk, OnErr};
 ghost use Rattle.plain_values.specs.Counts.{NeverFalls};
-ghost use Rattle.session_model.specs.Kept.{queue_of};
+ghost use Rattle.session_model.specs.Kept.{queue_of, forgotten};
 ghost use Rattle.session_model.specs.Serving.{Sound};
 ghost use Rattle.wire_io.specs.Telling.{NoteTells};
 ghost use Rattle.wire_io.specs.declared.journal.Event.TheVariants as event;
 ghost use Rattle.wire_io.specs.declared.journal.Item.TheVariants as item;
 ghost use Rattle.session_hub.specs.Answering.{rules};
-ghost use Rattle.session_hub.specs.Telling.{told_of, IsOf};
+ghost use Rattle.session_hub.specs.Hubs.{OthersStay};
+ghost use Rattle.session_hub.specs.Telling.{journal_event_of, IsOf};
 ghost use Rattle.session_hub.specs.Adding.{Adds, Never, IsCalm, IsBusy, IsSent, IsHeard};
 ghost use Rattle.session_hub.specs.Loops.{HangsUpRefused};
 
@@ -24,7 +25,7 @@ fn drop_lost<L: Link>(hub: &mut Hub, link: &mut L, conn: u32) -> Result<(), Allo
     ensures err { OnErr result (Adds (L.plan link.old)
         Never (Sound rules tt) (L.journal link.old) (L.journal link.new)) }
     ensures hung_up { NoteTells (L.journal link.old) (item.HungUp conn) result (L.journal link.new) }
-    ensures emptied { queue_of conn hub.new ≡ [] }
+    ensures forgets { hub.new ≡ forgotten conn hub.old }
     ensures plan { L.plan link.new ≡ L.plan link.old }
     ensures faults { L.faults link.new ≡ L.faults link.old }
     ensures lost { NeverFalls (L.lost link.old) (L.lost link.new) }
@@ -42,6 +43,7 @@ fn send_some<L: Link>(hub: &mut Hub, link: &mut L, conn: u32) -> Result<(), Allo
     ensures err { (turned : Bool) → OnErr result (Adds (L.plan link.old)
         (IsBusy conn turned hub.old) (Sound rules tt) (L.journal link.old) (L.journal link.new)) }
     ensures falls { OnOk result (length (queue_of conn hub.new) < length (queue_of conn hub.old)) }
+    ensures others { OthersStay conn hub.old hub.new }
     ensures refused { OnOk result (HangsUpRefused (L.journal link.old) (L.journal link.new)) }
     ensures plan { L.plan link.new ≡ L.plan link.old }
     ensures faults { L.faults link.new ≡ L.faults link.old }
@@ -63,6 +65,7 @@ pub fn send_queue<L: Link>(hub: &mut Hub, link: &mut L, conn: u32) -> Result<(),
         (IsBusy conn turned hub.old) (IsSent conn turned hub.new) (L.journal link.old) (L.journal link.new)) }
     ensures err { (turned : Bool) → OnErr result (Adds (L.plan link.old)
         (IsBusy conn turned hub.old) (Sound rules tt) (L.journal link.old) (L.journal link.new)) }
+    ensures others { OthersStay conn hub.old hub.new }
     ensures refused { OnOk result (HangsUpRefused (L.journal link.old) (L.journal link.new)) }
     ensures plan { L.plan link.new ≡ L.plan link.old }
     ensures faults { L.faults link.new ≡ L.faults link.old }
@@ -80,6 +83,7 @@ pub fn finish<L: Link>(hub: &mut Hub, link: &mut L, conn: u32) -> Result<(), All
         (IsBusy conn false hub.old) (IsCalm hub.new) (L.journal link.old) (L.journal link.new)) }
     ensures err { OnErr result (Adds (L.plan link.old)
         (IsBusy conn false hub.old) (Sound rules tt) (L.journal link.old) (L.journal link.new)) }
+    ensures others { OthersStay conn hub.old hub.new }
     ensures refused { OnOk result (HangsUpRefused (L.journal link.old) (L.journal link.new)) }
     ensures plan { L.plan link.new ≡ L.plan link.old }
     ensures faults { L.faults link.new ≡ L.faults link.old }
@@ -124,9 +128,9 @@ pub fn hear_and_finish<L: Link>(
 ) -> Result<(), AllocError>
     requires { IsOf conn heard }
     ensures ok { OnOk result (Adds (L.plan link.old)
-        (IsHeard hub.old (told_of heard.entry)) (IsCalm hub.new) (L.journal link.old) (L.journal link.new)) }
+        (IsHeard hub.old (journal_event_of heard.entry)) (IsCalm hub.new) (L.journal link.old) (L.journal link.new)) }
     ensures err { OnErr result (Adds (L.plan link.old)
-        (IsHeard hub.old (told_of heard.entry)) (Sound rules tt) (L.journal link.old) (L.journal link.new)) }
+        (IsHeard hub.old (journal_event_of heard.entry)) (Sound rules tt) (L.journal link.old) (L.journal link.new)) }
     ensures refused { OnOk result (HangsUpRefused (L.journal link.old) (L.journal link.new)) }
     ensures plan { L.plan link.new ≡ L.plan link.old }
     ensures faults { L.faults link.new ≡ L.faults link.old }

@@ -17,7 +17,7 @@ pub struct Spoken {
 }
 
 /// Answers the whole messages of a stream in their order until one closes, where they lie, and
-/// sends the notice where none of them does and the stream can't go on (RFC 4511 4.4.1, 5.1).
+/// sends the notice where none of them does and the stream can't go on (RFC 4511 4.4.1, 5).
 pub fn speak(
     alloc: Global,
     requester: Requester,

@@ -6,7 +6,7 @@ use Rattle.wire_io.specs.declared.journal.Item.{Item}
 use Rattle.wire_io.specs.declared.journal.Item.TheVariants as item
 use Rattle.wire_io.specs.Journal.{taken_of, is_hung_up}
 use Rattle.session_model.specs.Rules.{Rules}
-use Rattle.session_model.specs.Run.{Session, Sessions, State, Open, Closing, TurnedAway, Away, Unopened, Step, HungUp, step, with_session}
+use Rattle.session_model.specs.Run.{Session, Sessions, State, Open, Closing, TurnedAway, Away, Unopened, HungUp, step}
 use Rattle.session_model.specs.Run as session
 use Rattle.session_model.specs.Kept.{Held, queue_of, closing_of, taken_off, forgotten}
 use Rattle.session_model.specs.Keeping.{is_listed, shown, more_taken}

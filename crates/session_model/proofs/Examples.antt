@@ -7,9 +7,9 @@ use Rattle.ldap_msg.specs.Replies.{notice_octets}
 use Rattle.wire_io.specs.declared.journal.Event.TheVariants as event
 use Rattle.wire_io.specs.declared.journal.Item.{Item}
 use Rattle.wire_io.specs.declared.journal.Item.TheVariants as item
-use Rattle.session_model.specs.Rules.{Rules, Answered, talk}
-use Rattle.session_model.specs.Run.{Session, Sessions, State, Unopened, Open, Closing, TurnedAway, Away, Step, Opened, Bytes, Ended, Gone, HungUp, start, step, run, run_from, held_numbers}
-use Rattle.session_model.specs.Kept.{Kept, speech, heard}
+use Rattle.session_model.specs.Rules.{Rules, talk}
+use Rattle.session_model.specs.Run.{State, Closing, Step, Opened, Bytes, Ended, Gone, HungUp, start, step, run, run_from, held_numbers}
+use Rattle.session_model.specs.Kept.{speech, heard}
 use Rattle.session_model.specs.Journaled.{steps_of, all_taken, later_from, is_later}
 
 -- an empty message closes, and is not said back

@@ -1,5 +1,5 @@
 -- Journals with one more item.
-use Rattle.std.proofs.Common.{◌≡◌, ℕ, ◌==◌, Bool, true, false, cond, ◌&&◌, ◌||◌, List, [], ◌∷◌, ◌++◌, refl, ap, sym, ◌∙◌, append_assoc, append-nil, arith, inl, inr, ◌⊎◌, subst}
+use Rattle.std.proofs.Common.{◌≡◌, ℕ, ◌==◌, Bool, false, cond, ◌&&◌, ◌||◌, List, [], ◌∷◌, ◌++◌, refl, ap, sym, ◌∙◌, append_assoc, append-nil, arith, inl, inr, ◌⊎◌, subst}
 use Rattle.std.proofs.lemmas.Bool.Decides.{nat_tests}
 use Rattle.wire_io.specs.declared.journal.Event.{Event}
 use Rattle.wire_io.specs.declared.journal.Item.{Item}
@@ -48,16 +48,6 @@ pub was_opened-append : (c : ℕ) (j k : List Item) → was_opened c (j ++ k) �
 unfolding was_opened
 was_opened-append c [] k = refl
 was_opened-append c (x ∷ j) k = grind (arith, was_opened-append c j k)
-
--- the events of one item
-heard_at : Item → List Event
-heard_at (item.Heard e) = e ∷ []
-heard_at _ = []
-
--- an item that is no event adds none
-pub is_event : Item → Bool
-is_event (item.Heard e) = true
-is_event _ = false
 
 pub heard-append : (j : List Item) (e : Event) → heard (j ++ item.Heard e ∷ []) ≡ heard j ++ e ∷ []
 unfolding heard

@@ -6,35 +6,35 @@ use Rattle.session_model.specs.Kept.{Kept, Held, kept_of}
 
 -- whether a number is listed
 abbrev pub is_listed : ℕ → List ℕ → Bool
-is_listed c [] = false
-is_listed c (d ∷ ds) = (d == c) || is_listed c ds
+is_listed number [] = false
+is_listed number (first ∷ numbers) = (first == number) || is_listed number numbers
 
 -- what is kept of a session, if it is held: the rest of its stream while it is open, and the reply beyond what was taken
 abbrev pub shown : {W : Type 0} → State → ℕ → ℕ → Session W → Option (Kept W)
-shown Open c taken s =
-    Some (record { number = c; rest = rest_of s.stream; who = s.who; queue = drop taken s.reply; closing = false })
-shown Closing c taken s =
-    Some (record { number = c; rest = []; who = s.who; queue = drop taken s.reply; closing = true })
-shown Unopened c taken s = None
-shown TurnedAway c taken s = None
-shown Away c taken s = None
+shown Open number taken session =
+    Some (record { number = number; rest = rest_of session.stream; who = session.who; queue = drop taken session.reply; closing = false })
+shown Closing number taken session =
+    Some (record { number = number; rest = []; who = session.who; queue = drop taken session.reply; closing = true })
+shown Unopened number taken session = None
+shown TurnedAway number taken session = None
+shown Away number taken session = None
 
 -- the tree and the connections held are those of these sessions
-pub record Keeps {T W : Type 0} (u : Sessions T W) (taken : ℕ → ℕ) (h : Held T W) : Type 0 where
-  pub tree : h.tree ≡ u.tree
-  pub numbers : map (λ k. k.number) h.kept ≡ held_numbers u
-  pub each : (c : ℕ) → kept_of c h.kept ≡ shown (u.of c).state c (taken c) (u.of c)
-  pub within : (c : ℕ) → taken c ≤ length (u.of c).reply
-  pub unopened : (c : ℕ) → is_listed c u.opened ≡ false → ((u.of c).reply ≡ []) × (is_held (u.of c).state ≡ false)
+pub record Keeps {T W : Type 0} (sessions : Sessions T W) (taken : ℕ → ℕ) (held : Held T W) : Type 0 where
+  pub tree : held.tree ≡ sessions.tree
+  pub numbers : map (λ connection. connection.number) held.kept ≡ held_numbers sessions
+  pub each : (number : ℕ) → kept_of number held.kept ≡ shown (sessions.of number).state number (taken number) (sessions.of number)
+  pub within : (number : ℕ) → taken number ≤ length (sessions.of number).reply
+  pub unopened : (number : ℕ) → is_listed number sessions.opened ≡ false → ((sessions.of number).reply ≡ []) × (is_held (sessions.of number).state ≡ false)
 
 -- so many more octets of one connection's reply were taken
 abbrev pub more_taken : ℕ → ℕ → (ℕ → ℕ) → ℕ → ℕ
-more_taken c n taken d = cond (d == c) (taken d + n) (taken d)
+more_taken number count taken other = cond (other == number) (taken other + count) (taken other)
 
 -- a step opens no number that was opened before
 abbrev pub IsNew : {T W : Type 0} → Sessions T W → Step → Type 0
-IsNew u (Opened c) = is_listed c u.opened ≡ false
-IsNew u (Bytes c piece) = Unit {0}
-IsNew u (Ended c) = Unit {0}
-IsNew u (Gone c) = Unit {0}
-IsNew u (HungUp c) = Unit {0}
+IsNew sessions (Opened number) = is_listed number sessions.opened ≡ false
+IsNew sessions (Bytes number piece) = Unit {0}
+IsNew sessions (Ended number) = Unit {0}
+IsNew sessions (Gone number) = Unit {0}
+IsNew sessions (HungUp number) = Unit {0}

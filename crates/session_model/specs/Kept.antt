@@ -14,41 +14,41 @@ pub record Kept (W : Type 0) : Type 0 where
 
 -- the connection of a number, if it is held
 abbrev pub kept_of : {W : Type 0} → ℕ → List (Kept W) → Option (Kept W)
-kept_of c [] = None
-kept_of c (k ∷ ks) = cond (k.number == c) (Some k) (kept_of c ks)
+kept_of number [] = None
+kept_of number (connection ∷ connections) = cond (connection.number == number) (Some connection) (kept_of number connections)
 
 -- whether a connection is held
 abbrev pub is_kept : {W : Type 0} → Option (Kept W) → Bool
 is_kept None = false
-is_kept (Some k) = true
+is_kept (Some connection) = true
 
 -- the octets still to be sent to a connection
 abbrev pub queue_of : {W : Type 0} → ℕ → List (Kept W) → List ℕ
-queue_of c [] = []
-queue_of c (k ∷ ks) = cond (k.number == c) k.queue (queue_of c ks)
+queue_of number [] = []
+queue_of number (connection ∷ connections) = cond (connection.number == number) connection.queue (queue_of number connections)
 
 -- whether a connection is closing
 abbrev pub closing_of : {W : Type 0} → ℕ → List (Kept W) → Bool
-closing_of c [] = false
-closing_of c (k ∷ ks) = cond (k.number == c) k.closing (closing_of c ks)
+closing_of number [] = false
+closing_of number (connection ∷ connections) = cond (connection.number == number) connection.closing (closing_of number connections)
 
 -- the connections held, with the first of this number changed
 abbrev pub changed : {W : Type 0} → ℕ → (Kept W → Kept W) → List (Kept W) → List (Kept W)
-changed c f [] = []
-changed c f (k ∷ ks) = cond (k.number == c) (f k ∷ ks) (k ∷ changed c f ks)
+changed number change [] = []
+changed number change (connection ∷ connections) = cond (connection.number == number) (change connection ∷ connections) (connection ∷ changed number change connections)
 
 -- a connection without the first octets of its queue
 abbrev pub without_front : {W : Type 0} → ℕ → Kept W → Kept W
-without_front n k = record k { queue = drop n k.queue }
+without_front count connection = record connection { queue = drop count connection.queue }
 
 -- so many octets were taken of a connection's queue
 abbrev pub taken_off : {W : Type 0} → ℕ → ℕ → List (Kept W) → List (Kept W)
-taken_off c n = changed c (without_front n)
+taken_off number count = changed number (without_front count)
 
 -- a connection is forgotten
 abbrev pub forgotten : {W : Type 0} → ℕ → List (Kept W) → List (Kept W)
-forgotten c [] = []
-forgotten c (k ∷ ks) = cond (k.number == c) (forgotten c ks) (k ∷ forgotten c ks)
+forgotten number [] = []
+forgotten number (connection ∷ connections) = cond (connection.number == number) (forgotten number connections) (connection ∷ forgotten number connections)
 
 -- the tree, and the connections held
 pub record Held (T W : Type 0) : Type 0 where
@@ -57,43 +57,43 @@ pub record Held (T W : Type 0) : Type 0 where
 
 -- a connection that hears no more: nothing of it is left to read
 abbrev pub closed : {W : Type 0} → Kept W → Kept W
-closed k = record k { rest = []; closing = true }
+closed connection = record connection { rest = []; closing = true }
 
-module _ {T W : Type 0} (r : Rules T W) where
+module _ {T W : Type 0} (rules : Rules T W) where
   -- a connection that has just opened
   abbrev pub opened_kept : ℕ → Kept W
-  opened_kept c = record { number = c; rest = []; who = r.nobody; queue = []; closing = false }
+  opened_kept number = record { number = number; rest = []; who = rules.nobody; queue = []; closing = false }
 
   -- the answers to a stream's messages, and the notice where none of them closes and the stream is broken
   unfoldable pub speech : T → W → List ℕ → Answered T W
-  speech t w stream =
-      let a = talk r t w (whole stream) in
-      let fault = not a.closes && is_broken stream in
-      record { replies = a.replies ++ notice_if fault; tree = a.tree; who = a.who; closes = a.closes || fault }
+  speech tree who stream =
+      let answered = talk rules tree who (whole stream) in
+      let fault = not answered.closes && is_broken stream in
+      record { replies = answered.replies ++ notice_if fault; tree = answered.tree; who = answered.who; closes = answered.closes || fault }
 
   -- an open connection after a piece, by what is said to its unread octets and the piece
   abbrev pub heard_piece : List ℕ → Kept W → Answered T W → Kept W
-  heard_piece piece k a =
+  heard_piece piece connection answered =
       record {
-        number = k.number;
-        rest = cond a.closes [] (rest_of (k.rest ++ piece));
-        who = a.who;
-        queue = k.queue ++ a.replies;
-        closing = a.closes;
+        number = connection.number;
+        rest = cond answered.closes [] (rest_of (connection.rest ++ piece));
+        who = answered.who;
+        queue = connection.queue ++ answered.replies;
+        closing = answered.closes;
       }
 
   -- a piece for a connection that may be held, and may be closing
   abbrev pub hears_kept : Option (Kept W) → ℕ → List ℕ → Held T W → Held T W
-  hears_kept None c piece h = h
-  hears_kept (Some k) c piece h =
-      let a = speech h.tree k.who (k.rest ++ piece) in
-      cond k.closing h (record { tree = a.tree; kept = changed c (λ _. heard_piece piece k a) h.kept })
+  hears_kept None number piece held = held
+  hears_kept (Some connection) number piece held =
+      let answered = speech held.tree connection.who (connection.rest ++ piece) in
+      cond connection.closing held (record { tree = answered.tree; kept = changed number (λ _. heard_piece piece connection answered) held.kept })
 
   -- what a step leaves of the connections held, and of the tree
   unfoldable pub heard : Step → Held T W → Held T W
-  heard (Opened c) h =
-      record h { kept = cond (is_kept (kept_of c h.kept) || not (nat_lt (length h.kept) most_held)) h.kept (h.kept ++ opened_kept c ∷ []) }
-  heard (Bytes c piece) h = hears_kept (kept_of c h.kept) c piece h
-  heard (Ended c) h = record h { kept = changed c closed h.kept }
-  heard (Gone c) h = record h { kept = forgotten c h.kept }
-  heard (HungUp c) h = record h { kept = forgotten c h.kept }
+  heard (Opened number) held =
+      record held { kept = cond (is_kept (kept_of number held.kept) || not (nat_lt (length held.kept) most_held)) held.kept (held.kept ++ opened_kept number ∷ []) }
+  heard (Bytes number piece) held = hears_kept (kept_of number held.kept) number piece held
+  heard (Ended number) held = record held { kept = changed number closed held.kept }
+  heard (Gone number) held = record held { kept = forgotten number held.kept }
+  heard (HungUp number) held = record held { kept = forgotten number held.kept }

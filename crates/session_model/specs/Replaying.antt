@@ -9,11 +9,11 @@ use Rattle.session_model.specs.Serving.{sessions}
 
 -- the connection of a step
 abbrev pub number_of : Step → ℕ
-number_of (Opened c) = c
-number_of (Bytes c piece) = c
-number_of (Ended c) = c
-number_of (Gone c) = c
-number_of (HungUp c) = c
+number_of (Opened number) = number
+number_of (Bytes number piece) = number
+number_of (Ended number) = number
+number_of (Gone number) = number
+number_of (HungUp number) = number
 
 -- a connection that is to be hung up
 abbrev pub is_leaving : State → Bool
@@ -39,26 +39,26 @@ is_away Open = false
 is_away Closing = false
 is_away TurnedAway = false
 
-module _ {T W : Type 0} (r : Rules T W) where
+module _ {T W : Type 0} (rules : Rules T W) where
   -- a connection that is to be hung up is
   abbrev pub hung_up : ℕ → Sessions T W → Sessions T W
-  hung_up c u = cond (is_leaving (u.of c).state) (step r u (HungUp c)) u
+  hung_up number sessions = cond (is_leaving (sessions.of number).state) (step rules sessions (HungUp number)) sessions
 
   -- a step, and then its connection is hung up if it is to be
   abbrev pub step_and_hang_up : Sessions T W → Step → Sessions T W
-  step_and_hang_up u s = hung_up (number_of s) (step r u s)
+  step_and_hang_up sessions next = hung_up (number_of next) (step rules sessions next)
 
   -- such steps in their order
   unfoldable pub replayed_from : Sessions T W → List Step → Sessions T W
-  replayed_from u [] = u
-  replayed_from u (s ∷ steps) = replayed_from (step_and_hang_up u s) steps
+  replayed_from sessions [] = sessions
+  replayed_from sessions (next ∷ steps) = replayed_from (step_and_hang_up sessions next) steps
 
   -- the same from the beginning
   abbrev pub replayed : T → List Step → Sessions T W
-  replayed t steps = replayed_from (start r t) steps
+  replayed tree steps = replayed_from (start rules tree) steps
 
   -- the journal is that of its events replayed: the sessions are the same, all replies were taken, and whoever left was hung up
-  pub record IsReplay (t : T) (journal : List Item) : Type 0 where
-    pub same : sessions r t journal ≡ replayed t (steps_of_events (heard journal))
-    pub taken : (c : ℕ) → taken_of c journal ≡ ((sessions r t journal).of c).reply
-    pub hung_up : (c : ℕ) → is_hung_up c journal ≡ is_away ((sessions r t journal).of c).state
+  pub record IsReplay (tree : T) (journal : List Item) : Type 0 where
+    pub same : sessions rules tree journal ≡ replayed tree (steps_of_events (heard journal))
+    pub taken : (number : ℕ) → taken_of number journal ≡ ((sessions rules tree journal).of number).reply
+    pub hung_up : (number : ℕ) → is_hung_up number journal ≡ is_away ((sessions rules tree journal).of number).state

@@ -15,11 +15,11 @@ pub record Rules (T W : Type 0) : Type 0 where
 
 -- the same answer with these octets sent before its own
 abbrev pub after_octets : {T W : Type 0} → List ℕ → Answered T W → Answered T W
-after_octets octets a = record { replies = octets ++ a.replies; tree = a.tree; who = a.who; closes = a.closes }
+after_octets octets answered = record { replies = octets ++ answered.replies; tree = answered.tree; who = answered.who; closes = answered.closes }
 
-module _ {T W : Type 0} (r : Rules T W) where
+module _ {T W : Type 0} (rules : Rules T W) where
   -- messages answered in their order until one closes the connection
   unfoldable pub talk : T → W → List (List ℕ) → Answered T W
-  talk t w [] = record { replies = []; tree = t; who = w; closes = false }
-  talk t w (m ∷ ms) =
-      let a = r.answer t w m in cond a.closes a (after_octets a.replies (talk a.tree a.who ms))
+  talk tree who [] = record { replies = []; tree = tree; who = who; closes = false }
+  talk tree who (message ∷ messages) =
+      let answered = rules.answer tree who message in cond answered.closes answered (after_octets answered.replies (talk answered.tree answered.who messages))

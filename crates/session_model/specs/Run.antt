@@ -1,4 +1,4 @@
--- Sessions over whole streams (RFC 4511 5.1): what a list of steps does to the tree and to each connection.
+-- Sessions over whole streams (RFC 4511 5): what a list of steps does to the tree and to each connection.
 use Rattle.std.specs.Prelude.{ℕ, ◌==◌, nat_lt, Bool, false, true, cond, not, ◌&&◌, ◌||◌, List, [], ◌∷◌, ◌++◌, length, drop, filter}
 use Rattle.ldap_msg.specs.Streams.{whole, is_broken}
 use Rattle.ldap_msg.specs.Replies.{notice_octets}
@@ -49,9 +49,9 @@ most_held = 256
 abbrev pub with_session : {W : Type 0} → ℕ → Session W → (ℕ → Session W) → ℕ → Session W
 with_session number session sessions other = cond (other == number) session (sessions other)
 
--- the numbers of the connections held, in the order in which they were opened
+-- the numbers of the connections held, by the order of their opening
 unfoldable pub held_numbers : {T W : Type 0} → Sessions T W → List ℕ
-held_numbers u = filter (λ number. is_held (u.of number).state) u.opened
+held_numbers sessions = filter (λ number. is_held (sessions.of number).state) sessions.opened
 
 -- the notice of disconnection where there is a fault
 abbrev pub notice_if : Bool → List ℕ
@@ -63,58 +63,58 @@ new_messages stream piece = drop (length (whole stream)) (whole (stream ++ piece
 
 -- the end of a peer's octets closes an open connection
 abbrev pub ended : {W : Type 0} → State → Session W → Session W
-ended Open s = record s { state = Closing }
-ended _ s = s
+ended Open session = record session { state = Closing }
+ended _ session = session
 
-module _ {T W : Type 0} (r : Rules T W) where
+module _ {T W : Type 0} (rules : Rules T W) where
   -- a connection that has just opened, where so many are held
   abbrev pub newcomer : ℕ → Session W
   newcomer held =
-      record { stream = []; who = r.nobody; reply = []; state = cond (nat_lt held most_held) Open TurnedAway }
+      record { stream = []; who = rules.nobody; reply = []; state = cond (nat_lt held most_held) Open TurnedAway }
 
   -- before any step
   unfoldable pub start : T → Sessions T W
-  start t = record {
-    tree = t;
+  start tree = record {
+    tree = tree;
     opened = [];
-    of = λ _. record { stream = []; who = r.nobody; reply = []; state = Unopened };
+    of = λ _. record { stream = []; who = rules.nobody; reply = []; state = Unopened };
   }
 
-  -- an open connection's new messages are answered in order until one closes;
-  -- if none does and the stream is broken, the notice is sent and the connection closes
+  -- on an open connection each new message gets its answer in turn, up to one that closes the connection; a broken
+  -- stream that none of them closed gets the notice, and is closed by it
   abbrev pub hears : State → Sessions T W → ℕ → List ℕ → Sessions T W
-  hears Open u c piece =
-      let s = u.of c in
-      let a = talk r u.tree s.who (new_messages s.stream piece) in
-      let fault = not a.closes && is_broken (s.stream ++ piece) in
+  hears Open sessions number piece =
+      let session = sessions.of number in
+      let answered = talk rules sessions.tree session.who (new_messages session.stream piece) in
+      let fault = not answered.closes && is_broken (session.stream ++ piece) in
       record {
-        tree = a.tree;
-        opened = u.opened;
-        of = with_session c
+        tree = answered.tree;
+        opened = sessions.opened;
+        of = with_session number
             (record {
-              stream = s.stream ++ piece;
-              who = a.who;
-              reply = s.reply ++ (a.replies ++ notice_if fault);
-              state = cond (a.closes || fault) Closing Open;
+              stream = session.stream ++ piece;
+              who = answered.who;
+              reply = session.reply ++ (answered.replies ++ notice_if fault);
+              state = cond (answered.closes || fault) Closing Open;
             })
-            u.of;
+            sessions.of;
       }
-  hears _ u c piece = u
+  hears _ sessions number piece = sessions
 
   -- one step
   unfoldable pub step : Sessions T W → Step → Sessions T W
-  step u (Opened c) =
-      record u { opened = u.opened ++ c ∷ []; of = with_session c (newcomer (length (held_numbers u))) u.of }
-  step u (Bytes c piece) = hears (u.of c).state u c piece
-  step u (Ended c) = record u { of = with_session c (ended (u.of c).state (u.of c)) u.of }
-  step u (Gone c) = record u { of = with_session c (record (u.of c) { state = Away }) u.of }
-  step u (HungUp c) = record u { of = with_session c (record (u.of c) { state = Away }) u.of }
+  step sessions (Opened number) =
+      record sessions { opened = sessions.opened ++ number ∷ []; of = with_session number (newcomer (length (held_numbers sessions))) sessions.of }
+  step sessions (Bytes number piece) = hears (sessions.of number).state sessions number piece
+  step sessions (Ended number) = record sessions { of = with_session number (ended (sessions.of number).state (sessions.of number)) sessions.of }
+  step sessions (Gone number) = record sessions { of = with_session number (record (sessions.of number) { state = Away }) sessions.of }
+  step sessions (HungUp number) = record sessions { of = with_session number (record (sessions.of number) { state = Away }) sessions.of }
 
   -- steps in their order
   unfoldable pub run_from : Sessions T W → List Step → Sessions T W
-  run_from u [] = u
-  run_from u (s ∷ steps) = run_from (step u s) steps
+  run_from sessions [] = sessions
+  run_from sessions (next ∷ steps) = run_from (step sessions next) steps
 
   -- steps from the beginning
   abbrev pub run : T → List Step → Sessions T W
-  run t steps = run_from (start t) steps
+  run tree steps = run_from (start tree) steps

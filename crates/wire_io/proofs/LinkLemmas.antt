@@ -5,8 +5,7 @@ use Rattle.plain_values.proofs.Theorems.{Rose-never_falls}
 use Rattle.script_text.specs.declared.event.ScriptEvent.{ScriptEvent}
 use Rattle.script_text.specs.declared.event.ScriptEvent.TheVariants as script
 use Rattle.wire_io.specs.declared.answers.Heard.{Heard as Answer}
-use Rattle.wire_io.specs.declared.answers.NextFault.{NextFault}
-use Rattle.wire_io.specs.declared.answers.NextFault.TheVariants.{Failed, NoMemory}
+use Rattle.wire_io.specs.declared.answers.NextFault.TheVariants.{NoMemory}
 use Rattle.wire_io.specs.declared.answers.Took.{Took}
 use Rattle.wire_io.specs.declared.answers.Took.TheVariants as took
 use Rattle.wire_io.specs.declared.journal.Event.{Event}
@@ -59,7 +58,7 @@ Plays-heard E journal plan after buf given some plays =
     NextPlays-ok E journal plan after buf given plays in
     let P : Event → Type 0 = λ event. Plays (length buf) plan.to_come (event ∷ []) after.to_come in
     let Q : List ScriptEvent → Type 0 = λ left. Plays (length buf) plan.to_come ((next_turn (holds_of journal) (length buf) plan.to_come).event ∷ []) left in
-    subst P (sym turned.0) (subst Q (sym (ap (λ told. told.to_come) turned.1)) (Plays-turn (holds_of journal) (length buf) plan.to_come some))
+    subst P (sym turned.0) (subst Q (sym (ap (λ plan. plan.to_come) turned.1)) (Plays-turn (holds_of journal) (length buf) plan.to_come some))
 
 -- the first planned event is none of Ready, Idle and Stop
 unfoldable pub IsStep : Event → Type 0
@@ -124,22 +123,15 @@ NextPlays-stop E journal plan after buf given none plays =
     NextPlays-ok E journal plan after buf given plays in
     turned.0 ∙ ap (λ events. (next_turn (holds_of journal) (length buf) events).event) none
 
--- the count of faults never falls, whatever the answer
-pub LinkCause-never_falls : {T : Type 0} (plan : Option Plan) (before after : ℕ) (result : Result T NextFault) → LinkCause plan before after result → NeverFalls before after
+-- the count of faults stays where an answer was given
+pub LinkCause-given : {T : Type 0} (plan : Option Plan) (before after : ℕ) (answer : T) → LinkCause plan before after (Ok answer) → after ≡ before
 unfolding LinkCause
-LinkCause-never_falls plan before after (Ok answer) cause = cause
-LinkCause-never_falls plan before after (Err Failed) cause = Rose-never_falls cause.0
-LinkCause-never_falls plan before after (Err NoMemory) cause = cause
+LinkCause-given plan before after answer cause = cause
 
--- a failure has its cause
-pub LinkCause-failed : (T : Type 0) (plan : Option Plan) (before after : ℕ) → LinkCause {T = T} plan before after (Err Failed) → Rose before after
+-- and where memory was wanted
+pub LinkCause-starved : (T : Type 0) (plan : Option Plan) (before after : ℕ) → LinkCause {T = T} plan before after (Err NoMemory) → after ≡ before
 unfolding LinkCause
-LinkCause-failed T plan before after cause = cause.0
-
--- a link whose plan has no failing calls does not fail
-pub LinkCause-never : (T : Type 0) (plan : Plan) (before after : ℕ) → plan.failing ≡ [] → LinkCause {T = T} (Some plan) before after (Err Failed) → ⊥
-unfolding LinkCause IsPlanned
-LinkCause-never T plan before after none cause = cause.1 none
+LinkCause-starved T plan before after cause = cause
 
 -- the count of lost connections never falls, whatever the answer
 pub WriteCause-never_falls : (plan : Option Plan) (before after : ℕ) (answer : Took) → WriteCause plan before after answer → NeverFalls before after

@@ -6,8 +6,8 @@ use Rattle.wire_io.specs.Telling.{NoteTells}
 
 -- what is told of it
 pub NoteTells-noted :
-    {T E : Type 0} {journal told : List Item} (grown : List Item) (result : Result T E) (item : Item)
-    → journal ≡ told → OnOk result (grown ≡ journal ++ item ∷ []) → OnErr result (grown ≡ journal) → NoteTells (Some told) item result (Some grown)
+    {T E : Type 0} {journal old : List Item} (grown : List Item) (result : Result T E) (item : Item)
+    → journal ≡ old → OnOk result (grown ≡ journal ++ item ∷ []) → OnErr result (grown ≡ journal) → NoteTells (Some old) item result (Some grown)
 unfolding NoteTells
 NoteTells-noted grown (Ok answer) item same ok err = ap Some (ok ∙ ap (λ items. items ++ item ∷ []) same)
 NoteTells-noted grown (Err fault) item same ok err = ap Some (err ∙ same)

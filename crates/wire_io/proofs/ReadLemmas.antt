@@ -3,8 +3,6 @@ use Rattle.std.proofs.Common.{◌≡◌, ℕ, ◌+◌, ◌<◌, ◌≤◌, List,
 use Rattle.std.proofs.Math.Seq.{take-add}
 use Rattle.std.proofs.lemmas.List.{take_all, length-take, length-take-le, take-append-le, take-append-drop}
 use Rattle.wire_io.specs.Files.{Files, file_of, FetchGives, ReadsFile, ReadsFrom}
-use Rattle.plain_values.specs.Counts.{NeverFalls}
-use Rattle.plain_values.proofs.Theorems.{NeverFalls-trans}
 use Rattle.wire_io.specs.declared.answers.ReadFault.TheVariants.{TooLong}
 use Rattle.wire_io.specs.ReadWhole.{HasRead, IsFrontOf, GivesFile, PieceGives, PieceCause, ReadCause, IsLonger, IsLongerFile, line_past}
 
@@ -104,7 +102,7 @@ IsLonger-read (Some files) name read limit front past = IsLongerFile-read (file_
 pub ReadCause-longer :
     (T : Type 0) (files first_files : Option Files) (name old new : List ℕ) (more : Bool) (limit before middle after line : ℕ)
     → more ≡ true → PieceGives files name old (Ok more) new → PieceCause files name middle after (Ok more) → limit < length new
-    → line ≡ line_past (take limit new) → NeverFalls before middle → files ≡ first_files
+    → line ≡ line_past (take limit new) → middle ≡ before → files ≡ first_files
     → ReadCause {T = T} first_files name limit before after (Err (TooLong line))
 unfolding PieceGives PieceCause ReadCause
 ReadCause-longer T files first_files name old new more limit before middle after line is_more gives cause past is_line stays same =
@@ -112,7 +110,7 @@ ReadCause-longer T files first_files name old new more limit before middle after
     let Q : ℕ → Type 0 = IsLonger first_files name limit in
     let R : Option Files → Type 0 = λ shelf. IsLonger shelf name limit (line_past (take limit new)) in
     let front : HasRead files name new = (subst P is_more gives).1 in
-    (subst Q (sym is_line) (subst R same (IsLonger-read files name new limit front past)), NeverFalls-trans stays cause)
+    (subst Q (sym is_line) (subst R same (IsLonger-read files name new limit front past)), cause ∙ stays)
 
 -- the same of an empty list
 pub HasRead-empty : (files : Option Files) (name read : List ℕ) → read ≡ [] → HasRead files name read

@@ -197,11 +197,11 @@ IsPlayable-turned {journal} {grown} {after} turn event good grows is left =
 
 -- what the answer says of the journal
 pub NextTells-turned :
-    (E : Type 0) {told journal grown : List Item} (turn : Turn) (buf : List ℕ) (heard : Answer)
-    → journal ≡ told → IsGoodTurn journal turn → grown ≡ journal ++ Heard (event_of buf heard) ∷ [] → event_of buf heard ≡ turn.event
-    → NextTells {E = E} (Some told) buf (Ok heard) (Some grown)
+    (E : Type 0) {old journal grown : List Item} (turn : Turn) (buf : List ℕ) (heard : Answer)
+    → journal ≡ old → IsGoodTurn journal turn → grown ≡ journal ++ Heard (event_of buf heard) ∷ [] → event_of buf heard ≡ turn.event
+    → NextTells {E = E} (Some old) buf (Ok heard) (Some grown)
 unfolding NextTells
-NextTells-turned E {told} {journal} {grown} turn buf heard same good grows is =
+NextTells-turned E {old} {journal} {grown} turn buf heard same good grows is =
     let P : List Item → Type 0 = λ items. (Some grown ≡ Some (items ++ Heard (event_of buf heard) ∷ [])) × MayCome items (event_of buf heard) × StaysStopped items (event_of buf heard) in
     let Q : Event → Type 0 = MayCome journal in
     let R : Event → Type 0 = StaysStopped journal in

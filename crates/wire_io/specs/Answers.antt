@@ -1,5 +1,5 @@
 -- How much an answer of a link gives or takes, and when each of its faults may come.
-use Rattle.std.specs.Prelude.{◌≢◌, ℕ, ◌<◌, ◌≤◌, List, [], Option, Some, None, Result, Ok, Err}
+use Rattle.std.specs.Prelude.{◌≡◌, ◌≢◌, ℕ, ◌<◌, ◌≤◌, List, [], Option, Some, None, Result, Ok, Err}
 use Rattle.plain_values.specs.Counts.{Rose, NeverFalls}
 use Rattle.wire_io.specs.declared.answers.Heard.{Heard}
 use Rattle.wire_io.specs.declared.answers.Heard.TheVariants as heard
@@ -30,15 +30,15 @@ unfoldable pub IsPlanned : (Plan → List ℕ) → Option Plan → Type 0
 IsPlanned calls None = Unit {0}
 IsPlanned calls (Some plan) = calls plan ≢ []
 
--- when each answer of `open` and `next` may come
+-- when each answer of `open` and `next` may come; the count of faults rises with a fault and is otherwise as it was
 unfoldable pub LinkCause : {T : Type 0} → Option Plan → ℕ → ℕ → Result T NextFault → Type 0
-LinkCause plan before after (Ok answer) = NeverFalls before after
-LinkCause plan before after (Err Failed) = Rose before after × IsPlanned (λ told. told.failing) plan
-LinkCause plan before after (Err NoMemory) = NeverFalls before after
+LinkCause plan before after (Ok answer) = after ≡ before
+LinkCause plan before after (Err Failed) = Rose before after × IsPlanned (λ plan. plan.failing) plan
+LinkCause plan before after (Err NoMemory) = after ≡ before
 
 -- when each answer of `write` may come
 unfoldable pub WriteCause : Option Plan → ℕ → ℕ → Took → Type 0
 WriteCause plan before after (took.Took count) = NeverFalls before after
-WriteCause plan before after took.Later = NeverFalls before after × IsPlanned (λ told. told.later) plan
-WriteCause plan before after took.Gone = Rose before after × IsPlanned (λ told. told.gone) plan
+WriteCause plan before after took.Later = NeverFalls before after × IsPlanned (λ plan. plan.later) plan
+WriteCause plan before after took.Gone = Rose before after × IsPlanned (λ plan. plan.gone) plan
 WriteCause plan before after took.NoMemory = NeverFalls before after

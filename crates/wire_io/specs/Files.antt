@@ -1,7 +1,7 @@
 -- Files by name, as a shelf that tells has them, and what a reading of one gives.
 use Rattle.std.specs.Prelude.{◌≡◌, ℕ, ◌≤◌, List, [], ◌∷◌, take, drop, length, Option, Some, None, Result, Ok, Err, nat_eq, if◌then◌else◌}
 use Rattle.std.specs.Cmp.Lexicographic.{pointwise}
-use Rattle.plain_values.specs.Counts.{Rose, NeverFalls}
+use Rattle.plain_values.specs.Counts.{Rose}
 use Rattle.wire_io.specs.declared.answers.FetchFault.{FetchFault}
 use Rattle.wire_io.specs.declared.answers.FetchFault.TheVariants.{Absent, Failed, NoMemory}
 
@@ -35,9 +35,9 @@ unfoldable pub Lacks : Option Files → List ℕ → Type 0
 Lacks None name = ⊥
 Lacks (Some files) name = file_of name files ≡ None
 
--- when each answer of `fetch` may come
+-- when each answer of `fetch` may come; the count of faults rises with a fault and is otherwise as it was
 unfoldable pub FetchCause : Option Files → List ℕ → ℕ → ℕ → Result ℕ FetchFault → Type 0
-FetchCause files name before after (Ok count) = NeverFalls before after
-FetchCause files name before after (Err Absent) = Lacks files name × NeverFalls before after
+FetchCause files name before after (Ok count) = after ≡ before
+FetchCause files name before after (Err Absent) = Lacks files name × (after ≡ before)
 FetchCause files name before after (Err Failed) = Rose before after
-FetchCause files name before after (Err NoMemory) = NeverFalls before after
+FetchCause files name before after (Err NoMemory) = after ≡ before

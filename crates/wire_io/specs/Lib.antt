@@ -12,4 +12,5 @@ pub mod Putting
 pub mod ReadWhole
 pub mod Rising
 pub mod Scripted
+pub mod SystemForms
 pub mod Telling

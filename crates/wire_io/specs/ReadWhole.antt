@@ -1,6 +1,6 @@
 -- What reading a file whole gives, and when it refuses.
 use Rattle.std.specs.Prelude.{◌≡◌, ℕ, ◌+◌, ◌<◌, ◌==◌, Bool, true, false, List, [], take, length, count_by, Option, Some, None, Result, Ok, Err}
-use Rattle.plain_values.specs.Counts.{Rose, NeverFalls}
+use Rattle.plain_values.specs.Counts.{Rose}
 use Rattle.wire_io.specs.declared.answers.ReadFault.{ReadFault}
 use Rattle.wire_io.specs.declared.answers.ReadFault.TheVariants.{Absent, Failed, TooLong, NoMemory}
 use Rattle.wire_io.specs.Files.{Files, file_of, Lacks}
@@ -24,13 +24,13 @@ unfoldable pub IsLonger : Option Files → List ℕ → ℕ → ℕ → Type 0
 IsLonger None name limit line = Unit {0}
 IsLonger (Some files) name limit line = IsLongerFile (file_of name files) limit line
 
--- when each answer of `read_all` may come
+-- when each answer of `read_all` may come; the count of faults rises with a fault and is otherwise as it was
 unfoldable pub ReadCause : {T : Type 0} → Option Files → List ℕ → ℕ → ℕ → ℕ → Result T ReadFault → Type 0
-ReadCause files name limit before after (Ok content) = NeverFalls before after
-ReadCause files name limit before after (Err Absent) = Lacks files name × NeverFalls before after
+ReadCause files name limit before after (Ok content) = after ≡ before
+ReadCause files name limit before after (Err Absent) = Lacks files name × (after ≡ before)
 ReadCause files name limit before after (Err Failed) = Rose before after
-ReadCause files name limit before after (Err (TooLong line)) = IsLonger files name limit line × NeverFalls before after
-ReadCause files name limit before after (Err NoMemory) = NeverFalls before after
+ReadCause files name limit before after (Err (TooLong line)) = IsLonger files name limit line × (after ≡ before)
+ReadCause files name limit before after (Err NoMemory) = after ≡ before
 
 -- the octets read so far are a front of the file, none where it isn't there
 unfoldable pub IsFrontOf : List ℕ → Option (List ℕ) → Type 0
@@ -50,8 +50,8 @@ PieceGives files name old (Err fault) new = Unit {0}
 
 -- when each answer of one piece's reading may come; it is never too long
 unfoldable pub PieceCause : {T : Type 0} → Option Files → List ℕ → ℕ → ℕ → Result T ReadFault → Type 0
-PieceCause files name before after (Ok more) = NeverFalls before after
-PieceCause files name before after (Err Absent) = Lacks files name × NeverFalls before after
+PieceCause files name before after (Ok more) = after ≡ before
+PieceCause files name before after (Err Absent) = Lacks files name × (after ≡ before)
 PieceCause files name before after (Err Failed) = Rose before after
 PieceCause files name before after (Err (TooLong line)) = ⊥
-PieceCause files name before after (Err NoMemory) = NeverFalls before after
+PieceCause files name before after (Err NoMemory) = after ≡ before

@@ -56,8 +56,8 @@ LinkHears old (Err Failed) new = (is_listed old.calls old.plan.failing ≡ true)
     × (new ≡ record old { calls = next_count old.calls; faults = next_count old.faults })
 LinkHears old (Err NoMemory) new = (is_listed old.calls old.plan.failing ≡ false) × (new ≡ record old { calls = next_count old.calls })
 
--- `write` answers Later and Gone exactly at the listed calls, and otherwise takes the piece whole, want
--- of memory aside
+-- a call of `write` gets Later or Gone exactly where the plan says so; any other takes the whole piece, or finds no
+-- memory
 unfoldable pub LinkWrites : LinkState → ℕ → List ℕ → Took → LinkState → Type 0
 LinkWrites old conn octets (took.Took count) new = (is_listed old.writes old.plan.later ≡ false) × (is_listed old.writes old.plan.gone ≡ false)
     × (count ≡ length octets) × (new ≡ record (with_item old (Taken conn octets)) { writes = next_count old.writes })

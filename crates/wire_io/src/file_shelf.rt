@@ -1,6 +1,7 @@
 //! The shelf of the system's files.
 
-ghost use Rattle.std.specs.Prelude.{◌≤◌, length, IfOk};
+ghost use Rattle.std.specs.Prelude.{◌≡◌, ◌≤◌, length, IfOk};
+ghost use Rattle.wire_io.specs.SystemForms.{shelf_faults};
 
 use crate::{FetchFault, Shelf};
 use plain_values::raised;
@@ -8,8 +9,8 @@ use std::io::{ErrorKind, Read, Seek, SeekFrom};
 use std::rt::Files;
 use std::{fs, io};
 
-/// The files of the system, by their paths. It tells nothing of them; a file that isn't there is a
-/// fault.
+/// The files of the system, by their paths. It tells nothing of them; where the system has no such
+/// file, that is a fault.
 #[derive(Drop)]
 pub struct FileShelf<R> {
     rt: R,
@@ -17,8 +18,10 @@ pub struct FileShelf<R> {
 }
 
 impl<R: Files> FileShelf<R> {
-    /// A shelf over the runtime.
-    pub fn new(rt: R) -> FileShelf<R> {
+    /// A shelf over the runtime, which had no fault yet.
+    pub fn new(rt: R) -> FileShelf<R>
+        ensures fresh { shelf_faults result ≡ 0 }
+    {
         FileShelf { rt, faults: 0 }
     }
 }

@@ -1,6 +1,7 @@
 //! What a program asks of the outside: files on a shelf, octets put to a sink, connections of a
 //! link. Each is a trait whose clauses say when a fault may come and, where the other side tells,
-//! what it holds or did; each has a form in memory and a real one.
+//! what it holds or did. Each has a form in memory; shelves and sinks have a real one too, and links
+//! have none yet.
 #![tactic(auto)]
 
 mod answers;
@@ -20,7 +21,7 @@ mod script_link;
 mod shelf;
 mod sink;
 mod standard_sink;
-mod told;
+mod tracked_journal;
 mod writing;
 
 pub use answers::{FetchFault, Heard, NextFault, NoMemory, PutFault, ReadFault, Took};

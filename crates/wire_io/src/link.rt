@@ -24,8 +24,9 @@ pub trait Link {
 
     ghost lost: { Self → ℕ };
 
-    /// Prepares the address; with sessions above 0 the link stops once so many connections have
-    /// ended.
+    /// Prepares the address. With sessions above 0 the link is asked to stop once so many
+    /// connections have ended; no clause says that it does. `Failed` is a fault, and is counted;
+    /// after `NoMemory` nothing was done.
     fn open(&mut self, address: &str, sessions: u64) -> Result<(), NextFault>
         ensures tells { OpenTells (journal self.old) address.now sessions result (journal self.new) }
         ensures cause { LinkCause (plan self.old) (faults self.old) (faults self.new) result }
@@ -33,7 +34,8 @@ pub trait Link {
         ensures plan { plan self.new ≡ plan self.old }
         ensures lost { NeverFalls (lost self.old) (lost self.new) };
 
-    /// Waits for the next event; the octets of `Bytes` stand at the front of the buffer.
+    /// Waits for the next event; the octets of `Bytes` stand at the front of the buffer. `Failed` is
+    /// a fault, and is counted; after an error no event was taken.
     fn next(&mut self, buf: &mut [u8]) -> Result<Heard, NextFault>
         requires { 0 < length buf.old }
         // the event
@@ -44,7 +46,8 @@ pub trait Link {
         ensures cause { LinkCause (plan self.old) (faults self.old) (faults self.new) result }
         ensures lost { NeverFalls (lost self.old) (lost self.new) };
 
-    /// Offers octets for the connection.
+    /// Offers octets for the connection. `Gone` says that it was found lost, which the count of these
+    /// shows; after `Later`, `Gone` and `NoMemory` none were taken.
     fn write(&mut self, conn: u32, bytes: &[u8]) -> Took
         requires { 0 < length bytes.now }
         ensures fits { TookFits (length bytes.now) result }

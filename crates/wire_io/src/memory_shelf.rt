@@ -27,9 +27,9 @@ impl Model for MemShelf {
 }
 
 impl MemShelf {
-    /// A shelf of the files, each a name and its octets, which fails at the calls of `fetch` whose
-    /// numbers, counted from 0, are in `failing`. Of two files of one name the first counts. Takes
-    /// no memory.
+    /// A shelf of the files, each a name and its octets. It counts the calls of `fetch` from 0, and
+    /// those in `failing` fail. Of two files of one name the first is the one that is read. Takes no
+    /// memory.
     pub fn new(files: Vec<(String, Vec<u8>)>, failing: Vec<u64>) -> MemShelf
         ensures exact { result ≡ record { files = files_view files.items; failing = failing.items; calls = 0; faults = 0 } }
     {

@@ -28,8 +28,8 @@ impl Model for MemSink {
 }
 
 impl MemSink {
-    /// A sink with nothing put, which fails at the calls of `write` whose numbers, counted from 0,
-    /// are in `failing`. Takes no memory.
+    /// A sink with nothing put. It counts the calls of `write` from 0, and those in `failing` fail.
+    /// Takes no memory.
     pub fn new(alloc: Global, failing: Vec<u64>) -> MemSink
         ensures exact { result ≡ record { put = []; failing = failing.items; calls = 0; faults = 0 } }
     {

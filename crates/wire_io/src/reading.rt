@@ -9,7 +9,9 @@ use std::alloc::{AllocError, Global};
 const PIECE: usize = 65_536;
 
 #[tactic(auto, unfolding(crate::specs::ReadWhole::PieceGives, crate::specs::ReadWhole::PieceCause, crate::specs::ReadWhole::ReadCause))]
-/// Reads the file of the name, of at most `limit` octets.
+/// Reads the file of the name, of at most `limit` octets. `Absent` comes where the shelf tells that
+/// it has no such file, `Failed` where its count of faults rose, and `TooLong` for a file of more
+/// octets, with the line of the first octet past the limit. `NoMemory` may come in place of any answer.
 pub fn read_all<H: Shelf>(
     alloc: Global,
     shelf: &mut H,

@@ -8,7 +8,7 @@ ghost use Rattle.wire_io.specs.Playing.{first_conn, front_turn, next_turn, holds
 ghost use Rattle.wire_io.specs.Telling.{event_of};
 
 use crate::copying::copy_front;
-use crate::told::Told;
+use crate::tracked_journal::TrackedJournal;
 use crate::{Heard, ScriptEvent};
 use script_text::{Head, Recording};
 use std::alloc::Global;
@@ -182,17 +182,17 @@ fn octets_in(event: &ScriptEvent) -> &[u8]
 /// The next event, with octets at the front of the buffer: Ready where the first planned one is of a
 /// connection on hold.
 #[tactic(auto, unfolding(crate::specs::Playing::next_turn, crate::specs::Playing::front_turn, crate::specs::Playing::holds_of, crate::specs::Telling::event_of))]
-pub(crate) fn turn(script: &Script, told: &Told, buf: &mut [u8]) -> Heard
+pub(crate) fn turn(script: &Script, journal: &TrackedJournal, buf: &mut [u8]) -> Heard
     requires room { 0 < length buf.old }
     requires filled { AreFilled script.now }
     ensures fits { HeardFits (length buf.new) result }
-    ensures event { event_of buf.new result ≡ (next_turn (holds_of (Some told.now)) (length buf.old) script.now).event }
-    ensures left { left_by result (length buf.old) script.now ≡ (next_turn (holds_of (Some told.now)) (length buf.old) script.now).left }
+    ensures event { event_of buf.new result ≡ (next_turn (holds_of (Some journal.now)) (length buf.old) script.now).event }
+    ensures left { left_by result (length buf.old) script.now ≡ (next_turn (holds_of (Some journal.now)) (length buf.old) script.now).left }
 {
     let Some(conn) = script.conn() else {
         return Heard::Stop;
     };
-    if told.held(conn) {
+    if journal.held(conn) {
         return Heard::Ready(conn);
     }
     script.give(buf)

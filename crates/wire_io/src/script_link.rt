@@ -15,7 +15,7 @@ ghost use Rattle.wire_io.specs.Telling.{OpenTells, NextTells, TookTells, NoteTel
 
 use crate::log::Note;
 use crate::script::{Script, turn};
-use crate::told::Told;
+use crate::tracked_journal::TrackedJournal;
 use crate::{Heard, Link, NextFault, NoMemory, ScriptEvent, ScriptFault, Took};
 use plain_values::raised;
 use script_text::read_script;
@@ -23,11 +23,11 @@ use std::alloc::{AllocError, Global};
 use std::marker::Model;
 
 /// A link that gives planned events in their order, each as soon as it is asked for, takes every
-/// piece whole, and keeps a journal. It fails, or takes nothing, at chosen calls.
+/// piece whole, and keeps a journal. It fails at chosen calls.
 #[derive(Debug, Drop)]
 pub struct ScriptLink {
     script: Script,
-    told: Told,
+    journal: TrackedJournal,
     failing: Vec<u64>,
     later: Vec<u64>,
     gone: Vec<u64>,
@@ -42,16 +42,16 @@ impl Model for ScriptLink {
 
     ghost Value = { LinkState };
 
-    ghost view = { λ link. record { journal = link.told; plan = record { to_come = link.script; failing = link.failing.items; later = link.later.items; gone = link.gone.items }; calls = link.calls; writes = link.writes; faults = link.faults; lost = link.lost } };
+    ghost view = { λ link. record { journal = link.journal; plan = record { to_come = link.script; failing = link.failing.items; later = link.later.items; gone = link.gone.items }; calls = link.calls; writes = link.writes; faults = link.faults; lost = link.lost } };
 
-    ghost invariant = { λ link. IsPlayable link.told link.script };
+    ghost invariant = { λ link. IsPlayable link.journal link.script };
 }
 
 impl ScriptLink {
-    /// A link with these events, which open no number twice and have no empty octets. Its `open` and
-    /// `next` calls are numbered from 0 in one count, its `write` calls in another; it fails at the
-    /// former in `failing`, and answers Later or Gone at the latter in `later` or `gone`. Takes no
-    /// memory.
+    /// A link with these events, which open no number twice and have no empty octets. It counts from 0
+    /// the calls of `open` and `next` together, and those of `write` alone. Of the former those in
+    /// `failing` fail; of the latter those in `later` take nothing now, and those in `gone` find the
+    /// connection lost. Both of these lists are empty in this version. Takes no memory.
     pub fn new(
         alloc: Global,
         events: Vec<ScriptEvent>,
@@ -82,7 +82,7 @@ impl ScriptLink {
     {
         ScriptLink {
             script,
-            told: Told::new(alloc),
+            journal: TrackedJournal::new(alloc),
             failing,
             later,
             gone,
@@ -93,7 +93,9 @@ impl ScriptLink {
         }
     }
 
-    /// A link with the events of the script text, which never fails and takes every piece.
+    /// A link with the events of the script text, which never fails and takes every piece. `Bad` comes
+    /// exactly where the text is no script, with its first bad line; `NoMemory` may come in place of
+    /// any answer.
     pub fn read(alloc: Global, text: &[u8]) -> Result<ScriptLink, ScriptFault>
         ensures ok { IfOk result (λ link. IsScript text.now link.plan.to_come) }
         ensures fresh { IfOk result (λ link. link ≡ fresh_link link.plan.to_come [] [] []) }
@@ -110,14 +112,14 @@ impl ScriptLink {
     pub fn said_of(&self, conn: u32) -> &[u8]
         ensures exact { result.now ≡ taken_of conn self.now.journal }
     {
-        self.told.said_of(conn)
+        self.journal.said_of(conn)
     }
 
     /// Whether the connection was hung up.
     pub fn hung_up(&self, conn: u32) -> bool
         ensures exact { result ≡ is_hung_up conn self.now.journal }
     {
-        self.told.hung_up(conn)
+        self.journal.hung_up(conn)
     }
 
     /// The number at the index, from 0 and in rising order, of those that events have opened so far;
@@ -125,7 +127,7 @@ impl ScriptLink {
     pub fn opened_at(&self, index: usize) -> Option<u32>
         ensures exact { result ≡ slice_get (rising (opened_by self.now.journal)) index }
     {
-        self.told.opened_at(index)
+        self.journal.opened_at(index)
     }
 
     /// The numbers that events have opened so far, in rising order. `AllocError` comes for want of
@@ -133,7 +135,7 @@ impl ScriptLink {
     pub fn opened(&self) -> Result<Vec<u32>, AllocError>
         ensures ok { IfOk result (λ numbers. numbers.items ≡ rising (opened_by self.now.journal)) }
     {
-        self.told.numbers()
+        self.journal.numbers()
     }
 
     /// Counts a call of `open` or `next`, and says whether it fails.
@@ -156,8 +158,8 @@ impl ScriptLink {
         ensures kept { self.new ≡ record self.old { journal = self.new.journal; plan = self.new.plan } }
     {
         let len = buf.len();
-        let heard = turn(&self.script, &self.told, buf);
-        self.told.hear(heard, buf)?;
+        let heard = turn(&self.script, &self.journal, buf);
+        self.journal.hear(heard, buf)?;
         self.script.pass(heard, len);
         Ok(heard)
     }
@@ -184,13 +186,13 @@ impl Link for ScriptLink {
         ensures exact { LinkOpens self.old address.now sessions result self.new }
     {
         if self.fails() {
-            if self.told.open(address, sessions, false).is_err() {
+            if self.journal.open(address, sessions, false).is_err() {
                 return Err(NextFault::NoMemory);
             }
             self.faults = raised(self.faults);
             return Err(NextFault::Failed);
         }
-        if self.told.open(address, sessions, true).is_err() {
+        if self.journal.open(address, sessions, true).is_err() {
             return Err(NextFault::NoMemory);
         }
         Ok(())
@@ -231,19 +233,19 @@ impl Link for ScriptLink {
         let call = self.writes;
         self.writes = raised(call);
         if self.later.contains(&call) {
-            if self.told.note(Note::Later(conn), &[]).is_err() {
+            if self.journal.note(Note::Later(conn), &[]).is_err() {
                 return Took::NoMemory;
             }
             return Took::Later;
         }
         if self.gone.contains(&call) {
-            if self.told.note(Note::Gone(conn), &[]).is_err() {
+            if self.journal.note(Note::Gone(conn), &[]).is_err() {
                 return Took::NoMemory;
             }
             self.lost = raised(self.lost);
             return Took::Gone;
         }
-        if self.told.take(conn, bytes).is_err() {
+        if self.journal.take(conn, bytes).is_err() {
             return Took::NoMemory;
         }
         Took::Took(bytes.len())
@@ -256,7 +258,7 @@ impl Link for ScriptLink {
         ensures lost { NeverFalls self.old.lost self.new.lost }
         ensures exact { LinkNotes self.old (Item.Held conn) result self.new }
     {
-        self.told.hold(conn)
+        self.journal.hold(conn)
     }
 
     fn release(&mut self, conn: u32) -> Result<(), NoMemory>
@@ -266,7 +268,7 @@ impl Link for ScriptLink {
         ensures lost { NeverFalls self.old.lost self.new.lost }
         ensures exact { LinkNotes self.old (Item.Released conn) result self.new }
     {
-        self.told.release(conn)
+        self.journal.release(conn)
     }
 
     fn hang_up(&mut self, conn: u32) -> Result<(), NoMemory>
@@ -276,6 +278,6 @@ impl Link for ScriptLink {
         ensures lost { NeverFalls self.old.lost self.new.lost }
         ensures exact { LinkNotes self.old (Item.HungUp conn) result self.new }
     {
-        self.told.hang_up(conn)
+        self.journal.hang_up(conn)
     }
 }

@@ -1,5 +1,8 @@
 //! The sink of the system's standard output.
 
+ghost use Rattle.std.specs.Prelude.{◌≡◌};
+ghost use Rattle.wire_io.specs.SystemForms.{sink_faults};
+
 use crate::{PutFault, Sink};
 use plain_values::raised;
 use std::io::ErrorKind;
@@ -12,8 +15,10 @@ pub struct StdSink<R> {
 }
 
 impl<R: Print> StdSink<R> {
-    /// A sink over the runtime.
-    pub fn new(rt: R) -> StdSink<R> {
+    /// A sink over the runtime, which had no fault yet.
+    pub fn new(rt: R) -> StdSink<R>
+        ensures fresh { sink_faults result ≡ 0 }
+    {
         StdSink { rt, faults: 0 }
     }
 }

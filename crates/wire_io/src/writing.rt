@@ -4,7 +4,8 @@ ghost use Rattle.wire_io.specs.Putting.{PutsAll, PutCause};
 
 use crate::{PutFault, Sink};
 
-/// Puts all the octets, in order. After a refusal a front of them was put.
+/// Puts all the octets, in order. After a refusal, `Failed` where the sink's count of faults rose or
+/// want of memory, a front of them was put.
 pub fn write_all<K: Sink>(sink: &mut K, bytes: &[u8]) -> Result<(), PutFault>
     ensures tells { PutsAll (K.put sink.old) bytes.now result (K.put sink.new) }
     ensures cause { PutCause (K.faults sink.old) (K.faults sink.new) result }

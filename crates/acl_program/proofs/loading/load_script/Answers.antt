@@ -3,7 +3,7 @@ use Rattle.acl_program.proofs.loading.load_script.Goals as goal
 
 -- the file was read
 pub returns-in-Ok-clause-exact : goal.returns-in-Ok-clause-exact
-returns-in-Ok-clause-exact g c = Loads-read _ _ _ _ _ _ _ c.as_slice.ensures.value c.in-Ok.ensures.ok c.read_script.ensures.exact
+returns-in-Ok-clause-exact g c = Loads-read _ _ _ _ _ _ _ _ c.as_slice.ensures.value c.in-Ok.ensures.ok c.in-Ok.ensures.cause c.read_script.ensures.exact
 
 -- it wasn't
 pub returns-in-Err-clause-exact : goal.returns-in-Err-clause-exact

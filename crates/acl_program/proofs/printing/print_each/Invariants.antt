@@ -1,5 +1,4 @@
 use Rattle.std.proofs.Common.{◌≡◌, ◌≤◌, ◌-◌, length, take}
-use Rattle.plain_values.specs.Counts.{NeverFalls}
 use Rattle.wire_io.specs.Putting.{appended}
 use Rattle.acl_program.specs.Playing.{journal_lines}
 use Rattle.acl_program.proofs.printing.print_each.Given as goal
@@ -9,7 +8,7 @@ abbrev pub invariant-loop-index : goal.invariant-loop-index
 invariant-loop-index g l = record {
   within : l.index ≤ length l.conns;
   put : g.K.Sink.put l.out ≡ appended (g.K.Sink.put l.initial.out) (journal_lines l.link.journal (take l.index l.conns));
-  faults : NeverFalls (g.K.Sink.faults l.initial.out) (g.K.Sink.faults l.out);
+  faults : g.K.Sink.faults l.out ≡ g.K.Sink.faults l.initial.out;
 }
 
 abbrev pub decreases-loop-index : goal.decreases-loop-index

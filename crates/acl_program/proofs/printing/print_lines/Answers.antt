@@ -1,13 +1,14 @@
 use Rattle.std.proofs.Common.{◌∙◌}
-use Rattle.acl_program.proofs.PrintLemmas.{PutsAll-no_memory, PutCause-no_memory, PutsAll-opened}
+use Rattle.wire_io.proofs.Theorems.{PutsAll-no_memory, PutCause-no_memory}
+use Rattle.acl_program.proofs.PrintLemmas.{PutsAll-opened}
 use Rattle.acl_program.proofs.printing.print_lines.Goals as goal
 
 -- there is no memory for the numbers
 pub returns-in_default-clause-tells : goal.returns-in_default-clause-tells
-returns-in_default-clause-tells g c = PutsAll-no_memory _ _
+returns-in_default-clause-tells g c = PutsAll-no_memory _ _ _
 
 pub returns-in_default-clause-cause : goal.returns-in_default-clause-cause
-returns-in_default-clause-cause g c = PutCause-no_memory _
+returns-in_default-clause-cause g c = PutCause-no_memory _ _
 
 -- the lines of all connections were to be put
 pub returns-clause-tells : goal.returns-clause-tells

@@ -1,4 +1,4 @@
-use Rattle.acl_program.proofs.PrintLemmas.{PutsAll-then, PutsAll-first, PutCause-then}
+use Rattle.wire_io.proofs.Theorems.{PutsAll-then, PutsAll-cut, PutCause-then}
 use Rattle.acl_program.proofs.printing.print_replay.Goals as goal
 
 -- the lines were put, and the tree was to be
@@ -10,4 +10,4 @@ returns-in-Ok-clause-cause g c = PutCause-then _ _ _ _ _ c.in-Ok.ensures.cause c
 
 -- the lines were refused
 pub returns-in-Err-clause-tells : goal.returns-in-Err-clause-tells
-returns-in-Err-clause-tells g c = PutsAll-first _ _ _ _ _ c.in-Err.ensures.tells
+returns-in-Err-clause-tells g c = PutsAll-cut _ _ _ _ _ _ c.in-Err.ensures.tells

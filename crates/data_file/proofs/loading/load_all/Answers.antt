@@ -2,7 +2,6 @@ use Rattle.std.proofs.Common.{◌≡◌, ◌∙◌, ap, sym, Ok}
 use Rattle.schema_rules.specs.Checking.{entries_of}
 use Rattle.data_file.specs.Steps.{IsStep}
 use Rattle.data_file.proofs.LoadLemmas.{loads_after-step, loads_after-end}
-use Rattle.data_file.proofs.TableLemmas.{AreOfTable-step}
 use Rattle.data_file.proofs.loading.load_all.Goals as goal
 
 -- a record more was loaded
@@ -12,7 +11,6 @@ loop-next-preserved c =
     record {
       whole = c.loop-next.invariant.whole ∙ loads_after-step _ _ _ _ _ step;
       good = (rw c.in-Some.is at c.in_ok-next.ensures.good) c.loop-next.invariant.good;
-      table = AreOfTable-step _ _ _ _ _ step c.loop-next.invariant.table;
       place = step.next.place;
     }
 

@@ -1,5 +1,6 @@
 use Rattle.std.proofs.Common.{sym}
-use Rattle.data_file.proofs.PutLemmas.{PutsAll-nothing, PutCause-nothing, PutsAll-same}
+use Rattle.wire_io.proofs.Theorems.{PutCause-nothing}
+use Rattle.data_file.proofs.PutLemmas.{PutsAll-empty, PutsAll-same}
 use Rattle.data_file.proofs.WalkLemmas.{records_text-below, records_text-none}
 use Rattle.data_file.proofs.writing.put_entries.Goals as goal
 
@@ -10,7 +11,7 @@ returns-in-Some-clause-tells g c =
 
 -- there is no entry
 pub returns-in-None-clause-tells : goal.returns-in-None-clause-tells
-returns-in-None-clause-tells g c = PutsAll-nothing _ _ (records_text-none c.args.tree.now (sym c.in-None.ensures.exact))
+returns-in-None-clause-tells g c = PutsAll-empty _ _ (records_text-none c.args.tree.now (sym c.in-None.ensures.exact))
 
 pub returns-in-None-clause-cause : goal.returns-in-None-clause-cause
-returns-in-None-clause-cause g c = PutCause-nothing _
+returns-in-None-clause-cause g c = PutCause-nothing _ _

@@ -1,4 +1,4 @@
-use Rattle.std.proofs.Common.{◌≡◌, arith}
+use Rattle.std.proofs.Common.{◌≡◌, arith, refl, ◌∙◌}
 use Rattle.plain_values.proofs.Theorems.{NeverFalls-trans, NeverFalls-refl}
 use Rattle.session_hub.proofs.LoopLemmas.{ends_spent}
 use Rattle.session_hub.proofs.TurnLemmas.{under_way_start, under_way_spent, EndsFor-came}
@@ -6,14 +6,14 @@ use Rattle.session_hub.proofs.serve.serve_in.Goals as goal
 
 -- nothing was heard yet
 pub loop-turn-init : goal.loop-turn-init
-loop-turn-init g c = record { under_way = under_way_start _ _ _ c.requires.empty; faults = NeverFalls-refl _; lost = NeverFalls-refl _ }
+loop-turn-init g c = record { under_way = under_way_start _ _ _ c.requires.empty; faults = refl; lost = NeverFalls-refl _ }
 
 -- a turn was taken, and the loop goes on
 pub loop-turn-preserved : goal.loop-turn-preserved
 loop-turn-preserved g c =
     record {
       under_way = c.in-Ok.ensures.ok c.loop-turn._turn _ _ c.loop-turn.invariant.under_way;
-      faults = NeverFalls-trans c.loop-turn.invariant.faults c.in-Ok.ensures.faults;
+      faults = c.in-Ok.ensures.faults ∙ c.loop-turn.invariant.faults;
       lost = NeverFalls-trans c.loop-turn.invariant.lost c.in-Ok.ensures.lost;
     }
 

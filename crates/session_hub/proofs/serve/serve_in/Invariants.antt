@@ -1,3 +1,4 @@
+use Rattle.std.proofs.Common.{◌≡◌}
 use Rattle.plain_values.specs.Counts.{NeverFalls}
 use Rattle.session_hub.specs.Turns.{IsUnderWay}
 use Rattle.session_hub.proofs.serve.serve_in.Given as goal
@@ -9,6 +10,6 @@ invariant-loop-turn g l =
     let plan = g.L.Link.plan in
     record {
       under_way : IsUnderWay l._turn (journal l.fn.link) (journal l.link) (plan l.fn.link) (plan l.link) l.hub;
-      faults : NeverFalls (g.L.Link.faults l.fn.link) (g.L.Link.faults l.link);
+      faults : g.L.Link.faults l.link ≡ g.L.Link.faults l.fn.link;
       lost : NeverFalls (g.L.Link.lost l.fn.link) (g.L.Link.lost l.link);
     }

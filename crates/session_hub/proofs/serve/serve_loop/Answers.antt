@@ -1,4 +1,3 @@
-use Rattle.plain_values.proofs.Theorems.{NeverFalls-refl}
 use Rattle.std.proofs.Common.{refl, arith}
 use Rattle.session_hub.proofs.LoopLemmas.{running_start, running_starved, ends_starved}
 use Rattle.session_hub.proofs.PlayLemmas.{playing_start, plays_ended}
@@ -12,7 +11,7 @@ pub returns-in-Err-clause-plays : goal.returns-in-Err-clause-plays
 returns-in-Err-clause-plays g c = plays_ended c.args.turns _ _ _ _ _ (playing_start (g.L.Link.journal c.args.link.now) (g.L.Link.plan c.args.link.now)) (λ h. cc) (λ h. cc)
 
 pub returns-in-Err-clause-cause : goal.returns-in-Err-clause-cause
-returns-in-Err-clause-cause g c = ends_starved _ _ _ (NeverFalls-refl _)
+returns-in-Err-clause-cause g c = ends_starved _ _ _ refl
 
 -- there was no memory to begin
 pub returns-in-Err-new_buffer-clause-served : goal.returns-in-Err-new_buffer-clause-served
@@ -22,4 +21,4 @@ pub returns-in-Err-new_buffer-clause-plays : goal.returns-in-Err-new_buffer-clau
 returns-in-Err-new_buffer-clause-plays g c = plays_ended c.args.turns _ _ _ _ _ (playing_start (g.L.Link.journal c.args.link.now) (g.L.Link.plan c.args.link.now)) (λ h. cc) (λ h. cc)
 
 pub returns-in-Err-new_buffer-clause-cause : goal.returns-in-Err-new_buffer-clause-cause
-returns-in-Err-new_buffer-clause-cause g c = ends_starved _ _ _ (NeverFalls-refl _)
+returns-in-Err-new_buffer-clause-cause g c = ends_starved _ _ _ refl

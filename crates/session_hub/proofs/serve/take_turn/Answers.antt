@@ -1,6 +1,5 @@
-use Rattle.std.proofs.Common.{sym, ◌∙◌, subst}
-use Rattle.plain_values.specs.Counts.{NeverFalls}
-use Rattle.wire_io.proofs.Theorems.{LinkCause-never_falls}
+use Rattle.std.proofs.Common.{sym, ◌∙◌}
+use Rattle.wire_io.proofs.Theorems.{LinkCause-given, LinkCause-starved}
 use Rattle.session_hub.proofs.LoopLemmas.{ends_failed, ends_stopped, ends_starved}
 use Rattle.session_hub.proofs.TurnLemmas.{turn_served, turn_cut, turn_stopped, turn_failed, turn_starved}
 use Rattle.session_hub.proofs.serve.take_turn.Goals as goal
@@ -13,7 +12,7 @@ returns-in-Ok-serve_event-clause-ok g c =
 
 pub returns-in-Ok-serve_event-clause-faults : goal.returns-in-Ok-serve_event-clause-faults
 returns-in-Ok-serve_event-clause-faults g c =
-    subst (λ n. NeverFalls (g.L.Link.faults c.args.link.now) n) (sym c.in-Ok-serve_event.ensures.faults) (LinkCause-never_falls _ _ _ _ c.in-Ok.ensures.cause)
+    c.in-Ok-serve_event.ensures.faults ∙ LinkCause-given _ _ _ _ c.in-Ok.ensures.cause
 
 -- there was no memory in its block
 pub returns-in-Err-clause-err : goal.returns-in-Err-clause-err
@@ -23,7 +22,7 @@ returns-in-Err-clause-err g c =
 
 pub returns-in-Err-clause-cause : goal.returns-in-Err-clause-cause
 returns-in-Err-clause-cause g c =
-    ends_starved _ _ _ (subst (λ n. NeverFalls (g.L.Link.faults c.args.link.now) n) (sym c.in-Err.ensures.faults) (LinkCause-never_falls _ _ _ _ c.in-Ok.ensures.cause))
+    ends_starved _ _ _ (c.in-Err.ensures.faults ∙ LinkCause-given _ _ _ _ c.in-Ok.ensures.cause)
 
 -- the event is Stop
 pub returns-then-is_stop-clause-err : goal.returns-then-is_stop-clause-err
@@ -32,7 +31,7 @@ returns-then-is_stop-clause-err g c =
     (sym c.is_stop.ensures ∙ c.if-is_stop.true)
 
 pub returns-then-is_stop-clause-cause : goal.returns-then-is_stop-clause-cause
-returns-then-is_stop-clause-cause g c = ends_stopped _ _ _ (LinkCause-never_falls _ _ _ _ c.in-Ok.ensures.cause)
+returns-then-is_stop-clause-cause g c = ends_stopped _ _ _ (LinkCause-given _ _ _ _ c.in-Ok.ensures.cause)
 
 -- the link failed
 pub returns-in-Err-Failed-clause-err : goal.returns-in-Err-Failed-clause-err
@@ -48,4 +47,4 @@ returns-in-Err-NoMemory-clause-err g c =
     turn_starved _ _ _ _ _ c.next.new.buf _ (rw c.in-Err-NoMemory.field-0-is at c.in-Err-NoMemory.ensures.tells) (rw c.in-Err-NoMemory.field-0-is at c.in-Err-NoMemory.ensures.plays)
 
 pub returns-in-Err-NoMemory-clause-cause : goal.returns-in-Err-NoMemory-clause-cause
-returns-in-Err-NoMemory-clause-cause g c = ends_starved _ _ _ (LinkCause-never_falls _ _ _ _ c.in-Err-NoMemory.ensures.cause)
+returns-in-Err-NoMemory-clause-cause g c = ends_starved _ _ _ (LinkCause-starved _ _ _ _ (rw c.in-Err-NoMemory.field-0-is at c.in-Err-NoMemory.ensures.cause))

@@ -7,15 +7,15 @@ use Rattle.session_hub.proofs.serving.hear_and_finish.Goals as goal
 -- there was no memory to answer
 pub returns-in_err-hear-clause-err : goal.returns-in_err-hear-clause-err
 returns-in_err-hear-clause-err g c =
-    on_err_any c.from_residual.result (adds_nothing _ _ _ _ _ refl (λ told h. event_sound c.args.conn c.args.heard c.args.hub.now told c.requires h))
+    on_err_any c.from_residual.result (adds_nothing _ _ _ _ _ refl (λ added h. event_sound c.args.conn c.args.heard c.args.hub.now added c.requires h))
 
 -- the block is ended
 pub returns-clause-ok : goal.returns-clause-ok
 returns-clause-ok g c =
     on_ok_after _ _ _ _ _ _ _ _ c.finish.result refl
-    (adds_nothing _ _ _ _ _ refl (λ told h. event_goes c.args.conn c.args.heard c.args.hub.now c.hear.new.self told c.requires c.in_ok-hear.ensures.exact h)) c.finish.ensures.ok
+    (adds_nothing _ _ _ _ _ refl (λ added h. event_goes c.args.conn c.args.heard c.args.hub.now c.hear.new.self added c.requires c.in_ok-hear.ensures.exact h)) c.finish.ensures.ok
 
 pub returns-clause-err : goal.returns-clause-err
 returns-clause-err g c =
     on_err_after _ _ _ _ _ _ _ _ c.finish.result refl
-    (adds_nothing _ _ _ _ _ refl (λ told h. event_goes c.args.conn c.args.heard c.args.hub.now c.hear.new.self told c.requires c.in_ok-hear.ensures.exact h)) c.finish.ensures.err
+    (adds_nothing _ _ _ _ _ refl (λ added h. event_goes c.args.conn c.args.heard c.args.hub.now c.hear.new.self added c.requires c.in_ok-hear.ensures.exact h)) c.finish.ensures.err

@@ -1,6 +1,7 @@
 use Rattle.std.proofs.Common.{◌≡◌, Bool, length}
 use Rattle.plain_values.specs.Counts.{NeverFalls}
 use Rattle.session_model.specs.Kept.{queue_of}
+use Rattle.session_hub.specs.Hubs.{OthersStay}
 use Rattle.session_hub.specs.Loops.{HangsUpRefused}
 use Rattle.session_hub.specs.Adding.{Adds, IsBusy}
 use Rattle.session_hub.proofs.serving.send_queue.Given as goal
@@ -12,6 +13,7 @@ invariant-sending g l =
     let plan = g.L.Link.plan in
     record {
       adds : (turned : Bool) → Adds (plan l.fn.link) (IsBusy l.conn turned l.fn.hub) (IsBusy l.conn turned l.hub) (journal l.fn.link) (journal l.link);
+      others : OthersStay l.conn l.fn.hub l.hub;
       refused : HangsUpRefused (journal l.fn.link) (journal l.link);
       plan : plan l.link ≡ plan l.fn.link;
       faults : g.L.Link.faults l.link ≡ g.L.Link.faults l.fn.link;

@@ -1,8 +1,9 @@
-use Rattle.std.proofs.Common.{◌≤◌, length, sym, subst}
+use Rattle.std.proofs.Common.{◌≤◌, length, sym, subst, ap, ◌∙◌}
+use Rattle.session_model.specs.Kept.{queue_of, forgotten}
 use Rattle.wire_io.proofs.Theorems.{WriteCause-never_falls}
 use Rattle.plain_values.proofs.Theorems.{NeverFalls-trans}
 use Rattle.session_hub.specs.Adding.{Adds, IsBusy}
-use Rattle.session_hub.proofs.ServingLemmas.{took_goes, refused_goes, write_fails, queue_falls, falls_to_none, IsBusy-sound, on_ok_after, on_err_after, on_ok_any}
+use Rattle.session_hub.proofs.ServingLemmas.{took_goes, refused_goes, write_fails, queue_falls, falls_to_none, queue_of-forgotten, forgotten-taken_off, forgotten-forgotten, IsBusy-sound, on_ok_after, on_err_after, on_ok_any}
 use Rattle.session_hub.proofs.RefusalLemmas.{refused_taken, refused_dropped}
 use Rattle.session_hub.proofs.serving.send_some.Goals as goal
 
@@ -16,6 +17,9 @@ pub returns-in-Took-clause-falls : goal.returns-in-Took-clause-falls
 returns-in-Took-clause-falls g c =
     queue_falls c.args.conn c.in-Took.count c.args.hub.now c.took.new.self c.took.ensures.exact c.in-Took.ensures.fits.0
     (subst (λ xs. c.in-Took.count ≤ length xs) c.queue.ensures.exact c.in-Took.ensures.fits.1)
+
+pub returns-in-Took-clause-others : goal.returns-in-Took-clause-others
+returns-in-Took-clause-others g c = ap (forgotten c.args.conn) c.took.ensures.exact ∙ forgotten-taken_off c.args.conn c.in-Took.count c.args.hub.now
 
 pub returns-in-Took-clause-refused : goal.returns-in-Took-clause-refused
 returns-in-Took-clause-refused g c = refused_taken _ _ c.args.conn c.in-Took.count c.queue.result.now c.in-Took.ensures.tells
@@ -43,7 +47,10 @@ returns-in-Later-clause-err g c = λ turned.
     (refused_goes _ c.args.conn _ _ c.queue.result.now c.write.result _ _ _ c.in-Later.is c.write.ensures.tells c.write.ensures.cause) c.drop_lost.ensures.err
 
 pub returns-in-Later-clause-falls : goal.returns-in-Later-clause-falls
-returns-in-Later-clause-falls g c = on_ok_any c.drop_lost.result (falls_to_none _ _ c.requires c.drop_lost.ensures.emptied)
+returns-in-Later-clause-falls g c = on_ok_any c.drop_lost.result (falls_to_none _ _ c.requires (ap (queue_of c.args.conn) c.drop_lost.ensures.forgets ∙ queue_of-forgotten c.args.conn c.args.hub.now))
+
+pub returns-in-Later-clause-others : goal.returns-in-Later-clause-others
+returns-in-Later-clause-others g c = ap (forgotten c.args.conn) c.drop_lost.ensures.forgets ∙ forgotten-forgotten c.args.conn c.args.hub.now
 
 pub returns-in-Later-clause-lost : goal.returns-in-Later-clause-lost
 returns-in-Later-clause-lost g c = NeverFalls-trans (WriteCause-never_falls _ _ _ _ c.write.ensures.cause) c.drop_lost.ensures.lost

@@ -1,6 +1,5 @@
-use Rattle.std.proofs.Common.{rules, arith}
+use Rattle.std.proofs.Common.{rules, arith, refl}
 use Rattle.std.proofs.lemmas.Grind.{common_steps}
-use Rattle.plain_values.proofs.Theorems.{NeverFalls-refl}
 use Rattle.wire_io.proofs.ReadLemmas.{HasRead-empty, ReadCause-longer}
 use Rattle.wire_io.proofs.reading.read_all.Goals as goal
 
@@ -10,7 +9,7 @@ loop-content-init g c = record {
   within = omega (arith, c.new-content.ensures.len);
   front = HasRead-empty _ _ _ c.new-content.ensures.items;
   same = search rules;
-  faults = NeverFalls-refl _;
+  faults = refl;
 }
 
 -- more than the limit was read

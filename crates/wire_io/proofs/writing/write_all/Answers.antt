@@ -1,11 +1,10 @@
-use Rattle.std.proofs.Common.{arith}
-use Rattle.plain_values.proofs.Theorems.{NeverFalls-refl}
+use Rattle.std.proofs.Common.{arith, refl}
 use Rattle.wire_io.proofs.PuttingLemmas.{appended-none, tells-more, PutsAll-refused, PutsAll-whole, PutCause-refused, PutCause-more, PutCause-done}
 use Rattle.wire_io.proofs.writing.write_all.Goals as goal
 
 -- before the first call nothing was put
 pub loop-done-init : goal.loop-done-init
-loop-done-init g c = record { within = omega arith; put = appended-none _; faults = NeverFalls-refl _ }
+loop-done-init g c = record { within = omega arith; put = appended-none _; faults = refl }
 
 -- a call took a front of the rest
 pub loop-done-preserved : goal.loop-done-preserved

@@ -1,0 +1,24 @@
+//! Names, values and entries that the tests make.
+use dir_tree::Entry;
+use dn_names::{Dn, Value, make_value, parse};
+use schema_core::attr;
+use std::alloc::Global;
+use std::test::Fail;
+
+// The name of a text.
+pub fn name(alloc: Global, text: &str) -> Result<Dn, Fail> {
+    Ok(parse(alloc, text.as_bytes())?)
+}
+
+// The value of the octets of a text, of the type of the name.
+pub fn value(alloc: Global, kind: &str, text: &str) -> Result<Value, Fail> {
+    let kind = attr(kind).ok_or("no such type")?;
+    Ok(make_value(alloc, kind, text.as_bytes().to_vec(alloc)?)?)
+}
+
+// Adds a value of the type of this name.
+pub fn put(alloc: Global, entry: &mut Entry, kind: &str, text: &str) -> Result<bool, Fail> {
+    let kind = attr(kind).ok_or("no such type")?;
+    let value = make_value(alloc, kind, text.as_bytes().to_vec(alloc)?)?;
+    Ok(entry.push(kind, value)?)
+}

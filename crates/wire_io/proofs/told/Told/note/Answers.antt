@@ -1,6 +1,0 @@
-use Rattle.wire_io.proofs.TrackedLemmas.{IsTracked-noted}
-use Rattle.wire_io.proofs.told.Told.note.Goals as goal
-
--- the item was added
-pub invariant_of-self-2 : goal.invariant_of-self-2
-invariant_of-self-2 c = IsTracked-noted c.args.note c.args.octets.now c.requires (cc) c.self.invariant

@@ -1,6 +1,0 @@
-use Rattle.wire_io.proofs.TrackedLemmas.{IsTracked-opened}
-use Rattle.wire_io.proofs.told.Told.opened.Goals as goal
-
--- the number was put behind the others
-pub invariant_of-self-2 : goal.invariant_of-self-2
-invariant_of-self-2 c = IsTracked-opened c.args.conn (cc) c.in_ok-push.ensures.items c.self.invariant

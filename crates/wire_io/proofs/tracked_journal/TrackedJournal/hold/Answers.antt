@@ -1,0 +1,16 @@
+use Rattle.std.proofs.Common.{refl}
+use Rattle.wire_io.specs.declared.journal.Item.TheVariants.{Held}
+use Rattle.wire_io.proofs.PeersLemmas.{IsOf}
+use Rattle.wire_io.proofs.TrackedLemmas.{IsTracked-kept, IsTracked-changed}
+use Rattle.wire_io.proofs.tracked_journal.TrackedJournal.hold.Goals as goal
+
+-- room for the connection was not found, or was made
+pub invariant_of-self-in_err-add_peer : goal.invariant_of-self-in_err-add_peer
+invariant_of-self-in_err-add_peer c = IsTracked-kept c.reserve.ensures.kept c.self.invariant c.add_peer.ensures.kept
+
+-- the connection was changed
+pub invariant_of-self-2 : goal.invariant_of-self-2
+unfolding IsOf
+invariant_of-self-2 c =
+    IsTracked-changed c.args.conn (Held c.args.conn) refl (cc)
+    (IsTracked-kept c.reserve.ensures.kept c.self.invariant c.add_peer.ensures.kept) (c.set_held.ensures.held refl)
