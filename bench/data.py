@@ -3,8 +3,9 @@
 
 Usage: data.py FOLDER [--program PATH] [--runs N]
 
-The files have a suffix, one unit and people below it, in the order of their names; the last file has
-an entry more than a tree may have, and is refused. Each answer is compared with the one that is due.
+The files have a suffix, one unit and people below it, in the order of their names or, where the table
+says so, in the opposite order; the last file has an entry more than a tree may have, and is refused. Each
+answer is compared with the one that is due.
 Seconds are those of the processor, the least of the runs; memory is the most that the program had at
 once, and beside it the octets for each entry.
 """
@@ -27,10 +28,11 @@ def person(number):
             % (uid, uid, number, uid, number, number))
 
 
-def make(path, entries):
+def make(path, entries, backwards):
+    numbers = range(1, entries - 1)
     with open(path, 'w') as out:
         out.write(HEAD + UNIT)
-        for number in range(1, entries - 1):
+        for number in reversed(numbers) if backwards else numbers:
             out.write(person(number))
 
 
@@ -45,12 +47,13 @@ def run(program, words, answer, wanted=DONE):
     return usage.ru_utime + usage.ru_stime, usage.ru_maxrss
 
 
-def tries(path, entries):
+def tries(path, entries, backwards):
     """The commands to measure over a file of so many entries, each with its text and status."""
     with open(path, 'rb') as file:
         text = file.read()
     if entries <= MOST_ENTRIES:
-        return (('check', b'ok %d 0\n' % entries, DONE), ('dump', text, DONE))
+        check = ('check', b'ok %d 0\n' % entries, DONE)
+        return (check,) if backwards else (check, ('dump', text, DONE))
     line = text.count(b'\n', 0, text.rindex(b'dn: ')) + 1
     return (('check', b'bad data line %d: limit\n' % line, BAD_DATA),)
 
@@ -62,18 +65,22 @@ def main():
     parser.add_argument('--runs', type=int, default=3)
     args = parser.parse_args()
     os.makedirs(args.folder, exist_ok=True)
-    print('| command | entries | file MB | seconds | file MB/s | memory MiB | octets an entry |')
-    print('|---|---:|---:|---:|---:|---:|---:|')
-    for entries in (MOST_ENTRIES // 10, MOST_ENTRIES, MOST_ENTRIES + 1):
-        path = os.path.join(args.folder, 'people_%d.ldif' % entries)
-        make(path, entries)
+    print('| command | entries | order | file MB | seconds | file MB/s | memory MiB | octets an entry |')
+    print('|---|---:|---|---:|---:|---:|---:|---:|')
+    tenth = MOST_ENTRIES // 10
+    # the small files first: what this program keeps of a file counts in what is measured after it
+    for entries, backwards in ((tenth, False), (tenth, True), (MOST_ENTRIES, False), (MOST_ENTRIES, True),
+                               (MOST_ENTRIES + 1, False)):
+        order = 'opposite' if backwards else 'of names'
+        path = os.path.join(args.folder, 'people_%d_%s.ldif' % (entries, order.replace(' ', '_')))
+        make(path, entries, backwards)
         size = os.path.getsize(path)
-        for command, answer, status in tries(path, entries):
+        for command, answer, status in tries(path, entries, backwards):
             runs = [run(args.program, [command, path], answer, status) for _ in range(args.runs)]
             seconds = min(run[0] for run in runs)
             memory = min(run[1] for run in runs)
-            print('| `%s` | %s | %.1f | %.2f | %.1f | %.0f | %.0f |' % (
-                command, format(entries, ','), size / 1e6, seconds, size / 1e6 / seconds, memory / 1024,
+            print('| `%s` | %s | %s | %.1f | %.2f | %.1f | %.0f | %.0f |' % (
+                command, format(entries, ','), order, size / 1e6, seconds, size / 1e6 / seconds, memory / 1024,
                 memory * 1024 / entries))
 
 
