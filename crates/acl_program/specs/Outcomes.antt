@@ -9,9 +9,10 @@ use Rattle.dir_tree.specs.Entries.{EntryInformation}
 use Rattle.dir_tree.specs.Points.{access_subentries}
 use Rattle.ldif_core.specs.declared.types.LineCause.{LineCause}
 use Rattle.ldif_core.specs.declared.types.LineCause.TheVariants.{Syntax, Changetype, Base64}
+use Rattle.ldif_core.specs.WrittenFile.{written_file}
 use Rattle.op_write.specs.declared.fault.LoadCause.{LoadCause}
 use Rattle.op_write.specs.declared.fault.LoadCause.TheVariants.{Name, Kind, Value, Twice, Order, Rule, Limit}
-use Rattle.op_write.specs.DataFile.{FileCause, OfLine, OfRecord, OfMemory, ldif_text}
+use Rattle.op_write.specs.DataFile.{FileCause, OfLine, OfRecord, OfMemory}
 use Rattle.acl_program.specs.declared.status.Status.{Status}
 use Rattle.acl_program.specs.declared.status.Status.TheVariants.{Done, Usage, BadData, ShelfFault, SinkFault, LinkFault, TurnsSpent, NoMemory, BadScript}
 use Rattle.acl_program.specs.Lines.{replay_text}
@@ -53,7 +54,7 @@ cause_text OfMemory = []
 
 -- the tree as a data file, where it is asked for
 abbrev pub dump_text : Bool → List EntryInformation → List ℕ
-dump_text true entries = ldif_text entries
+dump_text true entries = written_file entries
 dump_text false entries = []
 
 -- what is printed
@@ -63,7 +64,7 @@ text_of NoFile = codes "data fault\n"
 text_of (BadDataLine line cause) = codes "bad data line " ++ (decimal line ++ (codes ": " ++ (cause_text cause ++ codes "\n")))
 text_of (BadLine line) = codes "bad script line " ++ (decimal line ++ codes "\n")
 text_of (Checked entries) = codes "ok " ++ (decimal (length entries) ++ (codes " " ++ (decimal (access_subentries entries) ++ codes "\n")))
-text_of (Dumped entries) = ldif_text entries
+text_of (Dumped entries) = written_file entries
 text_of (Replayed events turns dump entries) = replay_text events turns ++ dump_text dump entries
 text_of OutOfMemory = []
 

@@ -13,8 +13,8 @@ use Rattle.session_hub.specs.Loops.{buffer_length}
 use Rattle.command_words.specs.Command.{CommandView, IsCommand}
 use Rattle.dir_tree.specs.Entries.{EntryInformation}
 use Rattle.dir_tree.specs.Trees.{Numbered}
+use Rattle.ldif_core.specs.WrittenFile.{written_file}
 use Rattle.schema_rules.specs.Checking.{entries_of}
-use Rattle.op_write.specs.DataFile.{ldif_text}
 use Rattle.data_file.specs.Files.{AreOfTable}
 use Rattle.acl_program.specs.declared.status.Status.{Status}
 use Rattle.acl_program.specs.declared.status.Status.TheVariants.{Done, Usage, BadData, ShelfFault, SinkFault, LinkFault, TurnsSpent, NoMemory, BadScript}
@@ -34,7 +34,7 @@ journal_text journal = journal_lines journal (rising (opened_by journal))
 -- the tree as a data file, where there is one to put
 abbrev pub dumped_text : Option (List Numbered) → List ℕ
 dumped_text None = []
-dumped_text (Some rows) = ldif_text (entries_of rows)
+dumped_text (Some rows) = written_file (entries_of rows)
 
 -- its types are in the table
 abbrev pub IsDumpable : Option (List Numbered) → Type 0

@@ -1,6 +1,7 @@
 -- The words read from left to right: a function that gives the command of a list of words.
 use Rattle.std.specs.Prelude.{ℕ, Bool, ◌&&◌, List, [], ◌∷◌, length, Option, Some, None, option_map, option_and_then, slice_get, is_some, nat_le, ◌==◌, if◌then◌else◌}
 use Rattle.std.specs.List.{list_all}
+pub use Rattle.plain_values.specs.Options.{◌>>=◌}
 use Rattle.command_words.specs.declared.table.CommandName.{CommandName}
 use Rattle.command_words.specs.declared.table.CommandName.TheVariants as commands
 use Rattle.command_words.specs.declared.table.OptionName.{OptionName}
@@ -97,11 +98,6 @@ is_line row line = (length (texts_of Operands line) == row.operands)
 -- the line of these words
 unfoldable pub line_of : Row → List (List ℕ) → Option Line
 line_of row words = option_and_then (λ line. if is_line row line then Some line else None) (line_from row BeforeDelimiter words)
-
-infixl 10 ◌>>=◌
--- the next step, where there is something
-abbrev pub ◌>>=◌ : {A B : Type 0} → Option A → (A → Option B) → Option B
-found >>= next = option_and_then next found
 
 -- a text that a line gives, if there is a line
 abbrev pub text_in : Option Line → Sought → ℕ → Option (List ℕ)

@@ -13,7 +13,8 @@ use Rattle.ldif_core.specs.Fields.{is_kind, field_of, after_spaces, is_changetyp
 use Rattle.ldif_core.specs.Records.{without_comments, is_version, without_version, attribute_lines, record_of, records}
 use Rattle.ldif_core.specs.Places.{physical_from, logical_from, content_from, body_from, records_from}
 use Rattle.ldif_core.specs.Written.{is_plain, written_value, written_entry}
-use Rattle.op_write.specs.DataFile.{FileFault, OfLine, loads, loads_after, ldif_text}
+use Rattle.ldif_core.specs.WrittenFile.{written_file}
+use Rattle.op_write.specs.DataFile.{FileFault, OfLine, loads, loads_after}
 use Rattle.data_file.specs.Steps.{text_at}
 
 -- lines that end in LF
@@ -39,8 +40,8 @@ unfolding ended the_entries loads loads_after continued beginning logical is_kin
 change = refl
 
 -- no entries are written as the version alone
-none : ldif_text [] ≡ codes "version: 1\n"
-unfolding ldif_text
+none : written_file [] ≡ codes "version: 1\n"
+unfolding written_file
 none = refl
 
 -- the text of a number is that of its entry, and nothing where it is not in use
@@ -61,6 +62,6 @@ unused : text_at rows 8 ≡ []
 unfolding rows
 unused = refl
 
-whole : ldif_text (domain ∷ []) ≡ codes "version: 1\n\ndn: dc=t\ndc: t\n"
-unfolding domain ldif_text written_entry written_value is_plain attributes printing.print_name printing.print_by printing.print_value class_of
+whole : written_file (domain ∷ []) ≡ codes "version: 1\n\ndn: dc=t\ndc: t\n"
+unfolding domain written_file written_entry written_value is_plain attributes printing.print_name printing.print_by printing.print_value class_of
 whole = refl

@@ -9,7 +9,6 @@ use Rattle.ldif_core.specs.declared.types.BadLine.{BadLine}
 use Rattle.ldif_core.specs.declared.types.BadLine.TheVariants as reading
 use Rattle.ldif_core.specs.Places.{records_from, IsNext, IsBadAt}
 use Rattle.schema_rules.specs.Checking.{entries_of}
-use Rattle.op_write.specs.declared.fault.LoadFault.TheVariants as loading
 use Rattle.op_write.specs.Loading.{◌>>=◌, loaded_entry, IsLoaded}
 use Rattle.op_write.specs.DataFile.{FileFault, put_entry_in, in_file, record_entry, loads_after, loads_records, loads, file_start}
 use Rattle.data_file.specs.declared.fault.DataFault.{DataFault}

@@ -12,10 +12,10 @@ use Rattle.dir_tree.specs.Entries.{EntryInformation}
 use Rattle.dir_tree.specs.declared.number.EntryNo.{EntryNo}
 use Rattle.dir_tree.specs.Trees.{Numbered, entry_of}
 use Rattle.ldif_core.specs.Written.{AreInTable}
+use Rattle.ldif_core.specs.WrittenFile.{written_file, written_record, written_records}
 use Rattle.schema_rules.specs.Checking.{entries_of}
-use Rattle.op_write.specs.DataFile.{ldif_text}
 use Rattle.data_file.specs.Files.{AreOfTable}
-use Rattle.data_file.specs.Steps.{record_text, records_text, text_at}
+use Rattle.data_file.specs.Steps.{text_at}
 
 -- a text of nothing was put
 pub PutsAll-empty : (old : Option (List ℕ)) (text : List ℕ) → text ≡ [] → PutsAll {T = Unit {0}} old text (Ok tt) old
@@ -26,9 +26,9 @@ pub PutsAll-same : (old new : Option (List ℕ)) (text other : List ℕ) (result
 PutsAll-same old new text other result same puts = rw same puts
 
 -- the file is the version and the records
-pub ldif_text-parts : (entries : List EntryInformation) → ldif_text entries ≡ codes "version: 1\n" ++ records_text entries
-unfolding ldif_text
-ldif_text-parts entries = refl
+pub written_file-parts : (entries : List EntryInformation) → written_file entries ≡ codes "version: 1\n" ++ written_records entries
+unfolding written_file
+written_file-parts entries = refl
 
 -- the numbers of a walk
 abbrev pub numbers_of : List EntryNo → List ℕ
@@ -85,4 +85,4 @@ table-at (row ∷ rows) id entry table is =
 
 -- a number that is not in use has no record
 pub text_at-none : (rows : List Numbered) (id : ℕ) → entry_of id rows ≡ None → text_at rows id ≡ []
-text_at-none rows id none = ap (λ entry. option_map_or record_text entry []) none
+text_at-none rows id none = ap (λ entry. option_map_or written_record entry []) none

@@ -8,8 +8,9 @@ use Rattle.dir_tree.specs.Scopes.{scoped}
 use Rattle.dir_tree.specs.declared.scope.Scope.TheVariants.{Sub}
 use Rattle.dir_tree.specs.Trees.{Numbered, ids_of, entry_of, suffix_of, AreDistinct, IsTree}
 use Rattle.dir_tree.proofs.TreeTheorems.{scoped-Sub}
+use Rattle.ldif_core.specs.WrittenFile.{written_record, written_records}
 use Rattle.schema_rules.specs.Checking.{entries_of}
-use Rattle.data_file.specs.Steps.{record_text, records_text, text_at}
+use Rattle.data_file.specs.Steps.{text_at}
 
 -- what holds of each, by two things that hold of each
 all_both : {A : Type 0} (P Q R : A → Type 0) → ((item : A) → P item → Q item → R item) → (items : List A) → AllByRecursion P items → AllByRecursion Q items → AllByRecursion R items
@@ -38,17 +39,17 @@ all_found (first ∷ rest) distinct = (
 )
 
 -- so the records of the numbers are those of the entries
-texts_found : (rows items : List Numbered) → AllByRecursion (IsFound rows) items → flat_map (text_at rows) (ids_of items) ≡ records_text (entries_of items)
+texts_found : (rows items : List Numbered) → AllByRecursion (IsFound rows) items → flat_map (text_at rows) (ids_of items) ≡ written_records (entries_of items)
 unfolding IsFound
 texts_found rows [] found = refl
 texts_found rows (row ∷ items) found =
-    ap (λ entry. option_map_or record_text entry [] ++ flat_map (text_at rows) (ids_of items)) found.0
-    ∙ ap (λ later. record_text row.entry ++ later) (texts_found rows items found.1)
+    ap (λ entry. option_map_or written_record entry [] ++ flat_map (text_at rows) (ids_of items)) found.0
+    ∙ ap (λ later. written_record row.entry ++ later) (texts_found rows items found.1)
 
-pub records_text-below : (rows : List Numbered) (suffix : ℕ) → IsTree rows → suffix_of rows ≡ Some suffix → flat_map (text_at rows) (scoped Sub suffix rows) ≡ records_text (entries_of rows)
-records_text-below rows suffix tree is =
+pub written_records-below : (rows : List Numbered) (suffix : ℕ) → IsTree rows → suffix_of rows ≡ Some suffix → flat_map (text_at rows) (scoped Sub suffix rows) ≡ written_records (entries_of rows)
+written_records-below rows suffix tree is =
     ap (flat_map (text_at rows)) (scoped-Sub suffix rows tree is) ∙ texts_found rows rows (all_found rows tree.distinct)
 
-pub records_text-none : (rows : List Numbered) → suffix_of rows ≡ None → records_text (entries_of rows) ≡ []
-records_text-none [] none = refl
-records_text-none (row ∷ rows) none = absurd cc
+pub written_records-none : (rows : List Numbered) → suffix_of rows ≡ None → written_records (entries_of rows) ≡ []
+written_records-none [] none = refl
+written_records-none (row ∷ rows) none = absurd cc

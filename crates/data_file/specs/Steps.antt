@@ -1,7 +1,6 @@
 -- How a file is loaded record by record: what one step does, and what a fault of the crates below is here; and how one
 -- is written, entry by entry.
-use Rattle.std.specs.Prelude.{◌≡◌, ℕ, List, [], ◌∷◌, Result, Err}
-use Rattle.std.specs.List.{flat_map}
+use Rattle.std.specs.Prelude.{◌≡◌, ℕ, List, [], Result, Err}
 use Rattle.std.specs.Option.{option_map_or}
 use Rattle.dir_tree.specs.Entries.{EntryInformation}
 use Rattle.dir_tree.specs.Trees.{Numbered, entry_of}
@@ -10,7 +9,7 @@ use Rattle.ldif_core.specs.declared.types.Record.{Record}
 use Rattle.ldif_core.specs.declared.types.BadLine.{BadLine}
 use Rattle.ldif_core.specs.declared.types.BadLine.TheVariants as reading
 use Rattle.ldif_core.specs.Places.{IsNext}
-use Rattle.ldif_core.specs.Written.{written_entry}
+use Rattle.ldif_core.specs.WrittenFile.{written_record}
 use Rattle.op_write.specs.declared.fault.LoadFault.{LoadFault}
 use Rattle.op_write.specs.declared.fault.LoadFault.TheVariants as loading
 use Rattle.op_write.specs.Loading.{IsLoaded}
@@ -41,14 +40,6 @@ pub record IsStep (text : List ℕ) (from : Position) (old : List Numbered) (to 
   pub next : IsNext text from given to
   pub loaded : IsLoaded old given new
 
--- an empty line and the record of an entry
-abbrev pub record_text : EntryInformation → List ℕ
-record_text entry = 10 ∷ written_entry entry
-
--- the records of entries one after another, an empty line before each
-abbrev pub records_text : List EntryInformation → List ℕ
-records_text entries = flat_map record_text entries
-
 -- an empty line and the record of the entry of a number: nothing where the number is not in use
 abbrev pub text_at : List Numbered → ℕ → List ℕ
-text_at rows id = option_map_or record_text (entry_of id rows) []
+text_at rows id = option_map_or written_record (entry_of id rows) []

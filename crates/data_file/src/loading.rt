@@ -4,8 +4,9 @@ ghost use Rattle.std.specs.Prelude.{◌≡◌, [], Ok, IfOk, IfErr, IfSome, IfNo
 ghost use Rattle.schema_rules.specs.Checking.{entries_of};
 ghost use Rattle.schema_rules.specs.Rules.{IsGoodTree, MeetsRules};
 ghost use Rattle.ldif_core.specs.Places.{IsPlace, records_from};
+ghost use Rattle.ldif_core.specs.WrittenFile.{written_file};
 ghost use Rattle.op_write.specs.Loading.{IsLoaded, loaded_entry};
-ghost use Rattle.op_write.specs.DataFile.{loads, loads_after, ldif_text, file_start, in_file};
+ghost use Rattle.op_write.specs.DataFile.{loads, loads_after, file_start, in_file};
 ghost use Rattle.data_file.specs.Files.{IsDataFault, AreOfTable};
 ghost use Rattle.data_file.specs.Steps.{IsStep, IsRefused, of_line, of_record};
 
@@ -25,7 +26,7 @@ pub fn load(alloc: Global, text: &[u8]) -> Result<Tree, DataFault>
     ensures good { IfOk result (λ tree. IsGoodTree (entries_of tree)) }
     ensures table { IfOk result (λ tree. AreOfTable (entries_of tree)) }
     ensures again { IfOk result (λ tree.
-        loads (ldif_text (entries_of tree)) ≡ Ok (entries_of tree)) }
+        loads (written_file (entries_of tree)) ≡ Ok (entries_of tree)) }
     ensures bad { IfErr result (λ fault. IsDataFault fault (loads text.now)) }
 {
     let mut tree = Tree::new(alloc);

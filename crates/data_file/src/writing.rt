@@ -5,10 +5,10 @@ ghost use Rattle.wire_io.specs.Putting.{PutsAll, PutCause};
 ghost use Rattle.dir_tree.specs.Scopes.{scoped};
 ghost use Rattle.dir_tree.specs.declared.scope.Scope.TheVariants.{Sub};
 ghost use Rattle.ldif_core.specs.Written.{AreInTable};
+ghost use Rattle.ldif_core.specs.WrittenFile.{written_file, written_record, written_records};
 ghost use Rattle.schema_rules.specs.Checking.{entries_of};
-ghost use Rattle.op_write.specs.DataFile.{ldif_text};
 ghost use Rattle.data_file.specs.Files.{AreOfTable};
-ghost use Rattle.data_file.specs.Steps.{record_text, records_text, text_at};
+ghost use Rattle.data_file.specs.Steps.{text_at};
 
 use crate::fault::NoMemory;
 use dir_tree::{Entry, EntryNo, Scope, Tree};
@@ -21,7 +21,7 @@ use wire_io::{PutFault, Sink, write_all};
 /// sink's count of faults rose.
 pub fn put_tree<K: Sink>(alloc: Global, tree: &Tree, out: &mut K) -> Result<(), PutFault>
     requires table { AreOfTable (entries_of tree.now) }
-    ensures tells { PutsAll (K.put out.old) (ldif_text (entries_of tree.now))
+    ensures tells { PutsAll (K.put out.old) (written_file (entries_of tree.now))
         result (K.put out.new) }
     ensures cause { PutCause (K.faults out.old) (K.faults out.new) result }
 {
@@ -34,7 +34,7 @@ pub fn put_tree<K: Sink>(alloc: Global, tree: &Tree, out: &mut K) -> Result<(), 
 // Puts the records of all entries.
 fn put_entries<K: Sink>(alloc: Global, tree: &Tree, out: &mut K) -> Result<(), PutFault>
     requires table { AreOfTable (entries_of tree.now) }
-    ensures tells { PutsAll (K.put out.old) (records_text (entries_of tree.now))
+    ensures tells { PutsAll (K.put out.old) (written_records (entries_of tree.now))
         result (K.put out.new) }
     ensures cause { PutCause (K.faults out.old) (K.faults out.new) result }
 {
@@ -87,7 +87,7 @@ fn put_at<K: Sink>(
 // Puts the record of the entry, from a text that is used again.
 fn put_record<K: Sink>(entry: &Entry, text: &mut Vec<u8>, out: &mut K) -> Result<(), PutFault>
     requires { AreInTable entry.now.attributes }
-    ensures tells { PutsAll (K.put out.old) (record_text entry.now) result (K.put out.new) }
+    ensures tells { PutsAll (K.put out.old) (written_record entry.now) result (K.put out.new) }
     ensures cause { PutCause (K.faults out.old) (K.faults out.new) result }
 {
     match write_record(entry, text) {
@@ -99,7 +99,7 @@ fn put_record<K: Sink>(entry: &Entry, text: &mut Vec<u8>, out: &mut K) -> Result
 // Writes an empty line and the record of the entry in place of what the text was.
 fn write_record(entry: &Entry, text: &mut Vec<u8>) -> Result<(), NoMemory>
     requires { AreInTable entry.now.attributes }
-    ensures ok { OnOk result (text.new.items ≡ record_text entry.now) }
+    ensures ok { OnOk result (text.new.items ≡ written_record entry.now) }
 {
     text.clear();
     text.extend_from_slice(b"\n")?;

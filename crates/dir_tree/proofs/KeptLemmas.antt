@@ -81,7 +81,7 @@ place_in slots order rows name view =
 pub record PutIn (slots : List (Option EntryInformation)) (order : List ℕ) (id : ℕ) (entry : EntryInformation) (rows : List Numbered) : Type 0 where
   pub kept : IsKept slots order
   pub shown : rows_of slots order ≡ put_row (record { id = id; entry = entry }) rows
-  pub only : entry_of id rows ≡ None
+  pub free : entry_of id rows ≡ None
 
 module _ (slots slots' : List (Option EntryInformation)) (order order' : List ℕ) (rows : List Numbered) (id place : ℕ) (entry : EntryInformation) where
   pub put_kept : IsKept slots order → rows_of slots order ≡ rows → HasSameSlots slots slots' → count_full slots' ≡ length order → length slots' ≤ 200000 → id < length slots' → slot_of slots' id ≡ None → place ≡ place_of entry.name rows → entry.name ≢ [] → insert_refusal entry.name rows ≡ None → order' ≡ order → PutIn (set slots' id (Some entry)) (insert order' place id) id entry rows
@@ -98,7 +98,7 @@ module _ (slots slots' : List (Option EntryInformation)) (order order' : List �
       rw as_before (record {
         kept = after;
         shown = put ∙ ap (put_row (record { id = id; entry = entry })) view';
-        only = rw (← view') (entry_of-rows_of slots' order id (kept'.used id) ∙ empty);
+        free = rw (← view') (entry_of-rows_of slots' order id (kept'.used id) ∙ empty);
       })
 
 -- the rows without a number

@@ -28,7 +28,7 @@ impl Tree {
         requires { entry.name ≢ [] }
         ensures ok { IfOk result (λ no. self.new ≡ put_entry no.0 entry self.old) }
         ensures fits { IfOk result (λ no. no.0 < most_entries) }
-        ensures only { IfOk result (λ no. entry_of no.0 self.old ≡ None) }
+        ensures free { IfOk result (λ no. entry_of no.0 self.old ≡ None) }
         ensures exact { OnOk result (insert_refusal entry.name self.old ≡ None) }
         // Want of memory may come before the other causes.
         ensures cause { IfErr result (λ refusal. (refusal ≡ InsertRefusal.NoMemory)
@@ -96,7 +96,7 @@ impl Tree {
         requires placed { place ≡ place_of entry.name self.old }
         ensures ok { IfOk result (λ no. self.new ≡ put_entry no.0 entry self.old) }
         ensures fits { IfOk result (λ no. no.0 < most_entries) }
-        ensures only { IfOk result (λ no. entry_of no.0 self.old ≡ None) }
+        ensures free { IfOk result (λ no. entry_of no.0 self.old ≡ None) }
         ensures kept { OnErr result (self.new ≡ self.old) }
     {
         self.order.reserve(1)?;

@@ -18,8 +18,8 @@ impl Tree {
     /// Each refusal comes in exactly one case: `Absent` for a number that is not in use, and `HasBelow` for an entry
     /// that has entries below it. `NoMemory` never comes.
     pub fn remove(&mut self, no: EntryNo) -> Result<Entry, RemoveRefusal>
-        ensures ok { IfOk result (λ entry. entry_of no.0 self.old ≡ Some entry) }
-        ensures only { OnOk result (self.new ≡ without no.0 self.old) }
+        ensures found { IfOk result (λ entry. entry_of no.0 self.old ≡ Some entry) }
+        ensures ok { OnOk result (self.new ≡ without no.0 self.old) }
         ensures exact { OnOk result (remove_refusal no.0 self.old ≡ None) }
         ensures cause { IfErr result (λ refusal. remove_refusal no.0 self.old ≡ Some refusal) }
         ensures kept { OnErr result (self.new ≡ self.old) }
@@ -60,7 +60,7 @@ impl Tree {
     // Takes the entry of the number out of its place.
     fn take_out(&mut self, no: EntryNo, place: usize) -> Entry
         requires { IsRemovable no.0 place self.old }
-        ensures ok { entry_of no.0 self.old ≡ Some result }
+        ensures found { entry_of no.0 self.old ≡ Some result }
         ensures exact { self.new ≡ without no.0 self.old }
     {
         let _number = self.order.remove(place);

@@ -26,8 +26,8 @@ impl Tree {
     /// another superior, and `HasBelow` where the new name is not the same as the old one and entries stand below.
     /// `NoMemory` never comes.
     pub fn replace(&mut self, no: EntryNo, entry: Entry) -> Result<Entry, ReplaceRefusal>
-        ensures ok { IfOk result (λ old. entry_of no.0 self.old ≡ Some old) }
-        ensures only { OnOk result (self.new ≡ put_entry no.0 entry (without no.0 self.old)) }
+        ensures found { IfOk result (λ old. entry_of no.0 self.old ≡ Some old) }
+        ensures ok { OnOk result (self.new ≡ put_entry no.0 entry (without no.0 self.old)) }
         ensures exact { OnOk result (replace_refusal no.0 entry.name self.old ≡ None) }
         ensures cause { IfErr result (λ refusal.
             replace_refusal no.0 entry.name self.old ≡ Some refusal) }
@@ -99,7 +99,7 @@ impl Tree {
     fn change(&mut self, no: EntryNo, from: usize, place: usize, entry: Entry) -> Entry
         requires may { IsReplaceable no.0 from entry.name self.old }
         requires placed { place ≡ place_of entry.name self.old }
-        ensures ok { entry_of no.0 self.old ≡ Some result }
+        ensures found { entry_of no.0 self.old ≡ Some result }
         ensures exact { self.new ≡ put_entry no.0 entry (without no.0 self.old) }
     {
         move_number(&mut self.order, from, place);

@@ -102,7 +102,7 @@ pub(crate) fn fill_slot(slots: &mut Vec<Option<Entry>>, id: usize, entry: Entry)
 /// Takes the entry out of the slot of the number, which then is empty.
 pub(crate) fn take_entry(slots: &mut Vec<Option<Entry>>, id: u32) -> Entry
     requires { IsSome (slot_of slots.old.items id) }
-    ensures ok { slot_of slots.old.items id ≡ Some result }
+    ensures found { slot_of slots.old.items id ≡ Some result }
     ensures exact { slots.new.items ≡ set slots.old.items id None }
 {
     match slots[id as usize].take() {
@@ -114,7 +114,7 @@ pub(crate) fn take_entry(slots: &mut Vec<Option<Entry>>, id: u32) -> Entry
 /// Puts the entry into the slot of the number, in place of the one that is there.
 pub(crate) fn replace_entry(slots: &mut Vec<Option<Entry>>, id: u32, entry: Entry) -> Entry
     requires { IsSome (slot_of slots.old.items id) }
-    ensures ok { slot_of slots.old.items id ≡ Some result }
+    ensures found { slot_of slots.old.items id ≡ Some result }
     ensures exact { slots.new.items ≡ set slots.old.items id (Some entry) }
 {
     match slots[id as usize].replace(entry) {

@@ -8,6 +8,7 @@ pub mod SpelledInGrammar
 pub mod GrammarIsSpelled
 pub mod OctetsLemmas
 pub mod NameOrderLemmas
+pub mod LastLemmas
 pub mod PutPairLemmas
 pub mod NamingTextLemmas
 pub mod ResolveLemmas

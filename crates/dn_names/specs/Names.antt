@@ -1,5 +1,5 @@
 -- What names are (X.501 9.2 and 9.3): RDNs one behind the other, from the root on, each of some types with values.
-use Rattle.std.specs.Prelude.{◌≡◌, ℕ, true, List, map}
+use Rattle.std.specs.Prelude.{◌≡◌, ℕ, ◌-◌, true, List, length, drop, map, flat_map}
 use Rattle.std.specs.List.{AllByRecursion}
 use Rattle.std.specs.Str.{is_utf8}
 use Rattle.std.specs.declared.rc.Rc.{Rc}
@@ -17,6 +17,10 @@ pub record TypeAndValue : Type 0 where
 -- a name
 abbrev pub RdnSequence : Type 0
 RdnSequence = List (List TypeAndValue)
+
+-- the pairs of the last RDN; none of the empty name
+abbrev pub last_rdn : RdnSequence → List TypeAndValue
+last_rdn name = flat_map (λ rdn. rdn) (drop (length name - 1) name)
 
 -- an RDN as the program keeps it: pairs that names may share
 abbrev pub SharedRdn : Type 0 → Type 0

@@ -2,7 +2,7 @@
 
 ghost use Rattle.std.specs.Prelude.{◌≡◌, ◌++◌, IfOk, OnOk, length, slice_get};
 ghost use Rattle.std.specs.Option.{option_map};
-ghost use Rattle.dn_names.specs.Names.{rdns_of};
+ghost use Rattle.dn_names.specs.Names.{last_rdn, rdns_of};
 
 use crate::value::Value;
 use plain_values::OneOrMany;
@@ -76,6 +76,16 @@ impl Dn {
         ensures exact { option_map (λ rdn. rdn.now) result ≡ slice_get self.now index }
     {
         self.rdns.get(index).map(|rdn| rdn.as_slice())
+    }
+
+    /// The pairs of the last RDN; none where the name is empty.
+    pub fn last_rdn(&self) -> &[Pair]
+        ensures exact { result.now ≡ last_rdn self.now }
+    {
+        match self.rdn(self.len().saturating_sub(1)) {
+            Some(rdn) => rdn,
+            None => &[],
+        }
     }
 
     /// The same name; RDNs are shared. The error comes where memory is refused.

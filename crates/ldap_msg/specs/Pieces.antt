@@ -1,6 +1,7 @@
 -- Elements one after the other, as the components of a SEQUENCE (X.690 8.9), and the elements that may follow the
 -- components that are known (RFC 4511 section 4).
 use Rattle.std.specs.Prelude.{◌≡◌, ℕ, zero, suc, ◌≤◌, Bool, true, false, ◌&&◌, List, [], ◌∷◌, ◌++◌, length, take, drop, Option, Some, None, ◌==◌, nat_lt, nat_le, if◌then◌else◌, IsTrue, ℤ, pos, negsuc}
+pub use Rattle.plain_values.specs.Options.{◌>>=◌}
 use Rattle.ber_core.specs.declared.kinds.Header.{Header}
 use Rattle.ber_core.specs.declared.kinds.Header.TheVariants as header
 use Rattle.ber_core.specs.Element.{Elem}
@@ -51,12 +52,6 @@ piece_of bytes header.Bad = None
 -- the element at the front, where all its octets are there
 unfoldable pub piece_at : List ℕ → Option Piece
 piece_at bytes = piece_of bytes (header_at bytes)
-
-infixl 10 ◌>>=◌
--- the next step, where there is something
-abbrev pub ◌>>=◌ : {A B : Type 0} → Option A → (A → Option B) → Option B
-(Some value) >>= next = next value
-None >>= next = None
 
 -- an element with this tag at the front
 unfoldable pub tagged_at : ℕ → List ℕ → Option Piece

@@ -9,9 +9,10 @@ use Rattle.std.proofs.lemmas.List.Splits.{slice_split-cons_yes}
 use Rattle.ldif_core.specs.declared.types.Position.{Position}
 use Rattle.ldif_core.specs.Lines.{Line, numbered, logical}
 use Rattle.ldif_core.specs.Records.{is_comment, without_comments, is_version, without_version, is_blank, record_between, records}
-use Rattle.ldif_core.specs.Places.{physical_from, logical_from, content_from, body_from}
+use Rattle.ldif_core.specs.Places.{IsLinesAfter, physical_from, logical_from, content_from, body_from}
 use Rattle.ldif_core.specs.Steps.{ahead, is_blank_ahead, is_version_ahead, IsRead}
 use Rattle.ldif_core.proofs.LogicalLemmas.{choose, other_choice}
+use Rattle.ldif_core.proofs.AfterLemmas.{after_both}
 
 -- at the end no line is left
 pub content-none : (text : List ℕ) (at : Position) → length text ≤ at.offset → content_from text at ≡ []
@@ -58,20 +59,21 @@ after_version (Some line) rest is = choose (is_version line) _ _ is
 -- the same was read of an equal list
 pub IsRead-same : (left whole : List Line) (text : List ℕ) (from : Position) (found : Option Line) (to : Position) → whole ≡ left → IsRead left text from found to → IsRead whole text from found to
 IsRead-same left whole text from found to same read =
-    record { lines = same ∙ read.lines; end = read.end; later = read.later; after = read.after; place = read.place }
+    record { lines = same ∙ read.lines; end = read.end; later = read.later; after = read.after; place = read.place; passed = read.passed }
 
 -- the same was read from an earlier place
 pub later-still : (found : Option Line) (from at to : ℕ) → from ≤ at → IfSome found (λ _. at < to) → IfSome found (λ _. from < to)
 later-still None from at to within later = tt
 later-still (Some line) from at to within later = omega arith
 
-pub IsRead-before : (left whole : List Line) (text : List ℕ) (from at : Position) (found : Option Line) (to : Position) → whole ≡ left → from.offset ≤ at.offset → IsRead left text at found to → IsRead whole text from found to
-IsRead-before left whole text from at found to same within read = record {
+pub IsRead-before : (left whole : List Line) (text : List ℕ) (from at : Position) (found : Option Line) (to : Position) → whole ≡ left → from.offset ≤ at.offset → IsLinesAfter text from at → IsRead left text at found to → IsRead whole text from found to
+IsRead-before left whole text from at found to same within passed read = record {
   lines = same ∙ read.lines;
   end = read.end;
   later = later-still found from.offset at.offset to.offset within read.later;
   after = omega (arith, read.after);
   place = read.place;
+  passed = after_both text from at to passed read.passed;
 }
 
 -- an empty line before records changes nothing

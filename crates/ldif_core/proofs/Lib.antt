@@ -1,10 +1,12 @@
 pub mod OnLiterals
 mod Examples
 mod PhysicalLemmas
+mod AfterLemmas
 mod LogicalLemmas
 mod FieldLemmas
 mod ContentLemmas
 mod RecordLemmas
+mod ReadsOnLemmas
 mod NextLemmas
 mod WrittenLemmas
 pub mod Theorems

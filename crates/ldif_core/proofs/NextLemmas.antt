@@ -7,10 +7,11 @@ use Rattle.ldif_core.specs.declared.types.BadLine.{BadLine}
 use Rattle.ldif_core.specs.declared.types.BadLine.TheVariants.{Bad, NoMemory}
 use Rattle.ldif_core.specs.Lines.{Line}
 use Rattle.ldif_core.specs.Records.{record_of, records}
-use Rattle.ldif_core.specs.Places.{IsPlace, IsNext, IsBadAt, content_from, records_from}
+use Rattle.ldif_core.specs.Places.{IsPlace, IsLinesAfter, IsNext, IsBadAt, content_from, records_from}
 use Rattle.ldif_core.specs.Steps.{ahead, is_blank_ahead, before_blank, after_blank, IsFault}
 use Rattle.ldif_core.proofs.ContentLemmas.{body-later}
 use Rattle.ldif_core.proofs.RecordLemmas.{records-first, records-nil}
+use Rattle.ldif_core.proofs.AfterLemmas.{after_both}
 
 -- no line is left
 pub records-none : (text : List ℕ) (from at : Position) (line : Option Line) → records_from text from ≡ records (ahead line (content_from text at)) → IfNone line (content_from text at ≡ []) → line ≡ None
@@ -32,14 +33,15 @@ records-later text at past = ap records (body-later text at past)
 -- the first record is good
 pub IsNext-read : (text : List ℕ) (from at to : Position) (line : Option Line) (first : Line) (found : Record) → records_from text from ≡ records (ahead line (content_from text at)) → line ≡ Some first → is_blank_ahead line ≡ false
     → record_of first (before_blank (content_from text at)) ≡ Ok found → after_blank (content_from text at) ≡ content_from text to
-    → from.offset < to.offset → IsPlace text to → IsNext text from found to
-IsNext-read text from at to line first found start is filled good rest later place = record {
+    → from.offset < to.offset → IsPlace text to → IsLinesAfter text from at → IsLinesAfter text at to → IsNext text from found to
+IsNext-read text from at to line first found start is filled good rest later place before passed = record {
   record_read =
       records-start text from at line first start is filled
       ∙ ap (λ front. front ∷ records (after_blank (content_from text at))) good
       ∙ ap (λ others. Ok found ∷ others) (ap records rest ∙ sym (records-later text to (omega arith)));
   later = later;
   place = place;
+  passed = after_both text from at to before passed;
 }
 
 -- it is bad

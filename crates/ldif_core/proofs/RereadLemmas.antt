@@ -19,7 +19,7 @@ use Rattle.ldif_core.specs.Records.{◌>>=◌, is_version, without_version, attr
 use Rattle.ldif_core.specs.Places.{file_start, content_from, body_from, records_from}
 use Rattle.ldif_core.specs.Steps.{before_blank, after_blank}
 use Rattle.ldif_core.specs.Written.{written_value, written_line, written_entry}
-use Rattle.ldif_core.specs.WrittenFile.{TypeAndOctets, values_in, IsWritable, lines_from, record_from, written_entries, written_file, entry_records}
+use Rattle.ldif_core.specs.WrittenFile.{TypeAndOctets, values_in, IsWritable, lines_from, record_from, written_records, written_file, entry_records}
 use Rattle.ldif_core.proofs.RecordLemmas.{before-line, after-line, before-blank, after-blank, before-nil, after-nil, lines-cons, record-good, records-first, records-nil}
 use Rattle.ldif_core.proofs.ContentLemmas.{records-blank}
 use Rattle.ldif_core.proofs.WrittenLineLemmas.{says, attribute-says, name-says, lines-inside, IsRow, row-of, filled-of}
@@ -115,10 +115,10 @@ body-start text rows is = ap without_version is
 
 -- a written file gives the records of its entries
 pub file-reread : (entries : List EntryInformation) → AllByRecursion IsWritable entries → records_from (written_file entries) file_start ≡ entry_records 2 entries
-unfolding records_from
+unfolding records_from written_file
 file-reread entries are =
     let rows = record { number = 1; octets = codes "version: 1" } ∷ file_rows 2 entries in
-    let read = ap (numbered 1) (lines-inside (codes "version: 1") (written_entries entries) refl) ∙ ap (λ later. record { number = 1; octets = codes "version: 1" } ∷ later) (file_rows-read 2 entries are) in
+    let read = ap (numbered 1) (lines-inside (codes "version: 1") (written_records entries) refl) ∙ ap (λ later. record { number = 1; octets = codes "version: 1" } ∷ later) (file_rows-read 2 entries are) in
     ap records (body-start (written_file entries) rows (content-read (written_file entries) rows read (record { begins = refl; says = refl }, file_rows-are 2 entries are)) ∙ body-version (file_rows 2 entries))
     ∙ file-records 2 entries are
 

@@ -17,7 +17,7 @@ use Rattle.ldif_core.specs.Fields.{is_changetype}
 use Rattle.ldif_core.specs.Records.{is_comment, without_comments}
 use Rattle.ldif_core.specs.Places.{file_start, physical_from, logical_from, content_from}
 use Rattle.ldif_core.specs.Written.{written_value, written_line, written_values, written_attributes, written_entry, AreInTable}
-use Rattle.ldif_core.specs.WrittenFile.{TypeAndOctets, values_in, IsWritable, written_entries}
+use Rattle.ldif_core.specs.WrittenFile.{TypeAndOctets, values_in, IsWritable, written_records}
 use Rattle.ldif_core.proofs.LogicalLemmas.{other_choice, choose}
 use Rattle.ldif_core.proofs.TableNames.{not_changetype-name_of}
 use Rattle.ldif_core.proofs.WrittenLineLemmas.{lines-inside, lines-written, IsRow}
@@ -103,12 +103,12 @@ entry_rows-read number entry rest is =
     ∙ value_rows-read (number + 1) (values_in entry.attributes) rest (given-entry entry is))
 
 -- the lines of the written entries of a file
-pub file_rows-read : (number : ℕ) (entries : List EntryInformation) → AllByRecursion IsWritable entries → numbered number (lines (written_entries entries)) ≡ file_rows number entries
+pub file_rows-read : (number : ℕ) (entries : List EntryInformation) → AllByRecursion IsWritable entries → numbered number (lines (written_records entries)) ≡ file_rows number entries
 file_rows-read number [] are = refl
 file_rows-read number (entry ∷ rest) are =
-    ap (numbered number) (lines-inside [] (written_entry entry ++ written_entries rest) refl)
+    ap (numbered number) (lines-inside [] (written_entry entry ++ written_records rest) refl)
     ∙ ap (λ later. record { number = number; octets = [] } ∷ later)
-    (entry_rows-read (number + 1) entry (written_entries rest) are.0
+    (entry_rows-read (number + 1) entry (written_records rest) are.0
     ∙ ap (λ later. entry_rows (number + 1) entry ++ later) (file_rows-read (number + 1 + 1 + length (values_in entry.attributes)) rest are.1))
 
 -- lines of which none continues another stand for themselves

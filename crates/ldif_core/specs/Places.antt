@@ -1,5 +1,5 @@
 -- What a data file says from a place on: its lines, and its records, each with the place after it.
-use Rattle.std.specs.Prelude.{◌≡◌, ℕ, ◌+◌, ◌<◌, ◌≤◌, ◌==◌, if◌then◌else◌, List, ◌∷◌, length, drop, Result, Ok, Err}
+use Rattle.std.specs.Prelude.{◌≡◌, ℕ, ◌+◌, ◌<◌, ◌≤◌, ◌==◌, if◌then◌else◌, List, ◌∷◌, ◌++◌, length, drop, Result, Ok, Err}
 use Rattle.std.specs.Str.Lines.{lines}
 use Rattle.ldif_core.specs.declared.types.Position.{Position}
 use Rattle.ldif_core.specs.declared.types.Record.{Record}
@@ -20,6 +20,12 @@ file_start = record { offset = 0; line = 1 }
 -- the lines as they stand
 unfoldable pub physical_from : List ℕ → Position → List Line
 physical_from text place = numbered place.line (lines (drop place.offset text))
+
+-- the second place stands some whole lines after the first, and its number is that of the line after these
+pub record IsLinesAfter (text : List ℕ) (from to : Position) : Type 0 where
+  pub passed : List Line
+  pub lines : physical_from text from ≡ passed ++ physical_from text to
+  pub counted : to.line ≡ from.line + length passed
 
 -- the lines with their continuations
 unfoldable pub logical_from : List ℕ → Position → List Line
@@ -43,6 +49,7 @@ pub record IsNext (text : List ℕ) (from : Position) (first : Record) (to : Pos
   pub record_read : records_from text from ≡ Ok first ∷ records_from text to
   pub later : from.offset < to.offset
   pub place : IsPlace text to
+  pub passed : IsLinesAfter text from to
 
 -- the first record from the place on is bad for this; want of memory may come anywhere
 abbrev pub IsBadAt : List ℕ → Position → BadLine → Type 0

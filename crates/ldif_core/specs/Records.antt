@@ -1,7 +1,8 @@
 -- The records of a data file (RFC 2849, ldif-content): lines between empty ones, read line by line.
-use Rattle.std.specs.Prelude.{◌==◌, not, Bool, if◌then◌else◌, List, [], ◌∷◌, length, filter, codes, Option, Some, None, Result, Ok, Err}
+use Rattle.std.specs.Prelude.{◌==◌, not, Bool, if◌then◌else◌, List, [], ◌∷◌, length, filter, codes, Option, Some, None, Result, Ok}
 use Rattle.std.specs.List.{filter_map, slice_split}
 use Rattle.std.specs.Str.{bytes_eq}
+pub use Rattle.plain_values.specs.Results.{◌>>=◌}
 use Rattle.ldif_core.specs.declared.types.Record.{Record}
 use Rattle.ldif_core.specs.declared.types.RecordLine.{RecordLine}
 use Rattle.ldif_core.specs.declared.types.BadLine.{BadLine}
@@ -28,12 +29,6 @@ without_version (line ∷ rest) = if is_version line then rest else line ∷ res
 -- an empty line
 abbrev pub is_blank : Line → Bool
 is_blank line = length line.octets == 0
-
-infixl 10 ◌>>=◌
--- the ? of the logic: the second step, where the first gave something
-abbrev pub ◌>>=◌ : {A B : Type 0} → Result A BadLine → (A → Result B BadLine) → Result B BadLine
-Ok value >>= next = next value
-Err bad >>= next = Err bad
 
 -- the attribute lines of a record, or the first bad one
 unfoldable pub attribute_lines : List Line → Result (List RecordLine) BadLine

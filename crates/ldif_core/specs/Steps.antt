@@ -8,7 +8,7 @@ use Rattle.ldif_core.specs.declared.types.BadLine.TheVariants.{Bad, NoMemory}
 use Rattle.ldif_core.specs.Lines.{Line, is_continuation}
 use Rattle.ldif_core.specs.Fields.{Field}
 use Rattle.ldif_core.specs.Records.{is_blank, is_version}
-use Rattle.ldif_core.specs.Places.{IsPlace, content_from}
+use Rattle.ldif_core.specs.Places.{IsPlace, IsLinesAfter, content_from}
 
 -- the first line continues the one before
 abbrev pub goes_on : List Line → Bool
@@ -28,6 +28,7 @@ pub record IsRead (left : List Line) (text : List ℕ) (from : Position) (found 
   pub later : IfSome found (λ _. from.offset < to.offset)
   pub after : from.offset ≤ to.offset
   pub place : IsPlace text to
+  pub passed : IsLinesAfter text from to
 
 -- the line that was read is empty
 abbrev pub is_blank_ahead : Option Line → Bool

@@ -37,13 +37,17 @@ abbrev pub record_from : ℕ → EntryInformation → Record
 record_from number entry =
     record { line = number; name = print_name entry.name; lines = lines_from (number + 1) (values_in entry.attributes) }
 
--- a file of entries: the version, and an empty line before each record
-abbrev pub written_entries : List EntryInformation → List ℕ
-written_entries entries = flat_map (λ entry. 10 ∷ written_entry entry) entries
+-- an empty line and the record of an entry
+abbrev pub written_record : EntryInformation → List ℕ
+written_record entry = 10 ∷ written_entry entry
 
--- the whole file
-abbrev pub written_file : List EntryInformation → List ℕ
-written_file entries = codes "version: 1" ++ (10 ∷ written_entries entries)
+-- the records of entries one after another
+abbrev pub written_records : List EntryInformation → List ℕ
+written_records entries = flat_map written_record entries
+
+-- the file of entries: the version, and the records
+unfoldable pub written_file : List EntryInformation → List ℕ
+written_file entries = codes "version: 1" ++ (10 ∷ written_records entries)
 
 -- the records of the entries, from the number of the first empty line on
 abbrev pub entry_records : ℕ → List EntryInformation → List (Result Record BadLine)

@@ -2,7 +2,7 @@
 
 ghost use Rattle.std.specs.Prelude.{◌≡◌, ◌<◌, [], false, IfOk, IfSome, IfNone};
 ghost use Rattle.ldif_core.specs.Records.{records};
-ghost use Rattle.ldif_core.specs.Places.{IsPlace, content_from, body_from, records_from};
+ghost use Rattle.ldif_core.specs.Places.{IsPlace, IsLinesAfter, content_from, body_from, records_from};
 ghost use Rattle.ldif_core.specs.Steps.{IsRead, ahead, is_blank_ahead, ends_ahead, is_version_ahead};
 
 use crate::lines::begins_with;
@@ -94,6 +94,7 @@ pub(crate) fn first_filled(
     ensures end { IfOk result (λ read. IfNone read.0 (content_from text.now read.1 ≡ [])) }
     ensures later { IfOk result (λ read. IfSome read.0 (λ _. from.offset < read.1.offset)) }
     ensures place { IfOk result (λ read. IsPlace text.now read.1) }
+    ensures passed { IfOk result (λ read. IsLinesAfter text.now from read.1) }
 {
     let (mut line, mut at) = first_content(alloc, text, from)?;
     'blanks: while is_blank(&line) {

@@ -2,7 +2,7 @@
 
 ghost use Rattle.std.specs.Prelude.{◌≡◌, ◌<◌, ◌∷◌, length, true};
 ghost use Rattle.ldif_core.specs.Lines.{begins_with};
-ghost use Rattle.ldif_core.specs.Places.{IsPlace, physical_from};
+ghost use Rattle.ldif_core.specs.Places.{IsPlace, IsLinesAfter, physical_from};
 ghost use Rattle.ldif_core.specs.Steps.{goes_on};
 
 use crate::types::Position;
@@ -25,6 +25,7 @@ pub(crate) fn first_line(text: &[u8], at: Position) -> (&[u8], Position)
         ≡ record { number = at.line; octets = result.0.now } ∷ physical_from text.now result.1 }
     ensures later { at.offset < result.1.offset }
     ensures place { IsPlace text.now result.1 }
+    ensures passed { IsLinesAfter text.now at result.1 }
 {
     let (line, taken) = plain_values::first_line(text.split_at(at.offset).1);
     let after = Position {

@@ -2,7 +2,7 @@
 
 ghost use Rattle.std.specs.Prelude.{◌≡◌, ◌≤◌, [], ◌∷◌, false, Ok, IfOk, IfErr, IfSome, IfNone, List, ℕ};
 ghost use Rattle.ldif_core.specs.Records.{attribute_lines, record_of, records, is_blank};
-ghost use Rattle.ldif_core.specs.Places.{IsPlace, IsNext, IsBadAt, content_from, records_from};
+ghost use Rattle.ldif_core.specs.Places.{IsPlace, IsLinesAfter, IsNext, IsBadAt, content_from, records_from};
 ghost use Rattle.ldif_core.specs.Steps.{IsFault, ahead, before_blank, after_blank};
 
 use crate::content::{ends, first_filled, next_content};
@@ -28,6 +28,7 @@ fn attribute_lines<'a>(
         (ahead first.entry (content_from text.now from))))) }
     ensures after { IfOk result (λ read. from.offset ≤ read.1.offset) }
     ensures place { IfOk result (λ read. IsPlace text.now read.1) }
+    ensures passed { IfOk result (λ read. IsLinesAfter text.now from read.1) }
 {
     let mut lines = Vec::new(alloc);
     let mut line = first;
@@ -58,6 +59,7 @@ fn record_after(
         IsFault bad (record_of first.now (before_blank (content_from text.now from)))) }
     ensures after { IfOk result (λ read. from.offset ≤ read.1.offset) }
     ensures place { IfOk result (λ read. IsPlace text.now read.1) }
+    ensures passed { IfOk result (λ read. IsLinesAfter text.now from read.1) }
 {
     let (line, at) = next_content(alloc, text, from)?;
     let name = name_line(alloc, ends(&line), first)?;

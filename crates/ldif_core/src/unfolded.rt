@@ -2,7 +2,7 @@
 
 ghost use Rattle.std.specs.Prelude.{◌≡◌, ◌<◌, ◌≤◌, ◌++◌, ◌∷◌, length, IfOk};
 ghost use Rattle.ldif_core.specs.Lines.{continued, beginning};
-ghost use Rattle.ldif_core.specs.Places.{IsPlace, physical_from, logical_from};
+ghost use Rattle.ldif_core.specs.Places.{IsPlace, IsLinesAfter, physical_from, logical_from};
 
 use crate::lines::{first_line, goes_on};
 use crate::types::{NoMemory, Position};
@@ -61,6 +61,7 @@ fn join(
         beginning (physical_from text.now from) ≡ logical_from text.now found.1) }
     ensures later { IfOk result (λ found. from.offset ≤ found.1.offset) }
     ensures place { IfOk result (λ found. IsPlace text.now found.1) }
+    ensures passed { IfOk result (λ found. IsLinesAfter text.now from found.1) }
 {
     let mut joined = first.to_vec(alloc)?;
     let mut at = from;
@@ -84,6 +85,7 @@ pub(crate) fn first_unfolded(
         logical_from text.now at ≡ found.0 ∷ logical_from text.now found.1) }
     ensures later { IfOk result (λ found. at.offset < found.1.offset) }
     ensures place { IfOk result (λ found. IsPlace text.now found.1) }
+    ensures passed { IfOk result (λ found. IsLinesAfter text.now at found.1) }
 {
     let number = at.line;
     let (first, after) = first_line(text, at);

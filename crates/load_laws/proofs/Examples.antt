@@ -20,14 +20,15 @@ use Rattle.dir_tree.specs.Entries.{EntryInformation, IsGoodAttribute}
 use Rattle.dir_tree.specs.EntryClasses.{has_class}
 use Rattle.dir_tree.specs.Points.{is_subentry, is_access_subentry}
 use Rattle.dir_tree.specs.Trees.{Numbered, IsTree}
+use Rattle.ldif_core.specs.WrittenFile.{written_file}
 use Rattle.schema_rules.specs.Checking.{entries_of}
 use Rattle.schema_rules.specs.Rules.{lacks_own_value, breaks_classes, has_unread, has_two_values, is_misplaced, is_past_limits, broken_rule, MeetsRules}
 use Rattle.op_write.specs.Loading.{loaded_value}
-use Rattle.op_write.specs.DataFile.{loads, ldif_text}
+use Rattle.op_write.specs.DataFile.{loads}
 use Rattle.load_laws.specs.Loadable.{IsLoadableValue, IsLoadable}
 use Rattle.load_laws.proofs.OctetLemmas.{IsBytes-from_AreBelow, IsBytes-from_IsUtf8}
 use Rattle.load_laws.proofs.ValueLemmas.{IsLoadableValue-loaded}
-use Rattle.load_laws.proofs.LoadLemmas.{loads-ldif_text}
+use Rattle.load_laws.proofs.LoadLemmas.{loads-written_file}
 
 -- a value of octets, with its key
 abbrev value : String → String → Keyed
@@ -187,5 +188,5 @@ loadable_unit = record {
 }
 
 -- so its file gives them
-loaded : loads (ldif_text (organization ∷ unit ∷ [])) ≡ Ok (organization ∷ unit ∷ [])
-loaded = loads-ldif_text rows (λ is. cc) tree meets (loadable_organization, (loadable_unit, tt))
+loaded : loads (written_file (organization ∷ unit ∷ [])) ≡ Ok (organization ∷ unit ∷ [])
+loaded = loads-written_file rows (λ is. cc) tree meets (loadable_organization, (loadable_unit, tt))

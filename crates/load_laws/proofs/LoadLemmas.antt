@@ -4,20 +4,19 @@ use Rattle.std.specs.List.{AllByRecursion}
 use Rattle.std.proofs.lemmas.List.{append_assoc, append-nil}
 use Rattle.dir_tree.specs.Entries.{EntryInformation}
 use Rattle.dir_tree.specs.Trees.{Numbered, IsTree}
-use Rattle.ldif_core.specs.WrittenFile.{values_in, IsWritable, record_from, entry_records}
-use Rattle.ldif_core.specs.Places.{records_from}
+use Rattle.ldif_core.specs.WrittenFile.{values_in, IsWritable, record_from, entry_records, written_file}
 use Rattle.ldif_core.proofs.Theorems.{file-reread}
 use Rattle.schema_rules.specs.Checking.{entries_of}
 use Rattle.schema_rules.specs.Rules.{broken_rule, MeetsRules}
 use Rattle.schema_rules.proofs.Theorems.{Meets-from_broken_rule}
 use Rattle.op_write.specs.declared.fault.LoadFault.{LoadFault}
 use Rattle.op_write.specs.Loading.{◌>>=◌, placed, loaded_entry}
-use Rattle.op_write.specs.DataFile.{put_entry_in, in_file, loads_after, loads_records, file_start, loads, ldif_text}
+use Rattle.op_write.specs.DataFile.{put_entry_in, in_file, loads_after, loads_records, loads}
 use Rattle.load_laws.specs.Loadable.{IsLoadable}
 use Rattle.load_laws.proofs.OrderLemmas.{AreInOrder, AreRooted, all-entries_of, AreInOrder-entries_of, AreRooted-entries_of, before_place, put_entry_in-last}
 use Rattle.load_laws.proofs.OwnLemmas.{entry_of_record-record_from}
 use Rattle.load_laws.proofs.PlaceLemmas.{placed-front}
-use Rattle.load_laws.proofs.TextLemmas.{ldif_text-written_file, IsWritable-loadable}
+use Rattle.load_laws.proofs.TextLemmas.{IsWritable-loadable}
 
 -- the record of the entry after those of a front
 loaded_entry-front :
@@ -59,16 +58,15 @@ writable-front all front (entry ∷ back) is meets loadable =
     )
 
 -- so the file of a good tree gives its entries
-pub loads-ldif_text :
+pub loads-written_file :
     (rows : List Numbered) → rows ≢ [] → IsTree rows → MeetsRules (entries_of rows)
-    → AllByRecursion IsLoadable (entries_of rows) → loads (ldif_text (entries_of rows)) ≡ Ok (entries_of rows)
+    → AllByRecursion IsLoadable (entries_of rows) → loads (written_file (entries_of rows)) ≡ Ok (entries_of rows)
 unfolding loads
-loads-ldif_text [] filled tree meets loadable = absurd (filled refl)
-loads-ldif_text (row ∷ rows) filled tree meets loadable =
+loads-written_file [] filled tree meets loadable = absurd (filled refl)
+loads-written_file (row ∷ rows) filled tree meets loadable =
     let entries = entries_of (row ∷ rows) in
     let named = all-entries_of (λ (entry : EntryInformation). entry.name ≢ []) (row ∷ rows) tree.named in
     ap loads_records
-    (ap (λ text. records_from text file_start) (ldif_text-written_file entries)
-    ∙ file-reread entries (writable-front entries [] entries refl meets loadable))
+    (file-reread entries (writable-front entries [] entries refl meets loadable))
     ∙ loads_after-front entries [] entries 2 refl (AreInOrder-entries_of (row ∷ rows) tree.sorted)
     (AreRooted-entries_of (row ∷ rows) tree.rooted) meets named loadable

@@ -4,7 +4,7 @@ use Rattle.std.specs.List.{AllByRecursion, IsDistinct}
 use Rattle.std.proofs.lemmas.Bool.{eqb-true}
 use Rattle.schema_core.specs.Attributes.{attr_of}
 use Rattle.dn_names.specs.declared.error.BadName.{BadName}
-use Rattle.dn_names.specs.Names.{Keyed, TypeAndValue, RdnSequence}
+use Rattle.dn_names.specs.Names.{Keyed, TypeAndValue, RdnSequence, last_rdn}
 use Rattle.dn_names.specs.GoodNames.{IsGoodName}
 use Rattle.dn_names.specs.NameText.{read_name}
 use Rattle.dn_names.proofs.Theorems.{IsGoodName-from_NameText, NameText-Gives}
@@ -13,13 +13,12 @@ use Rattle.dir_tree.specs.Changes.{put_value, with_value}
 use Rattle.dir_tree.proofs.Theorems.{good-with_value}
 use Rattle.ldif_core.specs.declared.types.Record.{Record}
 use Rattle.ldif_core.specs.declared.types.RecordLine.{RecordLine}
-use Rattle.schema_rules.specs.Rules.{last_pairs}
 use Rattle.op_write.specs.declared.fault.LoadFault.{LoadFault}
 use Rattle.op_write.specs.Loading.{◌>>=◌, named, loaded_value, with_new_value, with_new_kind, with_line, with_lines, with_pairs, with_own_values, entry_of_record}
 use Rattle.load_laws.specs.Loadable.{IsLoadableValue, IsLoadable}
 use Rattle.load_laws.proofs.OctetLemmas.{IsBytes-from_AreBelow}
 use Rattle.load_laws.proofs.ReadLemmas.{HasOctets}
-use Rattle.load_laws.proofs.ValueLemmas.{IsLoadableValue-loaded, IsOwn, last_pairs-own}
+use Rattle.load_laws.proofs.ValueLemmas.{IsLoadableValue-loaded, IsOwn, last_rdn-own}
 
 -- the values of attributes are loadable
 abbrev AreLoadable : List Attribute → Type 0
@@ -144,4 +143,4 @@ IsLoadable-entry_of_record given entry octets is =
     let more : IsLoadable lines.0 =
     IsLoadable-with_lines given.lines (record { name = name.0; attributes = [] }) lines.0 octets (IsLoadable-named name.0 good) lines.1 in
     let same : with_own_values lines.0 ≡ entry = cc lines.2 in
-    subst IsLoadable same (IsLoadable-with_pairs (last_pairs lines.0.name) lines.0 (last_pairs-own lines.0.name more.name) more)
+    subst IsLoadable same (IsLoadable-with_pairs (last_rdn lines.0.name) lines.0 (last_rdn-own lines.0.name more.name) more)

@@ -2,13 +2,13 @@
 use Rattle.std.proofs.Common.{◌≡◌, ◌≢◌, ℕ, ◌+◌, true, false, not, List, [], ◌∷◌, Result, Ok, refl, ap, ◌∙◌}
 use Rattle.std.specs.List.{list_any}
 use Rattle.std.proofs.lemmas.Bool.{or_parts, not-false}
-use Rattle.dn_names.specs.Names.{TypeAndValue, RdnSequence}
+use Rattle.dn_names.specs.Names.{TypeAndValue, RdnSequence, last_rdn}
 use Rattle.dn_names.specs.NameText.{read_name}
 use Rattle.dn_names.specs.Printing.{print_name}
 use Rattle.dn_names.proofs.Theorems.{read_name-print_name}
 use Rattle.dir_tree.specs.Entries.{EntryInformation, values_of, has_key}
 use Rattle.ldif_core.specs.WrittenFile.{values_in, lines_from, record_from}
-use Rattle.schema_rules.specs.Rules.{last_pairs, lacks_own_value}
+use Rattle.schema_rules.specs.Rules.{lacks_own_value}
 use Rattle.op_write.specs.declared.fault.LoadFault.{LoadFault}
 use Rattle.op_write.specs.Loading.{◌>>=◌, named, with_lines, with_pairs, with_own_values, entry_of_record}
 use Rattle.load_laws.specs.Loadable.{IsLoadable}
@@ -30,7 +30,7 @@ with_pairs-own entry (pair ∷ pairs) none =
 -- so an entry that has the values of its name stays
 with_own_values-own : (entry : EntryInformation) → lacks_own_value entry ≡ false → with_own_values entry ≡ entry
 unfolding lacks_own_value
-with_own_values-own entry none = with_pairs-own entry (last_pairs entry.name) none
+with_own_values-own entry none = with_pairs-own entry (last_rdn entry.name) none
 
 -- a name that isn't empty
 named-filled : (line : ℕ) (name : RdnSequence) → name ≢ [] → named line (Ok name) ≡ Ok name

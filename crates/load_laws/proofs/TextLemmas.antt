@@ -8,17 +8,11 @@ use Rattle.dn_names.specs.Names.{Keyed}
 use Rattle.dir_tree.specs.Entries.{Attribute, EntryInformation, values_of, IsGoodAttribute}
 use Rattle.dir_tree.specs.EntryClasses.{object_class}
 use Rattle.ldif_core.specs.Written.{AreInTable}
-use Rattle.ldif_core.specs.WrittenFile.{TypeAndOctets, values_in, IsWritable, written_file}
+use Rattle.ldif_core.specs.WrittenFile.{TypeAndOctets, values_in, IsWritable}
 use Rattle.schema_rules.specs.Rules.{lists_none, breaks_classes}
-use Rattle.op_write.specs.DataFile.{ldif_text}
 use Rattle.load_laws.specs.Loadable.{IsLoadableValue, IsLoadable}
 use Rattle.load_laws.proofs.LineLemmas.{IsAttrId-from_loaded_value}
 use Rattle.load_laws.proofs.OctetLemmas.{IsBytes-print_name}
-
--- the file of entries, as it is read again
-pub ldif_text-written_file : (entries : List EntryInformation) → ldif_text entries ≡ written_file entries
-unfolding ldif_text
-ldif_text-written_file entries = refl
 
 -- the type and the octets of values
 abbrev of_kind : ℕ → List Keyed → List TypeAndOctets

@@ -7,13 +7,12 @@ use Rattle.base64.specs.GeneralPurpose.{IsBytes}
 use Rattle.schema_core.specs.declared.kinds.Syntax.{Syntax}
 use Rattle.schema_core.specs.declared.kinds.Syntax.TheVariants.{Text, Ascii, Phone, Country, Octets, Oid, Name, Subtree, Aci}
 use Rattle.schema_core.specs.Attributes.{is_naming, syntax_of}
-use Rattle.dn_names.specs.Names.{Keyed, TypeAndValue, RdnSequence}
+use Rattle.dn_names.specs.Names.{Keyed, TypeAndValue, RdnSequence, last_rdn}
 use Rattle.dn_names.specs.GoodNames.{IsGoodPair, IsGoodRdn, IsGoodName}
 use Rattle.dn_names.specs.NameValues.{value_key, value_of}
 use Rattle.dn_names.specs.Resolving.{naming_value}
 use Rattle.dn_names.specs.Values.{plain_key}
 use Rattle.dn_names.proofs.Theorems.{is_utf8-naming_value}
-use Rattle.schema_rules.specs.Rules.{last_pairs}
 use Rattle.op_write.specs.Loading.{loaded_value}
 use Rattle.load_laws.specs.Loadable.{IsLoadableValue}
 use Rattle.load_laws.proofs.OctetLemmas.{IsBytes-from_IsUtf8}
@@ -105,8 +104,8 @@ IsOwn-from_IsGoodPair pair good = record {
 own_pairs : (rdn : List TypeAndValue) → IsGoodRdn rdn → AllByRecursion IsOwn rdn
 own_pairs rdn good = all_from IsGoodPair IsOwn IsOwn-from_IsGoodPair rdn good.good
 
-pub last_pairs-own : (name : RdnSequence) → IsGoodName name → AllByRecursion IsOwn (last_pairs name)
-last_pairs-own name good =
+pub last_rdn-own : (name : RdnSequence) → IsGoodName name → AllByRecursion IsOwn (last_rdn name)
+last_rdn-own name good =
     all_joined IsOwn (drop (length name - 1) name)
     (all_from IsGoodRdn (λ rdn. AllByRecursion IsOwn rdn) own_pairs (drop (length name - 1) name)
     (all_drop IsGoodRdn (length name - 1) name good.good))

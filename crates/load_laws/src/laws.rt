@@ -6,9 +6,10 @@ ghost use Rattle.base64.specs.GeneralPurpose.{IsBytes};
 ghost use Rattle.dir_tree.specs.Entries.{EntryInformation};
 ghost use Rattle.dir_tree.specs.Trees.{Numbered, IsTree};
 ghost use Rattle.ldif_core.specs.Written.{AreInTable};
+ghost use Rattle.ldif_core.specs.WrittenFile.{written_file};
 ghost use Rattle.schema_rules.specs.Checking.{entries_of};
 ghost use Rattle.schema_rules.specs.Rules.{MeetsRules};
-ghost use Rattle.op_write.specs.DataFile.{loads, ldif_text};
+ghost use Rattle.op_write.specs.DataFile.{loads};
 ghost use Rattle.load_laws.specs.Loadable.{IsLoadable};
 
 /// The data file that is written of a good tree gives the entries of the tree, in their order, when it is loaded
@@ -16,7 +17,7 @@ ghost use Rattle.load_laws.specs.Loadable.{IsLoadable};
 pub fn what_is_written_loads_again()
     ensures exact { (rows : List Numbered) → rows ≢ [] → IsTree rows → MeetsRules (entries_of rows)
         → AllByRecursion IsLoadable (entries_of rows)
-        → loads (ldif_text (entries_of rows)) ≡ Ok (entries_of rows) }
+        → loads (written_file (entries_of rows)) ≡ Ok (entries_of rows) }
 {}
 
 /// Each entry of a data file that loads is one that a file written of it gives again: its name is a good one, and its

@@ -26,10 +26,11 @@ use Rattle.ldif_core.specs.Lines.{logical, beginning, continued}
 use Rattle.ldif_core.specs.Records.{without_comments, is_version, without_version, records}
 use Rattle.ldif_core.specs.Places.{physical_from, logical_from, content_from, body_from, records_from}
 use Rattle.ldif_core.specs.declared.types.LineCause.TheVariants.{Syntax}
+use Rattle.ldif_core.specs.WrittenFile.{written_file}
 use Rattle.op_write.specs.declared.fault.LoadFault.TheVariants.{Bad}
 use Rattle.op_write.specs.declared.fault.LoadCause.TheVariants.{Name, Kind, Value, Twice, Order, Rule, Limit}
 use Rattle.op_write.specs.Loading.{named, entry_of_record, with_lines, with_pairs, with_own_values, lacks_superior_entry, ruled, placed}
-use Rattle.op_write.specs.DataFile.{OfLine, put_entry_in, loads, ldif_text}
+use Rattle.op_write.specs.DataFile.{OfLine, put_entry_in, loads}
 
 -- a line of a record
 line : ℕ → List ℕ → List ℕ → RecordLine
@@ -124,8 +125,8 @@ an_empty_file : loads [] ≡ Err (record { line = 1; cause = OfLine Syntax })
 unfolding loads physical_from logical_from content_from body_from records_from without_comments without_version records logical beginning continued is_version
 an_empty_file = refl
 
-a_file_of_nothing : loads (ldif_text []) ≡ Err (record { line = 1; cause = OfLine Syntax })
-unfolding loads ldif_text physical_from logical_from content_from body_from records_from without_comments without_version records logical beginning continued is_version
+a_file_of_nothing : loads (written_file []) ≡ Err (record { line = 1; cause = OfLine Syntax })
+unfolding loads written_file physical_from logical_from content_from body_from records_from without_comments without_version records logical beginning continued is_version
 a_file_of_nothing = refl
 
 -- what reading a name computes by

@@ -13,10 +13,11 @@ use Rattle.ldif_core.specs.Fields.{is_kind, field_of, after_spaces, decoded, is_
 use Rattle.ldif_core.specs.Records.{without_comments, is_version, without_version, attribute_lines, record_of, records}
 use Rattle.ldif_core.specs.Places.{physical_from, logical_from, content_from, body_from, records_from}
 use Rattle.ldif_core.specs.Written.{is_plain, written_value, written_entry}
+use Rattle.ldif_core.specs.WrittenFile.{written_file}
 use Rattle.schema_rules.specs.Rules.{lacks_own_value, breaks_classes, has_unread, has_two_values, is_misplaced, is_past_limits, broken_rule}
 use Rattle.op_write.specs.declared.fault.LoadCause.TheVariants.{Order, Rule, Twice}
 use Rattle.op_write.specs.Loading.{with_lines, with_pairs, entry_of_record, placed, loaded_entry}
-use Rattle.op_write.specs.DataFile.{OfRecord, loads_after, loads, ldif_text}
+use Rattle.op_write.specs.DataFile.{OfRecord, loads_after, loads}
 use Rattle.op_write.proofs.Examples.{reading_names}
 
 -- lines that end in LF
@@ -66,6 +67,6 @@ unfolding ended loading
 no_class = refl
 
 -- what is written is loaded again
-written_and_loaded : loads (ldif_text (domain ∷ unit ∷ [])) ≡ Ok (domain ∷ unit ∷ [])
-unfolding value domain unit ldif_text written_entry written_value is_plain print_name print_by print_value loading
+written_and_loaded : loads (written_file (domain ∷ unit ∷ [])) ≡ Ok (domain ∷ unit ∷ [])
+unfolding value domain unit written_file written_entry written_value is_plain print_name print_by print_value loading
 written_and_loaded = refl

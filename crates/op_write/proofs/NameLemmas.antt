@@ -3,13 +3,12 @@ use Rattle.std.proofs.Common.{◌≡◌, ◌≢◌, ℕ, true, false, List, [], 
 use Rattle.std.specs.Prelude.{if◌then◌else◌}
 use Rattle.schema_core.specs.Attributes.{attr_of}
 use Rattle.dn_names.specs.declared.error.BadName.{BadName}
-use Rattle.dn_names.specs.Names.{Keyed, TypeAndValue, RdnSequence}
+use Rattle.dn_names.specs.Names.{Keyed, TypeAndValue, RdnSequence, last_rdn}
 use Rattle.dn_names.specs.NameText.{read_name}
 use Rattle.dir_tree.specs.Entries.{EntryInformation, values_of, has_key}
 use Rattle.dir_tree.specs.Changes.{with_value, put_value}
 use Rattle.ldif_core.specs.declared.types.Record.{Record}
 use Rattle.ldif_core.specs.declared.types.RecordLine.{RecordLine}
-use Rattle.schema_rules.specs.Rules.{last_pairs}
 use Rattle.op_write.specs.declared.fault.LoadFault.{LoadFault}
 use Rattle.op_write.specs.declared.fault.LoadFault.TheVariants.{Bad}
 use Rattle.op_write.specs.declared.fault.LoadCause.TheVariants.{Twice}
@@ -70,6 +69,6 @@ entry_of_record-named given entry gives =
     let last : with_own_values second.between ≡ entry = let e = second.after in cc in
     let same : entry.name ≡ first.between =
     ap (λ found. found.name) (sym last)
-    ∙ name-with_pairs second.between (last_pairs second.between.name)
+    ∙ name-with_pairs second.between (last_rdn second.between.name)
     ∙ name-with_lines (record { name = first.between; attributes = [] }) second.between given.lines second.before in
     λ (none : entry.name ≡ []). named-some given.line (read_name given.name) first.between first.before (sym same ∙ none)

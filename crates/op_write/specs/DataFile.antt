@@ -1,5 +1,4 @@
--- What a data file gives: the entries of its records, each joined to those before it, or the first fault (RFC 2849); and
--- the file that is written of entries.
+-- What a data file gives: the entries of its records, each joined to those before it, or the first fault (RFC 2849).
 use Rattle.std.specs.Prelude.{ℕ, if◌then◌else◌, List, [], ◌∷◌, Result, Ok, Err}
 use Rattle.dir_tree.specs.Entries.{EntryInformation}
 use Rattle.dir_tree.specs.Trees.{is_before}
@@ -10,7 +9,6 @@ use Rattle.ldif_core.specs.declared.types.LineCause.{LineCause}
 use Rattle.ldif_core.specs.declared.types.LineCause.TheVariants.{Syntax}
 use Rattle.ldif_core.specs.Places.{records_from}
 pub use Rattle.ldif_core.specs.Places.{file_start}
-use Rattle.ldif_core.specs.WrittenFile.{written_file}
 use Rattle.op_write.specs.declared.fault.LoadCause.{LoadCause}
 use Rattle.op_write.specs.declared.fault.LoadFault.{LoadFault}
 use Rattle.op_write.specs.declared.fault.LoadFault.TheVariants as loading
@@ -65,7 +63,3 @@ loads_records (first ∷ rest) = loads_after [] (first ∷ rest)
 -- the entries of a file, in the order of their names, or its first fault
 unfoldable pub loads : List ℕ → Result (List EntryInformation) FileFault
 loads text = loads_records (records_from text file_start)
-
--- the file of entries
-unfoldable pub ldif_text : List EntryInformation → List ℕ
-ldif_text entries = written_file entries

@@ -2,9 +2,10 @@
 -- then the values of its own RDN, then its place. The first fault is the one that is found in this order.
 use Rattle.std.specs.Prelude.{◌≡◌, ℕ, ◌==◌, nat_le, Bool, false, not, if◌then◌else◌, List, [], ◌∷◌, length, Option, Some, None, Result, Ok, Err}
 use Rattle.std.specs.List.{list_any}
+pub use Rattle.plain_values.specs.Results.{◌>>=◌}
 use Rattle.schema_core.specs.Attributes.{attr_of}
 use Rattle.dn_names.specs.declared.error.BadName.{BadName}
-use Rattle.dn_names.specs.Names.{Keyed, TypeAndValue, RdnSequence}
+use Rattle.dn_names.specs.Names.{Keyed, TypeAndValue, RdnSequence, last_rdn}
 use Rattle.dn_names.specs.NameOrder.{is_same}
 use Rattle.dn_names.specs.NameText.{read_name}
 use Rattle.dn_names.specs.NameValues.{value_of}
@@ -14,16 +15,10 @@ use Rattle.dir_tree.specs.Trees.{Numbered, entry_of, superior_name, put_row}
 use Rattle.ldif_core.specs.declared.types.Record.{Record}
 use Rattle.ldif_core.specs.declared.types.RecordLine.{RecordLine}
 use Rattle.schema_rules.specs.Checking.{entries_of}
-use Rattle.schema_rules.specs.Rules.{last_pairs, broken_rule}
+use Rattle.schema_rules.specs.Rules.{broken_rule}
 use Rattle.op_write.specs.declared.fault.LoadCause.TheVariants.{Name, Kind, Value, Twice, Order, Rule, Limit}
 use Rattle.op_write.specs.declared.fault.LoadFault.{LoadFault}
 use Rattle.op_write.specs.declared.fault.LoadFault.TheVariants.{Bad, NoMemory}
-
-infixl 10 ◌>>=◌
--- the ? of the logic: the second step, where the first gave something
-abbrev pub ◌>>=◌ : {A B E : Type 0} → Result A E → (A → Result B E) → Result B E
-Ok value >>= next = next value
-Err fault >>= next = Err fault
 
 -- the name, where reading gave one that isn't empty
 abbrev pub named : ℕ → Result RdnSequence BadName → Result RdnSequence LoadFault
@@ -62,7 +57,7 @@ with_pairs entry (pair ∷ pairs) = with_pairs (with_value pair.kind pair.value 
 
 -- the entry with the values of its own RDN
 abbrev pub with_own_values : EntryInformation → EntryInformation
-with_own_values entry = with_pairs entry (last_pairs entry.name)
+with_own_values entry = with_pairs entry (last_rdn entry.name)
 
 -- the entry of a record, wherever it will stand
 unfoldable pub entry_of_record : Record → Result EntryInformation LoadFault

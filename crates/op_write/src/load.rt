@@ -76,7 +76,7 @@ fn put_in(tree: &mut Tree, entry: Entry) -> Result<EntryNo, NoMemory>
     requires named { entry.name ≢ [] }
     requires allowed { insert_refusal entry.name tree.old ≡ None }
     ensures ok { IfOk result (λ no. tree.new ≡ put_row (record { id = no.0; entry = entry }) tree.old) }
-    ensures only { IfOk result (λ no. entry_of no.0 tree.old ≡ None) }
+    ensures free { IfOk result (λ no. entry_of no.0 tree.old ≡ None) }
     ensures err { OnErr result (tree.new ≡ tree.old) }
 {
     match tree.insert(entry) {

@@ -1,23 +1,12 @@
 //! The values of an entry's own RDN.
 
 ghost use Rattle.std.specs.Prelude.{◌≡◌, IfOk};
-ghost use Rattle.schema_rules.specs.Rules.{last_pairs};
 ghost use Rattle.op_write.specs.Loading.{with_pairs, with_own_values};
 
 use crate::fault::NoMemory;
 use dir_tree::Entry;
-use dn_names::{Dn, Pair};
+use dn_names::Pair;
 use std::alloc::Global;
-
-// The pairs of the last RDN; none of the empty name.
-fn last_pairs(name: &Dn) -> &[Pair]
-    ensures exact { result.now ≡ last_pairs name.now }
-{
-    match name.rdn(name.len().saturating_sub(1)) {
-        Some(rdn) => rdn,
-        None => &[],
-    }
-}
 
 // The entry with those of the pairs' values that it lacks, last.
 fn with_pairs(alloc: Global, entry: Entry, pairs: &[Pair]) -> Result<Entry, NoMemory>
@@ -35,5 +24,5 @@ pub(crate) fn with_own_values(alloc: Global, entry: Entry) -> Result<Entry, NoMe
     ensures ok { IfOk result (λ more. more ≡ with_own_values entry) }
 {
     let name = entry.name().copy(alloc)?;
-    with_pairs(alloc, entry, last_pairs(&name))
+    with_pairs(alloc, entry, name.last_rdn())
 }

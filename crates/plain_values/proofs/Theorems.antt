@@ -1,5 +1,5 @@
 -- What crates above may cite: laws of a count of faults over several steps, and of the lines of a text.
-use Rattle.std.proofs.Common.{ℕ, ◌≤◌, arith}
+use Rattle.std.proofs.Common.{ℕ, arith}
 use Rattle.plain_values.specs.Counts.{Rose, NeverFalls}
 pub use Rattle.plain_values.proofs.LinesLemmas.{lines_of_parts-one, lines-unended, lines-ended}
 

@@ -1,14 +1,11 @@
 -- What the functions of an entry's attributes see of it.
-use Rattle.std.proofs.Common.{◌≡◌, ◌≢◌, ℕ, ◌+◌, ◌-◌, ◌==◌, true, false, not, ◌||◌, if◌then◌else◌, List, [], ◌∷◌, ◌++◌, length, get_or, slice_get, Some, None, refl, sym, ap, ◌∙◌, inl, inr, append-nil, arith}
-use Rattle.std.specs.List.{AllByRecursion, flat_map}
+use Rattle.std.proofs.Common.{◌≡◌, ◌≢◌, ℕ, ◌==◌, true, false, not, ◌||◌, if◌then◌else◌, List, [], ◌∷◌, length, slice_get, Some, None, refl, sym, ap, ◌∙◌, inl, inr, arith}
+use Rattle.std.specs.List.{AllByRecursion}
 use Rattle.std.specs.Option.{option_map, option_map_or}
 use Rattle.std.proofs.lemmas.Bool.Decides.{nat_tests}
-use Rattle.std.proofs.lemmas.List.{drop_more, drop_all}
 use Rattle.std.proofs.lemmas.Option.{slice_get_cases, slice_get-map, same_Some, none-some}
-use Rattle.dn_names.specs.Names.{RdnSequence}
 use Rattle.dir_tree.specs.Entries.{Attribute, IsGoodAttribute, IsGoodAttributes, values_of, has_kind, kinds_of}
 use Rattle.dir_tree.proofs.Theorems.{values_of-slice_get}
-use Rattle.schema_rules.specs.Rules.{last_pairs}
 
 -- a list with elements is not empty
 not_empty : {X : Type 0} (xs : List X) → xs ≢ [] → not (length xs == 0) ≡ true
@@ -24,25 +21,6 @@ filled_kind kind (first ∷ rest) good =
     elim (kind == first.kind) as (λ b. not (length (if b then first.values else values_of kind rest) == 0) ≡ (b || has_kind kind rest)) [
       | true ↦ not_empty first.values good.0.filled
       | false ↦ filled_kind kind rest good.1
-    ]
-
--- the pairs of the RDN at the last place
-pub last_rdn :
-    (name : RdnSequence) → option_map_or (λ rdn. rdn) (slice_get name (length name - 1)) [] ≡ last_pairs name
-last_rdn name =
-    let place = length name - 1 in
-    elim ((slice_get_cases name place).1) [
-      | inl inside ↦
-          ap (λ found. option_map_or (λ rdn. rdn) found []) inside.2
-          ∙ sym (append-nil inside.0)
-          ∙ ap (λ rdn. rdn ++ []) (sym inside.3)
-          ∙ sym (ap (flat_map (λ rdn. rdn))
-          (drop_more name place inside.0 inside.1
-          ∙ ap (λ rest. get_or name place inside.0 ∷ rest) (drop_all (place + 1) name (omega arith))))
-      | inr past ↦
-          let bound = past.0 in
-          ap (λ found. option_map_or (λ rdn. rdn) found []) past.1
-          ∙ sym (ap (flat_map (λ rdn. rdn)) (drop_all place name bound))
     ]
 
 -- the values at a place are those of the type at the place

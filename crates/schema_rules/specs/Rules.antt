@@ -1,13 +1,13 @@
 -- When an entry may not stand in a tree: the rules in the order in which they are tried, each with its result code
 -- (RFC 4511 appendix A). X.501 and X.511 leave the order open; it is this profile's.
-use Rattle.std.specs.Prelude.{◌≡◌, ℕ, ◌-◌, nat_lt, nat_le, ◌==◌, Bool, true, false, not, ◌&&◌, ◌||◌, List, [], ◌∷◌, ◌++◌, length, drop, find, sum_by, codes, Option, Some, None, is_none}
-use Rattle.std.specs.List.{flat_map, list_any}
+use Rattle.std.specs.Prelude.{◌≡◌, ℕ, nat_lt, nat_le, ◌==◌, Bool, true, false, not, ◌&&◌, ◌||◌, List, [], ◌∷◌, ◌++◌, length, find, sum_by, codes, Option, Some, None, is_none}
+use Rattle.std.specs.List.{list_any}
 use Rattle.std.specs.Option.{option_map, option_map_or}
 use Rattle.schema_core.specs.declared.kinds.Syntax.{Syntax}
 use Rattle.schema_core.specs.declared.kinds.Syntax.TheVariants.{Text, Ascii, Phone, Country, Octets, Oid, Name, Subtree, Aci}
 use Rattle.schema_core.specs.Attributes.{is_single, syntax_of}
 use Rattle.schema_core.specs.Classes.{class_with}
-use Rattle.dn_names.specs.Names.{TypeAndValue, RdnSequence}
+use Rattle.dn_names.specs.Names.{RdnSequence, last_rdn}
 use Rattle.dn_names.specs.NameOrder.{is_same}
 use Rattle.dir_tree.specs.Entries.{EntryInformation, kinds_of, values_of, has_kind, has_key}
 use Rattle.dir_tree.specs.EntryClasses.{object_class, has_class}
@@ -18,13 +18,9 @@ use Rattle.schema_rules.specs.Listed.{all_classes, structural_classes, are_in_li
 
 -- notAllowedOnRDN (67): a value of the last RDN is none of the entry's
 
--- the pairs of the last RDN
-abbrev pub last_pairs : RdnSequence → List TypeAndValue
-last_pairs name = flat_map (λ rdn. rdn) (drop (length name - 1) name)
-
 -- the entry lacks a value of its last RDN
 unfoldable pub lacks_own_value : EntryInformation → Bool
-lacks_own_value entry = list_any (λ pair. not (has_key pair.value.key (values_of pair.kind entry.attributes))) (last_pairs entry.name)
+lacks_own_value entry = list_any (λ pair. not (has_key pair.value.key (values_of pair.kind entry.attributes))) (last_rdn entry.name)
 
 -- objectClassViolation (65)
 

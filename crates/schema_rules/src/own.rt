@@ -3,16 +3,16 @@
 ghost use Rattle.std.specs.Prelude.{◌≡◌, not};
 ghost use Rattle.std.specs.List.{list_any};
 ghost use Rattle.dir_tree.specs.Entries.{has_key, values_of};
-ghost use Rattle.schema_rules.specs.Rules.{last_pairs, lacks_own_value};
+ghost use Rattle.schema_rules.specs.Rules.{lacks_own_value};
 
 use dir_tree::Entry;
-use dn_names::{Dn, Pair, Value};
+use dn_names::{Pair, Value};
 
 /// Whether a value of the last RDN of the entry's name is none of the entry's values.
 pub(crate) fn lacks_own_value(entry: &Entry) -> bool
     ensures exact { result ≡ lacks_own_value entry.now }
 {
-    lacks_pair(entry, last_pairs(entry.name()))
+    lacks_pair(entry, entry.name().last_rdn())
 }
 
 // Whether the value of one of the pairs is none of the entry's values.
@@ -22,16 +22,6 @@ fn lacks_pair(entry: &Entry, pairs: &[Pair]) -> bool
         pairs.now }
 {
     pairs.iter().any(|pair| !has_pair(entry, pair))
-}
-
-// The pairs of the last RDN; none where the name is empty.
-fn last_pairs(name: &Dn) -> &[Pair]
-    ensures exact { result.now ≡ last_pairs name.now }
-{
-    match name.rdn(name.len().saturating_sub(1)) {
-        Some(pairs) => pairs,
-        None => &[],
-    }
 }
 
 // Whether the entry has the value of the pair.

@@ -1,18 +1,13 @@
 -- A script computed line by line: the events so far, or the number of the first bad line.
 use Rattle.std.specs.Prelude.{◌≡◌, ℕ, ◌+◌, if◌then◌else◌, List, [], ◌∷◌, ◌++◌, Option, Some, None, Result, Ok, Err}
 use Rattle.std.specs.Str.Lines.{lines}
+pub use Rattle.plain_values.specs.Results.{◌>>=◌}
 use Rattle.script_text.specs.declared.event.ScriptEvent.{ScriptEvent}
 use Rattle.script_text.specs.declared.event.ScriptFault.{ScriptFault}
 use Rattle.script_text.specs.declared.event.ScriptFault.TheVariants.{Bad, NoMemory}
 use Rattle.script_text.specs.LineText.{is_silent}
 use Rattle.script_text.specs.LineReading.{event_of}
 use Rattle.script_text.specs.Script.{may_follow}
-
-infixl 10 ◌>>=◌
--- the ? of the logic: the second step, if the first gave events
-abbrev pub ◌>>=◌ : Result (List ScriptEvent) ℕ → (List ScriptEvent → Result (List ScriptEvent) ℕ) → Result (List ScriptEvent) ℕ
-Ok events >>= next = next events
-Err number >>= next = Err number
 
 -- the events with that of a line, or the line's number
 abbrev pub admitted : List ScriptEvent → ℕ → Option ScriptEvent → Result (List ScriptEvent) ℕ

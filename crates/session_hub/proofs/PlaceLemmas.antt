@@ -1,10 +1,10 @@
 -- The first connection with a number, looked for from the front.
-use Rattle.std.proofs.Common.{◌≡◌, ◌<◌, ℕ, ◌==◌, false, cond, List, [], ◌∷◌, ◌++◌, length, take, drop, set, get_or, Some, None, refl, ap, sym, ◌∙◌, drop-cons, zero, suc, arith}
+use Rattle.std.proofs.Common.{◌≡◌, ◌<◌, ℕ, false, List, [], ◌∷◌, ◌++◌, length, take, drop, set, get_or, Some, None, refl, ap, sym, ◌∙◌, drop-cons, suc, arith}
 use Rattle.std.proofs.lemmas.Bool.Decides.{nat_tests}
 use Rattle.std.proofs.lemmas.Option.{slice_get_read}
 use Rattle.std.proofs.lemmas.List.{set_split}
-use Rattle.session_model.specs.Kept.{Kept, kept_of, queue_of, closing_of, changed, forgotten}
-use Rattle.session_model.proofs.Theorems.{kept_of-number, queue_in, closing_in, queue_of_is, closing_of_is}
+use Rattle.session_model.specs.Kept.{Kept, kept_of, queue_of, closing_of, changed}
+use Rattle.session_model.proofs.Theorems.{queue_in, closing_in, queue_of_is, closing_of_is}
 use Rattle.session_hub.specs.declared.requester.Requester.{Requester}
 use Rattle.session_hub.specs.Hubs.{IsAt, NoneBefore}
 
@@ -53,15 +53,3 @@ changed_nowhere c f (k ∷ ks) none = grind (arith, nat_tests, changed_nowhere c
 
 pub kept_at_is : (c at : ℕ) (ks : List (Kept Requester)) (k : Kept Requester) → IsAt c at ks → k ≡ get_or ks at k → kept_of c ks ≡ Some k
 kept_at_is c at ks k place is = kept_at c at ks k place is
-
--- a connection set that is to be forgotten
-set_forgotten : (c at : ℕ) (ks : List (Kept Requester)) (k now : Kept Requester) → k ≡ get_or ks at k → k.number ≡ c → now.number ≡ c → forgotten c (set ks at now) ≡ forgotten c ks
-set_forgotten c at [] k now is same still = refl
-set_forgotten c zero (x ∷ xs) k now is same still = grind (arith, nat_tests)
-set_forgotten c (suc at) (x ∷ xs) k now is same still = ap (λ ys. cond (x.number == c) ys (x ∷ ys)) (set_forgotten c at xs k now is same still)
-
--- what is left without a number, where its connection was set
-pub forgotten-set : (c at : ℕ) (ks : List (Kept Requester)) (k now : Kept Requester) → IsAt c at ks → k ≡ get_or ks at k → now.number ≡ k.number → forgotten c (set ks at now) ≡ forgotten c ks
-forgotten-set c at ks k now place is same =
-    let number : k.number ≡ c = kept_of-number c ks k (kept_at c at ks k place is) in
-    set_forgotten c at ks k now is number (same ∙ number)

@@ -1,5 +1,5 @@
 -- A stream answered message by message from its front.
-use Rattle.std.proofs.Common.{◌≡◌, ◌≤◌, ◌+◌, ℕ, true, false, cond, List, ◌++◌, length, take, drop, refl, ap, sym, ◌∙◌, append_assoc, append-nil, drop-drop, length-drop, length-append, arith, true≢false}
+use Rattle.std.proofs.Common.{◌≡◌, ◌≤◌, ◌+◌, ℕ, true, false, cond, List, ◌++◌, length, take, drop, refl, ap, sym, ◌∙◌, append_assoc, append-nil, drop-drop, length-drop, arith, true≢false}
 use Rattle.ldap_msg.specs.declared.kinds.Frame.TheVariants.{Whole, More, Bad}
 use Rattle.ldap_msg.specs.Streams.{frame_at, rest_of}
 use Rattle.ldap_msg.specs.Replies.{notice_octets}
@@ -9,7 +9,7 @@ use Rattle.session_model.proofs.Theorems.{speech-whole, speech-more, speech-bad}
 use Rattle.session_hub.specs.declared.requester.Requester.{Requester}
 use Rattle.session_hub.specs.declared.outcome.Outcome.{Outcome}
 use Rattle.session_hub.specs.Answering.{Tree, rules}
-use Rattle.session_hub.specs.Answers.{Gives, Speaks, SaysSoFar, said_to}
+use Rattle.session_hub.specs.Answers.{Gives, Extends, Speaks, SaysSoFar, said_to}
 
 -- a message at the front of the rest is one there of the stream
 message_fits : (stream : List ℕ) (read n : ℕ) → read ≤ length stream → frame_at (drop read stream) ≡ Whole n → read + n ≤ length stream
@@ -19,9 +19,9 @@ rest_fits : (stream : List ℕ) (read n : ℕ) → rest_of (drop read stream) �
     rest_of (drop (read + n) stream) ≡ rest_of stream
 rest_fits stream read n rest is = ap rest_of (sym (drop-drop n read stream)) ∙ sym (rest_step (drop read stream) n is) ∙ rest
 
--- what is appended makes no list shorter
-grown : (old now new more : List ℕ) → length old ≤ length now → new ≡ now ++ more → length old ≤ length new
-grown old now new more h e = omega (arith, ap length e, length-append now more)
+-- what is appended stands behind all that was there before
+grown : (old now new more : List ℕ) → Extends old now → new ≡ now ++ more → Extends old new
+grown old now new more (said, is) gives = (said ++ more, gives ∙ ap (λ octets. octets ++ more) is ∙ append_assoc old said more)
 
 -- what an answer that doesn't close leaves to be said
 said_open : (a b : Answered Tree Requester) → a.closes ≡ false → cond a.closes a (after_octets a.replies b) ≡ after_octets a.replies b

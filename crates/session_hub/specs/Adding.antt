@@ -9,7 +9,7 @@ use Rattle.wire_io.specs.declared.journal.Item.TheVariants as item
 use Rattle.wire_io.specs.Journal.{heard, was_opened, was_stopped, is_held}
 use Rattle.wire_io.specs.Pieces.{Plays, steps_of}
 use Rattle.wire_io.specs.Plan.{Plan}
-use Rattle.session_model.specs.Kept.{Kept, queue_of}
+use Rattle.session_model.specs.Kept.{Kept, queue_of, forgotten}
 use Rattle.session_model.specs.Journaled.{all_taken}
 use Rattle.session_model.specs.Working.{Calm, Busy}
 use Rattle.session_hub.specs.declared.requester.Requester.{Requester}
@@ -50,6 +50,10 @@ Adds plan claim next_claim before after =
 -- nothing can have been added
 abbrev pub Never : List Item → Type 0
 Never added = ⊥
+
+-- but for one number the connections held are the same
+abbrev pub OthersStay : ℕ → List (Kept Requester) → List (Kept Requester) → Type 0
+OthersStay number old new = forgotten number new ≡ forgotten number old
 
 -- between two events
 abbrev pub IsCalm : List (Kept Requester) → List Item → Type 0

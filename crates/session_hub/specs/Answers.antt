@@ -23,10 +23,14 @@ pub record Speaks (who : Requester) (stream old new : List ℕ) (outcome : Outco
   pub within : read ≤ length stream
   pub left : outcome.closes ≡ false → drop read stream ≡ rest_of stream
 
+-- the octets begin with those that stood there before
+abbrev pub Extends : List ℕ → List ℕ → Type 0
+Extends old new = (more : List ℕ) × (new ≡ old ++ more)
+
 -- how far a stream was answered: what was said so far, and what is said to the rest, is what is said to the stream
 pub record SaysSoFar (who : Requester) (stream old now : List ℕ) (current : Requester) (read : ℕ) : Type 0 where
   pub within : read ≤ length stream
-  pub grows : length old ≤ length now
+  pub grows : Extends old now
   pub rest : rest_of (drop read stream) ≡ rest_of stream
   pub said : now ++ (said_to current (drop read stream)).replies ≡ old ++ (said_to who stream).replies
   pub requester : (said_to current (drop read stream)).who ≡ (said_to who stream).who

@@ -2,7 +2,7 @@
 use Rattle.std.specs.Prelude.{◌≡◌, ◌<◌, ◌≤◌, ℕ, true, false, cond, List, [], ◌++◌, length, take, drop, Some, slice_get, slice_set}
 use Rattle.std.specs.List.{AllByRecursion}
 use Rattle.session_model.specs.Run.{Session, Sessions, Step, Opened, Bytes, Ended, Gone, HungUp, is_held, most_held}
-use Rattle.session_model.specs.Kept.{Kept, Held, heard, kept_of, is_kept, closing_of, changed, forgotten}
+use Rattle.session_model.specs.Kept.{Kept, Held, heard, kept_of, is_kept, closing_of, changed}
 use Rattle.session_model.specs.Keeping.{Keeps}
 use Rattle.session_hub.specs.declared.requester.Requester.{Requester}
 use Rattle.session_hub.specs.Answering.{Tree, rules}
@@ -23,10 +23,6 @@ TakesMemory (Bytes number piece) kept = (is_kept (kept_of number kept) ≡ true)
 TakesMemory (Ended number) kept = ⊥
 TakesMemory (Gone number) kept = ⊥
 TakesMemory (HungUp number) kept = ⊥
-
--- but for one number the connections held are the same
-abbrev pub OthersStay : ℕ → List (Kept Requester) → List (Kept Requester) → Type 0
-OthersStay number old new = forgotten number new ≡ forgotten number old
 
 -- each connection held has at most so many unread octets
 abbrev pub IsBounded : List (Kept Requester) → Type 0

@@ -1,6 +1,6 @@
 //! One connection held.
 
-ghost use Rattle.std.specs.Prelude.{◌≡◌, ◌≤◌, ◌++◌, length, drop, vec_len, OnOk};
+ghost use Rattle.std.specs.Prelude.{◌≡◌, ◌≤◌, ◌++◌, length, drop, vec_len, OnOk, OnErr};
 ghost use Rattle.session_model.specs.Kept.{closed, without_front, opened_kept, heard_piece};
 ghost use Rattle.session_hub.specs.Answering.{rules};
 ghost use Rattle.session_hub.specs.Answers.{said_to};
@@ -89,18 +89,20 @@ impl Connection {
     }
 
     /// Hears a piece of an open connection: its whole messages are answered, and what is left is
-    /// kept unless the connection closes now. After `AllocError` the piece is lost, or all that was
-    /// unread.
+    /// kept unless the connection closes now. After `AllocError` the connection is as it was.
     pub fn hear(&mut self, alloc: Global, piece: &[u8]) -> Result<(), AllocError>
         ensures ok { OnOk result (self.new ≡ heard_piece rules piece.now self.old (said_to self.old.who (self.old.rest ++ piece.now))) }
-        ensures number { self.new.number ≡ self.old.number }
+        ensures kept { OnErr result (self.new ≡ self.old) }
         ensures bounded { length self.old.rest ≤ most_unread → length self.new.rest ≤ most_unread }
     {
+        let unread = self.rest.len();
+        let unsent = self.out.len();
         self.rest.extend_from_slice(piece)?;
         let spoken = match speak(alloc, self.who, &self.rest, &mut self.out) {
             Ok(spoken) => spoken,
             Err(error) => {
-                self.rest.clear();
+                self.rest.truncate(unread);
+                self.out.truncate(unsent);
                 return Err(error);
             }
         };

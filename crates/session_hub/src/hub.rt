@@ -3,8 +3,7 @@
 ghost use Rattle.std.specs.Prelude.{◌≡◌, ◌≤◌, ◌+◌, ℕ, [], length, IfOk, OnOk, OnErr};
 ghost use Rattle.session_model.specs.Run as run;
 ghost use Rattle.session_model.specs.Kept.{queue_of, closing_of, taken_off, forgotten};
-ghost use Rattle.session_hub.specs.Hubs.{held_after, IsBounded, TakesMemory, OthersStay};
-ghost use Rattle.session_model.specs.Replaying.{number_of};
+ghost use Rattle.session_hub.specs.Hubs.{held_after, IsBounded, TakesMemory};
 ghost use Rattle.session_hub.specs.Following.{FollowsStart, FollowsStep, FollowsTaking, QueuesReply, ClosesWith, CountsHeld};
 ghost use Rattle.session_hub.specs.Events.{step_of};
 
@@ -90,12 +89,12 @@ impl Hub {
     /// whole messages of octets are answered, and the end of a peer's octets closes. Nothing is
     /// changed by the events of connections that aren't held, nor by the opening of one that is.
     /// `AllocError` comes where a connection is to be held or octets are to be answered, and there is
-    /// no memory; the other connections are then as they were.
+    /// no memory; the hub is then as it was.
     pub fn hear(&mut self, event: Event<'_>) -> Result<(), AllocError>
         ensures exact { OnOk result (self.new ≡ held_after (step_of event.entry) self.old) }
         ensures run { OnOk result (FollowsStep (step_of event.entry) self.old self.new) }
         ensures cause { OnErr result (TakesMemory (step_of event.entry) self.old) }
-        ensures kept { OnErr result (OthersStay (number_of (step_of event.entry)) self.old self.new) }
+        ensures kept { OnErr result (self.new ≡ self.old) }
         ensures bounded { IsBounded self.new }
     {
         let heard = self.hear_event(event);
@@ -122,7 +121,7 @@ impl Hub {
     fn hear_event(&mut self, event: Event<'_>) -> Result<(), AllocError>
         ensures ok { OnOk result (self.new ≡ held_after (step_of event.entry) self.old) }
         ensures cause { OnErr result (TakesMemory (step_of event.entry) self.old) }
-        ensures kept { OnErr result (OthersStay (number_of (step_of event.entry)) self.old self.new) }
+        ensures kept { OnErr result (self.new ≡ self.old) }
     {
         match event {
             Event::Opened(conn) => self.open(conn),
@@ -137,7 +136,7 @@ impl Hub {
     fn open(&mut self, conn: u32) -> Result<(), AllocError>
         ensures ok { OnOk result (self.new ≡ held_after (run.Opened conn) self.old) }
         ensures cause { OnErr result (TakesMemory (run.Opened conn) self.old) }
-        ensures kept { OnErr result (OthersStay conn self.old self.new) }
+        ensures kept { OnErr result (self.new ≡ self.old) }
     {
         if is_at(&self.connections, conn) {
             return Ok(());
@@ -159,7 +158,7 @@ impl Hub {
     fn hear_piece(&mut self, conn: u32, piece: &[u8]) -> Result<(), AllocError>
         ensures ok { OnOk result (self.new ≡ held_after (run.Bytes conn piece.now) self.old) }
         ensures cause { OnErr result (TakesMemory (run.Bytes conn piece.now) self.old) }
-        ensures kept { OnErr result (OthersStay conn self.old self.new) }
+        ensures kept { OnErr result (self.new ≡ self.old) }
     {
         hear_at(self.alloc, &mut self.connections, conn, piece)
     }

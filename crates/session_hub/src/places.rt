@@ -3,7 +3,7 @@
 ghost use Rattle.std.specs.Prelude.{◌≡◌, ◌≤◌, length, MatchOption, None, OnOk, OnErr};
 ghost use Rattle.session_model.specs.Kept.{kept_of, is_kept, queue_of, closing_of, forgotten, taken_off, changed, closed};
 ghost use Rattle.session_model.specs.Run.{Bytes};
-ghost use Rattle.session_hub.specs.Hubs.{IsAt, IsBounded, held_after, TakesMemory, OthersStay};
+ghost use Rattle.session_hub.specs.Hubs.{IsAt, IsBounded, held_after, TakesMemory};
 
 use crate::connection::Connection;
 use std::alloc::{AllocError, Global};
@@ -71,8 +71,8 @@ pub fn end_at(connections: &mut [Connection], number: u32)
     }
 }
 
-/// The connection with the number hears a piece, unless it is closing. After `AllocError` the
-/// other connections are as they were.
+/// The connection with the number hears a piece, unless it is closing. After `AllocError` all
+/// connections are as they were.
 pub fn hear_at(
     alloc: Global,
     connections: &mut [Connection],
@@ -81,7 +81,7 @@ pub fn hear_at(
 ) -> Result<(), AllocError>
     ensures ok { OnOk result (connections.new ≡ held_after (Bytes number piece.now) connections.old) }
     ensures cause { OnErr result (TakesMemory (Bytes number piece.now) connections.old) }
-    ensures kept { OnErr result (OthersStay number connections.old connections.new) }
+    ensures kept { OnErr result (connections.new ≡ connections.old) }
     ensures bounded { IsBounded connections.old → IsBounded connections.new }
 {
     match place_of(connections, number) {

@@ -8,9 +8,8 @@ ghost use Rattle.wire_io.specs.Telling.{NoteTells};
 ghost use Rattle.wire_io.specs.declared.journal.Event.TheVariants as event;
 ghost use Rattle.wire_io.specs.declared.journal.Item.TheVariants as item;
 ghost use Rattle.session_hub.specs.Answering.{rules};
-ghost use Rattle.session_hub.specs.Hubs.{OthersStay};
 ghost use Rattle.session_hub.specs.Telling.{journal_event_of, IsOf};
-ghost use Rattle.session_hub.specs.Adding.{Adds, Never, IsCalm, IsBusy, IsSent, IsHeard};
+ghost use Rattle.session_hub.specs.Adding.{Adds, Never, OthersStay, IsCalm, IsBusy, IsSent, IsHeard};
 ghost use Rattle.session_hub.specs.Loops.{HangsUpRefused};
 
 use crate::{Event, Hub, MAX_CONNECTIONS};

@@ -1,7 +1,7 @@
 //! The answers to the messages of a stream.
 
-ghost use Rattle.std.specs.Prelude.{◌≤◌, length, IfOk, OnErr};
-ghost use Rattle.session_hub.specs.Answers.{Speaks};
+ghost use Rattle.std.specs.Prelude.{IfOk, OnErr};
+ghost use Rattle.session_hub.specs.Answers.{Extends, Speaks};
 
 use crate::Requester;
 use crate::messages::answer;
@@ -17,7 +17,8 @@ pub struct Spoken {
 }
 
 /// Answers the whole messages of a stream in their order until one closes, where they lie, and
-/// sends the notice where none of them does and the stream can't go on (RFC 4511 4.4.1, 5).
+/// sends the notice where none of them does and the stream can't go on (RFC 4511 4.4.1, 5). After
+/// `AllocError` some answers may stand behind the octets that were there.
 pub fn speak(
     alloc: Global,
     requester: Requester,
@@ -26,7 +27,7 @@ pub fn speak(
 ) -> Result<Spoken, AllocError>
     ensures ok { IfOk result (λ spoken.
         Speaks requester stream.now out.old.items out.new.items spoken.outcome spoken.read) }
-    ensures err { OnErr result (length out.old.items ≤ length out.new.items) }
+    ensures err { OnErr result (Extends out.old.items out.new.items) }
 {
     let mut who = requester;
     let mut read = 0;

@@ -1,5 +1,5 @@
 -- The definitions, computed over rules that say each message back, and close after an unbind.
-use Rattle.std.proofs.Common.{◌≡◌, ℕ, Bool, true, false, List, [], ◌∷◌, ◌++◌, refl}
+use Rattle.std.proofs.Common.{◌≡◌, ℕ, Bool, true, false, List, [], ◌∷◌, refl}
 use Rattle.std.specs.Prelude.{◌==◌, cond, length}
 use Rattle.ber_core.specs.Heading.{length_at, header_at}
 use Rattle.ldap_msg.specs.Streams.{framed, frame_at, whole_of, rest_behind, whole, rest_of, is_broken}

@@ -32,6 +32,6 @@ pub held_among-append : {W : Type 0} (of : ℕ → Session W) (xs : List ℕ) (c
 held_among-append of [] c = refl
 held_among-append of (x ∷ xs) c = grind (arith, held_among-append of xs c)
 
-pub is_listed-append : (c : ℕ) (xs : List ℕ) (d : ℕ) → is_listed c (xs ++ d ∷ []) ≡ (is_listed c xs || (d == c))
+pub is_listed-append : (c : ℕ) (xs : List ℕ) (d : ℕ) → is_listed c (xs ++ d ∷ []) ≡ (is_listed c xs || (c == d))
 is_listed-append c [] d = grind (arith, nat_tests)
 is_listed-append c (x ∷ xs) d = grind (arith, nat_tests, is_listed-append c xs d)

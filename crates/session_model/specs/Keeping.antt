@@ -1,13 +1,9 @@
 -- When the connections that a server holds are those of a run of sessions, of which so much of each reply was taken.
-use Rattle.std.specs.Prelude.{◌≡◌, ◌≤◌, ℕ, ◌==◌, ◌+◌, Bool, true, false, cond, ◌||◌, List, [], ◌∷◌, drop, length, map, Option, Some, None}
+use Rattle.std.specs.Prelude.{◌≡◌, ◌≤◌, ℕ, ◌==◌, ◌+◌, true, false, cond, [], drop, length, map, Option, Some, None}
+pub use Rattle.plain_values.specs.Numbers.{has as is_listed}
 use Rattle.ldap_msg.specs.Streams.{rest_of}
 use Rattle.session_model.specs.Run.{Session, Sessions, State, Open, Closing, TurnedAway, Away, Unopened, is_held, held_numbers, Step, Opened, Bytes, Ended, Gone, HungUp}
 use Rattle.session_model.specs.Kept.{Kept, Held, kept_of}
-
--- whether a number is listed
-abbrev pub is_listed : ℕ → List ℕ → Bool
-is_listed number [] = false
-is_listed number (first ∷ numbers) = (first == number) || is_listed number numbers
 
 -- what is kept of a session, if it is held: the rest of its stream while it is open, and the reply beyond what was taken
 abbrev pub shown : {W : Type 0} → State → ℕ → ℕ → Session W → Option (Kept W)

@@ -1,17 +1,13 @@
 -- The forms in memory: what they hold, and what each of their calls does.
-use Rattle.std.specs.Prelude.{◌≡◌, ℕ, ◌==◌, ◌-◌, Bool, true, false, List, ◌++◌, length, map, min, Option, Some, None, Result, Ok, Err, String, Vec, string_bytes}
+use Rattle.std.specs.Prelude.{◌≡◌, ℕ, ◌-◌, true, false, List, ◌++◌, length, map, min, Option, Some, None, Result, Ok, Err, String, Vec, string_bytes}
 use Rattle.std.specs.Global.{Global}
-use Rattle.std.specs.List.{list_any}
 use Rattle.plain_values.specs.Counts.{next_count}
+pub use Rattle.plain_values.specs.Numbers.{has as is_listed}
 use Rattle.wire_io.specs.declared.answers.FetchFault.{FetchFault}
 use Rattle.wire_io.specs.declared.answers.FetchFault.TheVariants as fetch
 use Rattle.wire_io.specs.declared.answers.PutFault.{PutFault}
 use Rattle.wire_io.specs.declared.answers.PutFault.TheVariants.{Failed, NoMemory}
 use Rattle.wire_io.specs.Files.{Files, file_of}
-
--- the number of the call is listed
-abbrev pub is_listed : ℕ → List ℕ → Bool
-is_listed call calls = list_any (λ listed. listed == call) calls
 
 -- a sink in memory: the octets put, the numbers of the calls that fail, how many calls there were, and
 -- how many faults

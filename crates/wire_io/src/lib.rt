@@ -10,6 +10,7 @@ mod file_shelf;
 mod journal;
 mod laws;
 mod link;
+mod listed;
 mod log;
 mod memory_shelf;
 mod memory_sink;

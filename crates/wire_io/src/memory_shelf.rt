@@ -5,6 +5,7 @@ ghost use Rattle.wire_io.specs.Files.{Files, file_of, FetchGives, FetchCause};
 ghost use Rattle.wire_io.specs.MemoryForms.{ShelfState, ShelfFetches, files_view};
 
 use crate::copying::copy_front;
+use crate::listed::is_listed;
 use crate::{FetchFault, Shelf};
 use plain_values::raised;
 use std::marker::Model;
@@ -61,7 +62,7 @@ impl Shelf for MemShelf {
     {
         let call = self.calls;
         self.calls = raised(call);
-        if self.failing.contains(&call) {
+        if is_listed(call, &self.failing) {
             self.faults = raised(self.faults);
             return Err(FetchFault::Failed);
         }

@@ -5,6 +5,7 @@ ghost use Rattle.plain_values.specs.Counts.{next_count};
 ghost use Rattle.wire_io.specs.Putting.{WriteTells, PutCause};
 ghost use Rattle.wire_io.specs.MemoryForms.{SinkState, SinkWrites};
 
+use crate::listed::is_listed;
 use crate::{PutFault, Sink};
 use plain_values::raised;
 use std::alloc::Global;
@@ -67,7 +68,7 @@ impl Sink for MemSink {
     {
         let call = self.calls;
         self.calls = raised(call);
-        if self.failing.contains(&call) {
+        if is_listed(call, &self.failing) {
             self.faults = raised(self.faults);
             return Err(PutFault::Failed);
         }

@@ -13,6 +13,7 @@ ghost use Rattle.wire_io.specs.Rising.{rising};
 ghost use Rattle.wire_io.specs.Scripted.{fresh_link, LinkOpens, LinkHears, LinkWrites, LinkNotes};
 ghost use Rattle.wire_io.specs.Telling.{OpenTells, NextTells, TookTells, NoteTells};
 
+use crate::listed::is_listed;
 use crate::log::Note;
 use crate::script::{Script, turn};
 use crate::tracked_journal::TrackedJournal;
@@ -145,7 +146,7 @@ impl ScriptLink {
     {
         let call = self.calls;
         self.calls = raised(call);
-        self.failing.contains(&call)
+        is_listed(call, &self.failing)
     }
 
     #[tactic(auto, unfolding(crate::specs::Telling::NextTells, crate::specs::Playing::NextPlays))]

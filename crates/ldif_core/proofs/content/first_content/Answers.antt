@@ -26,5 +26,5 @@ returns c =
     (λ read is. IsRead-before _ _ c.args.text.now c.args.from c.in_ok-line.at read.0 read.1
     (body-first c.args.text.now c.args.from start ∙ ap without_version c.in_ok-line.ensures.lines
     ∙ after_version c.in_ok-line.line _ (sym c.is_version.ensures ∙ c.if-not-is_version.false))
-    c.in_ok-line.ensures.after is)
+    c.in_ok-line.ensures.after c.in_ok-line.ensures.passed is)
     c.next_content-2.ensures

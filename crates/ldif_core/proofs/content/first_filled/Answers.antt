@@ -2,6 +2,7 @@ use Rattle.std.proofs.Common.{sym, ◌∙◌, ap}
 use Rattle.ldif_core.specs.Records.{records}
 use Rattle.ldif_core.specs.Places.{records_from}
 use Rattle.ldif_core.proofs.ContentLemmas.{records-blank_ahead, IsRead-blank}
+use Rattle.ldif_core.proofs.AfterLemmas.{after_both}
 use Rattle.ldif_core.proofs.content.first_filled.Goals as goal
 
 -- the first line
@@ -12,6 +13,7 @@ blanks-init c = record {
   end = c.in_ok-line.ensures.end;
   later = c.in_ok-line.ensures.later;
   place = c.in_ok-line.ensures.place;
+  passed = c.in_ok-line.ensures.passed;
 }
 
 -- an empty line was passed
@@ -23,4 +25,5 @@ blanks-preserved c =
       end = c.in_ok-line-2.ensures.end;
       later = IsRead-blank c.blanks.line c.in_ok-line-2.field-0-0 c.args.from.offset c.blanks.at.offset c.in_ok-line-2.field-0-1.offset blank c.blanks.invariant.later c.in_ok-line-2.ensures.later;
       place = c.in_ok-line-2.ensures.place;
+      passed = after_both c.args.text.now c.args.from c.blanks.at c.in_ok-line-2.field-0-1 c.blanks.invariant.passed c.in_ok-line-2.ensures.passed;
     }

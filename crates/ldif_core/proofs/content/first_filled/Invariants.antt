@@ -1,7 +1,7 @@
 use Rattle.std.proofs.Common.{◌≡◌, ◌<◌, length, []}
 use Rattle.std.specs.Prelude.{IfSome, IfNone}
 use Rattle.ldif_core.specs.Records.{records}
-use Rattle.ldif_core.specs.Places.{IsPlace, content_from, records_from}
+use Rattle.ldif_core.specs.Places.{IsPlace, IsLinesAfter, content_from, records_from}
 use Rattle.ldif_core.specs.Steps.{ahead}
 use Rattle.ldif_core.proofs.content.first_filled.Given as goal
 
@@ -12,6 +12,7 @@ invariant-blanks l = record {
   end : IfNone l.line (content_from l.text l.at ≡ []);
   later : IfSome l.line (λ _. l.fn.from.offset < l.at.offset);
   place : IsPlace l.text l.at;
+  passed : IsLinesAfter l.text l.fn.from l.at;
 }
 
 abbrev pub decreases-blanks : goal.decreases-blanks

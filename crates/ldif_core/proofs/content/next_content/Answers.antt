@@ -1,7 +1,12 @@
-use Rattle.std.proofs.Common.{sym, ◌∙◌, ap, arith}
+use Rattle.std.proofs.Common.{sym, refl, ◌∙◌, ap, arith}
 use Rattle.ldif_core.specs.Lines.{begins_with}
 use Rattle.ldif_core.proofs.ContentLemmas.{content-none, content-comment, content-line}
+use Rattle.ldif_core.proofs.AfterLemmas.{after_none, after_both}
 use Rattle.ldif_core.proofs.content.next_content.Goals as goal
+
+-- no line was passed yet
+pub loop-at-init : goal.loop-at-init
+loop-at-init c = record { lines = refl; after = omega arith; place = c.requires; passed = after_none c.args.text.now c.args.from }
 
 -- the line is no comment
 pub returns-then-not-begins_with : goal.returns-then-not-begins_with
@@ -14,6 +19,7 @@ returns-then-not-begins_with c = record {
   later = omega (arith, c.in_ok-line.ensures.later);
   after = omega (arith, c.in_ok-line.ensures.later);
   place = c.in_ok-line.ensures.place;
+  passed = after_both c.args.text.now c.args.from c.loop-at.at c.in_ok-line.after c.loop-at.invariant.passed c.in_ok-line.ensures.passed;
 }
 
 -- it is one
@@ -25,6 +31,7 @@ loop-at-preserved-else-not-begins_with c = record {
       (ap (begins_with 35) (sym c.octets.ensures) ∙ sym c.begins_with.ensures ∙ c.if-not-begins_with.false);
   after = omega (arith, c.in_ok-line.ensures.later);
   place = c.in_ok-line.ensures.place;
+  passed = after_both c.args.text.now c.args.from c.loop-at.at c.in_ok-line.after c.loop-at.invariant.passed c.in_ok-line.ensures.passed;
 }
 
 pub loop-at-preserved : goal.loop-at-preserved
@@ -35,6 +42,7 @@ loop-at-preserved c = record {
       (ap (begins_with 35) (sym c.octets.ensures) ∙ sym c.begins_with.ensures ∙ c.if-not-begins_with.false);
   after = omega (arith, c.in_ok-line.ensures.later);
   place = c.in_ok-line.ensures.place;
+  passed = after_both c.args.text.now c.args.from c.loop-at.at c.in_ok-line.after c.loop-at.invariant.passed c.in_ok-line.ensures.passed;
 }
 
 -- no line is left
@@ -47,4 +55,5 @@ returns c =
       later = tt;
       after = c.loop-at.invariant.after;
       place = c.loop-at.invariant.place;
+      passed = c.loop-at.invariant.passed;
     }

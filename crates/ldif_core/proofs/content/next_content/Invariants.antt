@@ -1,5 +1,5 @@
 use Rattle.std.proofs.Common.{◌≡◌, ◌-◌, ◌≤◌, length}
-use Rattle.ldif_core.specs.Places.{IsPlace, content_from}
+use Rattle.ldif_core.specs.Places.{IsPlace, IsLinesAfter, content_from}
 use Rattle.ldif_core.proofs.content.next_content.Given as goal
 
 -- only comments stand before
@@ -8,6 +8,7 @@ invariant-loop-at l = record {
   lines : content_from l.text l.fn.from ≡ content_from l.text l.at;
   after : l.fn.from.offset ≤ l.at.offset;
   place : IsPlace l.text l.at;
+  passed : IsLinesAfter l.text l.fn.from l.at;
 }
 
 abbrev pub decreases-loop-at : goal.decreases-loop-at

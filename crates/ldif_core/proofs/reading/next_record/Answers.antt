@@ -19,4 +19,4 @@ pub returns-clause-ok : goal.returns-clause-ok
 returns-clause-ok c =
     let later = later-than c.in_ok-line.line c.in-Some.first c.args.from.offset c.in_ok-line.at.offset c.in_ok-record.at.offset c.in-Some.is c.in_ok-line.ensures.later c.in_ok-record.ensures.after in
     IsNext-read c.args.text.now c.args.from c.in_ok-line.at c.in_ok-record.at c.in_ok-line.line c.in-Some.first c.in_ok-record.record
-    c.in_ok-line.ensures.exact c.in-Some.is c.in_ok-line.ensures.filled c.in_ok-record.ensures.ok c.in_ok-record.ensures.rest later c.in_ok-record.ensures.place
+    c.in_ok-line.ensures.exact c.in-Some.is c.in_ok-line.ensures.filled c.in_ok-record.ensures.ok c.in_ok-record.ensures.rest later c.in_ok-record.ensures.place c.in_ok-line.ensures.passed c.in_ok-record.ensures.passed

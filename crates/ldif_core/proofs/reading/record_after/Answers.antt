@@ -3,6 +3,7 @@ use Rattle.std.proofs.lemmas.Result.{err_from_is_err_and}
 use Rattle.ldif_core.specs.Records.{attribute_lines}
 use Rattle.ldif_core.specs.Steps.{before_blank}
 use Rattle.ldif_core.proofs.RecordLemmas.{one-alone, record-good, record-fault_name, record-fault_line, fault-same, fault-of}
+use Rattle.ldif_core.proofs.AfterLemmas.{after_both}
 use Rattle.ldif_core.proofs.reading.record_after.Goals as goal
 
 -- the first line is bad
@@ -29,3 +30,7 @@ returns-clause-ok c =
     rw c.number.ensures
     (record-good c.args.first.now _ c.ends.result c.in_ok-name.name c.in_ok-lines.lines single c.in_ok-name.ensures
     (ap (λ lines. attribute_lines (before_blank lines)) c.in_ok-line.ensures.lines ∙ c.in_ok-lines.ensures.ok))
+
+-- the lines of the record were passed
+pub returns-clause-passed : goal.returns-clause-passed
+returns-clause-passed c = after_both c.args.text.now c.args.from c.in_ok-line.at c.in_ok-lines.at c.in_ok-line.ensures.passed c.in_ok-lines.ensures.passed

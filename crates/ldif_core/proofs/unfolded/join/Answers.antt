@@ -1,9 +1,20 @@
-use Rattle.std.proofs.Common.{sym, ◌∙◌, ap, ◌++◌, rules}
+use Rattle.std.proofs.Common.{sym, refl, ◌∙◌, ap, ◌++◌, arith, rules}
 use Rattle.std.proofs.lemmas.List.{append-nil}
 use Rattle.ldif_core.specs.Lines.{continued}
 use Rattle.ldif_core.specs.Places.{physical_from, logical_from}
 use Rattle.ldif_core.proofs.LogicalLemmas.{continued-none, beginning-none, continued-step, beginning-step}
+use Rattle.ldif_core.proofs.AfterLemmas.{after_none, after_both}
 use Rattle.ldif_core.proofs.unfolded.join.Goals as goal
+
+-- none was joined yet
+pub loop-at-init : goal.loop-at-init
+loop-at-init c = record {
+  octets = search rules;
+  rest = refl;
+  later = omega arith;
+  place = c.requires;
+  passed = after_none c.args.text.now c.args.from;
+}
 
 -- one continuation more
 pub loop-at-preserved : goal.loop-at-preserved
@@ -16,6 +27,7 @@ loop-at-preserved c =
       rest = c.loop-at.invariant.rest ∙ beginning-step _ _ _ c.first_line.ensures.exact more;
       later = search rules;
       place = c.first_line.ensures.place;
+      passed = after_both c.args.text.now c.args.from c.loop-at.at c.first_line.result.1 c.loop-at.invariant.passed c.first_line.ensures.passed;
     }
 
 -- no continuation is left

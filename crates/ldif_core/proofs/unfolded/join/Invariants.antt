@@ -1,6 +1,6 @@
 use Rattle.std.proofs.Common.{◌≡◌, ◌++◌, ◌-◌, ◌≤◌, length}
 use Rattle.ldif_core.specs.Lines.{continued, beginning}
-use Rattle.ldif_core.specs.Places.{IsPlace, physical_from}
+use Rattle.ldif_core.specs.Places.{IsPlace, IsLinesAfter, physical_from}
 use Rattle.ldif_core.proofs.unfolded.join.Given as goal
 
 -- the octets so far with those of the continuations that are left, and the lines after these
@@ -10,6 +10,7 @@ invariant-loop-at l = record {
   rest : beginning (physical_from l.text l.fn.from) ≡ beginning (physical_from l.text l.at);
   later : l.fn.from.offset ≤ l.at.offset;
   place : IsPlace l.text l.at;
+  passed : IsLinesAfter l.text l.fn.from l.at;
 }
 
 abbrev pub decreases-loop-at : goal.decreases-loop-at

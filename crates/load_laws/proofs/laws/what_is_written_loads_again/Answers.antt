@@ -1,6 +1,6 @@
 -- Record by record, each entry joins those before it.
-use Rattle.load_laws.proofs.LoadLemmas.{loads-ldif_text}
+use Rattle.load_laws.proofs.LoadLemmas.{loads-written_file}
 use Rattle.load_laws.proofs.laws.what_is_written_loads_again.Goals as goal
 
 pub returns : goal.returns
-returns c = record { exact = loads-ldif_text }
+returns c = record { exact = loads-written_file }

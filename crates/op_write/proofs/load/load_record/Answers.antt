@@ -39,6 +39,6 @@ returns-clause-ok c = record {
   id = c.in_ok-put_in.field-0.0;
   entry = c.in_ok-entry.entry;
   loaded = loaded-placed (entries_of c.args.tree.now) c.args.given.now c.in_ok-entry.entry c.in_ok-entry.ensures.exact ∙ c.in_ok-placed.ensures.ok;
-  free = c.in_ok-put_in.ensures.only;
+  free = c.in_ok-put_in.ensures.free;
   added = c.in_ok-put_in.ensures.ok;
 }

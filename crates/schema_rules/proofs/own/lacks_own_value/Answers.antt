@@ -6,5 +6,5 @@ use Rattle.schema_rules.proofs.own.lacks_own_value.Goals as goal
 pub returns : goal.returns
 unfolding lacks_own_value
 returns c = record {
-  exact = rw (c.lacks_pair.ensures.exact, c.last_pairs.ensures.exact, c.name.ensures.exact) refl;
+  exact = rw (c.lacks_pair.ensures.exact, c.last_rdn.ensures.exact, c.name.ensures.exact) refl;
 }

@@ -1,12 +1,12 @@
 use Rattle.std.proofs.Common.{◌++◌, sym, ap, ◌∙◌, slice_set}
 use Rattle.std.proofs.lemmas.List.{set-get_or}
-use Rattle.std.proofs.lemmas.Result.{on_ok_weaker}
+use Rattle.std.proofs.lemmas.Result.{on_ok_weaker, on_err_weaker}
 use Rattle.session_model.specs.Kept.{Kept, is_kept, heard_piece}
 use Rattle.session_hub.specs.declared.requester.Requester.{Requester}
 use Rattle.session_hub.specs.Answering.{rules}
 use Rattle.session_hub.specs.Answers.{said_to}
 use Rattle.session_hub.proofs.HearLemmas.{hears_nowhere, hears_closing, hears_open}
-use Rattle.session_hub.proofs.PlaceLemmas.{closing_at, kept_at_is, forgotten-set}
+use Rattle.session_hub.proofs.PlaceLemmas.{closing_at, kept_at_is}
 use Rattle.session_hub.proofs.ServingLemmas.{on_err_any}
 use Rattle.session_hub.proofs.places.hear_at.Goals as goal
 
@@ -42,6 +42,6 @@ returns-else-is_closing-clause-cause c =
 
 pub returns-else-is_closing-clause-kept : goal.returns-else-is_closing-clause-kept
 returns-else-is_closing-clause-kept c =
-    on_err_any c.hear.result
-    (forgotten-set c.args.number c.in-Some.at c.args.connections.now c.index-connections-at.result c.hear.new.self c.in-Some.ensures c.index-connections-at.is
-    (c.hear.ensures.number ∙ ap (λ (k : Kept Requester). k.number) (sym c.index-connections-at.is)))
+    on_err_weaker c.hear.result
+    (λ same. ap (λ k. slice_set c.args.connections.now c.in-Some.at k) same ∙ set-get_or c.args.connections.now c.in-Some.at c.index-connections-at.result)
+    c.hear.ensures.kept

@@ -1,9 +1,8 @@
 use Rattle.std.proofs.Common.{◌≡◌, Bool, length}
 use Rattle.plain_values.specs.Counts.{NeverFalls}
 use Rattle.session_model.specs.Kept.{queue_of}
-use Rattle.session_hub.specs.Hubs.{OthersStay}
 use Rattle.session_hub.specs.Loops.{HangsUpRefused}
-use Rattle.session_hub.specs.Adding.{Adds, IsBusy}
+use Rattle.session_hub.specs.Adding.{Adds, OthersStay, IsBusy}
 use Rattle.session_hub.proofs.serving.send_queue.Given as goal
 
 -- the block goes on

@@ -42,19 +42,19 @@ overflow_add-self c = omega (arith, more_fit _ _ _ c.self.invariant c.args.entry
 -- the old entry counted beside those that stay
 pub overflow_sub-self : goal.overflow_sub-self
 overflow_sub-self c =
-    omega (arith, counts_beside _ _ _ c.self.invariant c.args.no.0 _ c.replace_entry-old.ensures.ok, c.access_subentries-2.ensures.exact)
+    omega (arith, counts_beside _ _ _ c.self.invariant c.args.no.0 _ c.replace_entry-old.ensures.found, c.access_subentries-2.ensures.exact)
 
 pub invariant_of-self : goal.invariant_of-self
 invariant_of-self c =
     let more = access_subentries-put_row (record { id = c.args.no.0; entry = c.args.entry }) (without c.args.no.0 (rows_of c.self.inside.slots.items c.self.inside.order.items)) in
     record {
       kept = (changed c).kept;
-      counted = rw (changed c).shown (omega (arith, counts_beside _ _ _ c.self.invariant c.args.no.0 _ c.replace_entry-old.ensures.ok, c.access_subentries.ensures.exact, c.access_subentries-2.ensures.exact));
+      counted = rw (changed c).shown (omega (arith, counts_beside _ _ _ c.self.invariant c.args.no.0 _ c.replace_entry-old.ensures.found, c.access_subentries.ensures.exact, c.access_subentries-2.ensures.exact));
     }
 
-pub returns-clause-ok : goal.returns-clause-ok
-returns-clause-ok c =
-    rw (← c.self.view_is) (entry_of-rows_of c.self.inside.slots.items c.self.inside.order.items c.args.no.0 (c.self.invariant.kept.used c.args.no.0) ∙ c.replace_entry-old.ensures.ok)
+pub returns-clause-found : goal.returns-clause-found
+returns-clause-found c =
+    rw (← c.self.view_is) (entry_of-rows_of c.self.inside.slots.items c.self.inside.order.items c.args.no.0 (c.self.invariant.kept.used c.args.no.0) ∙ c.replace_entry-old.ensures.found)
 
 pub returns-clause-exact : goal.returns-clause-exact
 returns-clause-exact c = rw (← c.self.view_is) (changed c).shown

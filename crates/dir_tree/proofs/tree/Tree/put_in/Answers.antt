@@ -41,5 +41,5 @@ invariant_of-self-2 c = record {
 pub returns-clause-ok : goal.returns-clause-ok
 returns-clause-ok c = (put c).shown
 
-pub returns-clause-only : goal.returns-clause-only
-returns-clause-only c = (put c).only
+pub returns-clause-free : goal.returns-clause-free
+returns-clause-free c = (put c).free

@@ -20,22 +20,22 @@ take_entry-entry-requires c = slot_known c.self.inside.slots.items c.self.inside
 -- the entry that was taken counted beside those that are left
 pub overflow_sub-self : goal.overflow_sub-self
 overflow_sub-self c =
-    omega (arith, counts_beside _ _ _ c.self.invariant c.args.no.0 _ c.take_entry-entry.ensures.ok, c.access_subentries.ensures.exact)
+    omega (arith, counts_beside _ _ _ c.self.invariant c.args.no.0 _ c.take_entry-entry.ensures.found, c.access_subentries.ensures.exact)
 
 pub invariant_of-self : goal.invariant_of-self
 invariant_of-self c =
     let known : entry_of c.args.no.0 (rows_of c.self.inside.slots.items c.self.inside.order.items) ≡ Some c.requires.entry = rw c.self.view_is c.requires.known in
     let placed : c.args.place ≡ place_of c.requires.entry.name (rows_of c.self.inside.slots.items c.self.inside.order.items) = rw c.self.view_is c.requires.placed in
     let alone : has_below c.requires.entry.name (rows_of c.self.inside.slots.items c.self.inside.order.items) ≡ false = rw c.self.view_is c.requires.alone in
-    let beside = counts_beside _ _ _ c.self.invariant c.args.no.0 _ c.take_entry-entry.ensures.ok in
+    let beside = counts_beside _ _ _ c.self.invariant c.args.no.0 _ c.take_entry-entry.ensures.found in
     rw (c.take_entry-entry.ensures.exact, c.remove-number.ensures.items) (record {
       kept = kept_without c.self.inside.slots.items c.self.inside.order.items c.args.no.0 c.args.place c.requires.entry c.self.invariant.kept known placed alone;
       counted = rw (shown_without c.self.inside.slots.items c.self.inside.order.items c.args.no.0 c.args.place c.requires.entry c.self.invariant.kept known placed) (omega (arith, c.access_subentries.ensures.exact));
     })
 
-pub returns-clause-ok : goal.returns-clause-ok
-returns-clause-ok c =
-    rw (← c.self.view_is) (entry_of-rows_of c.self.inside.slots.items c.self.inside.order.items c.args.no.0 (c.self.invariant.kept.used c.args.no.0) ∙ c.take_entry-entry.ensures.ok)
+pub returns-clause-found : goal.returns-clause-found
+returns-clause-found c =
+    rw (← c.self.view_is) (entry_of-rows_of c.self.inside.slots.items c.self.inside.order.items c.args.no.0 (c.self.invariant.kept.used c.args.no.0) ∙ c.take_entry-entry.ensures.found)
 
 pub returns-clause-exact : goal.returns-clause-exact
 returns-clause-exact c =
