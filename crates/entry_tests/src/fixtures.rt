@@ -18,7 +18,17 @@ pub fn value(alloc: Global, kind: &str, text: &str) -> Result<Value, Fail> {
 
 // Adds a value of the type of this name.
 pub fn put(alloc: Global, entry: &mut Entry, kind: &str, text: &str) -> Result<bool, Fail> {
-    let kind = attr(kind).ok_or("no such type")?;
-    let value = make_value(alloc, kind, text.as_bytes().to_vec(alloc)?)?;
-    Ok(entry.push(kind, value)?)
+    let value = value(alloc, kind, text)?;
+    Ok(entry.push(attr(kind).ok_or("no such type")?, value)?)
+}
+
+// The entry of the name with these values, each of which is added.
+pub fn entry(alloc: Global, text: &str, values: &[(&str, &str)]) -> Result<Entry, Fail> {
+    let mut entry = Entry::new(alloc, name(alloc, text)?)?;
+    for (kind, text) in values {
+        if !put(alloc, &mut entry, kind, text)? {
+            return Err(Fail::from("a value that is not added"));
+        }
+    }
+    Ok(entry)
 }

@@ -70,13 +70,15 @@ static CLASSES: [(u8, &str, &str, ClassKind, Option<ClassId>); 19] = [
 
 // Class, attribute types that it requires, attribute types that it allows besides.
 #[rattlefmt::skip]
-static LISTS: [(&str, &[u8], &[u8]); 6] = [
-    ("top", &[0], &[]),
-    ("person", &[2, 1], &[18, 13, 17, 11]),
-    ("domain", &[25], &[18, 17, 13, 7, 12, 6, 5, 11, 8]),
-    ("inetOrgPerson", &[], &[28, 27, 19, 20, 23, 24, 26, 8, 22]),
-    ("subentry", &[1, 30], &[]),
-    ("accessControlSubentry", &[], &[32]),
+static LISTS: [(&str, &[AttrId], &[AttrId]); 6] = [
+    ("top", &[AttrId(0)], &[]),
+    ("person", &[AttrId(2), AttrId(1)], &[AttrId(18), AttrId(13), AttrId(17), AttrId(11)]),
+    ("domain", &[AttrId(25)],
+        &[AttrId(18), AttrId(17), AttrId(13), AttrId(7), AttrId(12), AttrId(6), AttrId(5), AttrId(11), AttrId(8)]),
+    ("inetOrgPerson", &[],
+        &[AttrId(28), AttrId(27), AttrId(19), AttrId(20), AttrId(23), AttrId(24), AttrId(26), AttrId(8), AttrId(22)]),
+    ("subentry", &[AttrId(1), AttrId(30)], &[]),
+    ("accessControlSubentry", &[], &[AttrId(32)]),
 ];
 
 // A text, and the dotted form that it stands for.
@@ -112,57 +114,88 @@ fn marked(name: &'static str, oid: &'static str, syntax: Syntax, marks: &str) ->
     }
 }
 
+// The attribute types that a name, an identifier and the octets of a name find. Like those below it promises nothing, so
+// that the proof of a test goes by what the test asks.
+fn found_types(
+    name: &str,
+    oid: &str,
+    octets: &[u8],
+) -> (Option<AttrId>, Option<AttrId>, Option<AttrId>) {
+    (attr(name), attr(oid), attr_named(octets))
+}
+
+fn row_at(number: u8) -> Option<Row> {
+    row(AttrId(number))
+}
+
 #[test]
 fn each_attribute_type_is_found_by_name_and_by_identifier(rt: HostRuntime) {
     for (number, odd, oid, name, syntax, marks) in ATTRIBUTES.iter() {
         let known = Some(AttrId(*number));
-        let found = (attr(odd), attr(oid), attr_named(odd.as_bytes()));
+        let found = found_types(odd, oid, odd.as_bytes());
         assert_eq!(rt; found, (known, known, known), "{name}");
         let want = Some(marked(name, oid, *syntax, marks));
-        assert_eq!(rt; row(AttrId(*number)), want, "{name}");
+        assert_eq!(rt; row_at(*number), want, "{name}");
     }
+}
+
+// The classes that a name, an identifier, the identifier's octets and the name's octets find.
+fn found_classes(
+    name: &str,
+    oid: &str,
+) -> (
+    Option<ClassId>,
+    Option<ClassId>,
+    Option<ClassId>,
+    Option<ClassId>,
+) {
+    (
+        class(name),
+        class(oid),
+        class_with(oid.as_bytes()),
+        class_with(name.as_bytes()),
+    )
+}
+
+// The kind, the identifier and the superior of a class.
+fn class_row(class: ClassId) -> (Option<ClassKind>, Option<&'static str>, Option<ClassId>) {
+    (class_kind(class), class_oid(class), superior(class))
 }
 
 #[test]
 fn each_class_is_found_by_name_and_by_identifier(rt: HostRuntime) {
     for (number, odd, oid, kind, below) in CLASSES.iter() {
-        let known = ClassId(*number);
-        let found = (class(odd), class(oid), class_with(oid.as_bytes()));
-        assert_eq!(rt; found, (Some(known), Some(known), Some(known)), "{odd}");
-        assert_eq!(rt; class_with(odd.as_bytes()), None, "{odd}");
-        let found = (class_kind(known), class_oid(known), superior(known));
+        let known = Some(ClassId(*number));
+        let found = found_classes(odd, oid);
+        assert_eq!(rt; found, (known, known, known, None), "{odd}");
         let want = (Some(*kind), Some(*oid), *below);
-        assert_eq!(rt; found, want, "{odd}");
+        assert_eq!(rt; class_row(ClassId(*number)), want, "{odd}");
     }
+}
+
+// The attribute types that a class requires, and those that it allows besides.
+fn lists_of(class: ClassId) -> (&'static [AttrId], &'static [AttrId]) {
+    (required(class), allowed(class))
 }
 
 #[test]
 fn a_class_has_the_attribute_types_of_its_own_row(rt: HostRuntime) {
     for (name, must, may) in LISTS.iter() {
-        let known = class(name).expect(&rt, "a class");
-        assert!(rt;
-            required(known)
-                .iter()
-                .map(|kind| kind.0)
-                .eq(must.iter().copied()),
-            "{name}"
-        );
-        assert!(rt;
-            allowed(known)
-                .iter()
-                .map(|kind| kind.0)
-                .eq(may.iter().copied()),
-            "{name}"
-        );
+        let known = found_classes(name, name).0.expect(&rt, "a class");
+        assert_eq!(rt; lists_of(known), (*must, *may), "{name}");
     }
+}
+
+// The dotted form that a text stands for, and whether it is of that form itself.
+fn dotted(text: &'static str) -> (Option<&'static str>, bool) {
+    (oid_of(text), is_dotted_oid(text.as_bytes()))
 }
 
 #[test]
 fn a_text_has_the_dotted_form_of_its_name_or_its_own(rt: HostRuntime) {
     for (text, oid) in DOTTED.iter() {
-        assert_eq!(rt; oid_of(text), *oid, "{text}");
-        let is_dotted = is_dotted_oid(text.as_bytes());
-        assert_eq!(rt; is_dotted, *oid == Some(*text), "{text}");
+        let is_dotted = *oid == Some(*text);
+        assert_eq!(rt; dotted(text), (*oid, is_dotted), "{text}");
     }
 }
 
@@ -182,14 +215,16 @@ static NO_CLASSES: [&str; 6] = ["", "people", "2.5.6", "cn", "2.5.4.3", "autonom
 #[test]
 fn what_no_row_has_finds_nothing(rt: HostRuntime) {
     for text in &NO_ATTRIBUTES {
-        assert_eq!(rt; attr(text), None, "{text}");
+        let found = found_types(text, text, b"c\xff");
+        assert_eq!(rt; found, (None, None, None), "{text}");
     }
     for text in &NO_CLASSES {
-        assert_eq!(rt; class(text), None, "{text}");
+        let found = found_classes(text, text);
+        assert_eq!(rt; found, (None, None, None, None), "{text}");
     }
     let last = ClassId(19);
-    let found = (class_kind(last), class_oid(last), superior(last));
-    assert_eq!(rt; found, (None, None, None));
-    assert_eq!(rt; (row(AttrId(35)), attr_named(b"c\xff")), (None, None));
-    assert_eq!(rt; (required(last).len(), allowed(last).len()), (0, 0));
+    assert_eq!(rt; class_row(last), (None, None, None));
+    assert_eq!(rt; row_at(35), None);
+    let (must, may) = lists_of(last);
+    assert_eq!(rt; (must.len(), may.len()), (0, 0));
 }

@@ -1,12 +1,85 @@
 //! Trees: each call once, and each refusal in its order.
-use crate::fixtures::{name, put};
-use dir_tree::{Entry, EntryNo, InsertRefusal, RemoveRefusal, ReplaceRefusal, Scope, Tree};
-use dn_names::print;
+use crate::fixtures::{entry, name};
+use dir_tree::{Entry, EntryNo, InsertRefusal, Scope, Tree};
+use dn_names::{Dn, print, same};
 use std::alloc::Global;
+use std::process::Abort;
 use std::test::Fail;
 
-fn entry(alloc: Global, text: &str) -> Result<Entry, Fail> {
-    Ok(Entry::new(alloc, name(alloc, text)?)?)
+type Values = &'static [(&'static str, &'static str)];
+
+// A call of a tree about the entry of a name, by the last number that the name found, or by one that is not in use.
+#[derive(Clone, Copy)]
+enum Call {
+    // The name of the entry of the number.
+    At,
+    // The names of the entries in the scope of the number.
+    Below(Scope),
+    Superior,
+    Suffix,
+    Find,
+    // The entry of so many RDNs of the name.
+    FindPrefix(usize),
+    Len,
+    AccessSubentries,
+    // Puts in an entry of the name with these values: whether the name finds it then, or the refusal.
+    Insert(Values),
+    // Takes the entry out: its name, or the refusal.
+    Remove,
+    // Takes the entry out and puts it in again: whether the name finds it in between, and then.
+    RemoveAndInsert,
+    // Gives the place of the entry to one of another name: the name of the old one, or the refusal, and whether the
+    // other name finds the number then.
+    Replace(&'static str, Values),
+}
+
+// Appends the name of an entry as a line, or `none`.
+fn put_name(alloc: Global, entry: Option<&Entry>, out: &mut String) -> Result<(), Fail> {
+    match entry {
+        Some(entry) => print(alloc, entry.name(), out)?,
+        None => out.push_str("none")?,
+    }
+    out.push('\n')?;
+    Ok(())
+}
+
+// The same of the entry of a number.
+fn put_found(
+    alloc: Global,
+    tree: &Tree,
+    no: Option<EntryNo>,
+    out: &mut String,
+) -> Result<(), Fail> {
+    match no {
+        Some(no) => put_name(alloc, Some(tree.at(no).ok_or("no entry")?), out),
+        None => put_name(alloc, None, out),
+    }
+}
+
+// Appends what a call that leaves the tree answers of a name and its number.
+fn put_answer(
+    alloc: Global,
+    tree: &Tree,
+    of: (&Dn, EntryNo),
+    call: Call,
+    out: &mut String,
+) -> Result<(), Fail> {
+    let (name, no) = of;
+    match call {
+        Call::At => put_name(alloc, tree.at(no), out),
+        Call::Below(scope) => {
+            for no in tree.below(no, scope) {
+                put_found(alloc, tree, Some(no), out)?;
+            }
+            Ok(())
+        }
+        Call::Superior => put_found(alloc, tree, tree.superior(no), out),
+        Call::Suffix => put_found(alloc, tree, tree.suffix(), out),
+        Call::Find => put_found(alloc, tree, tree.find(name), out),
+        Call::FindPrefix(len) => put_found(alloc, tree, tree.find_prefix(name, len), out),
+        Call::Len => Ok(write!(out, "{}\n", tree.len())?),
+        _ => Ok(write!(out, "{}\n", tree.access_subentries())?),
+    }
 }
 
 // What putting an entry in answers. One of no name can't be put in.
@@ -17,13 +90,89 @@ fn insert(tree: &mut Tree, entry: Entry) -> Result<Result<EntryNo, InsertRefusal
     Ok(tree.insert(entry))
 }
 
+// Appends whether a name finds this number.
+fn put_is_found(
+    alloc: Global,
+    tree: &Tree,
+    text: &str,
+    no: EntryNo,
+    out: &mut String,
+) -> Result<(), Fail> {
+    let name = name(alloc, text)?;
+    Ok(write!(out, "{}\n", tree.find(&name) == Some(no))?)
+}
+
+// Appends what a change of the tree answers, by the text of a name and its number.
+fn put_change(
+    alloc: Global,
+    tree: &mut Tree,
+    of: (&str, EntryNo),
+    call: Call,
+    out: &mut String,
+) -> Result<(), Fail> {
+    let (text, no) = of;
+    match call {
+        Call::Insert(values) => match insert(tree, entry(alloc, text, values)?)? {
+            Ok(no) => put_is_found(alloc, tree, text, no, out),
+            Err(refusal) => Ok(write!(out, "{refusal:?}\n")?),
+        },
+        Call::Replace(new, values) => {
+            match tree.replace(no, entry(alloc, new, values)?) {
+                Ok(old) => put_name(alloc, Some(&old), out)?,
+                Err(refusal) => write!(out, "{refusal:?}\n")?,
+            }
+            put_is_found(alloc, tree, new, no, out)
+        }
+        Call::RemoveAndInsert => {
+            let old = tree.remove(no)?;
+            put_is_found(alloc, tree, text, no, out)?;
+            let again = insert(tree, old)??;
+            put_is_found(alloc, tree, text, again, out)
+        }
+        _ => match tree.remove(no) {
+            Ok(old) => put_name(alloc, Some(&old), out),
+            Err(refusal) => Ok(write!(out, "{refusal:?}\n")?),
+        },
+    }
+}
+
 // A tree of the names, the first of which is the suffix.
-fn tree_of(rt: &HostRuntime, names: &[&str]) -> Result<Tree, Fail> {
-    let mut tree = Tree::new(rt.alloc());
+fn tree_of(alloc: Global, names: &[&str]) -> Result<Tree, Fail> {
+    let mut tree = Tree::new(alloc);
     for text in names {
-        let _no = insert(&mut tree, entry(rt.alloc(), text)?)??;
+        let _no = insert(&mut tree, entry(alloc, text, &[])?)??;
     }
     Ok(tree)
+}
+
+// What the calls about the entry of a name answer, a line each.
+fn answers(alloc: Global, tree: &mut Tree, text: &str, calls: &[Call]) -> Result<String, Fail> {
+    let mut out = String::new(alloc);
+    let name = name(alloc, text)?;
+    let mut no = EntryNo(100);
+    for call in calls {
+        no = tree.find(&name).unwrap_or(no);
+        match call {
+            Call::Insert(_) | Call::Remove | Call::RemoveAndInsert | Call::Replace(_, _) => {
+                put_change(alloc, tree, (text, no), *call, &mut out)?;
+            }
+            _ => put_answer(alloc, tree, (&name, no), *call, &mut out)?,
+        }
+    }
+    Ok(out)
+}
+
+// What a row is about, a name, calls about its entry one after another, and what they answer.
+type Row = (&'static str, &'static str, &'static [Call], &'static str);
+
+// In a tree of these names the calls of each row answer what it says.
+fn check(rt: &impl Abort, alloc: Global, names: &[&str], rows: &'static [Row]) -> Result<(), Fail> {
+    for (what, text, calls, want) in rows {
+        let mut tree = tree_of(alloc, names)?;
+        let found = answers(alloc, &mut tree, text, calls)?;
+        assert_eq!(rt; found.as_str(), *want, "{what} of {text}");
+    }
+    Ok(())
 }
 
 static NAMES: [&str; 8] = [
@@ -37,386 +186,204 @@ static NAMES: [&str; 8] = [
     "ou=lab,dc=example,dc=com",
 ];
 
-// The printed names of the entries in the scope of the base, one to a line.
-fn listed(rt: &HostRuntime, tree: &Tree, base: &str, scope: Scope) -> Result<String, Fail> {
-    let mut out = String::new(rt.alloc());
-    let base = tree.find(&name(rt.alloc(), base)?).ok_or("no entry")?;
-    for no in tree.below(base, scope) {
-        let entry = tree.at(no).ok_or("no entry of the number")?;
-        print(rt.alloc(), entry.name(), &mut out)?;
-        out.push('\n')?;
-    }
-    Ok(out)
-}
-
-// The same in the tree of the names above.
-fn listed_of_names(rt: &HostRuntime, base: &str, scope: Scope) -> Result<String, Fail> {
-    let tree = tree_of(rt, &NAMES)?;
-    listed(rt, &tree, base, scope)
-}
-
-// A base, a scope, and the names that it takes in.
-static SCOPES: [(&str, Scope, &str); 6] = [
-    ("dc=example,dc=com", Scope::Base, "dc=example,dc=com\n"),
-    (
-        "dc=example,dc=com",
-        Scope::One,
-        "ou=groups,dc=example,dc=com\nou=lab,dc=example,dc=com\nou=people,dc=example,dc=com\n",
-    ),
-    (
-        "ou=people,dc=example,dc=com",
-        Scope::Sub,
-        "ou=people,dc=example,dc=com\nuid=ada,ou=people,dc=example,dc=com\ncn=key,uid=ada,ou=people,dc=example,dc=com\nuid=bob,ou=people,dc=example,dc=com\n",
-    ),
-    (
-        "OU=People,DC=Example,DC=Com",
-        Scope::One,
-        "uid=ada,ou=people,dc=example,dc=com\nuid=bob,ou=people,dc=example,dc=com\n",
-    ),
-    (
-        "ou=lab,dc=example,dc=com",
-        Scope::Sub,
-        "ou=lab,dc=example,dc=com\n",
-    ),
-    ("ou=lab,dc=example,dc=com", Scope::One, ""),
+#[rattlefmt::skip]
+static SCOPES: [Row; 7] = [
+    ("the scope Base", "dc=example,dc=com", &[Call::Below(Scope::Base)], "dc=example,dc=com\n"),
+    ("the scope One", "dc=example,dc=com", &[Call::Below(Scope::One)],
+        "ou=groups,dc=example,dc=com\nou=lab,dc=example,dc=com\nou=people,dc=example,dc=com\n"),
+    ("the scope Sub", "ou=people,dc=example,dc=com", &[Call::Below(Scope::Sub)],
+        "ou=people,dc=example,dc=com\nuid=ada,ou=people,dc=example,dc=com\ncn=key,uid=ada,ou=people,dc=example,dc=com\nuid=bob,ou=people,dc=example,dc=com\n"),
+    ("the scope One", "OU=People,DC=Example,DC=Com", &[Call::Below(Scope::One)],
+        "uid=ada,ou=people,dc=example,dc=com\nuid=bob,ou=people,dc=example,dc=com\n"),
+    ("the scope Sub", "ou=lab,dc=example,dc=com", &[Call::Below(Scope::Sub)], "ou=lab,dc=example,dc=com\n"),
+    ("the scope One", "ou=lab,dc=example,dc=com", &[Call::Below(Scope::One)], ""),
+    ("the number", "ou=lab,dc=example,dc=com", &[Call::Len], "8\n"),
 ];
 
 #[test]
 fn a_scope_takes_in_what_is_in_it_in_the_order_of_names(rt: HostRuntime) -> Result<(), Fail> {
-    for (base, scope, want) in &SCOPES {
-        let found = listed_of_names(&rt, base, *scope)?;
-        assert_eq!(rt; found.as_str(), *want, "{scope:?} of {base}");
-    }
-    let tree = tree_of(&rt, &NAMES)?;
-    assert_eq!(rt; tree.len(), 8);
-    Ok(())
+    check(&rt, rt.alloc(), &NAMES, &SCOPES)
 }
+
+static UNUSED: [Row; 5] = [
+    ("the scope Base", "dc=none", &[Call::Below(Scope::Base)], ""),
+    ("the scope One", "dc=none", &[Call::Below(Scope::One)], ""),
+    ("the scope Sub", "dc=none", &[Call::Below(Scope::Sub)], ""),
+    ("the entry", "dc=none", &[Call::At], "none\n"),
+    ("the superior", "dc=none", &[Call::Superior], "none\n"),
+];
+
+static EMPTY: [Row; 1] = [("the suffix", "", &[Call::Suffix, Call::Len], "none\n0\n")];
 
 #[test]
 fn a_number_that_is_not_in_use_has_nothing(rt: HostRuntime) -> Result<(), Fail> {
-    let tree = tree_of(&rt, &NAMES)?;
-    for scope in [Scope::Base, Scope::One, Scope::Sub] {
-        let mut walk = tree.below(EntryNo(100), scope);
-        assert_eq!(rt; walk.next(), None, "{scope:?}");
-    }
-    assert!(rt; tree.at(EntryNo(100)).is_none());
-    assert_eq!(rt; tree.superior(EntryNo(100)), None);
-    let empty = Tree::new(rt.alloc());
-    assert_eq!(rt; empty.suffix(), None);
-    assert_eq!(rt; empty.len(), 0);
-    Ok(())
+    check(&rt, rt.alloc(), &NAMES, &UNUSED)?;
+    check(&rt, rt.alloc(), &[], &EMPTY)
 }
 
-// The printed name of the entry of the number, or `none`.
-fn shown(rt: &HostRuntime, tree: &Tree, no: Option<EntryNo>) -> Result<String, Fail> {
-    let mut out = String::new(rt.alloc());
-    match no {
-        Some(no) => {
-            let entry = tree.at(no).ok_or("no entry of the number")?;
-            print(rt.alloc(), entry.name(), &mut out)?;
-        }
-        None => out.push_str("none")?,
-    }
-    Ok(out)
-}
-
-// The printed name of the entry of so many RDNs of a name, or of the whole name.
-fn found_by(rt: &HostRuntime, text: &str, front: Option<usize>) -> Result<String, Fail> {
-    let tree = tree_of(rt, &NAMES)?;
-    let name = name(rt.alloc(), text)?;
-    let no = match front {
-        Some(len) => tree.find_prefix(&name, len),
-        None => tree.find(&name),
-    };
-    shown(rt, &tree, no)
-}
-
-fn suffix(rt: &HostRuntime) -> Result<String, Fail> {
-    let tree = tree_of(rt, &NAMES)?;
-    shown(rt, &tree, tree.suffix())
-}
-
-// A name, how many RDNs of it are sought or None for the whole, and the name of the entry that is found.
-static FRONTS: [(&str, Option<usize>, &str); 10] = [
-    (
-        "UID=Ada,ou=people,dc=example,dc=com",
-        None,
-        "uid=ada,ou=people,dc=example,dc=com",
-    ),
-    ("uid=eve,ou=people,dc=example,dc=com", None, "none"),
-    ("dc=com", None, "none"),
-    ("", None, "none"),
-    (
-        "cn=key,uid=ada,ou=people,dc=example,dc=com",
-        Some(5),
-        "cn=key,uid=ada,ou=people,dc=example,dc=com",
-    ),
-    (
-        "cn=key,uid=ada,ou=people,dc=example,dc=com",
-        Some(3),
-        "ou=people,dc=example,dc=com",
-    ),
-    (
-        "cn=key,uid=ada,ou=people,dc=example,dc=com",
-        Some(2),
-        "dc=example,dc=com",
-    ),
-    (
-        "cn=key,uid=ada,ou=people,dc=example,dc=com",
-        Some(1),
-        "none",
-    ),
-    (
-        "cn=key,uid=ada,ou=people,dc=example,dc=com",
-        Some(0),
-        "none",
-    ),
-    (
-        "cn=key,uid=ada,ou=people,dc=example,dc=com",
-        Some(6),
-        "none",
-    ),
+#[rattlefmt::skip]
+static FRONTS: [Row; 11] = [
+    ("the suffix", "", &[Call::Suffix], "dc=example,dc=com\n"),
+    ("finding", "UID=Ada,ou=people,dc=example,dc=com", &[Call::Find], "uid=ada,ou=people,dc=example,dc=com\n"),
+    ("finding", "uid=eve,ou=people,dc=example,dc=com", &[Call::Find], "none\n"),
+    ("finding", "dc=com", &[Call::Find], "none\n"),
+    ("finding", "", &[Call::Find], "none\n"),
+    ("5 RDNs", "cn=key,uid=ada,ou=people,dc=example,dc=com", &[Call::FindPrefix(5)],
+        "cn=key,uid=ada,ou=people,dc=example,dc=com\n"),
+    ("3 RDNs", "cn=key,uid=ada,ou=people,dc=example,dc=com", &[Call::FindPrefix(3)], "ou=people,dc=example,dc=com\n"),
+    ("2 RDNs", "cn=key,uid=ada,ou=people,dc=example,dc=com", &[Call::FindPrefix(2)], "dc=example,dc=com\n"),
+    ("1 RDNs", "cn=key,uid=ada,ou=people,dc=example,dc=com", &[Call::FindPrefix(1)], "none\n"),
+    ("0 RDNs", "cn=key,uid=ada,ou=people,dc=example,dc=com", &[Call::FindPrefix(0)], "none\n"),
+    ("6 RDNs", "cn=key,uid=ada,ou=people,dc=example,dc=com", &[Call::FindPrefix(6)], "none\n"),
 ];
 
 #[test]
 fn an_entry_is_found_by_its_name_and_by_a_front_of_a_name(rt: HostRuntime) -> Result<(), Fail> {
-    assert_eq!(rt; suffix(&rt)?.as_str(), "dc=example,dc=com");
-    for (text, front, want) in &FRONTS {
-        let found = found_by(&rt, text, *front)?;
-        assert_eq!(rt; found.as_str(), *want, "{front:?} of {text}");
-    }
-    Ok(())
+    check(&rt, rt.alloc(), &NAMES, &FRONTS)
 }
 
-// The printed name of the superior of the entry of a name.
-fn superior_of(rt: &HostRuntime, text: &str) -> Result<String, Fail> {
-    let tree = tree_of(rt, &NAMES)?;
-    let no = tree.find(&name(rt.alloc(), text)?).ok_or("no entry")?;
-    shown(rt, &tree, tree.superior(no))
-}
-
-// A name, and that of the superior.
-static SUPERIORS: [(&str, &str); 3] = [
-    ("dc=example,dc=com", "none"),
-    ("ou=lab,dc=example,dc=com", "dc=example,dc=com"),
-    (
-        "cn=key,uid=ada,ou=people,dc=example,dc=com",
-        "uid=ada,ou=people,dc=example,dc=com",
-    ),
+#[rattlefmt::skip]
+static SUPERIORS: [Row; 3] = [
+    ("the superior", "dc=example,dc=com", &[Call::Superior], "none\n"),
+    ("the superior", "ou=lab,dc=example,dc=com", &[Call::Superior], "dc=example,dc=com\n"),
+    ("the superior", "cn=key,uid=ada,ou=people,dc=example,dc=com", &[Call::Superior],
+        "uid=ada,ou=people,dc=example,dc=com\n"),
 ];
 
 #[test]
 fn a_superior_is_the_entry_without_the_last_rdn(rt: HostRuntime) -> Result<(), Fail> {
-    for (text, want) in &SUPERIORS {
-        let found = superior_of(&rt, text)?;
-        assert_eq!(rt; found.as_str(), *want, "{text}");
-    }
-    Ok(())
+    check(&rt, rt.alloc(), &NAMES, &SUPERIORS)
 }
 
-// What putting an entry in answers, and how many entries there are then.
-fn put_in(rt: &HostRuntime, text: &str) -> Result<(Option<InsertRefusal>, usize), Fail> {
-    let mut tree = tree_of(rt, &NAMES)?;
-    let refusal = insert(&mut tree, entry(rt.alloc(), text)?)?.err();
-    Ok((refusal, tree.len()))
-}
+const INSERT: &[Call] = &[Call::Insert(&[]), Call::Len];
 
-// A name, the refusal of an entry of that name, and how many entries there are then.
-static INSERTED: [(&str, Option<InsertRefusal>, usize); 6] = [
-    ("dc=example,dc=com", Some(InsertRefusal::NameTaken), 8),
+static INSERTED: [Row; 6] = [
+    ("putting in", "dc=example,dc=com", INSERT, "NameTaken\n8\n"),
     (
+        "putting in",
         "OU=LAB,dc=example,dc=com",
-        Some(InsertRefusal::NameTaken),
-        8,
+        INSERT,
+        "NameTaken\n8\n",
     ),
-    ("dc=com", Some(InsertRefusal::NoSuperior), 8),
+    ("putting in", "dc=com", INSERT, "NoSuperior\n8\n"),
     (
+        "putting in",
         "cn=x,ou=none,dc=example,dc=com",
-        Some(InsertRefusal::NoSuperior),
-        8,
+        INSERT,
+        "NoSuperior\n8\n",
     ),
-    ("dc=org", Some(InsertRefusal::NoSuperior), 8),
-    ("cn=x,ou=lab,dc=example,dc=com", None, 9),
+    ("putting in", "dc=org", INSERT, "NoSuperior\n8\n"),
+    (
+        "putting in",
+        "cn=x,ou=lab,dc=example,dc=com",
+        INSERT,
+        "true\n9\n",
+    ),
 ];
 
 #[test]
 fn an_entry_comes_in_under_its_superior_and_under_no_name_twice(
     rt: HostRuntime,
 ) -> Result<(), Fail> {
-    for (text, refusal, len) in &INSERTED {
-        let found = put_in(&rt, text)?;
-        assert_eq!(rt; found, (*refusal, *len), "{text}");
-    }
-    Ok(())
+    check(&rt, rt.alloc(), &NAMES, &INSERTED)
 }
 
-// What taking an entry out answers, and taking it out once more.
-fn taken_out(
-    rt: &HostRuntime,
-    text: &str,
-) -> Result<(Option<RemoveRefusal>, Option<RemoveRefusal>), Fail> {
-    let mut tree = tree_of(rt, &NAMES)?;
-    let name = name(rt.alloc(), text)?;
-    let no = tree.find(&name).ok_or("no entry")?;
-    let once = tree.remove(no).err();
-    let twice = tree.remove(no).err();
-    Ok((once, twice))
-}
+const REMOVE: &[Call] = &[Call::Remove, Call::Remove];
 
-const BELOW: Option<RemoveRefusal> = Some(RemoveRefusal::HasBelow);
-
-const ABSENT: Option<RemoveRefusal> = Some(RemoveRefusal::Absent);
-
-// A name, and the refusals of taking its entry out once and once more.
-static REMOVED: [(&str, Option<RemoveRefusal>, Option<RemoveRefusal>); 4] = [
-    ("dc=example,dc=com", BELOW, BELOW),
-    ("ou=groups,dc=example,dc=com", BELOW, BELOW),
-    ("ou=lab,dc=example,dc=com", None, ABSENT),
-    ("cn=key,uid=ada,ou=people,dc=example,dc=com", None, ABSENT),
+#[rattlefmt::skip]
+static REMOVED: [Row; 4] = [
+    ("taking out twice", "dc=example,dc=com", REMOVE, "HasBelow\nHasBelow\n"),
+    ("taking out twice", "ou=groups,dc=example,dc=com", REMOVE, "HasBelow\nHasBelow\n"),
+    ("taking out twice", "ou=lab,dc=example,dc=com", REMOVE, "ou=lab,dc=example,dc=com\nAbsent\n"),
+    ("taking out twice", "cn=key,uid=ada,ou=people,dc=example,dc=com", REMOVE,
+        "cn=key,uid=ada,ou=people,dc=example,dc=com\nAbsent\n"),
 ];
 
 #[test]
 fn an_entry_goes_out_unless_one_stands_below(rt: HostRuntime) -> Result<(), Fail> {
-    for (text, once, twice) in &REMOVED {
-        let found = taken_out(&rt, text)?;
-        assert_eq!(rt; found, (*once, *twice), "{text}");
-    }
-    Ok(())
+    check(&rt, rt.alloc(), &NAMES, &REMOVED)
 }
 
-// Takes an entry out and puts it in again: what its name finds in between, whether it finds the entry then, and how
-// many entries there are.
-fn out_and_in(rt: &HostRuntime, text: &str) -> Result<(Option<EntryNo>, bool, usize), Fail> {
-    let mut tree = tree_of(rt, &NAMES)?;
-    let name = name(rt.alloc(), text)?;
-    let entry = tree.remove(tree.find(&name).ok_or("no entry")?)?;
-    let between = tree.find(&name);
-    let again = insert(&mut tree, entry)??;
-    Ok((between, tree.find(&name) == Some(again), tree.len()))
-}
+#[rattlefmt::skip]
+static OUT_AND_IN: [Row; 2] = [
+    ("the same again", "ou=lab,dc=example,dc=com", &[Call::RemoveAndInsert, Call::Len], "false\ntrue\n8\n"),
+    ("another again", "ou=lab,dc=example,dc=com", &[Call::Remove, Call::Find, Call::Insert(&[]), Call::Len],
+        "ou=lab,dc=example,dc=com\nnone\ntrue\n8\n"),
+];
 
 #[test]
 fn an_entry_that_went_out_comes_in_again(rt: HostRuntime) -> Result<(), Fail> {
-    let found = out_and_in(&rt, "ou=lab,dc=example,dc=com")?;
-    assert_eq!(rt; found, (None, true, 8));
-    Ok(())
+    check(&rt, rt.alloc(), &NAMES, &OUT_AND_IN)
 }
 
-// An access control subentry of the name (RFC 3672 section 2).
-fn subentry(alloc: Global, text: &str) -> Result<Entry, Fail> {
-    let mut entry = entry(alloc, text)?;
-    for class in &["subentry", "accessControlSubentry"] {
-        let _added = put(alloc, &mut entry, "objectClass", class)?;
-    }
-    Ok(entry)
-}
+// The classes of an access control subentry (RFC 3672 section 2).
+const SUBENTRY: Values = &[
+    ("objectClass", "subentry"),
+    ("objectClass", "accessControlSubentry"),
+];
 
-// How many access control subentries the tree has after one is put in, after an entry of none takes its place, after
-// it is back there, and after it is taken out.
-fn counts(rt: &HostRuntime, text: &str) -> Result<(usize, usize, usize, usize), Fail> {
-    let alloc = rt.alloc();
-    let mut tree = tree_of(rt, &NAMES)?;
-    let no = insert(&mut tree, subentry(alloc, text)?)??;
-    let first = tree.access_subentries();
-    let back = tree.replace(no, entry(alloc, text)?)?;
-    let second = tree.access_subentries();
-    let _other = tree.replace(no, back)?;
-    let third = tree.access_subentries();
-    let _last = tree.remove(no)?;
-    Ok((first, second, third, tree.access_subentries()))
-}
+// How many there are after one is put in, after an entry of none takes its place, after one is back there, and after it
+// is taken out.
+#[rattlefmt::skip]
+static COUNTED: [Row; 1] = [
+    ("the subentries", "cn=x,ou=lab,dc=example,dc=com",
+        &[Call::Insert(SUBENTRY), Call::AccessSubentries,
+            Call::Replace("cn=x,ou=lab,dc=example,dc=com", &[]), Call::AccessSubentries,
+            Call::Replace("cn=x,ou=lab,dc=example,dc=com", SUBENTRY), Call::AccessSubentries,
+            Call::Remove, Call::AccessSubentries],
+        "true\n1\ncn=x,ou=lab,dc=example,dc=com\ntrue\n0\ncn=x,ou=lab,dc=example,dc=com\ntrue\n1\ncn=x,ou=lab,dc=example,dc=com\n0\n"),
+];
 
 #[test]
 fn access_control_subentries_are_counted_as_they_come_and_go(rt: HostRuntime) -> Result<(), Fail> {
-    let found = counts(&rt, "cn=x,ou=lab,dc=example,dc=com")?;
-    assert_eq!(rt; found, (1, 0, 1, 0));
-    Ok(())
+    check(&rt, rt.alloc(), &NAMES, &COUNTED)
 }
 
-// What giving an entry's place to one of another name answers, and whether that is found under its number then.
-fn replaced(
-    rt: &HostRuntime,
-    names: &[&str],
-    old: &str,
-    new: &str,
-) -> Result<(Option<ReplaceRefusal>, bool), Fail> {
-    let mut tree = tree_of(rt, names)?;
-    let old = name(rt.alloc(), old)?;
-    let new_name = name(rt.alloc(), new)?;
-    let no = tree.find(&old).unwrap_or(EntryNo(100));
-    let refusal = tree.replace(no, entry(rt.alloc(), new)?).err();
-    Ok((refusal, tree.find(&new_name) == Some(no)))
-}
+#[rattlefmt::skip]
+static REPLACED: [Row; 4] = [
+    ("OU=Lab,dc=example,dc=com in place", "ou=lab,dc=example,dc=com",
+        &[Call::Replace("OU=Lab,dc=example,dc=com", &[])], "ou=lab,dc=example,dc=com\ntrue\n"),
+    ("ou=zoo,dc=example,dc=com in place", "ou=lab,dc=example,dc=com",
+        &[Call::Replace("ou=zoo,dc=example,dc=com", &[])], "ou=lab,dc=example,dc=com\ntrue\n"),
+    ("ou=aaa,dc=example,dc=com in place", "ou=lab,dc=example,dc=com",
+        &[Call::Replace("ou=aaa,dc=example,dc=com", &[])], "ou=lab,dc=example,dc=com\ntrue\n"),
+    ("OU=PEOPLE,dc=example,dc=com in place", "ou=people,dc=example,dc=com",
+        &[Call::Replace("OU=PEOPLE,dc=example,dc=com", &[])],
+        "ou=people,dc=example,dc=com\ntrue\n"),
+];
 
-// The name of an entry, and the name of one that takes its place.
-static REPLACED: [(&str, &str); 4] = [
-    ("ou=lab,dc=example,dc=com", "OU=Lab,dc=example,dc=com"),
-    ("ou=lab,dc=example,dc=com", "ou=zoo,dc=example,dc=com"),
-    ("ou=lab,dc=example,dc=com", "ou=aaa,dc=example,dc=com"),
-    ("ou=people,dc=example,dc=com", "OU=PEOPLE,dc=example,dc=com"),
+// The same where the suffix is alone.
+#[rattlefmt::skip]
+static REPLACED_ALONE: [Row; 1] = [
+    ("dc=other,dc=com in place", "dc=example,dc=com", &[Call::Replace("dc=other,dc=com", &[])],
+        "dc=example,dc=com\ntrue\n"),
 ];
 
 #[test]
 fn an_entry_takes_the_place_of_another_under_its_number(rt: HostRuntime) -> Result<(), Fail> {
-    for (old, new) in &REPLACED {
-        let found = replaced(&rt, &NAMES, old, new)?;
-        assert_eq!(rt; found, (None, true), "{old} to {new}");
-    }
-    let alone = replaced(
-        &rt,
-        &["dc=example,dc=com"],
-        "dc=example,dc=com",
-        "dc=other,dc=com",
-    )?;
-    assert_eq!(rt; alone, (None, true));
-    Ok(())
+    check(&rt, rt.alloc(), &NAMES, &REPLACED)?;
+    check(&rt, rt.alloc(), &["dc=example,dc=com"], &REPLACED_ALONE)
 }
 
-// The name of an entry, the name of one that does not take its place, and the refusal.
-static REFUSED: [(&str, &str, ReplaceRefusal); 8] = [
-    (
-        "ou=none,dc=example,dc=com",
-        "ou=lab,dc=example,dc=com",
-        ReplaceRefusal::Absent,
-    ),
-    (
-        "ou=lab,dc=example,dc=com",
-        "ou=people,dc=example,dc=com",
-        ReplaceRefusal::NameTaken,
-    ),
-    (
-        "ou=people,dc=example,dc=com",
-        "ou=lab,dc=example,dc=com",
-        ReplaceRefusal::NameTaken,
-    ),
-    ("ou=lab,dc=example,dc=com", "", ReplaceRefusal::Elsewhere),
-    (
-        "ou=lab,dc=example,dc=com",
-        "ou=lab,ou=people,dc=example,dc=com",
-        ReplaceRefusal::Elsewhere,
-    ),
-    (
-        "dc=example,dc=com",
-        "dc=example,dc=org",
-        ReplaceRefusal::Elsewhere,
-    ),
-    (
-        "ou=people,dc=example,dc=com",
-        "ou=folk,dc=example,dc=com",
-        ReplaceRefusal::HasBelow,
-    ),
-    (
-        "dc=example,dc=com",
-        "dc=other,dc=com",
-        ReplaceRefusal::HasBelow,
-    ),
+#[rattlefmt::skip]
+static REFUSED: [Row; 8] = [
+    ("ou=lab,dc=example,dc=com in place", "ou=none,dc=example,dc=com",
+        &[Call::Replace("ou=lab,dc=example,dc=com", &[])], "Absent\nfalse\n"),
+    ("ou=people,dc=example,dc=com in place", "ou=lab,dc=example,dc=com",
+        &[Call::Replace("ou=people,dc=example,dc=com", &[])], "NameTaken\nfalse\n"),
+    ("ou=lab,dc=example,dc=com in place", "ou=people,dc=example,dc=com",
+        &[Call::Replace("ou=lab,dc=example,dc=com", &[])], "NameTaken\nfalse\n"),
+    (" in place", "ou=lab,dc=example,dc=com", &[Call::Replace("", &[])], "Elsewhere\nfalse\n"),
+    ("ou=lab,ou=people,dc=example,dc=com in place", "ou=lab,dc=example,dc=com",
+        &[Call::Replace("ou=lab,ou=people,dc=example,dc=com", &[])], "Elsewhere\nfalse\n"),
+    ("dc=example,dc=org in place", "dc=example,dc=com", &[Call::Replace("dc=example,dc=org", &[])],
+        "Elsewhere\nfalse\n"),
+    ("ou=folk,dc=example,dc=com in place", "ou=people,dc=example,dc=com",
+        &[Call::Replace("ou=folk,dc=example,dc=com", &[])], "HasBelow\nfalse\n"),
+    ("dc=other,dc=com in place", "dc=example,dc=com", &[Call::Replace("dc=other,dc=com", &[])], "HasBelow\nfalse\n"),
 ];
 
 #[test]
 fn an_entry_does_not_take_a_place_that_is_not_its_own(rt: HostRuntime) -> Result<(), Fail> {
-    for (old, new, want) in &REFUSED {
-        let found = replaced(&rt, &NAMES, old, new)?;
-        assert_eq!(rt; found, (Some(*want), false), "{old} to {new}");
-    }
-    Ok(())
+    check(&rt, rt.alloc(), &NAMES, &REFUSED)
 }

@@ -123,10 +123,15 @@ static HEADERS: [(&[u8], Header, &str); 20] = [
     ),
 ];
 
+/// The heading of octets. It promises nothing, so that the proof of the test goes by what the test asks.
+fn header_of(octets: &[u8]) -> Header {
+    header(octets)
+}
+
 #[test]
 fn each_form_of_a_length_is_read_and_others_are_refused(rt: HostRuntime) {
     for (bytes, want, what) in &HEADERS {
-        assert_eq!(rt; header(*bytes), *want, "{what}");
+        assert_eq!(rt; header_of(*bytes), *want, "{what}");
     }
 }
 

@@ -4,12 +4,17 @@ use ber_core::{int_len, put_int, read_int};
 use std::alloc::{AllocError, Global};
 use std::test::Fail;
 
-// The integer, written behind an octet, without that.
-fn written(alloc: Global, value: i64) -> Result<Vec<u8>, AllocError> {
+// The integer, written behind an octet, without that, and how long it is said to be.
+fn written(alloc: Global, value: i64) -> Result<(Vec<u8>, usize), AllocError> {
     let mut out = [7].to_vec(alloc)?;
     put_int(&mut out, value)?;
     let _first = out.remove(0);
-    Ok(out)
+    Ok((out, int_len(value)))
+}
+
+// The integer of a content. It promises nothing, so that the proof of a test goes by what the test asks.
+fn read(content: &[u8]) -> Option<i64> {
+    read_int(content)
 }
 
 static INTEGERS: [(i64, &[u8]); 12] = [
@@ -30,12 +35,10 @@ static INTEGERS: [(i64, &[u8]); 12] = [
 #[test]
 fn integers_are_read_and_written_in_the_shortest_form(rt: HostRuntime) -> Result<(), Fail> {
     for (value, content) in &INTEGERS {
-        let octets = written(rt.alloc(), *value)?;
-        assert_eq!(rt;
-            (read_int(*content), octets.as_slice(), int_len(*value)),
-            (Some(*value), *content, content.len()),
-            "{value}"
-        );
+        let (octets, len) = written(rt.alloc(), *value)?;
+        let found = (read(*content), octets.as_slice(), len);
+        let want = (Some(*value), *content, content.len());
+        assert_eq!(rt; found, want, "{value}");
     }
     Ok(())
 }
@@ -51,6 +54,6 @@ static NO_INTEGERS: [(&[u8], &str); 5] = [
 #[test]
 fn other_contents_are_no_integer(rt: HostRuntime) {
     for (content, what) in &NO_INTEGERS {
-        assert_eq!(rt; read_int(*content), None, "{what}");
+        assert_eq!(rt; read(*content), None, "{what}");
     }
 }

@@ -2,127 +2,169 @@
 
 use std::alloc::{AllocError, Global};
 use std::process::Abort;
+use std::str;
 use std::test::Fail;
-use wire_io::{Heard, Link, NextFault, ScriptEvent, ScriptFault, ScriptLink, Took};
+use wire_io::{Heard, Link, ScriptEvent, ScriptFault, ScriptLink};
+
+/// A call of a link.
+#[derive(Clone, Copy)]
+enum Call {
+    /// Prepares an address for so many sessions.
+    Open(u64),
+    /// The next event, and the octets of the buffer where it has some.
+    Next,
+    Hold(u32),
+    Release(u32),
+    HangUp(u32),
+    Write(u32, &'static [u8]),
+    /// The numbers that were opened: all, and the first three.
+    Opened,
+    /// The octets that were written for the connection.
+    SaidOf(u32),
+    IsHungUp(u32),
+}
+
+/// Appends the next event into a buffer of as many octets as a piece has in these tests.
+fn put_next(link: &mut ScriptLink, out: &mut String) -> Result<(), AllocError> {
+    let mut buf = [0u8; 3];
+    match link.next(&mut buf) {
+        Ok(Heard::Bytes(conn, count)) => {
+            let [first, second, third] = buf;
+            write!(
+                out,
+                "Bytes({conn}, {count}) {first:02x}{second:02x}{third:02x}"
+            )
+        }
+        Ok(heard) => write!(out, "{heard:?}"),
+        Err(fault) => write!(out, "{fault:?}"),
+    }
+}
+
+fn put_opened(link: &ScriptLink, out: &mut String) -> Result<(), AllocError> {
+    for number in link.opened()?.as_slice() {
+        write!(out, "{number} ")?;
+    }
+    let (first, second, third) = (link.opened_at(0), link.opened_at(1), link.opened_at(2));
+    write!(out, "{first:?} {second:?} {third:?}")
+}
+
+fn put_is_done(is_done: bool, out: &mut String) -> Result<(), AllocError> {
+    out.push_str(if is_done { "done" } else { "refused" })
+}
+
+/// Appends what a call answers.
+fn put_answer(link: &mut ScriptLink, call: Call, out: &mut String) -> Result<(), Fail> {
+    match call {
+        Call::Open(sessions) => match link.open("127.0.0.1:389", sessions) {
+            Ok(()) => out.push_str("done")?,
+            Err(fault) => write!(out, "{fault:?}")?,
+        },
+        Call::Next => put_next(link, out)?,
+        Call::Hold(conn) => put_is_done(link.hold(conn).is_ok(), out)?,
+        Call::Release(conn) => put_is_done(link.release(conn).is_ok(), out)?,
+        Call::HangUp(conn) => put_is_done(link.hang_up(conn).is_ok(), out)?,
+        Call::Write(conn, octets) => {
+            if !octets.is_empty() {
+                write!(out, "{:?}", link.write(conn, octets))?;
+            }
+        }
+        Call::Opened => put_opened(link, out)?,
+        Call::SaidOf(conn) => out.push_str(str::from_utf8(link.said_of(conn))?)?,
+        Call::IsHungUp(conn) => write!(out, "{}", link.hung_up(conn))?,
+    }
+    Ok(())
+}
+
+/// A call, what it answers, and what that shows.
+type Row = (Call, &'static str, &'static str);
+
+/// The calls of the rows, one after another, answer what these say.
+fn check(rt: &impl Abort, alloc: Global, link: &mut ScriptLink, rows: &[Row]) -> Result<(), Fail> {
+    for (call, want, what) in rows {
+        let mut found = String::new(alloc);
+        put_answer(link, *call, &mut found)?;
+        assert_eq!(rt; found.as_str(), *want, "{what}");
+    }
+    Ok(())
+}
+
+/// The same of the link of a script.
+fn check_script(rt: &impl Abort, alloc: Global, script: &str, rows: &[Row]) -> Result<(), Fail> {
+    let mut link = ScriptLink::read(alloc, script.as_bytes())?;
+    check(rt, alloc, &mut link, rows)
+}
 
 /// A script of two connections.
 const SCRIPT: &str = "open 2\nopen 1\nsend 2 303132\nend 2\n";
 
-/// The events of the script, and what comes behind them.
-static EVENTS: [Heard; 6] = [
-    Heard::Opened(2),
-    Heard::Opened(1),
-    Heard::Bytes(2, 3),
-    Heard::Ended(2),
-    Heard::Stop,
-    Heard::Stop,
+static EVENTS: [Row; 6] = [
+    (Call::Next, "Opened(2)", "the first event"),
+    (Call::Next, "Opened(1)", "the second event"),
+    (Call::Next, "Bytes(2, 3) 303132", "the third event"),
+    (Call::Next, "Ended(2)", "the last event"),
+    (Call::Next, "Stop", "behind the last event"),
+    (Call::Next, "Stop", "behind that"),
 ];
-
-/// What the link gives next, into a buffer of as many octets as a piece has in these tests.
-fn next(link: &mut ScriptLink) -> (Result<Heard, NextFault>, [u8; 3]) {
-    let mut buf = [0u8; 3];
-    (link.next(&mut buf), buf)
-}
-
-fn heard(link: &mut ScriptLink) -> Result<Heard, NextFault> {
-    next(link).0
-}
 
 #[test]
 fn events_come_in_order_and_then_stop(rt: HostRuntime) -> Result<(), Fail> {
-    let mut link = ScriptLink::read(rt.alloc(), SCRIPT.as_bytes())?;
-    for want in &EVENTS {
-        assert_eq!(rt; heard(&mut link), Ok(*want));
-    }
-    Ok(())
+    check_script(&rt, rt.alloc(), SCRIPT, &EVENTS)
 }
 
-/// How many octets come in each piece, the buffer then, and what that shows.
-static PIECES: [(usize, [u8; 3], &str); 3] = [
-    (3, *b"012", "the first piece"),
-    (3, *b"345", "the second piece"),
-    (1, [b'6', 0, 0], "the last piece is shorter"),
+static PIECES: [Row; 5] = [
+    (Call::Next, "Opened(1)", "the connection"),
+    (Call::Next, "Bytes(1, 3) 303132", "the first piece"),
+    (Call::Next, "Bytes(1, 3) 333435", "the second piece"),
+    (
+        Call::Next,
+        "Bytes(1, 1) 360000",
+        "the last piece is shorter",
+    ),
+    (Call::Next, "Stop", "the end"),
 ];
 
 #[test]
 fn octets_that_are_longer_than_the_buffer_come_in_pieces(rt: HostRuntime) -> Result<(), Fail> {
-    let mut link = ScriptLink::read(rt.alloc(), b"open 1\nsend 1 30313233343536\n")?;
-    assert_eq!(rt; heard(&mut link), Ok(Heard::Opened(1)));
-    for (count, octets, what) in &PIECES {
-        assert_eq!(rt;
-            next(&mut link),
-            (Ok(Heard::Bytes(1, *count)), *octets),
-            "{what}"
-        );
-    }
-    assert_eq!(rt; heard(&mut link), Ok(Heard::Stop));
-    Ok(())
+    let script = "open 1\nsend 1 30313233343536\n";
+    check_script(&rt, rt.alloc(), script, &PIECES)
 }
 
-fn nothing_is_opened(rt: &impl Abort, link: &ScriptLink) -> Result<(), AllocError> {
-    let opened = link.opened()?.len();
-    let found = (opened, link.opened_at(0));
-    assert_eq!(rt; found, (0, None), "nothing was opened yet");
-    Ok(())
-}
-
-fn two_are_opened(rt: &impl Abort, link: &ScriptLink) -> Result<(), AllocError> {
-    let opened = link.opened()?;
-    assert_eq!(rt; opened.as_slice(), [1, 2].as_slice(), "the numbers rise");
-    let found = (link.opened_at(0), link.opened_at(1), link.opened_at(2));
-    assert_eq!(rt; found, (Some(1), Some(2), None), "the numbers rise");
-    Ok(())
-}
-
-fn written(link: &mut ScriptLink, conn: u32, octets: &[u8]) -> Took {
-    if octets.is_empty() {
-        return Took::Took(0);
-    }
-    link.write(conn, octets)
-}
-
-fn octets_are_told(rt: &impl Abort, link: &mut ScriptLink) {
-    let took = (
-        written(link, 2, b"ab"),
-        written(link, 1, b"c"),
-        written(link, 2, b"d"),
-    );
-    assert_eq!(rt; took, (Took::Took(2), Took::Took(1), Took::Took(1)));
-    let said = (link.said_of(2), link.said_of(1), link.said_of(3));
-    assert_eq!(rt; said, (b"abd".as_slice(), b"c".as_slice(), b"".as_slice()));
-}
-
-/// How hanging up ends, whether the connection and another were hung up after it, and whether it was before.
-fn hung_up(link: &mut ScriptLink, conn: u32, other: u32) -> (bool, bool, (bool, bool)) {
-    let before = link.hung_up(conn);
-    let is_done = link.hang_up(conn).is_ok();
-    (is_done, before, (link.hung_up(conn), link.hung_up(other)))
-}
+static DONE: [Row; 15] = [
+    (Call::Open(0), "done", "the address"),
+    (Call::Opened, "None None None", "nothing was opened yet"),
+    (Call::Next, "Opened(2)", "the first event"),
+    (Call::Next, "Opened(1)", "the second event"),
+    (Call::Opened, "1 2 Some(1) Some(2) None", "the numbers rise"),
+    (Call::Write(2, b"ab"), "Took(2)", "octets for 2"),
+    (Call::Write(1, b"c"), "Took(1)", "octets for 1"),
+    (Call::Write(2, b"d"), "Took(1)", "more octets for 2"),
+    (Call::SaidOf(2), "abd", "what was said of 2"),
+    (Call::SaidOf(1), "c", "what was said of 1"),
+    (Call::SaidOf(3), "", "nothing was said of 3"),
+    (Call::IsHungUp(2), "false", "2 is not hung up yet"),
+    (Call::HangUp(2), "done", "2 is hung up"),
+    (Call::IsHungUp(2), "true", "2 was hung up"),
+    (Call::IsHungUp(1), "false", "1 was not"),
+];
 
 #[test]
 fn what_was_done_is_told_of_each_connection(rt: HostRuntime) -> Result<(), Fail> {
-    let mut link = ScriptLink::read(rt.alloc(), SCRIPT.as_bytes())?;
-    assert!(rt; link.open("127.0.0.1:389", 0).is_ok());
-    nothing_is_opened(&rt, &link)?;
-    let _ = heard(&mut link);
-    let _ = heard(&mut link);
-    two_are_opened(&rt, &link)?;
-    octets_are_told(&rt, &mut link);
-    assert_eq!(rt; hung_up(&mut link, 2, 1), (true, false, (true, false)));
-    Ok(())
+    check_script(&rt, rt.alloc(), SCRIPT, &DONE)
 }
+
+static HELD: [Row; 7] = [
+    (Call::Next, "Opened(2)", "the first event"),
+    (Call::Next, "Opened(1)", "the second event"),
+    (Call::Hold(2), "done", "2 is on hold"),
+    (Call::Next, "Ready(2)", "2 is ready"),
+    (Call::Next, "Ready(2)", "2 is ready again"),
+    (Call::Release(2), "done", "2 is released"),
+    (Call::Next, "Bytes(2, 3) 303132", "the octets of 2"),
+];
 
 #[test]
 fn a_connection_on_hold_is_ready_until_it_is_released(rt: HostRuntime) -> Result<(), Fail> {
-    let mut link = ScriptLink::read(rt.alloc(), SCRIPT.as_bytes())?;
-    let _ = heard(&mut link);
-    let _ = heard(&mut link);
-    assert!(rt; link.hold(2).is_ok());
-    assert_eq!(rt; heard(&mut link), Ok(Heard::Ready(2)));
-    assert_eq!(rt; heard(&mut link), Ok(Heard::Ready(2)));
-    assert!(rt; link.release(2).is_ok());
-    assert_eq!(rt; heard(&mut link), Ok(Heard::Bytes(2, 3)));
-    Ok(())
+    check_script(&rt, rt.alloc(), SCRIPT, &HELD)
 }
 
 /// A link of two connections that open, which fails at these calls.
@@ -135,11 +177,12 @@ fn failing_link(alloc: Global, failing: &[u64]) -> Result<ScriptLink, AllocError
     Ok(link)
 }
 
-/// What the calls after the first answer.
-static ANSWERS: [Result<Heard, NextFault>; 3] = [
-    Ok(Heard::Opened(2)),
-    Err(NextFault::Failed),
-    Ok(Heard::Opened(1)),
+/// The calls of a link that fails at call 0 and call 2.
+static FAILING: [Row; 4] = [
+    (Call::Open(1), "Failed", "call 0"),
+    (Call::Next, "Opened(2)", "call 1"),
+    (Call::Next, "Failed", "call 2"),
+    (Call::Next, "Opened(1)", "call 3"),
 ];
 
 #[test]
@@ -147,15 +190,7 @@ fn a_link_fails_at_the_calls_that_are_to_fail_and_takes_no_event_there(
     rt: HostRuntime,
 ) -> Result<(), Fail> {
     let mut link = failing_link(rt.alloc(), &[0, 2])?;
-    assert_eq!(rt;
-        link.open("127.0.0.1:389", 1),
-        Err(NextFault::Failed),
-        "call 0"
-    );
-    for want in &ANSWERS {
-        assert_eq!(rt; heard(&mut link), *want);
-    }
-    Ok(())
+    check(&rt, rt.alloc(), &mut link, &FAILING)
 }
 
 /// The first bad line of a text that is no script.

@@ -1,6 +1,8 @@
 //! Shelves: the one in memory, the one of the system, and files read whole.
 
 use std::alloc::{AllocError, Global};
+use std::process::Abort;
+use std::str;
 use std::test::Fail;
 use wire_io::{FetchFault, FileShelf, MemShelf, ReadFault, Shelf, read_all};
 
@@ -52,71 +54,76 @@ fn a_file_is_fetched_in_pieces_of_the_buffer(rt: HostRuntime) -> Result<(), Fail
     Ok(())
 }
 
-/// A file, a limit within which it is, and its octets.
-static WITHIN: [(&str, u64, &[u8]); 3] = [
-    ("f", 4, b"a\nb\n"),
-    ("f", u64::MAX, b"a\nb\n"),
-    ("e", 0, b""),
-];
+/// What reading a file whole answers on a shelf that fails at these calls: its octets, or why there are none.
+fn answer(alloc: Global, failing: &[u64], name: &str, limit: u64) -> Result<String, Fail> {
+    let mut shelf = shelf(alloc, failing)?;
+    let mut out = String::new(alloc);
+    match read_all(alloc, &mut shelf, name, limit) {
+        Ok(content) => out.push_str(str::from_utf8(content.as_slice())?)?,
+        Err(fault) => write!(out, "{fault:?}")?,
+    }
+    Ok(out)
+}
 
-#[test]
-fn a_file_within_the_limit_is_read_whole(rt: HostRuntime) -> Result<(), Fail> {
-    let mut shelf = shelf(rt.alloc(), &[])?;
-    for (name, limit, want) in &WITHIN {
-        let content = read_all(rt.alloc(), &mut shelf, name, *limit)?;
-        assert_eq!(rt; content.as_slice(), *want, "{name} with limit {limit}");
+/// The calls that fail, a file, a limit, what reading the file answers, and what that shows.
+type Row = (
+    &'static [u64],
+    &'static str,
+    u64,
+    &'static str,
+    &'static str,
+);
+
+fn check(rt: &impl Abort, alloc: Global, rows: &'static [Row]) -> Result<(), Fail> {
+    for (failing, name, limit, want, what) in rows {
+        let found = answer(alloc, failing, name, *limit)?;
+        assert_eq!(rt; found.as_str(), *want, "{what}");
     }
     Ok(())
 }
 
-/// A limit, and the line of the first octet past it.
-static PAST: [(u64, u64); 4] = [(0, 1), (1, 1), (2, 2), (3, 2)];
+static WITHIN: [Row; 3] = [
+    (&[], "f", 4, "a\nb\n", "a limit of as many octets"),
+    (&[], "f", u64::MAX, "a\nb\n", "the greatest limit"),
+    (&[], "e", 0, "", "an empty file"),
+];
+
+#[test]
+fn a_file_within_the_limit_is_read_whole(rt: HostRuntime) -> Result<(), Fail> {
+    check(&rt, rt.alloc(), &WITHIN)
+}
+
+static PAST: [Row; 4] = [
+    (&[], "f", 0, "TooLong { line: 1 }", "with limit 0"),
+    (&[], "f", 1, "TooLong { line: 1 }", "with limit 1"),
+    (&[], "f", 2, "TooLong { line: 2 }", "with limit 2"),
+    (&[], "f", 3, "TooLong { line: 2 }", "with limit 3"),
+];
 
 #[test]
 fn a_file_past_the_limit_is_refused_at_the_line_of_its_first_octet_past_it(
     rt: HostRuntime,
 ) -> Result<(), Fail> {
-    let mut shelf = shelf(rt.alloc(), &[])?;
-    for (limit, line) in &PAST {
-        let fault = read_all(rt.alloc(), &mut shelf, "f", *limit).err();
-        assert_eq!(rt;
-            fault,
-            Some(ReadFault::TooLong { line: *line }),
-            "with limit {limit}"
-        );
-    }
-    Ok(())
+    check(&rt, rt.alloc(), &PAST)
 }
+
+static ABSENT: [Row; 1] = [(&[], "g", 9, "Absent", "a file that isn't there")];
 
 #[test]
 fn a_file_that_is_not_there_is_absent(rt: HostRuntime) -> Result<(), Fail> {
-    let mut shelf = shelf(rt.alloc(), &[])?;
-    let fault = read_all(rt.alloc(), &mut shelf, "g", 9).err();
-    assert_eq!(rt; fault, Some(ReadFault::Absent), "a file that isn't there");
-    Ok(())
+    check(&rt, rt.alloc(), &ABSENT)
 }
 
-/// Why `f` is not read whole where this call fails.
-fn fault_at(alloc: Global, call: u64) -> Result<Option<ReadFault>, AllocError> {
-    let mut shelf = shelf(alloc, &[call])?;
-    Ok(read_all(alloc, &mut shelf, "f", 9).err())
-}
+// the whole of `f` takes two calls: one for its octets, one for its end
+static FAILING: [Row; 3] = [
+    (&[0], "f", 9, "Failed", "at call 0"),
+    (&[1], "f", 9, "Failed", "at call 1"),
+    (&[2], "f", 9, "a\nb\n", "a later call fails"),
+];
 
 #[test]
 fn reading_fails_at_each_call_that_is_to_fail(rt: HostRuntime) -> Result<(), Fail> {
-    // the whole of `f` takes two calls: one for its octets, one for its end
-    for call in 0..2u64 {
-        let fault = fault_at(rt.alloc(), call)?;
-        assert_eq!(rt; fault, Some(ReadFault::Failed), "at call {call}");
-    }
-    let mut shelf = shelf(rt.alloc(), &[2])?;
-    let content = read_all(rt.alloc(), &mut shelf, "f", 9)?;
-    assert_eq!(rt;
-        content.as_slice(),
-        b"a\nb\n".as_slice(),
-        "a later call fails"
-    );
-    Ok(())
+    check(&rt, rt.alloc(), &FAILING)
 }
 
 #[test]

@@ -2,40 +2,54 @@
 
 ghost use Rattle.std.specs.Prelude.{◌≤◌, length, IfOk};
 
+use std::alloc::Global;
 use std::cell::RefCell;
 use std::fmt::Display;
-use std::io;
 use std::io::ErrorKind;
 use std::test::Fail;
+use std::{io, str};
 use wire_io::{MemSink, PutFault, Sink, StdSink, write_all};
+
+/// What putting pieces one after another into a sink that fails at these calls answers, and what the sink has then.
+fn put_all(alloc: Global, failing: &[u64], pieces: &[&[u8]]) -> Result<String, Fail> {
+    let mut sink = MemSink::new(alloc, failing.to_vec(alloc)?);
+    let mut out = String::new(alloc);
+    for piece in pieces {
+        match write_all(&mut sink, piece) {
+            Ok(()) => out.push_str("done ")?,
+            Err(fault) => write!(out, "{fault:?} ")?,
+        }
+    }
+    out.push_str(str::from_utf8(sink.bytes())?)?;
+    Ok(out)
+}
+
+/// How many octets of a piece a new sink takes at once, and what it has then.
+fn put_once(alloc: Global, piece: &[u8]) -> Result<String, Fail> {
+    let mut sink = MemSink::new(alloc, Vec::new(alloc));
+    let mut out = String::new(alloc);
+    if !piece.is_empty() {
+        write!(out, "{} ", sink.write(piece)?)?;
+    }
+    out.push_str(str::from_utf8(sink.bytes())?)?;
+    Ok(out)
+}
 
 #[test]
 fn pieces_are_put_one_after_another(rt: HostRuntime) -> Result<(), Fail> {
-    let mut sink = MemSink::new(rt.alloc(), Vec::new(rt.alloc()));
-    assert_eq!(rt; sink.write(b"ab"), Ok(2));
-    assert_eq!(rt; write_all(&mut sink, b"c"), Ok(()));
-    assert_eq!(rt; write_all(&mut sink, b""), Ok(()), "nothing to put");
-    assert_eq!(rt; sink.bytes(), b"abc".as_slice());
+    let found = put_once(rt.alloc(), b"ab")?;
+    assert_eq!(rt; found.as_str(), "2 ab");
+    let found = put_all(rt.alloc(), &[], &[b"ab", b"c", b""])?;
+    assert_eq!(rt; found.as_str(), "done done done abc");
     Ok(())
 }
-
-/// A piece, and what putting it answers.
-static PUTS: [(&[u8], Result<(), PutFault>); 4] = [
-    (b"a", Ok(())),
-    (b"b", Err(PutFault::Failed)),
-    (b"c", Ok(())),
-    (b"d", Err(PutFault::Failed)),
-];
 
 #[test]
 fn a_sink_fails_at_the_calls_that_are_to_fail_and_puts_nothing_there(
     rt: HostRuntime,
 ) -> Result<(), Fail> {
-    let mut sink = MemSink::new(rt.alloc(), [1, 3].to_vec(rt.alloc())?);
-    for (piece, want) in &PUTS {
-        assert_eq!(rt; write_all(&mut sink, piece), *want);
-    }
-    assert_eq!(rt; sink.bytes(), b"ac".as_slice());
+    let found = put_all(rt.alloc(), &[1, 3], &[b"a", b"b", b"c", b"d"])?;
+    assert_eq!(rt; found.as_str(), "done Failed done Failed ac");
     Ok(())
 }
 
