@@ -6,7 +6,8 @@ use Rattle.std.proofs.lemmas.Bool.Decides.{nat_tests}
 use Rattle.std.proofs.lemmas.List.{length-map}
 use Rattle.dir_tree.specs.Entries.{EntryInformation}
 use Rattle.dir_tree.specs.Points.{is_access_subentry, access_subentries}
-use Rattle.dir_tree.specs.Trees.{Numbered, entries_of, entry_of, is_before, put_row, without, AreDistinct}
+use Rattle.dir_tree.specs.Trees.{is_before}
+use Rattle.dir_tree.specs.Numbered.{Numbered, entries_of, entry_of, put_row, without, AreDistinct}
 use Rattle.dir_tree.specs.Slots.{slot_of, rows_of, IsCounted}
 use Rattle.dir_tree.proofs.SlotLemmas.{entry_of-rows_of, distinct_rows, rows_fit}
 use Rattle.dir_tree.proofs.NumberedLemmas.{found_row, found_later, keep_all}

@@ -8,13 +8,14 @@ use Rattle.std.proofs.lemmas.List.{length-map, length-set}
 use Rattle.std.proofs.lemmas.List.Edits.{length-remove}
 use Rattle.dn_names.specs.Names.{RdnSequence}
 use Rattle.dir_tree.specs.Entries.{EntryInformation}
-use Rattle.dir_tree.specs.Trees.{Numbered, is_named, has_name, find_name, has_below, superior_name, entry_of, put_row, without}
-use Rattle.dir_tree.specs.Refusals.{lacks_superior, insert_refusal}
+use Rattle.dir_tree.specs.Trees.{is_named, has_name, has_below, superior_name, lacks_superior, put_in}
+use Rattle.dir_tree.specs.Numbered.{Numbered, find_name, entry_of, put_row, without, entries_of}
+use Rattle.dir_tree.specs.Refusals.{insert_refusal}
 use Rattle.dir_tree.specs.Places.{place_of, no_row}
 use Rattle.dir_tree.specs.Slots.{slot_of, row_at, rows_of, has_id, count_full, HasSameSlots, IsOrderedTree, IsKept}
 use Rattle.dir_tree.proofs.PlaceLemmas.{place_of-le}
 use Rattle.dir_tree.proofs.OrderedLemmas.{ordered_put, ordered_without}
-use Rattle.dir_tree.proofs.NumberedLemmas.{StandsAt, stands_at, without-remove}
+use Rattle.dir_tree.proofs.NumberedLemmas.{StandsAt, stands_at, without-remove, entries_of-put_row, entries_of-others}
 use Rattle.dir_tree.proofs.CountLemmas.{count_full-empty, full_within}
 use Rattle.dir_tree.proofs.SlotLemmas.{has_id-rows_of, slot_of-set, slot_of-set_other, rows_of-set, rows_of-remove, entry_of-rows_of, distinct_rows, rows_of-like, rows_fit, rows_put, kept_put}
 
@@ -23,34 +24,34 @@ is_some-map : {A B : Type 0} (f : A → B) (o : Option A) → is_some (option_ma
 is_some-map f None = refl
 is_some-map f (Some x) = refl
 
-pub has_name-find : (name : RdnSequence) (rows : List Numbered) → has_name name rows ≡ is_some (find_name name rows)
+pub has_name-find : (name : RdnSequence) (rows : List Numbered) → has_name name (entries_of rows) ≡ is_some (find_name name rows)
 has_name-find name [] = refl
-has_name-find name (x ∷ rows) = elim (cases_Bool (is_named name x)) [
+has_name-find name (x ∷ rows) = elim (cases_Bool (is_named name x.entry)) [
   | inl e ↦ rw e refl
   | inr e ↦ rw e (has_name-find name rows)
 ]
 
-pub has_name-found : {A : Type 0} (f : A → ℕ) (found : Option A) (name : RdnSequence) (rows : List Numbered) → option_map f found ≡ find_name name rows → is_some found ≡ has_name name rows
+pub has_name-found : {A : Type 0} (f : A → ℕ) (found : Option A) (name : RdnSequence) (rows : List Numbered) → option_map f found ≡ find_name name rows → is_some found ≡ has_name name (entries_of rows)
 has_name-found f found name rows e = sym (is_some-map f found) ∙ ap is_some e ∙ sym (has_name-find name rows)
 
 -- what an entry that is put in meets
-pub record IsAllowed (name : RdnSequence) (rows : List Numbered) : Type 0 where
-  pub absent : has_name name rows ≡ false
-  pub under : (rows ≡ []) ⊎ (has_name (superior_name name) rows ≡ true)
-  pub room : length rows ≢ 200000
+pub record IsAllowed (name : RdnSequence) (entries : List EntryInformation) : Type 0 where
+  pub absent : has_name name entries ≡ false
+  pub under : (entries ≡ []) ⊎ (has_name (superior_name name) entries ≡ true)
+  pub room : length entries ≢ 200000
 
-has_superior : (name : RdnSequence) (rows : List Numbered) → lacks_superior name rows ≡ false → (rows ≡ []) ⊎ (has_name (superior_name name) rows ≡ true)
+has_superior : (name : RdnSequence) (entries : List EntryInformation) → lacks_superior name entries ≡ false → (entries ≡ []) ⊎ (has_name (superior_name name) entries ≡ true)
 has_superior name [] e = inl refl
-has_superior name (x ∷ rows) e = inr (not-false (has_name (superior_name name) (x ∷ rows)) e)
+has_superior name (x ∷ entries) e = inr (not-false (has_name (superior_name name) (x ∷ entries)) e)
 
-pub allowed : (name : RdnSequence) (rows : List Numbered) → insert_refusal name rows ≡ None → IsAllowed name rows
-allowed name rows e = by (cases_Bool (has_name name rows)) (cases_Bool (lacks_superior name rows)) (cases_Bool (length rows == 200000))
+pub allowed : (name : RdnSequence) (entries : List EntryInformation) → insert_refusal name entries ≡ None → IsAllowed name entries
+allowed name entries e = by (cases_Bool (has_name name entries)) (cases_Bool (lacks_superior name entries)) (cases_Bool (length entries == 200000))
   where
-    by : ((has_name name rows ≡ true) ⊎ (has_name name rows ≡ false)) → ((lacks_superior name rows ≡ true) ⊎ (lacks_superior name rows ≡ false)) → (((length rows == 200000) ≡ true) ⊎ ((length rows == 200000) ≡ false)) → IsAllowed name rows
+    by : ((has_name name entries ≡ true) ⊎ (has_name name entries ≡ false)) → ((lacks_superior name entries ≡ true) ⊎ (lacks_superior name entries ≡ false)) → (((length entries == 200000) ≡ true) ⊎ ((length entries == 200000) ≡ false)) → IsAllowed name entries
     by (inl f) g h = (let is = rw f at e in absurd cc)
     by (inr f) (inl g) h = (let is = rw (f, g) at e in absurd cc)
     by (inr f) (inr g) (inl h) = (let is = rw (f, g, h) at e in absurd cc)
-    by (inr f) (inr g) (inr h) = record { absent = f; under = has_superior name rows g; room = eqb-false (length rows) 200000 h }
+    by (inr f) (inr g) (inr h) = record { absent = f; under = has_superior name entries g; room = eqb-false (length entries) 200000 h }
 
 -- slots that are the same at each number keep the same tree
 pub kept_slots : (slots other : List (Option EntryInformation)) (order : List ℕ) → IsKept slots order → HasSameSlots slots other → count_full other ≡ length order → length other ≤ 200000 → IsKept other order
@@ -62,13 +63,14 @@ kept_slots slots other order kept same count within = record {
 }
 
 -- there is room for one that is put in
-pub room_in : (slots : List (Option EntryInformation)) (order : List ℕ) (rows : List Numbered) (name : RdnSequence) → IsKept slots order → rows_of slots order ≡ rows → insert_refusal name rows ≡ None → length order < 200000
+pub room_in : (slots : List (Option EntryInformation)) (order : List ℕ) (rows : List Numbered) (name : RdnSequence) → IsKept slots order → rows_of slots order ≡ rows → insert_refusal name (entries_of rows) ≡ None → length order < 200000
 room_in slots order rows name kept view free =
     let fits = rows_fit slots order kept in
     let same : length (rows_of slots order) ≡ length order = length-map order (row_at slots) in
-    let room = (allowed name rows free).room in
+    let room = (allowed name (entries_of rows) free).room in
+    let count : length (entries_of rows) ≡ length rows = length-map rows (λ (row : Numbered). row.entry) in
     let long : length (rows_of slots order) ≡ length rows = ap length view in
-    let other : length order ≢ 200000 = λ e. room (sym long ∙ same ∙ e) in
+    let other : length order ≢ 200000 = λ e. room (count ∙ sym long ∙ same ∙ e) in
     omega arith
 
 pub place_in : (slots : List (Option EntryInformation)) (order : List ℕ) (rows : List Numbered) (name : RdnSequence) → rows_of slots order ≡ rows → place_of name rows ≤ length order
@@ -84,17 +86,18 @@ pub record PutIn (slots : List (Option EntryInformation)) (order : List ℕ) (id
   pub free : entry_of id rows ≡ None
 
 module _ (slots slots' : List (Option EntryInformation)) (order order' : List ℕ) (rows : List Numbered) (id place : ℕ) (entry : EntryInformation) where
-  pub put_kept : IsKept slots order → rows_of slots order ≡ rows → HasSameSlots slots slots' → count_full slots' ≡ length order → length slots' ≤ 200000 → id < length slots' → slot_of slots' id ≡ None → place ≡ place_of entry.name rows → entry.name ≢ [] → insert_refusal entry.name rows ≡ None → order' ≡ order → PutIn (set slots' id (Some entry)) (insert order' place id) id entry rows
+  pub put_kept : IsKept slots order → rows_of slots order ≡ rows → HasSameSlots slots slots' → count_full slots' ≡ length order → length slots' ≤ 200000 → id < length slots' → slot_of slots' id ≡ None → place ≡ place_of entry.name rows → entry.name ≢ [] → insert_refusal entry.name (entries_of rows) ≡ None → order' ≡ order → PutIn (set slots' id (Some entry)) (insert order' place id) id entry rows
   put_kept kept view same count within there empty placed named free as_before =
       let kept' = kept_slots slots slots' order kept same count within in
       let view' : rows_of slots' order ≡ rows = rows_of-like slots slots' order (λ id _. same id) ∙ view in
-      let may = allowed entry.name rows free in
-      let ordered : IsOrderedTree rows = subst (λ (r : List Numbered). IsOrderedTree r) view' kept'.ordered in
-      let more = ordered_put (record { id = id; entry = entry }) rows named ordered may.absent may.under in
+      let may = allowed entry.name (entries_of rows) free in
+      let ordered : IsOrderedTree (entries_of rows) = subst (λ (r : List Numbered). IsOrderedTree (entries_of r)) view' kept'.ordered in
+      let more = ordered_put entry (entries_of rows) named ordered may.absent may.under in
+      let more' : IsOrderedTree (entries_of (put_row (record { id = id; entry = entry }) rows)) = rw (entries_of-put_row (record { id = id; entry = entry }) rows) more in
       let at : place ≡ place_of entry.name (rows_of slots' order) = placed ∙ ap (place_of entry.name) (sym view') in
       let fits : place ≤ length order = omega (arith, place_in slots order rows entry.name view, placed) in
       let put : rows_of (set slots' id (Some entry)) (insert order place id) ≡ put_row (record { id = id; entry = entry }) (rows_of slots' order) = rows_put slots' order id place entry kept' there empty at fits in
-      let after : IsKept (set slots' id (Some entry)) (insert order place id) = kept_put slots' order id place entry kept' there empty at fits (rw view' more) in
+      let after : IsKept (set slots' id (Some entry)) (insert order place id) = kept_put slots' order id place entry kept' there empty at fits (rw view' more') in
       rw as_before (record {
         kept = after;
         shown = put ∙ ap (put_row (record { id = id; entry = entry })) view';
@@ -157,8 +160,11 @@ module _ (slots : List (Option EntryInformation)) (order : List ℕ) (id place :
   pub shown_set : (slot : Option EntryInformation) → rows_of (set slots id slot) (remove order place) ≡ without id (rows_of slots order)
   shown_set slot = rows_of-set slots (remove order place) id slot unused_left ∙ rows_left
 
+  pub others_back : put_in entry (entries_of (without id (rows_of slots order))) ≡ entries_of (rows_of slots order)
+  others_back = entries_of-others id entry (rows_of slots order) kept.ordered.sorted (distinct_rows slots order kept.ordered.sorted) known
+
   -- taken out
-  pub kept_without : has_below entry.name (rows_of slots order) ≡ false → IsKept (set slots id None) (remove order place)
+  pub kept_without : has_below entry.name (entries_of (rows_of slots order)) ≡ false → IsKept (set slots id None) (remove order place)
   kept_without alone =
       let some : is_some (slot_of slots id) ≡ true = ap is_some full in
       let fewer = count_full-empty slots id some in
@@ -173,7 +179,7 @@ module _ (slots : List (Option EntryInformation)) (order : List ℕ) (id place :
           | inr e ↦ used_left other e ∙ sym (ap is_some (slot_of-set_other slots id other None e))
         ];
         count = omega (arith, fewer, shorter, kept.count);
-        ordered = rw (shown_set None) (ordered_without id entry (rows_of slots order) kept.ordered (distinct_rows slots order kept.ordered.sorted) known alone);
+        ordered = rw (shown_set None) (ordered_without entry (entries_of (without id (rows_of slots order))) (rw others_back kept.ordered) (rw others_back alone));
       }
 
   pub shown_without : rows_of (set slots id None) (remove order place) ≡ without id (rows_of slots order)

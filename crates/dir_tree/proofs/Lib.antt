@@ -8,6 +8,7 @@ pub mod GoodLaws
 pub mod Theorems
 pub mod NameLemmas
 pub mod PlaceLemmas
+pub mod OrderLemmas
 pub mod NumberedLemmas
 pub mod RootLemmas
 pub mod OrderedLemmas

@@ -1,6 +1,6 @@
 -- Rows found, put in and taken out.
-use Rattle.std.proofs.Common.{◌≡◌, ◌≢◌, ◌⊎◌, inl, inr, ℕ, ◌<◌, ◌≤◌, ◌==◌, zero, suc, Bool, true, false, cond, List, [], ◌∷◌, length, take, get_or, Some, None, refl, sym, ap, subst, ◌∙◌, arith, find, filter, insert, remove}
-use Rattle.std.specs.List.{AllByRecursion}
+use Rattle.std.proofs.Common.{◌≡◌, ◌≢◌, ◌⊎◌, inl, inr, ℕ, ◌<◌, ◌≤◌, ◌==◌, zero, suc, Bool, true, false, cond, ◌||◌, List, [], ◌∷◌, length, take, get_or, Some, None, refl, sym, ap, subst, ◌∙◌, arith, find, filter, insert, remove}
+use Rattle.std.specs.List.{AllByRecursion, list_any}
 use Rattle.std.specs.Option.{option_map}
 use Rattle.std.specs.Ordering.{is_lt}
 use Rattle.std.proofs.lemmas.List.{take_all}
@@ -9,38 +9,55 @@ use Rattle.std.specs.declared.cmp.Ordering.TheVariants.{Less}
 use Rattle.dn_names.specs.Names.{RdnSequence}
 use Rattle.dn_names.specs.NameOrder.{name_cmp, is_same}
 use Rattle.dir_tree.specs.Entries.{EntryInformation}
-use Rattle.dir_tree.specs.Trees.{Numbered, is_before, is_named, find_name, entry_of, put_row, without, IsInOrder, AreDistinct}
+use Rattle.dir_tree.specs.Trees.{is_before, is_named, put_in, IsInOrder}
+use Rattle.dir_tree.specs.Numbered.{Numbered, entries_of, find_name, entry_of, put_row, without, AreDistinct}
 use Rattle.dir_tree.specs.Places.{front_count, stands_before, place_of, no_row}
-use Rattle.dir_tree.proofs.NameLemmas.{before_chain, before_not_back, before_not_itself, before_not_same, same_back, which_first}
+use Rattle.dir_tree.proofs.NameLemmas.{before_chain, before_not_back, before_not_itself, before_not_same}
+use Rattle.dir_tree.proofs.OrderLemmas.{other_way, comes_before}
 
--- what holds of all holds of the one at a place, of one found, of those put in and of those kept
+-- whether a row's entry has the name
+abbrev pub is_row_named : RdnSequence → Numbered → Bool
+is_row_named name row = is_named name row.entry
+
+-- the row that is found by a number
+same_row : (x : Numbered) (id : ℕ) (entry : EntryInformation) → x.id ≡ id → x.entry ≡ entry → x ≡ record { id = id; entry = entry }
+same_row x id entry e f = rw (← e, ← f) refl
+
+pub found_row : (id : ℕ) (entry : EntryInformation) (x : Numbered) (rows : List Numbered) → (x.id == id) ≡ true → entry_of id (x ∷ rows) ≡ Some entry → x ≡ record { id = id; entry = entry }
+found_row id entry x rows e f =
+    let is : Some x.entry ≡ Some entry = sym (ap (option_map (λ (row : Numbered). row.entry)) (cond-true (x.id == id) (Some x) (find (λ row. row.id == id) rows) e)) ∙ f in
+    same_row x id entry (eqb-true x.id id e) cc
+
+pub found_later : (id : ℕ) (entry : EntryInformation) (x : Numbered) (rows : List Numbered) → (x.id == id) ≡ false → entry_of id (x ∷ rows) ≡ Some entry → entry_of id rows ≡ Some entry
+found_later id entry x rows e f = sym (ap (option_map (λ (row : Numbered). row.entry)) (cond-false (x.id == id) (Some x) (find (λ row. row.id == id) rows) e)) ∙ f
+
+-- what holds of all holds of the one at a place, and of the entry of a number
 pub all_at : (P : Numbered → Type 0) (rows : List Numbered) (k : ℕ) → AllByRecursion P rows → k < length rows → P (get_or rows k no_row)
 all_at P [] k h l = absurd (omega arith)
 all_at P (row ∷ rows) zero h l = h.0
 all_at P (row ∷ rows) (suc k) h l = all_at P rows k h.1 (omega arith)
 
-pub all_found : (P : Numbered → Type 0) (test : Numbered → Bool) (rows : List Numbered) (row : Numbered) → AllByRecursion P rows → find test rows ≡ Some row → P row
-all_found P test [] row h e = absurd cc
-all_found P test (x ∷ rows) row h e = elim (cases_Bool (test x)) [
-  | inl f ↦ (let is : Some x ≡ Some row = sym (cond-true (test x) (Some x) (find test rows) f) ∙ e in let same : x ≡ row = cc in subst P same h.0)
-  | inr f ↦ all_found P test rows row h.1 (sym (cond-false (test x) (Some x) (find test rows) f) ∙ e)
+pub all_known_entry : (P : EntryInformation → Type 0) (id : ℕ) (entry : EntryInformation) (rows : List Numbered) → AllByRecursion P (entries_of rows) → entry_of id rows ≡ Some entry → P entry
+all_known_entry P id entry [] h f = absurd cc
+all_known_entry P id entry (x ∷ rows) h f = elim (cases_Bool (x.id == id)) [
+  | inl e ↦ subst P (ap (λ (row : Numbered). row.entry) (found_row id entry x rows e f)) h.0
+  | inr e ↦ all_known_entry P id entry rows h.1 (found_later id entry x rows e f)
 ]
 
-pub all_filter : (P : Numbered → Type 0) (test : Numbered → Bool) (rows : List Numbered) → AllByRecursion P rows → AllByRecursion P (filter test rows)
-all_filter P test [] h = tt
-all_filter P test (x ∷ rows) h =
-    let later = all_filter P test rows h.1 in
-    cond_both (test x) (x ∷ filter test rows) (filter test rows) (λ xs. AllByRecursion P xs) (λ _. (h.0, later)) (λ _. later)
+-- a test of the rows with one put in
+pub any_put_row : (test : Numbered → Bool) (row : Numbered) (rows : List Numbered) → list_any test (put_row row rows) ≡ (test row || list_any test rows)
+any_put_row test row [] = refl
+any_put_row test row (x ∷ rows) = by (is_before x.entry.name row.entry.name) (any_put_row test row rows)
+  where
+    swap : (a b c : Bool) → (a || (b || c)) ≡ (b || (a || c))
+    swap true true c = refl
+    swap true false c = refl
+    swap false true c = refl
+    swap false false c = refl
 
-pub all_put : (P : Numbered → Type 0) (row : Numbered) (rows : List Numbered) → P row → AllByRecursion P rows → AllByRecursion P (put_row row rows)
-all_put P row [] p h = (p, tt)
-all_put P row (x ∷ rows) p h =
-    let later = all_put P row rows p h.1 in
-    cond_both (is_before x.entry.name row.entry.name) (x ∷ put_row row rows) (row ∷ x ∷ rows) (λ xs. AllByRecursion P xs) (λ _. (h.0, later)) (λ _. (p, h))
-
-pub all_from : (P Q : Numbered → Type 0) → ((row : Numbered) → P row → Q row) → (rows : List Numbered) → AllByRecursion P rows → AllByRecursion Q rows
-all_from P Q f [] h = tt
-all_from P Q f (x ∷ rows) h = (f x h.0, all_from P Q f rows h.1)
+    by : (b : Bool) → list_any test (put_row row rows) ≡ (test row || list_any test rows) → list_any test (cond b (x ∷ put_row row rows) (row ∷ x ∷ rows)) ≡ (test row || (test x || list_any test rows))
+    by true later = ap (λ (t : Bool). test x || t) later ∙ swap (test x) (test row) (list_any test rows)
+    by false later = refl
 
 -- a row is put in at its place
 pub put_row-insert : (row : Numbered) (rows : List Numbered) → put_row row rows ≡ insert rows (place_of row.entry.name rows) row
@@ -53,33 +70,19 @@ put_row-insert row (x ∷ rows) = by (is_before x.entry.name row.entry.name) (pu
     by false later = refl
 
 -- a name is found at its place or not at all
-pub find_none : (name : RdnSequence) (row : Numbered) (rows : List Numbered) → is_before name row.entry.name ≡ true → AllByRecursion (λ later. name_cmp row.entry.name later.entry.name ≡ Less) rows → find (is_named name) rows ≡ None
+pub find_none : (name : RdnSequence) (row : Numbered) (rows : List Numbered) → is_before name row.entry.name ≡ true → AllByRecursion (λ later. name_cmp row.entry.name later.name ≡ Less) (entries_of rows) → find (is_row_named name) rows ≡ None
 find_none name row [] e h = refl
 find_none name row (x ∷ rows) e h =
     let before = before_chain name row.entry.name x.entry.name e (ap is_lt h.0) in
-    cond-false (is_named name x) (Some x) (find (is_named name) rows) (before_not_same name x.entry.name before) ∙ find_none name row rows e h.1
+    cond-false (is_row_named name x) (Some x) (find (is_row_named name) rows) (before_not_same name x.entry.name before) ∙ find_none name row rows e h.1
 
-pub other_way : (name other : RdnSequence) → is_before other name ≡ true → is_same name other ≡ false
-other_way name other e = false_from_ne_true (is_same name other) (λ f.
-    let back = before_not_same other name e in
-    let same = same_back name other f in
-    absurd cc)
-
--- a name that neither comes after another nor is the same comes before it
-pub comes_before : (name other : RdnSequence) → is_before other name ≡ false → is_same name other ≡ false → is_before name other ≡ true
-comes_before name other e f = elim (which_first name other) [
-  | inl before ↦ before
-  | inr (inl same) ↦ absurd cc
-  | inr (inr after) ↦ absurd cc
-]
-
-find_first : (name : RdnSequence) (x : Numbered) (rows : List Numbered) → is_before x.entry.name name ≡ false → AllByRecursion (λ later. name_cmp x.entry.name later.entry.name ≡ Less) rows → find (is_named name) (x ∷ rows) ≡ cond (is_named name x) (Some x) None
-find_first name x rows e h = elim (cases_Bool (is_named name x)) [
+find_first : (name : RdnSequence) (x : Numbered) (rows : List Numbered) → is_before x.entry.name name ≡ false → AllByRecursion (λ later. name_cmp x.entry.name later.name ≡ Less) (entries_of rows) → find (is_row_named name) (x ∷ rows) ≡ cond (is_row_named name x) (Some x) None
+find_first name x rows e h = elim (cases_Bool (is_row_named name x)) [
   | inl f ↦ rw f refl
   | inr f ↦ rw f (find_none name x rows (comes_before name x.entry.name e f) h)
 ]
 
-pub find-at : (name : RdnSequence) (rows : List Numbered) → IsInOrder rows → place_of name rows < length rows → find (is_named name) rows ≡ cond (is_named name (get_or rows (place_of name rows) no_row)) (Some (get_or rows (place_of name rows) no_row)) None
+pub find-at : (name : RdnSequence) (rows : List Numbered) → IsInOrder (entries_of rows) → place_of name rows < length rows → find (is_row_named name) rows ≡ cond (is_row_named name (get_or rows (place_of name rows) no_row)) (Some (get_or rows (place_of name rows) no_row)) None
 unfolding place_of
 find-at name [] o h = absurd (omega arith)
 find-at name (x ∷ rows) o h = by (cases_Bool (is_before x.entry.name name)) (find-at name rows o.1)
@@ -87,19 +90,19 @@ find-at name (x ∷ rows) o h = by (cases_Bool (is_before x.entry.name name)) (f
     at : ℕ → Numbered
     at k = get_or (x ∷ rows) k no_row
 
-    by : ((is_before x.entry.name name ≡ true) ⊎ (is_before x.entry.name name ≡ false)) → (front_count (stands_before name) rows < length rows → find (is_named name) rows ≡ cond (is_named name (get_or rows (front_count (stands_before name) rows) no_row)) (Some (get_or rows (front_count (stands_before name) rows) no_row)) None) → cond (is_named name x) (Some x) (find (is_named name) rows) ≡ cond (is_named name (at (cond (is_before x.entry.name name) (suc (front_count (stands_before name) rows)) 0))) (Some (at (cond (is_before x.entry.name name) (suc (front_count (stands_before name) rows)) 0))) None
+    by : ((is_before x.entry.name name ≡ true) ⊎ (is_before x.entry.name name ≡ false)) → (front_count (stands_before name) rows < length rows → find (is_row_named name) rows ≡ cond (is_row_named name (get_or rows (front_count (stands_before name) rows) no_row)) (Some (get_or rows (front_count (stands_before name) rows) no_row)) None) → cond (is_row_named name x) (Some x) (find (is_row_named name) rows) ≡ cond (is_row_named name (at (cond (is_before x.entry.name name) (suc (front_count (stands_before name) rows)) 0))) (Some (at (cond (is_before x.entry.name name) (suc (front_count (stands_before name) rows)) 0))) None
     by (inl e) later =
         let inner = rw e at h in
         let less : front_count (stands_before name) rows < length rows = omega arith in
         rw (e, other_way name x.entry.name e) (later less)
     by (inr e) later = rw e (find_first name x rows e o.0)
 
-pub find-past : (name : RdnSequence) (rows : List Numbered) → length rows ≤ place_of name rows → find (is_named name) rows ≡ None
+pub find-past : (name : RdnSequence) (rows : List Numbered) → length rows ≤ place_of name rows → find (is_row_named name) rows ≡ None
 unfolding place_of
 find-past name [] h = refl
 find-past name (x ∷ rows) h = by (cases_Bool (is_before x.entry.name name)) (find-past name rows)
   where
-    by : ((is_before x.entry.name name ≡ true) ⊎ (is_before x.entry.name name ≡ false)) → (length rows ≤ front_count (stands_before name) rows → find (is_named name) rows ≡ None) → cond (is_named name x) (Some x) (find (is_named name) rows) ≡ None
+    by : ((is_before x.entry.name name ≡ true) ⊎ (is_before x.entry.name name ≡ false)) → (length rows ≤ front_count (stands_before name) rows → find (is_row_named name) rows ≡ None) → cond (is_row_named name x) (Some x) (find (is_row_named name) rows) ≡ None
     by (inl e) later =
         let inner = rw e at h in
         let past : length rows ≤ front_count (stands_before name) rows = omega arith in
@@ -113,17 +116,6 @@ pub record StandsAt (id : ℕ) (entry : EntryInformation) (rows : List Numbered)
   pub within : place_of entry.name rows < length rows
   pub row : get_or rows (place_of entry.name rows) no_row ≡ record { id = id; entry = entry }
 
-same_row : (x : Numbered) (id : ℕ) (entry : EntryInformation) → x.id ≡ id → x.entry ≡ entry → x ≡ record { id = id; entry = entry }
-same_row x id entry e f = rw (← e, ← f) refl
-
-pub found_row : (id : ℕ) (entry : EntryInformation) (x : Numbered) (rows : List Numbered) → (x.id == id) ≡ true → entry_of id (x ∷ rows) ≡ Some entry → x ≡ record { id = id; entry = entry }
-found_row id entry x rows e f =
-    let is : Some x.entry ≡ Some entry = sym (ap (option_map (λ (row : Numbered). row.entry)) (cond-true (x.id == id) (Some x) (find (λ row. row.id == id) rows) e)) ∙ f in
-    same_row x id entry (eqb-true x.id id e) cc
-
-pub found_later : (id : ℕ) (entry : EntryInformation) (x : Numbered) (rows : List Numbered) → (x.id == id) ≡ false → entry_of id (x ∷ rows) ≡ Some entry → entry_of id rows ≡ Some entry
-found_later id entry x rows e f = sym (ap (option_map (λ (row : Numbered). row.entry)) (cond-false (x.id == id) (Some x) (find (λ row. row.id == id) rows) e)) ∙ f
-
 -- what holds of all rows holds of the row of a number
 pub all_known : (P : Numbered → Type 0) (id : ℕ) (entry : EntryInformation) (rows : List Numbered) → AllByRecursion P rows → entry_of id rows ≡ Some entry → P (record { id = id; entry = entry })
 all_known P id entry [] h f = absurd cc
@@ -132,7 +124,7 @@ all_known P id entry (x ∷ rows) h f = elim (cases_Bool (x.id == id)) [
   | inr e ↦ all_known P id entry rows h.1 (found_later id entry x rows e f)
 ]
 
-pub stands_at : (id : ℕ) (entry : EntryInformation) (rows : List Numbered) → IsInOrder rows → entry_of id rows ≡ Some entry → StandsAt id entry rows
+pub stands_at : (id : ℕ) (entry : EntryInformation) (rows : List Numbered) → IsInOrder (entries_of rows) → entry_of id rows ≡ Some entry → StandsAt id entry rows
 unfolding place_of
 stands_at id entry [] o f = absurd cc
 stands_at id entry (x ∷ rows) o f = elim (cases_Bool (x.id == id)) [
@@ -143,7 +135,7 @@ stands_at id entry (x ∷ rows) o f = elim (cases_Bool (x.id == id)) [
       record { within = rw not_before (omega arith); row = rw not_before is })
   | inr e ↦ (
       let known = found_later id entry x rows e f in
-      let before : is_before x.entry.name entry.name ≡ true = ap is_lt (all_known (λ later. name_cmp x.entry.name later.entry.name ≡ Less) id entry rows o.0 known) in
+      let before : is_before x.entry.name entry.name ≡ true = ap is_lt (all_known_entry (λ later. name_cmp x.entry.name later.name ≡ Less) id entry rows o.0 known) in
       let later = stands_at id entry rows o.1 known in
       let within : front_count (stands_before entry.name) rows < length rows = later.within in
       record { within = rw before (omega arith); row = rw before later.row })
@@ -163,11 +155,11 @@ without-remove id (x ∷ rows) (suc k) d h e =
     let other : x.id ≡ id → ⊥ = λ f. all_at (λ later. later.id ≢ x.id) rows k d.0 (omega arith) (e ∙ sym f) in
     rw (ne_eqb x.id id other) (ap (λ (xs : List Numbered). x ∷ xs) (without-remove id rows k d.1 (omega arith) e))
 
-put_first : (row x : Numbered) (rows : List Numbered) → AllByRecursion (λ later. name_cmp row.entry.name later.entry.name ≡ Less) rows → put_row row rows ≡ row ∷ rows
+put_first : (row x : Numbered) (rows : List Numbered) → AllByRecursion (λ later. name_cmp row.entry.name later.name ≡ Less) (entries_of rows) → put_row row rows ≡ row ∷ rows
 put_first row x [] h = refl
 put_first row x (y ∷ rows) h = rw (before_not_back row.entry.name y.entry.name (ap is_lt h.0)) refl
 
-pub put_row-without : (id : ℕ) (entry : EntryInformation) (rows : List Numbered) → IsInOrder rows → AreDistinct rows → entry_of id rows ≡ Some entry → put_row (record { id = id; entry = entry }) (without id rows) ≡ rows
+pub put_row-without : (id : ℕ) (entry : EntryInformation) (rows : List Numbered) → IsInOrder (entries_of rows) → AreDistinct rows → entry_of id rows ≡ Some entry → put_row (record { id = id; entry = entry }) (without id rows) ≡ rows
 put_row-without id entry [] o d f = absurd cc
 put_row-without id entry (x ∷ rows) o d f = elim (cases_Bool (x.id == id)) [
   | inl e ↦ (
@@ -176,7 +168,7 @@ put_row-without id entry (x ∷ rows) o d f = elim (cases_Bool (x.id == id)) [
       rw (e, keep_all id rows others, ← is) (put_first x x rows o.0))
   | inr e ↦ (
       let known = found_later id entry x rows e f in
-      let before : is_before x.entry.name entry.name ≡ true = ap is_lt (all_known (λ later. name_cmp x.entry.name later.entry.name ≡ Less) id entry rows o.0 known) in
+      let before : is_before x.entry.name entry.name ≡ true = ap is_lt (all_known_entry (λ later. name_cmp x.entry.name later.name ≡ Less) id entry rows o.0 known) in
       rw (e, before) (ap (λ (xs : List Numbered). x ∷ xs) (put_row-without id entry rows o.1 d.1 known)))
 ]
 
@@ -184,14 +176,26 @@ put_row-without id entry (x ∷ rows) o d f = elim (cases_Bool (x.id == id)) [
 pub find_name-past : (name : RdnSequence) (rows : List Numbered) → length rows ≤ place_of name rows → find_name name rows ≡ None
 find_name-past name rows h = ap (option_map (λ (row : Numbered). row.id)) (find-past name rows h)
 
-pub find_name-at : (name : RdnSequence) (rows : List Numbered) → IsInOrder rows → place_of name rows < length rows → is_same name (get_or rows (place_of name rows) no_row).entry.name ≡ true → find_name name rows ≡ Some (get_or rows (place_of name rows) no_row).id
+pub find_name-at : (name : RdnSequence) (rows : List Numbered) → IsInOrder (entries_of rows) → place_of name rows < length rows → is_same name (get_or rows (place_of name rows) no_row).entry.name ≡ true → find_name name rows ≡ Some (get_or rows (place_of name rows) no_row).id
 find_name-at name rows o h e =
-    ap (option_map (λ (row : Numbered). row.id)) (find-at name rows o h ∙ cond-true (is_named name (get_or rows (place_of name rows) no_row)) (Some (get_or rows (place_of name rows) no_row)) None e)
+    ap (option_map (λ (row : Numbered). row.id)) (find-at name rows o h ∙ cond-true (is_row_named name (get_or rows (place_of name rows) no_row)) (Some (get_or rows (place_of name rows) no_row)) None e)
 
-pub find_name-not_at : (name : RdnSequence) (rows : List Numbered) → IsInOrder rows → place_of name rows < length rows → is_same name (get_or rows (place_of name rows) no_row).entry.name ≡ false → find_name name rows ≡ None
+pub find_name-not_at : (name : RdnSequence) (rows : List Numbered) → IsInOrder (entries_of rows) → place_of name rows < length rows → is_same name (get_or rows (place_of name rows) no_row).entry.name ≡ false → find_name name rows ≡ None
 find_name-not_at name rows o h e =
-    ap (option_map (λ (row : Numbered). row.id)) (find-at name rows o h ∙ cond-false (is_named name (get_or rows (place_of name rows) no_row)) (Some (get_or rows (place_of name rows) no_row)) None e)
+    ap (option_map (λ (row : Numbered). row.id)) (find-at name rows o h ∙ cond-false (is_row_named name (get_or rows (place_of name rows) no_row)) (Some (get_or rows (place_of name rows) no_row)) None e)
 
 -- the place of a whole name
 pub place_of-whole : (len : ℕ) (name : RdnSequence) (rows : List Numbered) → len ≡ length name → place_of (take len name) rows ≡ place_of name rows
 place_of-whole len name rows e = ap (λ (n : RdnSequence). place_of n rows) (take_all len name (omega arith))
+
+-- the entries of rows with one put in, and without one
+pub entries_of-put_row : (row : Numbered) (rows : List Numbered) → entries_of (put_row row rows) ≡ put_in row.entry (entries_of rows)
+entries_of-put_row row [] = refl
+entries_of-put_row row (x ∷ rows) = elim (cases_Bool (is_before x.entry.name row.entry.name)) [
+  | inl e ↦ rw e (ap (λ (xs : List EntryInformation). x.entry ∷ xs) (entries_of-put_row row rows))
+  | inr e ↦ rw e refl
+]
+
+pub entries_of-others : (id : ℕ) (entry : EntryInformation) (rows : List Numbered) → IsInOrder (entries_of rows) → AreDistinct rows → entry_of id rows ≡ Some entry → put_in entry (entries_of (without id rows)) ≡ entries_of rows
+entries_of-others id entry rows o d known =
+    sym (entries_of-put_row (record { id = id; entry = entry }) (without id rows)) ∙ ap entries_of (put_row-without id entry rows o d known)

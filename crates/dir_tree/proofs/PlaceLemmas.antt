@@ -8,7 +8,8 @@ use Rattle.std.specs.declared.cmp.Ordering.TheVariants.{Less}
 use Rattle.dn_names.specs.Names.{RdnSequence}
 use Rattle.dn_names.specs.NameOrder.{name_cmp}
 use Rattle.dn_names.proofs.Theorems.{name_cmp_total}
-use Rattle.dir_tree.specs.Trees.{Numbered, is_before, IsInOrder}
+use Rattle.dir_tree.specs.Trees.{is_before, IsInOrder}
+use Rattle.dir_tree.specs.Numbered.{Numbered, entries_of}
 use Rattle.dir_tree.specs.Places.{front_count, stands_before, stands_within, place_of, end_of, no_row}
 use Rattle.dir_tree.proofs.NameLemmas.{Less-from_before, before_chain, name_cmp-take, is_gt-turned}
 
@@ -36,12 +37,12 @@ stands_within_down name = record {
 }
 
 -- what holds of each row that comes after one
-after_all : (P : Numbered → Type 0) (row : Numbered) → ((later : Numbered) → is_before row.entry.name later.entry.name ≡ true → P later) → (rows : List Numbered) → AllByRecursion (λ later. name_cmp row.entry.name later.entry.name ≡ Less) rows → AllByRecursion P rows
+after_all : (P : Numbered → Type 0) (row : Numbered) → ((later : Numbered) → is_before row.entry.name later.entry.name ≡ true → P later) → (rows : List Numbered) → AllByRecursion (λ later. name_cmp row.entry.name later.name ≡ Less) (entries_of rows) → AllByRecursion P rows
 after_all P row f [] h = tt
 after_all P row f (x ∷ rows) h = (f x (ap is_lt h.0), after_all P row f rows h.1)
 
 -- no row after one that fails passes
-pub fails_after : (test : Numbered → Bool) → GoesDown test → (row : Numbered) (rows : List Numbered) → test row ≡ false → AllByRecursion (λ later. name_cmp row.entry.name later.entry.name ≡ Less) rows → AllByRecursion (λ later. test later ≡ false) rows
+pub fails_after : (test : Numbered → Bool) → GoesDown test → (row : Numbered) (rows : List Numbered) → test row ≡ false → AllByRecursion (λ later. name_cmp row.entry.name later.name ≡ Less) (entries_of rows) → AllByRecursion (λ later. test later ≡ false) rows
 fails_after test goes row rows fails h =
     after_all (λ later. test later ≡ false) row (λ later e. false_from_ne_true (test later) (λ f. let passes = goes.down row later e f in absurd cc)) rows h
 
@@ -56,7 +57,7 @@ front_count-le test (row ∷ rows) =
     cond_both (test row) (suc (front_count test rows)) 0 (λ n. n ≤ suc (length rows)) (λ _. omega arith) (λ _. omega arith)
 
 -- a row that passes is in front
-pub front_passes : (test : Numbered → Bool) → GoesDown test → (rows : List Numbered) (k : ℕ) → IsInOrder rows → k < length rows → test (get_or rows k no_row) ≡ true → k < front_count test rows
+pub front_passes : (test : Numbered → Bool) → GoesDown test → (rows : List Numbered) (k : ℕ) → IsInOrder (entries_of rows) → k < length rows → test (get_or rows k no_row) ≡ true → k < front_count test rows
 front_passes test goes [] k o h e = absurd (omega arith)
 front_passes test goes (row ∷ rows) zero o h e = rw e (omega arith)
 front_passes test goes (row ∷ rows) (suc k) o h e =
@@ -82,7 +83,7 @@ both_fail : (one two : Numbered → Bool) (rows : List Numbered) → AllByRecurs
 both_fail one two [] h = tt
 both_fail one two (x ∷ xs) h = (and_right (not (one x)) (two x) h.0, both_fail one two xs h.1)
 
-pub filter_between : (one two : Numbered → Bool) → GoesDown one → GoesDown two → (rows : List Numbered) → IsInOrder rows → filter (λ row. not (one row) && two row) rows ≡ drop (front_count one rows) (take (front_count two rows) rows)
+pub filter_between : (one two : Numbered → Bool) → GoesDown one → GoesDown two → (rows : List Numbered) → IsInOrder (entries_of rows) → filter (λ row. not (one row) && two row) rows ≡ drop (front_count one rows) (take (front_count two rows) rows)
 filter_between one two first second [] o = refl
 filter_between one two first second (row ∷ rows) o = by (one row) (two row) refl refl (filter_between one two first second rows o.1)
   where
@@ -102,7 +103,7 @@ pub place_of-le : (name : RdnSequence) (rows : List Numbered) → place_of name 
 unfolding place_of
 place_of-le name rows = front_count-le (stands_before name) rows
 
-pub place_of-after : (name : RdnSequence) (rows : List Numbered) (k : ℕ) → IsInOrder rows → k < length rows → is_gt (name_cmp name (get_or rows k no_row).entry.name) ≡ true → k + 1 ≤ place_of name rows
+pub place_of-after : (name : RdnSequence) (rows : List Numbered) (k : ℕ) → IsInOrder (entries_of rows) → k < length rows → is_gt (name_cmp name (get_or rows k no_row).entry.name) ≡ true → k + 1 ≤ place_of name rows
 unfolding place_of
 place_of-after name rows k o h e =
     let passes = front_passes (stands_before name) (stands_before_down name) rows k o h (sym (is_gt-turned name (get_or rows k no_row).entry.name) ∙ e) in
@@ -116,7 +117,7 @@ pub end_of-le : (name : RdnSequence) (rows : List Numbered) → end_of name rows
 unfolding end_of
 end_of-le name rows = front_count-le (stands_within name) rows
 
-pub end_of-after : (name : RdnSequence) (rows : List Numbered) (k : ℕ) → IsInOrder rows → k < length rows → is_gt (name_cmp (take (length name) (get_or rows k no_row).entry.name) name) ≡ false → k + 1 ≤ end_of name rows
+pub end_of-after : (name : RdnSequence) (rows : List Numbered) (k : ℕ) → IsInOrder (entries_of rows) → k < length rows → is_gt (name_cmp (take (length name) (get_or rows k no_row).entry.name) name) ≡ false → k + 1 ≤ end_of name rows
 unfolding end_of
 end_of-after name rows k o h e =
     let passes = front_passes (stands_within name) (stands_within_down name) rows k o h (not_from_false (is_gt (name_cmp (take (length name) (get_or rows k no_row).entry.name) name)) e) in

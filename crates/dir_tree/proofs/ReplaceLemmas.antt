@@ -10,15 +10,16 @@ use Rattle.std.proofs.lemmas.List.Edits.{length-insert, length-remove}
 use Rattle.dn_names.specs.Names.{RdnSequence}
 use Rattle.dn_names.specs.NameOrder.{name_cmp, is_same}
 use Rattle.dir_tree.specs.Entries.{EntryInformation}
-use Rattle.dir_tree.specs.Trees.{Numbered, is_named, is_before, has_name, find_name, has_below, superior_name, entry_of, put_row, without, IsInOrder, AreDistinct}
+use Rattle.dir_tree.specs.Trees.{is_named, is_before, has_name, has_below, superior_name, IsInOrder, put_in}
+use Rattle.dir_tree.specs.Numbered.{Numbered, find_name, entry_of, put_row, without, AreDistinct, entries_of}
 use Rattle.dir_tree.specs.Refusals.{is_elsewhere, refusal_in_place}
 use Rattle.dir_tree.specs.Places.{front_count, stands_before, place_of, place_without, no_row}
 use Rattle.dir_tree.specs.Slots.{slot_of, entry_in, row_at, rows_of, has_id, IsOrderedTree, IsKept}
 use Rattle.dir_tree.proofs.NameLemmas.{before_not_itself}
 use Rattle.dir_tree.proofs.PlaceLemmas.{stands_before_down, fails_after, front_none, place_of-le}
-use Rattle.dir_tree.proofs.NumberedLemmas.{stands_at, found_row, found_later, all_known, keep_all, put_row-insert}
+use Rattle.dir_tree.proofs.NumberedLemmas.{stands_at, found_row, found_later, all_known_entry, keep_all, put_row-insert, any_put_row, entries_of-put_row, entries_of-others}
 use Rattle.dir_tree.proofs.CountLemmas.{count_full-change, full_within}
-use Rattle.dir_tree.proofs.RootLemmas.{any_put, has_name_like, none_after}
+use Rattle.dir_tree.proofs.RootLemmas.{has_name_like, none_after}
 use Rattle.dir_tree.proofs.OrderedLemmas.{ordered_same, ordered_renamed}
 use Rattle.dir_tree.proofs.SlotLemmas.{distinct_rows, has_id-rows_of, slot_of-set, slot_of-set_other, rows_of-insert}
 use Rattle.dir_tree.proofs.KeptLemmas.{full, place_within, rows_left, shown_set, others_without}
@@ -28,22 +29,22 @@ abbrev pub taken_by : ℕ → Option ℕ → Bool
 taken_by id None = false
 taken_by id (Some other) = not (other == id)
 
-none_kept : (name : RdnSequence) (id : ℕ) (rows : List Numbered) → has_name name rows ≡ false → has_name name (without id rows) ≡ false
+none_kept : (name : RdnSequence) (id : ℕ) (rows : List Numbered) → has_name name (entries_of rows) ≡ false → has_name name (entries_of (without id rows)) ≡ false
 none_kept name id [] e = refl
 none_kept name id (x ∷ rows) e =
-    let parts = or_parts (is_named name x) (has_name name rows) e in
+    let parts = or_parts (is_named name x.entry) (has_name name (entries_of rows)) e in
     elim (cases_Bool (x.id == id)) [
       | inl f ↦ rw f (none_kept name id rows parts.1)
       | inr f ↦ rw (f, parts.0) (none_kept name id rows parts.1)
     ]
 
 -- the name is another's exactly where the number found is another
-pub has_name-without : (name : RdnSequence) (id : ℕ) (rows : List Numbered) → IsInOrder rows → has_name name (without id rows) ≡ taken_by id (find_name name rows)
+pub has_name-without : (name : RdnSequence) (id : ℕ) (rows : List Numbered) → IsInOrder (entries_of rows) → has_name name (entries_of (without id rows)) ≡ taken_by id (find_name name rows)
 has_name-without name id [] o = refl
-has_name-without name id (x ∷ rows) o = by (cases_Bool (is_named name x)) (cases_Bool (x.id == id)) (has_name-without name id rows o.1)
+has_name-without name id (x ∷ rows) o = by (cases_Bool (is_named name x.entry)) (cases_Bool (x.id == id)) (has_name-without name id rows o.1)
   where
-    by : ((is_named name x ≡ true) ⊎ (is_named name x ≡ false)) → (((x.id == id) ≡ true) ⊎ ((x.id == id) ≡ false)) → has_name name (without id rows) ≡ taken_by id (find_name name rows) → has_name name (without id (x ∷ rows)) ≡ taken_by id (find_name name (x ∷ rows))
-    by (inl e) (inl f) later = rw (e, f) (none_kept name id rows (has_name_like name x.entry.name rows e ∙ none_after x rows o.0))
+    by : ((is_named name x.entry ≡ true) ⊎ (is_named name x.entry ≡ false)) → (((x.id == id) ≡ true) ⊎ ((x.id == id) ≡ false)) → has_name name (entries_of (without id rows)) ≡ taken_by id (find_name name rows) → has_name name (entries_of (without id (x ∷ rows))) ≡ taken_by id (find_name name (x ∷ rows))
+    by (inl e) (inl f) later = rw (e, f) (none_kept name id rows (has_name_like name x.entry.name (entries_of rows) e ∙ none_after x.entry (entries_of rows) o.0))
     by (inl e) (inr f) later = rw (e, f, e) refl
     by (inr e) (inl f) later = rw (e, f) later
     by (inr e) (inr f) later = rw (f, e) later
@@ -64,7 +65,7 @@ none_before from = cond-false (nat_lt from 0) (0 - 1) 0 (le-ltb from 0 (omega ar
 one_before : (place : ℕ) → place_without 0 (suc place) ≡ place
 one_before place = cond-true (nat_lt 0 (suc place)) (suc place - 1) (suc place) (lt-ltb 0 (suc place) (omega arith)) ∙ omega arith
 
-pub place_of-without : (name : RdnSequence) (id : ℕ) (entry : EntryInformation) (rows : List Numbered) → IsInOrder rows → AreDistinct rows → entry_of id rows ≡ Some entry → place_of name (without id rows) ≡ place_without (place_of entry.name rows) (place_of name rows)
+pub place_of-without : (name : RdnSequence) (id : ℕ) (entry : EntryInformation) (rows : List Numbered) → IsInOrder (entries_of rows) → AreDistinct rows → entry_of id rows ≡ Some entry → place_of name (without id rows) ≡ place_without (place_of entry.name rows) (place_of name rows)
 unfolding place_of
 place_of-without name id entry [] o d f = absurd cc
 place_of-without name id entry (x ∷ rows) o d f = elim (cases_Bool (x.id == id)) [
@@ -76,7 +77,7 @@ place_of-without name id entry (x ∷ rows) o d f = elim (cases_Bool (x.id == id
       rw (e, not_before, keep_all id rows others) (first (cases_Bool (is_before x.entry.name name))))
   | inr e ↦ (
       let known = found_later id entry x rows e f in
-      let before : is_before x.entry.name entry.name ≡ true = ap is_lt (all_known (λ later. name_cmp x.entry.name later.entry.name ≡ Less) id entry rows o.0 known) in
+      let before : is_before x.entry.name entry.name ≡ true = ap is_lt (all_known_entry (λ later. name_cmp x.entry.name later.name ≡ Less) id entry rows o.0 known) in
       let later = place_of-without name id entry rows o.1 d.1 known in
       rw (e, before) (next (cases_Bool (is_before x.entry.name name)) later))
 ]
@@ -91,14 +92,14 @@ place_of-without name id entry (x ∷ rows) o d f = elim (cases_Bool (x.id == id
 
 -- what an entry that takes a place meets
 pub record IsAllowedThere (id : ℕ) (old : EntryInformation) (name : RdnSequence) (rows : List Numbered) : Type 0 where
-  pub absent : has_name name (without id rows) ≡ false
+  pub absent : has_name name (entries_of (without id rows)) ≡ false
   pub here : is_elsewhere name old.name ≡ false
-  pub alone : (not (is_same name old.name) && has_below old.name rows) ≡ false
+  pub alone : (not (is_same name old.name) && has_below old.name (entries_of rows)) ≡ false
 
 pub allowed_there : (id : ℕ) (old : EntryInformation) (name : RdnSequence) (rows : List Numbered) → refusal_in_place id name (Some old) rows ≡ None → IsAllowedThere id old name rows
-allowed_there id old name rows e = by (cases_Bool (has_name name (without id rows))) (cases_Bool (is_elsewhere name old.name)) (cases_Bool (not (is_same name old.name) && has_below old.name rows))
+allowed_there id old name rows e = by (cases_Bool (has_name name (entries_of (without id rows)))) (cases_Bool (is_elsewhere name old.name)) (cases_Bool (not (is_same name old.name) && has_below old.name (entries_of rows)))
   where
-    by : ((has_name name (without id rows) ≡ true) ⊎ (has_name name (without id rows) ≡ false)) → ((is_elsewhere name old.name ≡ true) ⊎ (is_elsewhere name old.name ≡ false)) → (((not (is_same name old.name) && has_below old.name rows) ≡ true) ⊎ ((not (is_same name old.name) && has_below old.name rows) ≡ false)) → IsAllowedThere id old name rows
+    by : ((has_name name (entries_of (without id rows)) ≡ true) ⊎ (has_name name (entries_of (without id rows)) ≡ false)) → ((is_elsewhere name old.name ≡ true) ⊎ (is_elsewhere name old.name ≡ false)) → (((not (is_same name old.name) && has_below old.name (entries_of rows)) ≡ true) ⊎ ((not (is_same name old.name) && has_below old.name (entries_of rows)) ≡ false)) → IsAllowedThere id old name rows
     by (inl f) g h = (let is = rw f at e in absurd cc)
     by (inr f) (inl g) h = (let is = rw (f, g) at e in absurd cc)
     by (inr f) (inr g) (inl h) = (let is = rw (f, g, h) at e in absurd cc)
@@ -112,13 +113,19 @@ elsewhere_under : (name old : RdnSequence) → is_elsewhere name old ≡ false �
 elsewhere_under [] old e = absurd cc
 elsewhere_under (rdn ∷ rdns) old e = not-false (is_same (superior_name (rdn ∷ rdns)) (superior_name old)) e
 
-ordered_changed : (id : ℕ) (old new : EntryInformation) (rows : List Numbered) → IsOrderedTree rows → AreDistinct rows → entry_of id rows ≡ Some old → IsAllowedThere id old new.name rows → IsOrderedTree (put_row (record { id = id; entry = new }) (without id rows))
-ordered_changed id old new rows ordered distinct known may = elim (cases_Bool (is_same new.name old.name)) [
-  | inl e ↦ ordered_same id old rows ordered distinct known new e (elsewhere_filled new.name old.name may.here)
-  | inr e ↦ (
-      let alone : has_below old.name rows ≡ false = rw e at may.alone in
-      ordered_renamed id old rows ordered distinct known new alone (elsewhere_filled new.name old.name may.here) may.absent (elsewhere_under new.name old.name may.here))
-]
+ordered_changed : (id : ℕ) (old new : EntryInformation) (rows : List Numbered) → IsOrderedTree (entries_of rows) → AreDistinct rows → entry_of id rows ≡ Some old → IsAllowedThere id old new.name rows → IsOrderedTree (entries_of (put_row (record { id = id; entry = new }) (without id rows)))
+ordered_changed id old new rows ordered distinct known may =
+    let others = entries_of (without id rows) in
+    let back : put_in old (entries_of (without id rows)) ≡ entries_of rows = entries_of-others id old rows ordered.sorted distinct known in
+    let whole : IsOrderedTree (put_in old (entries_of (without id rows))) = rw back ordered in
+    let shown = entries_of-put_row (record { id = id; entry = new }) (without id rows) in
+    rw shown (elim (cases_Bool (is_same new.name old.name)) [
+      | inl e ↦ ordered_same old others whole new e (elsewhere_filled new.name old.name may.here)
+      | inr e ↦ (
+          let alone : has_below old.name (entries_of rows) ≡ false = rw e at may.alone in
+          let none : has_below old.name (put_in old (entries_of (without id rows))) ≡ false = rw back alone in
+          ordered_renamed old others whole new none (elsewhere_filled new.name old.name may.here) may.absent (elsewhere_under new.name old.name may.here))
+    ])
 
 -- the entry changed in its slot, and its number moved to its place
 pub record Changed (slots : List (Option EntryInformation)) (order : List ℕ) (id : ℕ) (entry : EntryInformation) (rows : List Numbered) : Type 0 where
@@ -149,7 +156,7 @@ module _ (slots : List (Option EntryInformation)) (order : List ℕ) (id from pl
   used_changed other =
       has_id-rows_of (set slots id (Some new)) other (insert (remove order from) (place_without from place) id)
       ∙ ap (λ (rows : List Numbered). list_any (λ row. row.id == other) rows) shown_changed
-      ∙ any_put (λ row. row.id == other) (record { id = id; entry = new }) (without id (rows_of slots order))
+      ∙ any_put_row (λ row. row.id == other) (record { id = id; entry = new }) (without id (rows_of slots order))
       ∙ by (cases_Bool (id == other))
     where
       by : ((id == other) ≡ true) ⊎ ((id == other) ≡ false) → ((id == other) || list_any (λ row. row.id == other) (without id (rows_of slots order))) ≡ is_some (slot_of (set slots id (Some new)) other)

@@ -9,13 +9,13 @@ use Rattle.std.proofs.lemmas.List.Edits.{length-insert}
 use Rattle.std.specs.declared.cmp.Ordering.TheVariants.{Less}
 use Rattle.dn_names.specs.NameOrder.{name_cmp}
 use Rattle.dir_tree.specs.Entries.{EntryInformation}
-use Rattle.dir_tree.specs.Trees.{Numbered, is_before, entry_of, put_row, IsInOrder, AreDistinct}
+use Rattle.dir_tree.specs.Trees.{is_before, IsInOrder}
+use Rattle.dir_tree.specs.Numbered.{Numbered, entry_of, put_row, AreDistinct, entries_of}
 use Rattle.dir_tree.specs.Places.{place_of}
 use Rattle.dir_tree.specs.Slots.{slot_of, entry_in, row_at, rows_of, has_id, IsOrderedTree, IsKept}
 use Rattle.dir_tree.proofs.NameLemmas.{before_not_itself}
-use Rattle.dir_tree.proofs.NumberedLemmas.{put_row-insert}
+use Rattle.dir_tree.proofs.NumberedLemmas.{put_row-insert, any_put_row}
 use Rattle.dir_tree.proofs.CountLemmas.{count_full-le, count_full-fill}
-use Rattle.dir_tree.proofs.RootLemmas.{any_put}
 
 module _ (slots : List (Option EntryInformation)) where
   known_row : (id : ℕ) (order : List ℕ) → has_id id order ≡ true → entry_of id (rows_of slots order) ≡ Some (entry_in (slot_of slots id))
@@ -40,7 +40,7 @@ module _ (slots : List (Option EntryInformation)) where
       by (Some entry) e = known_row id order (used ∙ ap is_some e) ∙ ap (λ (slot : Option EntryInformation). Some (entry_in slot)) e
 
   -- the numbers of rows in order are distinct
-  others_differ : (id : ℕ) (order : List ℕ) → AllByRecursion (λ later. name_cmp (row_at slots id).entry.name later.entry.name ≡ Less) (rows_of slots order) → AllByRecursion (λ later. later.id ≢ id) (rows_of slots order)
+  others_differ : (id : ℕ) (order : List ℕ) → AllByRecursion (λ later. name_cmp (row_at slots id).entry.name later.name ≡ Less) (entries_of (rows_of slots order)) → AllByRecursion (λ later. later.id ≢ id) (rows_of slots order)
   others_differ id [] h = tt
   others_differ id (other ∷ order) h = (
     (λ e.
@@ -50,7 +50,7 @@ module _ (slots : List (Option EntryInformation)) where
     others_differ id order h.1,
   )
 
-  pub distinct_rows : (order : List ℕ) → IsInOrder (rows_of slots order) → AreDistinct (rows_of slots order)
+  pub distinct_rows : (order : List ℕ) → IsInOrder (entries_of (rows_of slots order)) → AreDistinct (rows_of slots order)
   distinct_rows [] o = tt
   distinct_rows (id ∷ order) o = (others_differ id order o.0, distinct_rows order o.1)
 
@@ -116,7 +116,7 @@ module _ (slots : List (Option EntryInformation)) (order : List ℕ) (id place :
   used_put other =
       has_id-rows_of (set slots id (Some entry)) other (insert order place id)
       ∙ ap (λ (rows : List Numbered). list_any (λ row. row.id == other) rows) rows_put
-      ∙ any_put (λ row. row.id == other) (record { id = id; entry = entry }) (rows_of slots order)
+      ∙ any_put_row (λ row. row.id == other) (record { id = id; entry = entry }) (rows_of slots order)
       ∙ ap (λ (b : Bool). (id == other) || b) (sym (has_id-rows_of slots other order) ∙ kept.used other)
       ∙ by (cases_Bool (id == other))
     where
@@ -124,7 +124,7 @@ module _ (slots : List (Option EntryInformation)) (order : List ℕ) (id place :
       by (inl e) = rw e (sym (ap (λ (n : ℕ). is_some (slot_of (set slots id (Some entry)) n)) (sym (eqb-true id other e)) ∙ ap is_some (slot_of-set slots id (Some entry) within)))
       by (inr e) = rw e (sym (ap is_some (slot_of-set_other slots id other (Some entry) e)))
 
-  pub kept_put : IsOrderedTree (put_row (record { id = id; entry = entry }) (rows_of slots order)) → IsKept (set slots id (Some entry)) (insert order place id)
+  pub kept_put : IsOrderedTree (entries_of (put_row (record { id = id; entry = entry }) (rows_of slots order))) → IsKept (set slots id (Some entry)) (insert order place id)
   kept_put ordered = record {
     within = rw (length-set slots id (Some entry)) kept.within;
     used = used_put;

@@ -1,38 +1,40 @@
 -- What is kept is a tree.
-use Rattle.std.proofs.Common.{◌≡◌, ℕ, ◌<◌, ◌==◌, Bool, true, List, [], ◌∷◌, Option, refl, sym, ap, ◌∙◌, arith}
+use Rattle.std.proofs.Common.{◌≡◌, ℕ, ◌<◌, ◌==◌, Bool, true, List, [], ◌∷◌, length, Option, refl, sym, ap, ◌∙◌, arith}
 use Rattle.std.specs.List.{AllByRecursion, list_any}
 use Rattle.std.specs.Ordering.{is_lt}
 use Rattle.std.specs.declared.cmp.Ordering.TheVariants.{Less}
 use Rattle.std.proofs.lemmas.Bool.{or_left, or_right, eq-eqb}
+use Rattle.std.proofs.lemmas.List.{length-map}
 use Rattle.dn_names.specs.NameOrder.{name_cmp}
 use Rattle.dir_tree.specs.Entries.{EntryInformation}
-use Rattle.dir_tree.specs.Trees.{Numbered, is_named, is_before, has_name, superior_name, IsRooted, IsTree}
+use Rattle.dir_tree.specs.Trees.{is_named, is_before, has_name, superior_name, IsRooted, IsTree}
+use Rattle.dir_tree.specs.Numbered.{Numbered, entries_of, IsNumberedTree}
 use Rattle.dir_tree.specs.Slots.{rows_of, has_id, has_before, HasSuperiors, IsOrderedTree, IsKept}
 use Rattle.dir_tree.proofs.NameLemmas.{same_itself}
 use Rattle.dir_tree.proofs.CountLemmas.{full_within}
 use Rattle.dir_tree.proofs.SlotLemmas.{distinct_rows, rows_fit}
 
--- the rows of a part are rows of the whole
-record IsPart (part whole : List Numbered) : Type 0 where
-  within : (test : Numbered → Bool) → list_any test part ≡ true → list_any test whole ≡ true
+-- the entries of a part are entries of the whole
+record IsPart (part whole : List EntryInformation) : Type 0 where
+  within : (test : EntryInformation → Bool) → list_any test part ≡ true → list_any test whole ≡ true
 
-later_part : (row : Numbered) (part whole : List Numbered) → IsPart (row ∷ part) whole → IsPart part whole
-later_part row part whole is = record { within = λ test h. is.within test (or_right (test row) (list_any test part) h) }
+later_part : (entry : EntryInformation) (part whole : List EntryInformation) → IsPart (entry ∷ part) whole → IsPart part whole
+later_part entry part whole is = record { within = λ test h. is.within test (or_right (test entry) (list_any test part) h) }
 
-superiors_of : (first : Numbered) (rows part : List Numbered) → HasSuperiors (first ∷ rows) → IsPart part (first ∷ rows) → AllByRecursion (λ later. name_cmp first.entry.name later.entry.name ≡ Less) part → AllByRecursion (λ later. has_name (superior_name later.entry.name) (first ∷ rows) ≡ true) part
-superiors_of first rows [] rooted is h = tt
-superiors_of first rows (row ∷ part) rooted is h = (
-  rooted row.entry.name
-      (is.within (is_named row.entry.name) (or_left (is_named row.entry.name row) (has_name row.entry.name part) (same_itself row.entry.name)))
-      (or_left (is_before first.entry.name row.entry.name) (has_before row.entry.name rows) (ap is_lt h.0)),
-  superiors_of first rows part rooted (later_part row part (first ∷ rows) is) h.1,
+superiors_of : (first : EntryInformation) (entries part : List EntryInformation) → HasSuperiors (first ∷ entries) → IsPart part (first ∷ entries) → AllByRecursion (λ later. name_cmp first.name later.name ≡ Less) part → AllByRecursion (λ later. has_name (superior_name later.name) (first ∷ entries) ≡ true) part
+superiors_of first entries [] rooted is h = tt
+superiors_of first entries (entry ∷ part) rooted is h = (
+  rooted entry.name
+      (is.within (is_named entry.name) (or_left (is_named entry.name entry) (has_name entry.name part) (same_itself entry.name)))
+      (or_left (is_before first.name entry.name) (has_before entry.name entries) (ap is_lt h.0)),
+  superiors_of first entries part rooted (later_part entry part (first ∷ entries) is) h.1,
 )
 
 -- each entry but the first has its superior
-pub IsRooted-ordered : (rows : List Numbered) → IsOrderedTree rows → IsRooted rows
+pub IsRooted-ordered : (entries : List EntryInformation) → IsOrderedTree entries → IsRooted entries
 IsRooted-ordered [] ordered = tt
-IsRooted-ordered (row ∷ rows) ordered =
-    superiors_of row rows rows ordered.rooted (later_part row rows (row ∷ rows) (record { within = λ test h. h })) ordered.sorted.0
+IsRooted-ordered (entry ∷ entries) ordered =
+    superiors_of entry entries entries ordered.rooted (later_part entry entries (entry ∷ entries) (record { within = λ test h. h })) ordered.sorted.0
 
 -- each number in use is one of a slot
 numbers_fit : (slots : List (Option EntryInformation)) (order part : List ℕ) → IsKept slots order → ((id : ℕ) → has_id id part ≡ true → has_id id order ≡ true) → AllByRecursion (λ row. row.id < 200000) (rows_of slots part)
@@ -43,12 +45,17 @@ numbers_fit slots order (id ∷ part) kept is =
     (omega (arith, kept.within), numbers_fit slots order part kept (λ other h. is other (or_right (id == other) (has_id other part) h)))
 
 -- a tree is kept
-pub IsTree-kept : (slots : List (Option EntryInformation)) (order : List ℕ) → IsKept slots order → IsTree (rows_of slots order)
+pub IsTree-kept : (slots : List (Option EntryInformation)) (order : List ℕ) → IsKept slots order → IsNumberedTree (rows_of slots order)
 IsTree-kept slots order kept = record {
-  sorted = kept.ordered.sorted;
+  tree = record {
+    sorted = kept.ordered.sorted;
+    rooted = IsRooted-ordered (entries_of (rows_of slots order)) kept.ordered;
+    named = kept.ordered.named;
+    fits =
+        let same : length (entries_of (rows_of slots order)) ≡ length (rows_of slots order) =
+        length-map (rows_of slots order) (λ (row : Numbered). row.entry) in
+        omega (arith, same, rows_fit slots order kept);
+  };
   distinct = distinct_rows slots order kept.ordered.sorted;
-  rooted = IsRooted-ordered (rows_of slots order) kept.ordered;
-  named = kept.ordered.named;
   numbers = numbers_fit slots order order kept (λ id h. h);
-  fits = rows_fit slots order kept;
 }

@@ -8,7 +8,8 @@ use Rattle.std.proofs.lemmas.List.{drop_more, drop_all, get_or-take, length-take
 use Rattle.dn_names.specs.Names.{RdnSequence}
 use Rattle.dn_names.specs.NameOrder.{name_cmp}
 use Rattle.dir_tree.specs.Entries.{EntryInformation}
-use Rattle.dir_tree.specs.Trees.{Numbered, ids_of, is_before, is_below, entry_of, has_below, IsInOrder}
+use Rattle.dir_tree.specs.Trees.{is_before, is_below, has_below, IsInOrder}
+use Rattle.dir_tree.specs.Numbered.{Numbered, ids_of, entry_of, entries_of}
 use Rattle.dir_tree.specs.Scopes.{is_within, is_child, in_scope}
 use Rattle.dir_tree.specs.declared.scope.Scope.{Scope}
 use Rattle.dir_tree.specs.declared.scope.Scope.TheVariants.{Base, One, Sub}
@@ -16,7 +17,7 @@ use Rattle.dir_tree.specs.Places.{front_count, stands_before, stands_within, pla
 use Rattle.dir_tree.specs.Walks.{is_one_below, walked}
 use Rattle.dir_tree.proofs.NameLemmas.{prefix_between, below_between, before_not_itself, before_not_back}
 use Rattle.dir_tree.proofs.PlaceLemmas.{stands_before_down, stands_within_down, stands_upto_down, filter_between, end_of-le}
-use Rattle.dir_tree.proofs.NumberedLemmas.{stands_at, found_row, found_later, all_known}
+use Rattle.dir_tree.proofs.NumberedLemmas.{stands_at, found_row, found_later, all_known_entry}
 
 -- tests that give the same answers keep the same, and one after another keeps what passes both
 pub filter_like : (test other : Numbered → Bool) → ((row : Numbered) → test row ≡ other row) → (rows : List Numbered) → filter test rows ≡ filter other rows
@@ -36,10 +37,10 @@ filter_both test other (x ∷ rows) = by (test x) (filter_both test other rows)
     by false later = later
 
 -- the entries at or below a name stand from its place to its end
-pub filter-within : (name : RdnSequence) (rows : List Numbered) → IsInOrder rows → filter (is_within name) rows ≡ drop (place_of name rows) (take (end_of name rows) rows)
+pub filter-within : (name : RdnSequence) (rows : List Numbered) → IsInOrder (entries_of rows) → filter (λ row. is_within name row.entry) rows ≡ drop (place_of name rows) (take (end_of name rows) rows)
 unfolding place_of end_of
 filter-within name rows o =
-    filter_like (is_within name) (λ row. not (stands_before name row) && stands_within name row) (λ row. prefix_between name row.entry.name) rows
+    filter_like (λ row. is_within name row.entry) (λ row. not (stands_before name row) && stands_within name row) (λ row. prefix_between name row.entry.name) rows
     ∙ filter_between (stands_before name) (stands_within name) (stands_before_down name) (stands_within_down name) rows o
 
 -- one place on
@@ -62,29 +63,29 @@ unfolding walked
 walked-past depth place end rows h = rw (drop_all place (take end rows) (omega (arith, length-take end rows))) refl
 
 -- from the start of each scope
-pub walked-base : (id : ℕ) (entry : EntryInformation) (rows : List Numbered) → IsInOrder rows → entry_of id rows ≡ Some entry → walked None (place_of entry.name rows) (place_of entry.name rows + 1) rows ≡ id ∷ []
+pub walked-base : (id : ℕ) (entry : EntryInformation) (rows : List Numbered) → IsInOrder (entries_of rows) → entry_of id rows ≡ Some entry → walked None (place_of entry.name rows) (place_of entry.name rows + 1) rows ≡ id ∷ []
 walked-base id entry rows o known =
     let stands = stands_at id entry rows o known in
     walked-first None (place_of entry.name rows) (place_of entry.name rows + 1) rows (omega arith) (omega (arith, stands.within)) refl
     ∙ ap (λ (row : Numbered). row.id ∷ walked None (place_of entry.name rows + 1) (place_of entry.name rows + 1) rows) stands.row
     ∙ ap (λ (xs : List ℕ). id ∷ xs) (walked-past None (place_of entry.name rows + 1) (place_of entry.name rows + 1) rows (omega arith))
 
-pub walked-sub : (name : RdnSequence) (rows : List Numbered) → IsInOrder rows → walked None (place_of name rows) (end_of name rows) rows ≡ ids_of (filter (is_within name) rows)
+pub walked-sub : (name : RdnSequence) (rows : List Numbered) → IsInOrder (entries_of rows) → walked None (place_of name rows) (end_of name rows) rows ≡ ids_of (filter (λ row. is_within name row.entry) rows)
 unfolding walked
 walked-sub name rows o = ap ids_of (filter_true (drop (place_of name rows) (take (end_of name rows) rows)) ∙ sym (filter-within name rows o))
 
-pub walked-one : (name : RdnSequence) (rows : List Numbered) → IsInOrder rows → walked (Some (length name)) (place_of name rows) (end_of name rows) rows ≡ ids_of (filter (is_child name) rows)
+pub walked-one : (name : RdnSequence) (rows : List Numbered) → IsInOrder (entries_of rows) → walked (Some (length name)) (place_of name rows) (end_of name rows) rows ≡ ids_of (filter (λ row. is_child name row.entry) rows)
 unfolding walked
 walked-one name rows o =
     ap (λ (xs : List Numbered). ids_of (filter (λ row. is_one_below (Some (length name)) row.entry.name) xs)) (sym (filter-within name rows o))
-    ∙ ap ids_of (filter_both (is_within name) (λ row. is_one_below (Some (length name)) row.entry.name) rows)
+    ∙ ap ids_of (filter_both (λ row. is_within name row.entry) (λ row. is_one_below (Some (length name)) row.entry.name) rows)
 
 -- an entry stands below exactly where the end is past the place after the entry's own
-fails_all : (name : RdnSequence) (rows : List Numbered) → AllByRecursion (λ later. name_cmp name later.entry.name ≡ Less) rows → front_count (λ row. not (is_before name row.entry.name)) rows ≡ 0
+fails_all : (name : RdnSequence) (rows : List Numbered) → AllByRecursion (λ later. name_cmp name later.name ≡ Less) (entries_of rows) → front_count (λ row. not (is_before name row.entry.name)) rows ≡ 0
 fails_all name [] h = refl
 fails_all name (x ∷ rows) h = cond-false (not (is_before name x.entry.name)) (suc (front_count (λ row. not (is_before name row.entry.name)) rows)) 0 (not_from_true (is_before name x.entry.name) (ap is_lt h.0))
 
-upto_place : (id : ℕ) (entry : EntryInformation) (rows : List Numbered) → IsInOrder rows → entry_of id rows ≡ Some entry → front_count (λ row. not (is_before entry.name row.entry.name)) rows ≡ suc (place_of entry.name rows)
+upto_place : (id : ℕ) (entry : EntryInformation) (rows : List Numbered) → IsInOrder (entries_of rows) → entry_of id rows ≡ Some entry → front_count (λ row. not (is_before entry.name row.entry.name)) rows ≡ suc (place_of entry.name rows)
 unfolding place_of
 upto_place id entry [] o f = absurd cc
 upto_place id entry (x ∷ rows) o f = elim (cases_Bool (x.id == id)) [
@@ -93,11 +94,11 @@ upto_place id entry (x ∷ rows) o f = elim (cases_Bool (x.id == id)) [
       let name : x.entry.name ≡ entry.name = ap (λ (row : Numbered). row.entry.name) is in
       let not_before : is_before x.entry.name entry.name ≡ false = subst (λ (n : RdnSequence). is_before x.entry.name n ≡ false) name (before_not_itself x.entry.name) in
       let not_after : is_before entry.name x.entry.name ≡ false = subst (λ (n : RdnSequence). is_before n x.entry.name ≡ false) name (before_not_itself x.entry.name) in
-      let none = fails_all entry.name rows (subst (λ (n : RdnSequence). AllByRecursion (λ later. name_cmp n later.entry.name ≡ Less) rows) name o.0) in
+      let none = fails_all entry.name rows (subst (λ (n : RdnSequence). AllByRecursion (λ later. name_cmp n later.name ≡ Less) (entries_of rows)) name o.0) in
       rw (not_before, not_after, none) refl)
   | inr e ↦ (
       let known = found_later id entry x rows e f in
-      let before : is_before x.entry.name entry.name ≡ true = ap is_lt (all_known (λ later. name_cmp x.entry.name later.entry.name ≡ Less) id entry rows o.0 known) in
+      let before : is_before x.entry.name entry.name ≡ true = ap is_lt (all_known_entry (λ later. name_cmp x.entry.name later.name ≡ Less) id entry rows o.0 known) in
       rw (before, before_not_back x.entry.name entry.name before) (ap suc (upto_place id entry rows o.1 known)))
 ]
 
@@ -115,7 +116,7 @@ shifted a b = elim (cases_lt (a + 1) b) [
   | inr h ↦ le-ltb 0 (b - suc a) (omega arith) ∙ sym (le-ltb (a + 1) b h)
 ]
 
-pub has_below-end : (id : ℕ) (entry : EntryInformation) (rows : List Numbered) → IsInOrder rows → entry_of id rows ≡ Some entry → has_below entry.name rows ≡ nat_lt (place_of entry.name rows + 1) (end_of entry.name rows)
+pub has_below-end : (id : ℕ) (entry : EntryInformation) (rows : List Numbered) → IsInOrder (entries_of rows) → entry_of id rows ≡ Some entry → has_below entry.name (entries_of rows) ≡ nat_lt (place_of entry.name rows + 1) (end_of entry.name rows)
 unfolding end_of
 has_below-end id entry rows o known =
     any-filter (λ row. is_below entry.name row.entry.name) rows
@@ -137,5 +138,5 @@ filter_fits test (x ∷ rows) =
 pub scoped-fits : (scope : Scope) (id : ℕ) (base : Option EntryInformation) (rows : List Numbered) → length rows ≤ 200000 → length (in_scope scope id base rows) ≤ 200000
 scoped-fits scope id None rows h = omega arith
 scoped-fits Base id (Some base) rows h = omega arith
-scoped-fits One id (Some base) rows h = (let less = filter_fits (is_child base.name) rows in omega arith)
-scoped-fits Sub id (Some base) rows h = (let less = filter_fits (is_within base.name) rows in omega arith)
+scoped-fits One id (Some base) rows h = (let less = filter_fits (λ row. is_child base.name row.entry) rows in omega arith)
+scoped-fits Sub id (Some base) rows h = (let less = filter_fits (λ row. is_within base.name row.entry) rows in omega arith)

@@ -4,6 +4,7 @@ pub mod Changes
 pub mod EntryClasses
 pub mod Points
 pub mod Trees
+pub mod Numbered
 pub mod Scopes
 pub mod Refusals
 -- for the inside of the crate alone

@@ -3,7 +3,8 @@ use Rattle.std.specs.Prelude.{ℕ, ◌-◌, nat_lt, suc, Bool, not, List, [], �
 use Rattle.std.specs.Ordering.{is_gt}
 use Rattle.dn_names.specs.Names.{RdnSequence}
 use Rattle.dn_names.specs.NameOrder.{name_cmp}
-use Rattle.dir_tree.specs.Trees.{Numbered, is_before}
+use Rattle.dir_tree.specs.Trees.{is_before}
+use Rattle.dir_tree.specs.Numbered.{Numbered}
 
 -- how many at the front pass the test
 abbrev pub front_count : (Numbered → Bool) → List Numbered → ℕ

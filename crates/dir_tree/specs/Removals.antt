@@ -2,7 +2,8 @@
 use Rattle.std.specs.Prelude.{◌≡◌, ℕ, false, List, Some, None}
 use Rattle.dn_names.specs.Names.{RdnSequence}
 use Rattle.dir_tree.specs.Entries.{EntryInformation}
-use Rattle.dir_tree.specs.Trees.{Numbered, entry_of, has_below}
+use Rattle.dir_tree.specs.Trees.{has_below}
+use Rattle.dir_tree.specs.Numbered.{Numbered, entries_of, entry_of}
 use Rattle.dir_tree.specs.Refusals.{refusal_in_place}
 use Rattle.dir_tree.specs.Places.{place_of}
 
@@ -11,7 +12,7 @@ pub record IsRemovable (id place : ℕ) (rows : List Numbered) : Type 0 where
   pub entry : EntryInformation
   pub known : entry_of id rows ≡ Some entry
   pub placed : place ≡ place_of entry.name rows
-  pub alone : has_below entry.name rows ≡ false
+  pub alone : has_below entry.name (entries_of rows) ≡ false
 
 -- the number is that of an entry at the place, which an entry of the name may take
 pub record IsReplaceable (id place : ℕ) (name : RdnSequence) (rows : List Numbered) : Type 0 where

@@ -3,24 +3,24 @@ use Rattle.std.specs.Prelude.{ℕ, ◌+◌, ◌==◌, ◌&&◌, Bool, false, Lis
 use Rattle.dn_names.specs.Names.{RdnSequence}
 use Rattle.dn_names.specs.NameOrder.{is_prefix_of}
 use Rattle.dir_tree.specs.Entries.{EntryInformation}
-use Rattle.dir_tree.specs.Trees.{Numbered, ids_of, entry_of, superior_of}
+use Rattle.dir_tree.specs.Numbered.{Numbered, ids_of, entry_of, superior_of}
 use Rattle.dir_tree.specs.declared.scope.Scope.{Scope}
 use Rattle.dir_tree.specs.declared.scope.Scope.TheVariants.{Base, One, Sub}
 
--- whether the row's entry is at or below the name
-abbrev pub is_within : RdnSequence → Numbered → Bool
-is_within base row = is_prefix_of base row.entry.name
+-- whether the entry is at or below the name
+abbrev pub is_within : RdnSequence → EntryInformation → Bool
+is_within base entry = is_prefix_of base entry.name
 
--- whether the row's entry is immediately below the name
-abbrev pub is_child : RdnSequence → Numbered → Bool
-is_child base row = is_prefix_of base row.entry.name && (length row.entry.name == length base + 1)
+-- whether the entry is immediately below the name
+abbrev pub is_child : RdnSequence → EntryInformation → Bool
+is_child base entry = is_prefix_of base entry.name && (length entry.name == length base + 1)
 
 -- the entries that the scope takes in, from the number of the base, if that is in use
 abbrev pub in_scope : Scope → ℕ → Option EntryInformation → List Numbered → List ℕ
 in_scope scope id None rows = []
 in_scope Base id (Some base) rows = id ∷ []
-in_scope One id (Some base) rows = ids_of (filter (is_child base.name) rows)
-in_scope Sub id (Some base) rows = ids_of (filter (is_within base.name) rows)
+in_scope One id (Some base) rows = ids_of (filter (λ row. is_child base.name row.entry) rows)
+in_scope Sub id (Some base) rows = ids_of (filter (λ row. is_within base.name row.entry) rows)
 
 -- the numbers of the entries that the scope of a number takes in
 abbrev pub scoped : Scope → ℕ → List Numbered → List ℕ

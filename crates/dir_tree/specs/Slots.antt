@@ -4,7 +4,8 @@ use Rattle.std.specs.List.{AllByRecursion, list_any}
 use Rattle.dn_names.specs.Names.{RdnSequence}
 use Rattle.dir_tree.specs.Entries.{EntryInformation}
 use Rattle.dir_tree.specs.Points.{access_subentries}
-use Rattle.dir_tree.specs.Trees.{Numbered, entries_of, most_entries, is_before, has_name, superior_name, IsInOrder}
+use Rattle.dir_tree.specs.Trees.{most_entries, is_before, has_name, superior_name, IsInOrder}
+use Rattle.dir_tree.specs.Numbered.{Numbered, entries_of}
 
 -- the slot of the number
 abbrev pub slot_of : List (Option EntryInformation) → ℕ → Option EntryInformation
@@ -42,25 +43,26 @@ abbrev pub with_room : ℕ → ℕ → ℕ
 with_room len capacity = if nat_lt len capacity then capacity else len + len / 8 + 1
 
 -- whether an entry's name comes before the name
-abbrev pub has_before : RdnSequence → List Numbered → Bool
-has_before name rows = list_any (λ row. is_before row.entry.name name) rows
+abbrev pub has_before : RdnSequence → List EntryInformation → Bool
+has_before name entries = list_any (λ entry. is_before entry.name name) entries
 
 -- of each name that is there and is not the first the superior is there too
-abbrev pub HasSuperiors : List Numbered → Type 0
-HasSuperiors rows = (name : RdnSequence) → has_name name rows ≡ true → has_before name rows ≡ true → has_name (superior_name name) rows ≡ true
+abbrev pub HasSuperiors : List EntryInformation → Type 0
+HasSuperiors entries =
+    (name : RdnSequence) → has_name name entries ≡ true → has_before name entries ≡ true → has_name (superior_name name) entries ≡ true
 
--- the rows of a tree, but for their numbers
-pub record IsOrderedTree (rows : List Numbered) : Type 0 where
-  pub sorted : IsInOrder rows
-  pub named : AllByRecursion (λ row. row.entry.name ≢ []) rows
-  pub rooted : HasSuperiors rows
+-- the entries of a tree, but for their number
+pub record IsOrderedTree (entries : List EntryInformation) : Type 0 where
+  pub sorted : IsInOrder entries
+  pub named : AllByRecursion (λ entry. entry.name ≢ []) entries
+  pub rooted : HasSuperiors entries
 
 -- the slots and the numbers are those of a tree
 pub record IsKept (slots : List (Option EntryInformation)) (order : List ℕ) : Type 0 where
   pub within : length slots ≤ most_entries
   pub used : (id : ℕ) → has_id id order ≡ is_some (slot_of slots id)
   pub count : count_full slots ≡ length order
-  pub ordered : IsOrderedTree (rows_of slots order)
+  pub ordered : IsOrderedTree (entries_of (rows_of slots order))
 
 -- and the count is that of their access control subentries
 pub record IsCounted (slots : List (Option EntryInformation)) (order : List ℕ) (subentries : ℕ) : Type 0 where

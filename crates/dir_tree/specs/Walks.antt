@@ -1,7 +1,7 @@
 -- What a walk has left: the numbers of the entries between two places, all or those one RDN below a depth.
 use Rattle.std.specs.Prelude.{ℕ, ◌+◌, ◌==◌, Bool, true, List, length, take, drop, filter, Option, Some, None}
 use Rattle.dn_names.specs.Names.{RdnSequence}
-use Rattle.dir_tree.specs.Trees.{Numbered, ids_of}
+use Rattle.dir_tree.specs.Numbered.{Numbered, ids_of}
 
 -- whether the name has one RDN more than the depth, if there is one
 abbrev pub is_one_below : Option ℕ → RdnSequence → Bool

@@ -13,8 +13,9 @@ use std::alloc::AllocError;
 const MOST_ENTRIES: usize = 200_000;
 
 impl Tree {
-    ghost use Rattle.dir_tree.specs.Trees.{most_entries, has_name, entry_of, put_entry};
-    ghost use Rattle.dir_tree.specs.Refusals.{lacks_superior, insert_refusal};
+    ghost use Rattle.dir_tree.specs.Trees.{most_entries, has_name, lacks_superior};
+    ghost use Rattle.dir_tree.specs.Numbered.{entries_of, entry_of, put_entry};
+    ghost use Rattle.dir_tree.specs.Refusals.{insert_refusal};
     ghost use Rattle.dir_tree.specs.Places.{place_of};
 
     /// Puts the entry in, and gives the number by which it is known: one that is not in use. Its name shares memory
@@ -29,10 +30,10 @@ impl Tree {
         ensures ok { IfOk result (λ no. self.new ≡ put_entry no.0 entry self.old) }
         ensures fits { IfOk result (λ no. no.0 < most_entries) }
         ensures free { IfOk result (λ no. entry_of no.0 self.old ≡ None) }
-        ensures exact { OnOk result (insert_refusal entry.name self.old ≡ None) }
+        ensures exact { OnOk result (insert_refusal entry.name (entries_of self.old) ≡ None) }
         // Want of memory may come before the other causes.
         ensures cause { IfErr result (λ refusal. (refusal ≡ InsertRefusal.NoMemory)
-            ⊎ (insert_refusal entry.name self.old ≡ Some refusal)) }
+            ⊎ (insert_refusal entry.name (entries_of self.old) ≡ Some refusal)) }
         ensures kept { OnErr result (self.new ≡ self.old) }
     {
         if let Some(refusal) = self.insert_refusal(entry.name()) {
@@ -50,7 +51,7 @@ impl Tree {
 
     // Why an entry of the name is not put in.
     fn insert_refusal(&self, name: &Dn) -> Option<InsertRefusal>
-        ensures exact { result ≡ insert_refusal name.now self.now }
+        ensures exact { result ≡ insert_refusal name.now (entries_of self.now) }
     {
         if self.has_name(name, name.len()) {
             Some(InsertRefusal::NameTaken)
@@ -65,14 +66,14 @@ impl Tree {
 
     // Whether the tree has entries, and the superior of the name is none of them.
     fn lacks_superior(&self, name: &Dn) -> bool
-        ensures exact { result ≡ lacks_superior name.now self.now }
+        ensures exact { result ≡ lacks_superior name.now (entries_of self.now) }
     {
         self.len() > 0 && !self.has_name(name, name.len().saturating_sub(1))
     }
 
     // Whether an entry has the first RDNs of the name.
     fn has_name(&self, name: &Dn, len: usize) -> bool
-        ensures exact { result ≡ has_name (take len name.now) self.now }
+        ensures exact { result ≡ has_name (take len name.now) (entries_of self.now) }
     {
         self.search(name, len).is_some()
     }
@@ -91,7 +92,7 @@ impl Tree {
 
     // Puts the entry, which is not refused, in at its place.
     fn put_in(&mut self, place: usize, entry: Entry) -> Result<EntryNo, AllocError>
-        requires allowed { insert_refusal entry.name self.old ≡ None }
+        requires allowed { insert_refusal entry.name (entries_of self.old) ≡ None }
         requires named { entry.name ≢ [] }
         requires placed { place ≡ place_of entry.name self.old }
         ensures ok { IfOk result (λ no. self.new ≡ put_entry no.0 entry self.old) }

@@ -10,7 +10,8 @@ use crate::tree::Tree;
 use dn_names::{Dn, compare_front};
 
 impl Tree {
-    ghost use Rattle.dir_tree.specs.Trees.{most_entries, entry_of, find_name};
+    ghost use Rattle.dir_tree.specs.Trees.{most_entries};
+    ghost use Rattle.dir_tree.specs.Numbered.{entries_of, entry_of, find_name};
     ghost use Rattle.dir_tree.specs.Places.{place_of, end_of, no_row};
     ghost use Rattle.dir_tree.specs.Slots.{IsOrderedTree};
 
@@ -18,7 +19,7 @@ impl Tree {
     pub(crate) fn count(&self) -> usize
         ensures exact { result ≡ length self.now }
         ensures fits { length self.now ≤ most_entries }
-        ensures ordered { IsOrderedTree self.now }
+        ensures ordered { IsOrderedTree (entries_of self.now) }
     {
         self.order.len()
     }
@@ -47,7 +48,7 @@ impl Tree {
         ensures exact { result ≡ place_of (take len name.now) self.now }
         ensures found { result ≤ length self.now }
         ensures fits { length self.now ≤ most_entries }
-        ensures ordered { IsOrderedTree self.now }
+        ensures ordered { IsOrderedTree (entries_of self.now) }
     {
         let mut low = 0;
         let mut high = self.count();
@@ -68,7 +69,7 @@ impl Tree {
         ensures exact { result ≡ place_of entry.now.name self.now }
         ensures found { result < length self.now }
         ensures fits { length self.now ≤ most_entries }
-        ensures ordered { IsOrderedTree self.now }
+        ensures ordered { IsOrderedTree (entries_of self.now) }
     {
         self.place_of(entry.name(), entry.name().len())
     }
@@ -94,7 +95,7 @@ impl Tree {
     /// The number of the entry that the front of the name names, a front of `len` RDNs.
     pub(crate) fn search(&self, name: &Dn, len: usize) -> Option<EntryNo>
         ensures exact { option_map (λ no. no.0) result ≡ find_name (take len name.now) self.now }
-        ensures ordered { IsOrderedTree self.now }
+        ensures ordered { IsOrderedTree (entries_of self.now) }
     {
         let place = self.place_of(name, len);
         if place == self.count() {

@@ -10,7 +10,8 @@ use crate::slots::take_entry;
 use crate::tree::Tree;
 
 impl Tree {
-    ghost use Rattle.dir_tree.specs.Trees.{entry_of, without, has_below};
+    ghost use Rattle.dir_tree.specs.Trees.{has_below};
+    ghost use Rattle.dir_tree.specs.Numbered.{entries_of, entry_of, without};
     ghost use Rattle.dir_tree.specs.Refusals.{remove_refusal};
 
     /// Takes the entry of the number out, which then is not in use. Takes no memory.
@@ -51,7 +52,7 @@ impl Tree {
     /// Whether an entry stands below the entry of the number.
     pub(crate) fn has_below(&self, no: EntryNo, entry: &Entry) -> bool
         requires { entry_of no.0 self.now ≡ Some entry.now }
-        ensures exact { result ≡ has_below entry.now.name self.now }
+        ensures exact { result ≡ has_below entry.now.name (entries_of self.now) }
     {
         let place = self.own_place(no, entry);
         self.end_of(entry.name()) > place + 1

@@ -14,7 +14,8 @@ use crate::tree::Tree;
 use dn_names::{Dn, same};
 
 impl Tree {
-    ghost use Rattle.dir_tree.specs.Trees.{entry_of, has_name, has_below, without, put_entry};
+    ghost use Rattle.dir_tree.specs.Trees.{has_name, has_below};
+    ghost use Rattle.dir_tree.specs.Numbered.{entries_of, entry_of, without, put_entry};
     ghost use Rattle.dir_tree.specs.Refusals.{refusal_in_place, replace_refusal};
     ghost use Rattle.dir_tree.specs.Places.{place_of};
 
@@ -78,7 +79,7 @@ impl Tree {
 
     // Whether an entry other than that of the number has the name.
     fn is_taken(&self, no: EntryNo, name: &Dn) -> bool
-        ensures exact { result ≡ has_name name.now (without no.0 self.now) }
+        ensures exact { result ≡ has_name name.now (entries_of (without no.0 self.now)) }
     {
         match self.search(name, name.len()) {
             Some(other) => other.0 != no.0,
@@ -90,7 +91,7 @@ impl Tree {
     fn takes_along(&self, no: EntryNo, name: &Dn, old: &Entry) -> bool
         requires { entry_of no.0 self.now ≡ Some old.now }
         ensures exact { result
-            ≡ (not (is_same name.now old.now.name) && has_below old.now.name self.now) }
+            ≡ (not (is_same name.now old.now.name) && has_below old.now.name (entries_of self.now)) }
     {
         !same(name, old.name()) && self.has_below(no, old)
     }

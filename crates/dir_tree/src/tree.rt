@@ -22,7 +22,7 @@ pub struct Tree {
 
 impl Model for Tree {
     ghost use Rattle.std.specs.Prelude.{List};
-    ghost use Rattle.dir_tree.specs.Trees.{Numbered};
+    ghost use Rattle.dir_tree.specs.Numbered.{Numbered};
     ghost use Rattle.dir_tree.specs.Slots.{rows_of, IsCounted};
 
     ghost Value = { List Numbered };
@@ -34,7 +34,7 @@ impl Model for Tree {
 
 impl Tree {
     ghost use Rattle.dir_tree.specs.Points.{access_subentries};
-    ghost use Rattle.dir_tree.specs.Trees.{IsTree, entries_of, entry_of, suffix_of, find_name, find_front, superior_of};
+    ghost use Rattle.dir_tree.specs.Numbered.{IsNumberedTree, entries_of, entry_of, suffix_of, find_name, find_front, superior_of};
 
     /// A tree without entries. Takes no memory.
     pub fn new(alloc: Global) -> Tree
@@ -50,7 +50,7 @@ impl Tree {
 
     /// Computes nothing: what it ensures is the law that the entries are those of a tree.
     pub fn entries_form_a_tree(&self)
-        ensures exact { IsTree self.now }
+        ensures exact { IsNumberedTree self.now }
     {
         let _order = &self.order;
     }

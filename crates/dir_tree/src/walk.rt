@@ -52,7 +52,8 @@ impl<'a> Iterator for Walk<'a> {
 }
 
 impl Tree {
-    ghost use Rattle.dir_tree.specs.Trees.{most_entries, entry_of};
+    ghost use Rattle.dir_tree.specs.Trees.{most_entries};
+    ghost use Rattle.dir_tree.specs.Numbered.{entry_of};
     ghost use Rattle.dir_tree.specs.Scopes.{in_scope, scoped};
     ghost use Rattle.dir_tree.specs.Places.{no_row};
 
