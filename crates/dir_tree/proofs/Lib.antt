@@ -21,5 +21,6 @@ pub mod FrontLemmas
 pub mod ReplaceLemmas
 pub mod TreeLemmas
 pub mod TreeExamples
+pub mod StayLaws
 pub mod TreeLaws
 pub mod TreeTheorems

@@ -2,7 +2,7 @@
 use Rattle.std.proofs.Common.{◌≡◌, ℕ, List, [], ◌∷◌, Some, None, refl}
 use Rattle.dn_names.specs.Names.{TypeAndValue, RdnSequence}
 use Rattle.dn_names.specs.NameOrder.{name_cmp, is_same, is_prefix_of}
-use Rattle.dir_tree.specs.Trees.{Numbered, find_name, find_front, suffix_of, superior_of, put_row, without}
+use Rattle.dir_tree.specs.Numbered.{Numbered, entries_of, find_name, find_front, suffix_of, superior_of, put_row, without}
 use Rattle.dir_tree.specs.Scopes.{scoped}
 use Rattle.dir_tree.specs.declared.scope.Scope.TheVariants.{Base, One, Sub}
 use Rattle.dir_tree.specs.Refusals.{insert_refusal, remove_refusal, replace_refusal}
@@ -85,11 +85,11 @@ sub = refl
 none_of_no_number : scoped Sub 7 rows ≡ []
 none_of_no_number = refl
 
-taken : insert_refusal c' rows ≡ Some inserting.NameTaken
+taken : insert_refusal c' (entries_of rows) ≡ Some inserting.NameTaken
 unfolding name_cmp is_same
 taken = refl
 
-no_superior : insert_refusal (rdn 98 98 ∷ rdn 97 97 ∷ []) rows ≡ Some inserting.NoSuperior
+no_superior : insert_refusal (rdn 98 98 ∷ rdn 97 97 ∷ []) (entries_of rows) ≡ Some inserting.NoSuperior
 unfolding name_cmp is_same
 no_superior = refl
 

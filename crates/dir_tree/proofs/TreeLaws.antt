@@ -6,43 +6,47 @@ use Rattle.std.specs.Option.{option_map, option_and_then}
 use Rattle.std.specs.Ordering.{is_lt}
 use Rattle.std.specs.declared.cmp.Ordering.TheVariants.{Less}
 use Rattle.std.proofs.lemmas.Bool.{cases_Bool, cond-true, cond-false, eqb-true, eqb-false, ne_eqb, eq-eqb, or_left, or_cases, and_right, false_from_ne_true}
+use Rattle.std.proofs.lemmas.Option.{same_Some}
 use Rattle.std.proofs.lemmas.List.{take_all, take-take, length-take-le}
 use Rattle.dn_names.specs.Names.{RdnSequence}
 use Rattle.dn_names.specs.NameOrder.{name_cmp, is_same, is_prefix_of}
 use Rattle.dir_tree.specs.Entries.{EntryInformation}
-use Rattle.dir_tree.specs.Trees.{Numbered, ids_of, is_named, is_before, has_name, find_name, superior_name, entry_of, suffix_of, superior_of, put_row, without, IsInOrder, AreDistinct, IsTree}
+use Rattle.dir_tree.specs.Trees.{is_named, is_before, has_name, named_in, superior_name, put_in, taken_out, IsInOrder}
+use Rattle.dir_tree.specs.Numbered.{Numbered, ids_of, entries_of, find_name, entry_of, entries_at, suffix_of, superior_of, put_row, without, AreDistinct, IsNumberedTree}
 use Rattle.dir_tree.specs.Scopes.{is_within, is_child, in_scope, scoped, is_number, is_superior}
 use Rattle.dir_tree.specs.declared.scope.Scope.TheVariants.{One, Sub}
 use Rattle.dir_tree.proofs.NameLemmas.{same_itself, same_like, before_not_same, superior_before, same-superior, length-same}
-use Rattle.dir_tree.proofs.NumberedLemmas.{find_none, found_row, found_later, all_known, put_row-without, keep_all}
-use Rattle.dir_tree.proofs.RootLemmas.{has_name_like, named_filled}
+use Rattle.dir_tree.proofs.NumberedLemmas.{find_none, found_row, found_later, all_known_entry, put_row-without, keep_all, entries_of-others}
+use Rattle.dir_tree.proofs.OrderLemmas.{taken_out-put_in}
+use Rattle.dir_tree.proofs.RootLemmas.{absent_from_sorted}
+use Rattle.dir_tree.proofs.StayLaws.{all_under_suffix}
 use Rattle.dir_tree.proofs.KeptLemmas.{has_name-find}
 
 -- the suffix has no superior
-suffix_alone : (first : Numbered) (rows : List Numbered) → IsTree (first ∷ rows) → superior_of first.id (first ∷ rows) ≡ None
+suffix_alone : (first : Numbered) (rows : List Numbered) → IsNumberedTree (first ∷ rows) → superior_of first.id (first ∷ rows) ≡ None
 suffix_alone first rows tree =
-    let before = superior_before first.entry.name tree.named.0 in
-    let none = find_none (superior_name first.entry.name) first rows before tree.sorted.0 in
+    let before = superior_before first.entry.name tree.tree.named.0 in
+    let none = find_none (superior_name first.entry.name) first rows before tree.tree.sorted.0 in
     rw (eq-eqb first.id first.id refl, before_not_same (superior_name first.entry.name) first.entry.name before, none) refl
 
-pub superior_of-suffix : (id : ℕ) (rows : List Numbered) → IsTree rows → suffix_of rows ≡ Some id → superior_of id rows ≡ None
+pub superior_of-suffix : (id : ℕ) (rows : List Numbered) → IsNumberedTree rows → suffix_of rows ≡ Some id → superior_of id rows ≡ None
 superior_of-suffix id [] tree e = absurd cc
 superior_of-suffix id (first ∷ rows) tree e =
     let is : first.id ≡ id = cc in
     subst (λ (n : ℕ). superior_of n (first ∷ rows) ≡ None) is (suffix_alone first rows tree)
 
 -- each other entry has one
-pub superior_of-others : (id : ℕ) (entry : EntryInformation) (rows : List Numbered) → IsTree rows → entry_of id rows ≡ Some entry → suffix_of rows ≢ Some id → IsSome (superior_of id rows)
+pub superior_of-others : (id : ℕ) (entry : EntryInformation) (rows : List Numbered) → IsNumberedTree rows → entry_of id rows ≡ Some entry → suffix_of rows ≢ Some id → IsSome (superior_of id rows)
 superior_of-others id entry [] tree known other = absurd cc
 superior_of-others id entry (first ∷ rows) tree known other =
     let differs : (first.id == id) ≡ false = ne_eqb first.id id (λ e. other (ap Some e)) in
     let later = found_later id entry first rows differs known in
-    let under : has_name (superior_name entry.name) (first ∷ rows) ≡ true = all_known (λ row. has_name (superior_name row.entry.name) (first ∷ rows) ≡ true) id entry rows tree.rooted later in
+    let under : has_name (superior_name entry.name) (entries_of (first ∷ rows)) ≡ true = all_known_entry (λ later. has_name (superior_name later.name) (entries_of (first ∷ rows)) ≡ true) id entry rows tree.tree.rooted later in
     let found : is_some (find_name (superior_name entry.name) (first ∷ rows)) ≡ true = sym (has_name-find (superior_name entry.name) (first ∷ rows)) ∙ under in
     ap (λ (o : Option EntryInformation). is_some (option_and_then (λ e. find_name (superior_name e.name) (first ∷ rows)) o)) known ∙ found
 
 -- each row's number is that of its entry
-own_entries : (rows : List Numbered) → AreDistinct rows → AllByRecursion (λ row. entry_of row.id rows ≡ Some row.entry) rows
+pub own_entries : (rows : List Numbered) → AreDistinct rows → AllByRecursion (λ row. entry_of row.id rows ≡ Some row.entry) rows
 own_entries [] d = tt
 own_entries (x ∷ rows) d = (rw (eq-eqb x.id x.id refl) refl, further rows d.0 (own_entries rows d.1))
   where
@@ -53,16 +57,16 @@ own_entries (x ∷ rows) d = (rw (eq-eqb x.id x.id refl) refl, further rows d.0 
 -- the number found for a name is another's where the number's entry has another name
 not_found : (id : ℕ) (name : RdnSequence) (rows : List Numbered) → AllByRecursion (λ later. later.id ≢ id) rows → is_number id (find_name name rows) ≡ false
 not_found id name [] h = refl
-not_found id name (x ∷ rows) h = elim (cases_Bool (is_named name x)) [
+not_found id name (x ∷ rows) h = elim (cases_Bool (is_named name x.entry)) [
   | inl e ↦ rw e (ne_eqb x.id id h.0)
   | inr e ↦ rw e (not_found id name rows h.1)
 ]
 
-found_is : (id : ℕ) (base : EntryInformation) (name : RdnSequence) (rows : List Numbered) → IsInOrder rows → AreDistinct rows → entry_of id rows ≡ Some base → is_number id (find_name name rows) ≡ is_same name base.name
+found_is : (id : ℕ) (base : EntryInformation) (name : RdnSequence) (rows : List Numbered) → IsInOrder (entries_of rows) → AreDistinct rows → entry_of id rows ≡ Some base → is_number id (find_name name rows) ≡ is_same name base.name
 found_is id base name [] o d f = absurd cc
-found_is id base name (x ∷ rows) o d f = by (cases_Bool (x.id == id)) (cases_Bool (is_named name x)) (found_is id base name rows o.1 d.1)
+found_is id base name (x ∷ rows) o d f = by (cases_Bool (x.id == id)) (cases_Bool (is_named name x.entry)) (found_is id base name rows o.1 d.1)
   where
-    by : (((x.id == id) ≡ true) ⊎ ((x.id == id) ≡ false)) → ((is_named name x ≡ true) ⊎ (is_named name x ≡ false)) → (entry_of id rows ≡ Some base → is_number id (find_name name rows) ≡ is_same name base.name) → is_number id (find_name name (x ∷ rows)) ≡ is_same name base.name
+    by : (((x.id == id) ≡ true) ⊎ ((x.id == id) ≡ false)) → ((is_named name x.entry ≡ true) ⊎ (is_named name x.entry ≡ false)) → (entry_of id rows ≡ Some base → is_number id (find_name name rows) ≡ is_same name base.name) → is_number id (find_name name (x ∷ rows)) ≡ is_same name base.name
     by (inl e) (inl g) later =
         let same : x.entry.name ≡ base.name = ap (λ (row : Numbered). row.entry.name) (found_row id base x rows e f) in
         rw g (e ∙ sym g ∙ ap (is_same name) same)
@@ -72,34 +76,34 @@ found_is id base name (x ∷ rows) o d f = by (cases_Bool (x.id == id)) (cases_B
         rw g (not_found id name rows others ∙ sym g ∙ ap (is_same name) same)
     by (inr e) (inl g) later =
         let known = found_later id base x rows e f in
-        let before : is_before x.entry.name base.name ≡ true = ap is_lt (all_known (λ later. name_cmp x.entry.name later.entry.name ≡ Less) id base rows o.0 known) in
+        let before : is_before x.entry.name base.name ≡ true = ap is_lt (all_known_entry (λ later. name_cmp x.entry.name later.name ≡ Less) id base rows o.0 known) in
         rw g (e ∙ sym (same_like name x.entry.name base.name g ∙ before_not_same x.entry.name base.name before))
     by (inr e) (inr g) later = rw g (later (found_later id base x rows e f))
 
 -- immediately below a name stands what has the name for its superior's
-child_is : (base : RdnSequence) (row : Numbered) → row.entry.name ≢ [] → is_child base row ≡ is_same (superior_name row.entry.name) base
+child_is : (base : RdnSequence) (entry : EntryInformation) → entry.name ≢ [] → is_child base entry ≡ is_same (superior_name entry.name) base
 unfolding is_prefix_of
-child_is base row filled = by (cases_Bool (length row.entry.name == length base + 1))
+child_is base entry filled = by (cases_Bool (length entry.name == length base + 1))
   where
     not_empty : (name : RdnSequence) → name ≢ [] → 0 < length name
     not_empty [] h = absurd (h refl)
     not_empty (r ∷ rs) h = omega arith
 
-    by : (((length row.entry.name == length base + 1) ≡ true) ⊎ ((length row.entry.name == length base + 1) ≡ false)) → is_child base row ≡ is_same (superior_name row.entry.name) base
+    by : (((length entry.name == length base + 1) ≡ true) ⊎ ((length entry.name == length base + 1) ≡ false)) → is_child base entry ≡ is_same (superior_name entry.name) base
     by (inl e) =
-        let long = eqb-true (length row.entry.name) (length base + 1) e in
-        let less : length base ≡ length row.entry.name - 1 = omega arith in
-        rw e (and_true (is_same (take (length base) row.entry.name) base) ∙ ap (λ (n : ℕ). is_same (take n row.entry.name) base) less)
+        let long = eqb-true (length entry.name) (length base + 1) e in
+        let less : length base ≡ length entry.name - 1 = omega arith in
+        rw e (and_true (is_same (take (length base) entry.name) base) ∙ ap (λ (n : ℕ). is_same (take n entry.name) base) less)
       where
         and_true : (b : Bool) → (b && true) ≡ b
         and_true true = refl
         and_true false = refl
     by (inr e) =
-        let other = eqb-false (length row.entry.name) (length base + 1) e in
-        let some = not_empty row.entry.name filled in
-        and_right (is_same (take (length base) row.entry.name) base) (length row.entry.name == length base + 1) e
-        ∙ sym (false_from_ne_true (is_same (superior_name row.entry.name) base) (λ f.
-        other (omega (arith, length-same (superior_name row.entry.name) base f, length-take-le (length row.entry.name - 1) row.entry.name (omega arith), some))))
+        let other = eqb-false (length entry.name) (length base + 1) e in
+        let some = not_empty entry.name filled in
+        and_right (is_same (take (length base) entry.name) base) (length entry.name == length base + 1) e
+        ∙ sym (false_from_ne_true (is_same (superior_name entry.name) base) (λ f.
+        other (omega (arith, length-same (superior_name entry.name) base f, length-take-le (length entry.name - 1) entry.name (omega arith), some))))
 
 filter_like_all : (test other : Numbered → Bool) (rows : List Numbered) → AllByRecursion (λ row. test row ≡ other row) rows → filter test rows ≡ filter other rows
 filter_like_all test other [] h = refl
@@ -132,8 +136,13 @@ no_superior_of : (id : ℕ) (rows : List Numbered) → AllByRecursion (λ row. r
 no_superior_of id rows h None = refl
 no_superior_of id rows h (Some e) = not_found id (superior_name e.name) rows h
 
+-- no row is without a name where no entry is
+named_rows : (rows : List Numbered) → AllByRecursion (λ entry. entry.name ≢ []) (entries_of rows) → AllByRecursion (λ (row : Numbered). row.entry.name ≢ []) rows
+named_rows [] h = tt
+named_rows (x ∷ rows) h = (h.0, named_rows rows h.1)
+
 -- One takes in those whose superior it is
-pub scoped-One : (id : ℕ) (rows : List Numbered) → IsTree rows → scoped One id rows ≡ ids_of (filter (λ row. is_superior id row.id rows) rows)
+pub scoped-One : (id : ℕ) (rows : List Numbered) → IsNumberedTree rows → scoped One id rows ≡ ids_of (filter (λ row. is_superior id row.id rows) rows)
 scoped-One id rows tree = by (entry_of id rows) refl
   where
     by : (o : Option EntryInformation) → entry_of id rows ≡ o → scoped One id rows ≡ ids_of (filter (λ row. is_superior id row.id rows) rows)
@@ -142,81 +151,92 @@ scoped-One id rows tree = by (entry_of id rows) refl
         ∙ ap ids_of (sym (filter_none (λ row. is_superior id row.id rows) rows (all_true (λ row. is_superior id row.id rows ≡ false) (λ row. no_superior_of id rows (absent_id id rows e) (entry_of row.id rows)) rows)))
     by (Some base) e =
         ap (λ (o : Option EntryInformation). in_scope One id o rows) e
-        ∙ ap ids_of (filter_like_all (is_child base.name) (λ row. is_superior id row.id rows) rows
-        (all_both (λ row. entry_of row.id rows ≡ Some row.entry) (λ row. row.entry.name ≢ []) (λ row. is_child base.name row ≡ is_superior id row.id rows)
+        ∙ ap ids_of (filter_like_all (λ row. is_child base.name row.entry) (λ row. is_superior id row.id rows) rows
+        (all_both (λ row. entry_of row.id rows ≡ Some row.entry) (λ row. row.entry.name ≢ []) (λ row. is_child base.name row.entry ≡ is_superior id row.id rows)
         (λ row own filled.
-        child_is base.name row filled
-        ∙ sym (found_is id base (superior_name row.entry.name) rows tree.sorted tree.distinct e)
+        child_is base.name row.entry filled
+        ∙ sym (found_is id base (superior_name row.entry.name) rows tree.tree.sorted tree.distinct e)
         ∙ ap (λ (o : Option EntryInformation). is_number id (option_and_then (λ e. find_name (superior_name e.name) rows) o)) (sym own))
-        rows (own_entries rows tree.distinct) tree.named))
+        rows (own_entries rows tree.distinct) (named_rows rows tree.tree.named)))
 
--- what holds of some row of a name
-named_by : (P : Numbered → Type 0) (R : Type 0) (name : RdnSequence) → ((row : Numbered) → P row → is_same name row.entry.name ≡ true → R) → (rows : List Numbered) → AllByRecursion P rows → has_name name rows ≡ true → R
-named_by P R name f [] h e = absurd cc
-named_by P R name f (x ∷ rows) h e = elim (or_cases (is_named name x) (has_name name rows) e) [
-  | inl g ↦ f x h.0 g
-  | inr g ↦ named_by P R name f rows h.1 g
-]
-
-prefix_longer : (base name : RdnSequence) → is_prefix_of base (superior_name name) ≡ true → is_prefix_of base name ≡ true
-unfolding is_prefix_of
-prefix_longer base name e =
-    let long : length (superior_name name) ≡ length name - 1 = length-take-le (length name - 1) name (omega arith) in
-    let same : length (take (length base) (superior_name name)) ≡ length base = length-same (take (length base) (superior_name name)) base e in
-    let less : length base ≤ length name - 1 = omega (arith, same, long, length-take (length base) (superior_name name)) in
-    let front : take (length base) (superior_name name) ≡ take (length base) name = take-take (length base) (length name - 1) name less in
-    rw front at e
-
--- all entries are at or below the suffix
-module _ (first : Numbered) (rows : List Numbered) (tree : IsTree (first ∷ rows)) where
-  under_suffix : (most : ℕ) (name : RdnSequence) → length name ≤ most → has_name name (first ∷ rows) ≡ true → is_prefix_of first.entry.name name ≡ true
-  unfolding is_prefix_of
-  under_suffix zero name h e = absurd (named_filled name (first ∷ rows) tree.named e (nothing name h))
-    where
-      nothing : (other : RdnSequence) → length other ≤ 0 → other ≡ []
-      nothing [] k = refl
-      nothing (r ∷ rs) k = absurd (omega arith)
-  under_suffix (suc most) name h e = elim (or_cases (is_named name first) (has_name name rows) e) [
-    | inl g ↦ (
-        let long = length-same name first.entry.name g in
-        let whole : take (length first.entry.name) name ≡ name = take_all (length first.entry.name) name (omega arith) in
-        rw whole g)
-    | inr g ↦ prefix_longer first.entry.name name (under_suffix most (superior_name name) (shorter name h) (superior name g))
-  ]
-    where
-      shorter : (other : RdnSequence) → length other ≤ suc most → length (superior_name other) ≤ most
-      shorter other k = rw (length-take-le (length other - 1) other (omega arith)) (omega arith)
-
-      superior : (other : RdnSequence) → has_name other rows ≡ true → has_name (superior_name other) (first ∷ rows) ≡ true
-      superior other g = named_by (λ row. has_name (superior_name row.entry.name) (first ∷ rows) ≡ true) (has_name (superior_name other) (first ∷ rows) ≡ true) other
-          (λ row under same. has_name_like (superior_name other) (superior_name row.entry.name) (first ∷ rows) (same-superior other row.entry.name same) ∙ under) rows tree.rooted g
-
-  all_here : (part : List Numbered) → ((row : Numbered) → has_name row.entry.name part ≡ true → has_name row.entry.name (first ∷ rows) ≡ true) → AllByRecursion (λ row. is_within first.entry.name row ≡ true) part
-  all_here [] is = tt
-  all_here (row ∷ part) is = (
-    under_suffix (length row.entry.name) row.entry.name (omega arith) (is row (or_left (is_named row.entry.name row) (has_name row.entry.name part) (same_itself row.entry.name))),
-    all_here part (λ other h. is other (later (is_named other.entry.name row) (has_name other.entry.name part) h)),
-  )
-    where
-      later : (b c : Bool) → c ≡ true → (b || c) ≡ true
-      later true c k = refl
-      later false c k = k
+-- from the suffix on all are taken in
+within_rows : (base : RdnSequence) (rows : List Numbered) → AllByRecursion (λ entry. is_within base entry ≡ true) (entries_of rows) → AllByRecursion (λ (row : Numbered). is_within base row.entry ≡ true) rows
+within_rows base [] h = tt
+within_rows base (x ∷ rows) h = (h.0, within_rows base rows h.1)
 
 keep_whole : (test : Numbered → Bool) (rows : List Numbered) → AllByRecursion (λ row. test row ≡ true) rows → filter test rows ≡ rows
 keep_whole test [] h = refl
 keep_whole test (x ∷ rows) h = rw h.0 (ap (λ (xs : List Numbered). x ∷ xs) (keep_whole test rows h.1))
 
-pub scoped-Sub : (id : ℕ) (rows : List Numbered) → IsTree rows → suffix_of rows ≡ Some id → scoped Sub id rows ≡ ids_of rows
+pub scoped-Sub : (id : ℕ) (rows : List Numbered) → IsNumberedTree rows → suffix_of rows ≡ Some id → scoped Sub id rows ≡ ids_of rows
 scoped-Sub id [] tree e = absurd cc
 scoped-Sub id (first ∷ rows) tree e =
     let is : first.id ≡ id = cc in
     let known : entry_of id (first ∷ rows) ≡ Some first.entry = rw (eq-eqb first.id id is) refl in
     ap (λ (o : Option EntryInformation). in_scope Sub id o (first ∷ rows)) known
-    ∙ ap ids_of (keep_whole (is_within first.entry.name) (first ∷ rows) (all_here first rows tree (first ∷ rows) (λ row h. h)))
+    ∙ ap ids_of (keep_whole (λ row. is_within first.entry.name row.entry) (first ∷ rows) (within_rows first.entry.name (first ∷ rows) (all_under_suffix first.entry (entries_of rows) tree.tree)))
+
+-- the entries of the numbers of rows that are kept are those that are kept
+entries_at-more : (x : Numbered) (rows : List Numbered) (ids : List ℕ) → AllByRecursion (λ id. id ≢ x.id) ids → entries_at (x ∷ rows) ids ≡ entries_at rows ids
+entries_at-more x rows [] h = refl
+entries_at-more x rows (id ∷ ids) h = rw (ne_eqb x.id id (λ e. h.0 (sym e)), entries_at-more x rows ids h.1) refl
+
+kept_apart : (test : Numbered → Bool) (id : ℕ) (rows : List Numbered) → AllByRecursion (λ later. later.id ≢ id) rows → AllByRecursion (λ other. other ≢ id) (ids_of (filter test rows))
+kept_apart test id [] h = tt
+kept_apart test id (x ∷ rows) h = elim (cases_Bool (test x)) [
+  | inl e ↦ rw e (h.0, kept_apart test id rows h.1)
+  | inr e ↦ rw e (kept_apart test id rows h.1)
+]
+
+pub entries_at-kept : (test : EntryInformation → Bool) (rows : List Numbered) → AreDistinct rows → entries_at rows (ids_of (filter (λ row. test row.entry) rows)) ≡ filter test (entries_of rows)
+entries_at-kept test [] d = refl
+entries_at-kept test (x ∷ rows) d =
+    let rest : List ℕ = ids_of (filter (λ row. test row.entry) rows) in
+    let more : entries_at (x ∷ rows) rest ≡ filter test (entries_of rows) =
+    entries_at-more x rows rest (kept_apart (λ row. test row.entry) x.id rows d.0) ∙ entries_at-kept test rows d.1 in
+    elim (cases_Bool (test x.entry)) [
+      | inl e ↦ rw (e, eq-eqb x.id x.id refl) (ap (λ (xs : List EntryInformation). x.entry ∷ xs) more)
+      | inr e ↦ rw e more
+    ]
+
+-- so of a scope
+pub scoped-One-entries : (id : ℕ) (base : EntryInformation) (rows : List Numbered) → IsNumberedTree rows → entry_of id rows ≡ Some base → entries_at rows (scoped One id rows) ≡ filter (is_child base.name) (entries_of rows)
+scoped-One-entries id base rows tree known =
+    ap (λ (o : Option EntryInformation). entries_at rows (in_scope One id o rows)) known ∙ entries_at-kept (is_child base.name) rows tree.distinct
+
+pub scoped-Sub-entries : (id : ℕ) (base : EntryInformation) (rows : List Numbered) → IsNumberedTree rows → entry_of id rows ≡ Some base → entries_at rows (scoped Sub id rows) ≡ filter (is_within base.name) (entries_of rows)
+scoped-Sub-entries id base rows tree known =
+    ap (λ (o : Option EntryInformation). entries_at rows (in_scope Sub id o rows)) known ∙ entries_at-kept (is_within base.name) rows tree.distinct
+
+-- the number that is found for a name is that of its entry
+pub entry_of-found : (name : RdnSequence) (rows : List Numbered) → AreDistinct rows → option_and_then (λ id. entry_of id rows) (find_name name rows) ≡ named_in name (entries_of rows)
+entry_of-found name [] d = refl
+entry_of-found name (x ∷ rows) d = elim (cases_Bool (is_named name x.entry)) [
+  | inl e ↦ rw (e, eq-eqb x.id x.id refl) refl
+  | inr e ↦ rw e (further (find_name name rows) (other_number name x.id rows d.0) ∙ entry_of-found name rows d.1)
+]
+  where
+    other_number : (n : RdnSequence) (number : ℕ) (part : List Numbered) → AllByRecursion (λ later. later.id ≢ number) part → (id : ℕ) → find_name n part ≡ Some id → id ≢ number
+    other_number n number [] h id f = absurd cc
+    other_number n number (y ∷ part) h id f = elim (cases_Bool (is_named n y.entry)) [
+      | inl g ↦ (let is = same_Some y.id id (sym (ap (option_map (λ (row : Numbered). row.id)) (cond-true (is_named n y.entry) (Some y) (find (λ row. is_named n row.entry) part) g)) ∙ f) in λ e. h.0 (is ∙ e))
+      | inr g ↦ other_number n number part h.1 id (sym (ap (option_map (λ (row : Numbered). row.id)) (cond-false (is_named n y.entry) (Some y) (find (λ row. is_named n row.entry) part) g)) ∙ f)
+    ]
+
+    further : (found : Option ℕ) → ((id : ℕ) → found ≡ Some id → id ≢ x.id) → option_and_then (λ id. entry_of id (x ∷ rows)) found ≡ option_and_then (λ id. entry_of id rows) found
+    further None h = refl
+    further (Some id) h = rw (ne_eqb x.id id (λ e. h id refl (sym e))) refl
 
 -- put in again, and taken out again
-pub put_row-taken : (id : ℕ) (entry : EntryInformation) (rows : List Numbered) → IsTree rows → entry_of id rows ≡ Some entry → put_row (record { id = id; entry = entry }) (without id rows) ≡ rows
-put_row-taken id entry rows tree known = put_row-without id entry rows tree.sorted tree.distinct known
+pub put_row-taken : (id : ℕ) (entry : EntryInformation) (rows : List Numbered) → IsNumberedTree rows → entry_of id rows ≡ Some entry → put_row (record { id = id; entry = entry }) (without id rows) ≡ rows
+put_row-taken id entry rows tree known = put_row-without id entry rows tree.tree.sorted tree.distinct known
+
+-- without the row of a number the entries are those of other names
+pub entries_of-without : (id : ℕ) (entry : EntryInformation) (rows : List Numbered) → IsNumberedTree rows → entry_of id rows ≡ Some entry → entries_of (without id rows) ≡ taken_out entry.name (entries_of rows)
+entries_of-without id entry rows tree known =
+    let back = entries_of-others id entry rows tree.tree.sorted tree.distinct known in
+    let order : IsInOrder (put_in entry (entries_of (without id rows))) = rw back tree.tree.sorted in
+    sym (taken_out-put_in entry (entries_of (without id rows)) (absent_from_sorted entry (entries_of (without id rows)) order)) ∙ ap (taken_out entry.name) back
 
 without-put : (id : ℕ) (entry : EntryInformation) (rows : List Numbered) → AllByRecursion (λ row. row.id ≢ id) rows → without id (put_row (record { id = id; entry = entry }) rows) ≡ rows
 without-put id entry [] h = rw (eq-eqb id id refl) refl

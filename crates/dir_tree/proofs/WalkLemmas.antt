@@ -110,6 +110,10 @@ any-filter test (x ∷ rows) = by (test x) (any-filter test rows)
     by true later = sym (lt-ltb 0 (suc (length (filter test rows))) (omega arith))
     by false later = later
 
+any_entries : (test : EntryInformation → Bool) (rows : List Numbered) → list_any test (entries_of rows) ≡ list_any (λ (row : Numbered). test row.entry) rows
+any_entries test [] = refl
+any_entries test (x ∷ rows) = ap (λ (b : Bool). test x.entry || b) (any_entries test rows)
+
 shifted : (a b : ℕ) → nat_lt 0 (b - suc a) ≡ nat_lt (a + 1) b
 shifted a b = elim (cases_lt (a + 1) b) [
   | inl h ↦ lt-ltb 0 (b - suc a) (omega arith) ∙ sym (lt-ltb (a + 1) b h)
@@ -119,7 +123,8 @@ shifted a b = elim (cases_lt (a + 1) b) [
 pub has_below-end : (id : ℕ) (entry : EntryInformation) (rows : List Numbered) → IsInOrder (entries_of rows) → entry_of id rows ≡ Some entry → has_below entry.name (entries_of rows) ≡ nat_lt (place_of entry.name rows + 1) (end_of entry.name rows)
 unfolding end_of
 has_below-end id entry rows o known =
-    any-filter (λ row. is_below entry.name row.entry.name) rows
+    any_entries (λ other. is_below entry.name other.name) rows
+    ∙ any-filter (λ row. is_below entry.name row.entry.name) rows
     ∙ ap (λ (xs : List Numbered). nat_lt 0 (length xs)) (
     filter_like (λ row. is_below entry.name row.entry.name) (λ row. not (not (is_before entry.name row.entry.name)) && stands_within entry.name row) (λ row. below_between entry.name row.entry.name) rows
     ∙ filter_between (λ row. not (is_before entry.name row.entry.name)) (stands_within entry.name) (stands_upto_down entry.name) (stands_within_down entry.name) rows o

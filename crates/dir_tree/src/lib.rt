@@ -30,6 +30,7 @@ pub use refusals::{InsertRefusal, RemoveRefusal, ReplaceRefusal};
 pub use scope::Scope;
 pub use tree::Tree;
 pub use tree_laws::{
-    all_but_the_suffix_have_superiors, putting_in_undoes_taking_out, scopes_take_in_what_is_below,
+    a_change_leaves_a_tree, all_but_the_suffix_have_superiors, entries_change_as_rows_do,
+    numbers_stand_for_entries, putting_in_undoes_taking_out, scopes_take_in_what_is_below,
 };
 pub use walk::Walk;

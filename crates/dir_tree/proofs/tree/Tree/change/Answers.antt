@@ -1,6 +1,6 @@
 -- The number moves to its place, and its slot takes the entry.
 use Rattle.std.proofs.Common.{ap, ◌∙◌, arith, ◌≡◌, Some, remove, insert, ℕ}
-use Rattle.dir_tree.specs.Trees.{entry_of, without}
+use Rattle.dir_tree.specs.Numbered.{entry_of, without}
 use Rattle.dir_tree.specs.Places.{place_of, place_without}
 use Rattle.dir_tree.specs.Slots.{rows_of}
 use Rattle.dir_tree.proofs.SlotLemmas.{entry_of-rows_of}

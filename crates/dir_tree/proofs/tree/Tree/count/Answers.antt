@@ -1,6 +1,6 @@
 -- No more numbers than slots.
 use Rattle.std.proofs.Common.{List, ◌≤◌, length, subst}
-use Rattle.dir_tree.specs.Trees.{Numbered}
+use Rattle.dir_tree.specs.Numbered.{Numbered}
 use Rattle.dir_tree.proofs.SlotLemmas.{rows_fit}
 use Rattle.dir_tree.proofs.tree.Tree.count.Goals as goal
 

@@ -1,10 +1,11 @@
 -- What is kept is a tree.
 use Rattle.std.proofs.Common.{List, subst}
-use Rattle.dir_tree.specs.Trees.{Numbered, IsTree}
+use Rattle.dir_tree.specs.Numbered.{Numbered, IsNumberedTree}
+
 use Rattle.dir_tree.proofs.TreeLemmas.{IsTree-kept}
 use Rattle.dir_tree.proofs.tree.Tree.entries_form_a_tree.Goals as goal
 
 pub returns : goal.returns
 returns c = record {
-  exact = subst (λ (rows : List Numbered). IsTree rows) c.self.view_is (IsTree-kept c.self.inside.slots.items c.self.inside.order.items c.self.invariant.kept);
+  exact = subst (λ (rows : List Numbered). IsNumberedTree rows) c.self.view_is (IsTree-kept c.self.inside.slots.items c.self.inside.order.items c.self.invariant.kept);
 }

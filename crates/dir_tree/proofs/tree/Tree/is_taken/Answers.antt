@@ -1,7 +1,7 @@
 -- The number found is another, or none is.
 use Rattle.std.proofs.Common.{sym, ap, ◌∙◌, take, arith, ◌≡◌}
 use Rattle.dn_names.specs.Names.{RdnSequence}
-use Rattle.dir_tree.specs.Trees.{find_name}
+use Rattle.dir_tree.specs.Numbered.{find_name}
 use Rattle.std.proofs.lemmas.List.{take_all}
 use Rattle.dir_tree.proofs.ReplaceLemmas.{taken_by, has_name-without}
 use Rattle.dir_tree.proofs.tree.Tree.is_taken.Goals as goal

@@ -1,6 +1,7 @@
 -- The number goes out of its place, and the entry out of its slot.
 use Rattle.std.proofs.Common.{◌∙◌, arith, ◌≡◌, Some, false}
-use Rattle.dir_tree.specs.Trees.{entry_of, has_below}
+use Rattle.dir_tree.specs.Trees.{has_below}
+use Rattle.dir_tree.specs.Numbered.{entries_of, entry_of}
 use Rattle.dir_tree.specs.Places.{place_of}
 use Rattle.dir_tree.specs.Slots.{rows_of}
 use Rattle.dir_tree.proofs.SlotLemmas.{entry_of-rows_of}
@@ -26,7 +27,7 @@ pub invariant_of-self : goal.invariant_of-self
 invariant_of-self c =
     let known : entry_of c.args.no.0 (rows_of c.self.inside.slots.items c.self.inside.order.items) ≡ Some c.requires.entry = rw c.self.view_is c.requires.known in
     let placed : c.args.place ≡ place_of c.requires.entry.name (rows_of c.self.inside.slots.items c.self.inside.order.items) = rw c.self.view_is c.requires.placed in
-    let alone : has_below c.requires.entry.name (rows_of c.self.inside.slots.items c.self.inside.order.items) ≡ false = rw c.self.view_is c.requires.alone in
+    let alone : has_below c.requires.entry.name (entries_of (rows_of c.self.inside.slots.items c.self.inside.order.items)) ≡ false = rw c.self.view_is c.requires.alone in
     let beside = counts_beside _ _ _ c.self.invariant c.args.no.0 _ c.take_entry-entry.ensures.found in
     rw (c.take_entry-entry.ensures.exact, c.remove-number.ensures.items) (record {
       kept = kept_without c.self.inside.slots.items c.self.inside.order.items c.args.no.0 c.args.place c.requires.entry c.self.invariant.kept known placed alone;

@@ -1,7 +1,7 @@
 -- From the entry's own place, by the scope.
 use Rattle.std.proofs.Common.{ap, sym, ◌∙◌, arith, Option, ◌≡◌}
 use Rattle.dir_tree.specs.Entries.{EntryInformation}
-use Rattle.dir_tree.specs.Trees.{entry_of}
+use Rattle.dir_tree.specs.Numbered.{entry_of}
 use Rattle.dir_tree.specs.Scopes.{in_scope, scoped}
 use Rattle.dir_tree.specs.declared.scope.Scope.{Scope}
 use Rattle.dir_tree.specs.declared.scope.Scope.TheVariants.{Base, One, Sub}
