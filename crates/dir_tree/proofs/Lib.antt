@@ -1,6 +1,7 @@
 pub mod RowLemmas
 pub mod ChangeLemmas
 pub mod GoodLemmas
+pub mod SetLemmas
 pub mod ClassLemmas
 pub mod Examples
 pub mod ValuesLaws

@@ -201,3 +201,9 @@ below_superior base (rdn ∷ rdns) filled e =
     let as_long : length base ≡ length x - 1 = length-same base (superior_name x) e ∙ short in
     let front : is_same (take (length base) x) base ≡ true = rw as_long (same_back base (superior_name x) e) in
     and_from (is_same (take (length base) x) base) (nat_lt (length base) (length x)) front (lt-ltb (length base) (length x) (omega arith))
+
+-- the empty name comes before all others
+pub empty_before : (x : RdnSequence) → is_before [] x ≡ nat_lt 0 (length x)
+unfolding name_cmp
+empty_before [] = refl
+empty_before (rdn ∷ rdns) = sym (lt-ltb 0 (suc (length rdns)) (omega arith))

@@ -1,5 +1,5 @@
 -- What is kept is a tree.
-use Rattle.std.proofs.Common.{◌≡◌, ℕ, ◌<◌, ◌==◌, Bool, true, List, [], ◌∷◌, length, Option, refl, sym, ap, ◌∙◌, arith}
+use Rattle.std.proofs.Common.{◌≡◌, ℕ, ◌<◌, ◌≤◌, ◌==◌, Bool, true, List, [], ◌∷◌, length, Option, refl, sym, ap, ◌∙◌, arith}
 use Rattle.std.specs.List.{AllByRecursion, list_any}
 use Rattle.std.specs.Ordering.{is_lt}
 use Rattle.std.specs.declared.cmp.Ordering.TheVariants.{Less}
@@ -37,12 +37,18 @@ IsRooted-ordered (entry ∷ entries) ordered =
     superiors_of entry entries entries ordered.rooted (later_part entry entries (entry ∷ entries) (record { within = λ test h. h })) ordered.sorted.0
 
 -- each number in use is one of a slot
-numbers_fit : (slots : List (Option EntryInformation)) (order part : List ℕ) → IsKept slots order → ((id : ℕ) → has_id id part ≡ true → has_id id order ≡ true) → AllByRecursion (λ row. row.id < 200000) (rows_of slots part)
-numbers_fit slots order [] kept is = tt
-numbers_fit slots order (id ∷ part) kept is =
+numbers_within : (slots : List (Option EntryInformation)) (order part : List ℕ) → IsKept slots order → ((id : ℕ) → has_id id part ≡ true → has_id id order ≡ true) → AllByRecursion (λ row. row.id < length slots) (rows_of slots part)
+numbers_within slots order [] kept is = tt
+numbers_within slots order (id ∷ part) kept is =
     let used = is id (or_left (id == id) (has_id id part) (eq-eqb id id refl)) in
-    let within = full_within slots id (sym (kept.used id) ∙ used) in
-    (omega (arith, kept.within), numbers_fit slots order part kept (λ other h. is other (or_right (id == other) (has_id other part) h)))
+    (full_within slots id (sym (kept.used id) ∙ used), numbers_within slots order part kept (λ other h. is other (or_right (id == other) (has_id other part) h)))
+
+pub numbers_below : (slots : List (Option EntryInformation)) (order : List ℕ) → IsKept slots order → AllByRecursion (λ row. row.id < length slots) (rows_of slots order)
+numbers_below slots order kept = numbers_within slots order order kept (λ id h. h)
+
+numbers_fit : (most : ℕ) (rows : List Numbered) → most ≤ 200000 → AllByRecursion (λ row. row.id < most) rows → AllByRecursion (λ row. row.id < 200000) rows
+numbers_fit most [] less h = tt
+numbers_fit most (row ∷ rows) less h = (omega (arith, h.0), numbers_fit most rows less h.1)
 
 -- a tree is kept
 pub IsTree-kept : (slots : List (Option EntryInformation)) (order : List ℕ) → IsKept slots order → IsNumberedTree (rows_of slots order)
@@ -57,5 +63,5 @@ IsTree-kept slots order kept = record {
         omega (arith, same, rows_fit slots order kept);
   };
   distinct = distinct_rows slots order kept.ordered.sorted;
-  numbers = numbers_fit slots order order kept (λ id h. h);
+  numbers = numbers_fit (length slots) (rows_of slots order) kept.within (numbers_below slots order kept);
 }

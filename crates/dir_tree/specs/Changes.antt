@@ -19,6 +19,16 @@ with_value kind value entry =
     if has_key value.key (values_of kind entry.attributes) then entry
     else record entry { attributes = put_value kind value entry.attributes }
 
+-- the attributes with these values in place of those of the type; a new type comes last
+abbrev pub set_in : ℕ → List Keyed → List Attribute → List Attribute
+set_in kind values [] = record { kind = kind; values = values } ∷ []
+set_in kind values (first ∷ rest) =
+    if kind == first.kind then record first { values = values } ∷ rest else first ∷ set_in kind values rest
+
+-- the entry with these values of the type in place of those that it has
+abbrev pub with_values : ℕ → List Keyed → EntryInformation → EntryInformation
+with_values kind values entry = record entry { attributes = set_in kind values entry.attributes }
+
 -- the values that have another key
 abbrev pub without_key : List ℕ → List Keyed → List Keyed
 without_key key values = filter (λ value. not (bytes_eq key value.key)) values

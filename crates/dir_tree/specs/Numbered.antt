@@ -4,6 +4,7 @@ use Rattle.std.specs.Option.{option_map, option_and_then}
 use Rattle.std.specs.List.{AllByRecursion, filter_map}
 use Rattle.dn_names.specs.Names.{RdnSequence}
 use Rattle.dir_tree.specs.Entries.{EntryInformation}
+use Rattle.dir_tree.specs.Points.{is_access_subentry}
 use Rattle.dir_tree.specs.Trees.{most_entries, is_named, superior_name, is_before, IsTree}
 
 -- an entry, and the number by which it is known
@@ -56,6 +57,10 @@ put_entry id entry rows = put_row (record { id = id; entry = entry }) rows
 -- the rows of other numbers
 abbrev pub without : ℕ → List Numbered → List Numbered
 without id rows = filter (λ row. not (row.id == id)) rows
+
+-- the rows of the access control subentries
+abbrev pub subentry_rows : List Numbered → List Numbered
+subentry_rows rows = filter (λ row. is_access_subentry row.entry) rows
 
 -- each number is another than those after it
 abbrev pub AreDistinct : List Numbered → Type 0

@@ -1,11 +1,13 @@
 -- How a tree is kept: entries in slots by their numbers, the numbers in the order of the names, and a count.
-use Rattle.std.specs.Prelude.{◌≡◌, ◌≢◌, ℕ, suc, ◌+◌, ◌/◌, ◌≤◌, ◌==◌, nat_lt, if◌then◌else◌, Bool, true, List, [], ◌∷◌, length, map, Option, Some, None, is_some, get_or}
+use Rattle.std.specs.Prelude.{◌≡◌, ◌≢◌, ℕ, suc, ◌+◌, ◌/◌, ◌≤◌, ◌==◌, nat_lt, not, if◌then◌else◌, Bool, true, List, [], ◌∷◌, length, map, filter, insert, Option, Some, None, is_some, get_or}
 use Rattle.std.specs.List.{AllByRecursion, list_any}
 use Rattle.dn_names.specs.Names.{RdnSequence}
 use Rattle.dir_tree.specs.Entries.{EntryInformation}
-use Rattle.dir_tree.specs.Points.{access_subentries}
+use Rattle.dir_tree.specs.Points.{is_access_subentry}
+use Rattle.dir_tree.specs.declared.number.EntryNo.{EntryNo}
 use Rattle.dir_tree.specs.Trees.{most_entries, is_before, has_name, superior_name, IsInOrder}
-use Rattle.dir_tree.specs.Numbered.{Numbered, entries_of}
+use Rattle.dir_tree.specs.Places.{place_of}
+use Rattle.dir_tree.specs.Numbered.{Numbered, ids_of, entries_of, subentry_rows}
 
 -- the slot of the number
 abbrev pub slot_of : List (Option EntryInformation) → ℕ → Option EntryInformation
@@ -64,7 +66,23 @@ pub record IsKept (slots : List (Option EntryInformation)) (order : List ℕ) : 
   pub count : count_full slots ≡ length order
   pub ordered : IsOrderedTree (entries_of (rows_of slots order))
 
--- and the count is that of their access control subentries
-pub record IsCounted (slots : List (Option EntryInformation)) (order : List ℕ) (subentries : ℕ) : Type 0 where
+-- and the last numbers are those of their access control subentries
+pub record IsListed (slots : List (Option EntryInformation)) (order subentries : List ℕ) : Type 0 where
   pub kept : IsKept slots order
-  pub counted : subentries ≡ access_subentries (entries_of (rows_of slots order))
+  pub listed : subentries ≡ ids_of (subentry_rows (rows_of slots order))
+
+-- the numbers as naturals
+abbrev pub numbers_in : List EntryNo → List ℕ
+numbers_in numbers = map (λ no. no.0) numbers
+
+-- how many of the entries of the numbers come before the name
+abbrev pub place_among : RdnSequence → List (Option EntryInformation) → List ℕ → ℕ
+place_among name slots numbers = place_of name (rows_of slots numbers)
+
+-- the numbers with that of an access control subentry in its place
+abbrev pub listed_in : List (Option EntryInformation) → EntryInformation → ℕ → List ℕ → List ℕ
+listed_in slots entry id numbers = if is_access_subentry entry then insert numbers (place_among entry.name slots numbers) id else numbers
+
+-- the numbers without one
+abbrev pub unlisted : ℕ → List ℕ → List ℕ
+unlisted id numbers = filter (λ other. not (other == id)) numbers

@@ -2,7 +2,7 @@
 
 ghost use Rattle.std.specs.Prelude.{◌≡◌, ◌++◌, [], ◌∷◌, true, false, nat_lt, filter, map, length, IfOk, OnOk, OnErr};
 ghost use Rattle.dir_tree.specs.Entries.{has_kind};
-ghost use Rattle.dir_tree.specs.Changes.{put_value, cut_attribute, is_filled, other_attributes};
+ghost use Rattle.dir_tree.specs.Changes.{put_value, set_in, cut_attribute, is_filled, other_attributes};
 ghost use Rattle.dir_tree.specs.Rows.{attributes_of};
 
 use crate::values::{Values, copy_values, drop_key};
@@ -21,7 +21,7 @@ pub(crate) fn put_value(
         ≡ put_value kind.0 value (attributes_of attributes.old.entries)) }
     ensures err { OnErr result (attributes_of attributes.new.entries ≡ attributes_of attributes.old.entries) }
 {
-    if attributes.contains_key(&kind) {
+    if has_kind(attributes, kind) {
         put_last(attributes, kind, value)
     } else {
         put_first(attributes, kind, value)
@@ -69,6 +69,27 @@ fn put_attribute(
     requires { has_kind kind.0 (attributes_of attributes.old.entries) ≡ false }
     ensures ok { OnOk result (attributes_of attributes.new.entries
         ≡ attributes_of attributes.old.entries ++ record { kind = kind.0; values = values } ∷ []) }
+    ensures err { OnErr result (attributes_of attributes.new.entries ≡ attributes_of attributes.old.entries) }
+{
+    attributes.insert(kind, values)?;
+    Ok(())
+}
+
+/// Whether there is an attribute of the type.
+pub(crate) fn has_kind(attributes: &IndexMap<AttrId, Values>, kind: AttrId) -> bool
+    ensures exact { result ≡ has_kind kind.0 (attributes_of attributes.now.entries) }
+{
+    attributes.contains_key(&kind)
+}
+
+/// Gives the attribute of the type these values; a new one comes last.
+pub(crate) fn set_values(
+    attributes: &mut IndexMap<AttrId, Values>,
+    kind: AttrId,
+    values: Values,
+) -> Result<(), AllocError>
+    ensures ok { OnOk result (attributes_of attributes.new.entries
+        ≡ set_in kind.0 values (attributes_of attributes.old.entries)) }
     ensures err { OnErr result (attributes_of attributes.new.entries ≡ attributes_of attributes.old.entries) }
 {
     attributes.insert(kind, values)?;

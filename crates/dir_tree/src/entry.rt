@@ -1,13 +1,17 @@
 //! Entries: a name with attributes.
 
-ghost use Rattle.std.specs.Prelude.{◌≡◌, not, [], ◌∷◌, IfOk, OnOk, OnErr, length, slice_get};
+ghost use Rattle.std.specs.Prelude.{◌≡◌, ◌≢◌, not, [], ◌∷◌, IfOk, OnOk, OnErr, length, slice_get};
+ghost use Rattle.std.specs.List.{IsDistinct};
 ghost use Rattle.std.specs.Option.{option_map};
-ghost use Rattle.dir_tree.specs.Entries.{kinds_of, values_of, has_key, has_kind, IsGoodAttributes};
-ghost use Rattle.dir_tree.specs.Changes.{with_value, without_value, without_kind};
+ghost use Rattle.dir_tree.specs.Entries.{kinds_of, values_of, has_key, has_kind, is_match, IsGoodAttributes};
+ghost use Rattle.dir_tree.specs.Changes.{with_value, with_values, without_value, without_kind};
 ghost use Rattle.dir_tree.specs.EntryClasses.{has_class};
-ghost use Rattle.dir_tree.specs.Points.{is_point, is_subentry, is_access_subentry, access_subentries};
+ghost use Rattle.dir_tree.specs.Points.{is_point, is_subentry, is_access_subentry};
 
-use crate::attributes::{copy_attributes, cut_values, drop_empty, drop_kind, put_value};
+use crate::attribute_iter::Attributes;
+use crate::attributes::{
+    copy_attributes, cut_values, drop_empty, drop_kind, has_kind, put_value, set_values,
+};
 use crate::classes::is_any_kind_of;
 use crate::values::{Values, has_key};
 use dn_names::{Dn, Value};
@@ -67,6 +71,27 @@ impl Entry {
         }
     }
 
+    /// The attributes, the earlier ones first.
+    pub fn attributes(&self) -> Attributes<'_>
+        ensures exact { result ≡ self.now.attributes }
+    {
+        Attributes::new(&self.attributes)
+    }
+
+    /// Whether the entry has an attribute of the type.
+    pub fn has_kind(&self, kind: AttrId) -> bool
+        ensures exact { result ≡ has_kind kind.0 self.now.attributes }
+    {
+        has_kind(&self.attributes, kind)
+    }
+
+    /// Whether a value of the attribute type has the key.
+    pub fn has_value(&self, kind: AttrId, key: &[u8]) -> bool
+        ensures exact { result ≡ has_key key.now (values_of kind.0 self.now.attributes) }
+    {
+        has_key(self.values(kind), key)
+    }
+
     /// The number of attributes.
     pub fn kinds(&self) -> usize
         ensures exact { result ≡ length self.now.attributes }
@@ -96,6 +121,18 @@ impl Entry {
         }
         put_value(&mut self.attributes, kind, value)?;
         Ok(true)
+    }
+
+    /// Gives the attribute of the type these values in place of its own; where the entry has no such attribute, it comes
+    /// last. There is a value, and no two have equal keys. The error comes where memory is wanted, and the entry stays.
+    pub fn set_values(&mut self, kind: AttrId, values: Vec<Value>) -> Result<(), NoMemory>
+        requires filled { values.items ≢ [] }
+        requires distinct { IsDistinct is_match values.items }
+        ensures ok { OnOk result (self.new ≡ with_values kind.0 values.items self.old) }
+        ensures err { OnErr result (self.new ≡ self.old) }
+    {
+        set_values(&mut self.attributes, kind, Values::from_vec(values))?;
+        Ok(())
     }
 
     /// Takes out the value of the type that has the key, and the attribute with its last value. Answers whether
@@ -153,13 +190,6 @@ impl Entry {
     {
         // The rarer class first: for most entries one look at the classes is enough.
         self.has_class("2.5.17.1") && self.has_class("2.5.17.0")
-    }
-
-    /// How many access control subentries the entry alone is: 1 or 0.
-    pub(crate) fn access_subentries(&self) -> usize
-        ensures exact { result ≡ access_subentries (self.now ∷ []) }
-    {
-        if self.is_access_subentry() { 1 } else { 0 }
     }
 
     /// The same entry, whose attributes have memory of their own; the error comes where there is none.

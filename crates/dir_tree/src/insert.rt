@@ -5,7 +5,8 @@ ghost use Rattle.std.specs.Prelude.{◌≡◌, ◌≢◌, ◌<◌, ◌≤◌, �
 use crate::entry::Entry;
 use crate::number::EntryNo;
 use crate::refusals::InsertRefusal;
-use crate::slots::{fill_slot, free_slot, put_number};
+use crate::slots::{fill_slot, free_slot, put_at};
+use crate::subentries::{list_number, make_room};
 use crate::tree::Tree;
 use dn_names::Dn;
 use std::alloc::AllocError;
@@ -101,11 +102,13 @@ impl Tree {
         ensures kept { OnErr result (self.new ≡ self.old) }
     {
         self.order.reserve(1)?;
+        make_room(&mut self.subentries, &entry)?;
         let number = free_slot(&mut self.slots, self.low, self.order.len())?;
-        self.subentries += entry.access_subentries();
+        let no = EntryNo(number as u32);
+        list_number(&self.slots, &mut self.subentries, &entry, no);
         fill_slot(&mut self.slots, number, entry);
-        put_number(&mut self.order, place, number as u32);
+        put_at(&mut self.order, place, no.0);
         self.low = number + 1;
-        Ok(EntryNo(number as u32))
+        Ok(no)
     }
 }

@@ -2,6 +2,7 @@
 //! entries are known.
 #![tactic(auto)]
 
+mod attribute_iter;
 mod attributes;
 mod classes;
 mod entry;
@@ -15,11 +16,13 @@ mod remove;
 mod replace;
 mod scope;
 mod slots;
+mod subentries;
 mod tree;
 mod tree_laws;
 mod values;
 mod walk;
 
+pub use attribute_iter::Attributes;
 pub use entry::{Entry, NoMemory};
 pub use laws::{
     a_change_is_of_one_type, a_change_leaves_good_attributes, a_change_leaves_other_types,

@@ -1,12 +1,14 @@
 //! Entries taken out.
 
 ghost use Rattle.std.specs.Prelude.{◌≡◌, ◌<◌, ◌≤◌, length, Some, None, IfOk, IfErr, OnOk, OnErr, IsSomeAnd, MatchResult, true, false};
+ghost use Rattle.std.specs.Option.{option_map_or};
 ghost use Rattle.dir_tree.specs.Removals.{IsRemovable};
 
 use crate::entry::Entry;
 use crate::number::EntryNo;
 use crate::refusals::RemoveRefusal;
 use crate::slots::take_entry;
+use crate::subentries::drop_number;
 use crate::tree::Tree;
 
 impl Tree {
@@ -39,7 +41,7 @@ impl Tree {
     {
         match self.at(no) {
             Some(entry) => {
-                if self.has_below(no, entry) {
+                if self.has_any_below(no, entry) {
                     Err(RemoveRefusal::HasBelow)
                 } else {
                     Ok(self.own_place(no, entry))
@@ -49,8 +51,19 @@ impl Tree {
         }
     }
 
-    /// Whether an entry stands below the entry of the number.
-    pub(crate) fn has_below(&self, no: EntryNo, entry: &Entry) -> bool
+    /// Whether an entry stands below the entry of the number; false for a number that is not in use. Takes no memory.
+    pub fn has_below(&self, no: EntryNo) -> bool
+        ensures exact { result
+            ≡ option_map_or (λ entry. has_below entry.name (entries_of self.now)) (entry_of no.0 self.now) false }
+    {
+        match self.at(no) {
+            Some(entry) => self.has_any_below(no, entry),
+            None => false,
+        }
+    }
+
+    /// Whether an entry stands below the entry of the number, which is this one.
+    pub(crate) fn has_any_below(&self, no: EntryNo, entry: &Entry) -> bool
         requires { entry_of no.0 self.now ≡ Some entry.now }
         ensures exact { result ≡ has_below entry.now.name (entries_of self.now) }
     {
@@ -66,8 +79,7 @@ impl Tree {
     {
         let _number = self.order.remove(place);
         self.low = self.low.min(no.0 as usize);
-        let entry = take_entry(&mut self.slots, no.0);
-        self.subentries -= entry.access_subentries();
-        entry
+        drop_number(&mut self.subentries, no);
+        take_entry(&mut self.slots, no.0)
     }
 }

@@ -1,6 +1,6 @@
 //! Entries that take another's place.
 
-ghost use Rattle.std.specs.Prelude.{◌≡◌, ◌&&◌, not, length, Some, None, IfOk, IfErr, OnOk, OnErr};
+ghost use Rattle.std.specs.Prelude.{◌≡◌, ◌⊎◌, ◌&&◌, not, length, Some, None, IfOk, IfErr, OnOk, OnErr};
 ghost use Rattle.dn_names.specs.NameOrder.{is_same};
 ghost use Rattle.dir_tree.specs.Removals.{IsReplaceable};
 ghost use Rattle.dir_tree.specs.Refusals.{is_elsewhere};
@@ -10,8 +10,10 @@ use crate::fronts::same_superior;
 use crate::number::EntryNo;
 use crate::refusals::ReplaceRefusal;
 use crate::slots::{move_number, replace_entry};
+use crate::subentries::{drop_number, list_number, make_room};
 use crate::tree::Tree;
 use dn_names::{Dn, same};
+use std::alloc::AllocError;
 
 impl Tree {
     ghost use Rattle.dir_tree.specs.Trees.{has_name, has_below};
@@ -19,19 +21,20 @@ impl Tree {
     ghost use Rattle.dir_tree.specs.Refusals.{refusal_in_place, replace_refusal};
     ghost use Rattle.dir_tree.specs.Places.{place_of};
 
-    /// Gives the entry's place to another, which is known by the same number. Needs no memory; what the attributes of
-    /// the other do not need is given back.
+    /// Gives the entry's place to another, which is known by the same number. The memory that the attributes of the
+    /// other do not need is given back.
     ///
     /// Each refusal comes in exactly one case, and of several the first: `Absent` for a number that is not in use,
     /// `NameTaken` where the new name is that of another entry, `Elsewhere` for the empty name and for one below
     /// another superior, and `HasBelow` where the new name is not the same as the old one and entries stand below.
-    /// `NoMemory` never comes.
+    /// `NoMemory` may come where none of these does.
     pub fn replace(&mut self, no: EntryNo, entry: Entry) -> Result<Entry, ReplaceRefusal>
         ensures found { IfOk result (λ old. entry_of no.0 self.old ≡ Some old) }
         ensures ok { OnOk result (self.new ≡ put_entry no.0 entry (without no.0 self.old)) }
         ensures exact { OnOk result (replace_refusal no.0 entry.name self.old ≡ None) }
-        ensures cause { IfErr result (λ refusal.
-            replace_refusal no.0 entry.name self.old ≡ Some refusal) }
+        // Want of memory comes after the other causes.
+        ensures cause { IfErr result (λ refusal. (refusal ≡ ReplaceRefusal.NoMemory)
+            ⊎ (replace_refusal no.0 entry.name self.old ≡ Some refusal)) }
         ensures kept { OnErr result (self.new ≡ self.old) }
     {
         match self.replaceable(no, entry.name()) {
@@ -39,7 +42,10 @@ impl Tree {
                 let mut entry = entry;
                 entry.fit();
                 let place = self.place_of(entry.name(), entry.name().len());
-                Ok(self.change(no, from, place, entry))
+                match self.change(no, from, place, entry) {
+                    Ok(old) => Ok(old),
+                    Err(_) => Err(ReplaceRefusal::NoMemory),
+                }
             }
             Err(refusal) => Err(refusal),
         }
@@ -93,21 +99,28 @@ impl Tree {
         ensures exact { result
             ≡ (not (is_same name.now old.now.name) && has_below old.now.name (entries_of self.now)) }
     {
-        !same(name, old.name()) && self.has_below(no, old)
+        !same(name, old.name()) && self.has_any_below(no, old)
     }
 
     // Gives the place of the entry of the number to another, whose number goes to its own place.
-    fn change(&mut self, no: EntryNo, from: usize, place: usize, entry: Entry) -> Entry
+    fn change(
+        &mut self,
+        no: EntryNo,
+        from: usize,
+        place: usize,
+        entry: Entry,
+    ) -> Result<Entry, AllocError>
         requires may { IsReplaceable no.0 from entry.name self.old }
         requires placed { place ≡ place_of entry.name self.old }
-        ensures found { entry_of no.0 self.old ≡ Some result }
-        ensures exact { self.new ≡ put_entry no.0 entry (without no.0 self.old) }
+        ensures found { IfOk result (λ old. entry_of no.0 self.old ≡ Some old) }
+        ensures ok { OnOk result (self.new ≡ put_entry no.0 entry (without no.0 self.old)) }
+        ensures kept { OnErr result (self.new ≡ self.old) }
     {
+        make_room(&mut self.subentries, &entry)?;
         move_number(&mut self.order, from, place);
-        self.subentries += entry.access_subentries();
-        let old = replace_entry(&mut self.slots, no.0, entry);
-        self.subentries -= old.access_subentries();
-        old
+        drop_number(&mut self.subentries, no);
+        list_number(&self.slots, &mut self.subentries, &entry, no);
+        Ok(replace_entry(&mut self.slots, no.0, entry))
     }
 }
 

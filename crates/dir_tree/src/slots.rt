@@ -123,13 +123,13 @@ pub(crate) fn replace_entry(slots: &mut Vec<Option<Entry>>, id: u32, entry: Entr
     }
 }
 
-/// Puts the number at the place, for which there is room.
-pub(crate) fn put_number(order: &mut Vec<u32>, place: usize, number: u32)
-    requires found { place ≤ vec_len order.old }
-    requires room { vec_len order.old < vec_capacity order.old }
-    ensures exact { order.new.items ≡ insert order.old.items place number }
+/// Puts the item at the place, for which there is room.
+pub(crate) fn put_at<T: Drop>(items: &mut Vec<T>, place: usize, item: T)
+    requires found { place ≤ vec_len items.old }
+    requires room { vec_len items.old < vec_capacity items.old }
+    ensures exact { items.new.items ≡ insert items.old.items place item }
 {
-    order.insert(place, number).unwrap();
+    items.insert(place, item).unwrap();
 }
 
 /// Moves the number at a place to where it stands before the one at the other. Takes no memory.
@@ -140,7 +140,7 @@ pub(crate) fn move_number(order: &mut Vec<u32>, from: usize, place: usize)
         (place_without from place) (get_or order.old.items from 0) }
 {
     let number = order.remove(from);
-    put_number(order, place_without(from, place), number);
+    put_at(order, place_without(from, place), number);
 }
 
 // The place where one goes out at the other.

@@ -1,6 +1,7 @@
 //! The tree: entries in the order of their names, each known by a number.
 
-ghost use Rattle.std.specs.Prelude.{◌≡◌, ◌<◌, ◌≤◌, [], length, take, Option, None, if◌then◌else◌, nat_le};
+ghost use Rattle.std.specs.Prelude.{◌≡◌, ◌<◌, ◌≤◌, [], length, take, map, Option, None, if◌then◌else◌, nat_le};
+ghost use Rattle.std.specs.List.{AllByRecursion};
 ghost use Rattle.std.specs.Option.{option_map};
 
 use crate::entry::Entry;
@@ -17,24 +18,24 @@ pub struct Tree {
     pub(crate) slots: Vec<Option<Entry>>,
     pub(crate) order: Vec<u32>,
     pub(crate) low: usize,
-    pub(crate) subentries: usize,
+    pub(crate) subentries: Vec<EntryNo>,
 }
 
 impl Model for Tree {
     ghost use Rattle.std.specs.Prelude.{List};
     ghost use Rattle.dir_tree.specs.Numbered.{Numbered};
-    ghost use Rattle.dir_tree.specs.Slots.{rows_of, IsCounted};
+    ghost use Rattle.dir_tree.specs.Slots.{rows_of, numbers_in, IsListed};
 
     ghost Value = { List Numbered };
 
     ghost view = { λ tree. rows_of tree.slots.items tree.order.items };
 
-    ghost invariant = { λ tree. IsCounted tree.slots.items tree.order.items tree.subentries };
+    ghost invariant = { λ tree. IsListed tree.slots.items tree.order.items (numbers_in tree.subentries.items) };
 }
 
 impl Tree {
-    ghost use Rattle.dir_tree.specs.Points.{access_subentries};
-    ghost use Rattle.dir_tree.specs.Numbered.{IsNumberedTree, entries_of, entry_of, suffix_of, find_name, find_front, superior_of};
+    ghost use Rattle.dir_tree.specs.Trees.{most_entries};
+    ghost use Rattle.dir_tree.specs.Numbered.{IsNumberedTree, ids_of, entries_of, subentry_rows, entry_of, suffix_of, find_name, find_front, superior_of};
 
     /// A tree without entries. Takes no memory.
     pub fn new(alloc: Global) -> Tree
@@ -44,7 +45,7 @@ impl Tree {
             slots: Vec::new(alloc),
             order: Vec::new(alloc),
             low: 0,
-            subentries: 0,
+            subentries: Vec::new(alloc),
         }
     }
 
@@ -62,11 +63,20 @@ impl Tree {
         self.order.len()
     }
 
-    /// The number of access control subentries, which the tree keeps: no entry is looked at.
-    pub fn access_subentries(&self) -> usize
-        ensures exact { result ≡ access_subentries (entries_of self.now) }
+    /// The numbers of the access control subentries, in the order of the names. The tree keeps them: no entry is looked
+    /// at.
+    pub fn access_subentries(&self) -> &[EntryNo]
+        ensures exact { map (λ no. no.0) result.now ≡ ids_of (subentry_rows self.now) }
     {
-        self.subentries
+        self.subentries.as_slice()
+    }
+
+    /// A number above all that are in use, of at most 200,000.
+    pub fn bound(&self) -> usize
+        ensures exact { AllByRecursion (λ row. row.id < result) self.now }
+        ensures fits { result ≤ most_entries }
+    {
+        self.slots.len()
     }
 
     /// The number of the first entry, the suffix; None exactly where there is no entry.

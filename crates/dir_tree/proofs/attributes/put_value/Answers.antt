@@ -1,12 +1,9 @@
--- The map has the key where the type is there.
+-- The type is there, or not.
 use Rattle.std.proofs.Common.{sym, ◌∙◌}
-use Rattle.dir_tree.proofs.ChangeLemmas.{has_kind-rows}
 use Rattle.dir_tree.proofs.attributes.put_value.Goals as goal
 
 pub put_last-requires : goal.put_last-requires
-put_last-requires c =
-    has_kind-rows c.args.kind c.args.attributes.now.entries ∙ sym c.contains_key.ensures ∙ c.if-contains_key.true
+put_last-requires c = sym c.has_kind.ensures.exact ∙ c.if-has_kind.true
 
 pub put_first-requires : goal.put_first-requires
-put_first-requires c =
-    has_kind-rows c.args.kind c.args.attributes.now.entries ∙ sym c.contains_key.ensures ∙ c.if-contains_key.false
+put_first-requires c = sym c.has_kind.ensures.exact ∙ c.if-has_kind.false

@@ -1,7 +1,7 @@
 -- An entry stands below where the end is past the place after the entry's own.
 use Rattle.std.proofs.Common.{sym}
 use Rattle.dir_tree.proofs.WalkLemmas.{has_below-end}
-use Rattle.dir_tree.proofs.tree.Tree.has_below.Goals as goal
+use Rattle.dir_tree.proofs.tree.Tree.has_any_below.Goals as goal
 
 pub returns : goal.returns
 returns c =
