@@ -4,6 +4,7 @@ pub mod NameGrammar
 pub mod Spelling
 pub mod Names
 pub mod NameOrder
+pub mod PathKeys
 pub mod Values
 pub mod Resolving
 pub mod GoodPlaces
@@ -18,3 +19,4 @@ pub mod NameValues
 pub mod Pieces
 pub mod Texts
 pub mod KeyReading
+pub mod PathReading

@@ -14,6 +14,9 @@ ghost use Rattle.dn_names.specs.Resolving.{resolve};
 ghost use Rattle.dn_names.specs.GoodPlaces.{placed_pairs, IsGoodPlace, IsFirstBad};
 ghost use Rattle.dn_names.specs.GoodNames.{IsGoodName};
 ghost use Rattle.dn_names.specs.Printing.{print_name, name_key};
+ghost use Rattle.dn_names.specs.PathKeys.{path_key};
+ghost use Rattle.std.specs.Ordering.{nat_cmp};
+ghost use Rattle.std.specs.Cmp.Lexicographic.{slice_cmp};
 
 /// The outer grammar has exactly the texts that spell some pairs, each text one list of them; and a text is a
 /// text of one name.
@@ -46,6 +49,14 @@ pub fn names_are_in_a_total_order()
         ↔ ((rest : List (List (ℕ × List ℕ))) × (types_and_keys name ≡ types_and_keys front ++ rest)) }
     ensures first { (front name : RdnSequence)
         → IsTrue (is_prefix_of front name) → length front < length name → name_cmp front name ≡ Less }
+{}
+
+/// Path keys compare by their octets as the names compare, and one begins another exactly where the name does.
+pub fn path_keys_compare_as_names()
+    ensures order { (one other : RdnSequence)
+        → slice_cmp nat_cmp (path_key one) (path_key other) ≡ name_cmp one other }
+    ensures prefix { (front name : RdnSequence) → IsTrue (is_prefix_of front name)
+        ↔ ((rest : List ℕ) × (path_key name ≡ path_key front ++ rest)) }
 {}
 
 /// What is cut off after a name was joined is there again, and what is joined after a name was cut is the name.

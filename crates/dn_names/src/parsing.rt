@@ -1,7 +1,8 @@
 //! Names from their texts.
 
-ghost use Rattle.std.specs.Prelude.{◌≡◌, ◌≤◌, ◌<◌, ◌+◌, ◌^◌, ◌==◌, nat_lt, [], length, map, Ok, Err, IfOk, IfErr, vec_len, vec_capacity};
+ghost use Rattle.std.specs.Prelude.{◌≡◌, ◌≤◌, ◌<◌, ◌+◌, ◌^◌, ◌==◌, nat_lt, [], length, map, reverse, Ok, Err, IfOk, IfErr, vec_len, vec_capacity};
 ghost use Rattle.dn_names.specs.Names.{rdns_of};
+ghost use Rattle.dn_names.specs.GoodNames.{IsGoodName};
 ghost use Rattle.dn_names.specs.Reading.{rdn_of, parts_of, written_of};
 ghost use Rattle.dn_names.specs.Resolving.{rdn_from, rdns_from, from_root, UnlessMemory};
 ghost use Rattle.dn_names.specs.Resolving.{resolve, resolve_rdn};
@@ -131,21 +132,27 @@ fn read_rdns(alloc: Global, text: &[u8]) -> Result<Vec<Rdn>, BadName>
 // The name of a text of the outer grammar.
 #[tactic(auto, unfolding(crate::specs::Reading::written_of))]
 fn read_all(alloc: Global, text: &[u8]) -> Result<Dn, BadName>
+    requires { length (written_of text.now) ≤ 64 }
     ensures ok { IfOk result (λ name. from_root (rdns_from 0 (written_of text.now)) ≡ Ok name) }
     ensures part { IfErr result (λ e. UnlessMemory e (from_root (rdns_from 0 (written_of text.now)) ≡ Err e)) }
 {
     if is_blank(text) {
-        return Ok(Dn {
-            rdns: Vec::new(alloc),
-        });
+        return Ok(Dn::empty(alloc));
     }
     match read_rdns(alloc, text) {
-        Ok(mut rdns) => {
-            rdns.reverse();
-            Ok(Dn { rdns })
-        }
+        Ok(rdns) => Ok(from_last(alloc, rdns)?),
         Err(error) => Err(error),
     }
+}
+
+// The name of RDNs in the text's order.
+fn from_last(alloc: Global, rdns: Vec<Rdn>) -> Result<Dn, AllocError>
+    requires { IsGoodName (reverse (rdns_of rdns.items)) }
+    ensures ok { IfOk result (λ name. name ≡ reverse (rdns_of rdns.items)) }
+{
+    let mut rdns = rdns;
+    rdns.reverse();
+    Dn::from_rdns(alloc, rdns)
 }
 
 // Whether a text of the outer grammar has more than 64 RDNs.
