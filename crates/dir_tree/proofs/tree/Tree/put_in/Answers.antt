@@ -2,7 +2,8 @@
 use Rattle.std.proofs.Common.{arith, ◌∙◌, ◌≡◌, length}
 use Rattle.dir_tree.specs.Slots.{rows_of}
 use Rattle.dir_tree.proofs.AccessLemmas.{access_subentries-put_row, more_fit}
-use Rattle.dir_tree.proofs.KeptLemmas.{PutIn, room_in, place_in, put_kept}
+use Rattle.dir_tree.proofs.SlotLemmas.{rows_of-like}
+use Rattle.dir_tree.proofs.KeptLemmas.{PutIn, room_in, place_in, kept_slots, put_kept}
 use Rattle.dir_tree.proofs.tree.Tree.put_in.Goals as goal
 
 -- not all numbers are in use
@@ -29,6 +30,16 @@ put c =
     (put_kept c.self.inside.slots.items c.free_slot.new.slots.items c.self.inside.order.items c.reserve.new.self.items c.args.self.now c.in_ok-number.number c.args.place c.args.entry
     c.self.invariant.kept c.self.view_is c.free_slot.ensures.kept (counted ∙ full) c.free_slot.ensures.fits c.in_ok-number.ensures.ok.0 c.in_ok-number.ensures.ok.1
     c.requires.placed c.requires.named c.requires.allowed c.reserve.ensures.items)
+
+-- where a slot is wanted and memory is refused, the slots show what they showed
+pub invariant_of-self-in_err-number : goal.invariant_of-self-in_err-number
+invariant_of-self-in_err-number c =
+    let counted = c.free_slot.ensures.count in
+    let full : c.len.result ≡ length c.self.inside.order.items = omega (arith, c.len.ensures, c.reserve.ensures.len) in
+    record {
+      kept = rw c.reserve.ensures.items (kept_slots c.self.inside.slots.items c.free_slot.new.slots.items c.self.inside.order.items c.self.invariant.kept c.free_slot.ensures.kept (counted ∙ full) c.free_slot.ensures.fits);
+      counted = rw (c.reserve.ensures.items, rows_of-like c.self.inside.slots.items c.free_slot.new.slots.items c.self.inside.order.items (λ id _. c.free_slot.ensures.kept id)) c.self.invariant.counted;
+    }
 
 pub invariant_of-self-2 : goal.invariant_of-self-2
 invariant_of-self-2 c = record {
