@@ -1,11 +1,11 @@
 -- What stands behind a key, a pair and an RDN in a path key, and in front of the RDNs that are left.
-use Rattle.std.proofs.Common.{◌≡◌, ◌≢◌, ℕ, ◌-◌, ◌<◌, zero, suc, Bool, true, false, List, [], ◌∷◌, ◌++◌, length, take, drop, refl, sym, ap, subst, ◌∙◌, arith, append_assoc}
+use Rattle.std.proofs.Common.{◌≡◌, ◌≢◌, ℕ, ◌-◌, ◌<◌, zero, suc, Bool, false, List, [], ◌∷◌, ◌++◌, length, take, drop, refl, sym, ap, subst, ◌∙◌, arith, append_assoc}
 use Rattle.std.specs.Prelude.{◌==◌, ◌&&◌, if◌then◌else◌}
 use Rattle.std.specs.List.{AllByRecursion}
 use Rattle.std.proofs.lemmas.Bool.Decides.{nat_tests}
 use Rattle.std.proofs.lemmas.List.{take_at, length-append}
 use Rattle.dn_names.specs.Names.{TypeAndValue, RdnSequence, SharedRdn, rdns_of}
-use Rattle.dn_names.specs.GoodNames.{IsGoodRdn, IsGoodName}
+use Rattle.dn_names.specs.GoodNames.{IsGoodRdn}
 use Rattle.dn_names.specs.PathKeys.{escape, rdn_part, path_key, IsKept}
 use Rattle.dn_names.specs.PathReading.{after_from, after_key}
 use Rattle.dn_names.proofs.PathKeyLaws.{path_key-cut}

@@ -1,5 +1,6 @@
 -- What crates above may cite of names, their texts, their order and their keys.
-pub use Rattle.dn_names.proofs.ParseLemmas.{read_name-NameText, read_rdn-RdnText, SpellsName-written_of, text_fault-IsNameText, LeavesGrammar-from_text_fault, NameText-Gives}
+pub use Rattle.dn_names.proofs.ParseLemmas.{read_name-NameText, read_rdn-RdnText, NameText-read_name, RdnText-read_rdn, SpellsName-written_of, text_fault-IsNameText, LeavesGrammar-from_text_fault}
+pub use Rattle.dn_names.proofs.CauseLemmas.{read_name-NameCause, read_rdn-NameCause}
 pub use Rattle.dn_names.proofs.SpelledInGrammar.{IsNameText-spelled}
 pub use Rattle.dn_names.proofs.GrammarIsSpelled.{spelled-IsNameText}
 pub use Rattle.dn_names.proofs.GoodNameLemmas.{IsGoodName-from_NameText, IsGoodName-from_RdnText, all_reverse}

@@ -9,7 +9,9 @@ ghost use Rattle.dn_names.specs.Spelling.{WrittenPair, SpellsName};
 ghost use Rattle.dn_names.specs.NameOrder.{name_cmp, is_same, is_prefix_of, types_and_keys};
 ghost use Rattle.dn_names.specs.NameText.{NameText, RdnText, read_name, read_rdn};
 ghost use Rattle.std.specs.List.{AllByRecursion};
+ghost use Rattle.dn_names.specs.declared.error.BadName.{BadName};
 ghost use Rattle.dn_names.specs.declared.error.BadName.TheVariants.{Part, TooMany};
+ghost use Rattle.dn_names.specs.NameCause.{NameCause};
 ghost use Rattle.dn_names.specs.Resolving.{resolve};
 ghost use Rattle.dn_names.specs.GoodPlaces.{placed_pairs, IsGoodPlace, IsFirstBad};
 ghost use Rattle.dn_names.specs.GoodNames.{IsGoodName};
@@ -29,6 +31,17 @@ pub fn a_text_spells_one_name()
         → SpellsName one text → SpellsName other text → one ≡ other }
     ensures exact { (name : RdnSequence) (text : List ℕ) → NameText name text → read_name text ≡ Ok name }
     ensures rdn { (name : RdnSequence) (text : List ℕ) → RdnText name text → read_rdn text ≡ Ok name }
+{}
+
+/// A text is read as a name exactly where it is a text of the name, and is refused exactly for its cause; the same of
+/// one RDN. So reading is what these relations say, whatever it computes.
+pub fn a_text_is_read_as_its_name_or_refused_for_its_cause()
+    ensures ok { (name : RdnSequence) (text : List ℕ) → (read_name text ≡ Ok name) ↔ NameText name text }
+    ensures err { (text : List ℕ) (cause : BadName)
+        → (read_name text ≡ Err cause) ↔ NameCause (λ count. count ≤ 64) text cause }
+    ensures rdn_ok { (name : RdnSequence) (text : List ℕ) → (read_rdn text ≡ Ok name) ↔ RdnText name text }
+    ensures rdn_err { (text : List ℕ) (cause : BadName)
+        → (read_rdn text ≡ Err cause) ↔ NameCause (λ count. count ≡ 1) text cause }
 {}
 
 /// A name that some text spells is spelled by its printed form, which is read as it.

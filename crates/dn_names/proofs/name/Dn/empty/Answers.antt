@@ -1,5 +1,4 @@
 -- The empty name is good, and its path key has no octet.
-use Rattle.std.proofs.Common.{[], sym, ◌∙◌}
 use Rattle.dn_names.proofs.PathLemmas.{kept_empty}
 use Rattle.dn_names.proofs.name.Dn.empty.Goals as goal
 
