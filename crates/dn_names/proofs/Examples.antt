@@ -1,12 +1,15 @@
--- Where some texts leave the outer grammar of names, what some are read as, how some values are printed, and how
--- some are kept.
-use Rattle.std.proofs.Common.{◌≡◌, [], ◌∷◌, Some, None, refl}
+-- Where some texts leave the outer grammar of names, what some are read as, how some values are printed and kept, and
+-- some path keys.
+use Rattle.std.proofs.Common.{◌≡◌, ℕ, List, [], ◌∷◌, Some, None, refl}
 use Rattle.std.specs.Prelude.{codes}
 use Rattle.dn_names.specs.Classes.{class_of}
 use Rattle.dn_names.specs.Modes.{text_fault}
 use Rattle.dn_names.specs.Reading.{parts_of, value_octets, pair_of, rdn_of, written_of}
 use Rattle.dn_names.specs.Printing.{print_value}
 use Rattle.dn_names.specs.Pieces.{octets_in, key_in, split_of}
+use Rattle.dn_names.specs.Names.{TypeAndValue}
+use Rattle.dn_names.specs.PathKeys.{path_key}
+use Rattle.dn_names.specs.PathReading.{after_key}
 
 in_grammar : text_fault (codes "cn=a\\,b+uid=x, dc=example") ≡ None
 unfolding text_fault class_of
@@ -59,3 +62,24 @@ kept_once = refl
 
 no_key : key_in (split_of (codes "ann") []) (codes "ann") ≡ []
 no_key = refl
+
+-- The path keys of two names, the second below the first, and of keys with the octets 00, 01, 02 and FF.
+abbrev pair_of_key : ℕ → List ℕ → TypeAndValue
+pair_of_key kind key = record { kind = kind; value = record { octets = key; key = key } }
+
+path_of_one : path_key ((pair_of_key 25 (codes "t") ∷ []) ∷ []) ≡ 2 ∷ 25 ∷ 116 ∷ 0 ∷ 0 ∷ 1 ∷ []
+unfolding path_key
+path_of_one = refl
+
+path_of_two : path_key ((pair_of_key 25 (codes "t") ∷ []) ∷ (pair_of_key 1 (codes "a") ∷ []) ∷ [])
+    ≡ 2 ∷ 25 ∷ 116 ∷ 0 ∷ 0 ∷ 1 ∷ 2 ∷ 1 ∷ 97 ∷ 0 ∷ 0 ∷ 1 ∷ []
+unfolding path_key
+path_of_two = refl
+
+path_of_marks : path_key ((pair_of_key 1 (0 ∷ 1 ∷ []) ∷ pair_of_key 2 (2 ∷ 255 ∷ []) ∷ []) ∷ [])
+    ≡ 2 ∷ 1 ∷ 0 ∷ 255 ∷ 1 ∷ 0 ∷ 0 ∷ 2 ∷ 2 ∷ 2 ∷ 255 ∷ 0 ∷ 0 ∷ 1 ∷ []
+unfolding path_key
+path_of_marks = refl
+
+behind_a_key : after_key (97 ∷ 0 ∷ 255 ∷ 0 ∷ 255 ∷ 0 ∷ 0 ∷ 1 ∷ []) ≡ 1 ∷ []
+behind_a_key = refl

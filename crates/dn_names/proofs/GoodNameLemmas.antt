@@ -1,20 +1,22 @@
 -- What is read of a text is a name as the rules allow it.
-use Rattle.std.proofs.Common.{◌≡◌, ◌≢◌, ℕ, ◌≤◌, ◌+◌, suc, true, false, List, [], ◌∷◌, ◌++◌, length, reverse, Option, Some, None, Result, Ok, Err, refl, sym, ap, subst, ◌∙◌, arith, nat_lt}
+use Rattle.std.proofs.Common.{◌≡◌, ◌≢◌, ℕ, ◌≤◌, ◌+◌, suc, true, false, List, [], ◌∷◌, ◌++◌, map, length, reverse, Option, Some, None, Result, Ok, Err, refl, sym, ap, subst, ◌∙◌, arith, nat_lt}
 use Rattle.std.specs.Prelude.{◌==◌, ◌&&◌, nat_le, if◌then◌else◌}
 use Rattle.std.specs.Option.{option_map, option_and_then}
 use Rattle.std.specs.List.{AllByRecursion}
 use Rattle.std.proofs.lemmas.Bool.Decides.{nat_tests}
 use Rattle.std.proofs.lemmas.Grind.{reverse_onto}
-use Rattle.std.proofs.lemmas.List.{length-reverse}
+use Rattle.std.proofs.lemmas.List.{length-reverse, length-map}
 use Rattle.schema_core.specs.Attributes.{attr_of, is_naming, syntax_of}
 use Rattle.dn_names.specs.declared.error.BadName.{BadName}
 use Rattle.dn_names.specs.declared.error.BadName.TheVariants.{TooMany}
 use Rattle.dn_names.specs.Names.{Keyed, TypeAndValue, RdnSequence}
 use Rattle.dn_names.specs.Spelling.{WrittenPair, IsJoined, SpellsRdn, SpellsName}
 use Rattle.dn_names.specs.Values.{plain_key}
+use Rattle.dn_names.specs.Reading.{parts_of, parts_from, is_blank, pair_of, rdn_of, written_of}
 use Rattle.dn_names.specs.Resolving.{naming_value, pair_meaning, put_pair, add_pair, or_part, and_then, rdn_from, rdns_from, from_root, resolve, resolve_rdn}
 use Rattle.dn_names.specs.NameText.{NameText, RdnText}
 use Rattle.dn_names.specs.GoodNames.{IsGoodPair, IsInTableOrder, IsGoodRdn, IsGoodName}
+use Rattle.dn_names.proofs.PartsLemmas.{length-parts_from}
 use Rattle.dn_names.proofs.NamingTextLemmas.{found_text}
 use Rattle.dn_names.proofs.OrderedLemmas.{put_pair-all, put_pair-ordered, length-put_pair}
 
@@ -134,10 +136,10 @@ root_found : (rest : Result RdnSequence BadName) (name : RdnSequence) → from_r
 root_found (Err e) name is = absurd cc
 root_found (Ok rdns) name is = (rdns, refl, cc)
 
-root_good : (written : List (List WrittenPair)) (text : List ℕ) (name : RdnSequence) → SpellsName written text → from_root (rdns_from 0 written) ≡ Ok name → length written ≤ 64 → IsGoodName name
-root_good written text name spells h few =
+root_good : (written : List (List WrittenPair)) (name : RdnSequence) → AllByRecursion (λ ws. ws ≢ []) written → from_root (rdns_from 0 written) ≡ Ok name → length written ≤ 64 → IsGoodName name
+root_good written name filled h few =
     let found = root_found (rdns_from 0 written) name h in
-    let reads = rdns_from-Reads 0 written found.0 (name_filled written text spells) found.1 in
+    let reads = rdns_from-Reads 0 written found.0 filled found.1 in
     record {
       fits = (let size = ap length (sym found.2) ∙ length-reverse found.0 ∙ reads.size in omega (arith, size, few));
       good = subst (λ (t : RdnSequence). AllByRecursion IsGoodRdn t) found.2 (all_reverse IsGoodRdn found.0 reads.good);
@@ -149,7 +151,7 @@ unfolding NameText resolve
 IsGoodName-from_NameText name text (written, spells, h) =
     elim (nat_lt 64 (length written)) as (λ b. nat_lt 64 (length written) ≡ b → (if b then Err TooMany else from_root (rdns_from 0 written)) ≡ Ok name → IsGoodName name) [
       | true ↦ λ _ e. absurd cc
-      | false ↦ λ is e. root_good written text name spells e (grind (arith, nat_tests))
+      | false ↦ λ is e. root_good written name (name_filled written text spells) e (grind (arith, nat_tests))
     ] refl h
 
 -- and so is an RDN
@@ -157,6 +159,27 @@ pub IsGoodName-from_RdnText : (name : RdnSequence) (text : List ℕ) → RdnText
 unfolding RdnText resolve_rdn
 IsGoodName-from_RdnText name text (written, spells, h) =
     elim (length written == 1) as (λ b. (length written == 1) ≡ b → (if b then from_root (rdns_from 0 written) else Err TooMany) ≡ Ok name → IsGoodName name) [
-      | true ↦ λ is e. root_good written text name spells e (grind (arith, nat_tests))
+      | true ↦ λ is e. root_good written name (name_filled written text spells) e (grind (arith, nat_tests))
       | false ↦ λ _ e. absurd cc
     ] refl h
+
+-- an RDN has a pair, whatever its text is
+rdn_of-filled : (text : List ℕ) → rdn_of text ≢ []
+unfolding rdn_of parts_of
+rdn_of-filled text = λ none. omega (arith, ap length none, length-map (parts_from 43 false text) pair_of, length-parts_from 43 false text)
+
+all_filled : (parts : List (List ℕ)) → AllByRecursion (λ ws. ws ≢ []) (map rdn_of parts)
+all_filled [] = tt
+all_filled (part ∷ parts) = (rdn_of-filled part, all_filled parts)
+
+written_of-filled : (text : List ℕ) → AllByRecursion (λ ws. ws ≢ []) (written_of text)
+unfolding written_of
+written_of-filled text =
+    elim (is_blank text) as (λ b. AllByRecursion (λ ws. ws ≢ []) (if b then [] else map rdn_of (parts_of 44 text))) [
+      | true ↦ tt
+      | false ↦ all_filled (parts_of 44 text)
+    ]
+
+-- and so is what few RDNs of a text give
+pub IsGoodName-from_written_of : (text : List ℕ) (name : RdnSequence) → from_root (rdns_from 0 (written_of text)) ≡ Ok name → length (written_of text) ≤ 64 → IsGoodName name
+IsGoodName-from_written_of text name h few = root_good (written_of text) name (written_of-filled text) h few

@@ -21,6 +21,8 @@ pub mod PrintedLemmas
 pub mod PrintedNameLemmas
 pub mod StripLemmas
 pub mod OrderLaws
+pub mod PathKeyLaws
+pub mod PathLemmas
 pub mod NameLaws
 pub mod Theorems
 pub mod FirstBadLemmas

@@ -18,12 +18,14 @@ pub name_cmp_total : IsTotalOrder name_cmp
 unfolding name_cmp
 name_cmp_total = lists_total (lists_total pair_total)
 
-both_equal : (a b : Ordering) → ordering_then a b ≡ Equal → (a ≡ Equal) × (b ≡ Equal)
+-- what ties the whole ties both parts
+pub both_equal : (a b : Ordering) → ordering_then a b ≡ Equal → (a ≡ Equal) × (b ≡ Equal)
 both_equal Less b e = absurd cc
 both_equal Equal b e = (refl, e)
 both_equal Greater b e = absurd cc
 
-equal_same : {A B : Type 0} (R : A → A → Ordering) (f : A → B) → ((x y : A) → R x y ≡ Equal → f x ≡ f y) → (xs ys : List A) → slice_cmp R xs ys ≡ Equal → map f xs ≡ map f ys
+-- lists that tie are the same in what ties their elements
+pub equal_same : {A B : Type 0} (R : A → A → Ordering) (f : A → B) → ((x y : A) → R x y ≡ Equal → f x ≡ f y) → (xs ys : List A) → slice_cmp R xs ys ≡ Equal → map f xs ≡ map f ys
 equal_same R f each [] [] e = refl
 equal_same R f each [] (y ∷ ys) e = absurd cc
 equal_same R f each (x ∷ xs) [] e = absurd cc
@@ -42,7 +44,8 @@ same_equal R f each (x ∷ xs) (y ∷ ys) e =
     let tail : map f xs ≡ map f ys = cc in
     ap (λ o. ordering_then o (slice_cmp R xs ys)) (each x y head) ∙ same_equal R f each xs ys tail
 
-nat_equal : (x y : ℕ) → nat_cmp x y ≡ Equal → x ≡ y
+-- numbers that tie are equal
+pub nat_equal : (x y : ℕ) → nat_cmp x y ≡ Equal → x ≡ y
 nat_equal x y e = elim (which_first x y) [
   | inl less ↦ (let is : Less ≡ nat_cmp x y = nat_cmp_is x y Less less in let clash = is ∙ e in absurd cc)
   | inr (inl same) ↦ same

@@ -1,18 +1,18 @@
--- What reading gives is a name of the text, or the cause why it is none.
-use Rattle.std.proofs.Common.{◌≡◌, ℕ, ◌+◌, reverse, IfOk, IfErr, true, false, List, [], ◌∷◌, length, Option, Some, None, Result, Ok, Err, refl, sym, ap, subst, ◌∙◌}
-use Rattle.std.specs.Prelude.{◌==◌, nat_lt, if◌then◌else◌}
+-- What is read as a name is a text of it, and the other way round.
+use Rattle.std.proofs.Common.{◌≡◌, ℕ, IfOk, List, Some, None, Result, Ok, Err, refl, sym, ap, subst, ◌∙◌}
+use Rattle.plain_values.specs.Answers.{Answers}
 use Rattle.regular_text.specs.Place.{IsPlace}
 use Rattle.regular_text.proofs.Theorems.{fault_at-None, fault_at-Some}
 use Rattle.dn_names.specs.declared.error.BadName.{BadName}
-use Rattle.dn_names.specs.declared.error.BadName.TheVariants.{Text, Part, TooMany, NoMemory}
 use Rattle.dn_names.specs.declared.modes.Mode.TheVariants.{Start}
-use Rattle.dn_names.specs.Names.{TypeAndValue, RdnSequence}
+use Rattle.dn_names.specs.Names.{RdnSequence}
 use Rattle.dn_names.specs.NameGrammar.{IsNameText}
 use Rattle.dn_names.specs.Spelling.{WrittenPair, SpellsName}
 use Rattle.dn_names.specs.Modes.{machine, text_fault}
 use Rattle.dn_names.specs.Reading.{written_of}
-use Rattle.dn_names.specs.Resolving.{add_pair, or_part, and_then, from_root, rdn_from, rdns_from, resolve, resolve_rdn, UnlessMemory}
-use Rattle.dn_names.specs.NameText.{NameText, RdnText, LeavesGrammar, MeaningCause, Gives, read_by, read_name, read_rdn}
+use Rattle.dn_names.specs.Resolving.{resolve, resolve_rdn}
+use Rattle.dn_names.specs.NameText.{NameText, RdnText, LeavesGrammar, read_by, read_name, read_rdn}
+use Rattle.dn_names.specs.NameCause.{cause_of}
 use Rattle.dn_names.proofs.MachineOfNames.{grammar_of, names_machine}
 use Rattle.dn_names.proofs.PairLemmas.{written_of-spelled}
 use Rattle.dn_names.proofs.GrammarIsSpelled.{spelled-IsNameText}
@@ -55,100 +55,24 @@ read_by-Ok meaning text name h =
       | None ↦ λ none e. (written_of text, SpellsName-written_of text (IsNameText-from_text_fault text none), e)
     ] refl h
 
--- a result that is no fault of the text
-abbrev IsNoText : {A : Type 0} → Result A BadName → Type 0
-IsNoText (Ok x) = Unit {0}
-IsNoText (Err (Text place)) = ⊥
-IsNoText (Err (Part index)) = Unit {0}
-IsNoText (Err TooMany) = Unit {0}
-IsNoText (Err NoMemory) = Unit {0}
-
-then_no_text : {A B : Type 0} (r : Result A BadName) (f : A → Result B BadName) → IsNoText r → ((x : A) → IsNoText (f x)) → IsNoText (and_then r f)
-then_no_text (Ok x) f n each = each x
-then_no_text (Err (Text place)) f n each = absurd n
-then_no_text (Err (Part index)) f n each = tt
-then_no_text (Err TooMany) f n each = tt
-then_no_text (Err NoMemory) f n each = tt
-
-part_no_text : {A B : Type 0} (index : ℕ) (r : Option A) (f : A → Result B BadName) → ((x : A) → IsNoText (f x)) → IsNoText (or_part index r f)
-part_no_text index None f each = tt
-part_no_text index (Some x) f each = each x
-
-rdn_no_text : (index : ℕ) (pairs : List TypeAndValue) (written : List WrittenPair) → IsNoText (rdn_from index pairs written)
-rdn_no_text index pairs [] = tt
-rdn_no_text index pairs (w ∷ ws) = part_no_text index (add_pair pairs w) (λ next. rdn_from (index + 1) next ws) (λ next. rdn_no_text (index + 1) next ws)
-
-rdns_no_text : (index : ℕ) (written : List (List WrittenPair)) → IsNoText (rdns_from index written)
-rdns_no_text index [] = tt
-rdns_no_text index (w ∷ ws) =
-    then_no_text (rdn_from index [] w) (λ rdn. and_then (rdns_from (index + length w) ws) (λ rdns. Ok (rdn ∷ rdns))) (rdn_no_text index [] w)
-    (λ rdn. then_no_text (rdns_from (index + length w) ws) (λ rdns. Ok (rdn ∷ rdns)) (rdns_no_text (index + length w) ws) (λ _. tt))
-
-root_no_text : (written : List (List WrittenPair)) → IsNoText (from_root (rdns_from 0 written))
-root_no_text written = then_no_text (rdns_from 0 written) (λ rdns. Ok (reverse rdns)) (rdns_no_text 0 written) (λ _. tt)
-
-resolve_no_text : (written : List (List WrittenPair)) → IsNoText (resolve written)
-unfolding resolve
-resolve_no_text written =
-    elim (nat_lt 64 (length written)) as (λ b. IsNoText (if b then Err TooMany else from_root (rdns_from 0 written))) [
-      | true ↦ tt
-      | false ↦ root_no_text written
-    ]
-
-resolve_rdn_no_text : (written : List (List WrittenPair)) → IsNoText (resolve_rdn written)
-unfolding resolve_rdn
-resolve_rdn_no_text written =
-    elim (length written == 1) as (λ b. IsNoText (if b then from_root (rdns_from 0 written) else Err TooMany)) [
-      | true ↦ root_no_text written
-      | false ↦ tt
-    ]
-
-refused : (meaning : Meaning) (text : List ℕ) (cause : BadName) → ((written : List (List WrittenPair)) → IsNoText (meaning written)) → text_fault text ≡ None → meaning (written_of text) ≡ Err cause → MeaningCause meaning text cause
-refused meaning text (Text place) no_text none e = absurd (subst (λ (r : Result RdnSequence BadName). IsNoText r) e (no_text (written_of text)))
-refused meaning text TooMany no_text none e = record { written = written_of text; spells = SpellsName-written_of text (IsNameText-from_text_fault text none); refused = e }
-refused meaning text (Part index) no_text none e = record { written = written_of text; spells = SpellsName-written_of text (IsNameText-from_text_fault text none); refused = e }
-refused meaning text NoMemory no_text none e = tt
-
-outside_at : (meaning : Meaning) (text : List ℕ) (place : ℕ) (cause : BadName) → text_fault text ≡ Some place → Text place ≡ cause → MeaningCause meaning text cause
-outside_at meaning text place (Text other) fault e = (let same : place ≡ other = cc in LeavesGrammar-from_text_fault text other (fault ∙ ap Some same))
-outside_at meaning text place TooMany fault e = absurd cc
-outside_at meaning text place (Part index) fault e = absurd cc
-outside_at meaning text place NoMemory fault e = tt
-
-read_by-Err : (meaning : Meaning) → ((written : List (List WrittenPair)) → IsNoText (meaning written)) → (text : List ℕ) (cause : BadName) → read_by meaning (text_fault text) text ≡ Err cause → MeaningCause meaning text cause
-read_by-Err meaning no_text text cause h =
-    elim (text_fault text) as (λ f. text_fault text ≡ f → read_by meaning f text ≡ Err cause → MeaningCause meaning text cause) [
-      | Some place ↦ λ fault e. outside_at meaning text place cause fault cc
-      | None ↦ λ none e. refused meaning text cause no_text none e
-    ] refl h
-
-gives_cause : (meaning : Meaning) → ((written : List (List WrittenPair)) → IsNoText (meaning written)) → (text : List ℕ) (cause : BadName) → UnlessMemory cause (read_by meaning (text_fault text) text ≡ Err cause) → MeaningCause meaning text cause
-gives_cause meaning no_text text NoMemory h = tt
-gives_cause meaning no_text text (Text place) h = read_by-Err meaning no_text text (Text place) h
-gives_cause meaning no_text text TooMany h = read_by-Err meaning no_text text TooMany h
-gives_cause meaning no_text text (Part index) h = read_by-Err meaning no_text text (Part index) h
-
--- what reading a name gives is a name of the text, or says why it is none
-pub NameText-Gives : (result : Result RdnSequence BadName) (text : List ℕ) → Gives result (read_name text) → IfOk result (λ name. NameText name text)
+-- what is read as a name is a text of it
+pub NameText-read_name : (name : RdnSequence) (text : List ℕ) → read_name text ≡ Ok name → NameText name text
 unfolding read_name NameText
-NameText-Gives (Ok name) text h = read_by-Ok resolve text name h
-NameText-Gives (Err cause) text h = tt
+NameText-read_name name text h = read_by-Ok resolve text name h
 
-pub MeaningCause-Gives : (result : Result RdnSequence BadName) (text : List ℕ) → Gives result (read_name text) → IfErr result (λ cause. MeaningCause resolve text cause)
-unfolding read_name
-MeaningCause-Gives (Ok name) text h = tt
-MeaningCause-Gives (Err cause) text h = gives_cause resolve resolve_no_text text cause h
-
--- the same of an RDN
-pub RdnText-Gives : (result : Result RdnSequence BadName) (text : List ℕ) → Gives result (read_rdn text) → IfOk result (λ name. RdnText name text)
+-- and what is read as an RDN is a text of one
+pub RdnText-read_rdn : (name : RdnSequence) (text : List ℕ) → read_rdn text ≡ Ok name → RdnText name text
 unfolding read_rdn RdnText
-RdnText-Gives (Ok name) text h = read_by-Ok resolve_rdn text name h
-RdnText-Gives (Err cause) text h = tt
+RdnText-read_rdn name text h = read_by-Ok resolve_rdn text name h
 
-pub RdnCause-Gives : (result : Result RdnSequence BadName) (text : List ℕ) → Gives result (read_rdn text) → IfErr result (λ cause. MeaningCause resolve_rdn text cause)
-unfolding read_rdn
-RdnCause-Gives (Ok name) text h = tt
-RdnCause-Gives (Err cause) text h = gives_cause resolve_rdn resolve_rdn_no_text text cause h
+-- the same of what a call answers
+pub NameText-Answers : (result : Result RdnSequence BadName) (text : List ℕ) → Answers (λ name. name) cause_of result (read_name text) → IfOk result (λ name. NameText name text)
+NameText-Answers (Ok name) text h = NameText-read_name name text h
+NameText-Answers (Err cause) text h = tt
+
+pub RdnText-Answers : (result : Result RdnSequence BadName) (text : List ℕ) → Answers (λ name. name) cause_of result (read_rdn text) → IfOk result (λ name. RdnText name text)
+RdnText-Answers (Ok name) text h = RdnText-read_rdn name text h
+RdnText-Answers (Err cause) text h = tt
 
 -- and each text of a name is read as it
 pub read_name-NameText : (name : RdnSequence) (text : List ℕ) → NameText name text → read_name text ≡ Ok name

@@ -1,5 +1,5 @@
 -- Why octets are no name: the causes in the order in which they are tried.
-use Rattle.std.specs.Prelude.{ℕ, List, length}
+use Rattle.std.specs.Prelude.{ℕ, List, length, Option, Some, None}
 use Rattle.dn_names.specs.declared.error.BadName.{BadName}
 use Rattle.dn_names.specs.declared.error.BadName.TheVariants.{Text, Part, TooMany, NoMemory}
 use Rattle.dn_names.specs.Spelling.{WrittenPair, SpellsName}
@@ -19,9 +19,14 @@ pub record HasBadPart (Fits : ℕ → Type 0) (octets : List ℕ) (index : ℕ) 
   pub fits : Fits (length written)
   pub first : IsFirstBad (placed_pairs written) index
 
--- the octets leave the grammar; else there are too many RDNs; else a pair is bad; want of memory says nothing
+-- the octets leave the grammar; else there are too many RDNs; else a pair is bad; want of memory is no such cause
 abbrev pub NameCause : (ℕ → Type 0) → List ℕ → BadName → Type 0
 NameCause Fits octets (Text place) = LeavesGrammar octets place
 NameCause Fits octets TooMany = HasOtherCount Fits octets
 NameCause Fits octets (Part index) = HasBadPart Fits octets index
-NameCause Fits octets NoMemory = Unit {0}
+NameCause Fits octets NoMemory = ⊥
+
+-- the cause that an error tells: want of memory tells none
+abbrev pub cause_of : BadName → Option BadName
+cause_of NoMemory = None
+cause_of error = Some error

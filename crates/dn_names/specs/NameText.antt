@@ -1,12 +1,12 @@
--- Which texts are names, and why others are none.
+-- Which texts are names (RFC 4514 section 3), and reading them as a function.
 use Rattle.std.specs.Prelude.{◌≡◌, ℕ, List, Option, Some, None, Result, Ok, Err}
 use Rattle.regular_text.specs.Place.{IsPlace}
 use Rattle.dn_names.specs.declared.error.BadName.{BadName}
-use Rattle.dn_names.specs.declared.error.BadName.TheVariants.{Text, Part, TooMany, NoMemory}
+use Rattle.dn_names.specs.declared.error.BadName.TheVariants.{Text}
 use Rattle.dn_names.specs.Names.{RdnSequence}
 use Rattle.dn_names.specs.NameGrammar.{IsNameText}
 use Rattle.dn_names.specs.Spelling.{WrittenPair, SpellsName}
-use Rattle.dn_names.specs.Resolving.{resolve, resolve_rdn, UnlessMemory}
+use Rattle.dn_names.specs.Resolving.{resolve, resolve_rdn}
 use Rattle.dn_names.specs.Modes.{text_fault}
 use Rattle.dn_names.specs.Reading.{written_of}
 
@@ -23,20 +23,8 @@ pub record LeavesGrammar (octets : List ℕ) (place : ℕ) : Type 0 where
   pub outside : ¬ (IsNameText octets)
   pub exact : IsPlace IsNameText octets place
 
--- the octets are a text of it, and their meaning is refused
-pub record IsRefused (meaning : List (List WrittenPair) → Result RdnSequence BadName) (octets : List ℕ) (cause : BadName) : Type 0 where
-  pub written : List (List WrittenPair)
-  pub spells : SpellsName written octets
-  pub refused : meaning written ≡ Err cause
-
--- why the octets are no such name, by the meaning alone
-abbrev pub MeaningCause : (List (List WrittenPair) → Result RdnSequence BadName) → List ℕ → BadName → Type 0
-MeaningCause meaning octets (Text place) = LeavesGrammar octets place
-MeaningCause meaning octets TooMany = IsRefused meaning octets TooMany
-MeaningCause meaning octets (Part index) = IsRefused meaning octets (Part index)
-MeaningCause meaning octets NoMemory = Unit {0}
-
--- the same as a function: the fault of the text first, and then the meaning of what is written
+-- reading as a function: the fault of the text first, and then the meaning of what is written; the laws on it say
+-- both ways what it gives, so that nobody needs to look into it
 abbrev pub read_by : (List (List WrittenPair) → Result RdnSequence BadName) → Option ℕ → List ℕ → Result RdnSequence BadName
 read_by meaning (Some place) octets = Err (Text place)
 read_by meaning None octets = meaning (written_of octets)
@@ -48,8 +36,3 @@ read_name octets = read_by resolve (text_fault octets) octets
 -- the name of one RDN that a text gives, or the first fault
 unfoldable pub read_rdn : List ℕ → Result RdnSequence BadName
 read_rdn octets = read_by resolve_rdn (text_fault octets) octets
-
--- what a call returned is what reading gives, unless memory ran out
-abbrev pub Gives : Result RdnSequence BadName → Result RdnSequence BadName → Type 0
-Gives (Ok name) read = read ≡ Ok name
-Gives (Err cause) read = UnlessMemory cause (read ≡ Err cause)

@@ -2,7 +2,7 @@
 use Rattle.std.specs.Prelude.{ℕ, List, Option, Some, None, Result, Ok, Err}
 use Rattle.std.specs.Option.{option_map, option_and_then}
 use Rattle.schema_core.specs.declared.kinds.Syntax.{Syntax}
-use Rattle.schema_core.specs.declared.kinds.Syntax.TheVariants.{Text, Ascii, Phone, Country, Octets, Oid, Name, Subtree, Aci}
+use Rattle.schema_core.specs.declared.kinds.Syntax.TheVariants.{Name}
 use Rattle.schema_core.specs.Attributes.{syntax_of}
 use Rattle.dn_names.specs.declared.error.BadName.{BadName}
 use Rattle.dn_names.specs.Names.{Keyed, RdnSequence}
@@ -17,15 +17,8 @@ read_key (Err cause) = None
 
 -- the key of octets of a syntax: that of a name is its printed form, with keys where the values stand
 abbrev pub value_key : Syntax → List ℕ → Option (List ℕ)
-value_key Text octets = plain_key Text octets
-value_key Ascii octets = plain_key Ascii octets
-value_key Phone octets = plain_key Phone octets
-value_key Country octets = plain_key Country octets
-value_key Octets octets = plain_key Octets octets
-value_key Oid octets = plain_key Oid octets
 value_key Name octets = read_key (read_name octets)
-value_key Subtree octets = plain_key Subtree octets
-value_key Aci octets = plain_key Aci octets
+value_key syntax octets = plain_key syntax octets
 
 -- the value of an attribute type that octets are: none where they are not of its syntax
 unfoldable pub value_of : ℕ → List ℕ → Option Keyed

@@ -2,7 +2,7 @@
 use Rattle.std.specs.Prelude.{ℕ, ◌+◌, ◌&&◌, ◌==◌, nat_lt, nat_le, List, [], ◌∷◌, length, reverse, Option, Some, None, Result, Ok, Err, option_map, option_and_then, if◌then◌else◌}
 use Rattle.schema_core.specs.Attributes.{attr_of, is_naming, syntax_of}
 use Rattle.dn_names.specs.declared.error.BadName.{BadName}
-use Rattle.dn_names.specs.declared.error.BadName.TheVariants.{Text, Part, TooMany, NoMemory}
+use Rattle.dn_names.specs.declared.error.BadName.TheVariants.{Part, TooMany}
 use Rattle.dn_names.specs.Names.{Keyed, TypeAndValue, RdnSequence}
 use Rattle.dn_names.specs.Spelling.{WrittenPair}
 use Rattle.dn_names.specs.Values.{plain_key}
@@ -64,10 +64,3 @@ resolve written = if nat_lt 64 (length written) then Err TooMany else from_root 
 -- an RDN alone
 unfoldable pub resolve_rdn : List (List WrittenPair) → Result RdnSequence BadName
 resolve_rdn written = if length written == 1 then from_root (rdns_from 0 written) else Err TooMany
-
--- what a cause of refusal other than want of memory says
-abbrev pub UnlessMemory : BadName → Type 0 → Type 0
-UnlessMemory NoMemory says = Unit {0}
-UnlessMemory (Text place) says = says
-UnlessMemory (Part index) says = says
-UnlessMemory TooMany says = says

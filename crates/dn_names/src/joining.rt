@@ -1,12 +1,12 @@
 //! Names cut and joined.
 
-ghost use Rattle.std.specs.Prelude.{◌≡◌, ◌++◌, ◌+◌, ◌<◌, ◌↔◌, ◌⊎◌, IsTrue, Err, length, drop, IfOk, IfErr};
+ghost use Rattle.std.specs.Prelude.{◌≡◌, ◌++◌, ◌+◌, ◌<◌, ◌≤◌, ◌↔◌, ◌⊎◌, IsTrue, Err, length, drop, IfOk, IfErr};
 ghost use Rattle.dn_names.specs.declared.error.BadName.TheVariants.{TooMany, NoMemory};
 ghost use Rattle.dn_names.specs.Names.{rdns_of};
 ghost use Rattle.dn_names.specs.NameOrder.{is_prefix_of};
 
 use crate::error::BadName;
-use crate::name::{Dn, append_rdns, copy_rdns};
+use crate::name::{Dn, Rdn, append_rdns, copy_rdns};
 use std::alloc::{AllocError, Global};
 
 const MOST_RDNS: usize = 64;
@@ -24,11 +24,15 @@ pub fn local(alloc: Global, superior: &Dn, below: &Dn) -> Result<Dn, AllocError>
 fn copy_from(alloc: Global, name: &Dn, first: usize) -> Result<Dn, AllocError>
     ensures ok { IfOk result (λ copy. copy ≡ drop first name.now) }
 {
-    let first = first.min(name.rdns.len());
-    let (_, rdns) = name.rdns.split_at(first);
-    Ok(Dn {
-        rdns: copy_rdns(alloc, rdns)?,
-    })
+    Dn::from_rdns(alloc, rdns_from(alloc, &name.rdns, first)?)
+}
+
+// The same of the RDNs of a name.
+fn rdns_from(alloc: Global, rdns: &[Rdn], first: usize) -> Result<Vec<Rdn>, AllocError>
+    ensures ok { IfOk result (λ copies. rdns_of copies.items ≡ drop first (rdns_of rdns.now)) }
+{
+    let (_, rdns) = rdns.split_at(first.min(rdns.len()));
+    copy_rdns(alloc, rdns)
 }
 
 /// The RDNs of `superior` and then those of `below`. `TooMany` comes exactly where they are more than 64,
@@ -54,9 +58,10 @@ fn is_too_long(superior: &Dn, below: &Dn) -> bool
 }
 
 fn join_rdns(alloc: Global, superior: &Dn, below: &Dn) -> Result<Dn, AllocError>
+    requires { length superior.now + length below.now ≤ 64 }
     ensures ok { IfOk result (λ name. name ≡ superior.now ++ below.now) }
 {
     let mut rdns = copy_rdns(alloc, &superior.rdns)?;
     append_rdns(&mut rdns, &below.rdns)?;
-    Ok(Dn { rdns })
+    Dn::from_rdns(alloc, rdns)
 }

@@ -9,11 +9,16 @@ ghost use Rattle.dn_names.specs.Spelling.{WrittenPair, SpellsName};
 ghost use Rattle.dn_names.specs.NameOrder.{name_cmp, is_same, is_prefix_of, types_and_keys};
 ghost use Rattle.dn_names.specs.NameText.{NameText, RdnText, read_name, read_rdn};
 ghost use Rattle.std.specs.List.{AllByRecursion};
+ghost use Rattle.dn_names.specs.declared.error.BadName.{BadName};
 ghost use Rattle.dn_names.specs.declared.error.BadName.TheVariants.{Part, TooMany};
+ghost use Rattle.dn_names.specs.NameCause.{NameCause};
 ghost use Rattle.dn_names.specs.Resolving.{resolve};
 ghost use Rattle.dn_names.specs.GoodPlaces.{placed_pairs, IsGoodPlace, IsFirstBad};
 ghost use Rattle.dn_names.specs.GoodNames.{IsGoodName};
 ghost use Rattle.dn_names.specs.Printing.{print_name, name_key};
+ghost use Rattle.dn_names.specs.PathKeys.{path_key};
+ghost use Rattle.std.specs.Ordering.{nat_cmp};
+ghost use Rattle.std.specs.Cmp.Lexicographic.{slice_cmp};
 
 /// The outer grammar has exactly the texts that spell some pairs, each text one list of them; and a text is a
 /// text of one name.
@@ -26,6 +31,17 @@ pub fn a_text_spells_one_name()
         → SpellsName one text → SpellsName other text → one ≡ other }
     ensures exact { (name : RdnSequence) (text : List ℕ) → NameText name text → read_name text ≡ Ok name }
     ensures rdn { (name : RdnSequence) (text : List ℕ) → RdnText name text → read_rdn text ≡ Ok name }
+{}
+
+/// A text is read as a name exactly where it is a text of the name, and is refused exactly for its cause; the same of
+/// one RDN. So reading is what these relations say, whatever it computes.
+pub fn a_text_is_read_as_its_name_or_refused_for_its_cause()
+    ensures ok { (name : RdnSequence) (text : List ℕ) → (read_name text ≡ Ok name) ↔ NameText name text }
+    ensures err { (text : List ℕ) (cause : BadName)
+        → (read_name text ≡ Err cause) ↔ NameCause (λ count. count ≤ 64) text cause }
+    ensures rdn_ok { (name : RdnSequence) (text : List ℕ) → (read_rdn text ≡ Ok name) ↔ RdnText name text }
+    ensures rdn_err { (text : List ℕ) (cause : BadName)
+        → (read_rdn text ≡ Err cause) ↔ NameCause (λ count. count ≡ 1) text cause }
 {}
 
 /// A name that some text spells is spelled by its printed form, which is read as it.
@@ -46,6 +62,14 @@ pub fn names_are_in_a_total_order()
         ↔ ((rest : List (List (ℕ × List ℕ))) × (types_and_keys name ≡ types_and_keys front ++ rest)) }
     ensures first { (front name : RdnSequence)
         → IsTrue (is_prefix_of front name) → length front < length name → name_cmp front name ≡ Less }
+{}
+
+/// Path keys compare by their octets as the names compare, and one begins another exactly where the name does.
+pub fn path_keys_compare_as_names()
+    ensures order { (one other : RdnSequence)
+        → slice_cmp nat_cmp (path_key one) (path_key other) ≡ name_cmp one other }
+    ensures prefix { (front name : RdnSequence) → IsTrue (is_prefix_of front name)
+        ↔ ((rest : List ℕ) × (path_key name ≡ path_key front ++ rest)) }
 {}
 
 /// What is cut off after a name was joined is there again, and what is joined after a name was cut is the name.

@@ -15,6 +15,7 @@ mod octets;
 mod order;
 mod parsing;
 mod parts;
+mod path;
 mod printing;
 mod resolve;
 mod scan;
@@ -27,7 +28,8 @@ pub use is_key::is_key_of;
 pub use joining::{join, local};
 pub use laws::{
     a_name_has_one_key, a_printed_name_is_read_again, a_refused_part_is_the_first_bad_pair,
-    a_text_spells_one_name, cutting_undoes_joining, names_are_in_a_total_order,
+    a_text_is_read_as_its_name_or_refused_for_its_cause, a_text_spells_one_name,
+    cutting_undoes_joining, names_are_in_a_total_order, path_keys_compare_as_names,
 };
 pub use make::make_value;
 pub use name::{Dn, Pair};

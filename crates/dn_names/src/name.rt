@@ -1,9 +1,12 @@
 //! Names, their RDNs and the pairs of these.
 
-ghost use Rattle.std.specs.Prelude.{◌≡◌, ◌++◌, IfOk, OnOk, length, slice_get};
+ghost use Rattle.std.specs.Prelude.{◌≡◌, ◌++◌, [], Some, None, IfOk, OnOk, length, take, slice_get, nat_le, if◌then◌else◌};
 ghost use Rattle.std.specs.Option.{option_map};
 ghost use Rattle.dn_names.specs.Names.{last_rdn, rdns_of};
+ghost use Rattle.dn_names.specs.GoodNames.{IsGoodName};
+ghost use Rattle.dn_names.specs.PathKeys.{path_key};
 
+use crate::path::{make_path, path_front};
 use crate::value::Value;
 use plain_values::OneOrMany;
 use schema_core::AttrId;
@@ -49,21 +52,70 @@ impl Pair {
 /// The pairs of an RDN, in the order of the table, which names may share.
 pub(crate) type Rdn = Rc<OneOrMany<Pair>>;
 
-/// A name: its RDNs, from the root on. The pairs of an RDN have distinct types, in the order of the table.
+/// A name: its RDNs, from the root on. It is good as reading makes it: at most 64 RDNs, the pairs of each of distinct
+/// types in the order of the table, each value of its type's syntax, with its key, and of at most 65,536 octets.
 #[derive(Debug, Drop)]
 pub struct Dn {
     pub(crate) rdns: Vec<Rdn>,
+    pub(crate) path: Vec<u8>,
 }
 
 impl Model for Dn {
     ghost use Rattle.dn_names.specs.Names.{RdnSequence, rdns_of};
+    ghost use Rattle.dn_names.specs.PathKeys.{IsKept};
 
     ghost Value = { RdnSequence };
 
     ghost view = { λ name. rdns_of name.rdns.items };
+
+    ghost invariant = { λ name. IsKept (rdns_of name.rdns.items) name.path.items };
 }
 
 impl Dn {
+    /// The name of these RDNs.
+    pub(crate) fn from_rdns(alloc: Global, rdns: Vec<Rdn>) -> Result<Dn, AllocError>
+        requires good { IsGoodName (rdns_of rdns.items) }
+        ensures ok { IfOk result (λ name. name ≡ rdns_of rdns.items) }
+    {
+        let path = make_path(alloc, &rdns)?;
+        Ok(Dn { rdns, path })
+    }
+
+    /// The name of no RDN, that of the root.
+    pub fn empty(alloc: Global) -> Dn
+        ensures exact { result ≡ [] }
+    {
+        Dn {
+            rdns: Vec::new(alloc),
+            path: Vec::new(alloc),
+        }
+    }
+
+    /// That each name is good; nothing is computed.
+    pub fn is_good(&self)
+        ensures good { IsGoodName self.now }
+    {
+        let _ = &self.path;
+    }
+
+    /// The path key: keys compare by their octets as names do, and one begins another exactly where the name does.
+    pub fn path(&self) -> &Vec<u8>
+        ensures exact { result.now.items ≡ path_key self.now }
+    {
+        &self.path
+    }
+
+    /// The path key of the first RDNs, `len` of them; None exactly where the name has fewer.
+    pub fn path_to(&self, len: usize) -> Option<&[u8]>
+        ensures exact { option_map (λ key. key.now) result
+            ≡ (if nat_le len (length self.now) then Some (path_key (take len self.now)) else None) }
+    {
+        if len > self.rdns.len() {
+            return None;
+        }
+        Some(path_front(&self.path, len))
+    }
+
     /// The number of RDNs.
     pub fn len(&self) -> usize
         ensures exact { result ≡ length self.now }
@@ -94,6 +146,7 @@ impl Dn {
     {
         Ok(Dn {
             rdns: copy_rdns(alloc, &self.rdns)?,
+            path: self.path.as_slice().to_vec(alloc)?,
         })
     }
 }

@@ -1,12 +1,14 @@
 //! Names from their texts.
 
-ghost use Rattle.std.specs.Prelude.{◌≡◌, ◌≤◌, ◌<◌, ◌+◌, ◌^◌, ◌==◌, nat_lt, [], length, map, Ok, Err, IfOk, IfErr, vec_len, vec_capacity};
+ghost use Rattle.std.specs.Prelude.{◌≡◌, ◌≤◌, ◌<◌, ◌+◌, ◌^◌, ◌==◌, nat_lt, [], length, map, reverse, Ok, Err, IfOk, IfErr, IfSome, vec_len, vec_capacity};
 ghost use Rattle.dn_names.specs.Names.{rdns_of};
+ghost use Rattle.dn_names.specs.GoodNames.{IsGoodName};
 ghost use Rattle.dn_names.specs.Reading.{rdn_of, parts_of, written_of};
-ghost use Rattle.dn_names.specs.Resolving.{rdn_from, rdns_from, from_root, UnlessMemory};
+ghost use Rattle.dn_names.specs.Resolving.{rdn_from, rdns_from, from_root};
 ghost use Rattle.dn_names.specs.Resolving.{resolve, resolve_rdn};
-ghost use Rattle.dn_names.specs.NameCause.{NameCause};
-ghost use Rattle.dn_names.specs.NameText.{NameText, RdnText, Gives, read_name, read_rdn};
+ghost use Rattle.dn_names.specs.NameCause.{NameCause, cause_of};
+ghost use Rattle.plain_values.specs.Answers.{Answers};
+ghost use Rattle.dn_names.specs.NameText.{NameText, RdnText, read_name, read_rdn};
 
 use crate::error::BadName;
 use crate::name::{Dn, Pair, Rdn};
@@ -24,8 +26,8 @@ use std::rc::Rc;
 /// answer.
 pub fn parse(alloc: Global, octets: &[u8]) -> Result<Dn, BadName>
     ensures ok { IfOk result (λ name. NameText name octets.now) }
-    ensures cause { IfErr result (λ error. NameCause (λ count. count ≤ 64) octets.now error) }
-    ensures exact { Gives result (read_name octets.now) }
+    ensures cause { IfErr result (λ error. IfSome (cause_of error) (NameCause (λ count. count ≤ 64) octets.now)) }
+    ensures exact { Answers (λ name. name) cause_of result (read_name octets.now) }
 {
     parse_by(alloc, octets)
 }
@@ -34,8 +36,8 @@ pub fn parse(alloc: Global, octets: &[u8]) -> Result<Dn, BadName>
 /// are those of `parse`, and come as they do there.
 pub fn parse_rdn(alloc: Global, octets: &[u8]) -> Result<Dn, BadName>
     ensures ok { IfOk result (λ name. RdnText name octets.now) }
-    ensures cause { IfErr result (λ error. NameCause (λ count. count ≡ 1) octets.now error) }
-    ensures exact { Gives result (read_rdn octets.now) }
+    ensures cause { IfErr result (λ error. IfSome (cause_of error) (NameCause (λ count. count ≡ 1) octets.now)) }
+    ensures exact { Answers (λ name. name) cause_of result (read_rdn octets.now) }
 {
     parse_rdn_by(alloc, octets)
 }
@@ -43,7 +45,7 @@ pub fn parse_rdn(alloc: Global, octets: &[u8]) -> Result<Dn, BadName>
 // As `parse`, by the function of the text.
 #[tactic(auto, unfolding(crate::specs::NameText::read_name, crate::specs::Resolving::resolve))]
 fn parse_by(alloc: Global, octets: &[u8]) -> Result<Dn, BadName>
-    ensures exact { Gives result (read_name octets.now) }
+    ensures exact { Answers (λ name. name) cause_of result (read_name octets.now) }
 {
     match fault_place(octets) {
         Some(place) => Err(BadName::Text { place }),
@@ -55,7 +57,7 @@ fn parse_by(alloc: Global, octets: &[u8]) -> Result<Dn, BadName>
 // As `parse_rdn`, by the function of the text.
 #[tactic(auto, unfolding(crate::specs::NameText::read_rdn, crate::specs::Resolving::resolve_rdn))]
 fn parse_rdn_by(alloc: Global, octets: &[u8]) -> Result<Dn, BadName>
-    ensures exact { Gives result (read_rdn octets.now) }
+    ensures exact { Answers (λ name. name) cause_of result (read_rdn octets.now) }
 {
     match fault_place(octets) {
         Some(place) => Err(BadName::Text { place }),
@@ -67,9 +69,8 @@ fn parse_rdn_by(alloc: Global, octets: &[u8]) -> Result<Dn, BadName>
 // The pairs of an RDN's text; the first of them has the number `first`.
 fn read_pairs(alloc: Global, text: &[u8], first: usize) -> Result<Vec<Pair>, BadName>
     requires { first + length text.now < 2 ^ 64 }
-    ensures ok { IfOk result (λ pairs. rdn_from first [] (rdn_of text.now) ≡ Ok pairs.items) }
+    ensures exact { Answers (λ pairs. pairs.items) cause_of result (rdn_from first [] (rdn_of text.now)) }
     ensures len { IfOk result (λ pairs. vec_len pairs ≡ length (rdn_of text.now)) }
-    ensures part { IfErr result (λ e. UnlessMemory e (rdn_from first [] (rdn_of text.now) ≡ Err e)) }
 {
     // an RDN of one pair is the usual one
     let mut pairs = Vec::with_capacity(alloc, 1)?;
@@ -104,8 +105,8 @@ fn make_room(alloc: Global, text: &[u8]) -> Result<Vec<Rdn>, AllocError>
 
 // The RDNs of a name's text, in the text's order.
 fn read_rdns(alloc: Global, text: &[u8]) -> Result<Vec<Rdn>, BadName>
-    ensures ok { IfOk result (λ rdns. rdns_from 0 (map rdn_of (parts_of 44 text.now)) ≡ Ok (rdns_of rdns.items)) }
-    ensures part { IfErr result (λ e. UnlessMemory e (rdns_from 0 (map rdn_of (parts_of 44 text.now)) ≡ Err e)) }
+    ensures exact { Answers (λ rdns. rdns_of rdns.items) cause_of result
+        (rdns_from 0 (map rdn_of (parts_of 44 text.now))) }
 {
     let mut rdns = make_room(alloc, text)?;
     let mut index = 0;
@@ -131,21 +132,26 @@ fn read_rdns(alloc: Global, text: &[u8]) -> Result<Vec<Rdn>, BadName>
 // The name of a text of the outer grammar.
 #[tactic(auto, unfolding(crate::specs::Reading::written_of))]
 fn read_all(alloc: Global, text: &[u8]) -> Result<Dn, BadName>
-    ensures ok { IfOk result (λ name. from_root (rdns_from 0 (written_of text.now)) ≡ Ok name) }
-    ensures part { IfErr result (λ e. UnlessMemory e (from_root (rdns_from 0 (written_of text.now)) ≡ Err e)) }
+    requires { length (written_of text.now) ≤ 64 }
+    ensures exact { Answers (λ name. name) cause_of result (from_root (rdns_from 0 (written_of text.now))) }
 {
     if is_blank(text) {
-        return Ok(Dn {
-            rdns: Vec::new(alloc),
-        });
+        return Ok(Dn::empty(alloc));
     }
     match read_rdns(alloc, text) {
-        Ok(mut rdns) => {
-            rdns.reverse();
-            Ok(Dn { rdns })
-        }
+        Ok(rdns) => Ok(from_last(alloc, rdns)?),
         Err(error) => Err(error),
     }
+}
+
+// The name of RDNs in the text's order.
+fn from_last(alloc: Global, rdns: Vec<Rdn>) -> Result<Dn, AllocError>
+    requires { IsGoodName (reverse (rdns_of rdns.items)) }
+    ensures ok { IfOk result (λ name. name ≡ reverse (rdns_of rdns.items)) }
+{
+    let mut rdns = rdns;
+    rdns.reverse();
+    Dn::from_rdns(alloc, rdns)
 }
 
 // Whether a text of the outer grammar has more than 64 RDNs.

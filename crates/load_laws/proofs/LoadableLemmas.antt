@@ -7,7 +7,7 @@ use Rattle.dn_names.specs.declared.error.BadName.{BadName}
 use Rattle.dn_names.specs.Names.{Keyed, TypeAndValue, RdnSequence, last_rdn}
 use Rattle.dn_names.specs.GoodNames.{IsGoodName}
 use Rattle.dn_names.specs.NameText.{read_name}
-use Rattle.dn_names.proofs.Theorems.{IsGoodName-from_NameText, NameText-Gives}
+use Rattle.dn_names.proofs.Theorems.{IsGoodName-from_NameText, NameText-read_name}
 use Rattle.dir_tree.specs.Entries.{Attribute, EntryInformation, values_of, has_key, IsGoodAttributes}
 use Rattle.dir_tree.specs.Changes.{put_value, with_value}
 use Rattle.dir_tree.proofs.Theorems.{good-with_value}
@@ -124,7 +124,7 @@ named-read line (Ok (rdn ∷ rdns)) name is = cc
 named-read line (Err bad) name is = absurd cc
 
 IsGoodName-read : (text : List ℕ) (name : RdnSequence) → read_name text ≡ Ok name → IsGoodName name
-IsGoodName-read text name is = IsGoodName-from_NameText name text (NameText-Gives (Ok name) text is)
+IsGoodName-read text name is = IsGoodName-from_NameText name text (NameText-read_name name text is)
 
 -- an entry of a good name has no attribute that isn't loadable
 IsLoadable-named : (name : RdnSequence) → IsGoodName name → IsLoadable (record { name = name; attributes = [] })

@@ -1,9 +1,9 @@
--- The RDNs of the vectors are those of the name.
-use Rattle.dn_names.proofs.NameOrderLemmas.{rdns_of-drop}
+-- What is cut off of a good name is good.
+use Rattle.dn_names.specs.Names.{rdns_of}
+use Rattle.dn_names.proofs.NameLaws.{IsGoodName-drop}
 use Rattle.dn_names.proofs.joining.copy_from.Goals as goal
 
-pub returns : goal.returns
-returns c = record {
-  ok = rw (← c.name.view_is, ← rdns_of-drop c.args.first c.name.inside.rdns.items, ← c.deref.ensures.value)
-      (rw (c.deref.ensures.len, ← c.len.ensures, ← c.min-first.ensures, ← c.split_at.ensures.back) c.in_ok-copy_rdns.ensures.ok);
+pub from_rdns-requires : goal.from_rdns-requires
+from_rdns-requires c = record {
+  good = rw (c.in_ok-rdns_from.ensures.ok, c.deref.ensures.value) (IsGoodName-drop c.args.first (rdns_of c.name.inside.rdns.items) c.name.invariant.good);
 }

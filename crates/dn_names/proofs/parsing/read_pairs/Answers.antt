@@ -5,8 +5,8 @@ use Rattle.dn_names.specs.Resolving.{rdn_from}
 use Rattle.dn_names.proofs.ResolveLemmas.{rdn_of-last, rdn_of-more, rdn_of-first, rdn_from-add, rdn_from-cause}
 use Rattle.dn_names.proofs.parsing.read_pairs.Goals as goal
 
-pub returns-in-Err-clause-part : goal.returns-in-Err-clause-part
-returns-in-Err-clause-part c =
+pub returns-in-Err-clause-exact : goal.returns-in-Err-clause-exact
+returns-in-Err-clause-exact c =
     let l = c.pairs in
     let first = rdn_of-first l.rest.now c.cut.result.0.now (λ x. x.now) c.cut.result.1 c.cut.ensures.exact in
     rdn_from-cause c.in-Err.error l.index l.pairs.items (pair_of c.cut.result.0.now) first.0 _ c.in-Err.ensures.part
@@ -25,8 +25,8 @@ pairs-preserved c =
       fits = omega (arith, l.invariant.fits, fits);
     }
 
-pub returns-in-None-clause-ok : goal.returns-in-None-clause-ok
-returns-in-None-clause-ok c =
+pub returns-in-None-clause-exact : goal.returns-in-None-clause-exact
+returns-in-None-clause-exact c =
     let l = c.pairs in
     let is = rw c.in-None.is at c.cut.ensures.exact in
     let last = rdn_of-last l.rest.now c.cut.result.0.now is in

@@ -11,7 +11,7 @@ rdns-preserved c =
     let is = rw c.in-Some.is at c.cut.ensures.exact in
     let fits = rw c.in-Some.is at c.cut.ensures.fits in
     let count : c.len-count.result ≡ length (rdn_of c.cut.result.0.now) = c.len-count.ensures ∙ c.in-Ok.ensures.len in
-    let more = rdns_at-more l.index l.rest.now c.cut.result.0.now (rdns_of l.rdns.items) c.in-Some.others.now c.in-Ok.pairs.items is c.in-Ok.ensures.ok in
+    let more = rdns_at-more l.index l.rest.now c.cut.result.0.now (rdns_of l.rdns.items) c.in-Some.others.now c.in-Ok.pairs.items is c.in-Ok.ensures.exact in
     let put = rw (c.in_ok-new.ensures.ok, c.from_vec.ensures.exact) at (rdns_of-push l.rdns.items c.in_ok-new.field-0 c.push.new.self.items c.in_ok-push.ensures.items) in
     record {
       exact =
