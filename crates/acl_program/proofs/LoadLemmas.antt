@@ -12,7 +12,7 @@ use Rattle.wire_io.specs.Scripted.{LinkState}
 use Rattle.acl_program.specs.declared.loading.Trouble.{Trouble}
 use Rattle.acl_program.specs.declared.loading.Trouble.TheVariants as trouble
 use Rattle.dir_tree.specs.Trees.{Numbered}
-use Rattle.schema_rules.specs.Checking.{entries_of}
+use Rattle.dir_tree.specs.Numbered.{entries_of}
 use Rattle.op_write.specs.declared.fault.LoadCause.TheVariants.{Limit}
 use Rattle.op_write.specs.DataFile.{OfRecord, loads}
 use Rattle.data_file.specs.declared.fault.DataCause.TheVariants as DataCause

@@ -3,7 +3,7 @@ use Rattle.std.proofs.Common.{◌≡◌, ℕ, Bool, List, Option, Ok, Err, refl,
 use Rattle.wire_io.specs.Files.{Files}
 use Rattle.command_words.specs.Command.{CommandView, Replay, Check, Dump}
 use Rattle.dir_tree.specs.Trees.{Numbered}
-use Rattle.schema_rules.specs.Checking.{entries_of}
+use Rattle.dir_tree.specs.Numbered.{entries_of}
 use Rattle.acl_program.specs.declared.status.Status.{Status}
 use Rattle.acl_program.specs.declared.loading.Trouble.{Trouble}
 use Rattle.acl_program.specs.declared.loading.Trouble.TheVariants as trouble

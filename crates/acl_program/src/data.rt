@@ -2,7 +2,7 @@
 
 ghost use Rattle.std.specs.Prelude.{◌≡◌, IfOk, string_bytes};
 ghost use Rattle.command_words.specs.Command.{Check, Dump};
-ghost use Rattle.schema_rules.specs.Checking.{entries_of};
+ghost use Rattle.dir_tree.specs.Numbered.{entries_of};
 ghost use Rattle.data_file.specs.Files.{AreOfTable};
 ghost use Rattle.acl_program.specs.Outcomes.{Checked, Dumped, status_of, text_of};
 ghost use Rattle.acl_program.specs.Playing.{Ends, Performs};

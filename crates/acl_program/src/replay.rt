@@ -4,7 +4,7 @@ ghost use Rattle.std.specs.Prelude.{◌≡◌, [], Some};
 ghost use Rattle.std.specs.Option.{option_map};
 ghost use Rattle.command_words.specs.Command.{Replay};
 ghost use Rattle.wire_io.specs.Scripted.{fresh_link};
-ghost use Rattle.schema_rules.specs.Checking.{entries_of};
+ghost use Rattle.dir_tree.specs.Numbered.{entries_of};
 ghost use Rattle.acl_program.specs.Outcomes.{dump_text};
 ghost use Rattle.acl_program.specs.Playing.{Performs, Plays, Shows, dumped_text, IsDumpable, Played, Replays};
 

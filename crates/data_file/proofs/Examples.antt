@@ -6,7 +6,7 @@ use Rattle.schema_core.specs.Attributes.{attributes}
 use Rattle.dn_names.specs.Classes.{class_of}
 use Rattle.dn_names.specs.Printing as printing
 use Rattle.dir_tree.specs.Entries.{EntryInformation}
-use Rattle.dir_tree.specs.Trees.{Numbered}
+use Rattle.dir_tree.specs.Numbered.{Numbered}
 use Rattle.ldif_core.specs.declared.types.LineCause.TheVariants.{Syntax, Changetype}
 use Rattle.ldif_core.specs.Lines.{continued, beginning, logical}
 use Rattle.ldif_core.specs.Fields.{is_kind, field_of, after_spaces, is_changetype, is_dn}

@@ -2,37 +2,27 @@
 use Rattle.std.proofs.Common.{◌≡◌, ◌≢◌, ℕ, Bool, true, false, List, [], ◌∷◌, length, Result, Ok, Err, IfErr, refl, sym, ap, ◌∙◌, arith}
 use Rattle.std.specs.Prelude.{if◌then◌else◌}
 use Rattle.dir_tree.specs.Entries.{EntryInformation}
-use Rattle.dir_tree.specs.Trees.{Numbered, is_before, put_row}
+use Rattle.dir_tree.specs.Trees.{is_before, put_in}
+use Rattle.dir_tree.specs.Numbered.{Numbered, entries_of}
+use Rattle.dir_tree.proofs.TreeTheorems.{entries_of-put_row}
 use Rattle.ldif_core.specs.declared.types.Position.{Position}
 use Rattle.ldif_core.specs.declared.types.Record.{Record}
 use Rattle.ldif_core.specs.declared.types.BadLine.{BadLine}
 use Rattle.ldif_core.specs.declared.types.BadLine.TheVariants as reading
 use Rattle.ldif_core.specs.Places.{records_from, IsNext, IsBadAt}
-use Rattle.schema_rules.specs.Checking.{entries_of}
 use Rattle.op_write.specs.Loading.{◌>>=◌, loaded_entry, IsLoaded}
-use Rattle.op_write.specs.DataFile.{FileFault, put_entry_in, in_file, record_entry, loads_after, loads_records, loads, file_start}
+use Rattle.op_write.specs.DataFile.{FileFault, in_file, record_entry, loads_after, loads_records, loads, file_start}
 use Rattle.data_file.specs.declared.fault.DataFault.{DataFault}
 use Rattle.data_file.specs.declared.fault.DataFault.TheVariants.{Bad, NoMemory}
 use Rattle.data_file.specs.Files.{IsDataFault, cause_of}
 use Rattle.data_file.specs.Steps.{of_line, IsRefused, IsStep}
-
--- a row that is put among rows puts its entry among their entries
-put_before : (row first : Numbered) (rows : List Numbered) (before : Bool) → entries_of (put_row row rows) ≡ put_entry_in row.entry (entries_of rows)
-    → entries_of (if before then first ∷ put_row row rows else row ∷ first ∷ rows)
-    ≡ (if before then first.entry ∷ put_entry_in row.entry (entries_of rows) else row.entry ∷ first.entry ∷ entries_of rows)
-put_before row first rows true later = ap (λ entries. first.entry ∷ entries) later
-put_before row first rows false later = refl
-
-pub entries_of-put_row : (row : Numbered) (rows : List Numbered) → entries_of (put_row row rows) ≡ put_entry_in row.entry (entries_of rows)
-entries_of-put_row row [] = refl
-entries_of-put_row row (first ∷ rows) = put_before row first rows (is_before first.entry.name row.entry.name) (entries_of-put_row row rows)
 
 -- loading goes on after a record
 loads_after-record : (old new : List Numbered) (given : Record) (rest : List (Result Record BadLine)) → IsLoaded old given new
     → loads_after (entries_of old) (Ok given ∷ rest) ≡ loads_after (entries_of new) rest
 unfolding loads_after
 loads_after-record old new given rest is =
-    ap (λ found. in_file found >>= λ entry. loads_after (put_entry_in entry (entries_of old)) rest) is.loaded
+    ap (λ found. in_file found >>= λ entry. loads_after (put_in entry (entries_of old)) rest) is.loaded
     ∙ ap (λ entries. loads_after entries rest) (sym (ap entries_of is.added ∙ entries_of-put_row (record { id = is.id; entry = is.entry }) old))
 
 pub loads_after-step : (text : List ℕ) (from to : Position) (old new : List Numbered) → IsStep text from old to new
@@ -58,7 +48,7 @@ pub IsDataFault-record : (fault : DataFault) (text : List ℕ) (from to : Positi
 unfolding loads_after
 IsDataFault-record (Bad line cause) text from to entries given next is =
     ap (λ records. loads_after entries records) next.record_read
-    ∙ ap (λ found. found >>= λ entry. loads_after (put_entry_in entry entries) (records_from text to)) is
+    ∙ ap (λ found. found >>= λ entry. loads_after (put_in entry entries) (records_from text to)) is
 IsDataFault-record NoMemory text from to entries given next is = tt
 
 -- the fault that goes out is the one that came
@@ -67,11 +57,11 @@ pub fault-same : {T : Type 0} (out : Result T DataFault) (fault came : DataFault
 fault-same out fault came whole is same says = rw is (rw same says)
 
 -- entries among which one was put are not none
-put_entry_in-filled : (entry : EntryInformation) (entries : List EntryInformation) → put_entry_in entry entries ≢ []
-put_entry_in-filled entry [] = λ none. cc
-put_entry_in-filled entry (first ∷ rest) = by (is_before first.name entry.name)
+put_in-filled : (entry : EntryInformation) (entries : List EntryInformation) → put_in entry entries ≢ []
+put_in-filled entry [] = λ none. cc
+put_in-filled entry (first ∷ rest) = by (is_before first.name entry.name)
   where
-    by : (before : Bool) → (if before then first ∷ put_entry_in entry rest else entry ∷ first ∷ rest) ≢ []
+    by : (before : Bool) → (if before then first ∷ put_in entry rest else entry ∷ first ∷ rest) ≢ []
     by true = λ none. cc
     by false = λ none. cc
 
@@ -80,8 +70,8 @@ given_none : (entries : List EntryInformation) (records : List (Result Record Ba
 unfolding loads_after
 given_none entries [] is = (cc, refl)
 given_none entries (first ∷ rest) is =
-    elim (record_entry entries first) as (λ found. (found >>= λ entry. loads_after (put_entry_in entry entries) rest) ≡ Ok [] → (entries ≡ []) × (first ∷ rest ≡ [])) [
-      | Ok entry ↦ λ e. absurd (put_entry_in-filled entry entries ((given_none (put_entry_in entry entries) rest e).0))
+    elim (record_entry entries first) as (λ found. (found >>= λ entry. loads_after (put_in entry entries) rest) ≡ Ok [] → (entries ≡ []) × (first ∷ rest ≡ [])) [
+      | Ok entry ↦ λ e. absurd (put_in-filled entry entries ((given_none (put_in entry entries) rest e).0))
       | Err fault ↦ λ e. absurd cc
     ] is
 

@@ -10,12 +10,10 @@ use Rattle.wire_io.specs.Putting.{PutsAll}
 use Rattle.wire_io.proofs.Theorems.{PutsAll-nothing, PutsAll-cut, PutsAll-then}
 use Rattle.dir_tree.specs.Entries.{EntryInformation}
 use Rattle.dir_tree.specs.declared.number.EntryNo.{EntryNo}
-use Rattle.dir_tree.specs.Trees.{Numbered, entry_of}
+use Rattle.dir_tree.specs.Numbered.{Numbered, entry_of, entries_of}
 use Rattle.ldif_core.specs.Written.{AreInTable}
 use Rattle.ldif_core.specs.WrittenFile.{written_file, written_record, written_records}
-use Rattle.schema_rules.specs.Checking.{entries_of}
-use Rattle.data_file.specs.Files.{AreOfTable}
-use Rattle.data_file.specs.Steps.{text_at}
+use Rattle.data_file.specs.Steps.{AreOfTable, text_at}
 
 -- a text of nothing was put
 pub PutsAll-empty : (old : Option (List ℕ)) (text : List ℕ) → text ≡ [] → PutsAll {T = Unit {0}} old text (Ok tt) old

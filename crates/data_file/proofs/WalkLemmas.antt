@@ -6,10 +6,9 @@ use Rattle.std.specs.Option.{option_map, option_map_or}
 use Rattle.std.proofs.lemmas.Bool.{cond-true, cond-false, ne_eqb, eq-eqb}
 use Rattle.dir_tree.specs.Scopes.{scoped}
 use Rattle.dir_tree.specs.declared.scope.Scope.TheVariants.{Sub}
-use Rattle.dir_tree.specs.Trees.{Numbered, ids_of, entry_of, suffix_of, AreDistinct, IsTree}
+use Rattle.dir_tree.specs.Numbered.{Numbered, ids_of, entry_of, suffix_of, AreDistinct, IsNumberedTree, entries_of}
 use Rattle.dir_tree.proofs.TreeTheorems.{scoped-Sub}
 use Rattle.ldif_core.specs.WrittenFile.{written_record, written_records}
-use Rattle.schema_rules.specs.Checking.{entries_of}
 use Rattle.data_file.specs.Steps.{text_at}
 
 -- what holds of each, by two things that hold of each
@@ -46,7 +45,7 @@ texts_found rows (row ∷ items) found =
     ap (λ entry. option_map_or written_record entry [] ++ flat_map (text_at rows) (ids_of items)) found.0
     ∙ ap (λ later. written_record row.entry ++ later) (texts_found rows items found.1)
 
-pub written_records-below : (rows : List Numbered) (suffix : ℕ) → IsTree rows → suffix_of rows ≡ Some suffix → flat_map (text_at rows) (scoped Sub suffix rows) ≡ written_records (entries_of rows)
+pub written_records-below : (rows : List Numbered) (suffix : ℕ) → IsNumberedTree rows → suffix_of rows ≡ Some suffix → flat_map (text_at rows) (scoped Sub suffix rows) ≡ written_records (entries_of rows)
 written_records-below rows suffix tree is =
     ap (flat_map (text_at rows)) (scoped-Sub suffix rows tree is) ∙ texts_found rows rows (all_found rows tree.distinct)
 

@@ -1,17 +1,11 @@
--- What loading a data file answers, and what is true of each tree that was loaded.
+-- What loading a data file answers.
 use Rattle.std.specs.Prelude.{◌≡◌, List, Result, Err}
-use Rattle.std.specs.List.{AllByRecursion}
 use Rattle.dir_tree.specs.Entries.{EntryInformation}
-use Rattle.ldif_core.specs.Written.{AreInTable}
 use Rattle.op_write.specs.DataFile.{FileCause, OfLine, OfRecord, FileFault}
 use Rattle.data_file.specs.declared.fault.DataCause.{DataCause}
 use Rattle.data_file.specs.declared.fault.DataCause.TheVariants.{Line, Record}
 use Rattle.data_file.specs.declared.fault.DataFault.{DataFault}
 use Rattle.data_file.specs.declared.fault.DataFault.TheVariants.{Bad, NoMemory}
-
--- the types of all attributes are in the table
-abbrev pub AreOfTable : List EntryInformation → Type 0
-AreOfTable entries = AllByRecursion (λ entry. AreInTable entry.attributes) entries
 
 -- the cause as the definition names it
 abbrev pub cause_of : DataCause → FileCause

@@ -1,14 +1,16 @@
 -- How a file is loaded record by record: what one step does, and what a fault of the crates below is here; and how one
 -- is written, entry by entry.
 use Rattle.std.specs.Prelude.{◌≡◌, ℕ, List, [], Result, Err}
+use Rattle.std.specs.List.{AllByRecursion}
 use Rattle.std.specs.Option.{option_map_or}
 use Rattle.dir_tree.specs.Entries.{EntryInformation}
-use Rattle.dir_tree.specs.Trees.{Numbered, entry_of}
+use Rattle.dir_tree.specs.Numbered.{Numbered, entry_of}
 use Rattle.ldif_core.specs.declared.types.Position.{Position}
 use Rattle.ldif_core.specs.declared.types.Record.{Record}
 use Rattle.ldif_core.specs.declared.types.BadLine.{BadLine}
 use Rattle.ldif_core.specs.declared.types.BadLine.TheVariants as reading
 use Rattle.ldif_core.specs.Places.{IsNext}
+use Rattle.ldif_core.specs.Written.{AreInTable}
 use Rattle.ldif_core.specs.WrittenFile.{written_record}
 use Rattle.op_write.specs.declared.fault.LoadFault.{LoadFault}
 use Rattle.op_write.specs.declared.fault.LoadFault.TheVariants as loading
@@ -43,3 +45,7 @@ pub record IsStep (text : List ℕ) (from : Position) (old : List Numbered) (to 
 -- an empty line and the record of the entry of a number: nothing where the number is not in use
 abbrev pub text_at : List Numbered → ℕ → List ℕ
 text_at rows id = option_map_or written_record (entry_of id rows) []
+
+-- the types of all attributes are in the table
+abbrev pub AreOfTable : List EntryInformation → Type 0
+AreOfTable entries = AllByRecursion (λ entry. AreInTable entry.attributes) entries

@@ -1,21 +1,20 @@
 //! A data file, loaded.
 
 ghost use Rattle.std.specs.Prelude.{◌≡◌, [], Ok, IfOk, IfErr, IfSome, IfNone, OnOk};
-ghost use Rattle.schema_rules.specs.Checking.{entries_of};
-ghost use Rattle.schema_rules.specs.Rules.{IsGoodTree, MeetsRules};
+ghost use Rattle.dir_tree.specs.Numbered.{entries_of};
+ghost use Rattle.schema_rules.specs.Rules.{IsGoodTree};
 ghost use Rattle.ldif_core.specs.Places.{IsPlace, records_from};
 ghost use Rattle.ldif_core.specs.WrittenFile.{written_file};
 ghost use Rattle.op_write.specs.Loading.{IsLoaded, loaded_entry};
 ghost use Rattle.op_write.specs.DataFile.{loads, loads_after, file_start, in_file};
-ghost use Rattle.data_file.specs.Files.{IsDataFault, AreOfTable};
+ghost use Rattle.data_file.specs.Files.{IsDataFault};
 ghost use Rattle.data_file.specs.Steps.{IsStep, IsRefused, of_line, of_record};
 
 use crate::fault::{DataCause, DataFault};
 use dir_tree::Tree;
 use ldif_core::{BadLine, LineCause, Position, Record, next_record};
-use load_laws::{what_is_loaded_is_loadable, what_is_written_loads_again};
+use load_laws::{what_is_loaded_is_good, what_is_loaded_is_loadable, what_is_written_loads_again};
 use op_write::{LoadFault, load_record};
-use schema_rules::a_tree_stays_good;
 use std::alloc::Global;
 
 /// The tree of a data file: the entries of its records, each of which joins those before it. `Bad` comes exactly where
@@ -24,7 +23,6 @@ use std::alloc::Global;
 pub fn load(alloc: Global, text: &[u8]) -> Result<Tree, DataFault>
     ensures ok { IfOk result (λ tree. loads text.now ≡ Ok (entries_of tree)) }
     ensures good { IfOk result (λ tree. IsGoodTree (entries_of tree)) }
-    ensures table { IfOk result (λ tree. AreOfTable (entries_of tree)) }
     ensures again { IfOk result (λ tree.
         loads (written_file (entries_of tree)) ≡ Ok (entries_of tree)) }
     ensures bad { IfErr result (λ fault. IsDataFault fault (loads text.now)) }
@@ -37,7 +35,7 @@ pub fn load(alloc: Global, text: &[u8]) -> Result<Tree, DataFault>
             cause: DataCause::Line(LineCause::Syntax),
         });
     }
-    tree.entries_form_a_tree();
+    what_is_loaded_is_good();
     what_is_loaded_is_loadable();
     what_is_written_loads_again();
     Ok(tree)
@@ -48,7 +46,6 @@ fn load_all(alloc: Global, text: &[u8], tree: &mut Tree) -> Result<(), DataFault
     requires { tree.old ≡ [] }
     ensures ok { OnOk result (
         loads_after [] (records_from text.now file_start) ≡ Ok (entries_of tree.new)) }
-    ensures good { OnOk result (MeetsRules (entries_of tree.new)) }
     ensures bad { IfErr result (λ fault.
         IsDataFault fault (loads_after [] (records_from text.now file_start))) }
 {
@@ -69,8 +66,6 @@ fn load_next(
     requires { IsPlace text.now at }
     ensures more { IfOk result (λ next.
         IfSome next (λ to. IsStep text.now at tree.old to tree.new)) }
-    ensures good { IfOk result (λ next. IfSome next (λ to.
-        MeetsRules (entries_of tree.old) → MeetsRules (entries_of tree.new))) }
     ensures end { IfOk result (λ next. IfNone next (records_from text.now at ≡ [])) }
     ensures kept { IfOk result (λ next. IfNone next (tree.new ≡ tree.old)) }
     ensures bad { IfErr result (λ fault.
@@ -89,17 +84,11 @@ fn load_next(
 // Loads a record.
 fn load_one(alloc: Global, given: &Record, tree: &mut Tree) -> Result<(), DataFault>
     ensures ok { OnOk result (IsLoaded tree.old given.now tree.new) }
-    ensures good { OnOk result (MeetsRules (entries_of tree.old) → MeetsRules (entries_of tree.new)) }
     ensures bad { IfErr result (λ fault.
         IsRefused fault (in_file (loaded_entry (entries_of tree.old) given.now))) }
 {
-    a_tree_stays_good();
-    tree.entries_form_a_tree();
     match load_record(alloc, tree, given) {
-        Ok(()) => {
-            tree.entries_form_a_tree();
-            Ok(())
-        }
+        Ok(()) => Ok(()),
         Err(fault) => Err(refused(fault)),
     }
 }

@@ -6,25 +6,27 @@ ghost use Rattle.dir_tree.specs.Scopes.{scoped};
 ghost use Rattle.dir_tree.specs.declared.scope.Scope.TheVariants.{Sub};
 ghost use Rattle.ldif_core.specs.Written.{AreInTable};
 ghost use Rattle.ldif_core.specs.WrittenFile.{written_file, written_record, written_records};
-ghost use Rattle.schema_rules.specs.Checking.{entries_of};
-ghost use Rattle.data_file.specs.Files.{AreOfTable};
-ghost use Rattle.data_file.specs.Steps.{text_at};
+ghost use Rattle.dir_tree.specs.Numbered.{entries_of};
+ghost use Rattle.schema_rules.specs.Rules.{IsGoodTree};
+ghost use Rattle.data_file.specs.Steps.{AreOfTable, text_at};
 
 use crate::fault::NoMemory;
 use dir_tree::{Entry, EntryNo, Scope, Tree};
 use ldif_core::put_entry;
+use load_laws::the_types_of_good_entries_are_in_the_table;
 use std::alloc::Global;
 use wire_io::{PutFault, Sink, write_all};
 
 /// Puts the data file of the tree: its version, and the record of each entry in the order of names, with an empty line
-/// before each. The tree's types are all in the table. After a refusal a front of it was put; `Failed` comes where the
-/// sink's count of faults rose.
+/// before each. The tree is a good one. After a refusal a front of it was put; `Failed` comes where the sink's count of
+/// faults rose.
 pub fn put_tree<K: Sink>(alloc: Global, tree: &Tree, out: &mut K) -> Result<(), PutFault>
-    requires table { AreOfTable (entries_of tree.now) }
+    requires { IsGoodTree (entries_of tree.now) }
     ensures tells { PutsAll (K.put out.old) (written_file (entries_of tree.now))
         result (K.put out.new) }
     ensures cause { PutCause (K.faults out.old) (K.faults out.new) result }
 {
+    the_types_of_good_entries_are_in_the_table();
     match write_all(out, b"version: 1\n") {
         Ok(()) => put_entries(alloc, tree, out),
         Err(fault) => Err(fault),

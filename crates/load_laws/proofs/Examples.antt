@@ -19,10 +19,9 @@ use Rattle.dn_names.specs.Resolving.{naming_value}
 use Rattle.dir_tree.specs.Entries.{EntryInformation, IsGoodAttribute}
 use Rattle.dir_tree.specs.EntryClasses.{has_class}
 use Rattle.dir_tree.specs.Points.{is_subentry, is_access_subentry}
-use Rattle.dir_tree.specs.Trees.{Numbered, IsTree}
+use Rattle.dir_tree.specs.Trees.{IsTree}
 use Rattle.ldif_core.specs.WrittenFile.{written_file}
-use Rattle.schema_rules.specs.Checking.{entries_of}
-use Rattle.schema_rules.specs.Rules.{lacks_own_value, breaks_classes, has_unread, has_two_values, is_misplaced, is_past_limits, broken_rule, MeetsRules}
+use Rattle.schema_rules.specs.Rules.{lacks_own_value, has_other_structural, breaks_classes, has_unread, has_two_values, is_misplaced, is_past_limits, broken_rule, MeetsRules, IsGoodTree}
 use Rattle.op_write.specs.Loading.{loaded_value}
 use Rattle.op_write.specs.DataFile.{loads}
 use Rattle.load_laws.specs.Loadable.{IsLoadableValue, IsLoadable}
@@ -58,8 +57,8 @@ unit = record {
 }
 
 -- the tree, the suffix first
-abbrev rows : List Numbered
-rows = record { id = 1; entry = organization } ∷ record { id = 0; entry = unit } ∷ []
+abbrev entries : List EntryInformation
+entries = organization ∷ unit ∷ []
 
 -- what computes a key, and a rule
 unfoldable keys : Unit {0}
@@ -67,7 +66,7 @@ unfolding caseless encode chars is_utf8 folded_octets prepared_text key_of is_of
 keys = tt
 
 unfoldable rules : Unit {0}
-unfolding broken_rule lacks_own_value breaks_classes has_unread has_two_values is_misplaced is_past_limits has_class is_subentry is_access_subentry name_cmp is_same attributes classes
+unfolding broken_rule lacks_own_value has_other_structural breaks_classes has_unread has_two_values is_misplaced is_past_limits has_class is_subentry is_access_subentry name_cmp is_same attributes classes
 rules = tt
 
 -- each value is read from its octets
@@ -108,11 +107,11 @@ unfolding keys
 name_people = refl
 
 -- neither entry breaks a rule beside the other
-meets_organization : broken_rule (unit ∷ []) organization ≡ None
+meets_organization : broken_rule None (unit ∷ []) organization ≡ None
 unfolding rules
 meets_organization = refl
 
-meets_unit : broken_rule (organization ∷ []) unit ≡ None
+meets_unit : broken_rule None (organization ∷ []) unit ≡ None
 unfolding rules
 meets_unit = refl
 
@@ -136,18 +135,16 @@ each_of_two P one other holds later (first ∷ []) back x is =
 each_of_two P one other holds later (first ∷ second ∷ front) back x is =
     absurd (nothing front back x (let rest : [] ≡ front ++ x ∷ back = cc in rest))
 
-meets : MeetsRules (entries_of rows)
-meets = each_of_two (λ entries entry. broken_rule entries entry ≡ None) organization unit meets_organization meets_unit
+meets : MeetsRules entries
+meets = each_of_two (λ others entry. broken_rule None others entry ≡ None) organization unit meets_organization meets_unit
 
--- the rows are a tree
-tree : IsTree rows
+-- the entries are a tree
+tree : IsTree entries
 unfolding name_cmp is_same
 tree = record {
   sorted = ((refl, tt), (tt, tt));
-  distinct = ((λ is. absurd (omega arith), tt), (tt, tt));
   rooted = (refl, tt);
   named = (λ is. cc, (λ is. cc, tt));
-  numbers = (omega arith, (omega arith, tt));
   fits = omega arith;
 }
 
@@ -187,6 +184,18 @@ loadable_unit = record {
   values = ((one_value 0 (value "organizationalUnit" "2.5.6.5") refl read_unit, tt), ((one_value 9 people refl read_people, tt), tt));
 }
 
--- so its file gives them
-loaded : loads (written_file (organization ∷ unit ∷ [])) ≡ Ok (organization ∷ unit ∷ [])
-loaded = loads-written_file rows (λ is. cc) tree meets (loadable_organization, (loadable_unit, tt))
+-- so the tree is good
+good : IsGoodTree entries
+good = record {
+  some = λ is. cc;
+  good = record {
+    tree = tree;
+    names = (loadable_organization.name, (loadable_unit.name, tt));
+    attributes = (loadable_organization.good, (loadable_unit.good, tt));
+    meets = meets;
+  };
+}
+
+-- and its file gives it
+loaded : loads (written_file entries) ≡ Ok entries
+loaded = loads-written_file entries good (loadable_organization, (loadable_unit, tt))

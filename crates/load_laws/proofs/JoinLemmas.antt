@@ -3,14 +3,14 @@ use Rattle.std.proofs.Common.{◌≡◌, ℕ, ◌==◌, Bool, true, false, if◌
 use Rattle.std.specs.List.{AllByRecursion}
 use Rattle.base64.specs.GeneralPurpose.{IsBytes}
 use Rattle.dir_tree.specs.Entries.{EntryInformation}
-use Rattle.dir_tree.specs.Trees.{is_before}
+use Rattle.dir_tree.specs.Trees.{is_before, has_name, lacks_superior, put_in}
 use Rattle.ldif_core.specs.declared.types.Record.{Record}
 use Rattle.ldif_core.specs.declared.types.BadLine.{BadLine}
 use Rattle.ldif_core.specs.Places.{records_from}
 use Rattle.schema_rules.specs.Rules.{broken_rule}
 use Rattle.op_write.specs.declared.fault.LoadFault.{LoadFault}
-use Rattle.op_write.specs.Loading.{entry_of_record, has_entry, lacks_superior_entry, ruled, placed, loaded_entry}
-use Rattle.op_write.specs.DataFile.{put_entry_in, in_file, record_entry, loads_after, loads_records, file_start, loads}
+use Rattle.op_write.specs.Loading.{entry_of_record, ruled, placed, loaded_entry}
+use Rattle.op_write.specs.DataFile.{in_file, record_entry, loads_after, loads_records, file_start, loads}
 use Rattle.load_laws.specs.Loadable.{IsLoadable}
 use Rattle.load_laws.proofs.OctetLemmas.{AreBelow-from_IsBytes}
 use Rattle.load_laws.proofs.ReadLemmas.{HasOctets, GivesOctets, GivesOctets-records_from}
@@ -23,7 +23,7 @@ unless_fault :
 unless_fault true one other entry made is = absurd cc
 unless_fault false one other entry made is = absurd cc
 
-ruled-same : (line : ℕ) (entry made : EntryInformation) (broken : Option ℕ) → ruled line entry broken ≡ Ok made → entry ≡ made
+pub ruled-same : (line : ℕ) (entry made : EntryInformation) (broken : Option ℕ) → ruled line entry broken ≡ Ok made → entry ≡ made
 ruled-same line entry made None is = cc
 ruled-same line entry made (Some code) is = unless_fault (code == 11) _ _ entry made is
 
@@ -35,13 +35,13 @@ unless_refused true lacks one other entry made last same is = absurd cc
 unless_refused false true one other entry made last same is = absurd cc
 unless_refused false false one other entry made last same is = same is
 
-placed-same :
+pub placed-same :
     (entries : List EntryInformation) (line : ℕ) (entry made : EntryInformation) → placed entries line entry ≡ Ok made
     → entry ≡ made
 unfolding placed
 placed-same entries line entry made is =
-    unless_refused (has_entry entry.name entries) (lacks_superior_entry entry.name entries) _ _ entry made _
-    (ruled-same line entry made (broken_rule entries entry)) is
+    unless_refused (has_name entry.name entries) (lacks_superior entry.name entries) _ _ entry made _
+    (ruled-same line entry made (broken_rule None entries entry)) is
 
 -- so the entry that a record of octets adds is loadable
 IsLoadable-loaded :
@@ -52,7 +52,7 @@ IsLoadable-loaded entries given entry octets is =
     let made = both_given (entry_of_record given) (placed entries given.line) entry is in
     subst IsLoadable (placed-same entries given.line made.0 entry made.2) (IsLoadable-entry_of_record given made.0 octets made.1)
 
-in_file-given :
+pub in_file-given :
     (found : Result EntryInformation LoadFault) (entry : EntryInformation) → in_file found ≡ Ok entry → found ≡ Ok entry
 in_file-given (Ok made) entry is = cc
 in_file-given (Err fault) entry is = absurd cc
@@ -72,13 +72,13 @@ put_first :
 put_first true entry first rest later is all more = (all.0, more)
 put_first false entry first rest later is all more = (is, all)
 
-loadable-put_entry_in :
+loadable-put_in :
     (entry : EntryInformation) (entries : List EntryInformation) → IsLoadable entry → AllByRecursion IsLoadable entries
-    → AllByRecursion IsLoadable (put_entry_in entry entries)
-loadable-put_entry_in entry [] is all = (is, tt)
-loadable-put_entry_in entry (first ∷ rest) is all =
-    put_first (is_before first.name entry.name) entry first rest (put_entry_in entry rest) is all
-    (loadable-put_entry_in entry rest is all.1)
+    → AllByRecursion IsLoadable (put_in entry entries)
+loadable-put_in entry [] is all = (is, tt)
+loadable-put_in entry (first ∷ rest) is all =
+    put_first (is_before first.name entry.name) entry first rest (put_in entry rest) is all
+    (loadable-put_in entry rest is all.1)
 
 -- so all entries are
 loadable-loads_after :
@@ -88,9 +88,9 @@ unfolding loads_after
 loadable-loads_after [] entries all octets before is =
     let same : entries ≡ all = cc in subst (λ (found : List EntryInformation). AllByRecursion IsLoadable found) same before
 loadable-loads_after (first ∷ rest) entries all octets before is =
-    let step = both_given (record_entry entries first) (λ entry. loads_after (put_entry_in entry entries) rest) all is in
-    loadable-loads_after rest (put_entry_in step.0 entries) all octets.1
-    (loadable-put_entry_in step.0 entries (IsLoadable-record_entry entries first step.0 octets.0 step.1) before) step.2
+    let step = both_given (record_entry entries first) (λ entry. loads_after (put_in entry entries) rest) all is in
+    loadable-loads_after rest (put_in step.0 entries) all octets.1
+    (loadable-put_in step.0 entries (IsLoadable-record_entry entries first step.0 octets.0 step.1) before) step.2
 
 loadable-loads_records :
     (records : List (Result Record BadLine)) (all : List EntryInformation) → AllByRecursion GivesOctets records

@@ -13,3 +13,5 @@ mod ReadLemmas
 mod ValueLemmas
 mod LoadableLemmas
 mod JoinLemmas
+mod GoodLemmas
+mod TypeLemmas

@@ -3,47 +3,46 @@ use Rattle.std.proofs.Common.{◌≡◌, ◌≢◌, ℕ, ◌+◌, List, [], ◌�
 use Rattle.std.specs.List.{AllByRecursion}
 use Rattle.std.proofs.lemmas.List.{append_assoc, append-nil}
 use Rattle.dir_tree.specs.Entries.{EntryInformation}
-use Rattle.dir_tree.specs.Trees.{Numbered, IsTree}
+use Rattle.dir_tree.specs.Trees.{put_in, IsInOrder, IsRooted}
 use Rattle.ldif_core.specs.WrittenFile.{values_in, IsWritable, record_from, entry_records, written_file}
 use Rattle.ldif_core.proofs.Theorems.{file-reread}
-use Rattle.schema_rules.specs.Checking.{entries_of}
-use Rattle.schema_rules.specs.Rules.{broken_rule, MeetsRules}
+use Rattle.schema_rules.specs.Rules.{broken_rule, MeetsRules, IsGoodTree}
 use Rattle.schema_rules.proofs.Theorems.{Meets-from_broken_rule}
 use Rattle.op_write.specs.declared.fault.LoadFault.{LoadFault}
 use Rattle.op_write.specs.Loading.{◌>>=◌, placed, loaded_entry}
-use Rattle.op_write.specs.DataFile.{put_entry_in, in_file, loads_after, loads_records, loads}
+use Rattle.op_write.specs.DataFile.{in_file, loads_after, loads_records, loads}
 use Rattle.load_laws.specs.Loadable.{IsLoadable}
-use Rattle.load_laws.proofs.OrderLemmas.{AreInOrder, AreRooted, all-entries_of, AreInOrder-entries_of, AreRooted-entries_of, before_place, put_entry_in-last}
+use Rattle.load_laws.proofs.OrderLemmas.{before_place, put_in-last}
 use Rattle.load_laws.proofs.OwnLemmas.{entry_of_record-record_from}
 use Rattle.load_laws.proofs.PlaceLemmas.{placed-front}
 use Rattle.load_laws.proofs.TextLemmas.{IsWritable-loadable}
 
 -- the record of the entry after those of a front
 loaded_entry-front :
-    (front back : List EntryInformation) (number : ℕ) (entry : EntryInformation) → AreInOrder (front ++ entry ∷ back)
-    → AreRooted (front ++ entry ∷ back) → entry.name ≢ [] → IsLoadable entry → broken_rule (front ++ back) entry ≡ None
+    (front back : List EntryInformation) (number : ℕ) (entry : EntryInformation) → IsInOrder (front ++ entry ∷ back)
+    → IsRooted (front ++ entry ∷ back) → entry.name ≢ [] → IsLoadable entry → broken_rule None (front ++ back) entry ≡ None
     → loaded_entry front (record_from number entry) ≡ Ok entry
 unfolding loaded_entry
 loaded_entry-front front back number entry sorted rooted filled loadable unbroken =
-    let meets = Meets-from_broken_rule (front ++ back) entry unbroken in
+    let meets = Meets-from_broken_rule None (front ++ back) entry unbroken in
     ap (λ (found : Result EntryInformation LoadFault). found >>= placed front number)
-    (entry_of_record-record_from number entry loadable filled meets.0)
+    (entry_of_record-record_from number entry loadable filled meets.own_values)
     ∙ placed-front front back number entry sorted rooted filled unbroken
 
 -- the records of the entries that are left
 loads_after-front :
-    (all front back : List EntryInformation) (number : ℕ) → all ≡ front ++ back → AreInOrder all → AreRooted all
+    (all front back : List EntryInformation) (number : ℕ) → all ≡ front ++ back → IsInOrder all → IsRooted all
     → MeetsRules all → AllByRecursion (λ (entry : EntryInformation). entry.name ≢ []) back → AllByRecursion IsLoadable back
     → loads_after front (entry_records number back) ≡ Ok all
 unfolding loads_after
 loads_after-front all front [] number is sorted rooted meets named loadable =
     ap (λ entries. Ok entries) (sym (append-nil front) ∙ sym is)
 loads_after-front all front (entry ∷ back) number is sorted rooted meets named loadable =
-    let place : AreInOrder (front ++ entry ∷ back) = subst AreInOrder is sorted in
+    let place : IsInOrder (front ++ entry ∷ back) = subst IsInOrder is sorted in
     let next = number + 1 + 1 + length (values_in entry.attributes) in
-    ap (λ (found : Result EntryInformation LoadFault). in_file found >>= λ entry. loads_after (put_entry_in entry front) (entry_records next back))
-    (loaded_entry-front front back (number + 1) entry place (subst AreRooted is rooted) named.0 loadable.0 (meets front back entry is))
-    ∙ ap (λ entries. loads_after entries (entry_records next back)) (put_entry_in-last entry front (before_place front back entry place))
+    ap (λ (found : Result EntryInformation LoadFault). in_file found >>= λ entry. loads_after (put_in entry front) (entry_records next back))
+    (loaded_entry-front front back (number + 1) entry place (subst IsRooted is rooted) named.0 loadable.0 (meets front back entry is))
+    ∙ ap (λ entries. loads_after entries (entry_records next back)) (put_in-last entry front (before_place front back entry place))
     ∙ loads_after-front all (front ++ entry ∷ []) back next (is ∙ sym (append_assoc front (entry ∷ []) back)) sorted rooted meets named.1 loadable.1
 
 -- each entry that is left may be written
@@ -52,21 +51,20 @@ writable-front :
     → AllByRecursion IsWritable back
 writable-front all front [] is meets loadable = tt
 writable-front all front (entry ∷ back) is meets loadable =
-    let unbroken = Meets-from_broken_rule (front ++ back) entry (meets front back entry is) in (
-      IsWritable-loadable entry loadable.0 unbroken.1.0,
+    let unbroken = Meets-from_broken_rule None (front ++ back) entry (meets front back entry is) in (
+      IsWritable-loadable entry loadable.0 unbroken.classes,
       writable-front all (front ++ entry ∷ []) back (is ∙ sym (append_assoc front (entry ∷ []) back)) meets loadable.1,
     )
 
 -- so the file of a good tree gives its entries
 pub loads-written_file :
-    (rows : List Numbered) → rows ≢ [] → IsTree rows → MeetsRules (entries_of rows)
-    → AllByRecursion IsLoadable (entries_of rows) → loads (written_file (entries_of rows)) ≡ Ok (entries_of rows)
+    (entries : List EntryInformation) → IsGoodTree entries → AllByRecursion IsLoadable entries
+    → loads (written_file entries) ≡ Ok entries
 unfolding loads
-loads-written_file [] filled tree meets loadable = absurd (filled refl)
-loads-written_file (row ∷ rows) filled tree meets loadable =
-    let entries = entries_of (row ∷ rows) in
-    let named = all-entries_of (λ (entry : EntryInformation). entry.name ≢ []) (row ∷ rows) tree.named in
+loads-written_file [] tree loadable = absurd (tree.some refl)
+loads-written_file (first ∷ rest) tree loadable =
+    let entries = first ∷ rest in
+    let good = tree.good in
     ap loads_records
-    (file-reread entries (writable-front entries [] entries refl meets loadable))
-    ∙ loads_after-front entries [] entries 2 refl (AreInOrder-entries_of (row ∷ rows) tree.sorted)
-    (AreRooted-entries_of (row ∷ rows) tree.rooted) meets named loadable
+    (file-reread entries (writable-front entries [] entries refl good.meets loadable))
+    ∙ loads_after-front entries [] entries 2 refl good.tree.sorted good.tree.rooted good.meets good.tree.named loadable

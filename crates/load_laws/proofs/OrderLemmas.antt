@@ -10,53 +10,7 @@ use Rattle.dn_names.specs.Names.{RdnSequence}
 use Rattle.dn_names.specs.NameOrder.{name_cmp, is_same, is_prefix_of}
 use Rattle.dn_names.proofs.Theorems.{name_cmp_total, name_cmp-prefix, is_same-types_and_keys}
 use Rattle.dir_tree.specs.Entries.{EntryInformation}
-use Rattle.dir_tree.specs.Trees.{Numbered, is_before, has_name, superior_name, IsInOrder, IsRooted}
-use Rattle.schema_rules.specs.Checking.{entries_of}
-use Rattle.op_write.specs.DataFile.{put_entry_in}
-use Rattle.op_write.specs.Loading.{has_entry, lacks_superior_entry}
-
--- each name comes before those after it
-abbrev pub AreInOrder : List EntryInformation → Type 0
-AreInOrder [] = Unit {0}
-AreInOrder (entry ∷ entries) =
-    AllByRecursion (λ (later : EntryInformation). name_cmp entry.name later.name ≡ Less) entries × AreInOrder entries
-
--- each entry but the first has its superior in the list
-abbrev pub AreRooted : List EntryInformation → Type 0
-AreRooted [] = Unit {0}
-AreRooted (entry ∷ entries) =
-    AllByRecursion (λ (later : EntryInformation). has_entry (superior_name later.name) (entry ∷ entries) ≡ true) entries
-
--- what holds of each row's entry holds of the entries
-pub all-entries_of :
-    (P : EntryInformation → Type 0) (rows : List Numbered) → AllByRecursion (λ (row : Numbered). P row.entry) rows
-    → AllByRecursion P (entries_of rows)
-all-entries_of P [] all = tt
-all-entries_of P (row ∷ rows) all = (all.0, all-entries_of P rows all.1)
-
--- so the entries of a tree are in order
-pub AreInOrder-entries_of : (rows : List Numbered) → IsInOrder rows → AreInOrder (entries_of rows)
-AreInOrder-entries_of [] sorted = tt
-AreInOrder-entries_of (row ∷ rows) sorted = (
-  all-entries_of (λ (later : EntryInformation). name_cmp row.entry.name later.name ≡ Less) rows sorted.0,
-  AreInOrder-entries_of rows sorted.1,
-)
-
--- and have their superiors
-has_entry-entries_of : (name : RdnSequence) (rows : List Numbered) → has_entry name (entries_of rows) ≡ has_name name rows
-has_entry-entries_of name [] = refl
-has_entry-entries_of name (row ∷ rows) = ap (λ later. is_same name row.entry.name || later) (has_entry-entries_of name rows)
-
-rooted_part :
-    (all part : List Numbered) → AllByRecursion (λ (later : Numbered). has_name (superior_name later.entry.name) all ≡ true) part
-    → AllByRecursion (λ (later : EntryInformation). has_entry (superior_name later.name) (entries_of all) ≡ true) (entries_of part)
-rooted_part all [] rooted = tt
-rooted_part all (row ∷ rows) rooted =
-    (has_entry-entries_of (superior_name row.entry.name) all ∙ rooted.0, rooted_part all rows rooted.1)
-
-pub AreRooted-entries_of : (rows : List Numbered) → IsRooted rows → AreRooted (entries_of rows)
-AreRooted-entries_of [] rooted = tt
-AreRooted-entries_of (row ∷ rows) rooted = rooted_part (row ∷ rows) rows rooted
+use Rattle.dir_tree.specs.Trees.{is_before, is_named, has_name, lacks_superior, superior_name, put_in, IsInOrder, IsRooted}
 
 -- what holds of all holds of the one at a place
 pub all_at :
@@ -66,7 +20,7 @@ all_at P (first ∷ front) back x all = all_at P front back x all.1
 
 -- the entries before a place, and those after it
 pub before_place :
-    (front back : List EntryInformation) (entry : EntryInformation) → AreInOrder (front ++ entry ∷ back)
+    (front back : List EntryInformation) (entry : EntryInformation) → IsInOrder (front ++ entry ∷ back)
     → AllByRecursion (λ (other : EntryInformation). name_cmp other.name entry.name ≡ Less) front
 before_place [] back entry sorted = tt
 before_place (first ∷ front) back entry sorted = (
@@ -75,20 +29,20 @@ before_place (first ∷ front) back entry sorted = (
 )
 
 pub after_place :
-    (front back : List EntryInformation) (entry : EntryInformation) → AreInOrder (front ++ entry ∷ back)
+    (front back : List EntryInformation) (entry : EntryInformation) → IsInOrder (front ++ entry ∷ back)
     → AllByRecursion (λ (later : EntryInformation). name_cmp entry.name later.name ≡ Less) back
 after_place [] back entry sorted = sorted.0
 after_place (first ∷ front) back entry sorted = after_place front back entry sorted.1
 
 -- an entry that comes after all is put last
-pub put_entry_in-last :
+pub put_in-last :
     (entry : EntryInformation) (front : List EntryInformation)
     → AllByRecursion (λ (other : EntryInformation). name_cmp other.name entry.name ≡ Less) front
-    → put_entry_in entry front ≡ front ++ entry ∷ []
-put_entry_in-last entry [] before = refl
-put_entry_in-last entry (first ∷ front) before =
+    → put_in entry front ≡ front ++ entry ∷ []
+put_in-last entry [] before = refl
+put_in-last entry (first ∷ front) before =
     let test : is_before first.name entry.name ≡ true = ap is_lt before.0 in
-    rw test (ap (λ later. first ∷ later) (put_entry_in-last entry front before.1))
+    rw test (ap (λ later. first ∷ later) (put_in-last entry front before.1))
 
 -- a name that comes before another is not the same, either way round
 same-before : (one other : RdnSequence) → name_cmp one other ≡ Less → is_same one other ≡ false
@@ -100,12 +54,12 @@ unfolding is_same
 same-after one other before = ap is_eq (name_cmp_total.antisymm other one ∙ ap ordering_reverse before)
 
 -- a name that comes after all is none of theirs
-pub has_entry-after :
+pub has_name-after :
     (name : RdnSequence) (front : List EntryInformation)
-    → AllByRecursion (λ (other : EntryInformation). name_cmp other.name name ≡ Less) front → has_entry name front ≡ false
-has_entry-after name [] before = refl
-has_entry-after name (first ∷ front) before =
-    or_from (is_same name first.name) (has_entry name front) (same-after first.name name before.0) (has_entry-after name front before.1)
+    → AllByRecursion (λ (other : EntryInformation). name_cmp other.name name ≡ Less) front → has_name name front ≡ false
+has_name-after name [] before = refl
+has_name-after name (first ∷ front) before =
+    or_from (is_same name first.name) (has_name name front) (same-after first.name name before.0) (has_name-after name front before.1)
 
 -- a name that comes before that of an entry before them is none of theirs
 pub apart-before :
@@ -116,12 +70,12 @@ apart-before name next [] before after = tt
 apart-before name next (first ∷ back) before after =
     (same-before name first.name (name_cmp_total.trans name next first.name before after.0), apart-before name next back before after.1)
 
-has_entry-apart :
+has_name-apart :
     (name : RdnSequence) (back : List EntryInformation)
-    → AllByRecursion (λ (later : EntryInformation). is_same name later.name ≡ false) back → has_entry name back ≡ false
-has_entry-apart name [] apart = refl
-has_entry-apart name (first ∷ back) apart =
-    or_from (is_same name first.name) (has_entry name back) apart.0 (has_entry-apart name back apart.1)
+    → AllByRecursion (λ (later : EntryInformation). is_same name later.name ≡ false) back → has_name name back ≡ false
+has_name-apart name [] apart = refl
+has_name-apart name (first ∷ back) apart =
+    or_from (is_same name first.name) (has_name name back) apart.0 (has_name-apart name back apart.1)
 
 -- the superior comes first
 pub superior-before : (name : RdnSequence) → name ≢ [] → name_cmp (superior_name name) name ≡ Less
@@ -135,21 +89,21 @@ superior-before (rdn ∷ rdns) filled =
     name_cmp-prefix (superior_name name) name same (omega arith)
 
 -- so it stands before the entry, where another does
-pub lacks_superior_entry-front :
-    (front back : List EntryInformation) (entry : EntryInformation) → AreInOrder (front ++ entry ∷ back)
-    → AreRooted (front ++ entry ∷ back) → entry.name ≢ [] → lacks_superior_entry entry.name front ≡ false
-lacks_superior_entry-front [] back entry sorted rooted filled = refl
-lacks_superior_entry-front (first ∷ front) back entry sorted rooted filled =
+pub lacks_superior-front :
+    (front back : List EntryInformation) (entry : EntryInformation) → IsInOrder (front ++ entry ∷ back)
+    → IsRooted (front ++ entry ∷ back) → entry.name ≢ [] → lacks_superior entry.name front ≡ false
+lacks_superior-front [] back entry sorted rooted filled = refl
+lacks_superior-front (first ∷ front) back entry sorted rooted filled =
     let name = superior_name entry.name in
-    let there : has_entry name ((first ∷ front) ++ entry ∷ back) ≡ true =
-    all_at (λ (later : EntryInformation). has_entry (superior_name later.name) ((first ∷ front) ++ entry ∷ back) ≡ true)
+    let there : has_name name ((first ∷ front) ++ entry ∷ back) ≡ true =
+    all_at (λ (later : EntryInformation). has_name (superior_name later.name) ((first ∷ front) ++ entry ∷ back) ≡ true)
     front back entry rooted in
     let before = superior-before entry.name filled in
     let apart = apart-before name entry.name back before (after_place (first ∷ front) back entry sorted) in
-    let later : has_entry name (entry ∷ back) ≡ false =
-    or_from (is_same name entry.name) (has_entry name back) (same-before name entry.name before) (has_entry-apart name back apart) in
-    not_from_true (has_entry name (first ∷ front))
-    (elim (or_cases (has_entry name (first ∷ front)) (has_entry name (entry ∷ back))
+    let later : has_name name (entry ∷ back) ≡ false =
+    or_from (is_same name entry.name) (has_name name back) (same-before name entry.name before) (has_name-apart name back apart) in
+    not_from_true (has_name name (first ∷ front))
+    (elim (or_cases (has_name name (first ∷ front)) (has_name name (entry ∷ back))
     (sym (list_any-append (λ (other : EntryInformation). is_same name other.name) (first ∷ front) (entry ∷ back)) ∙ there)) [
       | inl here ↦ here
       | inr elsewhere ↦ absurd (true≢false (sym elsewhere ∙ later))

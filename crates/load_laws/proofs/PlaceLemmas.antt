@@ -1,5 +1,5 @@
 -- An entry that meets the rules among all others meets them among those before it, and is placed after them.
-use Rattle.std.proofs.Common.{◌≡◌, ◌≢◌, ℕ, ◌+◌, ◌≤◌, nat_le, Bool, true, false, ◌&&◌, List, [], ◌∷◌, ◌++◌, length, filter, find, Option, Some, None, Ok, refl, sym, ap, ◌∙◌, arith}
+use Rattle.std.proofs.Common.{◌≡◌, ◌≢◌, ℕ, ◌+◌, ◌≤◌, nat_le, Bool, true, false, ◌&&◌, ◌||◌, List, [], ◌∷◌, ◌++◌, length, filter, find, Option, Some, None, Ok, refl, sym, ap, ◌∙◌, arith}
 use Rattle.std.specs.List.{AllByRecursion}
 use Rattle.std.specs.Option.{option_or}
 use Rattle.std.proofs.lemmas.Bool.{or_parts, or_from}
@@ -9,12 +9,12 @@ use Rattle.std.proofs.lemmas.List.Elements.{filter-append}
 use Rattle.std.proofs.lemmas.List.Folds.{find-append}
 use Rattle.dn_names.specs.NameOrder.{is_same}
 use Rattle.dir_tree.specs.Entries.{EntryInformation}
-use Rattle.dir_tree.specs.Points.{is_access_subentry}
-use Rattle.dir_tree.specs.Trees.{superior_name}
-use Rattle.schema_rules.specs.Rules.{broken_rule, stands_wrong, is_misplaced, access_subentries, is_past_limits}
+use Rattle.dir_tree.specs.Points.{is_access_subentry, access_subentries}
+use Rattle.dir_tree.specs.Trees.{has_name, lacks_superior, superior_name, IsInOrder, IsRooted}
+use Rattle.schema_rules.specs.Rules.{broken_rule, stands_wrong, is_misplaced, is_past_limits}
 use Rattle.schema_rules.proofs.Theorems.{nothing_found, Meets-from_broken_rule, broken_rule-from_Meets}
-use Rattle.op_write.specs.Loading.{has_entry, lacks_superior_entry, ruled, placed}
-use Rattle.load_laws.proofs.OrderLemmas.{AreInOrder, AreRooted, before_place, after_place, apart-before, superior-before, has_entry-after, lacks_superior_entry-front}
+use Rattle.op_write.specs.Loading.{ruled, placed}
+use Rattle.load_laws.proofs.OrderLemmas.{before_place, after_place, apart-before, superior-before, has_name-after, lacks_superior-front}
 
 -- the superior is not looked for after the entry
 or_none : {X : Type 0} (found : Option X) → option_or found None ≡ found
@@ -24,11 +24,11 @@ or_none (Some x) = refl
 misplaced-front :
     (front back : List EntryInformation) (entry : EntryInformation)
     → AllByRecursion (λ (later : EntryInformation). is_same (superior_name entry.name) later.name ≡ false) back
-    → is_misplaced front entry ≡ is_misplaced (front ++ back) entry
+    → is_misplaced None front entry ≡ is_misplaced None (front ++ back) entry
 unfolding is_misplaced
 misplaced-front front back entry apart =
     let test : EntryInformation → Bool = λ other. is_same (superior_name entry.name) other.name in
-    ap (λ superior. stands_wrong superior entry)
+    ap (λ superior. stands_wrong superior entry || false)
     (sym (find-append test front back ∙ ap (option_or (find test front)) (nothing_found test back apart) ∙ or_none (find test front)))
 
 -- fewer entries are within the limits too
@@ -59,22 +59,27 @@ past_limits-front front back entry within =
 pub broken_rule-front :
     (front back : List EntryInformation) (entry : EntryInformation)
     → AllByRecursion (λ (later : EntryInformation). is_same (superior_name entry.name) later.name ≡ false) back
-    → broken_rule (front ++ back) entry ≡ None → broken_rule front entry ≡ None
+    → broken_rule None (front ++ back) entry ≡ None → broken_rule None front entry ≡ None
 broken_rule-front front back entry apart unbroken =
-    let meets = Meets-from_broken_rule (front ++ back) entry unbroken in
-    let placed_right : is_misplaced front entry ≡ false = misplaced-front front back entry apart ∙ meets.1.1.1.1.0 in
-    let within = past_limits-front front back entry meets.1.1.1.1.1.0 in
-    broken_rule-from_Meets front entry
-    (meets.0, (meets.1.0, (meets.1.1.0, (meets.1.1.1.0, (placed_right, (within, tt))))))
+    let meets = Meets-from_broken_rule None (front ++ back) entry unbroken in
+    broken_rule-from_Meets None front entry (record {
+      own_values = meets.own_values;
+      structural = meets.structural;
+      classes = meets.classes;
+      syntaxes = meets.syntaxes;
+      single = meets.single;
+      placed = misplaced-front front back entry apart ∙ meets.placed;
+      limits = past_limits-front front back entry meets.limits;
+    })
 
 -- the entry joins those before it
 pub placed-front :
-    (front back : List EntryInformation) (line : ℕ) (entry : EntryInformation) → AreInOrder (front ++ entry ∷ back)
-    → AreRooted (front ++ entry ∷ back) → entry.name ≢ [] → broken_rule (front ++ back) entry ≡ None
+    (front back : List EntryInformation) (line : ℕ) (entry : EntryInformation) → IsInOrder (front ++ entry ∷ back)
+    → IsRooted (front ++ entry ∷ back) → entry.name ≢ [] → broken_rule None (front ++ back) entry ≡ None
     → placed front line entry ≡ Ok entry
 unfolding placed
 placed-front front back line entry sorted rooted filled unbroken =
-    let absent : has_entry entry.name front ≡ false = has_entry-after entry.name front (before_place front back entry sorted) in
-    let has : lacks_superior_entry entry.name front ≡ false = lacks_superior_entry-front front back entry sorted rooted filled in
+    let absent : has_name entry.name front ≡ false = has_name-after entry.name front (before_place front back entry sorted) in
+    let has : lacks_superior entry.name front ≡ false = lacks_superior-front front back entry sorted rooted filled in
     let apart = apart-before (superior_name entry.name) entry.name back (superior-before entry.name filled) (after_place front back entry sorted) in
     rw (absent, has) (ap (ruled line entry) (broken_rule-front front back entry apart unbroken))

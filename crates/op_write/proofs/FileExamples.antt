@@ -14,7 +14,7 @@ use Rattle.ldif_core.specs.Records.{without_comments, is_version, without_versio
 use Rattle.ldif_core.specs.Places.{physical_from, logical_from, content_from, body_from, records_from}
 use Rattle.ldif_core.specs.Written.{is_plain, written_value, written_entry}
 use Rattle.ldif_core.specs.WrittenFile.{written_file}
-use Rattle.schema_rules.specs.Rules.{lacks_own_value, breaks_classes, has_unread, has_two_values, is_misplaced, is_past_limits, broken_rule}
+use Rattle.schema_rules.specs.Rules.{lacks_own_value, has_other_structural, breaks_classes, has_unread, has_two_values, is_misplaced, is_past_limits, broken_rule}
 use Rattle.op_write.specs.declared.fault.LoadCause.TheVariants.{Order, Rule, Twice}
 use Rattle.op_write.specs.Loading.{with_lines, with_pairs, entry_of_record, placed, loaded_entry}
 use Rattle.op_write.specs.DataFile.{OfRecord, loads_after, loads}
@@ -42,7 +42,7 @@ unit = record {
 
 -- what loading a file computes by
 unfoldable loading : Unit {0}
-unfolding reading_names name_cmp is_same has_class is_subentry is_access_subentry logical beginning continued is_kind field_of after_spaces decoded is_changetype is_dn without_comments is_version without_version attribute_lines record_of records physical_from logical_from content_from body_from records_from lacks_own_value breaks_classes has_unread has_two_values is_misplaced is_past_limits broken_rule with_lines with_pairs entry_of_record placed loaded_entry loads_after loads
+unfolding reading_names name_cmp is_same has_class is_subentry is_access_subentry logical beginning continued is_kind field_of after_spaces decoded is_changetype is_dn without_comments is_version without_version attribute_lines record_of records physical_from logical_from content_from body_from records_from lacks_own_value has_other_structural breaks_classes has_unread has_two_values is_misplaced is_past_limits broken_rule with_lines with_pairs entry_of_record placed loaded_entry loads_after loads
 loading = tt
 
 -- two entries

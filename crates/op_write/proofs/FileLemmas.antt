@@ -2,32 +2,24 @@
 use Rattle.std.proofs.Common.{◌≡◌, ◌≢◌, true, false, List, [], ◌∷◌, Result, Ok, Err, refl, sym, ap, ◌∙◌}
 use Rattle.std.specs.Prelude.{if◌then◌else◌}
 use Rattle.dir_tree.specs.Entries.{EntryInformation}
-use Rattle.dir_tree.specs.Trees.{Numbered, is_before, put_row}
+use Rattle.dir_tree.specs.Trees.{put_in}
+use Rattle.dir_tree.specs.Numbered.{Numbered, entries_of}
+use Rattle.dir_tree.proofs.TreeTheorems.{entries_of-put_row}
 use Rattle.ldif_core.specs.declared.types.Record.{Record}
 use Rattle.ldif_core.specs.declared.types.BadLine.{BadLine}
 use Rattle.ldif_core.specs.declared.types.BadLine.TheVariants as reading
 use Rattle.ldif_core.specs.Places.{records_from}
-use Rattle.schema_rules.specs.Checking.{entries_of}
 use Rattle.op_write.specs.Loading.{◌>>=◌}
-use Rattle.op_write.specs.DataFile.{put_entry_in, in_file, record_entry, loads_after, loads_records, file_start, loads}
+use Rattle.op_write.specs.DataFile.{in_file, record_entry, loads_after, loads_records, file_start, loads}
 use Rattle.op_write.specs.Laws.{PutsItsEntryIn, GoesOnAfterARecord, GoesOnWhereLoaded, EndsAtABadRecord, EndsAtABadLine, EndsWithItsEntries, BeginsWithoutEntries, IsBadWithoutARecord}
 
--- a row that is put in is an entry that is put in
-entries_of-put_row : (row : Numbered) (rows : List Numbered) → entries_of (put_row row rows) ≡ put_entry_in row.entry (entries_of rows)
-entries_of-put_row row [] = refl
-entries_of-put_row row (first ∷ rows) =
-    elim (is_before first.entry.name row.entry.name)
-    as (λ b. entries_of (if b then first ∷ put_row row rows else row ∷ first ∷ rows) ≡ (if b then first.entry ∷ put_entry_in row.entry (entries_of rows) else row.entry ∷ first.entry ∷ entries_of rows)) [
-      | true ↦ ap (λ entries. first.entry ∷ entries) (entries_of-put_row row rows)
-      | false ↦ refl
-    ]
-
+-- a record that is loaded puts its entry in
 pub puts_its_entry_in : PutsItsEntryIn
 puts_its_entry_in old new given step = ap entries_of step.added ∙ entries_of-put_row (record { id = step.id; entry = step.entry }) old
 
 -- of the records that are left the first decides
 after_first : (entries : List EntryInformation) (given : List (Result Record BadLine)) (first : Result Record BadLine) (rest : List (Result Record BadLine)) → given ≡ first ∷ rest
-    → loads_after entries given ≡ (record_entry entries first >>= λ entry. loads_after (put_entry_in entry entries) rest)
+    → loads_after entries given ≡ (record_entry entries first >>= λ entry. loads_after (put_in entry entries) rest)
 unfolding loads_after
 after_first entries given first rest are = ap (loads_after entries) are
 
@@ -37,13 +29,13 @@ goes_on_after_a_record entries text from to given next = after_first entries (re
 pub goes_on_where_loaded : GoesOnWhereLoaded
 goes_on_where_loaded old new text from to given next step =
     after_first (entries_of old) (records_from text from) (Ok given) (records_from text to) next.record_read
-    ∙ ap (λ loading. in_file loading >>= λ entry. loads_after (put_entry_in entry (entries_of old)) (records_from text to)) step.loaded
+    ∙ ap (λ loading. in_file loading >>= λ entry. loads_after (put_in entry (entries_of old)) (records_from text to)) step.loaded
     ∙ ap (λ entries. loads_after entries (records_from text to)) (sym (puts_its_entry_in old new given step))
 
 pub ends_at_a_bad_record : EndsAtABadRecord
 ends_at_a_bad_record entries text from to given fault next bad =
     after_first entries (records_from text from) (Ok given) (records_from text to) next.record_read
-    ∙ ap (λ loading. in_file loading >>= λ entry. loads_after (put_entry_in entry entries) (records_from text to)) bad
+    ∙ ap (λ loading. in_file loading >>= λ entry. loads_after (put_in entry entries) (records_from text to)) bad
 
 pub ends_at_a_bad_line : EndsAtABadLine
 ends_at_a_bad_line entries text from line cause bad = after_first entries (records_from text from) (Err (reading.Bad line cause)) bad.0 bad.1

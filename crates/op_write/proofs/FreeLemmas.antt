@@ -7,42 +7,29 @@ use Rattle.std.proofs.lemmas.Bool.{cases_Bool}
 use Rattle.std.proofs.lemmas.Bool.Decides.{nat_tests}
 use Rattle.std.proofs.lemmas.List.{length-map}
 use Rattle.dir_tree.specs.Entries.{EntryInformation}
-use Rattle.dir_tree.specs.Trees.{Numbered, has_name}
-use Rattle.dir_tree.specs.Refusals.{lacks_superior, insert_refusal}
+use Rattle.dir_tree.specs.Trees.{has_name, lacks_superior}
+use Rattle.dir_tree.specs.Numbered.{Numbered, entries_of}
+use Rattle.dir_tree.specs.Refusals.{insert_refusal}
 use Rattle.dir_tree.specs.declared.refusals.InsertRefusal.TheVariants as inserting
-use Rattle.schema_rules.specs.Checking.{entries_of}
-use Rattle.schema_rules.specs.Rules.{Rule, rules, broken_rule, is_past_limits}
+use Rattle.schema_rules.specs.Rules.{broken_rule, is_past_limits}
+use Rattle.schema_rules.proofs.Theorems.{Meets-from_broken_rule}
 use Rattle.op_write.specs.declared.fault.LoadFault.TheVariants.{Bad}
 use Rattle.op_write.specs.declared.fault.LoadCause.TheVariants.{Limit}
 use Rattle.op_write.specs.declared.fault.LoadCause.TheVariants as cause
 use Rattle.op_write.specs.Loading.{ruled, placed}
 use Rattle.op_write.proofs.PlaceLemmas.{placed-twice, placed-order, placed-ruled}
 
--- where no rule is found, each is kept
-kept_rules : (test : Rule → Bool) (table : List Rule) → option_map (λ rule. rule.code) (find test table) ≡ None → AllByRecursion (λ rule. test rule ≡ false) table
-kept_rules test [] none = tt
-kept_rules test (rule ∷ table) none =
-    (elim (test rule) as (λ b. option_map (λ rule. rule.code) (if b then Some rule else find test table) ≡ None → (b ≡ false) × AllByRecursion (λ rule. test rule ≡ false) table) [
-      | true ↦ λ (e : Some rule.code ≡ None). absurd cc
-      | false ↦ λ (e : option_map (λ rule. rule.code) (find test table) ≡ None). (refl, kept_rules test table e)
-    ]) none
-
 first_false : (one other : Bool) → (one || other) ≡ false → one ≡ false
 first_false true other none = none
 first_false false other none = refl
-
-past_limits : (entries : List EntryInformation) (entry : EntryInformation) → broken_rule entries entry ≡ None → is_past_limits entries entry ≡ false
-unfolding broken_rule
-past_limits entries entry none = (kept_rules (λ rule. rule.breaks entries entry) rules none).1.1.1.1.1.0
 
 has_room : (entries : List EntryInformation) (entry : EntryInformation) → is_past_limits entries entry ≡ false → nat_le 200000 (length entries) ≡ false
 unfolding is_past_limits
 has_room entries entry within = first_false _ _ (first_false _ _ within)
 
-room-of_rows : (rows : List Numbered) (entry : EntryInformation) → broken_rule (entries_of rows) entry ≡ None → (length rows == 200000) ≡ false
-room-of_rows rows entry none =
-    let room : nat_le 200000 (length (entries_of rows)) ≡ false = has_room (entries_of rows) entry (past_limits (entries_of rows) entry none) in
-    let count : length (entries_of rows) ≡ length rows = length-map rows (λ row. row.entry) in
+room : (entries : List EntryInformation) (entry : EntryInformation) → broken_rule None entries entry ≡ None → (length entries == 200000) ≡ false
+room entries entry none =
+    let few : nat_le 200000 (length entries) ≡ false = has_room entries entry (Meets-from_broken_rule None entries entry none).limits in
     grind (arith, nat_tests)
 
 ruled-none : (line : ℕ) (entry more : EntryInformation) (broken : Option ℕ) → ruled line entry broken ≡ Ok more → broken ≡ None
@@ -58,14 +45,14 @@ not_refused : (name_there lacks full : Bool) → name_there ≡ false → lacks 
 not_refused name_there lacks full fresh stands room = rw (fresh, stands, room) refl
 
 -- the tree takes the entry
-pub placed-free : (rows : List Numbered) (line : ℕ) (entry more : EntryInformation) → placed (entries_of rows) line entry ≡ Ok more → insert_refusal entry.name rows ≡ None
+pub placed-free : (rows : List Numbered) (line : ℕ) (entry more : EntryInformation) → placed (entries_of rows) line entry ≡ Ok more → insert_refusal entry.name (entries_of rows) ≡ None
 placed-free rows line entry more gives =
-    elim (cases_Bool (has_name entry.name rows)) [
+    elim (cases_Bool (has_name entry.name (entries_of rows))) [
       | inl there ↦ let no = placed-twice rows line entry there in absurd cc
-      | inr fresh ↦ elim (cases_Bool (lacks_superior entry.name rows)) [
+      | inr fresh ↦ elim (cases_Bool (lacks_superior entry.name (entries_of rows))) [
         | inl lacks ↦ let no = placed-order rows line entry fresh lacks in absurd cc
         | inr stands ↦
-            let kept = ruled-none line entry more (broken_rule (entries_of rows) entry) (sym (placed-ruled rows line entry fresh stands) ∙ gives) in
-            not_refused (has_name entry.name rows) (lacks_superior entry.name rows) (length rows == 200000) fresh stands (room-of_rows rows entry kept)
+            let kept = ruled-none line entry more (broken_rule None (entries_of rows) entry) (sym (placed-ruled rows line entry fresh stands) ∙ gives) in
+            not_refused (has_name entry.name (entries_of rows)) (lacks_superior entry.name (entries_of rows)) (length (entries_of rows) == 200000) fresh stands (room (entries_of rows) entry kept)
       ]
     ]

@@ -7,3 +7,4 @@ mod NameLemmas
 mod FileLemmas
 mod FreeLemmas
 mod RecordLemmas
+pub mod Theorems

@@ -7,31 +7,14 @@ use Rattle.std.proofs.lemmas.Bool.Decides.{nat_tests}
 use Rattle.dn_names.specs.Names.{RdnSequence}
 use Rattle.dn_names.specs.NameOrder.{is_same}
 use Rattle.dir_tree.specs.Entries.{EntryInformation}
-use Rattle.dir_tree.specs.Trees.{Numbered, is_named, has_name, find_name, find_front, superior_name}
-use Rattle.dir_tree.specs.Refusals.{lacks_superior}
-use Rattle.schema_rules.specs.Checking.{entries_of}
+use Rattle.dir_tree.specs.Trees.{has_name, lacks_superior, superior_name}
+use Rattle.dir_tree.specs.Numbered.{Numbered, entries_of, find_name, find_front}
+use Rattle.dir_tree.proofs.TreeTheorems.{has_name-found}
 use Rattle.schema_rules.specs.Rules.{broken_rule}
 use Rattle.op_write.specs.declared.fault.LoadFault.{LoadFault}
 use Rattle.op_write.specs.declared.fault.LoadFault.TheVariants.{Bad, NoMemory}
 use Rattle.op_write.specs.declared.fault.LoadCause.TheVariants.{Twice, Order}
-use Rattle.op_write.specs.Loading.{has_entry, lacks_superior_entry, ruled, placed, IsLoadFault}
-
-found_any : (test : Numbered → Bool) (rows : List Numbered) → is_some (find test rows) ≡ list_any test rows
-found_any test [] = refl
-found_any test (row ∷ rows) =
-    elim (test row) as (λ b. is_some (if b then Some row else find test rows) ≡ (b || list_any test rows)) [
-      | true ↦ refl
-      | false ↦ found_any test rows
-    ]
-
-is_some-map : {A B : Type 0} (f : A → B) (o : Option A) → is_some (option_map f o) ≡ is_some o
-is_some-map f None = refl
-is_some-map f (Some x) = refl
-
--- an entry has the name where its number is found
-pub has_name-found : {A : Type 0} (f : A → ℕ) (found : Option A) (name : RdnSequence) (rows : List Numbered) → option_map f found ≡ find_name name rows → is_some found ≡ has_name name rows
-has_name-found f found name rows e =
-    sym (is_some-map f found) ∙ ap is_some e ∙ is_some-map (λ row. row.id) (find (is_named name) rows) ∙ found_any (is_named name) rows
+use Rattle.op_write.specs.Loading.{ruled, placed, IsLoadFault}
 
 flip : (one other : Bool) → other ≡ not one → one ≡ not other
 flip true other e = sym (ap not e)
@@ -44,50 +27,41 @@ front_name name rows =
 
 -- the superior is looked up where there are entries
 pub lacks-found : {A : Type 0} (f : A → ℕ) (found : Option A) (none : Bool) (name : RdnSequence) (rows : List Numbered) → 0 < length rows → option_map f found ≡ find_front (length name - 1) name rows → is_some found ≡ not none
-    → none ≡ lacks_superior name rows
+    → none ≡ lacks_superior name (entries_of rows)
 lacks-found f found none name [] some e is = absurd (omega arith)
 lacks-found f found none name (row ∷ rows) some e is =
     flip none (is_some found) is ∙ ap not (has_name-found f found (superior_name name) (row ∷ rows) (e ∙ front_name name (row ∷ rows)))
 
--- a name of the entries is one of the tree
-pub has_entry-rows : (name : RdnSequence) (rows : List Numbered) → has_entry name (entries_of rows) ≡ has_name name rows
-has_entry-rows name [] = refl
-has_entry-rows name (row ∷ rows) = ap (λ b. is_same name row.entry.name || b) (has_entry-rows name rows)
-
-pub lacks-rows : (name : RdnSequence) (rows : List Numbered) → lacks_superior_entry name (entries_of rows) ≡ lacks_superior name rows
-lacks-rows name [] = refl
-lacks-rows name (row ∷ rows) = ap not (has_entry-rows (superior_name name) (row ∷ rows))
-
 -- the three ways of placing an entry
-pub placed-twice : (rows : List Numbered) (line : ℕ) (entry : EntryInformation) → has_name entry.name rows ≡ true → placed (entries_of rows) line entry ≡ Err (Bad line Twice)
+pub placed-twice : (rows : List Numbered) (line : ℕ) (entry : EntryInformation) → has_name entry.name (entries_of rows) ≡ true → placed (entries_of rows) line entry ≡ Err (Bad line Twice)
 unfolding placed
-placed-twice rows line entry there = rw (has_entry-rows entry.name rows, there)
+placed-twice rows line entry there = rw there refl
 
-pub placed-order : (rows : List Numbered) (line : ℕ) (entry : EntryInformation) → has_name entry.name rows ≡ false → lacks_superior entry.name rows ≡ true → placed (entries_of rows) line entry ≡ Err (Bad line Order)
+pub placed-order : (rows : List Numbered) (line : ℕ) (entry : EntryInformation) → has_name entry.name (entries_of rows) ≡ false → lacks_superior entry.name (entries_of rows) ≡ true → placed (entries_of rows) line entry ≡ Err (Bad line Order)
 unfolding placed
-placed-order rows line entry fresh lacks = rw (has_entry-rows entry.name rows, fresh, lacks-rows entry.name rows, lacks)
+placed-order rows line entry fresh lacks = rw (fresh, lacks) refl
 
-pub placed-ruled : (rows : List Numbered) (line : ℕ) (entry : EntryInformation) → has_name entry.name rows ≡ false → lacks_superior entry.name rows ≡ false
-    → placed (entries_of rows) line entry ≡ ruled line entry (broken_rule (entries_of rows) entry)
+pub placed-ruled : (rows : List Numbered) (line : ℕ) (entry : EntryInformation) → has_name entry.name (entries_of rows) ≡ false → lacks_superior entry.name (entries_of rows) ≡ false
+    → placed (entries_of rows) line entry ≡ ruled line entry (broken_rule None (entries_of rows) entry)
 unfolding placed
-placed-ruled rows line entry fresh stands = rw (has_entry-rows entry.name rows, fresh, lacks-rows entry.name rows, stands)
+placed-ruled rows line entry fresh stands = rw (fresh, stands) refl
 
-pub placed-good : (rows : List Numbered) (line : ℕ) (entry : EntryInformation) → has_name entry.name rows ≡ false → lacks_superior entry.name rows ≡ false → broken_rule (entries_of rows) entry ≡ None
+pub placed-good : (rows : List Numbered) (line : ℕ) (entry : EntryInformation) → has_name entry.name (entries_of rows) ≡ false → lacks_superior entry.name (entries_of rows) ≡ false → broken_rule None (entries_of rows) entry ≡ None
     → placed (entries_of rows) line entry ≡ Ok entry
 placed-good rows line entry fresh stands good = placed-ruled rows line entry fresh stands ∙ ap (ruled line entry) good
 
-pub placed-fault : (rows : List Numbered) (line : ℕ) (entry : EntryInformation) (fault : LoadFault) → has_name entry.name rows ≡ false → lacks_superior entry.name rows ≡ false
-    → IsLoadFault fault (ruled line entry (broken_rule (entries_of rows) entry)) → IsLoadFault fault (placed (entries_of rows) line entry)
+pub placed-fault : (rows : List Numbered) (line : ℕ) (entry : EntryInformation) (fault : LoadFault) → has_name entry.name (entries_of rows) ≡ false → lacks_superior entry.name (entries_of rows) ≡ false
+    → IsLoadFault fault (ruled line entry (broken_rule None (entries_of rows) entry)) → IsLoadFault fault (placed (entries_of rows) line entry)
 placed-fault rows line entry NoMemory fresh stands is = tt
 placed-fault rows line entry (Bad number cause) fresh stands is = placed-ruled rows line entry fresh stands ∙ is
 
-pub placed-ok : {A : Type 0} (result : Result A LoadFault) (rows : List Numbered) (line : ℕ) (entry : EntryInformation) → has_name entry.name rows ≡ false → lacks_superior entry.name rows ≡ false
-    → IfOk result (λ _. broken_rule (entries_of rows) entry ≡ None) → IfOk result (λ _. placed (entries_of rows) line entry ≡ Ok entry)
+pub placed-ok : {A : Type 0} (result : Result A LoadFault) (rows : List Numbered) (line : ℕ) (entry : EntryInformation) → has_name entry.name (entries_of rows) ≡ false → lacks_superior entry.name (entries_of rows) ≡ false
+    → IfOk result (λ _. broken_rule None (entries_of rows) entry ≡ None) → IfOk result (λ _. placed (entries_of rows) line entry ≡ Ok entry)
 placed-ok (Ok done) rows line entry fresh stands good = placed-good rows line entry fresh stands good
 placed-ok (Err fault) rows line entry fresh stands good = good
 
-pub placed-bad : {A : Type 0} (result : Result A LoadFault) (rows : List Numbered) (line : ℕ) (entry : EntryInformation) → has_name entry.name rows ≡ false → lacks_superior entry.name rows ≡ false
-    → IfErr result (λ fault. IsLoadFault fault (ruled line entry (broken_rule (entries_of rows) entry))) → IfErr result (λ fault. IsLoadFault fault (placed (entries_of rows) line entry))
+pub placed-bad : {A : Type 0} (result : Result A LoadFault) (rows : List Numbered) (line : ℕ) (entry : EntryInformation) → has_name entry.name (entries_of rows) ≡ false → lacks_superior entry.name (entries_of rows) ≡ false
+    → IfErr result (λ fault. IsLoadFault fault (ruled line entry (broken_rule None (entries_of rows) entry))) → IfErr result (λ fault. IsLoadFault fault (placed (entries_of rows) line entry))
 placed-bad (Ok done) rows line entry fresh stands bad = bad
 placed-bad (Err fault) rows line entry fresh stands bad = placed-fault rows line entry fault fresh stands bad
 

@@ -1,7 +1,7 @@
 -- What a data file gives: the entries of its records, each joined to those before it, or the first fault (RFC 2849).
-use Rattle.std.specs.Prelude.{ℕ, if◌then◌else◌, List, [], ◌∷◌, Result, Ok, Err}
+use Rattle.std.specs.Prelude.{ℕ, List, [], ◌∷◌, Result, Ok, Err}
 use Rattle.dir_tree.specs.Entries.{EntryInformation}
-use Rattle.dir_tree.specs.Trees.{is_before}
+use Rattle.dir_tree.specs.Trees.{put_in}
 use Rattle.ldif_core.specs.declared.types.Record.{Record}
 use Rattle.ldif_core.specs.declared.types.BadLine.{BadLine}
 use Rattle.ldif_core.specs.declared.types.BadLine.TheVariants as reading
@@ -35,11 +35,6 @@ abbrev pub record_fault : LoadFault → FileFault
 record_fault (loading.Bad line cause) = record { line = line; cause = OfRecord cause }
 record_fault loading.NoMemory = record { line = 0; cause = OfMemory }
 
--- the entry put before the first whose name does not come before its own
-abbrev pub put_entry_in : EntryInformation → List EntryInformation → List EntryInformation
-put_entry_in entry [] = entry ∷ []
-put_entry_in entry (first ∷ rest) = if is_before first.name entry.name then first ∷ put_entry_in entry rest else entry ∷ first ∷ rest
-
 -- the same, of what loading a record gives
 abbrev pub in_file : Result EntryInformation LoadFault → Result EntryInformation FileFault
 in_file (Ok entry) = Ok entry
@@ -53,7 +48,7 @@ record_entry entries (Err bad) = Err (line_fault bad)
 -- the entries with those of further records, or the first fault
 unfoldable pub loads_after : List EntryInformation → List (Result Record BadLine) → Result (List EntryInformation) FileFault
 loads_after entries [] = Ok entries
-loads_after entries (first ∷ rest) = record_entry entries first >>= λ entry. loads_after (put_entry_in entry entries) rest
+loads_after entries (first ∷ rest) = record_entry entries first >>= λ entry. loads_after (put_in entry entries) rest
 
 -- the entries of all records; a file without one is bad at its first line
 abbrev pub loads_records : List (Result Record BadLine) → Result (List EntryInformation) FileFault

@@ -1,28 +1,28 @@
 -- The laws of loading: what a record that is loaded makes of the entries, and how a file goes on after it.
 use Rattle.std.specs.Prelude.{◌≡◌, ◌≢◌, ℕ, List, [], Ok, Err}
 use Rattle.dir_tree.specs.Entries.{EntryInformation}
-use Rattle.dir_tree.specs.Trees.{Numbered}
+use Rattle.dir_tree.specs.Trees.{put_in}
+use Rattle.dir_tree.specs.Numbered.{Numbered, entries_of}
 use Rattle.ldif_core.specs.declared.types.Position.{Position}
 use Rattle.ldif_core.specs.declared.types.Record.{Record}
 use Rattle.ldif_core.specs.declared.types.BadLine.TheVariants as reading
 use Rattle.ldif_core.specs.declared.types.LineCause.{LineCause}
 use Rattle.ldif_core.specs.declared.types.LineCause.TheVariants.{Syntax}
 use Rattle.ldif_core.specs.Places.{IsNext, IsBadAt, records_from}
-use Rattle.schema_rules.specs.Checking.{entries_of}
 use Rattle.op_write.specs.declared.fault.LoadFault.{LoadFault}
 use Rattle.op_write.specs.Loading.{◌>>=◌, loaded_entry, IsLoaded}
-use Rattle.op_write.specs.DataFile.{OfLine, record_fault, line_fault, put_entry_in, record_entry, loads_after, file_start, loads}
+use Rattle.op_write.specs.DataFile.{OfLine, record_fault, line_fault, record_entry, loads_after, file_start, loads}
 
 -- a record that is loaded puts its entry in
 abbrev pub PutsItsEntryIn : Type 0
-PutsItsEntryIn = (old new : List Numbered) (given : Record) (step : IsLoaded old given new) → entries_of new ≡ put_entry_in step.entry (entries_of old)
+PutsItsEntryIn = (old new : List Numbered) (given : Record) (step : IsLoaded old given new) → entries_of new ≡ put_in step.entry (entries_of old)
 
 -- the first record from a place on gives its entry or its fault, and those after it go on from there
 abbrev pub GoesOnAfterARecord : Type 0
 GoesOnAfterARecord =
     (entries : List EntryInformation) (text : List ℕ) (from to : Position) (given : Record) → IsNext text from given to
     → loads_after entries (records_from text from)
-    ≡ (record_entry entries (Ok given) >>= λ entry. loads_after (put_entry_in entry entries) (records_from text to))
+    ≡ (record_entry entries (Ok given) >>= λ entry. loads_after (put_in entry entries) (records_from text to))
 
 -- the same for the entries of a tree, where the record was loaded into it
 abbrev pub GoesOnWhereLoaded : Type 0

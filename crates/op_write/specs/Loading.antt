@@ -1,20 +1,18 @@
 -- How a data record becomes an entry of the tree, or why it doesn't (RFC 2849, ldif-attrval-record): its lines in order,
 -- then the values of its own RDN, then its place. The first fault is the one that is found in this order.
-use Rattle.std.specs.Prelude.{◌≡◌, ℕ, ◌==◌, nat_le, Bool, false, not, if◌then◌else◌, List, [], ◌∷◌, length, Option, Some, None, Result, Ok, Err}
-use Rattle.std.specs.List.{list_any}
+use Rattle.std.specs.Prelude.{◌≡◌, ℕ, ◌==◌, nat_le, if◌then◌else◌, List, [], ◌∷◌, length, Option, Some, None, Result, Ok, Err}
 pub use Rattle.plain_values.specs.Results.{◌>>=◌}
 use Rattle.schema_core.specs.Attributes.{attr_of}
 use Rattle.dn_names.specs.declared.error.BadName.{BadName}
 use Rattle.dn_names.specs.Names.{Keyed, TypeAndValue, RdnSequence, last_rdn}
-use Rattle.dn_names.specs.NameOrder.{is_same}
 use Rattle.dn_names.specs.NameText.{read_name}
 use Rattle.dn_names.specs.NameValues.{value_of}
 use Rattle.dir_tree.specs.Entries.{EntryInformation, values_of, has_key}
 use Rattle.dir_tree.specs.Changes.{with_value}
-use Rattle.dir_tree.specs.Trees.{Numbered, entry_of, superior_name, put_row}
+use Rattle.dir_tree.specs.Trees.{has_name, lacks_superior}
+use Rattle.dir_tree.specs.Numbered.{Numbered, entries_of, entry_of, put_entry}
 use Rattle.ldif_core.specs.declared.types.Record.{Record}
 use Rattle.ldif_core.specs.declared.types.RecordLine.{RecordLine}
-use Rattle.schema_rules.specs.Checking.{entries_of}
 use Rattle.schema_rules.specs.Rules.{broken_rule}
 use Rattle.op_write.specs.declared.fault.LoadCause.TheVariants.{Name, Kind, Value, Twice, Order, Rule, Limit}
 use Rattle.op_write.specs.declared.fault.LoadFault.{LoadFault}
@@ -64,15 +62,6 @@ unfoldable pub entry_of_record : Record → Result EntryInformation LoadFault
 entry_of_record given = named given.line (read_name given.name) >>= λ name. with_lines (record { name = name; attributes = [] }) given.lines >>= λ entry.
     Ok (with_own_values entry)
 
--- an entry has the name
-abbrev pub has_entry : RdnSequence → List EntryInformation → Bool
-has_entry name entries = list_any (λ other. is_same name other.name) entries
-
--- there are entries, and the superior of the name is none of them
-abbrev pub lacks_superior_entry : RdnSequence → List EntryInformation → Bool
-lacks_superior_entry name [] = false
-lacks_superior_entry name (first ∷ rest) = not (has_entry (superior_name name) (first ∷ rest))
-
 -- the entry, where it breaks no rule: what goes past a limit is told apart
 abbrev pub ruled : ℕ → EntryInformation → Option ℕ → Result EntryInformation LoadFault
 ruled line entry None = Ok entry
@@ -81,9 +70,9 @@ ruled line entry (Some code) = if code == 11 then Err (Bad line Limit) else Err 
 -- the entry, where it may join the entries
 unfoldable pub placed : List EntryInformation → ℕ → EntryInformation → Result EntryInformation LoadFault
 placed entries line entry =
-    if has_entry entry.name entries then Err (Bad line Twice)
-    else if lacks_superior_entry entry.name entries then Err (Bad line Order)
-    else ruled line entry (broken_rule entries entry)
+    if has_name entry.name entries then Err (Bad line Twice)
+    else if lacks_superior entry.name entries then Err (Bad line Order)
+    else ruled line entry (broken_rule None entries entry)
 
 -- the entry that a record adds to the entries, or why it adds none
 unfoldable pub loaded_entry : List EntryInformation → Record → Result EntryInformation LoadFault
@@ -95,7 +84,7 @@ pub record IsLoaded (old : List Numbered) (given : Record) (new : List Numbered)
   pub entry : EntryInformation
   pub loaded : loaded_entry (entries_of old) given ≡ Ok entry
   pub free : entry_of id old ≡ None
-  pub added : new ≡ put_row (record { id = id; entry = entry }) old
+  pub added : new ≡ put_entry id entry old
 
 -- the fault is that of loading; want of memory may come anywhere
 abbrev pub IsLoadFault : LoadFault → Result EntryInformation LoadFault → Type 0

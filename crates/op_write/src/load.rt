@@ -1,9 +1,9 @@
 //! Records of a data file, loaded.
 
 ghost use Rattle.std.specs.Prelude.{◌≡◌, ◌≢◌, [], None, IfOk, OnOk, OnErr, IfErr, false};
-ghost use Rattle.dir_tree.specs.Trees.{has_name, entry_of, put_row};
-ghost use Rattle.dir_tree.specs.Refusals.{lacks_superior, insert_refusal};
-ghost use Rattle.schema_rules.specs.Checking.{entries_of};
+ghost use Rattle.dir_tree.specs.Trees.{has_name, lacks_superior};
+ghost use Rattle.dir_tree.specs.Numbered.{entries_of, entry_of, put_entry};
+ghost use Rattle.dir_tree.specs.Refusals.{insert_refusal};
 ghost use Rattle.schema_rules.specs.Rules.{broken_rule};
 ghost use Rattle.op_write.specs.Loading.{entry_of_record, ruled, placed, loaded_entry, IsLoaded, IsLoadFault};
 ghost use Rattle.op_write.specs.Steps.{Gives};
@@ -28,7 +28,7 @@ fn entry_of_record(alloc: Global, given: &Record) -> Result<Entry, LoadFault>
 
 // Whether an entry has the name.
 fn has_name(tree: &Tree, name: &Dn) -> bool
-    ensures exact { result ≡ has_name name.now tree.now }
+    ensures exact { result ≡ has_name name.now (entries_of tree.now) }
 {
     tree.find(name).is_some()
 }
@@ -36,16 +36,16 @@ fn has_name(tree: &Tree, name: &Dn) -> bool
 // Whether the tree has entries, and the superior of the name is none of them.
 fn lacks_superior(tree: &Tree, name: &Dn) -> bool
     requires { name.now ≢ [] }
-    ensures exact { result ≡ lacks_superior name.now tree.now }
+    ensures exact { result ≡ lacks_superior name.now (entries_of tree.now) }
 {
     tree.len() > 0 && tree.find_prefix(name, name.len() - 1).is_none()
 }
 
 // Whether the entry breaks a rule: what goes past a limit is told apart.
 fn ruled(tree: &Tree, line: u64, entry: &Entry) -> Result<(), LoadFault>
-    ensures ok { IfOk result (λ _. broken_rule (entries_of tree.now) entry.now ≡ None) }
+    ensures ok { IfOk result (λ _. broken_rule None (entries_of tree.now) entry.now ≡ None) }
     ensures bad { IfErr result (λ fault.
-        IsLoadFault fault (ruled line entry.now (broken_rule (entries_of tree.now) entry.now))) }
+        IsLoadFault fault (ruled line entry.now (broken_rule None (entries_of tree.now) entry.now))) }
 {
     match check_entry(tree, None, entry) {
         Ok(()) => Ok(()),
@@ -74,8 +74,8 @@ fn placed(tree: &Tree, line: u64, entry: &Entry) -> Result<(), LoadFault>
 // Puts the entry in, which the tree doesn't refuse.
 fn put_in(tree: &mut Tree, entry: Entry) -> Result<EntryNo, NoMemory>
     requires named { entry.name ≢ [] }
-    requires allowed { insert_refusal entry.name tree.old ≡ None }
-    ensures ok { IfOk result (λ no. tree.new ≡ put_row (record { id = no.0; entry = entry }) tree.old) }
+    requires allowed { insert_refusal entry.name (entries_of tree.old) ≡ None }
+    ensures ok { IfOk result (λ no. tree.new ≡ put_entry no.0 entry tree.old) }
     ensures free { IfOk result (λ no. entry_of no.0 tree.old ≡ None) }
     ensures err { OnErr result (tree.new ≡ tree.old) }
 {

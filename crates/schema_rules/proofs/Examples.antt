@@ -5,12 +5,12 @@ use Prim.Native.String.{String}
 use Rattle.schema_core.specs.Attributes.{attributes}
 use Rattle.schema_core.specs.Classes.{classes}
 use Rattle.dn_names.specs.Names.{Keyed, RdnSequence}
-use Rattle.dn_names.specs.NameOrder.{name_cmp, is_same}
+use Rattle.dn_names.specs.NameOrder.{name_cmp, is_same, is_prefix_of}
 use Rattle.dir_tree.specs.Entries.{Attribute, EntryInformation}
 use Rattle.dir_tree.specs.EntryClasses.{has_class}
 use Rattle.dir_tree.specs.Points.{is_point, is_subentry, is_access_subentry}
 use Rattle.schema_rules.specs.Listed.{with_superclasses, are_in_line}
-use Rattle.schema_rules.specs.Rules.{broken_rule, lacks_own_value, breaks_classes, has_unread, has_two_values, is_misplaced, is_past_limits, stands_wrong, octets_in}
+use Rattle.schema_rules.specs.Rules.{broken_rule, lacks_own_value, has_other_structural, breaks_classes, has_unread, has_two_values, is_misplaced, is_past_limits, stands_wrong, octets_in}
 
 -- a value of its key, which stands for its octets too
 abbrev value : String → Keyed
@@ -70,112 +70,139 @@ out_of_line : are_in_line 7 5 ≡ false
 unfolding classes
 out_of_line = refl
 
+-- what the rules compute by
+unfoldable breaking : Unit {0}
+unfolding attributes classes broken_rule lacks_own_value has_other_structural breaks_classes has_unread has_two_values is_misplaced is_past_limits is_same name_cmp is_prefix_of has_class is_point is_subentry is_access_subentry
+breaking = tt
+
 -- entries that break no rule
-a_suffix : broken_rule [] suffix ≡ None
-unfolding attributes classes broken_rule lacks_own_value breaks_classes has_unread has_two_values is_misplaced is_past_limits is_same name_cmp has_class is_point is_subentry is_access_subentry
+a_suffix : broken_rule None [] suffix ≡ None
+unfolding breaking
 a_suffix = refl
 
-a_person : broken_rule (suffix ∷ []) (with_more []) ≡ None
-unfolding attributes classes broken_rule lacks_own_value breaks_classes has_unread has_two_values is_misplaced is_past_limits is_same name_cmp has_class is_point is_subentry is_access_subentry
+a_person : broken_rule None (suffix ∷ []) (with_more []) ≡ None
+unfolding breaking
 a_person = refl
 
-a_point : broken_rule [] area ≡ None
-unfolding attributes classes broken_rule lacks_own_value breaks_classes has_unread has_two_values is_misplaced is_past_limits is_same name_cmp has_class is_point is_subentry is_access_subentry
+a_point : broken_rule None [] area ≡ None
+unfolding breaking
 a_point = refl
 
-classes_in_line : broken_rule (suffix ∷ []) (of_classes (value "2.5.6.6" ∷ value "2.16.840.1.113730.3.2.2" ∷ value "2.5.6.0" ∷ [])) ≡ None
-unfolding attributes classes broken_rule lacks_own_value breaks_classes has_unread has_two_values is_misplaced is_past_limits is_same name_cmp has_class is_point is_subentry is_access_subentry
+classes_in_line : broken_rule None (suffix ∷ []) (of_classes (value "2.5.6.6" ∷ value "2.16.840.1.113730.3.2.2" ∷ value "2.5.6.0" ∷ [])) ≡ None
+unfolding breaking
 classes_in_line = refl
 
 -- notAllowedOnRDN comes before all others
-no_own_value : broken_rule (suffix ∷ []) (entry lee (one 0 "2.5.6.6" ∷ one 1 "ann" ∷ one 2 "lee" ∷ [])) ≡ Some 67
-unfolding attributes classes broken_rule lacks_own_value breaks_classes has_unread has_two_values is_misplaced is_past_limits is_same name_cmp has_class is_point is_subentry is_access_subentry
+no_own_value : broken_rule None (suffix ∷ []) (entry lee (one 0 "2.5.6.6" ∷ one 1 "ann" ∷ one 2 "lee" ∷ [])) ≡ Some 67
+unfolding breaking
 no_own_value = refl
 
-no_own_value_and_no_class : broken_rule [] (entry ann []) ≡ Some 67
-unfolding attributes classes broken_rule lacks_own_value breaks_classes has_unread has_two_values is_misplaced is_past_limits is_same name_cmp has_class is_point is_subentry is_access_subentry
+no_own_value_and_no_class : broken_rule None [] (entry ann []) ≡ Some 67
+unfolding breaking
 no_own_value_and_no_class = refl
 
 -- objectClassViolation
-no_class : broken_rule (suffix ∷ []) (entry ann (one 1 "ann" ∷ [])) ≡ Some 65
-unfolding attributes classes broken_rule lacks_own_value breaks_classes has_unread has_two_values is_misplaced is_past_limits is_same name_cmp has_class is_point is_subentry is_access_subentry
+no_class : broken_rule None (suffix ∷ []) (entry ann (one 1 "ann" ∷ [])) ≡ Some 65
+unfolding breaking
 no_class = refl
 
-no_such_class : broken_rule (suffix ∷ []) (of_classes (value "2.5.6.6" ∷ value "1.2.3" ∷ [])) ≡ Some 65
-unfolding attributes classes broken_rule lacks_own_value breaks_classes has_unread has_two_values is_misplaced is_past_limits is_same name_cmp has_class is_point is_subentry is_access_subentry
+no_such_class : broken_rule None (suffix ∷ []) (of_classes (value "2.5.6.6" ∷ value "1.2.3" ∷ [])) ≡ Some 65
+unfolding breaking
 no_such_class = refl
 
-abstract_alone : broken_rule (suffix ∷ []) (entry ann (one 0 "2.5.6.0" ∷ one 1 "ann" ∷ [])) ≡ Some 65
-unfolding attributes classes broken_rule lacks_own_value breaks_classes has_unread has_two_values is_misplaced is_past_limits is_same name_cmp has_class is_point is_subentry is_access_subentry
+abstract_alone : broken_rule None (suffix ∷ []) (entry ann (one 0 "2.5.6.0" ∷ one 1 "ann" ∷ [])) ≡ Some 65
+unfolding breaking
 abstract_alone = refl
 
-auxiliary_alone : broken_rule (suffix ∷ []) (entry ann (one 0 "1.3.6.1.1.3.1" ∷ one 1 "ann" ∷ one 22 "ann" ∷ [])) ≡ Some 65
-unfolding attributes classes broken_rule lacks_own_value breaks_classes has_unread has_two_values is_misplaced is_past_limits is_same name_cmp has_class is_point is_subentry is_access_subentry
+auxiliary_alone : broken_rule None (suffix ∷ []) (entry ann (one 0 "1.3.6.1.1.3.1" ∷ one 1 "ann" ∷ one 22 "ann" ∷ [])) ≡ Some 65
+unfolding breaking
 auxiliary_alone = refl
 
-two_lines : broken_rule (suffix ∷ []) (of_classes (value "2.5.6.6" ∷ value "2.5.6.8" ∷ [])) ≡ Some 65
-unfolding attributes classes broken_rule lacks_own_value breaks_classes has_unread has_two_values is_misplaced is_past_limits is_same name_cmp has_class is_point is_subentry is_access_subentry
+two_lines : broken_rule None (suffix ∷ []) (of_classes (value "2.5.6.6" ∷ value "2.5.6.8" ∷ [])) ≡ Some 65
+unfolding breaking
 two_lines = refl
 
 -- a superclass requires the surname
-no_surname : broken_rule (suffix ∷ []) (entry ann (one 0 "2.16.840.1.113730.3.2.2" ∷ one 1 "ann" ∷ [])) ≡ Some 65
-unfolding attributes classes broken_rule lacks_own_value breaks_classes has_unread has_two_values is_misplaced is_past_limits is_same name_cmp has_class is_point is_subentry is_access_subentry
+no_surname : broken_rule None (suffix ∷ []) (entry ann (one 0 "2.16.840.1.113730.3.2.2" ∷ one 1 "ann" ∷ [])) ≡ Some 65
+unfolding breaking
 no_surname = refl
 
-no_such_attribute : broken_rule (suffix ∷ []) (with_more (one 23 "ann" ∷ [])) ≡ Some 65
-unfolding attributes classes broken_rule lacks_own_value breaks_classes has_unread has_two_values is_misplaced is_past_limits is_same name_cmp has_class is_point is_subentry is_access_subentry
+no_such_attribute : broken_rule None (suffix ∷ []) (with_more (one 23 "ann" ∷ [])) ≡ Some 65
+unfolding breaking
 no_such_attribute = refl
 
-access_alone : broken_rule (suffix ∷ []) (of_classes (value "2.5.6.6" ∷ value "2.5.17.1" ∷ [])) ≡ Some 65
-unfolding attributes classes broken_rule lacks_own_value breaks_classes has_unread has_two_values is_misplaced is_past_limits is_same name_cmp has_class is_point is_subentry is_access_subentry
+access_alone : broken_rule None (suffix ∷ []) (of_classes (value "2.5.6.6" ∷ value "2.5.17.1" ∷ [])) ≡ Some 65
+unfolding breaking
 access_alone = refl
 
-a_role_in_a_subentry : broken_rule (area ∷ []) (entry ann (one 0 "2.5.17.0" ∷ one 1 "ann" ∷ one 30 "{ }" ∷ one 29 "2.5.23.1" ∷ [])) ≡ Some 65
-unfolding attributes classes broken_rule lacks_own_value breaks_classes has_unread has_two_values is_misplaced is_past_limits is_same name_cmp has_class is_point is_subentry is_access_subentry
+a_role_in_a_subentry : broken_rule None (area ∷ []) (entry ann (one 0 "2.5.17.0" ∷ one 1 "ann" ∷ one 30 "{ }" ∷ one 29 "2.5.23.1" ∷ [])) ≡ Some 65
+unfolding breaking
 a_role_in_a_subentry = refl
 
 -- invalidAttributeSyntax: these two syntaxes are not read yet
-a_subtree : broken_rule (area ∷ []) (subentry ann) ≡ Some 21
-unfolding attributes classes broken_rule lacks_own_value breaks_classes has_unread has_two_values is_misplaced is_past_limits is_same name_cmp has_class is_point is_subentry is_access_subentry
+a_subtree : broken_rule None (area ∷ []) (subentry ann) ≡ Some 21
+unfolding breaking
 a_subtree = refl
 
-an_item : broken_rule (suffix ∷ []) (with_more (one 33 "{ }" ∷ [])) ≡ Some 21
-unfolding attributes classes broken_rule lacks_own_value breaks_classes has_unread has_two_values is_misplaced is_past_limits is_same name_cmp has_class is_point is_subentry is_access_subentry
+an_item : broken_rule None (suffix ∷ []) (with_more (one 33 "{ }" ∷ [])) ≡ Some 21
+unfolding breaking
 an_item = refl
 
-an_item_and_two_schemes : broken_rule (suffix ∷ []) (with_more (two 31 "2.5.28.1" "2.5.28.2" ∷ one 33 "{ }" ∷ [])) ≡ Some 21
-unfolding attributes classes broken_rule lacks_own_value breaks_classes has_unread has_two_values is_misplaced is_past_limits is_same name_cmp has_class is_point is_subentry is_access_subentry
+an_item_and_two_schemes : broken_rule None (suffix ∷ []) (with_more (two 31 "2.5.28.1" "2.5.28.2" ∷ one 33 "{ }" ∷ [])) ≡ Some 21
+unfolding breaking
 an_item_and_two_schemes = refl
 
 -- constraintViolation
-two_schemes : broken_rule (suffix ∷ []) (with_more (two 31 "2.5.28.1" "2.5.28.2" ∷ [])) ≡ Some 19
-unfolding attributes classes broken_rule lacks_own_value breaks_classes has_unread has_two_values is_misplaced is_past_limits is_same name_cmp has_class is_point is_subentry is_access_subentry
+two_schemes : broken_rule None (suffix ∷ []) (with_more (two 31 "2.5.28.1" "2.5.28.2" ∷ [])) ≡ Some 19
+unfolding breaking
 two_schemes = refl
 
-two_common_names : broken_rule (suffix ∷ []) (entry ann (one 0 "2.5.6.6" ∷ two 1 "ann" "anna" ∷ one 2 "lee" ∷ [])) ≡ None
-unfolding attributes classes broken_rule lacks_own_value breaks_classes has_unread has_two_values is_misplaced is_past_limits is_same name_cmp has_class is_point is_subentry is_access_subentry
+two_common_names : broken_rule None (suffix ∷ []) (entry ann (one 0 "2.5.6.6" ∷ two 1 "ann" "anna" ∷ one 2 "lee" ∷ [])) ≡ None
+unfolding breaking
 two_common_names = refl
 
 -- namingViolation
-below_a_subentry : broken_rule (area ∷ subentry ann ∷ []) (entry lee (one 0 "2.5.6.6" ∷ one 1 "lee" ∷ one 2 "lee" ∷ [])) ≡ Some 64
-unfolding attributes classes broken_rule lacks_own_value breaks_classes has_unread has_two_values is_misplaced is_past_limits is_same name_cmp has_class is_point is_subentry is_access_subentry
+below_a_subentry : broken_rule None (area ∷ subentry ann ∷ []) (entry lee (one 0 "2.5.6.6" ∷ one 1 "lee" ∷ one 2 "lee" ∷ [])) ≡ Some 64
+unfolding breaking
 below_a_subentry = refl
 
 below_a_point : stands_wrong (Some area) (subentry ann) ≡ false
-unfolding attributes classes broken_rule lacks_own_value breaks_classes has_unread has_two_values is_misplaced is_past_limits is_same name_cmp has_class is_point is_subentry is_access_subentry
+unfolding breaking
 below_a_point = refl
 
 below_no_point : stands_wrong (Some suffix) (subentry ann) ≡ true
-unfolding attributes classes broken_rule lacks_own_value breaks_classes has_unread has_two_values is_misplaced is_past_limits is_same name_cmp has_class is_point is_subentry is_access_subentry
+unfolding breaking
 below_no_point = refl
 
 a_subentry_as_suffix : stands_wrong None (subentry example) ≡ true
-unfolding attributes classes broken_rule lacks_own_value breaks_classes has_unread has_two_values is_misplaced is_past_limits is_same name_cmp has_class is_point is_subentry is_access_subentry
+unfolding breaking
 a_subentry_as_suffix = refl
 
 below_another : stands_wrong (Some (subentry ann)) (subentry lee) ≡ true
-unfolding attributes classes broken_rule lacks_own_value breaks_classes has_unread has_two_values is_misplaced is_past_limits is_same name_cmp has_class is_point is_subentry is_access_subentry
+unfolding breaking
 below_another = refl
+
+-- an entry in the place of an old one: a person that becomes a residential one, or lists a class above its own besides
+other_classes : broken_rule (Some (with_more [])) (suffix ∷ []) (of_classes (value "2.5.6.0" ∷ [])) ≡ Some 69
+unfolding breaking
+other_classes = refl
+
+a_class_more : broken_rule (Some (with_more [])) (suffix ∷ []) (of_classes (value "2.5.6.6" ∷ value "2.16.840.1.113730.3.2.2" ∷ [])) ≡ Some 69
+unfolding breaking
+a_class_more = refl
+
+the_same_classes : broken_rule (Some (with_more [])) (suffix ∷ []) (of_classes (value "2.5.6.6" ∷ value "2.5.6.0" ∷ [])) ≡ None
+unfolding breaking
+the_same_classes = refl
+
+-- a point above a subentry keeps its role
+no_role_above_a_subentry : broken_rule (Some area) (subentry ann ∷ []) suffix ≡ Some 64
+unfolding breaking
+no_role_above_a_subentry = refl
+
+a_role_above_a_subentry : broken_rule (Some area) (subentry ann ∷ []) area ≡ None
+unfolding breaking
+a_role_above_a_subentry = refl
 
 -- the octets of all values, whatever their keys
 octets : octets_in suffix ≡ 33

@@ -1,43 +1,51 @@
 -- An entry that meets the rules among others still does where one more stands among them.
-use Rattle.std.proofs.Common.{◌≡◌, ℕ, ◌+◌, nat_le, Bool, true, false, ◌&&◌, cond, List, ◌∷◌, ◌++◌, length, find, Option, Some, None, refl, sym, ap, ◌∙◌, arith}
-use Rattle.std.specs.List.{AllByRecursion}
+use Rattle.std.proofs.Common.{◌≡◌, ℕ, ◌+◌, nat_le, Bool, true, false, ◌&&◌, ◌||◌, cond, List, ◌∷◌, ◌++◌, length, find, Option, Some, None, refl, sym, ap, ◌∙◌, arith}
 use Rattle.std.specs.Option.{option_map}
 use Rattle.std.proofs.lemmas.Bool.{or_parts, or_from}
 use Rattle.dn_names.specs.NameOrder.{is_same}
 use Rattle.dir_tree.specs.Entries.{EntryInformation}
-use Rattle.dir_tree.specs.Points.{is_access_subentry}
+use Rattle.dir_tree.specs.Points.{is_access_subentry, access_subentries}
 use Rattle.dir_tree.specs.Trees.{superior_name}
-use Rattle.schema_rules.specs.Rules.{Rule, rules, broken_rule, is_misplaced, is_past_limits, access_subentries, stands_wrong}
+use Rattle.schema_rules.specs.Rules.{Rule, rules, broken_rule, Meets, is_misplaced, is_past_limits, stands_wrong}
 use Rattle.schema_rules.proofs.ListPlaceLemmas.{find-past, filter-past, length-past, none_found, nothing_found}
-
--- the entry breaks none of the rules
-abbrev pub Meets : List EntryInformation → EntryInformation → Type 0
-Meets entries entry = AllByRecursion (λ rule. rule.breaks entries entry ≡ false) rules
 
 nothing : {X Y : Type 0} (f : X → Y) (found : Option X) → option_map f found ≡ None → found ≡ None
 nothing f None none = refl
 nothing f (Some x) none = absurd cc
 
+-- the entry breaks none of the rules exactly where it meets each
 pub Meets-from_broken_rule :
-    (entries : List EntryInformation) (entry : EntryInformation) → broken_rule entries entry ≡ None → Meets entries entry
+    (old : Option EntryInformation) (others : List EntryInformation) (entry : EntryInformation)
+    → broken_rule old others entry ≡ None → Meets old others entry
 unfolding broken_rule
-Meets-from_broken_rule entries entry none =
-    none_found (λ (rule : Rule). rule.breaks entries entry) rules
-    (nothing (λ (rule : Rule). rule.code) (find (λ (rule : Rule). rule.breaks entries entry) rules) none)
+Meets-from_broken_rule old others entry none =
+    let all = none_found (λ (rule : Rule). rule.breaks old others entry) rules
+    (nothing (λ (rule : Rule). rule.code) (find (λ (rule : Rule). rule.breaks old others entry) rules) none) in
+    record {
+      own_values = all.0;
+      structural = all.1.0;
+      classes = all.1.1.0;
+      syntaxes = all.1.1.1.0;
+      single = all.1.1.1.1.0;
+      placed = all.1.1.1.1.1.0;
+      limits = all.1.1.1.1.1.1.0;
+    }
 
 pub broken_rule-from_Meets :
-    (entries : List EntryInformation) (entry : EntryInformation) → Meets entries entry → broken_rule entries entry ≡ None
+    (old : Option EntryInformation) (others : List EntryInformation) (entry : EntryInformation)
+    → Meets old others entry → broken_rule old others entry ≡ None
 unfolding broken_rule
-broken_rule-from_Meets entries entry meets =
-    ap (option_map (λ (rule : Rule). rule.code)) (nothing_found (λ (rule : Rule). rule.breaks entries entry) rules meets)
+broken_rule-from_Meets old others entry meets =
+    ap (option_map (λ (rule : Rule). rule.code)) (nothing_found (λ (rule : Rule). rule.breaks old others entry) rules
+    (meets.own_values, (meets.structural, (meets.classes, (meets.syntaxes, (meets.single, (meets.placed, (meets.limits, tt))))))))
 
 -- an entry that is not the superior changes nothing of it
 misplaced-past :
     (front back : List EntryInformation) (new other : EntryInformation) → is_same (superior_name other.name) new.name ≡ false
-    → is_misplaced (front ++ new ∷ back) other ≡ is_misplaced (front ++ back) other
+    → is_misplaced None (front ++ new ∷ back) other ≡ is_misplaced None (front ++ back) other
 unfolding is_misplaced
 misplaced-past front back new other apart =
-    ap (λ superior. stands_wrong superior other)
+    ap (λ superior. stands_wrong superior other || false)
     (find-past (λ entry. is_same (superior_name other.name) entry.name) front back new apart)
 
 -- counts of access control subentries
@@ -76,13 +84,17 @@ limits-past a b c d new other same new_fits fits =
 -- so all rules
 pub broken_rule-past :
     (a b c d : List EntryInformation) (new other : EntryInformation) → a ++ b ≡ c ++ d
-    → is_same (superior_name other.name) new.name ≡ false → broken_rule (c ++ other ∷ d) new ≡ None
-    → broken_rule (c ++ d) other ≡ None → broken_rule (a ++ new ∷ b) other ≡ None
+    → is_same (superior_name other.name) new.name ≡ false → broken_rule None (c ++ other ∷ d) new ≡ None
+    → broken_rule None (c ++ d) other ≡ None → broken_rule None (a ++ new ∷ b) other ≡ None
 broken_rule-past a b c d new other same apart new_unbroken unbroken =
-    let new_meets = Meets-from_broken_rule (c ++ other ∷ d) new new_unbroken in
-    let meets = Meets-from_broken_rule (c ++ d) other unbroken in
-    let placed : is_misplaced (a ++ new ∷ b) other ≡ false =
-    misplaced-past a b new other apart ∙ ap (λ entries. is_misplaced entries other) same ∙ meets.1.1.1.1.0 in
-    let within = limits-past a b c d new other same new_meets.1.1.1.1.1.0 meets.1.1.1.1.1.0 in
-    broken_rule-from_Meets (a ++ new ∷ b) other
-    (meets.0, (meets.1.0, (meets.1.1.0, (meets.1.1.1.0, (placed, (within, tt))))))
+    let new_meets = Meets-from_broken_rule None (c ++ other ∷ d) new new_unbroken in
+    let meets = Meets-from_broken_rule None (c ++ d) other unbroken in
+    broken_rule-from_Meets None (a ++ new ∷ b) other (record {
+      own_values = meets.own_values;
+      structural = meets.structural;
+      classes = meets.classes;
+      syntaxes = meets.syntaxes;
+      single = meets.single;
+      placed = misplaced-past a b new other apart ∙ ap (λ entries. is_misplaced None entries other) same ∙ meets.placed;
+      limits = limits-past a b c d new other same new_meets.limits meets.limits;
+    })

@@ -1,36 +1,38 @@
 -- The entries of a tree still meet the rules where one that meets them is added.
-use Rattle.std.proofs.Common.{◌≡◌, ◌≢◌, true, false, List, [], ◌∷◌, ◌++◌, if◌then◌else◌, None, refl, sym, ap, subst, ◌∙◌, inl, inr, append_assoc}
+use Rattle.std.proofs.Common.{◌≡◌, ◌≢◌, ℕ, ◌<◌, nat_le, true, false, List, [], ◌∷◌, ◌++◌, length, if◌then◌else◌, None, refl, sym, ap, subst, ◌∙◌, inl, inr, append_assoc, arith}
 use Rattle.std.specs.List.{AllByRecursion}
-use Rattle.std.proofs.lemmas.List.{map-append}
+use Rattle.std.proofs.lemmas.Bool.{or_parts}
+use Rattle.std.proofs.lemmas.Bool.Decides.{nat_tests}
 use Rattle.dn_names.specs.NameOrder.{is_same}
-use Rattle.dir_tree.specs.Entries.{EntryInformation}
-use Rattle.dir_tree.specs.Trees.{Numbered, entries_of, IsTree, is_before, put_row, has_name, superior_name}
-use Rattle.dir_tree.specs.Refusals.{lacks_superior}
-use Rattle.schema_rules.specs.Rules.{broken_rule, MeetsRules}
+use Rattle.dn_names.specs.GoodNames.{IsGoodName}
+use Rattle.dir_tree.specs.Entries.{EntryInformation, IsGoodAttributes}
+use Rattle.dir_tree.specs.Trees.{IsTree, is_before, put_in, has_name, lacks_superior, superior_name}
+use Rattle.dir_tree.proofs.TreeTheorems.{tree-put_in}
+use Rattle.schema_rules.specs.Rules.{broken_rule, is_past_limits, MeetsRules, AreGood}
 use Rattle.schema_rules.proofs.ListPlaceLemmas.{stands, all_at}
-use Rattle.schema_rules.proofs.RuleLemmas.{broken_rule-past}
+use Rattle.schema_rules.proofs.RuleLemmas.{Meets-from_broken_rule, broken_rule-past}
 use Rattle.schema_rules.proofs.RootLemmas.{superiors_apart}
 
--- where a row is put in
-pub record IsPut (row : Numbered) (rows new_rows : List Numbered) : Type 0 where
-  pub front : List Numbered
-  pub back : List Numbered
-  pub old : rows ≡ front ++ back
-  pub new : new_rows ≡ front ++ row ∷ back
+-- where an entry is put in
+pub record IsPut (entry : EntryInformation) (entries new_entries : List EntryInformation) : Type 0 where
+  pub front : List EntryInformation
+  pub back : List EntryInformation
+  pub old : entries ≡ front ++ back
+  pub new : new_entries ≡ front ++ entry ∷ back
 
-put_in : (row : Numbered) (rows : List Numbered) → IsPut row rows (put_row row rows)
-put_in row [] = record { front = []; back = []; old = refl; new = refl }
-put_in row (first ∷ rows) =
-    let later = put_in row rows in
-    elim (is_before first.entry.name row.entry.name)
-    as (λ b. IsPut row (first ∷ rows) (if b then first ∷ put_row row rows else row ∷ first ∷ rows)) [
+is_put : (entry : EntryInformation) (entries : List EntryInformation) → IsPut entry entries (put_in entry entries)
+is_put entry [] = record { front = []; back = []; old = refl; new = refl }
+is_put entry (first ∷ rest) =
+    let later = is_put entry rest in
+    elim (is_before first.name entry.name)
+    as (λ b. IsPut entry (first ∷ rest) (if b then first ∷ put_in entry rest else entry ∷ first ∷ rest)) [
       | true ↦ record {
         front = first ∷ later.front;
         back = later.back;
-        old = ap (λ rows. first ∷ rows) later.old;
-        new = ap (λ rows. first ∷ rows) later.new;
+        old = ap (λ entries. first ∷ entries) later.old;
+        new = ap (λ entries. first ∷ entries) later.new;
       }
-      | false ↦ record { front = []; back = first ∷ rows; old = refl; new = refl }
+      | false ↦ record { front = []; back = first ∷ rest; old = refl; new = refl }
     ]
 
 -- no entry of the list has the new one as its superior
@@ -47,60 +49,101 @@ apart_at entries front back new other apart is =
 -- an entry before the new one
 stays_before :
     (front back before between : List EntryInformation) (new other : EntryInformation) → MeetsRules (front ++ back)
-    → AreApart (front ++ back) new → broken_rule (front ++ back) new ≡ None → front ≡ before ++ other ∷ between
-    → broken_rule (before ++ (between ++ new ∷ back)) other ≡ None
+    → AreApart (front ++ back) new → broken_rule None (front ++ back) new ≡ None → front ≡ before ++ other ∷ between
+    → broken_rule None (before ++ (between ++ new ∷ back)) other ≡ None
 stays_before front back before between new other meets apart unbroken is =
     let old : front ++ back ≡ before ++ other ∷ (between ++ back) =
     ap (λ front. front ++ back) is ∙ append_assoc before (other ∷ between) back in
-    ap (λ entries. broken_rule entries other) (sym (append_assoc before between (new ∷ back)))
+    ap (λ entries. broken_rule None entries other) (sym (append_assoc before between (new ∷ back)))
     ∙ broken_rule-past (before ++ between) back before (between ++ back) new other (append_assoc before between back)
     (apart_at (front ++ back) before (between ++ back) new other apart old)
-    (ap (λ entries. broken_rule entries new) (sym old) ∙ unbroken) (meets before (between ++ back) other old)
+    (ap (λ entries. broken_rule None entries new) (sym old) ∙ unbroken) (meets before (between ++ back) other old)
 
 -- an entry after it
 stays_after :
     (front back between after : List EntryInformation) (new other : EntryInformation) → MeetsRules (front ++ back)
-    → AreApart (front ++ back) new → broken_rule (front ++ back) new ≡ None → back ≡ between ++ other ∷ after
-    → broken_rule ((front ++ new ∷ between) ++ after) other ≡ None
+    → AreApart (front ++ back) new → broken_rule None (front ++ back) new ≡ None → back ≡ between ++ other ∷ after
+    → broken_rule None ((front ++ new ∷ between) ++ after) other ≡ None
 stays_after front back between after new other meets apart unbroken is =
     let old : front ++ back ≡ (front ++ between) ++ other ∷ after =
     ap (λ back. front ++ back) is ∙ sym (append_assoc front between (other ∷ after)) in
-    ap (λ entries. broken_rule entries other) (append_assoc front (new ∷ between) after)
+    ap (λ entries. broken_rule None entries other) (append_assoc front (new ∷ between) after)
     ∙ broken_rule-past front (between ++ after) (front ++ between) after new other (sym (append_assoc front between after))
     (apart_at (front ++ back) (front ++ between) after new other apart old)
-    (ap (λ entries. broken_rule entries new) (sym old) ∙ unbroken) (meets (front ++ between) after other old)
+    (ap (λ entries. broken_rule None entries new) (sym old) ∙ unbroken) (meets (front ++ between) after other old)
 
 -- so each
 stays :
     (front back before after : List EntryInformation) (new other : EntryInformation) → MeetsRules (front ++ back)
-    → AreApart (front ++ back) new → broken_rule (front ++ back) new ≡ None
-    → front ++ new ∷ back ≡ before ++ other ∷ after → broken_rule (before ++ after) other ≡ None
+    → AreApart (front ++ back) new → broken_rule None (front ++ back) new ≡ None
+    → front ++ new ∷ back ≡ before ++ other ∷ after → broken_rule None (before ++ after) other ≡ None
 stays front back before after new other meets apart unbroken is =
     elim (stands front back before after new other is) [
       | inl here ↦ rw (here.before_is, here.after_is, ← here.is) unbroken
       | inr elsewhere ↦ elim elsewhere [
         | inl sooner ↦
-            ap (λ after. broken_rule (before ++ after) other) sooner.after_is
+            ap (λ after. broken_rule None (before ++ after) other) sooner.after_is
             ∙ stays_before front back before sooner.between new other meets apart unbroken sooner.front_is
         | inr later ↦
-            ap (λ before. broken_rule (before ++ after) other) later.before_is
+            ap (λ before. broken_rule None (before ++ after) other) later.before_is
             ∙ stays_after front back later.between after new other meets apart unbroken later.back_is
       ]
     ]
 
 -- the entries with the new one, in the tree's order
-pub MeetsRules-put_row :
-    (rows : List Numbered) (row : Numbered) → IsTree rows → MeetsRules (entries_of rows) → row.entry.name ≢ []
-    → has_name row.entry.name rows ≡ false → lacks_superior row.entry.name rows ≡ false
-    → broken_rule (entries_of rows) row.entry ≡ None → MeetsRules (entries_of (put_row row rows))
-MeetsRules-put_row rows row tree meets named absent has unbroken before after other is =
-    let put = put_in row rows in
-    let front = entries_of put.front in
-    let back = entries_of put.back in
-    let old : entries_of rows ≡ front ++ back = ap entries_of put.old ∙ map-append (λ row. row.entry) put.front put.back in
-    let new : entries_of (put_row row rows) ≡ front ++ row.entry ∷ back =
-    ap entries_of put.new ∙ map-append (λ row. row.entry) put.front (row ∷ put.back) in
-    let P : List EntryInformation → Type 0 = λ entries. AreApart entries row.entry in
-    stays front back before after row.entry other (subst MeetsRules old meets)
-    (subst P old (superiors_apart rows row.entry.name tree named absent has))
-    (ap (λ entries. broken_rule entries row.entry) (sym old) ∙ unbroken) (sym new ∙ is)
+pub MeetsRules-put_in :
+    (entries : List EntryInformation) (entry : EntryInformation) → IsTree entries → MeetsRules entries → entry.name ≢ []
+    → has_name entry.name entries ≡ false → lacks_superior entry.name entries ≡ false
+    → broken_rule None entries entry ≡ None → MeetsRules (put_in entry entries)
+MeetsRules-put_in entries entry tree meets named absent has unbroken before after other is =
+    let put = is_put entry entries in
+    let P : List EntryInformation → Type 0 = λ entries. AreApart entries entry in
+    stays put.front put.back before after entry other (subst MeetsRules put.old meets)
+    (subst P put.old (superiors_apart entries entry.name tree named absent has))
+    (ap (λ entries. broken_rule None entries entry) (sym put.old) ∙ unbroken) (sym put.new ∙ is)
+
+-- what holds of all holds of them with one more of which it holds
+all_put_in :
+    (P : EntryInformation → Type 0) (entry : EntryInformation) (entries : List EntryInformation) → P entry
+    → AllByRecursion P entries → AllByRecursion P (put_in entry entries)
+all_put_in P entry [] here all = (here, tt)
+all_put_in P entry (first ∷ rest) here all =
+    elim (is_before first.name entry.name)
+    as (λ b. AllByRecursion P (if b then first ∷ put_in entry rest else entry ∷ first ∷ rest)) [
+      | true ↦ (all.0, all_put_in P entry rest here all.1)
+      | false ↦ (here, all)
+    ]
+
+-- no entries are good
+none_placed : (front back : List EntryInformation) (entry : EntryInformation) → [] ≢ front ++ entry ∷ back
+none_placed [] back entry is = cc
+none_placed (first ∷ front) back entry is = cc
+
+pub AreGood-none : AreGood []
+AreGood-none = record {
+  tree = record { sorted = tt; rooted = tt; named = tt; fits = omega arith };
+  names = tt;
+  attributes = tt;
+  meets = λ front back entry is. absurd (none_placed front back entry is);
+}
+
+-- and good ones stay so with one more
+pub AreGood-put_in :
+    (entries : List EntryInformation) (entry : EntryInformation) → AreGood entries → entry.name ≢ []
+    → IsGoodName entry.name → IsGoodAttributes entry.attributes → has_name entry.name entries ≡ false
+    → lacks_superior entry.name entries ≡ false → broken_rule None entries entry ≡ None
+    → AreGood (put_in entry entries)
+unfolding is_past_limits
+AreGood-put_in entries entry good named name attributes absent has unbroken =
+    let meets = Meets-from_broken_rule None entries entry unbroken in
+    let parts = or_parts _ _ meets.limits in
+    let room : length entries < 200000 = few (length entries) (or_parts _ _ parts.0).0 in
+    record {
+      tree = tree-put_in entry entries good.tree named absent has room;
+      names = all_put_in (λ (entry : EntryInformation). IsGoodName entry.name) entry entries name good.names;
+      attributes = all_put_in (λ (entry : EntryInformation). IsGoodAttributes entry.attributes) entry entries attributes good.attributes;
+      meets = MeetsRules-put_in entries entry good.tree good.meets named absent has unbroken;
+    }
+  where
+    few : (n : ℕ) → nat_le 200000 n ≡ false → n < 200000
+    few n none = grind (arith, nat_tests)

@@ -1,19 +1,19 @@
 -- When an entry may not stand in a tree: the rules in the order in which they are tried, each with its result code
 -- (RFC 4511 appendix A). X.501 and X.511 leave the order open; it is this profile's.
-use Rattle.std.specs.Prelude.{◌≡◌, ℕ, nat_lt, nat_le, ◌==◌, Bool, true, false, not, ◌&&◌, ◌||◌, List, [], ◌∷◌, ◌++◌, length, find, sum_by, codes, Option, Some, None, is_none}
-use Rattle.std.specs.List.{list_any}
+use Rattle.std.specs.Prelude.{◌≡◌, ◌≢◌, ℕ, nat_lt, nat_le, ◌==◌, Bool, true, false, not, ◌&&◌, ◌||◌, List, [], ◌∷◌, ◌++◌, length, find, sum_by, codes, Option, Some, None, is_none}
+use Rattle.std.specs.List.{AllByRecursion, list_any, list_all}
 use Rattle.std.specs.Option.{option_map, option_map_or}
 use Rattle.schema_core.specs.declared.kinds.Syntax.{Syntax}
 use Rattle.schema_core.specs.declared.kinds.Syntax.TheVariants.{Text, Ascii, Phone, Country, Octets, Oid, Name, Subtree, Aci}
 use Rattle.schema_core.specs.Attributes.{is_single, syntax_of}
 use Rattle.schema_core.specs.Classes.{class_with}
 use Rattle.dn_names.specs.Names.{RdnSequence, last_rdn}
-use Rattle.dn_names.specs.NameOrder.{is_same}
-use Rattle.dir_tree.specs.Entries.{EntryInformation, kinds_of, values_of, has_kind, has_key}
+use Rattle.dn_names.specs.GoodNames.{IsGoodName}
+use Rattle.dir_tree.specs.Entries.{EntryInformation, kinds_of, values_of, has_kind, has_key, IsGoodAttributes}
 use Rattle.dir_tree.specs.EntryClasses.{object_class, has_class}
-use Rattle.dir_tree.specs.Points.{is_point, is_subentry, is_access_subentry}
-pub use Rattle.dir_tree.specs.Points.{access_subentries}
-use Rattle.dir_tree.specs.Trees.{superior_name}
+use Rattle.dir_tree.specs.Points.{is_point, is_subentry, is_access_subentry, access_subentries}
+use Rattle.dir_tree.specs.Trees.{most_entries, superior_name, named_in, IsTree}
+use Rattle.dir_tree.specs.Scopes.{is_child}
 use Rattle.schema_rules.specs.Listed.{all_classes, structural_classes, are_in_line, is_among, required_by, permitted_by}
 
 -- notAllowedOnRDN (67): a value of the last RDN is none of the entry's
@@ -21,6 +21,19 @@ use Rattle.schema_rules.specs.Listed.{all_classes, structural_classes, are_in_li
 -- the entry lacks a value of its last RDN
 unfoldable pub lacks_own_value : EntryInformation → Bool
 lacks_own_value entry = list_any (λ pair. not (has_key pair.value.key (values_of pair.kind entry.attributes))) (last_rdn entry.name)
+
+-- objectClassModsProhibited (69): other structural classes are listed than before (X.501 13.3.2)
+
+-- each class of the one list is among the other
+abbrev pub are_among : List ℕ → List ℕ → Bool
+are_among some all = list_all (λ class. is_among class all) some
+
+-- the entry lists other structural classes than the one whose place it takes
+unfoldable pub has_other_structural : Option EntryInformation → EntryInformation → Bool
+has_other_structural None entry = false
+has_other_structural (Some old) entry =
+    not (are_among (structural_classes old.attributes) (structural_classes entry.attributes)
+    && are_among (structural_classes entry.attributes) (structural_classes old.attributes))
 
 -- objectClassViolation (65)
 
@@ -87,18 +100,22 @@ has_two_values entry = list_any (λ attribute. is_single attribute.kind && nat_l
 
 -- namingViolation (64): a subentry stands immediately below an administrative point, and nothing below it (RFC 3672 2)
 
--- the entry of the name
-abbrev pub named_in : RdnSequence → List EntryInformation → Option EntryInformation
-named_in name entries = find (λ other. is_same name other.name) entries
-
 -- the entry may not stand immediately below this superior, or without one
 abbrev pub stands_wrong : Option EntryInformation → EntryInformation → Bool
 stands_wrong None entry = is_subentry entry
 stands_wrong (Some superior) entry = is_subentry superior || is_subentry entry && not (is_point superior)
 
+-- the entry may not stand immediately above one of those that stand below the entry whose place it takes; below a new
+-- entry none stands
+abbrev pub stands_wrong_above : Option EntryInformation → List EntryInformation → EntryInformation → Bool
+stands_wrong_above None others entry = false
+stands_wrong_above (Some old) others entry =
+    list_any (λ other. is_child old.name other && (is_subentry entry || is_subentry other && not (is_point entry))) others
+
 -- the entry may not stand where its name says
-unfoldable pub is_misplaced : List EntryInformation → EntryInformation → Bool
-is_misplaced entries entry = stands_wrong (named_in (superior_name entry.name) entries) entry
+unfoldable pub is_misplaced : Option EntryInformation → List EntryInformation → EntryInformation → Bool
+is_misplaced old others entry =
+    stands_wrong (named_in (superior_name entry.name) others) entry || stands_wrong_above old others entry
 
 -- adminLimitExceeded (11): entries, access control subentries, or the octets of the entry's values
 
@@ -106,39 +123,65 @@ is_misplaced entries entry = stands_wrong (named_in (superior_name entry.name) e
 abbrev pub octets_in : EntryInformation → ℕ
 octets_in entry = sum_by (λ attribute. sum_by (λ value. length value.octets) attribute.values) entry.attributes
 
+-- how many access control subentries a tree has at most
+abbrev pub most_subentries : ℕ
+most_subentries = 256
+
+-- how many octets the values of an entry have together at most
+abbrev pub most_octets_in : ℕ
+most_octets_in = 67108864
+
 -- the tree is full, or full of access control subentries and this is one, or the values have too many octets
 unfoldable pub is_past_limits : List EntryInformation → EntryInformation → Bool
-is_past_limits entries entry =
-    nat_le 200000 (length entries) || is_access_subentry entry && nat_le 256 (access_subentries entries) || nat_lt 67108864 (octets_in entry)
+is_past_limits others entry =
+    nat_le most_entries (length others)
+    || is_access_subentry entry && nat_le most_subentries (access_subentries others)
+    || nat_lt most_octets_in (octets_in entry)
 
--- a rule: its result code, and whether an entry breaks it among the others
+-- a rule: its result code, and whether an entry breaks it that takes the place of an old one, or of none, among others
 pub record Rule : Type 0 where
   pub code : ℕ
-  pub breaks : List EntryInformation → EntryInformation → Bool
+  pub breaks : Option EntryInformation → List EntryInformation → EntryInformation → Bool
 
 -- the rules, in the order in which they are tried
 abbrev pub rules : List Rule
 rules =
-    record { code = 67; breaks = λ entries. lacks_own_value }
-    ∷ record { code = 65; breaks = λ entries. breaks_classes }
-    ∷ record { code = 21; breaks = λ entries. has_unread }
-    ∷ record { code = 19; breaks = λ entries. has_two_values }
+    record { code = 67; breaks = λ old others. lacks_own_value }
+    ∷ record { code = 69; breaks = λ old others. has_other_structural old }
+    ∷ record { code = 65; breaks = λ old others. breaks_classes }
+    ∷ record { code = 21; breaks = λ old others. has_unread }
+    ∷ record { code = 19; breaks = λ old others. has_two_values }
     ∷ record { code = 64; breaks = is_misplaced }
-    ∷ record { code = 11; breaks = is_past_limits }
+    ∷ record { code = 11; breaks = λ old. is_past_limits }
     ∷ []
 
--- the code of the first rule that the entry breaks among the others
-unfoldable pub broken_rule : List EntryInformation → EntryInformation → Option ℕ
-broken_rule entries entry = option_map (λ rule. rule.code) (find (λ rule. rule.breaks entries entry) rules)
+-- the code of the first rule that the entry breaks, in the place of an old one or of none, among the others
+unfoldable pub broken_rule : Option EntryInformation → List EntryInformation → EntryInformation → Option ℕ
+broken_rule old others entry = option_map (λ rule. rule.code) (find (λ rule. rule.breaks old others entry) rules)
+
+-- the entry breaks none of them
+pub record Meets (old : Option EntryInformation) (others : List EntryInformation) (entry : EntryInformation) : Type 0 where
+  pub own_values : lacks_own_value entry ≡ false
+  pub structural : has_other_structural old entry ≡ false
+  pub classes : breaks_classes entry ≡ false
+  pub syntaxes : has_unread entry ≡ false
+  pub single : has_two_values entry ≡ false
+  pub placed : is_misplaced old others entry ≡ false
+  pub limits : is_past_limits others entry ≡ false
 
 -- the entry at each place meets the rules among the others
 abbrev pub MeetsRules : List EntryInformation → Type 0
 MeetsRules entries =
-    (front back : List EntryInformation) (entry : EntryInformation) → entries ≡ front ++ entry ∷ back → broken_rule (front ++ back) entry ≡ None
+    (front back : List EntryInformation) (entry : EntryInformation) → entries ≡ front ++ entry ∷ back → broken_rule None (front ++ back) entry ≡ None
 
--- there is an entry, and each meets the rules
-pub record IsGoodTree (entries : List EntryInformation) : Type 0 where
-  pub first : EntryInformation
-  pub rest : List EntryInformation
-  pub some : entries ≡ first ∷ rest
+-- the entries are those of a tree, each with a good name and good attributes, and each meets the rules
+pub record AreGood (entries : List EntryInformation) : Type 0 where
+  pub tree : IsTree entries
+  pub names : AllByRecursion (λ entry. IsGoodName entry.name) entries
+  pub attributes : AllByRecursion (λ entry. IsGoodAttributes entry.attributes) entries
   pub meets : MeetsRules entries
+
+-- a good tree: such entries, of which there is one
+pub record IsGoodTree (entries : List EntryInformation) : Type 0 where
+  pub some : entries ≢ []
+  pub good : AreGood entries

@@ -1,8 +1,8 @@
 //! Whether an entry may be added to a tree.
 
 ghost use Rattle.std.specs.Prelude.{◌≡◌, ◌≢◌, None, IfOk, IfErr};
-ghost use Rattle.dir_tree.specs.Trees.{entries_of};
-ghost use Rattle.schema_rules.specs.Checking.{IsCause};
+ghost use Rattle.dir_tree.specs.Numbered.{entries_of};
+ghost use Rattle.schema_rules.specs.Checking.{code_of};
 ghost use Rattle.schema_rules.specs.Rules.{broken_rule};
 
 use crate::broken::Broken;
@@ -13,9 +13,10 @@ use dir_tree::{Entry, EntryNo, Tree};
 /// first one. An entry that takes the place of another isn't checked yet. Takes no memory.
 pub fn check_entry(tree: &Tree, old: Option<EntryNo>, entry: &Entry) -> Result<(), Broken>
     requires { old ≡ None }
-    ensures ok { IfOk result (λ _. broken_rule (entries_of tree.now) entry.now ≡ None) }
+    ensures ok { IfOk result (λ _. broken_rule None (entries_of tree.now) entry.now ≡ None) }
     ensures no_memory { IfErr result (λ broken. broken ≢ Broken.NoMemory) }
-    ensures rule { IfErr result (λ broken. IsCause broken (broken_rule (entries_of tree.now) entry.now)) }
+    ensures rule { IfErr result (λ broken.
+        code_of broken ≡ broken_rule None (entries_of tree.now) entry.now) }
 {
     match broken_rule(tree, entry) {
         Some(code) => Err(Broken::Rule(code)),

@@ -15,4 +15,4 @@ mod values;
 
 pub use broken::{Broken, NoMemory};
 pub use check::check_entry;
-pub use laws::a_tree_stays_good;
+pub use laws::{a_tree_stays_good, an_entry_meets_the_rules_or_breaks_one};

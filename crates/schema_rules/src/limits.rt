@@ -2,7 +2,7 @@
 
 ghost use Rattle.std.specs.Prelude.{◌≡◌, ◌&&◌, nat_le, nat_lt, length};
 ghost use Rattle.dir_tree.specs.Points.{is_access_subentry, access_subentries};
-ghost use Rattle.dir_tree.specs.Trees.{entries_of};
+ghost use Rattle.dir_tree.specs.Numbered.{entries_of};
 ghost use Rattle.schema_rules.specs.Rules.{octets_in, is_past_limits};
 
 use crate::values::{MOST_OCTETS, octets_in};
@@ -35,7 +35,7 @@ fn is_subentry_too_many(tree: &Tree, entry: &Entry) -> bool
     ensures exact { result
         ≡ (is_access_subentry entry.now && nat_le 256 (access_subentries (entries_of tree.now))) }
 {
-    entry.is_access_subentry() && tree.access_subentries() >= MOST_SUBENTRIES
+    entry.is_access_subentry() && tree.access_subentries().len() >= MOST_SUBENTRIES
 }
 
 // Whether the entry's values have more octets than they may.

@@ -1,17 +1,18 @@
 //! Where administrative points and subentries stand (X.501 14.3, RFC 3672 section 2).
 
-ghost use Rattle.std.specs.Prelude.{◌≡◌, ◌&&◌, ◌||◌, not};
+ghost use Rattle.std.specs.Prelude.{◌≡◌, ◌&&◌, ◌||◌, not, None};
 ghost use Rattle.std.specs.Option.{option_map};
 ghost use Rattle.dir_tree.specs.Points.{is_point, is_subentry};
-ghost use Rattle.dir_tree.specs.Trees.{entries_of, superior_name};
-ghost use Rattle.schema_rules.specs.Rules.{named_in, stands_wrong, is_misplaced};
+ghost use Rattle.dir_tree.specs.Trees.{superior_name, named_in};
+ghost use Rattle.dir_tree.specs.Numbered.{entries_of};
+ghost use Rattle.schema_rules.specs.Rules.{stands_wrong, is_misplaced};
 
 use dir_tree::{Entry, Tree};
 use dn_names::Dn;
 
 /// Whether the entry stands below a subentry, or is a subentry and stands below no administrative point.
 pub(crate) fn is_misplaced(tree: &Tree, entry: &Entry) -> bool
-    ensures exact { result ≡ is_misplaced (entries_of tree.now) entry.now }
+    ensures exact { result ≡ is_misplaced None (entries_of tree.now) entry.now }
 {
     match superior_in(tree, entry.name()) {
         Some(superior) => stands_wrong_below(superior, entry),

@@ -1,7 +1,7 @@
 //! The table of the rules, in the order in which they are tried.
 
-ghost use Rattle.std.specs.Prelude.{◌≡◌};
-ghost use Rattle.dir_tree.specs.Trees.{entries_of};
+ghost use Rattle.std.specs.Prelude.{◌≡◌, None};
+ghost use Rattle.dir_tree.specs.Numbered.{entries_of};
 ghost use Rattle.schema_rules.specs.Rules.{breaks_classes, broken_rule};
 
 use crate::contents::{has_unpermitted, lacks_required};
@@ -15,9 +15,9 @@ use crate::values::{has_two_values, has_unread};
 use dir_tree::{Entry, Tree};
 
 /// The result code of the first rule that the entry breaks in the tree; None where it breaks none.
-#[tactic(auto, unfolding(crate::specs::Rules::broken_rule))]
+#[tactic(auto, unfolding(crate::specs::Rules::broken_rule, crate::specs::Rules::has_other_structural))]
 pub(crate) fn broken_rule(tree: &Tree, entry: &Entry) -> Option<u8>
-    ensures exact { result ≡ broken_rule (entries_of tree.now) entry.now }
+    ensures exact { result ≡ broken_rule None (entries_of tree.now) entry.now }
 {
     if lacks_own_value(entry) {
         Some(67)

@@ -1,5 +1,5 @@
 use Rattle.std.proofs.Common.{refl, ◌∙◌}
-use Rattle.schema_rules.specs.Checking.{entries_of}
+use Rattle.dir_tree.specs.Numbered.{entries_of}
 use Rattle.acl_program.specs.Outcomes.{Checked, status_of}
 use Rattle.acl_program.proofs.EndsLemmas.{Ends-put}
 use Rattle.acl_program.proofs.data.print_counts.Goals as goal

@@ -1,9 +1,7 @@
-use Rattle.std.proofs.Common.{◌≡◌, ◌≢◌, ap, length, arith}
+use Rattle.std.proofs.Common.{◌≡◌, ◌≢◌, length, arith}
 use Rattle.std.proofs.lemmas.Result.{err_from_is_err_and}
-use Rattle.schema_rules.specs.Checking.{entries_of}
+use Rattle.dir_tree.specs.Numbered.{entries_of}
 use Rattle.data_file.proofs.LoadLemmas.{IsDataFault-loads, fault-same, loads-some, loads-none}
-use Rattle.data_file.proofs.GoodLemmas.{IsGoodTree-rows}
-use Rattle.data_file.proofs.TableLemmas.{AreOfTable-loadable}
 use Rattle.data_file.proofs.loading.load.Goals as goal
 
 -- the first bad line
@@ -25,29 +23,20 @@ returns-clause-ok c =
     let some : length c.load_all.new.tree ≢ 0 = omega arith in
     loads-some c.args.text.now c.load_all.new.tree some c.in_ok-load_all.ensures.ok
 
--- each met the rules as it came
+-- a file of octets loads a good tree
 pub returns-clause-good : goal.returns-clause-good
 returns-clause-good c =
     let some : length c.load_all.new.tree ≢ 0 = omega arith in
-    IsGoodTree-rows c.load_all.new.tree some c.in_ok-load_all.ensures.good
+    c.what_is_loaded_is_good.ensures.exact c.args.text.now (entries_of c.load_all.new.tree)
+    (λ i. let fits = c.type_inv.text i in omega arith)
+    (loads-some c.args.text.now c.load_all.new.tree some c.in_ok-load_all.ensures.ok)
 
--- the entries of a file of octets are loadable, so their types are in the table
-pub returns-clause-table : goal.returns-clause-table
-returns-clause-table c =
-    let rows = c.load_all.new.tree in
-    let some : length rows ≢ 0 = omega arith in
-    let whole = loads-some c.args.text.now rows some c.in_ok-load_all.ensures.ok in
-    AreOfTable-loadable c.what_is_loaded_is_loadable.ensures.table (entries_of rows)
-    (c.what_is_loaded_is_loadable.ensures.exact c.args.text.now (entries_of rows)
-    (λ i. let fits = c.type_inv.text i in omega arith) whole)
-
--- and the file that is written of them gives them again
+-- and the file that is written of it gives it again
 pub returns-clause-again : goal.returns-clause-again
 returns-clause-again c =
     let rows = c.load_all.new.tree in
     let some : length rows ≢ 0 = omega arith in
     let whole = loads-some c.args.text.now rows some c.in_ok-load_all.ensures.ok in
-    c.what_is_written_loads_again.ensures.exact rows (λ none. some (ap length none))
-    c.entries_form_a_tree.ensures.exact c.in_ok-load_all.ensures.good
-    (c.what_is_loaded_is_loadable.ensures.exact c.args.text.now (entries_of rows)
-    (λ i. let fits = c.type_inv.text i in omega arith) whole)
+    c.what_is_written_loads_again.ensures.exact (entries_of rows)
+    (c.what_is_loaded_is_good.ensures.exact c.args.text.now (entries_of rows) (λ i. let fits = c.type_inv.text i in omega arith) whole)
+    (c.what_is_loaded_is_loadable.ensures.exact c.args.text.now (entries_of rows) (λ i. let fits = c.type_inv.text i in omega arith) whole)

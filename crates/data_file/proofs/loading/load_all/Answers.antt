@@ -1,5 +1,5 @@
 use Rattle.std.proofs.Common.{◌≡◌, ◌∙◌, ap, sym, Ok}
-use Rattle.schema_rules.specs.Checking.{entries_of}
+use Rattle.dir_tree.specs.Numbered.{entries_of}
 use Rattle.data_file.specs.Steps.{IsStep}
 use Rattle.data_file.proofs.LoadLemmas.{loads_after-step, loads_after-end}
 use Rattle.data_file.proofs.loading.load_all.Goals as goal
@@ -10,7 +10,6 @@ loop-next-preserved c =
     let step : IsStep c.args.text.now c.loop-next.at c.loop-next.tree c.in-Some.next c.load_next.new.tree = rw c.in-Some.is at c.in_ok-next.ensures.more in
     record {
       whole = c.loop-next.invariant.whole ∙ loads_after-step _ _ _ _ _ step;
-      good = (rw c.in-Some.is at c.in_ok-next.ensures.good) c.loop-next.invariant.good;
       place = step.next.place;
     }
 

@@ -1,6 +1,5 @@
 use Rattle.std.proofs.Common.{◌≡◌, ◌-◌, length, []}
-use Rattle.schema_rules.specs.Checking.{entries_of}
-use Rattle.schema_rules.specs.Rules.{MeetsRules}
+use Rattle.dir_tree.specs.Numbered.{entries_of}
 use Rattle.ldif_core.specs.Places.{IsPlace, records_from}
 use Rattle.op_write.specs.DataFile.{loads_after, file_start}
 use Rattle.data_file.proofs.loading.load_all.Given as goal
@@ -9,7 +8,6 @@ use Rattle.data_file.proofs.loading.load_all.Given as goal
 abbrev pub invariant-loop-next : goal.invariant-loop-next
 invariant-loop-next l = record {
   whole : loads_after [] (records_from l.text file_start) ≡ loads_after (entries_of l.tree) (records_from l.text l.at);
-  good : MeetsRules (entries_of l.tree);
   place : IsPlace l.text l.at;
 }
 

@@ -1,7 +1,6 @@
--- Line by line, each value is of the octets of the file, and its type is in the table.
+-- Line by line, each value is of the octets of the file.
 use Rattle.load_laws.proofs.JoinLemmas.{loadable-loads}
-use Rattle.load_laws.proofs.TextLemmas.{AreInTable-from_IsLoadable}
 use Rattle.load_laws.proofs.laws.what_is_loaded_is_loadable.Goals as goal
 
 pub returns : goal.returns
-returns c = record { exact = loadable-loads; table = AreInTable-from_IsLoadable }
+returns c = record { exact = loadable-loads }

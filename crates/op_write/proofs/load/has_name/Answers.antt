@@ -1,7 +1,7 @@
 -- A name is there where its number is found.
 use Rattle.std.proofs.Common.{◌∙◌}
 use Rattle.dir_tree.specs.declared.number.EntryNo.{EntryNo}
-use Rattle.op_write.proofs.PlaceLemmas.{has_name-found}
+use Rattle.dir_tree.proofs.TreeTheorems.{has_name-found}
 use Rattle.op_write.proofs.load.has_name.Goals as goal
 
 pub returns : goal.returns

@@ -1,5 +1,5 @@
 use Rattle.std.proofs.Common.{◌∙◌, ◌-◌, ◌<◌, length, ap, arith}
-use Rattle.dir_tree.specs.Trees.{find_front}
+use Rattle.dir_tree.specs.Numbered.{find_front}
 use Rattle.dir_tree.specs.declared.number.EntryNo.{EntryNo}
 use Rattle.op_write.proofs.PlaceLemmas.{lacks-found}
 use Rattle.op_write.proofs.load.lacks_superior.Goals as goal

@@ -1,5 +1,6 @@
--- The superior is in the tree or not.
-use Rattle.std.proofs.Common.{ap, ◌∙◌}
+-- The superior is in the tree or not; below a new entry none stands.
+use Rattle.std.proofs.Common.{false, ◌||◌, sym, ap, ◌∙◌}
+use Rattle.std.proofs.Math.Bool.{or-false}
 use Rattle.schema_rules.specs.Rules.{is_misplaced, stands_wrong}
 use Rattle.schema_rules.proofs.points.is_misplaced.Goals as goal
 
@@ -8,7 +9,8 @@ unfolding is_misplaced
 returns-in-Some c = record {
   exact =
       c.stands_wrong_below.ensures.exact
-      ∙ ap (λ found. stands_wrong found c.args.entry.now) (rw c.name.ensures.exact at c.in-Some.ensures.exact);
+      ∙ ap (λ found. stands_wrong found c.args.entry.now) (rw c.name.ensures.exact at c.in-Some.ensures.exact)
+      ∙ sym (or-false _);
 }
 
 pub returns-in-None : goal.returns-in-None
@@ -16,5 +18,6 @@ unfolding is_misplaced
 returns-in-None c = record {
   exact =
       c.is_subentry.ensures.exact
-      ∙ ap (λ found. stands_wrong found c.args.entry.now) (rw c.name.ensures.exact at c.in-None.ensures.exact);
+      ∙ ap (λ found. stands_wrong found c.args.entry.now) (rw c.name.ensures.exact at c.in-None.ensures.exact)
+      ∙ sym (or-false _);
 }

@@ -17,6 +17,6 @@ pub returns-in-None : goal.returns-in-None
 returns-in-None c =
     let place = c.saturating_sub.ensures ∙ ap (λ (len : ℕ). len - 1) c.len.ensures.exact in
     record {
-      exact = sym (no_number (superior_name c.args.name.now) c.args.tree.now
+      exact = sym (no_number (superior_name c.args.name.now) c.args.tree.now c.entries_form_a_tree.ensures.exact.distinct
           (sym (c.in-None.ensures.exact ∙ front_of_superior _ _ _ place)));
     }
