@@ -1,10 +1,11 @@
 -- Names as the rules allow them: what reading gives, and what is read again from its printed form.
 use Rattle.std.specs.Prelude.{◌≡◌, ◌≢◌, ◌<◌, ◌≤◌, List, [], ◌∷◌, length, Some}
 use Rattle.std.specs.List.{AllByRecursion}
+use Rattle.dn_names.specs.Limits.{most_rdns}
 use Rattle.dn_names.specs.Names.{TypeAndValue, RdnSequence}
 use Rattle.dn_names.specs.Resolving.{naming_value}
 
--- the value is one of the pair's type, which may name: of its syntax, with its key, of at most 65,536 octets
+-- the value is one of the pair's type, which may name: of its syntax, with its key, and not too long
 abbrev pub IsGoodPair : TypeAndValue → Type 0
 IsGoodPair pair = naming_value pair.kind pair.value.octets ≡ Some pair.value
 
@@ -19,7 +20,7 @@ pub record IsGoodRdn (rdn : List TypeAndValue) : Type 0 where
   pub good : AllByRecursion IsGoodPair rdn
   pub ordered : IsInTableOrder rdn
 
--- at most 64 RDNs
+-- not too many RDNs
 pub record IsGoodName (name : RdnSequence) : Type 0 where
-  pub fits : length name ≤ 64
+  pub fits : length name ≤ most_rdns
   pub good : AllByRecursion IsGoodRdn name

@@ -2,6 +2,7 @@
 pub mod Classes
 pub mod NameGrammar
 pub mod Spelling
+pub mod Limits
 pub mod Names
 pub mod NameOrder
 pub mod PathKeys

@@ -3,14 +3,15 @@ use Rattle.std.specs.Prelude.{ℕ, ◌+◌, ◌&&◌, ◌==◌, nat_lt, nat_le, 
 use Rattle.schema_core.specs.Attributes.{attr_of, is_naming, syntax_of}
 use Rattle.dn_names.specs.declared.error.BadName.{BadName}
 use Rattle.dn_names.specs.declared.error.BadName.TheVariants.{Part, TooMany}
+use Rattle.dn_names.specs.Limits.{most_rdns, most_octets}
 use Rattle.dn_names.specs.Names.{Keyed, TypeAndValue, RdnSequence}
 use Rattle.dn_names.specs.Spelling.{WrittenPair}
 use Rattle.dn_names.specs.Values.{plain_key}
 
--- a value of a type that may name, of at most 65,536 octets and of the type's syntax
+-- a value of a type that may name, not too long and of the type's syntax
 unfoldable pub naming_value : ℕ → List ℕ → Option Keyed
 naming_value number octets =
-    if is_naming number && nat_le (length octets) 65536
+    if is_naming number && nat_le (length octets) most_octets
     then option_map (λ key. record { octets = octets; key = key }) (option_and_then (λ syntax. plain_key syntax octets) (syntax_of number))
     else None
 
@@ -57,9 +58,9 @@ rdns_from index (written ∷ more) =
 abbrev pub from_root : Result RdnSequence BadName → Result RdnSequence BadName
 from_root result = and_then result (λ rdns. Ok (reverse rdns))
 
--- a name has at most 64 RDNs
+-- a name that has not too many RDNs
 unfoldable pub resolve : List (List WrittenPair) → Result RdnSequence BadName
-resolve written = if nat_lt 64 (length written) then Err TooMany else from_root (rdns_from 0 written)
+resolve written = if nat_lt most_rdns (length written) then Err TooMany else from_root (rdns_from 0 written)
 
 -- an RDN alone
 unfoldable pub resolve_rdn : List (List WrittenPair) → Result RdnSequence BadName

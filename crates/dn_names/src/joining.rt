@@ -2,14 +2,14 @@
 
 ghost use Rattle.std.specs.Prelude.{◌≡◌, ◌++◌, ◌+◌, ◌<◌, ◌≤◌, ◌↔◌, ◌⊎◌, IsTrue, Err, length, drop, IfOk, IfErr};
 ghost use Rattle.dn_names.specs.declared.error.BadName.TheVariants.{TooMany, NoMemory};
+ghost use Rattle.dn_names.specs.Limits.{most_rdns};
 ghost use Rattle.dn_names.specs.Names.{rdns_of};
 ghost use Rattle.dn_names.specs.NameOrder.{is_prefix_of};
 
 use crate::error::BadName;
+use crate::limits::MOST_RDNS;
 use crate::name::{Dn, Rdn, append_rdns, copy_rdns};
 use std::alloc::{AllocError, Global};
-
-const MOST_RDNS: usize = 64;
 
 /// What stands below `superior` in `below`: the RDNs of `below` after those of `superior`, which is a prefix of
 /// it. The error comes where memory is refused.
@@ -39,7 +39,7 @@ fn rdns_from(alloc: Global, rdns: &[Rdn], first: usize) -> Result<Vec<Rdn>, Allo
 /// `NoMemory` where memory is refused.
 pub fn join(alloc: Global, superior: &Dn, below: &Dn) -> Result<Dn, BadName>
     ensures ok { IfOk result (λ name. name ≡ superior.now ++ below.now) }
-    ensures too_many { (result ≡ Err TooMany) ↔ (64 < length superior.now + length below.now) }
+    ensures too_many { (result ≡ Err TooMany) ↔ (most_rdns < length superior.now + length below.now) }
     ensures only { IfErr result (λ error. (error ≡ TooMany) ⊎ (error ≡ NoMemory)) }
 {
     if is_too_long(superior, below) {
@@ -52,13 +52,13 @@ pub fn join(alloc: Global, superior: &Dn, below: &Dn) -> Result<Dn, BadName>
 }
 
 fn is_too_long(superior: &Dn, below: &Dn) -> bool
-    ensures exact { IsTrue result ↔ (64 < length superior.now + length below.now) }
+    ensures exact { IsTrue result ↔ (most_rdns < length superior.now + length below.now) }
 {
     below.len() > MOST_RDNS || superior.len() > MOST_RDNS - below.len()
 }
 
 fn join_rdns(alloc: Global, superior: &Dn, below: &Dn) -> Result<Dn, AllocError>
-    requires { length superior.now + length below.now ≤ 64 }
+    requires { length superior.now + length below.now ≤ most_rdns }
     ensures ok { IfOk result (λ name. name ≡ superior.now ++ below.now) }
 {
     let mut rdns = copy_rdns(alloc, &superior.rdns)?;

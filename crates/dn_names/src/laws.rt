@@ -3,6 +3,7 @@
 ghost use Rattle.std.specs.Prelude.{◌≡◌, ℕ, ◌+◌, ◌<◌, ◌≤◌, ◌↔◌, ◌++◌, IsTrue, List, Ok, Err, length, drop};
 ghost use Rattle.std.specs.Cmp.{IsTotalOrder};
 ghost use Rattle.std.specs.declared.cmp.Ordering.TheVariants.{Less};
+ghost use Rattle.dn_names.specs.Limits.{most_rdns};
 ghost use Rattle.dn_names.specs.Names.{RdnSequence};
 ghost use Rattle.dn_names.specs.NameGrammar.{IsNameText};
 ghost use Rattle.dn_names.specs.Spelling.{WrittenPair, SpellsName};
@@ -38,7 +39,7 @@ pub fn a_text_spells_one_name()
 pub fn a_text_is_read_as_its_name_or_refused_for_its_cause()
     ensures ok { (name : RdnSequence) (text : List ℕ) → (read_name text ≡ Ok name) ↔ NameText name text }
     ensures err { (text : List ℕ) (cause : BadName)
-        → (read_name text ≡ Err cause) ↔ NameCause (λ count. count ≤ 64) text cause }
+        → (read_name text ≡ Err cause) ↔ NameCause (λ count. count ≤ most_rdns) text cause }
     ensures rdn_ok { (name : RdnSequence) (text : List ℕ) → (read_rdn text ≡ Ok name) ↔ RdnText name text }
     ensures rdn_err { (text : List ℕ) (cause : BadName)
         → (read_rdn text ≡ Err cause) ↔ NameCause (λ count. count ≡ 1) text cause }
@@ -79,7 +80,7 @@ pub fn cutting_undoes_joining()
     ensures join { (superior below : RdnSequence) → IsTrue (is_prefix_of superior below)
         → IsTrue (is_same (superior ++ drop (length superior) below) below) }
     ensures good_join { (superior below : RdnSequence) → IsGoodName superior → IsGoodName below
-        → length superior + length below ≤ 64 → IsGoodName (superior ++ below) }
+        → length superior + length below ≤ most_rdns → IsGoodName (superior ++ below) }
     ensures good_local { (count : ℕ) (name : RdnSequence) → IsGoodName name → IsGoodName (drop count name) }
 {}
 
@@ -95,7 +96,7 @@ pub fn a_refused_part_is_the_first_bad_pair()
     ensures part { (written : List (List WrittenPair)) (index : ℕ)
         → resolve written ≡ Err (Part index) → IsFirstBad (placed_pairs written) index }
     ensures too_many { (written : List (List WrittenPair))
-        → (resolve written ≡ Err TooMany) ↔ (64 < length written) }
+        → (resolve written ≡ Err TooMany) ↔ (most_rdns < length written) }
     ensures ok { (written : List (List WrittenPair)) (name : RdnSequence) → resolve written ≡ Ok name
-        → (length written ≤ 64) × AllByRecursion IsGoodPlace (placed_pairs written) }
+        → (length written ≤ most_rdns) × AllByRecursion IsGoodPlace (placed_pairs written) }
 {}

@@ -8,6 +8,7 @@ mod is_key;
 mod joining;
 mod keys;
 mod laws;
+mod limits;
 mod make;
 mod modes;
 mod name;
@@ -31,6 +32,7 @@ pub use laws::{
     a_text_is_read_as_its_name_or_refused_for_its_cause, a_text_spells_one_name,
     cutting_undoes_joining, names_are_in_a_total_order, path_keys_compare_as_names,
 };
+pub use limits::{MOST_OCTETS, MOST_RDNS};
 pub use make::make_value;
 pub use name::{Dn, Pair};
 pub use order::{compare_front, compare_names, is_prefix, same};

@@ -91,8 +91,8 @@ impl Dn {
         }
     }
 
-    /// That each name is good; nothing is computed.
-    pub fn is_good(&self)
+    /// Says that the name is good, as each is; it computes nothing.
+    pub fn known_good(&self)
         ensures good { IsGoodName self.now }
     {
         let _ = &self.path;

@@ -1,6 +1,7 @@
 //! Names from their texts.
 
 ghost use Rattle.std.specs.Prelude.{◌≡◌, ◌≤◌, ◌<◌, ◌+◌, ◌^◌, ◌==◌, nat_lt, [], length, map, reverse, Ok, Err, IfOk, IfErr, IfSome, vec_len, vec_capacity};
+ghost use Rattle.dn_names.specs.Limits.{most_rdns};
 ghost use Rattle.dn_names.specs.Names.{rdns_of};
 ghost use Rattle.dn_names.specs.GoodNames.{IsGoodName};
 ghost use Rattle.dn_names.specs.Reading.{rdn_of, parts_of, written_of};
@@ -11,6 +12,7 @@ ghost use Rattle.plain_values.specs.Answers.{Answers};
 ghost use Rattle.dn_names.specs.NameText.{NameText, RdnText, read_name, read_rdn};
 
 use crate::error::BadName;
+use crate::limits::MOST_RDNS;
 use crate::name::{Dn, Pair, Rdn};
 use crate::parts::{count_marks, cut, is_blank};
 use crate::resolve::add;
@@ -26,7 +28,7 @@ use std::rc::Rc;
 /// answer.
 pub fn parse(alloc: Global, octets: &[u8]) -> Result<Dn, BadName>
     ensures ok { IfOk result (λ name. NameText name octets.now) }
-    ensures cause { IfErr result (λ error. IfSome (cause_of error) (NameCause (λ count. count ≤ 64) octets.now)) }
+    ensures cause { IfErr result (λ error. IfSome (cause_of error) (NameCause (λ count. count ≤ most_rdns) octets.now)) }
     ensures exact { Answers (λ name. name) cause_of result (read_name octets.now) }
 {
     parse_by(alloc, octets)
@@ -132,7 +134,7 @@ fn read_rdns(alloc: Global, text: &[u8]) -> Result<Vec<Rdn>, BadName>
 // The name of a text of the outer grammar.
 #[tactic(auto, unfolding(crate::specs::Reading::written_of))]
 fn read_all(alloc: Global, text: &[u8]) -> Result<Dn, BadName>
-    requires { length (written_of text.now) ≤ 64 }
+    requires { length (written_of text.now) ≤ most_rdns }
     ensures exact { Answers (λ name. name) cause_of result (from_root (rdns_from 0 (written_of text.now))) }
 {
     if is_blank(text) {
@@ -157,9 +159,9 @@ fn from_last(alloc: Global, rdns: Vec<Rdn>) -> Result<Dn, AllocError>
 // Whether a text of the outer grammar has more than 64 RDNs.
 #[tactic(auto, unfolding(crate::specs::Reading::written_of))]
 fn has_too_many(text: &[u8]) -> bool
-    ensures exact { result ≡ nat_lt 64 (length (written_of text.now)) }
+    ensures exact { result ≡ nat_lt most_rdns (length (written_of text.now)) }
 {
-    !is_blank(text) && count_marks(text, b',') >= 64
+    !is_blank(text) && count_marks(text, b',') >= MOST_RDNS
 }
 
 // Whether a text of the outer grammar has one RDN.

@@ -6,6 +6,7 @@ mod OidLemmas
 mod NamingLemmas
 mod TableFacts
 mod HierarchyLemmas
+mod SuperclassLemmas
 mod NormalLemmas
 mod DottedLemmas
 mod FoundLemmas

@@ -14,6 +14,7 @@ use Rattle.schema_core.proofs.NormalLemmas as normal
 use Rattle.schema_core.proofs.TableFacts.{attributes-are_distinct, classes-are_distinct, attributes-are_keystrings, names-are_keystrings, names-are_dotted}
 pub use Rattle.schema_core.proofs.DottedLemmas.{is_dotted_oid-from, IsDottedOid-from}
 pub use Rattle.schema_core.proofs.HierarchyLemmas.{superior_of_below}
+pub use Rattle.schema_core.proofs.SuperclassLemmas.{with_superclasses-first}
 
 -- a number that is found is of a row that the text names
 pub NamesAttribute-from_attr_of : (text : List ℕ) (number : ℕ) → attr_of text ≡ Some number → NamesAttribute text number

@@ -2,6 +2,7 @@
 pub mod Naming
 pub mod Attributes
 pub mod Classes
+pub mod Superclasses
 pub mod Roles
 pub mod Oid
 -- What only functions within this crate promise each other.

@@ -1,9 +1,11 @@
 //! What holds of the tables, and of the look-ups in them for every text. Each function is a theorem:
 //! it has no parameters and does nothing, and its clauses hold.
-ghost use Rattle.std.specs.Prelude.{◌≡◌, ℕ, ◌↔◌, ◌++◌, List, Some, IsTrue, drop, is_some};
+ghost use Rattle.std.specs.Prelude.{◌≡◌, ℕ, ◌↔◌, ◌++◌, List, [], ◌∷◌, Some, IsTrue, drop, is_some};
 ghost use Rattle.std.specs.List.{list_all};
 ghost use Rattle.schema_core.specs.Attributes.{attr_of, NamesAttribute};
-ghost use Rattle.schema_core.specs.Classes.{classes, class_of, NamesClass};
+ghost use Rattle.std.specs.Option.{option_map_or};
+ghost use Rattle.schema_core.specs.Classes.{classes, class_of, superior_of, NamesClass};
+ghost use Rattle.schema_core.specs.Superclasses.{with_superclasses};
 ghost use Rattle.schema_core.specs.Naming.{are_distinct, is_keystring};
 ghost use Rattle.schema_core.specs.Oid.{names, is_dotted_oid, IsDottedOid, oid_of};
 
@@ -40,4 +42,10 @@ pub fn classes_are_complete()
     ensures attributes { IsTrue (list_all (λ row. list_all (λ name. is_some (attr_of name))
         (row.required ++ row.allowed)) classes) }
     ensures superiors { IsTrue (list_all (λ row. is_some (class_of row.superior)) (drop 1 classes)) }
+{}
+
+/// A class stands before its superior and the superclasses of that: the bound in the definition leaves none out.
+pub fn a_class_stands_before_its_superclasses()
+    ensures { (number : ℕ) → with_superclasses number
+        ≡ number ∷ option_map_or with_superclasses (superior_of number) [] }
 {}

@@ -1,8 +1,29 @@
 //! How octets name a row of a table.
-ghost use Rattle.std.specs.Prelude.{◌≡◌, map, find, option_map, position};
+ghost use Rattle.std.specs.Prelude.{◌≡◌, ◌||◌, ◌==◌, map, find, option_map, position};
+ghost use Rattle.std.specs.Char.{is_ascii_alphanumeric};
+ghost use Rattle.std.specs.List.{list_all};
 ghost use Rattle.std.specs.Option.{option_copied};
-ghost use Rattle.schema_core.specs.Naming.{Named, is_named, is_same_name};
+ghost use Rattle.schema_core.specs.Naming.{Named, is_keystring, is_named, is_same_name};
 ghost use Rattle.schema_core.specs.Oid.{oid_among};
+
+/// Whether the octets are a keystring (RFC 4512 section 1.4): a letter, and then letters, digits and hyphens.
+pub fn is_keystring(octets: &[u8]) -> bool
+    ensures exact { result ≡ is_keystring octets.now }
+{
+    match octets.split_first() {
+        Some((first, rest)) => first.is_ascii_alphabetic() && are_keychars(rest),
+        None => false,
+    }
+}
+
+// Whether the octets are letters, digits and hyphens alone.
+fn are_keychars(octets: &[u8]) -> bool
+    ensures exact { result ≡ list_all (λ octet. is_ascii_alphanumeric octet || octet == 45) octets.now }
+{
+    octets
+        .iter()
+        .all(|octet| octet.is_ascii_alphanumeric() || *octet == b'-')
+}
 
 // The octets are the name, but for the case of ASCII letters.
 pub(crate) fn is_same_name(name: &str, octets: &[u8]) -> bool
