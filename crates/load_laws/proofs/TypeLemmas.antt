@@ -9,7 +9,7 @@ use Rattle.schema_core.proofs.Theorems.{IsAttrId-from_attr_of}
 use Rattle.dir_tree.specs.Entries.{EntryInformation}
 use Rattle.ldif_core.specs.Written.{AreInTable}
 use Rattle.schema_rules.specs.Listed.{is_among, all_classes, permitted_by}
-use Rattle.schema_rules.specs.Rules.{is_permitted_besides, has_unpermitted, breaks_classes, MeetsRules, AreGood}
+use Rattle.schema_rules.specs.Rules.{is_permitted_besides, breaks_classes, MeetsRules, AreGood}
 use Rattle.schema_rules.proofs.Theorems.{Meets-from_broken_rule}
 
 -- numbers that are told by names
@@ -91,7 +91,7 @@ kinds_known entry (kind ∷ kinds) none =
     kept false e = absurd cc
 
 in_table : (entry : EntryInformation) → breaks_classes entry ≡ false → AreInTable entry.attributes
-unfolding breaks_classes has_unpermitted
+unfolding breaks_classes
 in_table entry unbroken = kinds_known entry _ (or_parts _ _ (or_parts _ _ unbroken).0).1
 
 -- of all entries

@@ -27,10 +27,11 @@ use Rattle.ldif_core.specs.Records.{without_comments, is_version, without_versio
 use Rattle.ldif_core.specs.Places.{physical_from, logical_from, content_from, body_from, records_from}
 use Rattle.ldif_core.specs.declared.types.LineCause.TheVariants.{Syntax}
 use Rattle.ldif_core.specs.WrittenFile.{written_file}
+use Rattle.dir_tree.specs.Trees.{lacks_superior, put_in}
 use Rattle.op_write.specs.declared.fault.LoadFault.TheVariants.{Bad}
 use Rattle.op_write.specs.declared.fault.LoadCause.TheVariants.{Name, Kind, Value, Twice, Order, Rule, Limit}
-use Rattle.op_write.specs.Loading.{named, entry_of_record, with_lines, with_pairs, with_own_values, lacks_superior_entry, ruled, placed}
-use Rattle.op_write.specs.DataFile.{OfLine, put_entry_in, loads}
+use Rattle.op_write.specs.Loading.{named, entry_of_record, with_lines, with_pairs, with_own_values, ruled, placed}
+use Rattle.op_write.specs.DataFile.{OfLine, loads}
 
 -- a line of a record
 line : ℕ → List ℕ → List ℕ → RecordLine
@@ -101,7 +102,7 @@ no_superior : placed (bare root ∷ []) 1 (bare ((record { kind = 9; value = pla
 unfolding bare root plain_value placed name_cmp is_same
 no_superior = refl
 
-a_superior_in_another_spelling : lacks_superior_entry below (bare root ∷ []) ≡ false
+a_superior_in_another_spelling : lacks_superior below (bare root ∷ []) ≡ false
 unfolding bare root below name_cmp is_same
 a_superior_in_another_spelling = refl
 
@@ -112,11 +113,11 @@ a_limit_is_told_apart : ruled 1 (bare root) (Some 11) ≡ Err (Bad 1 Limit)
 a_limit_is_told_apart = refl
 
 -- entries stand in the order of their names
-a_superior_comes_first : put_entry_in (bare root) (bare below ∷ []) ≡ bare root ∷ bare below ∷ []
+a_superior_comes_first : put_in (bare root) (bare below ∷ []) ≡ bare root ∷ bare below ∷ []
 unfolding bare root below name_cmp is_same
 a_superior_comes_first = refl
 
-an_entry_comes_after : put_entry_in (bare below) (bare root ∷ []) ≡ bare root ∷ bare below ∷ []
+an_entry_comes_after : put_in (bare below) (bare root ∷ []) ≡ bare root ∷ bare below ∷ []
 unfolding bare root below name_cmp is_same
 an_entry_comes_after = refl
 

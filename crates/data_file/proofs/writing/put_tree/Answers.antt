@@ -5,7 +5,7 @@ use Rattle.data_file.proofs.writing.put_tree.Goals as goal
 
 -- the types of a good tree's entries are in the table
 pub put_entries-requires : goal.put_entries-requires
-put_entries-requires g c = c.the_types_of_good_entries_are_in_the_table.ensures.exact (entries_of c.args.tree.now) c.requires.good
+put_entries-requires g c = record { table = c.the_types_of_good_entries_are_in_the_table.ensures.exact (entries_of c.args.tree.now) c.requires.good }
 
 -- the records come after the version
 pub returns-in-Ok-clause-tells : goal.returns-in-Ok-clause-tells
