@@ -116,6 +116,13 @@ impl Dn {
         Some(path_front(&self.path, len))
     }
 
+    /// The path key of the first RDNs, `len` of them, or of all where the name has fewer.
+    pub(crate) fn front_path(&self, len: usize) -> &[u8]
+        ensures exact { result.now ≡ path_key (take len self.now) }
+    {
+        path_front(&self.path, len.min(self.rdns.len()))
+    }
+
     /// The number of RDNs.
     pub fn len(&self) -> usize
         ensures exact { result ≡ length self.now }

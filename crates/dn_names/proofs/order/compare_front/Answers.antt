@@ -1,8 +1,9 @@
--- The order of the vectors is that of the lists in them.
-use Rattle.dn_names.proofs.NameOrderLemmas.{name_cmp-front}
+-- Path keys compare as names do.
+use Rattle.std.proofs.Common.{◌∙◌, take}
+use Rattle.dn_names.proofs.PathKeyLaws.{octets_cmp-path_key}
 use Rattle.dn_names.proofs.order.compare_front.Goals as goal
 
 pub returns : goal.returns
 returns c = record {
-  exact = rw (← c.name.view_is, ← c.other.view_is, name_cmp-front c.args.len c.name.inside.rdns.items c.other.inside.rdns.items, ← c.deref.ensures.value, ← c.deref-2.ensures.value) (rw (c.deref.ensures.len, ← c.len.ensures, ← c.min-len.ensures) c.compare_rdns.ensures.exact);
+  exact = c.cmp.ensures ∙ rw (c.front_path.ensures.exact, c.as_slice.ensures.value, c.path.ensures.exact) (octets_cmp-path_key (take c.args.len c.args.name.now) c.args.other.now);
 }

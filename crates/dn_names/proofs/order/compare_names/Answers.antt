@@ -1,8 +1,9 @@
--- The order of the vectors is that of the lists in them.
-use Rattle.dn_names.proofs.NameOrderLemmas.{name_cmp-rdns_of}
+-- Path keys compare as names do.
+use Rattle.std.proofs.Common.{◌∙◌}
+use Rattle.dn_names.proofs.PathKeyLaws.{octets_cmp-path_key}
 use Rattle.dn_names.proofs.order.compare_names.Goals as goal
 
 pub returns : goal.returns
 returns c = record {
-  exact = rw (← c.one.view_is, ← c.other.view_is, name_cmp-rdns_of c.one.inside.rdns.items c.other.inside.rdns.items, ← c.deref.ensures.value, ← c.deref-2.ensures.value) c.compare_rdns.ensures.exact;
+  exact = c.cmp.ensures ∙ rw (c.as_slice.ensures.value, c.path.ensures.exact, c.as_slice-2.ensures.value, c.path-2.ensures.exact) (octets_cmp-path_key c.args.one.now c.args.other.now);
 }
