@@ -5,7 +5,7 @@ use Rattle.wire_io.specs.declared.journal.Event.{Event}
 use Rattle.wire_io.specs.declared.journal.Event.TheVariants as event
 use Rattle.wire_io.specs.declared.journal.Item.{Item}
 use Rattle.wire_io.specs.declared.journal.Item.TheVariants as item
-use Rattle.wire_io.specs.Journal.{heard, taken_of}
+use Rattle.wire_io.specs.Journal.{heard, taken_of, is_held}
 use Rattle.session_model.specs.Rules.{Rules}
 use Rattle.session_model.specs.Run.{Session, Sessions, Step, run}
 use Rattle.session_model.specs.Run as session
@@ -14,7 +14,7 @@ use Rattle.session_model.specs.Journaled.{steps_of, steps_of_events, step_of_eve
 use Rattle.session_model.specs.Serving.{Served, Leads}
 use Rattle.session_model.specs.Replaying.{IsReplay, is_away}
 use Rattle.session_model.specs.Working.{Works}
-use Rattle.session_model.proofs.StandLemmas.{stands_unleaving, stands_sent, all_sent}
+use Rattle.session_model.proofs.StandLemmas.{stands_unleaving, stands_sent, stands_unheld, all_sent}
 use Rattle.session_model.proofs.TrackLemmas.{front_now, settled_now}
 use Rattle.session_model.proofs.LeavingLemmas.{unleaving_same}
 
@@ -51,6 +51,10 @@ module _ {T W : Type 0} (r : Rules T W) (t : T) where
   pub works_served : (h : Held T W) (on_hold : List ℕ) (journal : List Item) → (works : Works r t [] h on_hold journal) → Served r t works.steps journal
   works_served h on_hold journal works =
       record { sound = works.tracks.sound; settled = settled_now r t works.steps works.now journal works.tracks.is (λ d. works.stands d refl) }
+
+  -- where each write took octets, nobody is on hold
+  pub works_free : (h : Held T W) (on_hold : List ℕ) (journal : List Item) → Works r t [] h on_hold journal → all_taken journal ≡ true → (d : ℕ) → is_held d journal ≡ false
+  works_free h on_hold journal works all d = stands_unheld (works.now.of d).state journal d (works.now.of d) all (works.stands d refl)
 
   pub works_replayed : (h : Held T W) (on_hold : List ℕ) (journal : List Item) → (works : Works r t [] h on_hold journal) → all_taken journal ≡ true → IsReplay r t works.steps journal
   works_replayed h on_hold journal works all =

@@ -128,6 +128,13 @@ stands_sent Unopened journal d s all stands there = cc
 stands_sent TurnedAway journal d s all stands there = cc
 stands_sent Away journal d s all stands there = cc
 
+pub stands_unheld : {W : Type 0} (st : State) (journal : List Item) (d : ℕ) (s : Session W) → all_taken journal ≡ true → Stands st journal d s → is_held d journal ≡ false
+stands_unheld Open journal d s all stands = (waits_none journal d (unsent journal d s) all stands).1
+stands_unheld Closing journal d s all stands = (waits_none journal d (unsent journal d s) all stands.1).1
+stands_unheld Unopened journal d s all stands = stands
+stands_unheld TurnedAway journal d s all stands = absurd stands
+stands_unheld Away journal d s all stands = stands.1
+
 -- the queue of what is shown is the reply beyond what was taken, where the session is held, and else empty
 pub shown_queue : {W : Type 0} (st : State) (c taken : ℕ) (s : Session W) → queue_in (shown st c taken s) ≡ cond (session.is_held st) (drop taken s.reply) []
 shown_queue Open c taken s = refl

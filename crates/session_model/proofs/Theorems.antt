@@ -22,7 +22,7 @@ pub use Rattle.session_model.proofs.TurnedLemmas.{opened_leads, works_opened, wo
 pub use Rattle.session_model.proofs.ItemLemmas.{works_as, works_taken, works_refused, refused_stands, refused_held, works_released, works_sent, works_hung_up}
 pub use Rattle.session_model.proofs.LostLemmas.{lost_leads, lost_hung_up}
 -- what a journal then is
-pub use Rattle.session_model.proofs.ReplayLemmas.{works_leads, works_served, works_replayed, own_steps, events_of}
+pub use Rattle.session_model.proofs.ReplayLemmas.{works_leads, works_served, works_free, works_replayed, own_steps, events_of}
 pub use Rattle.session_model.proofs.JournalLemmas.{all_taken-one, was_opened-append}
 
 -- what is held stays true to its sessions at each step that opens no number twice
