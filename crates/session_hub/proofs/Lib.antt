@@ -12,3 +12,4 @@ pub mod PlayLemmas
 pub mod CauseLemmas
 pub mod TurnLemmas
 pub mod WaitLemmas
+pub mod Examples
