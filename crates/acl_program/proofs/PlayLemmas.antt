@@ -1,5 +1,5 @@
 -- What the loop's clauses say where the link gives a script's events: the journal tells the replay's lines.
-use Rattle.std.proofs.Common.{◌≡◌, ℕ, ◌<◌, ◌≤◌, false, true, List, [], ◌++◌, length, take, Option, Some, refl, sym, ap, ◌∙◌, subst, arith, append-nil, length-append}
+use Rattle.std.proofs.Common.{◌≡◌, ℕ, ◌<◌, ◌≤◌, false, List, [], ◌++◌, length, take, Option, Some, refl, sym, ap, ◌∙◌, subst, arith, append-nil, length-append}
 use Rattle.std.proofs.Math.Seq.{take-append_seam}
 use Rattle.std.proofs.lemmas.List.{take_all}
 use Rattle.script_text.specs.declared.event.ScriptEvent.{ScriptEvent}
@@ -10,7 +10,7 @@ use Rattle.wire_io.specs.Pieces.{pieces, steps_of, Plays as BringsOn}
 use Rattle.wire_io.specs.Plan.{Plan}
 use Rattle.wire_io.specs.Scripted.{LinkState, fresh_link}
 use Rattle.session_model.specs.Run.{run}
-use Rattle.session_model.specs.Journaled.{steps_of as journal_steps, steps_of_events, all_taken}
+use Rattle.session_model.specs.Journaled.{steps_of as journal_steps, steps_of_events}
 use Rattle.session_model.proofs.Theorems.{events_of}
 use Rattle.session_model.specs.Replaying.{IsReplay, replayed}
 use Rattle.session_hub.specs.declared.ended.Ended.{Ended}

@@ -19,7 +19,7 @@ use Rattle.data_file.specs.Files.{AreOfTable}
 use Rattle.acl_program.specs.declared.status.Status.{Status}
 use Rattle.acl_program.specs.declared.status.Status.TheVariants.{Done, Usage, BadData, ShelfFault, SinkFault, LinkFault, TurnsSpent, NoMemory, BadScript}
 use Rattle.acl_program.specs.Lines.{line_of, replay_text, entries_after}
-use Rattle.acl_program.specs.Outcomes.{Outcome, NoCommand, NoFile, BadDataLine, BadLine, Checked, Dumped, Replayed, OutOfMemory, dump_text, text_of, status_of}
+use Rattle.acl_program.specs.Outcomes.{Outcome, NoCommand, NoFile, BadDataLine, BadLine, Checked, Dumped, Replayed, OutOfMemory, text_of, status_of}
 use Rattle.acl_program.specs.Causes.{Comes, IsUnread, HoldsIn, IsBadScript, IsGoodScript}
 use Rattle.acl_program.specs.Running.{Puts}
 

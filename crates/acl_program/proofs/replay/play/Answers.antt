@@ -1,5 +1,4 @@
-use Rattle.std.proofs.Common.{◌≡◌, sym, ap, ◌∙◌, subst}
-use Rattle.acdf_core.specs.Entries.{entries_of}
+use Rattle.std.proofs.Common.{sym, ap, ◌∙◌, subst}
 use Rattle.data_file.specs.Files.{AreOfTable}
 use Rattle.acl_program.specs.Outcomes.{dump_text}
 use Rattle.acl_program.proofs.RunLemmas.{Played-stopped, Played-spent, Played-nothing, no_fault}
