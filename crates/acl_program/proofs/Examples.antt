@@ -36,12 +36,12 @@ bad_line = refl
 two_events : List ScriptEvent
 two_events = Opened 2 ∷ Opened 1 ∷ Ended 2 ∷ []
 
-two_lines : replay_text two_events 4 ≡ codes "1 -\n2 - closed\n"
+two_lines : replay_text [] two_events 4 ≡ codes "1 -\n2 - closed\n"
 unfolding two_events replay_text lines_of line_of pieces pieces_of steps_of_events replayed_from start step held_numbers rising rising_after put_rising are_above rules digits
 two_lines = refl
 
 -- the same for fewer turns
-one_line : replay_text two_events 1 ≡ codes "2 -\n"
+one_line : replay_text [] two_events 1 ≡ codes "2 -\n"
 unfolding two_events replay_text lines_of line_of pieces pieces_of steps_of_events replayed_from start step held_numbers rising rising_after put_rising are_above rules digits
 one_line = refl
 

@@ -8,3 +8,4 @@ mod OutcomeLemmas
 mod DueLemmas
 mod PerformLemmas
 mod RunLemmas
+mod TreeLemmas

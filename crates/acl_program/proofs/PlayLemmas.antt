@@ -1,5 +1,5 @@
 -- What the loop's clauses say where the link gives a script's events: the journal tells the replay's lines.
-use Rattle.std.proofs.Common.{◌≡◌, ℕ, ◌<◌, ◌≤◌, false, true, List, [], ◌++◌, length, take, Some, refl, sym, ap, ◌∙◌, subst, arith, append-nil, length-append}
+use Rattle.std.proofs.Common.{◌≡◌, ℕ, ◌<◌, ◌≤◌, false, List, [], ◌++◌, length, take, Option, Some, refl, sym, ap, ◌∙◌, subst, arith, append-nil, length-append}
 use Rattle.std.proofs.Math.Seq.{take-append_seam}
 use Rattle.std.proofs.lemmas.List.{take_all}
 use Rattle.script_text.specs.declared.event.ScriptEvent.{ScriptEvent}
@@ -9,23 +9,36 @@ use Rattle.wire_io.specs.Journal.{heard, is_held, hold_after_all}
 use Rattle.wire_io.specs.Pieces.{pieces, steps_of, Plays as BringsOn}
 use Rattle.wire_io.specs.Plan.{Plan}
 use Rattle.wire_io.specs.Scripted.{LinkState, fresh_link}
-use Rattle.session_model.specs.Journaled.{steps_of_events, all_taken}
+use Rattle.session_model.specs.Run.{run}
+use Rattle.session_model.specs.Journaled.{steps_of as journal_steps, steps_of_events}
+use Rattle.session_model.proofs.Theorems.{events_of}
 use Rattle.session_model.specs.Replaying.{IsReplay, replayed}
 use Rattle.session_hub.specs.declared.ended.Ended.{Ended}
 use Rattle.session_hub.specs.declared.ended.Ended.TheVariants as ended
+use Rattle.session_hub.specs.Parties.{DirectoryEntries}
 use Rattle.session_hub.specs.Answering.{rules}
-use Rattle.session_hub.specs.Loops.{buffer_length, Serves, PlaysOut, PlayedOut, EndsFor, EndsAt, ServedAs}
-use Rattle.acl_program.specs.Lines.{lines_of, heard_of, replay_text}
+use Rattle.session_hub.specs.Loops.{buffer_length, Serves, ServesAll, PlaysOut, PlayedOut, EndsFor}
+use Rattle.acl_program.specs.Lines.{lines_of, heard_of, replay_of, replay_text, entries_after}
 use Rattle.acl_program.specs.Playing.{Plays, journal_text}
+use Rattle.acl_program.proofs.TreeLemmas.{run_tree}
 use Rattle.acl_program.proofs.JournalLemmas.{journal_text-sessions, steps_of_events-steps, length-stopped}
 
--- the lines of a journal that heard a replay's events
-text_of_heard : (events : List ScriptEvent) (turns : ℕ) (journal : List Item) → IsReplay rules tt journal
-    → steps_of (heard journal) ≡ heard_of events turns → journal_text journal ≡ replay_text events turns
+-- the sessions of a journal that heard a replay's events
+heard_is : (t : DirectoryEntries) (events : List ScriptEvent) (turns : ℕ) (journal : List Item) → IsReplay rules t (journal_steps journal) journal
+    → steps_of (heard journal) ≡ heard_of events turns → run rules t (journal_steps journal) ≡ replay_of t events turns
+heard_is t events turns journal replay is =
+    replay.same ∙ ap (λ steps. replayed rules t steps) (events_of journal ∙ sym (steps_of_events-steps (heard journal)) ∙ ap steps_of_events is)
+
+-- its lines, and the entries that it leaves
+text_of_heard : (t : DirectoryEntries) (events : List ScriptEvent) (turns : ℕ) (journal : List Item) → IsReplay rules t (journal_steps journal) journal
+    → steps_of (heard journal) ≡ heard_of events turns → journal_text journal ≡ replay_text t events turns
 unfolding replay_text
-text_of_heard events turns journal replay is =
-    journal_text-sessions journal replay ∙ ap (λ u. lines_of u) replay.same
-    ∙ ap (λ steps. lines_of (replayed rules tt steps)) (sym (steps_of_events-steps (heard journal)) ∙ ap steps_of_events is)
+text_of_heard t events turns journal replay is = journal_text-sessions t journal replay ∙ ap (λ u. lines_of u) (heard_is t events turns journal replay is)
+
+left_of_heard : (t left : DirectoryEntries) (events : List ScriptEvent) (turns : ℕ) (journal : List Item) → IsReplay rules t (journal_steps journal) journal → left ≡ (run rules t (journal_steps journal)).tree
+    → steps_of (heard journal) ≡ heard_of events turns → left ≡ entries_after t events turns
+unfolding entries_after
+left_of_heard t left events turns journal replay leaves is = leaves ∙ ap (λ u. u.tree) (heard_is t events turns journal replay is)
 
 -- a front as long as the turns is what is heard
 front_heard : (turns : ℕ) (all steps rest : List Event) → all ≡ steps ++ rest → length steps ≡ turns → (steps ≡ take turns all) × (turns ≤ length all)
@@ -53,22 +66,24 @@ not_held c = refl
 
 -- the loop's clauses, by its answer
 plays_journal :
-    (events : List ScriptEvent) (turns : ℕ) (how : Ended) (known : List Item) (plan left : Plan)
-    → plan.to_come ≡ events → EndsAt turns known how → ServedAs known how → PlayedOut turns [] known plan left how → (how ≡ ended.LinkFault → ⊥)
-    → Plays events turns how known
+    (t left : DirectoryEntries) (events : List ScriptEvent) (turns : ℕ) (how : Ended) (known : List Item) (plan after : Plan)
+    → plan.to_come ≡ events → plan.later ≡ [] → plan.gone ≡ [] → ServesAll t left turns known how → PlayedOut turns [] known plan after how → (how ≡ ended.LinkFault → ⊥)
+    → Plays t left events turns how known
 unfolding Plays BringsOn
-plays_journal events turns ended.Stopped known plan left is ends served played fails =
-    let on : pieces buffer_length plan.to_come ≡ steps_of (heard known) ++ pieces buffer_length left.to_come = played.plays in
-    let all = all_heard turns (pieces buffer_length events) (steps_of (heard known)) (pieces buffer_length left.to_come) (ap (pieces buffer_length) (sym is) ∙ on)
-    (none_left buffer_length left.to_come (played.over refl)) (omega (arith, length-stopped known ends.0, ends.1)) in
-    (text_of_heard events turns known served.1 all.0, all.1)
-plays_journal events turns ended.TurnsSpent known plan left is ends served played fails =
-    let on : pieces buffer_length plan.to_come ≡ steps_of (heard known) ++ pieces buffer_length left.to_come = played.plays in
-    let front = front_heard turns (pieces buffer_length events) (steps_of (heard known)) (pieces buffer_length left.to_come) (ap (pieces buffer_length) (sym is) ∙ on)
-    (played.steps not_held refl) in
-    (text_of_heard events turns known served.1 front.0, front.1)
-plays_journal events turns ended.LinkFault known plan left is ends served played fails = absurd (fails refl)
-plays_journal events turns ended.NoMemory known plan left is ends served played fails = tt
+plays_journal t left events turns ended.Stopped known plan after is later gone serves played fails =
+    let on : pieces buffer_length plan.to_come ≡ steps_of (heard known) ++ pieces buffer_length after.to_come = played.plays in
+    let replay = serves.replayed (played.taken later gone) in
+    let all = all_heard turns (pieces buffer_length events) (steps_of (heard known)) (pieces buffer_length after.to_come) (ap (pieces buffer_length) (sym is) ∙ on)
+    (none_left buffer_length after.to_come (played.over refl)) (omega (arith, length-stopped known serves.ends.0, serves.ends.1)) in
+    (text_of_heard t events turns known replay all.0, left_of_heard t left events turns known replay serves.served.entries_left all.0, all.1)
+plays_journal t left events turns ended.TurnsSpent known plan after is later gone serves played fails =
+    let on : pieces buffer_length plan.to_come ≡ steps_of (heard known) ++ pieces buffer_length after.to_come = played.plays in
+    let replay = serves.replayed (played.taken later gone) in
+    let front = front_heard turns (pieces buffer_length events) (steps_of (heard known)) (pieces buffer_length after.to_come) (ap (pieces buffer_length) (sym is) ∙ on)
+    (played.steps later gone not_held refl) in
+    (text_of_heard t events turns known replay front.0, left_of_heard t left events turns known replay serves.served.entries_left front.0, front.1)
+plays_journal t left events turns ended.LinkFault known plan after is later gone serves played fails = absurd (fails refl)
+plays_journal t left events turns ended.NoMemory known plan after is later gone serves played fails = tt
 
 -- a link without planned faults has none
 no_fault : (plan : Plan) (before after : ℕ) (how : Ended) → plan.failing ≡ [] → EndsFor (Some plan) before after how → how ≡ ended.LinkFault → ⊥
@@ -80,28 +95,38 @@ no_fault plan before after ended.NoMemory none cause is = cc
 
 -- the loop over a script's link
 plays_served :
-    (events : List ScriptEvent) (turns : ℕ) (how : Ended) (journal : List Item) (plan after : Plan) (faults_before faults_after : ℕ)
+    (t left : DirectoryEntries) (events : List ScriptEvent) (turns : ℕ) (how : Ended) (journal : List Item) (plan after : Plan) (faults_before faults_after : ℕ)
     → plan ≡ record { to_come = events; failing = []; later = []; gone = [] }
-    → Serves turns (Some []) how (Some journal) → PlaysOut turns (Some []) (Some plan) how (Some journal) (Some after)
-    → EndsFor (Some plan) faults_before faults_after how → Plays events turns how journal
+    → Serves t left turns (Some []) how (Some journal) → PlaysOut turns (Some []) (Some plan) how (Some journal) (Some after)
+    → EndsFor (Some plan) faults_before faults_after how → Plays t left events turns how journal
 unfolding Serves PlaysOut
-plays_served events turns how journal plan after faults_before faults_after is served plays cause =
+plays_served t left events turns how journal plan after faults_before faults_after is served plays cause =
     let serves = served [] refl in
     let known : List Item = serves.0 in
     let same : journal ≡ known = cc (serves.1) in
     let played = plays [] known plan refl serves.1 refl in
-    let taken : all_taken known ≡ true = played.2.taken (ap (λ p. p.later) is) (ap (λ p. p.gone) is) in
-    let P : List Item → Type 0 = λ heard_all. Plays events turns how heard_all in
-    subst P (sym same) (plays_journal events turns how known plan played.0 (ap (λ p. p.to_come) is) serves.2 (serves.3 taken) played.2
+    let P : List Item → Type 0 = λ heard_all. Plays t left events turns how heard_all in
+    subst P (sym same) (plays_journal t left events turns how known plan played.0 (ap (λ p. p.to_come) is) (ap (λ p. p.later) is) (ap (λ p. p.gone) is) serves.2 played.2
     (no_fault plan faults_before faults_after how (ap (λ p. p.failing) is) cause))
 
 -- the same of a link that has only a script
 pub Plays-link :
-    (turns : ℕ) (how : Ended) (old new : LinkState) → old ≡ fresh_link old.plan.to_come [] [] []
-    → Serves turns (Some old.journal) how (Some new.journal) → PlaysOut turns (Some old.journal) (Some old.plan) how (Some new.journal) (Some new.plan)
-    → EndsFor (Some old.plan) old.faults new.faults how → Plays old.plan.to_come turns how new.journal
-Plays-link turns how old new fresh serves plays cause =
+    (t left : DirectoryEntries) (turns : ℕ) (how : Ended) (old new : LinkState) → old ≡ fresh_link old.plan.to_come [] [] []
+    → Serves t left turns (Some old.journal) how (Some new.journal) → PlaysOut turns (Some old.journal) (Some old.plan) how (Some new.journal) (Some new.plan)
+    → EndsFor (Some old.plan) old.faults new.faults how → Plays t left old.plan.to_come turns how new.journal
+Plays-link t left turns how old new fresh serves plays cause =
     let none : old.journal ≡ [] = ap (λ link. link.journal) fresh in
-    let P : List Item → Type 0 = λ journal. Serves turns (Some journal) how (Some new.journal) in
+    let P : List Item → Type 0 = λ journal. Serves t left turns (Some journal) how (Some new.journal) in
     let Q : List Item → Type 0 = λ journal. PlaysOut turns (Some journal) (Some old.plan) how (Some new.journal) (Some new.plan) in
-    plays_served old.plan.to_come turns how new.journal old.plan new.plan old.faults new.faults (ap (λ link. link.plan) fresh) (subst P none serves) (subst Q none plays) cause
+    plays_served t left old.plan.to_come turns how new.journal old.plan new.plan old.faults new.faults (ap (λ link. link.plan) fresh) (subst P none serves) (subst Q none plays) cause
+
+-- the entries stay, whatever is heard
+pub Stays-link : (t left : DirectoryEntries) (turns : ℕ) (how : Ended) (before : Option (List Item)) (begun now : List Item) → before ≡ Some begun → Serves t left turns before how (Some now) → left ≡ t
+unfolding Serves
+Stays-link t left turns how before begun now is serves = let so = serves begun is in by_end how so.0 so.2
+  where
+    by_end : (how : Ended) (added : List Item) → ServesAll t left turns added how → left ≡ t
+    by_end ended.Stopped added all = all.served.entries_left ∙ run_tree t (journal_steps added)
+    by_end ended.TurnsSpent added all = all.served.entries_left ∙ run_tree t (journal_steps added)
+    by_end ended.LinkFault added all = all.served.entries_left ∙ run_tree t (journal_steps added)
+    by_end ended.NoMemory added all = all.served.tree_left ∙ run_tree t all.served.steps

@@ -20,9 +20,10 @@ use Rattle.acl_program.specs.declared.status.Status.TheVariants.{Done, Usage, Ba
 use Rattle.acl_program.specs.declared.loading.Trouble.{Trouble}
 use Rattle.acl_program.specs.declared.loading.Trouble.TheVariants as trouble
 use Rattle.acl_program.specs.Outcomes.{Outcome, NoCommand, NoFile, BadLine, Replayed, OutOfMemory, dump_text, text_of, status_of}
+use Rattle.acl_program.specs.Lines.{entries_after}
 use Rattle.acl_program.specs.Causes.{IsNoCommand, Comes, IsDue}
 use Rattle.acl_program.specs.Running.{Prints, Puts, EndsAs, IsCause, EndsAtFaults}
-use Rattle.acl_program.specs.Playing.{IsSinkCount, Plays, Played, Shows, Ends, Replays, Performs, Runs, journal_text}
+use Rattle.acl_program.specs.Playing.{IsSinkCount, Plays, Shows, Ends, Replays, Performs, Runs, journal_text}
 use Rattle.acl_program.specs.Troubles.{Loads, LoadsData, outcome_of}
 use Rattle.acl_program.proofs.EndsLemmas.{Ends-no_memory}
 use Rattle.acl_program.proofs.OutcomeLemmas.{usage_comes, cause_comes, faults_end}
@@ -41,31 +42,30 @@ status_of-spent events turns dump entries long = grind (arith, nat_tests)
 
 -- Stop was heard, and the lines and the tree were to be put
 pub Played-stopped :
-    (events : List ScriptEvent) (turns : ℕ) (journal : List Item) (dumped : List ℕ) (old : Option (List ℕ)) (before : ℕ) (status : Status) (new : Option (List ℕ)) (after : ℕ)
-    → Plays events turns ended.Stopped journal → Shows journal dumped Done old before status new after → Played events turns dumped old before status new after
-unfolding Plays Shows Played text_of
-Played-stopped events turns journal dumped old before status new after plays shows =
-    λ dump entries is. shows (Replayed events turns dump entries)
-    (ap (λ text. text ++ dump_text dump entries) (sym plays.0) ∙ ap (λ text. journal_text journal ++ text) is) (status_of-done events turns dump entries plays.1)
+    (entries left : List EntryInformation) (events : List ScriptEvent) (turns : ℕ) (dump : Bool) (journal : List Item) (dumped : List ℕ) (old : Option (List ℕ)) (before : ℕ) (status : Status) (new : Option (List ℕ)) (after : ℕ)
+    → Plays entries left events turns ended.Stopped journal → dumped ≡ dump_text dump left → Shows journal dumped Done old before status new after → Ends (Replayed events turns dump entries) old before status new after
+unfolding Plays Shows text_of
+Played-stopped entries left events turns dump journal dumped old before status new after plays is shows =
+    shows (Replayed events turns dump entries)
+    (ap (λ text. text ++ dump_text dump (entries_after entries events turns)) (sym plays.0) ∙ ap (λ text. journal_text journal ++ text) (ap (dump_text dump) (sym plays.1) ∙ sym is)) (status_of-done events turns dump entries plays.2)
 
 -- the turns were spent, and they were to be put
 pub Played-spent :
-    (events : List ScriptEvent) (turns : ℕ) (journal : List Item) (dumped : List ℕ) (old : Option (List ℕ)) (before : ℕ) (status : Status) (new : Option (List ℕ)) (after : ℕ)
-    → Plays events turns ended.TurnsSpent journal → Shows journal dumped TurnsSpent old before status new after → Played events turns dumped old before status new after
-unfolding Plays Shows Played text_of
-Played-spent events turns journal dumped old before status new after plays shows =
-    λ dump entries is. shows (Replayed events turns dump entries)
-    (ap (λ text. text ++ dump_text dump entries) (sym plays.0) ∙ ap (λ text. journal_text journal ++ text) is) (status_of-spent events turns dump entries plays.1)
+    (entries left : List EntryInformation) (events : List ScriptEvent) (turns : ℕ) (dump : Bool) (journal : List Item) (dumped : List ℕ) (old : Option (List ℕ)) (before : ℕ) (status : Status) (new : Option (List ℕ)) (after : ℕ)
+    → Plays entries left events turns ended.TurnsSpent journal → dumped ≡ dump_text dump left → Shows journal dumped TurnsSpent old before status new after → Ends (Replayed events turns dump entries) old before status new after
+unfolding Plays Shows text_of
+Played-spent entries left events turns dump journal dumped old before status new after plays is shows =
+    shows (Replayed events turns dump entries)
+    (ap (λ text. text ++ dump_text dump (entries_after entries events turns)) (sym plays.0) ∙ ap (λ text. journal_text journal ++ text) (ap (dump_text dump) (sym plays.1) ∙ sym is)) (status_of-spent events turns dump entries plays.2)
 
 -- the link doesn't fail
-pub no_fault : (events : List ScriptEvent) (turns : ℕ) (journal : List Item) → Plays events turns ended.LinkFault journal → ⊥
+pub no_fault : (entries left : List EntryInformation) (events : List ScriptEvent) (turns : ℕ) (journal : List Item) → Plays entries left events turns ended.LinkFault journal → ⊥
 unfolding Plays
-no_fault events turns journal plays = plays
+no_fault entries left events turns journal plays = plays
 
 -- nothing was put for want of memory
-pub Played-nothing : (events : List ScriptEvent) (turns : ℕ) (dumped : List ℕ) (old : Option (List ℕ)) (before : ℕ) → Played events turns dumped old before NoMemory old before
-unfolding Played
-Played-nothing events turns dumped old before = λ dump entries is. Ends-no_memory (Replayed events turns dump entries) old old before before 0 (appended-none old) refl
+pub Played-nothing : (entries : List EntryInformation) (events : List ScriptEvent) (turns : ℕ) (dump : Bool) (old : Option (List ℕ)) (before : ℕ) → Ends (Replayed events turns dump entries) old before NoMemory old before
+Played-nothing entries events turns dump old before = Ends-no_memory (Replayed events turns dump entries) old old before before 0 (appended-none old) refl
 
 -- a link that was loaded has done nothing yet
 pub Loads-fresh : (files : Option Files) (name : List ℕ) (before after : ℕ) (link : LinkState) → Loads files name before after (Ok link)
@@ -81,11 +81,12 @@ LoadsData-table files name before after rows loads = loads.1
 module _ (script : List ℕ) (turns : ℕ) (dump : Bool) (entries : List EntryInformation) (files : Option Files) (before after : ℕ)
     (old : Option (List ℕ)) (sink_before : ℕ) (status : Status) (new : Option (List ℕ)) (sink_after : ℕ) where
   -- the script was read and replayed
-  pub Replays-played : (link : LinkState) (dumped : List ℕ) → Loads files script before after (Ok link) → dumped ≡ dump_text dump entries
-      → Played link.plan.to_come turns dumped old sink_before status new sink_after
+  pub Replays-played : (link : LinkState) (found : List EntryInformation) → found ≡ entries → Loads files script before after (Ok link)
+      → Ends (Replayed link.plan.to_come turns dump found) old sink_before status new sink_after
       → Replays script turns dump entries files before after old sink_before status new sink_after
-  unfolding Replays Loads Played
-  Replays-played link dumped loads is played = (Replayed link.plan.to_come turns dump entries, (refl, refl, refl, loads.0, loads.2), played dump entries (sym is))
+  unfolding Replays Loads
+  Replays-played link found is loads ends =
+      (Replayed link.plan.to_come turns dump entries, (refl, refl, refl, loads.0, loads.2), subst (λ e. Ends (Replayed link.plan.to_come turns dump e) old sink_before status new sink_after) is ends)
 
   -- the script wasn't read
   pub Replays-refused : (why : Trouble) → Loads files script before after (Err why) → Ends (outcome_of why) old sink_before status new sink_after

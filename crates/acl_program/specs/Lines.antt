@@ -9,8 +9,9 @@ use Rattle.wire_io.specs.Rising.{rising}
 use Rattle.session_model.specs.Run.{Sessions}
 use Rattle.session_model.specs.Replaying.{replayed, is_away}
 use Rattle.session_model.specs.Journaled.{steps_of_events}
+use Rattle.session_hub.specs.Parties.{DirectoryEntries}
 use Rattle.session_hub.specs.declared.requester.Requester.{Requester}
-use Rattle.session_hub.specs.Answering.{Tree, rules}
+use Rattle.session_hub.specs.Answering.{rules}
 use Rattle.session_hub.specs.Loops.{buffer_length}
 
 -- octets in hexadecimal with lower-case letters, or `-` where there are none
@@ -28,13 +29,21 @@ unfoldable pub line_of : ℕ → List ℕ → Bool → List ℕ
 line_of conn sent hung_up = decimal conn ++ (codes " " ++ (shown sent ++ (ending hung_up ++ codes "\n")))
 
 -- the lines of all connections opened, in the rising order of their numbers
-unfoldable pub lines_of : Sessions Tree Requester → List ℕ
+unfoldable pub lines_of : Sessions DirectoryEntries Requester → List ℕ
 lines_of u = flat_map (λ conn. line_of conn (u.of conn).reply (is_away (u.of conn).state)) (rising u.opened)
 
 -- the events that a loop of so many turns hears of a script, long ones in pieces of the loop's buffer
 abbrev pub heard_of : List ScriptEvent → ℕ → List Event
 heard_of events turns = take turns (pieces buffer_length events)
 
--- the text of a replay: the lines after those events, where each connection that closes is hung up at once
-unfoldable pub replay_text : List ScriptEvent → ℕ → List ℕ
-replay_text events turns = lines_of (replayed rules tt (steps_of_events (heard_of events turns)))
+-- the sessions after those events over these entries, where each connection that closes is hung up at once
+abbrev pub replay_of : DirectoryEntries → List ScriptEvent → ℕ → Sessions DirectoryEntries Requester
+replay_of entries events turns = replayed rules entries (steps_of_events (heard_of events turns))
+
+-- the text of a replay: the lines after them
+unfoldable pub replay_text : DirectoryEntries → List ScriptEvent → ℕ → List ℕ
+replay_text entries events turns = lines_of (replay_of entries events turns)
+
+-- the entries that a replay leaves
+unfoldable pub entries_after : DirectoryEntries → List ScriptEvent → ℕ → DirectoryEntries
+entries_after entries events turns = (replay_of entries events turns).tree

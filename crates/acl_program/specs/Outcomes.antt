@@ -15,7 +15,7 @@ use Rattle.op_write.specs.declared.fault.LoadCause.TheVariants.{Name, Kind, Valu
 use Rattle.op_write.specs.DataFile.{FileCause, OfLine, OfRecord, OfMemory}
 use Rattle.acl_program.specs.declared.status.Status.{Status}
 use Rattle.acl_program.specs.declared.status.Status.TheVariants.{Done, Usage, BadData, ShelfFault, SinkFault, LinkFault, TurnsSpent, NoMemory, BadScript}
-use Rattle.acl_program.specs.Lines.{replay_text}
+use Rattle.acl_program.specs.Lines.{replay_text, entries_after}
 
 -- no command is asked for; a file wasn't read; the data file's first bad line, and why; a script's first bad line; a data
 -- file was checked, or put again; a script was replayed for so many turns, and the tree put after it if that was asked
@@ -65,7 +65,7 @@ text_of (BadDataLine line cause) = codes "bad data line " ++ (decimal line ++ (c
 text_of (BadLine line) = codes "bad script line " ++ (decimal line ++ codes "\n")
 text_of (Checked entries) = codes "ok " ++ (decimal (length entries) ++ (codes " " ++ (decimal (access_subentries entries) ++ codes "\n")))
 text_of (Dumped entries) = written_file entries
-text_of (Replayed events turns dump entries) = replay_text events turns ++ dump_text dump entries
+text_of (Replayed events turns dump entries) = replay_text entries events turns ++ dump_text dump (entries_after entries events turns)
 text_of OutOfMemory = []
 
 -- how it ends, where all is printed: a replay is done where Stop was heard, which comes after the script's pieces

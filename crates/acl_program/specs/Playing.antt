@@ -18,8 +18,8 @@ use Rattle.dir_tree.specs.Numbered.{entries_of}
 use Rattle.data_file.specs.Files.{AreOfTable}
 use Rattle.acl_program.specs.declared.status.Status.{Status}
 use Rattle.acl_program.specs.declared.status.Status.TheVariants.{Done, Usage, BadData, ShelfFault, SinkFault, LinkFault, TurnsSpent, NoMemory, BadScript}
-use Rattle.acl_program.specs.Lines.{line_of, replay_text}
-use Rattle.acl_program.specs.Outcomes.{Outcome, NoCommand, NoFile, BadDataLine, BadLine, Checked, Dumped, Replayed, OutOfMemory, dump_text, text_of, status_of}
+use Rattle.acl_program.specs.Lines.{line_of, replay_text, entries_after}
+use Rattle.acl_program.specs.Outcomes.{Outcome, NoCommand, NoFile, BadDataLine, BadLine, Checked, Dumped, Replayed, OutOfMemory, text_of, status_of}
 use Rattle.acl_program.specs.Causes.{Comes, IsUnread, HoldsIn, IsBadScript, IsGoodScript}
 use Rattle.acl_program.specs.Running.{Puts}
 
@@ -41,12 +41,15 @@ abbrev pub IsDumpable : Option (List Numbered) → Type 0
 IsDumpable None = Unit {0}
 IsDumpable (Some rows) = AreOfTable (entries_of rows)
 
--- what a loop of so many turns over a script leaves: the journal tells the replay's lines
-unfoldable pub Plays : List ScriptEvent → ℕ → Ended → List Item → Type 0
-Plays events turns ended.Stopped journal = (journal_text journal ≡ replay_text events turns) × (length (pieces buffer_length events) < turns)
-Plays events turns ended.TurnsSpent journal = (journal_text journal ≡ replay_text events turns) × (turns ≤ length (pieces buffer_length events))
-Plays events turns ended.LinkFault journal = ⊥
-Plays events turns ended.NoMemory journal = Unit {0}
+-- what a loop of so many turns over a script and these entries leaves: the journal tells the replay's lines, and the entries
+-- are those that the replay leaves
+unfoldable pub Plays : List EntryInformation → List EntryInformation → List ScriptEvent → ℕ → Ended → List Item → Type 0
+Plays entries left events turns ended.Stopped journal =
+    (journal_text journal ≡ replay_text entries events turns) × (left ≡ entries_after entries events turns) × (length (pieces buffer_length events) < turns)
+Plays entries left events turns ended.TurnsSpent journal =
+    (journal_text journal ≡ replay_text entries events turns) × (left ≡ entries_after entries events turns) × (turns ≤ length (pieces buffer_length events))
+Plays entries left events turns ended.LinkFault journal = ⊥
+Plays entries left events turns ended.NoMemory journal = Unit {0}
 
 -- the sink's count rose where it is to blame, and is otherwise as it was
 abbrev pub IsSinkCount : ℕ → ℕ → Status → Type 0
@@ -81,11 +84,6 @@ ReplayComes script turns dump entries files before after OutOfMemory = after ≡
 unfoldable pub Replays : List ℕ → ℕ → Bool → List EntryInformation → Option Files → ℕ → ℕ → Option (List ℕ) → ℕ → Status → Option (List ℕ) → ℕ → Type 0
 Replays script turns dump entries files before after old sink_before status new sink_after =
     (outcome : Outcome) × ReplayComes script turns dump entries files before after outcome × Ends outcome old sink_before status new sink_after
-
--- a script was played: each outcome of it with this text after the lines ended so
-unfoldable pub Played : List ScriptEvent → ℕ → List ℕ → Option (List ℕ) → ℕ → Status → Option (List ℕ) → ℕ → Type 0
-Played events turns dumped old before status new after =
-    (dump : Bool) (entries : List EntryInformation) → dump_text dump entries ≡ dumped → Ends (Replayed events turns dump entries) old before status new after
 
 -- the outcome comes with every words that ask for the command
 abbrev pub ComesFor : CommandView → Option Files → ℕ → ℕ → Outcome → Type 0

@@ -5,13 +5,15 @@ ghost use Rattle.std.specs.Option.{option_map};
 ghost use Rattle.command_words.specs.Command.{Replay};
 ghost use Rattle.wire_io.specs.Scripted.{fresh_link};
 ghost use Rattle.dir_tree.specs.Numbered.{entries_of};
-ghost use Rattle.acl_program.specs.Outcomes.{dump_text};
-ghost use Rattle.acl_program.specs.Playing.{Performs, Plays, Shows, dumped_text, IsDumpable, Played, Replays};
+ghost use Rattle.acl_program.specs.Outcomes.{Replayed, dump_text};
+ghost use Rattle.data_file.specs.Files.{AreOfTable};
+ghost use Rattle.acl_program.specs.Playing.{Performs, Plays, Shows, Ends, dumped_text, IsDumpable, Replays};
 
 use crate::loading::{load_data, load_script};
 use crate::printing::print_replay;
 use crate::status::Status;
 use crate::troubles::print_trouble;
+use acdf_core::{Dir, PlainDir};
 use dir_tree::Tree;
 use session_hub::{Ended, serve_loop};
 use std::alloc::Global;
@@ -40,7 +42,7 @@ pub(crate) fn replay<H: Shelf, K: Sink>(
     ensures kept { H.files shelf.new ≡ H.files shelf.old }
 {
     match load_data(alloc, shelf, asked.data) {
-        Ok(tree) => replay_over(alloc, &tree, asked, shelf, out),
+        Ok(tree) => replay_over(alloc, tree, asked, shelf, out),
         Err(trouble) => print_trouble(alloc, trouble, out),
     }
 }
@@ -48,19 +50,26 @@ pub(crate) fn replay<H: Shelf, K: Sink>(
 /// The same over the tree of the data file.
 fn replay_over<H: Shelf, K: Sink>(
     alloc: Global,
-    tree: &Tree,
+    tree: Tree,
     asked: &Asked<'_>,
     shelf: &mut H,
     out: &mut K,
 ) -> Status
-    requires table { IsDumpable (Some tree.now) }
-    ensures replays { Replays asked.now.script.now asked.now.turns asked.now.dump (entries_of tree.now)
+    requires table { AreOfTable (entries_of tree) }
+    ensures replays { Replays asked.now.script.now asked.now.turns asked.now.dump (entries_of tree)
         (H.files shelf.old) (H.faults shelf.old) (H.faults shelf.new)
         (K.put out.old) (K.faults out.old) result (K.put out.new) (K.faults out.new) }
     ensures kept { H.files shelf.new ≡ H.files shelf.old }
 {
     match load_script(alloc, shelf, asked.script) {
-        Ok(link) => play(alloc, link, asked.turns, dumped(tree, asked.dump), out),
+        Ok(link) => play(
+            alloc,
+            PlainDir::new(tree),
+            link,
+            asked.turns,
+            asked.dump,
+            out,
+        ),
         Err(fault) => print_trouble(alloc, fault, out),
     }
 }
@@ -74,34 +83,44 @@ fn dumped(tree: &Tree, dump: bool) -> Option<&Tree>
     if dump { Some(tree) } else { None }
 }
 
-/// Serves the link's events, at most so many, and prints the lines of its connections, and then the tree.
+/// Serves the link's events over the directory, at most so many, and prints the lines of its connections, and then the
+/// tree that is left.
 fn play<K: Sink>(
     alloc: Global,
+    dir: PlainDir,
     link: ScriptLink,
     turns: u64,
-    dumped: Option<&Tree>,
+    dump: bool,
     out: &mut K,
 ) -> Status
     requires fresh { link ≡ fresh_link link.plan.to_come [] [] [] }
-    requires table { IsDumpable (option_map (λ tree. tree.now) dumped) }
-    ensures ends { Played link.plan.to_come turns (dumped_text (option_map (λ tree. tree.now) dumped.entry))
+    requires table { AreOfTable (entries_of dir) }
+    ensures ends { Ends (Replayed link.plan.to_come turns dump (entries_of dir))
         (K.put out.old) (K.faults out.old) result (K.put out.new) (K.faults out.new) }
 {
+    let mut dir = dir;
     let mut link = link;
-    match serve(alloc, &mut link, turns) {
-        Ended::Stopped => show(alloc, &link, dumped, Status::Done, out),
-        Ended::TurnsSpent => show(alloc, &link, dumped, Status::TurnsSpent, out),
+    match serve(alloc, &mut dir, &mut link, turns) {
+        Ended::Stopped => show(alloc, &link, dumped(dir.tree(), dump), Status::Done, out),
+        Ended::TurnsSpent => show(
+            alloc,
+            &link,
+            dumped(dir.tree(), dump),
+            Status::TurnsSpent,
+            out,
+        ),
         Ended::LinkFault => Status::LinkFault,
         Ended::NoMemory => Status::NoMemory,
     }
 }
 
-/// Serves the link's events, at most so many.
-fn serve(alloc: Global, link: &mut ScriptLink, turns: u64) -> Ended
+/// Serves the link's events over the directory, at most so many.
+fn serve(alloc: Global, dir: &mut PlainDir, link: &mut ScriptLink, turns: u64) -> Ended
     requires fresh { link.old ≡ fresh_link link.old.plan.to_come [] [] [] }
-    ensures plays { Plays link.old.plan.to_come turns result link.new.journal }
+    ensures plays { Plays (entries_of dir.old) (entries_of dir.new) link.old.plan.to_come turns result link.new.journal }
+    ensures stays { entries_of dir.new ≡ entries_of dir.old }
 {
-    serve_loop(alloc, link, turns)
+    serve_loop(alloc, dir, link, turns)
 }
 
 /// Prints the lines of all connections and the tree, and then ends so.

@@ -1,6 +1,8 @@
 //! A hub that hears events.
 
 use crate::messages::{BIND, BOUND, UNBIND};
+use acdf_core::PlainDir;
+use dir_tree::Tree;
 use session_hub::{Event, Hub};
 use std::alloc::AllocError;
 use std::test::Fail;
@@ -8,8 +10,8 @@ use std::test::Fail;
 const NOTHING: &[u8] = b"";
 
 // Hears an event. It promises nothing, so that the proof of a test goes by what the test asks of the hub.
-fn hear(hub: &mut Hub, event: Event<'_>) -> Result<(), AllocError> {
-    hub.hear(event)
+fn hear(hub: &mut Hub, dir: &mut PlainDir, event: Event<'_>) -> Result<(), AllocError> {
+    hub.hear(dir, event)
 }
 
 // How many connections are held, whether this one is closing, and what is to be sent to it.
@@ -31,14 +33,15 @@ fn forget(hub: &mut Hub, conn: u32) {
 #[test]
 fn a_bind_is_answered_and_an_unbind_closes(rt: HostRuntime) -> Result<(), Fail> {
     let mut hub = Hub::new(rt.alloc())?;
+    let mut dir = PlainDir::new(Tree::new(rt.alloc()));
     let rest = BOUND.split_at(4).1;
-    hear(&mut hub, Event::Opened(7))?;
-    hear(&mut hub, Event::Bytes(7, BIND))?;
+    hear(&mut hub, &mut dir, Event::Opened(7))?;
+    hear(&mut hub, &mut dir, Event::Bytes(7, BIND))?;
     assert_eq!(rt; held(&hub, 7), (1, false, BOUND));
     take(&mut hub, 7, 4);
     assert_eq!(rt; held(&hub, 7), (1, false, rest), "the rest waits");
-    hear(&mut hub, Event::Bytes(7, UNBIND))?;
-    hear(&mut hub, Event::Bytes(7, BIND))?;
+    hear(&mut hub, &mut dir, Event::Bytes(7, UNBIND))?;
+    hear(&mut hub, &mut dir, Event::Bytes(7, BIND))?;
     assert_eq!(rt;
         held(&hub, 7),
         (1, true, rest),
@@ -54,8 +57,9 @@ fn a_bind_is_answered_and_an_unbind_closes(rt: HostRuntime) -> Result<(), Fail> 
 #[test]
 fn a_message_that_comes_octet_by_octet_is_answered_once(rt: HostRuntime) -> Result<(), Fail> {
     let mut hub = Hub::new(rt.alloc())?;
-    hear(&mut hub, Event::Opened(1))?;
-    hear(&mut hub, Event::Opened(2))?;
+    let mut dir = PlainDir::new(Tree::new(rt.alloc()));
+    hear(&mut hub, &mut dir, Event::Opened(1))?;
+    hear(&mut hub, &mut dir, Event::Opened(2))?;
     for at in 0..BIND.len() {
         assert_eq!(rt;
             held(&hub, 1),
@@ -63,9 +67,9 @@ fn a_message_that_comes_octet_by_octet_is_answered_once(rt: HostRuntime) -> Resu
             "the message isn't whole yet"
         );
         let octet = BIND.split_at(at).1.split_at(1).0;
-        hear(&mut hub, Event::Bytes(1, octet))?;
+        hear(&mut hub, &mut dir, Event::Bytes(1, octet))?;
     }
-    hear(&mut hub, Event::Bytes(1, b""))?;
+    hear(&mut hub, &mut dir, Event::Bytes(1, b""))?;
     assert_eq!(rt;
         held(&hub, 1),
         (2, false, BOUND),
@@ -82,10 +86,11 @@ fn a_message_that_comes_octet_by_octet_is_answered_once(rt: HostRuntime) -> Resu
 #[test]
 fn connections_that_left_or_never_came_hear_nothing(rt: HostRuntime) -> Result<(), Fail> {
     let mut hub = Hub::new(rt.alloc())?;
-    hear(&mut hub, Event::Bytes(9, BIND))?;
+    let mut dir = PlainDir::new(Tree::new(rt.alloc()));
+    hear(&mut hub, &mut dir, Event::Bytes(9, BIND))?;
     assert_eq!(rt; held(&hub, 9), (0, false, NOTHING));
-    hear(&mut hub, Event::Opened(9))?;
-    hear(&mut hub, Event::Ended(9))?;
+    hear(&mut hub, &mut dir, Event::Opened(9))?;
+    hear(&mut hub, &mut dir, Event::Ended(9))?;
     assert_eq!(rt; held(&hub, 9), (1, true, NOTHING));
     hub.gone(9);
     assert_eq!(rt; held(&hub, 9), (0, false, NOTHING), "it is forgotten");
@@ -93,13 +98,26 @@ fn connections_that_left_or_never_came_hear_nothing(rt: HostRuntime) -> Result<(
 }
 
 #[test]
+fn nothing_is_cut_while_there_is_memory(rt: HostRuntime) -> Result<(), Fail> {
+    let mut hub = Hub::new(rt.alloc())?;
+    let mut dir = PlainDir::new(Tree::new(rt.alloc()));
+    hear(&mut hub, &mut dir, Event::Opened(1))?;
+    hear(&mut hub, &mut dir, Event::Bytes(1, BIND))?;
+    assert_eq!(rt; hub.was_cut(), false);
+    assert_eq!(rt; hub.cut(1), None);
+    assert_eq!(rt; hub.cut(2), None, "one that isn't held");
+    Ok(())
+}
+
+#[test]
 fn no_more_than_the_most_are_held(rt: HostRuntime) -> Result<(), Fail> {
     let mut hub = Hub::new(rt.alloc())?;
+    let mut dir = PlainDir::new(Tree::new(rt.alloc()));
     for conn in 0..300u32 {
-        hear(&mut hub, Event::Opened(conn))?;
+        hear(&mut hub, &mut dir, Event::Opened(conn))?;
     }
-    hear(&mut hub, Event::Bytes(255, BIND))?;
-    hear(&mut hub, Event::Bytes(256, BIND))?;
+    hear(&mut hub, &mut dir, Event::Bytes(255, BIND))?;
+    hear(&mut hub, &mut dir, Event::Bytes(256, BIND))?;
     assert_eq!(rt; held(&hub, 255), (256, false, BOUND));
     assert_eq!(rt;
         held(&hub, 256),

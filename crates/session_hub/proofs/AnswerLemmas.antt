@@ -1,5 +1,10 @@
 -- Each reply of this server is written short.
-use Rattle.std.proofs.Common.{◌≡◌, ◌<◌, ℕ, ◌==◌, Bool, true, false, List, [], ◌∷◌, Some, None, refl, arith, subst, if◌then◌else◌}
+use Rattle.std.proofs.Common.{◌≡◌, ◌<◌, ℕ, ◌==◌, Bool, true, false, List, [], ◌∷◌, Option, Some, None, Result, IfOk, refl, sym, arith, subst, if◌then◌else◌}
+use Rattle.std.proofs.lemmas.Result.{IfOk-weaker}
+use Rattle.ldap_msg.specs.declared.kinds.Message.{Message}
+use Rattle.ldap_msg.specs.Messages.{message_of}
+use Rattle.session_hub.specs.Parties.{DirectoryEntries, Requester}
+use Rattle.session_hub.specs.Answers.{Gives}
 use Rattle.ldap_msg.specs.declared.kinds.Auth.{Auth}
 use Rattle.ldap_msg.specs.declared.kinds.Auth.TheVariants.{Simple, Other}
 use Rattle.ldap_msg.specs.declared.kinds.BindRequest.{BindRequest}
@@ -8,7 +13,7 @@ use Rattle.ldap_msg.specs.declared.kinds.Request.TheVariants as request
 use Rattle.ldap_msg.specs.declared.kinds.Reply.{Reply}
 use Rattle.ldap_msg.specs.declared.kinds.Reply.TheVariants as reply
 use Rattle.ldap_msg.specs.Replies.{IsPlain, IsBare}
-use Rattle.session_hub.specs.Answering.{coded, response_to, auth_code, bind_code, unbuilt_code, reply_to}
+use Rattle.session_hub.specs.Answering.{coded, response_to, auth_code, bind_code, unbuilt_code, reply_to, answer_read, rules}
 
 bare : (code : ℕ) → code < 256 → IsBare (coded code)
 bare code small = record { code = small; matched = refl }
@@ -50,3 +55,20 @@ reply_plain marked request.Unbind r e = cc
 reply_plain marked (request.Abandon id) r e = cc
 reply_plain marked (request.Unbuilt tag) r e =
     let is : response_to tag (coded (if marked then 53 else unbuilt_code tag)) ≡ r = cc in subst IsPlain is (response_plain tag _ (unbuilt_small marked tag))
+
+-- a message, or octets that are none, answered by the rules
+pub answered_as : {E : Type 0} (r : Result Bool E) (o : Option Message) (entries : DirectoryEntries) (who after : Requester) (bytes old new : List ℕ) → message_of bytes ≡ o →
+    IfOk r (λ closes. (others : DirectoryEntries) → Gives (answer_read others who o) old new others after closes) →
+    IfOk r (λ closes. Gives (rules.answer entries who bytes) old new entries after closes)
+unfolding rules
+answered_as r o entries who after bytes old new is h =
+    IfOk-weaker r (λ closes. (others : DirectoryEntries) → Gives (answer_read others who o) old new others after closes) (λ closes. Gives (rules.answer entries who bytes) old new entries after closes)
+    (λ closes gives. subst (λ m. Gives (answer_read entries who m) old new entries after closes) (sym is) (gives entries)) h
+
+pub refused_as : {E : Type 0} (r : Result Bool E) (entries : DirectoryEntries) (who : Requester) (bytes old new : List ℕ) → message_of bytes ≡ None →
+    IfOk r (λ closes. (others : DirectoryEntries) (asks : Requester) → Gives (answer_read others asks None) old new others asks closes) →
+    IfOk r (λ closes. Gives (rules.answer entries who bytes) old new entries who closes)
+unfolding rules
+refused_as r entries who bytes old new is h =
+    IfOk-weaker r (λ closes. (others : DirectoryEntries) (asks : Requester) → Gives (answer_read others asks None) old new others asks closes) (λ closes. Gives (rules.answer entries who bytes) old new entries who closes)
+    (λ closes gives. subst (λ m. Gives (answer_read entries who m) old new entries who closes) (sym is) (gives entries who)) h

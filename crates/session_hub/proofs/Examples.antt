@@ -1,5 +1,5 @@
 -- The definitions, computed on known messages and streams.
-use Rattle.std.proofs.Common.{◌≡◌, true, false, [], ◌∷◌, Some, None, refl}
+use Rattle.std.proofs.Common.{◌≡◌, true, false, [], ◌∷◌, Option, Some, None, refl}
 use Rattle.ber_core.specs.Heading.{length_at, header_at}
 use Rattle.ber_core.specs.Integer.{int_at, int_octets}
 use Rattle.ber_core.specs.Spelling.{length_octets}
@@ -15,6 +15,9 @@ use Rattle.session_model.specs.Kept.{speech}
 use Rattle.session_hub.specs.declared.requester.Requester.TheVariants.{Anonymous}
 use Rattle.session_hub.specs.Answering.{rules, reply_to, coded}
 use Rattle.session_hub.specs.Answers.{said_to}
+use Rattle.session_hub.specs.Events.{new_cut}
+use Rattle.session_hub.specs.Loops.{ends_with}
+use Rattle.session_hub.specs.declared.ended.Ended.TheVariants.{Stopped, NoMemory}
 
 -- the codes of a bind: another version, another method, no name and no password, a name, a password
 version_two : reply_to false (request.Bind (record { version = 2; name = []; auth = Simple [] })) ≡ Some (reply.Bind (coded 2))
@@ -47,17 +50,32 @@ abandon : reply_to true (request.Abandon 5) ≡ None
 abandon = refl
 
 -- an anonymous bind, as octets, and its reply
-one_bind : (said_to Anonymous (0x30 ∷ 12 ∷ 2 ∷ 1 ∷ 1 ∷ 0x60 ∷ 7 ∷ 2 ∷ 1 ∷ 3 ∷ 4 ∷ 0 ∷ 0x80 ∷ 0 ∷ [])).replies
+one_bind : (said_to None [] Anonymous (0x30 ∷ 12 ∷ 2 ∷ 1 ∷ 1 ∷ 0x60 ∷ 7 ∷ 2 ∷ 1 ∷ 3 ∷ 4 ∷ 0 ∷ 0x80 ∷ 0 ∷ [])).replies
     ≡ 0x30 ∷ 12 ∷ 2 ∷ 1 ∷ 1 ∷ 0x61 ∷ 7 ∷ 10 ∷ 1 ∷ 0 ∷ 4 ∷ 0 ∷ 4 ∷ 0 ∷ []
 unfolding speech rules talk whole whole_of rest_of rest_behind is_broken frame_at framed message_of message_in request_of marked_behind bind_of auth_of tagged_at piece_at piece_of number_in are_pieces pieces_of header_at length_at int_at int_octets length_octets element_octets result_octets optional_octets operation_tag operation_content reply_content reply_octets
 one_bind = refl
 
 -- an unbind closes in silence, and what follows it is not answered
-one_unbind : (said_to Anonymous (0x30 ∷ 5 ∷ 2 ∷ 1 ∷ 2 ∷ 0x42 ∷ 0 ∷ 0x31 ∷ [])).replies ≡ []
+one_unbind : (said_to None [] Anonymous (0x30 ∷ 5 ∷ 2 ∷ 1 ∷ 2 ∷ 0x42 ∷ 0 ∷ 0x31 ∷ [])).replies ≡ []
 unfolding speech rules talk whole whole_of rest_of rest_behind is_broken frame_at framed message_of message_in request_of marked_behind tagged_at piece_at piece_of number_in are_pieces pieces_of header_at length_at int_at
 one_unbind = refl
 
 -- messageID 0 is no message: the notice, and the connection closes
-unreadable : (said_to Anonymous (0x30 ∷ 5 ∷ 2 ∷ 1 ∷ 0 ∷ 0x42 ∷ 0 ∷ [])).closes ≡ true
+unreadable : (said_to None [] Anonymous (0x30 ∷ 5 ∷ 2 ∷ 1 ∷ 0 ∷ 0x42 ∷ 0 ∷ [])).closes ≡ true
 unfolding speech rules talk whole whole_of rest_of rest_behind is_broken frame_at framed message_of message_in request_of marked_behind tagged_at piece_at piece_of number_in are_pieces pieces_of header_at length_at int_at
 unreadable = refl
+
+-- a cut says nothing of the messages behind it, and closes
+cut_away : said_to (Some 0) [] Anonymous (0x30 ∷ 5 ∷ 2 ∷ 1 ∷ 2 ∷ 0x42 ∷ 0 ∷ []) ≡ record { replies = []; tree = []; who = Anonymous; closes = true }
+unfolding speech talk whole whole_of frame_at framed header_at length_at
+cut_away = refl
+
+-- a cut is told of an open connection alone, and a loop in which one was cut ends for want of memory
+cut_of_open : new_cut (Some (record { number = 1; rest = []; who = Anonymous; queue = []; closing = false; cut = None })) (Some 2) ≡ Some 2
+cut_of_open = refl
+
+cut_of_closing : new_cut (Some (record { number = 1; rest = []; who = Anonymous; queue = []; closing = true; cut = Some 2 })) (Some 2) ≡ None
+cut_of_closing = refl
+
+cut_ends : ends_with true Stopped ≡ NoMemory
+cut_ends = refl

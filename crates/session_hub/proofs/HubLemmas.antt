@@ -1,13 +1,14 @@
 -- What a hub holds after it opened, ended or forgot a connection.
-use Rattle.std.proofs.Common.{◌≡◌, ◌≤◌, ◌<◌, ℕ, ◌==◌, true, false, cond, List, [], ◌∷◌, ◌++◌, length, get_or, remove, zero, suc, Option, Some, None, refl, ap, sym, ◌∙◌, arith, slice_get}
+use Rattle.std.proofs.Common.{◌≡◌, ◌≤◌, ◌<◌, ℕ, ◌==◌, true, false, cond, List, [], ◌∷◌, ◌++◌, length, get_or, remove, zero, suc, Option, Some, None, Result, Ok, Err, OnErr, refl, ap, sym, ◌∙◌, arith, slice_get}
 use Rattle.std.proofs.lemmas.Bool.Decides.{nat_tests}
 use Rattle.std.proofs.lemmas.Option.{slice_get-get_or, get_or_from_slice_get}
 use Rattle.session_model.proofs.Theorems.{kept_of-number}
-use Rattle.session_model.specs.Run.{Opened, Ended, most_held}
+use Rattle.session_model.specs.Run.{most_held}
 use Rattle.session_model.specs.Kept.{Kept, kept_of, is_kept, changed, closed, without_front, taken_off, forgotten, heard, opened_kept}
-use Rattle.session_hub.specs.declared.requester.Requester.{Requester}
+use Rattle.session_hub.specs.Parties.{Requester}
+use Rattle.session_hub.specs.declared.event.Event.TheVariants as came
 use Rattle.session_hub.specs.Answering.{rules}
-use Rattle.session_hub.specs.Hubs.{IsAt, IsBounded, held_after}
+use Rattle.session_hub.specs.Hubs.{HubState, IsAt, IsBounded, HearsAnywhere}
 
 bounded_changed : (c : ℕ) (f : Kept Requester → Kept Requester) → ((k : Kept Requester) → length (f k).rest ≤ length k.rest) → (ks : List (Kept Requester)) → IsBounded ks → IsBounded (changed c f ks)
 bounded_changed c f less [] bounded = tt
@@ -28,21 +29,22 @@ bounded_forgotten c (k ∷ ks) bounded =
     [ true ↦ bounded_forgotten c ks bounded.1 | false ↦ (bounded.0, bounded_forgotten c ks bounded.1) ]
 
 -- a connection that opens: held already, no room, and room
-pub opens_held : (c : ℕ) (ks : List (Kept Requester)) → is_kept (kept_of c ks) ≡ true → ks ≡ held_after (Opened c) ks
-unfolding held_after heard
-opens_held c ks there = rw there refl
+pub opens_held : (c : ℕ) (hub : HubState) → is_kept (kept_of c hub.kept) ≡ true → HearsAnywhere (came.Opened c) hub hub
+unfolding heard
+opens_held c hub there = λ entries. record { same = rw there refl }
 
-pub opens_full : (c : ℕ) (ks : List (Kept Requester)) → most_held ≤ length ks → ks ≡ held_after (Opened c) ks
-unfolding held_after heard
-opens_full c ks full = grind (arith, nat_tests)
+pub opens_full : (c : ℕ) (hub : HubState) → most_held ≤ length hub.kept → HearsAnywhere (came.Opened c) hub hub
+unfolding heard
+opens_full c hub full = λ entries. record { same = ap (λ ks. record { tree = entries; kept = ks; was_cut = hub.was_cut }) (grind (arith, nat_tests)) }
 
-pub opens_new : (c : ℕ) (ks : List (Kept Requester)) → is_kept (kept_of c ks) ≡ false → length ks < most_held → ks ++ opened_kept rules c ∷ [] ≡ held_after (Opened c) ks
-unfolding held_after heard
-opens_new c ks absent room = rw absent (grind (arith, nat_tests))
+pub opens_new : (c : ℕ) (hub now : HubState) → is_kept (kept_of c hub.kept) ≡ false → length hub.kept < most_held → now ≡ record hub { kept = hub.kept ++ opened_kept rules c ∷ [] } →
+    HearsAnywhere (came.Opened c) hub now
+unfolding heard
+opens_new c hub now absent room is = λ entries. record { same = rw is (ap (λ ks. record { tree = entries; kept = ks; was_cut = hub.was_cut }) (rw absent (grind (arith, nat_tests)))) }
 
-pub ends : (c : ℕ) (ks : List (Kept Requester)) → changed c closed ks ≡ held_after (Ended c) ks
-unfolding held_after heard
-ends c ks = refl
+pub ends : (c : ℕ) (hub now : HubState) → now ≡ record hub { kept = changed c closed hub.kept } → HearsAnywhere (came.Ended c) hub now
+unfolding heard
+ends c hub now is = λ entries. record { same = rw is refl }
 
 -- there is something at each place within
 nothing_there : (ks : List (Kept Requester)) (at : ℕ) → at < length ks → slice_get ks at ≡ None → ⊥
@@ -68,3 +70,8 @@ forgets_one c at ks place = found (kept_of c ks) refl
 pub forgets_none : (c : ℕ) (ks : List (Kept Requester)) → kept_of c ks ≡ None → ks ≡ forgotten c ks
 forgets_none c [] none = refl
 forgets_none c (k ∷ ks) none = grind (arith, nat_tests, forgets_none c ks)
+
+-- what holds holds on an error
+pub on_err_any : {X E P : Type 0} (r : Result X E) → P → OnErr r P
+on_err_any (Ok x) holds = tt
+on_err_any (Err e) holds = holds

@@ -1,11 +1,11 @@
 -- The first connection with a number, looked for from the front.
-use Rattle.std.proofs.Common.{◌≡◌, ◌<◌, ℕ, false, List, [], ◌∷◌, ◌++◌, length, take, drop, set, get_or, Some, None, refl, ap, sym, ◌∙◌, drop-cons, suc, arith}
+use Rattle.std.proofs.Common.{◌≡◌, ◌<◌, ℕ, ◌==◌, cond, true, false, Option, List, [], ◌∷◌, ◌++◌, length, take, drop, set, get_or, Some, None, refl, ap, sym, ◌∙◌, drop-cons, suc, arith}
 use Rattle.std.proofs.lemmas.Bool.Decides.{nat_tests}
 use Rattle.std.proofs.lemmas.Option.{slice_get_read}
 use Rattle.std.proofs.lemmas.List.{set_split}
-use Rattle.session_model.specs.Kept.{Kept, kept_of, queue_of, closing_of, changed}
+use Rattle.session_model.specs.Kept.{Kept, kept_of, queue_of, closing_of, cut_of, changed}
 use Rattle.session_model.proofs.Theorems.{queue_in, closing_in, queue_of_is, closing_of_is}
-use Rattle.session_hub.specs.declared.requester.Requester.{Requester}
+use Rattle.session_hub.specs.Parties.{Requester}
 use Rattle.session_hub.specs.Hubs.{IsAt, NoneBefore}
 
 -- a change of the first connection
@@ -53,3 +53,27 @@ changed_nowhere c f (k ∷ ks) none = grind (arith, nat_tests, changed_nowhere c
 
 pub kept_at_is : (c at : ℕ) (ks : List (Kept Requester)) (k : Kept Requester) → IsAt c at ks → k ≡ get_or ks at k → kept_of c ks ≡ Some k
 kept_at_is c at ks k place is = kept_at c at ks k place is
+
+-- where the connection found was cut
+abbrev cut_in : {W : Type 0} → Option (Kept W) → Option ℕ
+cut_in None = None
+cut_in (Some k) = k.cut
+
+cut_of_is : (c : ℕ) (ks : List (Kept Requester)) → cut_of c ks ≡ cut_in (kept_of c ks)
+cut_of_is c [] = refl
+cut_of_is c (k ∷ ks) = elim (k.number == c) as (λ b. cond b k.cut (cut_of c ks) ≡ cut_in (cond b (Some k) (kept_of c ks))) [ true ↦ refl | false ↦ cut_of_is c ks ]
+
+pub cut_at : (c at : ℕ) (ks : List (Kept Requester)) (k : Kept Requester) → IsAt c at ks → k ≡ get_or ks at k → cut_of c ks ≡ k.cut
+cut_at c at ks k place is = cut_of_is c ks ∙ ap cut_in (kept_at c at ks k place is)
+
+pub cut_nowhere : (c : ℕ) (ks : List (Kept Requester)) → kept_of c ks ≡ None → cut_of c ks ≡ None
+cut_nowhere c ks none = cut_of_is c ks ∙ ap cut_in none
+
+-- and after it was changed
+pub cut_changed : (c at : ℕ) (f : Kept Requester → Kept Requester) (ks : List (Kept Requester)) (k : Kept Requester) → IsAt c at ks → k ≡ get_or ks at k → (f k).number ≡ k.number →
+    cut_of c (changed c f ks) ≡ (f k).cut
+cut_changed c at f ks k place is same = by_place ks (kept_at c at ks k place is)
+  where
+    by_place : (ks : List (Kept Requester)) → kept_of c ks ≡ Some k → cut_of c (changed c f ks) ≡ (f k).cut
+    by_place [] found = cc
+    by_place (x ∷ xs) found = grind (arith, nat_tests, by_place xs, same)

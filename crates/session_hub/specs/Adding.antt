@@ -1,105 +1,87 @@
 -- What one call within a loop adds to a link's journal, for the loop's own functions alone.
-use Rattle.std.specs.Prelude.{◌≡◌, ℕ, Bool, true, false, ◌&&◌, List, [], ◌∷◌, ◌++◌, length, Option, Some, None}
+use Rattle.std.specs.Prelude.{◌≡◌, ◌≤◌, ℕ, Bool, true, false, List, [], ◌∷◌, ◌++◌, length, Option, Some, Result, Ok, Err}
+use Rattle.plain_values.specs.Counts.{NeverFalls}
 use Rattle.wire_io.specs.declared.answers.Heard.{Heard as Answer}
 use Rattle.wire_io.specs.declared.answers.Heard.TheVariants as answer
 use Rattle.wire_io.specs.declared.journal.Event.{Event}
 use Rattle.wire_io.specs.declared.journal.Event.TheVariants as event
 use Rattle.wire_io.specs.declared.journal.Item.{Item}
 use Rattle.wire_io.specs.declared.journal.Item.TheVariants as item
-use Rattle.wire_io.specs.Journal.{heard, was_opened, was_stopped, is_held}
-use Rattle.wire_io.specs.Pieces.{Plays, steps_of}
+use Rattle.wire_io.specs.Journal.{heard, was_opened, was_stopped}
 use Rattle.wire_io.specs.Plan.{Plan}
-use Rattle.session_model.specs.Kept.{Kept, queue_of, forgotten}
+use Rattle.session_model.specs.Run.{Opened, most_held}
+use Rattle.session_model.specs.Kept as model
+use Rattle.session_model.specs.Kept.{Held, queue_of}
+use Rattle.session_model.specs.Keeping.{is_listed}
 use Rattle.session_model.specs.Journaled.{all_taken}
-use Rattle.session_model.specs.Working.{Calm, Busy}
-use Rattle.session_hub.specs.declared.requester.Requester.{Requester}
+use Rattle.session_model.specs.Serving.{Leads}
+use Rattle.session_model.specs.Working.{Works, Refused, Lost}
+use Rattle.session_hub.specs.Parties.{DirectoryEntries, Requester}
+use Rattle.session_hub.specs.declared.sent.Sent.{Sent}
+use Rattle.session_hub.specs.declared.sent.Sent.TheVariants as sent
 use Rattle.session_hub.specs.Answering.{rules}
-use Rattle.session_hub.specs.Hubs.{held}
-use Rattle.session_hub.specs.Loops.{buffer_length}
 
--- the item puts no connection on hold
-abbrev pub is_no_hold : Item → Bool
-is_no_hold (item.Held number) = false
-is_no_hold (item.Heard event) = true
-is_no_hold (item.OpenedAt address sessions ok) = true
-is_no_hold (item.Taken number octets) = true
-is_no_hold (item.Later number) = true
-is_no_hold (item.Gone number) = true
-is_no_hold (item.Released number) = true
-is_no_hold (item.HungUp number) = true
-
--- none of the items puts a connection on hold
-unfoldable pub no_holds : List Item → Bool
-no_holds [] = true
-no_holds (first ∷ journal) = is_no_hold first && no_holds journal
-
--- the items are no events and no holds and, where no calls are planned that take nothing, no refusals
+-- the items are no events and, where no calls are planned that take nothing, no refusals
 pub record IsBlock (plan_now : Option Plan) (more : List Item) : Type 0 where
   pub events : heard more ≡ []
   pub stops : was_stopped more ≡ false
-  pub holds : no_holds more ≡ true
   pub taken : (plan : Plan) → plan_now ≡ Some plan → plan.later ≡ [] → plan.gone ≡ [] → all_taken more ≡ true
 
--- from a journal of which a claim holds, the link goes on to one of which the next holds, as long as each write took octets
+-- from a journal of which a claim holds, the link goes on to one of which the next holds
 unfoldable pub Adds : Option Plan → (List Item → Type 0) → (List Item → Type 0) → Option (List Item) → Option (List Item) → Type 0
 Adds plan claim next_claim before after =
-    (start added : List Item) → before ≡ Some (start ++ added) →
-    (more : List Item) × (after ≡ Some (start ++ (added ++ more))) × IsBlock plan more
-    × ((all_taken added ≡ true → claim added) → all_taken (added ++ more) ≡ true → next_claim (added ++ more))
+    (begun added : List Item) → before ≡ Some (begun ++ added) →
+    (more : List Item) × (after ≡ Some (begun ++ (added ++ more))) × IsBlock plan more × (claim added → next_claim (added ++ more))
 
--- nothing can have been added
-abbrev pub Never : List Item → Type 0
-Never added = ⊥
+-- a call that serves keeps the plan and the count of faults, and no connection that was lost comes back
+pub record OnlyServes (plan_old plan_new : Option Plan) (faults_old faults_new lost_old lost_new : ℕ) : Type 0 where
+  pub plan : plan_new ≡ plan_old
+  pub faults : faults_new ≡ faults_old
+  pub lost : NeverFalls lost_old lost_new
 
--- but for one number the connections held are the same
-abbrev pub OthersStay : ℕ → List (Kept Requester) → List (Kept Requester) → Type 0
-OthersStay number old new = forgotten number new ≡ forgotten number old
+-- these are still due, and all others stand as they have to
+abbrev pub IsServing : DirectoryEntries → List ℕ → Held DirectoryEntries Requester → List ℕ → List Item → Type 0
+IsServing entries due held on_hold added = Works rules entries due held on_hold added
 
--- between two events
-abbrev pub IsCalm : List (Kept Requester) → List Item → Type 0
-IsCalm kept added = Calm rules tt (held kept) added
+-- the first that is due has nothing left to be sent
+pub record IsSent (entries : DirectoryEntries) (number : ℕ) (due : List ℕ) (held : Held DirectoryEntries Requester) (on_hold : List ℕ) (added : List Item) : Type 0 where
+  pub serving : IsServing entries (number ∷ due) held on_hold added
+  pub empty : queue_of number held.kept ≡ []
 
--- in the block of a connection
-abbrev pub IsBusy : ℕ → Bool → List (Kept Requester) → List Item → Type 0
-IsBusy number turned kept added = Busy rules tt number turned (held kept) added
+-- and it isn't on hold
+pub record IsFree (entries : DirectoryEntries) (number : ℕ) (due : List ℕ) (held : Held DirectoryEntries Requester) (on_hold : List ℕ) (added : List Item) : Type 0 where
+  pub sent : IsSent entries number due held on_hold added
+  pub free : is_listed number on_hold ≡ false
 
--- in the block of a connection to which nothing is left to be sent
-abbrev pub IsSent : ℕ → Bool → List (Kept Requester) → List Item → Type 0
-IsSent number turned kept added = IsBusy number turned kept added × (queue_of number kept ≡ [])
+-- the claim where a call had memory; and where it had none the journal is right so far
+abbrev pub After : {X E : Type 0} → Result X E → DirectoryEntries → DirectoryEntries → (List Item → Type 0) → List Item → Type 0
+After (Ok value) entries left claim added = claim added
+After (Err fault) entries left claim added = Leads rules entries left added
 
--- an event was heard last, which may come, and before it nothing was left to do
-pub record IsHeard (kept : List (Kept Requester)) (last_event : Event) (added : List Item) : Type 0 where
+-- what a queue's sending came to
+abbrev pub SentIs : Sent → DirectoryEntries → ℕ → List ℕ → Held DirectoryEntries Requester → List ℕ → List Item → Type 0
+SentIs sent.All entries number due held on_hold added = IsSent entries number due held on_hold added
+SentIs sent.Later entries number due held on_hold added = Refused rules entries number due held on_hold added
+SentIs sent.Gone entries number due held on_hold added = Lost rules entries number due held on_hold added
+
+-- the same of its answer
+abbrev pub SentAs : {E : Type 0} → Result Sent E → DirectoryEntries → ℕ → List ℕ → Held DirectoryEntries Requester → List ℕ → List Item → Type 0
+SentAs (Ok came) entries number due held on_hold added = SentIs came entries number due held on_hold added
+SentAs (Err fault) entries number due held on_hold added = Leads rules entries held.tree added
+
+-- an event was heard last, which may come, and before it nobody was due
+pub record IsHeard (entries : DirectoryEntries) (held : Held DirectoryEntries Requester) (on_hold : List ℕ) (last_event : Event) (added : List Item) : Type 0 where
   pub before : List Item
   pub last : added ≡ before ++ item.Heard last_event ∷ []
   pub opens : (number : ℕ) → last_event ≡ event.Opened number → was_opened number before ≡ false
-  pub calm : IsCalm kept before
+  pub works : IsServing entries [] held on_hold before
 
--- so many events were heard, none of them Stop, and between them nothing is left to do
-unfoldable pub Running : ℕ → Option (List Item) → Option (List Item) → List (Kept Requester) → Type 0
-Running count before now kept =
-    (start : List Item) → before ≡ Some start →
-    (added : List Item) × (now ≡ Some (start ++ added)) × (was_stopped added ≡ false) × (length (heard added) ≡ count) × (all_taken added ≡ true → IsCalm kept added)
-
--- how far a plan has come with a journal
-pub record PlayedSoFar (start added : List Item) (plan left : Plan) : Type 0 where
-  pub plays : Plays buffer_length plan.to_come (heard added) left.to_come
-  pub failing : left.failing ≡ plan.failing
-  pub later : left.later ≡ plan.later
-  pub gone : left.gone ≡ plan.gone
-  pub taken : plan.later ≡ [] → plan.gone ≡ [] → all_taken added ≡ true
-  pub unheld : ((number : ℕ) → is_held number start ≡ false) → (number : ℕ) → is_held number (start ++ added) ≡ false
-  pub steps : ((number : ℕ) → is_held number start ≡ false) → length (steps_of (heard added)) ≡ length (heard added)
-
--- the same of any plan and journal that a link tells
-unfoldable pub Playing : Option (List Item) → Option Plan → Option (List Item) → Option Plan → Type 0
-Playing before plan_before now plan_now =
-    (start : List Item) (plan : Plan) → before ≡ Some start → plan_before ≡ Some plan →
-    (added : List Item) × (left : Plan) × (now ≡ Some (start ++ added)) × (plan_now ≡ Some left) × PlayedSoFar start added plan left
-
--- the failing calls of a plan
-abbrev pub failing_of : Option Plan → Option (List ℕ)
-failing_of None = None
-failing_of (Some plan) = Some plan.failing
+-- a connection opened for which there was no room, and the hub doesn't hold it
+pub record IsTurnedAway (entries : DirectoryEntries) (number : ℕ) (now : Held DirectoryEntries Requester) (on_hold : List ℕ) (added : List Item) : Type 0 where
+  pub old : Held DirectoryEntries Requester
+  pub heard : IsHeard entries old on_hold (event.Opened number) added
+  pub full : most_held ≤ length old.kept
+  pub same : now ≡ model.heard rules (Opened number) old
 
 -- whether an answer of a link is Stop
 abbrev pub stops_with : Answer → Bool

@@ -13,7 +13,7 @@ use Rattle.ldap_msg.specs.declared.kinds.Reply.TheVariants as reply
 use Rattle.ldap_msg.specs.Messages.{message_of}
 use Rattle.ldap_msg.specs.Replies.{reply_octets, notice_octets}
 use Rattle.session_model.specs.Rules.{Rules, Answered}
-use Rattle.session_hub.specs.declared.requester.Requester.{Requester}
+use Rattle.session_hub.specs.Parties.{DirectoryEntries, Requester}
 use Rattle.session_hub.specs.declared.requester.Requester.TheVariants.{Anonymous}
 
 -- a result with this code and no matched name
@@ -87,10 +87,6 @@ answer_read tree who (Some message) =
       closes = is_unbind message.request;
     }
 
--- nothing is served yet
-abbrev pub Tree : Type 0
-Tree = Unit {0}
-
--- the rules of this server
-unfoldable pub rules : Rules Tree Requester
+-- the rules of this server, over the entries of its directory
+unfoldable pub rules : Rules DirectoryEntries Requester
 rules = record { nobody = Anonymous; answer = λ tree who bytes. answer_read tree who (message_of bytes) }

@@ -1,37 +1,56 @@
 -- What an answered message, and an answered stream, leave.
-use Rattle.std.specs.Prelude.{◌≡◌, ◌≤◌, ℕ, false, List, ◌++◌, length, drop}
+use Rattle.std.specs.Prelude.{◌≡◌, ◌≤◌, ◌+◌, ℕ, Bool, true, false, List, ◌++◌, length, drop, Option, Some, None}
 use Rattle.ldap_msg.specs.Streams.{rest_of}
-use Rattle.session_model.specs.Rules.{Answered}
+use Rattle.session_model.specs.Rules.{Answered, after_octets}
 use Rattle.session_model.specs.Kept.{speech}
-use Rattle.session_hub.specs.declared.requester.Requester.{Requester}
-use Rattle.session_hub.specs.declared.outcome.Outcome.{Outcome}
-use Rattle.session_hub.specs.Answering.{Tree, rules}
+use Rattle.session_hub.specs.Parties.{DirectoryEntries, Requester}
+use Rattle.session_hub.specs.declared.spoken.Spoken.{Spoken}
+use Rattle.session_hub.specs.declared.spoken.SpeechEnd.{SpeechEnd}
+use Rattle.session_hub.specs.declared.spoken.SpeechEnd.TheVariants.{StaysOpen, Closes, IsCut}
+use Rattle.session_hub.specs.Answering.{rules}
 
--- the octets sent and the outcome are those of the answer
-pub record Gives (answered : Answered Tree Requester) (old new : List ℕ) (outcome : Outcome) : Type 0 where
+-- the octets sent, the entries and the requester left, and whether the connection closes are those of the answer
+pub record Gives (answered : Answered DirectoryEntries Requester) (old new : List ℕ) (entries : DirectoryEntries) (who : Requester) (closes : Bool) : Type 0 where
   pub said : new ≡ old ++ answered.replies
-  pub who : outcome.who ≡ answered.who
-  pub closes : outcome.closes ≡ answered.closes
+  pub left : entries ≡ answered.tree
+  pub asker : who ≡ answered.who
+  pub closed : closes ≡ answered.closes
 
--- what is said to a stream by this server
-abbrev pub said_to : Requester → List ℕ → Answered Tree Requester
-said_to who stream = speech rules tt who stream
+-- what is said to a stream by this server, up to a cut
+abbrev pub said_to : Option ℕ → DirectoryEntries → Requester → List ℕ → Answered DirectoryEntries Requester
+said_to cut entries who stream = speech rules cut entries who stream
 
--- the octets sent and the outcome are those of a stream, of which so many octets were read unless it closes
-pub record Speaks (who : Requester) (stream old new : List ℕ) (outcome : Outcome) (read : ℕ) : Type 0 where
-  pub gives : Gives (said_to who stream) old new outcome
+-- whether a stream's connection closes at its end
+abbrev pub closes_at : SpeechEnd → Bool
+closes_at StaysOpen = false
+closes_at Closes = true
+closes_at IsCut = true
+
+-- where it was cut, behind so many messages
+abbrev pub cut_at : SpeechEnd → ℕ → Option ℕ
+cut_at StaysOpen answered = None
+cut_at Closes answered = None
+cut_at IsCut answered = Some answered
+
+-- a stream is answered: what was sent is what is said to it, up to where it was cut; where the connection stays open, so
+-- many octets were read, and a cut behind all of its messages would leave the same and close
+pub record Speaks (before : DirectoryEntries) (asks : Requester) (stream old new : List ℕ) (entries : DirectoryEntries) (who : Requester) (spoken : Spoken) : Type 0 where
+  pub gives : Gives (said_to (cut_at spoken.end spoken.answered) before asks stream) old new entries who (closes_at spoken.end)
+  pub within : spoken.read ≤ length stream
+  pub unread : spoken.end ≡ StaysOpen → drop spoken.read stream ≡ rest_of stream
+  pub cuts : spoken.end ≡ StaysOpen → Gives (said_to (Some spoken.answered) before asks stream) old new entries who true
+
+-- a cut so many messages later
+abbrev pub behind : ℕ → Option ℕ → Option ℕ
+behind answered None = None
+behind answered (Some count) = Some (answered + count)
+
+-- how far a stream was answered: whatever cut may follow, what was said so far and what is said to the rest is what is
+-- said to the stream
+pub record SaysSoFar (before : DirectoryEntries) (asks : Requester) (stream old now : List ℕ) (entries : DirectoryEntries) (who : Requester) (read answered : ℕ) : Type 0 where
+  pub more : List ℕ
+  pub grows : now ≡ old ++ more
   pub within : read ≤ length stream
-  pub left : outcome.closes ≡ false → drop read stream ≡ rest_of stream
-
--- the octets begin with those that stood there before
-abbrev pub Extends : List ℕ → List ℕ → Type 0
-Extends old new = (more : List ℕ) × (new ≡ old ++ more)
-
--- how far a stream was answered: what was said so far, and what is said to the rest, is what is said to the stream
-pub record SaysSoFar (who : Requester) (stream old now : List ℕ) (current : Requester) (read : ℕ) : Type 0 where
-  pub within : read ≤ length stream
-  pub grows : Extends old now
+  pub counts : answered ≤ read
   pub rest : rest_of (drop read stream) ≡ rest_of stream
-  pub said : now ++ (said_to current (drop read stream)).replies ≡ old ++ (said_to who stream).replies
-  pub requester : (said_to current (drop read stream)).who ≡ (said_to who stream).who
-  pub closes : (said_to current (drop read stream)).closes ≡ (said_to who stream).closes
+  pub said : (cut : Option ℕ) → said_to (behind answered cut) before asks stream ≡ after_octets more (said_to cut entries who (drop read stream))

@@ -2,33 +2,47 @@
 -- those of the next step.
 use Rattle.std.specs.Prelude.{◌≡◌, ℕ, Bool, List, length}
 use Rattle.session_model.specs.Run.{Sessions, Step, start, step, held_numbers}
-use Rattle.session_model.specs.Kept.{Kept}
-use Rattle.session_model.specs.Keeping.{IsNew, more_taken}
+use Rattle.session_model.specs.Kept.{Held}
+use Rattle.session_model.specs.Keeping.{Keeps, IsNew, more_taken}
 use Rattle.session_model.specs.Replaying.{is_closing}
-use Rattle.session_hub.specs.declared.requester.Requester.{Requester}
-use Rattle.session_hub.specs.Answering.{Tree, rules}
-use Rattle.session_hub.specs.Hubs.{IsHubOf, left_of}
+use Rattle.session_hub.specs.Parties.{DirectoryEntries, Requester}
+use Rattle.session_hub.specs.Answering.{rules}
+use Rattle.session_hub.specs.Hubs.{HubState, held, left_of}
+
+-- what is held is that of these sessions, of which so much of each reply was taken
+abbrev pub IsHeldOf : Sessions DirectoryEntries Requester → (ℕ → ℕ) → Held DirectoryEntries Requester → Type 0
+IsHeldOf sessions taken kept = Keeps sessions taken kept
 
 -- the sessions before any step, of whose replies nothing was taken
-unfoldable pub FollowsStart : List (Kept Requester) → Type 0
-FollowsStart kept = IsHubOf (start rules tt) (λ number. 0) kept
+unfoldable pub FollowsStart : HubState → Type 0
+FollowsStart hub = (entries : DirectoryEntries) → IsHeldOf (start rules entries) (λ number. 0) (held entries hub)
 
 -- a step that opens no number twice leaves the sessions of a run after it, with as much taken as before
-unfoldable pub FollowsStep : Step → List (Kept Requester) → List (Kept Requester) → Type 0
-FollowsStep next old new = (sessions : Sessions Tree Requester) (taken : ℕ → ℕ) → IsNew sessions next → IsHubOf sessions taken old → IsHubOf (step rules sessions next) taken new
+unfoldable pub FollowsStep : Step → Held DirectoryEntries Requester → Held DirectoryEntries Requester → Type 0
+FollowsStep next old new =
+    (sessions : Sessions DirectoryEntries Requester) (taken : ℕ → ℕ) → IsNew sessions next → IsHeldOf sessions taken old → IsHeldOf (step rules sessions next) taken new
+
+-- the same, whatever the entries are
+abbrev pub FollowsAnywhere : Step → HubState → HubState → Type 0
+FollowsAnywhere next old new = (entries : DirectoryEntries) → FollowsStep next (held entries old) (held entries new)
 
 -- so many more octets of one connection's reply were taken, of the same sessions
-unfoldable pub FollowsTaking : ℕ → ℕ → List (Kept Requester) → List (Kept Requester) → Type 0
-FollowsTaking number count old new = (sessions : Sessions Tree Requester) (taken : ℕ → ℕ) → IsHubOf sessions taken old → IsHubOf sessions (more_taken number count taken) new
+unfoldable pub FollowsTaking : ℕ → ℕ → HubState → HubState → Type 0
+FollowsTaking number count old new =
+    (entries : DirectoryEntries) (sessions : Sessions DirectoryEntries Requester) (taken : ℕ → ℕ) →
+    IsHeldOf sessions taken (held entries old) → IsHeldOf sessions (more_taken number count taken) (held entries new)
 
 -- the queue is what of the reply wasn't taken yet, for a connection that is held, and else empty
-unfoldable pub QueuesReply : ℕ → List (Kept Requester) → List ℕ → Type 0
-QueuesReply number kept queue = (sessions : Sessions Tree Requester) (taken : ℕ → ℕ) → IsHubOf sessions taken kept → queue ≡ left_of (sessions.of number) (taken number)
+unfoldable pub QueuesReply : ℕ → HubState → List ℕ → Type 0
+QueuesReply number hub queue =
+    (entries : DirectoryEntries) (sessions : Sessions DirectoryEntries Requester) (taken : ℕ → ℕ) → IsHeldOf sessions taken (held entries hub) → queue ≡ left_of (sessions.of number) (taken number)
 
 -- a connection is closing where its session is
-unfoldable pub ClosesWith : ℕ → List (Kept Requester) → Bool → Type 0
-ClosesWith number kept closing = (sessions : Sessions Tree Requester) (taken : ℕ → ℕ) → IsHubOf sessions taken kept → closing ≡ is_closing (sessions.of number).state
+unfoldable pub ClosesWith : ℕ → HubState → Bool → Type 0
+ClosesWith number hub closing =
+    (entries : DirectoryEntries) (sessions : Sessions DirectoryEntries Requester) (taken : ℕ → ℕ) → IsHeldOf sessions taken (held entries hub) → closing ≡ is_closing (sessions.of number).state
 
 -- as many connections are held as sessions
-unfoldable pub CountsHeld : List (Kept Requester) → ℕ → Type 0
-CountsHeld kept count = (sessions : Sessions Tree Requester) (taken : ℕ → ℕ) → IsHubOf sessions taken kept → count ≡ length (held_numbers sessions)
+unfoldable pub CountsHeld : HubState → ℕ → Type 0
+CountsHeld hub count =
+    (entries : DirectoryEntries) (sessions : Sessions DirectoryEntries Requester) (taken : ℕ → ℕ) → IsHeldOf sessions taken (held entries hub) → count ≡ length (held_numbers sessions)

@@ -1,36 +1,51 @@
 -- What a hub holds, and what each step leaves of it.
-use Rattle.std.specs.Prelude.{◌≡◌, ◌<◌, ◌≤◌, ℕ, true, false, cond, List, [], ◌++◌, length, take, drop, Some, slice_get, slice_set}
+use Rattle.std.specs.Prelude.{◌≡◌, ◌<◌, ◌≤◌, ℕ, Bool, false, cond, ◌||◌, List, [], ◌++◌, length, take, drop, Some, slice_get, slice_set}
 use Rattle.std.specs.List.{AllByRecursion}
-use Rattle.session_model.specs.Run.{Session, Sessions, Step, Opened, Bytes, Ended, Gone, HungUp, is_held, most_held}
-use Rattle.session_model.specs.Kept.{Kept, Held, heard, kept_of, is_kept, closing_of, changed}
-use Rattle.session_model.specs.Keeping.{Keeps}
-use Rattle.session_hub.specs.declared.requester.Requester.{Requester}
-use Rattle.session_hub.specs.Answering.{Tree, rules}
+use Rattle.session_model.specs.Run.{Session, Bytes, is_held, most_held}
+use Rattle.session_model.specs.Kept.{Kept, Held, heard, kept_of, is_kept, cut_of, changed}
+use Rattle.session_hub.specs.Parties.{DirectoryEntries, Requester}
+use Rattle.session_hub.specs.declared.event.Event.{Event}
+use Rattle.session_hub.specs.declared.event.Event.TheVariants as event
+use Rattle.session_hub.specs.Answering.{rules}
+use Rattle.session_hub.specs.Events.{step_by, new_cut}
 use Rattle.session_hub.specs.Limits.{most_unread}
 
--- the connections held, with the tree
-abbrev pub held : List (Kept Requester) → Held Tree Requester
-held kept = record { tree = tt; kept = kept }
+-- the connections held, and whether any connection was cut so far
+pub record HubState : Type 0 where
+  pub kept : List (Kept Requester)
+  pub was_cut : Bool
 
--- the connections held after a step
-unfoldable pub held_after : Step → List (Kept Requester) → List (Kept Requester)
-held_after next kept = (heard rules next (held kept)).kept
+-- what a hub holds, with the entries of the directory
+abbrev pub held : DirectoryEntries → HubState → Held DirectoryEntries Requester
+held entries hub = record { tree = entries; kept = hub.kept; was_cut = hub.was_cut }
 
--- a step that takes memory: the opening of a connection that is then held, and octets of one that is open
-abbrev pub TakesMemory : Step → List (Kept Requester) → Type 0
-TakesMemory (Opened number) kept = (is_kept (kept_of number kept) ≡ false) × (length kept < most_held)
-TakesMemory (Bytes number piece) kept = (is_kept (kept_of number kept) ≡ true) × (closing_of number kept ≡ false)
-TakesMemory (Ended number) kept = ⊥
-TakesMemory (Gone number) kept = ⊥
-TakesMemory (HungUp number) kept = ⊥
+-- a hub that holds nothing
+abbrev pub no_hub : HubState
+no_hub = record { kept = []; was_cut = false }
+
+-- an event was heard: what is held is what the event's step leaves, cut where the hub tells it
+pub record Hears (came : Event) (old new : Held DirectoryEntries Requester) : Type 0 where
+  pub same : new ≡ heard rules (step_by came old.kept new.kept) old
+
+-- the same, whatever the entries are, which stay
+abbrev pub HearsAnywhere : Event → HubState → HubState → Type 0
+HearsAnywhere came old new = (entries : DirectoryEntries) → Hears came (held entries old) (held entries new)
+
+-- a piece was heard by the connection of a number, if it is held and open; whether it was cut is told
+pub record HearsAt (number : ℕ) (piece : List ℕ) (before : DirectoryEntries) (old : List (Kept Requester)) (after : DirectoryEntries) (new : List (Kept Requester)) (was_cut : Bool) : Type 0 where
+  pub same : (cut_before : Bool) →
+      let cut = new_cut (kept_of number old) (cut_of number new) in
+      record { tree = after; kept = new; was_cut = cut_before || was_cut } ≡ heard rules (Bytes number piece cut) (record { tree = before; kept = old; was_cut = cut_before })
+
+-- the event opens a connection that is then held
+abbrev pub OpensOne : Event → List (Kept Requester) → Type 0
+OpensOne (event.Opened number) kept = (is_kept (kept_of number kept) ≡ false) × (length kept < most_held)
+OpensOne (event.Bytes number octets) kept = ⊥
+OpensOne (event.Ended number) kept = ⊥
 
 -- each connection held has at most so many unread octets
 abbrev pub IsBounded : List (Kept Requester) → Type 0
 IsBounded kept = AllByRecursion (λ connection. length connection.rest ≤ most_unread) kept
-
--- the connections held are those of these sessions, of which so much of each reply was taken
-abbrev pub IsHubOf : Sessions Tree Requester → (ℕ → ℕ) → List (Kept Requester) → Type 0
-IsHubOf sessions taken kept = Keeps sessions taken (held kept)
 
 -- of a session, the reply beyond what was taken, where it is held
 abbrev pub left_of : Session Requester → ℕ → List ℕ

@@ -1,4 +1,5 @@
 -- what public clauses cite
+pub mod Parties
 pub mod Answering
 pub mod Limits
 pub mod Hubs
@@ -7,6 +8,8 @@ pub mod Following
 pub mod Loops
 -- for the inside of the crate alone
 pub mod Answers
+pub mod Connections
 pub mod Telling
 pub mod Adding
+pub mod Waits
 pub mod Turns

@@ -1,15 +1,21 @@
 //! One connection held.
 
-ghost use Rattle.std.specs.Prelude.{◌≡◌, ◌≤◌, ◌++◌, length, drop, vec_len, OnOk, OnErr};
-ghost use Rattle.session_model.specs.Kept.{closed, without_front, opened_kept, heard_piece};
+ghost use Rattle.std.specs.Prelude.{◌≡◌, ◌≤◌, [], length, drop, vec_len};
+ghost use Rattle.session_model.specs.Kept.{closed, without_front, opened_kept};
 ghost use Rattle.session_hub.specs.Answering.{rules};
-ghost use Rattle.session_hub.specs.Answers.{said_to};
+ghost use Rattle.session_hub.specs.Answers.{closes_at, cut_at};
+ghost use Rattle.session_hub.specs.Connections.{HearsPiece, KeepsRest};
 ghost use Rattle.session_hub.specs.Limits.{most_unread};
 
 use crate::Requester;
+use crate::spoken::{SpeechEnd, Spoken};
 use crate::stream::speak;
-use std::alloc::{AllocError, Global};
+use acdf_core::Dir;
+use std::alloc::Global;
 use std::marker::Model;
+
+/// The most octets that a buffer keeps room for while it is empty.
+const MOST_SPARE: usize = 65_536;
 
 /// A connection: its octets that are part of no whole message yet, and the octets still to be sent.
 #[derive(Debug, Drop)]
@@ -20,16 +26,17 @@ pub struct Connection {
     out: Vec<u8>,
     taken: usize,
     closing: bool,
+    cut: Option<u64>,
 }
 
 impl Model for Connection {
     ghost use Rattle.std.specs.Prelude.{◌≤◌, drop, length};
     ghost use Rattle.session_model.specs.Kept.{Kept};
-    ghost use Rattle.session_hub.specs.declared.requester.Requester.{Requester};
+    ghost use Rattle.session_hub.specs.Parties.{Requester};
 
     ghost Value = { Kept Requester };
 
-    ghost view = { λ connection. record { number = connection.number; rest = connection.rest.items; who = connection.who; queue = drop connection.taken connection.out.items; closing = connection.closing } };
+    ghost view = { λ connection. record { number = connection.number; rest = connection.rest.items; who = connection.who; queue = drop connection.taken connection.out.items; closing = connection.closing; cut = connection.cut } };
 
     ghost invariant = { λ connection. connection.taken ≤ length connection.out.items };
 }
@@ -46,6 +53,7 @@ impl Connection {
             out: Vec::new(alloc),
             taken: 0,
             closing: false,
+            cut: None,
         }
     }
 
@@ -59,6 +67,13 @@ impl Connection {
         ensures { result ≡ self.now.closing }
     {
         self.closing
+    }
+
+    /// Behind how many of its last octets' messages it was cut for want of memory, if it was.
+    pub fn cut(&self) -> Option<u64>
+        ensures { result ≡ self.now.cut }
+    {
+        self.cut
     }
 
     /// The octets still to be sent.
@@ -76,6 +91,7 @@ impl Connection {
         self.taken += count;
         if self.taken == self.out.len() {
             self.out.clear();
+            self.out.shrink_to(MOST_SPARE);
             self.taken = 0;
         }
     }
@@ -89,35 +105,98 @@ impl Connection {
     }
 
     /// Hears a piece of an open connection: its whole messages are answered, and what is left is
-    /// kept unless the connection closes now. After `AllocError` the connection is as it was.
-    pub fn hear(&mut self, alloc: Global, piece: &[u8]) -> Result<(), AllocError>
-        ensures ok { OnOk result (self.new ≡ heard_piece rules piece.now self.old (said_to self.old.who (self.old.rest ++ piece.now))) }
-        ensures kept { OnErr result (self.new ≡ self.old) }
-        ensures bounded { length self.old.rest ≤ most_unread → length self.new.rest ≤ most_unread }
+    /// kept unless the connection closes now. Where there is no memory it is cut, which closes it.
+    pub fn hear<D: Dir>(&mut self, alloc: Global, dir: &mut D, piece: &[u8])
+        ensures exact { HearsPiece piece.now (D.entries dir.old) self.old (D.entries dir.new) self.new }
+        ensures bounded { length self.new.rest ≤ most_unread }
     {
-        let unread = self.rest.len();
-        let unsent = self.out.len();
-        self.rest.extend_from_slice(piece)?;
-        let spoken = match speak(alloc, self.who, &self.rest, &mut self.out) {
-            Ok(spoken) => spoken,
-            Err(error) => {
-                self.rest.truncate(unread);
-                self.out.truncate(unsent);
-                return Err(error);
-            }
-        };
-        self.who = spoken.outcome.who;
-        self.closing = spoken.outcome.closes;
-        if spoken.outcome.closes {
-            self.rest.clear();
+        if self.rest.is_empty() {
+            self.hear_alone(alloc, dir, piece);
         } else {
-            cut_front(&mut self.rest, spoken.read);
+            self.hear_behind(alloc, dir, piece);
         }
-        Ok(())
+    }
+
+    /// Hears a piece where nothing is unread: it is read where it lies.
+    fn hear_alone<D: Dir>(&mut self, alloc: Global, dir: &mut D, piece: &[u8])
+        requires { self.old.rest ≡ [] }
+        ensures exact { HearsPiece piece.now (D.entries dir.old) self.old (D.entries dir.new) self.new }
+        ensures bounded { length self.new.rest ≤ most_unread }
+    {
+        let spoken = speak(alloc, dir, &mut self.who, piece, &mut self.out);
+        let end = keep_unread(&mut self.rest, piece, spoken);
+        self.closing = closes(end);
+        self.cut = cut_behind(end, spoken.answered);
+    }
+
+    /// Hears a piece behind what is unread.
+    fn hear_behind<D: Dir>(&mut self, alloc: Global, dir: &mut D, piece: &[u8])
+        ensures exact { HearsPiece piece.now (D.entries dir.old) self.old (D.entries dir.new) self.new }
+        ensures bounded { length self.new.rest ≤ most_unread }
+    {
+        match self.rest.extend_from_slice(piece) {
+            Err(_) => {
+                self.rest.clear();
+                self.closing = true;
+                self.cut = Some(0);
+            }
+            Ok(()) => {
+                let spoken = speak(alloc, dir, &mut self.who, &self.rest, &mut self.out);
+                let end = leave_unread(&mut self.rest, spoken);
+                self.closing = closes(end);
+                self.cut = cut_behind(end, spoken.answered);
+            }
+        }
     }
 }
 
-/// Takes the first octets away, without memory.
+fn closes(end: SpeechEnd) -> bool
+    ensures { result ≡ closes_at end }
+{
+    match end {
+        SpeechEnd::StaysOpen => false,
+        SpeechEnd::Closes | SpeechEnd::IsCut => true,
+    }
+}
+
+fn cut_behind(end: SpeechEnd, answered: u64) -> Option<u64>
+    ensures { result ≡ cut_at end answered }
+{
+    match end {
+        SpeechEnd::StaysOpen | SpeechEnd::Closes => None,
+        SpeechEnd::IsCut => Some(answered),
+    }
+}
+
+/// Keeps the octets of a stream that weren't read, if its connection stays open and there is room.
+fn keep_unread(rest: &mut Vec<u8>, stream: &[u8], spoken: Spoken) -> SpeechEnd
+    requires empty { rest.old.items ≡ [] }
+    requires within { spoken.read ≤ length stream.now }
+    ensures { KeepsRest spoken.end (drop spoken.read stream.now) rest.new.items result }
+{
+    match spoken.end {
+        SpeechEnd::Closes => SpeechEnd::Closes,
+        SpeechEnd::IsCut => SpeechEnd::IsCut,
+        SpeechEnd::StaysOpen => match rest.extend_from_slice(stream.split_at(spoken.read).1) {
+            Ok(()) => SpeechEnd::StaysOpen,
+            Err(_) => SpeechEnd::IsCut,
+        },
+    }
+}
+
+/// Leaves the octets that weren't read, if the connection stays open.
+fn leave_unread(rest: &mut Vec<u8>, spoken: Spoken) -> SpeechEnd
+    requires { spoken.read ≤ vec_len rest.old }
+    ensures { KeepsRest spoken.end (drop spoken.read rest.old.items) rest.new.items result }
+{
+    match spoken.end {
+        SpeechEnd::StaysOpen => cut_front(rest, spoken.read),
+        SpeechEnd::Closes | SpeechEnd::IsCut => rest.clear(),
+    }
+    spoken.end
+}
+
+/// Takes the first octets away, without memory, and gives back what an emptied buffer needs no more.
 fn cut_front(octets: &mut Vec<u8>, count: usize)
     requires { count ≤ vec_len octets.old }
     ensures { octets.new.items ≡ drop count octets.old.items }
@@ -128,4 +207,7 @@ fn cut_front(octets: &mut Vec<u8>, count: usize)
     octets.rotate_left(count);
     let left = octets.len() - count;
     octets.truncate(left);
+    if left == 0 {
+        octets.shrink_to(MOST_SPARE);
+    }
 }

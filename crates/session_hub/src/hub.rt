@@ -1,15 +1,16 @@
 //! The hub of all sessions.
 
-ghost use Rattle.std.specs.Prelude.{◌≡◌, ◌≤◌, ◌+◌, ℕ, [], length, IfOk, OnOk, OnErr};
+ghost use Rattle.std.specs.Prelude.{◌≡◌, ◌≤◌, length, IfOk, OnOk, OnErr};
 ghost use Rattle.session_model.specs.Run as run;
-ghost use Rattle.session_model.specs.Kept.{queue_of, closing_of, taken_off, forgotten};
-ghost use Rattle.session_hub.specs.Hubs.{held_after, IsBounded, TakesMemory};
-ghost use Rattle.session_hub.specs.Following.{FollowsStart, FollowsStep, FollowsTaking, QueuesReply, ClosesWith, CountsHeld};
-ghost use Rattle.session_hub.specs.Events.{step_of};
+ghost use Rattle.session_model.specs.Kept.{queue_of, closing_of, cut_of, taken_off, forgotten};
+ghost use Rattle.session_hub.specs.Hubs.{held, no_hub, Hears, HearsAnywhere, OpensOne, IsBounded};
+ghost use Rattle.session_hub.specs.Following.{FollowsStart, FollowsStep, FollowsAnywhere, FollowsTaking, QueuesReply, ClosesWith, CountsHeld};
+ghost use Rattle.session_hub.specs.Events.{step_by};
 
 use crate::Event;
 use crate::connection::Connection;
-use crate::places::{closing_at, end_at, forget_at, hear_at, is_at, queue_at, take_off};
+use crate::places::{closing_at, cut_at, end_at, forget_at, hear_at, is_at, queue_at, take_off};
+use acdf_core::Dir;
 use std::alloc::{AllocError, Global};
 use std::marker::Model;
 
@@ -17,42 +18,41 @@ use std::marker::Model;
 pub const MAX_CONNECTIONS: usize = 256;
 
 /// All sessions: what of each connection is unread, and what is still to be sent to it. Contracts
-/// see the list of the connections held, in the order in which they opened.
+/// see the list of the connections held, in the order in which they opened, and whether any was cut
+/// for want of memory.
 #[derive(Debug, Drop)]
 pub struct Hub {
     alloc: Global,
     connections: Vec<Connection>,
+    was_cut: bool,
 }
 
 impl Model for Hub {
-    ghost use Rattle.std.specs.Prelude.{List};
-    ghost use Rattle.session_model.specs.Kept.{Kept};
-    ghost use Rattle.session_hub.specs.declared.requester.Requester.{Requester};
+    ghost use Rattle.session_hub.specs.Hubs.{HubState, IsBounded};
 
-    ghost Value = { List (Kept Requester) };
+    ghost Value = { HubState };
 
-    ghost use Rattle.session_hub.specs.Hubs.{IsBounded};
-
-    ghost view = { λ hub. hub.connections.items };
+    ghost view = { λ hub. record { kept = hub.connections.items; was_cut = hub.was_cut } };
 
     ghost invariant = { λ hub. IsBounded hub.connections.items };
 }
 
 impl Hub {
-    /// A hub that holds nothing. This takes no memory today; the error is for hubs that keep tables.
+    /// A hub that holds nothing, with room for as many connections as it will hold.
     pub fn new(alloc: Global) -> Result<Hub, AllocError>
-        ensures ok { IfOk result (λ hub. hub ≡ []) }
+        ensures ok { IfOk result (λ hub. hub ≡ no_hub) }
         ensures run { IfOk result FollowsStart }
     {
         Ok(Hub {
             alloc,
-            connections: Vec::new(alloc),
+            connections: Vec::with_capacity(alloc, MAX_CONNECTIONS)?,
+            was_cut: false,
         })
     }
 
     /// How many connections are held.
     pub fn count(&self) -> usize
-        ensures exact { result ≡ length self.now }
+        ensures exact { result ≡ length self.now.kept }
         ensures run { CountsHeld self.now result }
     {
         self.connections.len()
@@ -61,7 +61,7 @@ impl Hub {
     /// The octets still to be sent to the connection; none for one that isn't held. No memory is
     /// taken.
     pub fn queue(&self, conn: u32) -> &[u8]
-        ensures exact { result.now ≡ queue_of conn self.now }
+        ensures exact { result.now ≡ queue_of conn self.now.kept }
         ensures run { QueuesReply conn self.now result.now }
     {
         queue_at(&self.connections, conn)
@@ -69,17 +69,32 @@ impl Hub {
 
     /// Whether the connection is to be hung up when nothing is left in its queue.
     pub fn closing(&self, conn: u32) -> bool
-        ensures exact { result ≡ closing_of conn self.now }
+        ensures exact { result ≡ closing_of conn self.now.kept }
         ensures run { ClosesWith conn self.now result }
     {
         closing_at(&self.connections, conn)
     }
 
+    /// Behind how many messages of its last octets the connection was cut for want of memory, if it
+    /// was.
+    pub fn cut(&self, conn: u32) -> Option<u64>
+        ensures { result ≡ cut_of conn self.now.kept }
+    {
+        cut_at(&self.connections, conn)
+    }
+
+    /// Whether any connection was cut so far.
+    pub fn was_cut(&self) -> bool
+        ensures { result ≡ self.now.was_cut }
+    {
+        self.was_cut
+    }
+
     /// The first `count` octets of the connection's queue, which has as many, were taken. No memory is
     /// taken.
     pub fn took(&mut self, conn: u32, count: usize)
-        requires { count ≤ length (queue_of conn self.old) }
-        ensures exact { self.new ≡ taken_off conn count self.old }
+        requires { count ≤ length (queue_of conn self.old.kept) }
+        ensures exact { self.new ≡ record self.old { kept = taken_off conn count self.old.kept } }
         ensures run { FollowsTaking conn count self.old self.new }
     {
         take_off(&mut self.connections, conn, count);
@@ -88,44 +103,49 @@ impl Hub {
     /// Hears an event (RFC 4511 5): a connection that opens is held where there is room, the
     /// whole messages of octets are answered, and the end of a peer's octets closes. Nothing is
     /// changed by the events of connections that aren't held, nor by the opening of one that is.
-    /// `AllocError` comes where a connection is to be held or octets are to be answered, and there is
-    /// no memory; the hub is then as it was.
-    pub fn hear(&mut self, event: Event<'_>) -> Result<(), AllocError>
-        ensures exact { OnOk result (self.new ≡ held_after (step_of event.entry) self.old) }
-        ensures run { OnOk result (FollowsStep (step_of event.entry) self.old self.new) }
-        ensures cause { OnErr result (TakesMemory (step_of event.entry) self.old) }
-        ensures kept { OnErr result (self.new ≡ self.old) }
-        ensures bounded { IsBounded self.new }
+    /// Where there is no memory for an answer that connection alone is cut, which closes it, and
+    /// `cut` tells where. `AllocError` comes where a connection is to be held and there is no memory;
+    /// all is then as it was.
+    pub fn hear<D: Dir>(&mut self, dir: &mut D, event: Event<'_>) -> Result<(), AllocError>
+        ensures exact { OnOk result (Hears event.entry (held (D.entries dir.old) self.old) (held (D.entries dir.new) self.new)) }
+        ensures run { OnOk result (FollowsStep (step_by event.entry self.old.kept self.new.kept)
+            (held (D.entries dir.old) self.old) (held (D.entries dir.new) self.new)) }
+        ensures cause { OnErr result (OpensOne event.entry self.old.kept) }
+        ensures kept { OnErr result (held (D.entries dir.new) self.new ≡ held (D.entries dir.old) self.old) }
+        ensures bounded { IsBounded self.new.kept }
     {
-        let heard = self.hear_event(event);
+        let heard = self.hear_event(dir, event);
         let _held = &self.connections;
         heard
     }
 
     /// Forgets a connection that was found lost.
     pub fn gone(&mut self, conn: u32)
-        ensures exact { self.new ≡ forgotten conn self.old }
-        ensures run { FollowsStep (run.Gone conn) self.old self.new }
+        ensures exact { self.new ≡ record self.old { kept = forgotten conn self.old.kept } }
+        ensures run { FollowsAnywhere (run.Gone conn) self.old self.new }
     {
         self.forget(conn);
     }
 
     /// Forgets a connection that was hung up.
     pub fn drop_conn(&mut self, conn: u32)
-        ensures exact { self.new ≡ forgotten conn self.old }
-        ensures run { FollowsStep (run.HungUp conn) self.old self.new }
+        ensures exact { self.new ≡ record self.old { kept = forgotten conn self.old.kept } }
+        ensures run { FollowsAnywhere (run.HungUp conn) self.old self.new }
     {
         self.forget(conn);
     }
 
-    fn hear_event(&mut self, event: Event<'_>) -> Result<(), AllocError>
-        ensures ok { OnOk result (self.new ≡ held_after (step_of event.entry) self.old) }
-        ensures cause { OnErr result (TakesMemory (step_of event.entry) self.old) }
-        ensures kept { OnErr result (self.new ≡ self.old) }
+    fn hear_event<D: Dir>(&mut self, dir: &mut D, event: Event<'_>) -> Result<(), AllocError>
+        ensures ok { OnOk result (Hears event.entry (held (D.entries dir.old) self.old) (held (D.entries dir.new) self.new)) }
+        ensures cause { OnErr result (OpensOne event.entry self.old.kept) }
+        ensures kept { OnErr result (held (D.entries dir.new) self.new ≡ held (D.entries dir.old) self.old) }
     {
         match event {
             Event::Opened(conn) => self.open(conn),
-            Event::Bytes(conn, piece) => self.hear_piece(conn, piece),
+            Event::Bytes(conn, piece) => {
+                self.hear_piece(dir, conn, piece);
+                Ok(())
+            }
             Event::Ended(conn) => {
                 self.end(conn);
                 Ok(())
@@ -134,8 +154,8 @@ impl Hub {
     }
 
     fn open(&mut self, conn: u32) -> Result<(), AllocError>
-        ensures ok { OnOk result (self.new ≡ held_after (run.Opened conn) self.old) }
-        ensures cause { OnErr result (TakesMemory (run.Opened conn) self.old) }
+        ensures ok { OnOk result (HearsAnywhere (Event.Opened conn) self.old self.new) }
+        ensures cause { OnErr result (OpensOne (Event.Opened conn) self.old.kept) }
         ensures kept { OnErr result (self.new ≡ self.old) }
     {
         if is_at(&self.connections, conn) {
@@ -150,21 +170,20 @@ impl Hub {
     }
 
     fn end(&mut self, conn: u32)
-        ensures { self.new ≡ held_after (run.Ended conn) self.old }
+        ensures { HearsAnywhere (Event.Ended conn) self.old self.new }
     {
         end_at(&mut self.connections, conn);
     }
 
-    fn hear_piece(&mut self, conn: u32, piece: &[u8]) -> Result<(), AllocError>
-        ensures ok { OnOk result (self.new ≡ held_after (run.Bytes conn piece.now) self.old) }
-        ensures cause { OnErr result (TakesMemory (run.Bytes conn piece.now) self.old) }
-        ensures kept { OnErr result (self.new ≡ self.old) }
+    fn hear_piece<D: Dir>(&mut self, dir: &mut D, conn: u32, piece: &[u8])
+        ensures { Hears (Event.Bytes conn piece.entry) (held (D.entries dir.old) self.old) (held (D.entries dir.new) self.new) }
     {
-        hear_at(self.alloc, &mut self.connections, conn, piece)
+        let cut = hear_at(self.alloc, dir, &mut self.connections, conn, piece);
+        self.was_cut |= cut;
     }
 
     fn forget(&mut self, conn: u32)
-        ensures { self.new ≡ forgotten conn self.old }
+        ensures { self.new ≡ record self.old { kept = forgotten conn self.old.kept } }
     {
         forget_at(&mut self.connections, conn);
     }

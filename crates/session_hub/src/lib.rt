@@ -1,17 +1,20 @@
 //! The hub of all sessions (RFC 4511 5): it hears what connections send, and answers each message.
 #![tactic(auto)]
 
+mod block;
 mod connection;
 mod ended;
 mod event;
 mod hub;
 mod messages;
-mod outcome;
 mod places;
 mod requester;
+mod sent;
 mod serve;
 mod serving;
+mod spoken;
 mod stream;
+mod waiting;
 
 pub use ended::Ended;
 pub use event::Event;

@@ -3,10 +3,11 @@
 ghost use Rattle.std.specs.Prelude.{◌≡◌, ◌++◌, length, IfOk, OnOk, OnErr, Some, None};
 ghost use Rattle.ldap_msg.specs.Streams.{frame_at};
 ghost use Rattle.session_hub.specs.Answering.{rules, reply_to as reply_of, response_to as response_of, bind_code as code_of, auth_code, simple_code, is_unbind, requester_after, octets_of, answer_read, coded};
+ghost use Rattle.session_hub.specs.Parties.{DirectoryEntries, Requester};
 ghost use Rattle.session_hub.specs.Answers.{Gives};
 
 use crate::Requester;
-use crate::outcome::Outcome;
+use acdf_core::Dir;
 use ldap_msg::{
     Auth, BindRequest, Frame, LdapResult, Message, ReadFault, Reply, Request, put_notice,
     put_reply, read_request,
@@ -89,12 +90,12 @@ fn reply_to(alloc: Global, message: &Message) -> Option<Reply>
     }
 }
 
-fn who_after(who: Requester, request: &Request) -> Requester
-    ensures { result ≡ requester_after who request.now }
+/// A bind makes the requester anonymous; no other request changes it.
+fn ask_next(who: &mut Requester, request: &Request)
+    ensures { who.new ≡ requester_after who.old request.now }
 {
-    match request {
-        Request::Bind(_) => Requester::Anonymous,
-        _ => who,
+    if let Request::Bind(_) = request {
+        *who = Requester::Anonymous;
     }
 }
 
@@ -118,46 +119,52 @@ fn put_answer(alloc: Global, message: &Message, out: &mut Vec<u8>) -> Result<(),
 #[tactic(auto, unfolding(crate::specs::Answering::rules))]
 fn answer_message(
     alloc: Global,
-    who: Requester,
+    who: &mut Requester,
     message: &Message,
     out: &mut Vec<u8>,
-) -> Result<Outcome, AllocError>
-    ensures ok { IfOk result (λ outcome. Gives (answer_read tt who (Some message.now)) out.old.items out.new.items outcome) }
+) -> Result<bool, AllocError>
+    ensures ok { IfOk result (λ closes. (entries : DirectoryEntries) →
+        Gives (answer_read entries who.old (Some message.now)) out.old.items out.new.items entries who.new closes) }
     ensures err { OnErr result (out.new.items ≡ out.old.items) }
+    ensures kept { OnErr result (who.new ≡ who.old) }
 {
     put_answer(alloc, message, out)?;
-    Ok(Outcome {
-        who: who_after(who, &message.request),
-        closes: closes_after(&message.request),
-    })
+    ask_next(who, &message.request);
+    Ok(closes_after(&message.request))
 }
 
 #[tactic(auto, unfolding(crate::specs::Answering::rules))]
-fn refuse_octets(who: Requester, out: &mut Vec<u8>) -> Result<Outcome, AllocError>
-    ensures ok { IfOk result (λ outcome. Gives (answer_read tt who None) out.old.items out.new.items outcome) }
+fn refuse_octets(out: &mut Vec<u8>) -> Result<bool, AllocError>
+    ensures ok { IfOk result (λ closes. (entries : DirectoryEntries) (who : Requester) →
+        Gives (answer_read entries who None) out.old.items out.new.items entries who closes) }
     ensures err { OnErr result (out.new.items ≡ out.old.items) }
 {
     put_notice(out)?;
-    Ok(Outcome { who, closes: true })
+    Ok(true)
 }
 
-/// Answers the octets of one message for the requester, and appends the reply, if there is one
-/// (RFC 4511 4.1.1). Octets that are no message get the notice of disconnection (4.4.1).
-/// `AllocError` comes for want of memory alone, and then nothing was appended.
+/// Answers the octets of one message for the requester, appends the reply, if there is one
+/// (RFC 4511 4.1.1), and says whether the connection closes. Octets that are no message get the
+/// notice of disconnection (4.4.1). `AllocError` comes for want of memory alone, and then all is as
+/// it was.
 #[tactic(auto, unfolding(crate::specs::Answering::rules))]
-pub fn answer(
+pub fn answer<D: Dir>(
     alloc: Global,
-    who: Requester,
+    dir: &mut D,
+    who: &mut Requester,
     bytes: &[u8],
     out: &mut Vec<u8>,
-) -> Result<Outcome, AllocError>
+) -> Result<bool, AllocError>
     requires { frame_at bytes.now ≡ Frame.Whole (length bytes.now) }
-    ensures ok { IfOk result (λ outcome. Gives (rules.answer tt who bytes.now) out.old.items out.new.items outcome) }
+    ensures ok { IfOk result (λ closes. Gives (rules.answer (D.entries dir.old) who.old bytes.now)
+        out.old.items out.new.items (D.entries dir.new) who.new closes) }
     ensures err { OnErr result (out.new.items ≡ out.old.items) }
+    ensures asker { OnErr result (who.new ≡ who.old) }
+    ensures entries { OnErr result (D.entries dir.new ≡ D.entries dir.old) }
 {
     match read_request(alloc, bytes) {
         Ok(message) => answer_message(alloc, who, &message, out),
         Err(ReadFault::NoMemory) => Err(AllocError),
-        Err(ReadFault::BadMessage) => refuse_octets(who, out),
+        Err(ReadFault::BadMessage) => refuse_octets(out),
     }
 }

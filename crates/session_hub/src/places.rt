@@ -1,12 +1,12 @@
 //! Where a connection stands among those held.
 
-ghost use Rattle.std.specs.Prelude.{◌≡◌, ◌≤◌, length, MatchOption, None, OnOk, OnErr};
-ghost use Rattle.session_model.specs.Kept.{kept_of, is_kept, queue_of, closing_of, forgotten, taken_off, changed, closed};
-ghost use Rattle.session_model.specs.Run.{Bytes};
-ghost use Rattle.session_hub.specs.Hubs.{IsAt, IsBounded, held_after, TakesMemory};
+ghost use Rattle.std.specs.Prelude.{◌≡◌, ◌≤◌, length, MatchOption, None};
+ghost use Rattle.session_model.specs.Kept.{kept_of, is_kept, queue_of, closing_of, cut_of, forgotten, taken_off, changed, closed};
+ghost use Rattle.session_hub.specs.Hubs.{IsAt, IsBounded, HearsAt};
 
 use crate::connection::Connection;
-use std::alloc::{AllocError, Global};
+use acdf_core::Dir;
+use std::alloc::Global;
 
 /// The place of the first connection with the number.
 pub fn place_of(connections: &[Connection], number: u32) -> Option<usize>
@@ -71,27 +71,37 @@ pub fn end_at(connections: &mut [Connection], number: u32)
     }
 }
 
-/// The connection with the number hears a piece, unless it is closing. After `AllocError` all
-/// connections are as they were.
-pub fn hear_at(
+/// Where the connection with the number was cut.
+pub fn cut_at(connections: &[Connection], number: u32) -> Option<u64>
+    ensures { result ≡ cut_of number connections.now }
+{
+    match place_of(connections, number) {
+        Some(at) => connections[at].cut(),
+        None => None,
+    }
+}
+
+/// The connection with the number hears a piece, unless it is closing. The answer says whether it
+/// was cut in this.
+pub fn hear_at<D: Dir>(
     alloc: Global,
+    dir: &mut D,
     connections: &mut [Connection],
     number: u32,
     piece: &[u8],
-) -> Result<(), AllocError>
-    ensures ok { OnOk result (connections.new ≡ held_after (Bytes number piece.now) connections.old) }
-    ensures cause { OnErr result (TakesMemory (Bytes number piece.now) connections.old) }
-    ensures kept { OnErr result (connections.new ≡ connections.old) }
+) -> bool
+    ensures exact { HearsAt number piece.now (D.entries dir.old) connections.old (D.entries dir.new) connections.new result }
     ensures bounded { IsBounded connections.old → IsBounded connections.new }
 {
     match place_of(connections, number) {
-        None => Ok(()),
+        None => false,
         Some(at) => {
             let connection = &mut connections[at];
             if connection.is_closing() {
-                return Ok(());
+                return false;
             }
-            connection.hear(alloc, piece)
+            connection.hear(alloc, dir, piece);
+            connection.cut().is_some()
         }
     }
 }

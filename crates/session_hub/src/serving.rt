@@ -1,140 +1,185 @@
 //! One event of a link, served.
 
-ghost use Rattle.std.specs.Prelude.{◌≡◌, ◌<◌, Bool, false, [], length, OnOk, OnErr};
-ghost use Rattle.plain_values.specs.Counts.{NeverFalls};
-ghost use Rattle.session_model.specs.Kept.{queue_of, forgotten};
-ghost use Rattle.session_model.specs.Serving.{Sound};
-ghost use Rattle.wire_io.specs.Telling.{NoteTells};
-ghost use Rattle.wire_io.specs.declared.journal.Event.TheVariants as event;
-ghost use Rattle.wire_io.specs.declared.journal.Item.TheVariants as item;
+ghost use Rattle.std.specs.Prelude.{◌≡◌, false, [], ◌∷◌, List, ℕ, OnOk};
+ghost use Rattle.session_model.specs.Keeping.{is_listed};
+ghost use Rattle.session_model.specs.Kept.{Held};
+ghost use Rattle.session_model.specs.Serving.{Leads};
+ghost use Rattle.session_model.specs.Working.{Refused, Lost};
+ghost use Rattle.session_hub.specs.Parties.{DirectoryEntries, Requester};
 ghost use Rattle.session_hub.specs.Answering.{rules};
-ghost use Rattle.session_hub.specs.Telling.{journal_event_of, IsOf};
-ghost use Rattle.session_hub.specs.Adding.{Adds, Never, OthersStay, IsCalm, IsBusy, IsSent, IsHeard};
-ghost use Rattle.session_hub.specs.Loops.{HangsUpRefused};
+ghost use Rattle.session_hub.specs.Hubs.{held};
+ghost use Rattle.session_hub.specs.Adding.{Adds, OnlyServes, IsServing, IsSent, IsFree, SentAs, After};
 
-use crate::{Event, Hub, MAX_CONNECTIONS};
+use crate::Hub;
+use crate::sent::Sent;
+use crate::waiting::Waiting;
 use std::alloc::AllocError;
-use wire_io::{Heard, Link, Took};
+use wire_io::{Link, Took};
 
-/// Forgets a connection that takes no more, and hangs it up. Nothing else is said of the journal: a
-/// write was refused before.
-fn drop_lost<L: Link>(hub: &mut Hub, link: &mut L, conn: u32) -> Result<(), AllocError>
-    ensures ok { (turned : Bool) → OnOk result (Adds (L.plan link.old)
-        Never (IsBusy conn turned hub.new) (L.journal link.old) (L.journal link.new)) }
-    ensures err { OnErr result (Adds (L.plan link.old)
-        Never (Sound rules tt) (L.journal link.old) (L.journal link.new)) }
-    ensures hung_up { NoteTells (L.journal link.old) (item.HungUp conn) result (L.journal link.new) }
-    ensures forgets { hub.new ≡ forgotten conn hub.old }
-    ensures plan { L.plan link.new ≡ L.plan link.old }
-    ensures faults { L.faults link.new ≡ L.faults link.old }
-    ensures lost { NeverFalls (L.lost link.old) (L.lost link.new) }
+/// Sends the connection's queue as far as the link takes it.
+pub fn send_queue<L: Link>(hub: &mut Hub, link: &mut L, conn: u32) -> Result<Sent, AllocError>
+    ensures adds { (start tree : DirectoryEntries) (due on_hold : List ℕ) → Adds (L.plan link.old)
+        (IsServing start (conn ∷ due) (held tree hub.old) on_hold)
+        (SentAs result start conn due (held tree hub.new) on_hold) (L.journal link.old) (L.journal link.new) }
+    ensures serves { OnlyServes (L.plan link.old) (L.plan link.new) (L.faults link.old) (L.faults link.new) (L.lost link.old) (L.lost link.new) }
+{
+    'sending: loop {
+        let queue = hub.queue(conn);
+        if queue.is_empty() {
+            return Ok(Sent::All);
+        }
+        match link.write(conn, queue) {
+            Took::Took(count) => hub.took(conn, count),
+            Took::Later => return Ok(Sent::Later),
+            Took::Gone => return Ok(Sent::Gone),
+            Took::NoMemory => return Err(AllocError),
+        }
+    }
+}
+
+/// Forgets a connection that was found lost, and hangs it up.
+fn drop_lost<L: Link>(
+    hub: &mut Hub,
+    waiting: &mut Waiting,
+    link: &mut L,
+    conn: u32,
+) -> Result<(), AllocError>
+    ensures adds { (start tree : DirectoryEntries) (due : List ℕ) → Adds (L.plan link.old)
+        (Lost rules start conn due (held tree hub.old) waiting.old.on_hold.items)
+        (After result start tree (IsServing start due (held tree hub.new) waiting.new.on_hold.items))
+        (L.journal link.old) (L.journal link.new) }
+    ensures due { waiting.new.due.items ≡ waiting.old.due.items }
+    ensures serves { OnlyServes (L.plan link.old) (L.plan link.new) (L.faults link.old) (L.faults link.new) (L.lost link.old) (L.lost link.new) }
 {
     hub.gone(conn);
-    link.hang_up(conn)
-}
-
-/// Sends octets of the connection's queue. A connection that takes no more now, or was found lost,
-/// is forgotten and hung up, and nothing of it is queued any more.
-fn send_some<L: Link>(hub: &mut Hub, link: &mut L, conn: u32) -> Result<(), AllocError>
-    requires { 0 < length (queue_of conn hub.old) }
-    ensures ok { (turned : Bool) → OnOk result (Adds (L.plan link.old)
-        (IsBusy conn turned hub.old) (IsBusy conn turned hub.new) (L.journal link.old) (L.journal link.new)) }
-    ensures err { (turned : Bool) → OnErr result (Adds (L.plan link.old)
-        (IsBusy conn turned hub.old) (Sound rules tt) (L.journal link.old) (L.journal link.new)) }
-    ensures falls { OnOk result (length (queue_of conn hub.new) < length (queue_of conn hub.old)) }
-    ensures others { OthersStay conn hub.old hub.new }
-    ensures refused { OnOk result (HangsUpRefused (L.journal link.old) (L.journal link.new)) }
-    ensures plan { L.plan link.new ≡ L.plan link.old }
-    ensures faults { L.faults link.new ≡ L.faults link.old }
-    ensures lost { NeverFalls (L.lost link.old) (L.lost link.new) }
-{
-    match link.write(conn, hub.queue(conn)) {
-        Took::Took(count) => {
-            hub.took(conn, count);
+    match link.hang_up(conn) {
+        Ok(()) => {
+            waiting.release(conn);
             Ok(())
         }
-        Took::NoMemory => Err(AllocError),
-        Took::Later | Took::Gone => drop_lost(hub, link, conn),
+        Err(_) => Err(AllocError),
     }
 }
 
-/// Sends the connection's queue, or hangs the connection up where it takes no more.
-pub fn send_queue<L: Link>(hub: &mut Hub, link: &mut L, conn: u32) -> Result<(), AllocError>
-    ensures ok { (turned : Bool) → OnOk result (Adds (L.plan link.old)
-        (IsBusy conn turned hub.old) (IsSent conn turned hub.new) (L.journal link.old) (L.journal link.new)) }
-    ensures err { (turned : Bool) → OnErr result (Adds (L.plan link.old)
-        (IsBusy conn turned hub.old) (Sound rules tt) (L.journal link.old) (L.journal link.new)) }
-    ensures others { OthersStay conn hub.old hub.new }
-    ensures refused { OnOk result (HangsUpRefused (L.journal link.old) (L.journal link.new)) }
-    ensures plan { L.plan link.new ≡ L.plan link.old }
-    ensures faults { L.faults link.new ≡ L.faults link.old }
-    ensures lost { NeverFalls (L.lost link.old) (L.lost link.new) }
+/// Puts a connection on hold that takes no more now, unless it is on hold already.
+fn hold_back<L: Link>(waiting: &mut Waiting, link: &mut L, conn: u32) -> Result<(), AllocError>
+    ensures adds { (start : DirectoryEntries) (due : List ℕ) (hub : Held DirectoryEntries Requester) → Adds (L.plan link.old)
+        (Refused rules start conn due hub waiting.old.on_hold.items)
+        (After result start hub.tree (IsServing start due hub waiting.new.on_hold.items))
+        (L.journal link.old) (L.journal link.new) }
+    ensures due { waiting.new.due.items ≡ waiting.old.due.items }
+    ensures serves { OnlyServes (L.plan link.old) (L.plan link.new) (L.faults link.old) (L.faults link.new) (L.lost link.old) (L.lost link.new) }
 {
-    'sending: while !hub.queue(conn).is_empty() {
-        send_some(hub, link, conn)?;
+    if waiting.is_on_hold(conn) {
+        return Ok(());
     }
-    Ok(())
+    match waiting.hold(conn) {
+        Ok(()) => link.hold(conn),
+        Err(_) => Err(AllocError),
+    }
 }
 
-/// Ends the block of a connection: its queue is sent, and it is hung up if it is closing.
-pub fn finish<L: Link>(hub: &mut Hub, link: &mut L, conn: u32) -> Result<(), AllocError>
-    ensures ok { OnOk result (Adds (L.plan link.old)
-        (IsBusy conn false hub.old) (IsCalm hub.new) (L.journal link.old) (L.journal link.new)) }
-    ensures err { OnErr result (Adds (L.plan link.old)
-        (IsBusy conn false hub.old) (Sound rules tt) (L.journal link.old) (L.journal link.new)) }
-    ensures others { OthersStay conn hub.old hub.new }
-    ensures refused { OnOk result (HangsUpRefused (L.journal link.old) (L.journal link.new)) }
-    ensures plan { L.plan link.new ≡ L.plan link.old }
-    ensures faults { L.faults link.new ≡ L.faults link.old }
-    ensures lost { NeverFalls (L.lost link.old) (L.lost link.new) }
+/// Releases a connection to which nothing is left to be sent, if it is on hold.
+fn let_go<L: Link>(waiting: &mut Waiting, link: &mut L, conn: u32) -> Result<(), AllocError>
+    ensures adds { (start : DirectoryEntries) (due : List ℕ) (hub : Held DirectoryEntries Requester) → Adds (L.plan link.old)
+        (IsSent start conn due hub waiting.old.on_hold.items)
+        (After result start hub.tree (IsFree start conn due hub waiting.new.on_hold.items))
+        (L.journal link.old) (L.journal link.new) }
+    ensures due { waiting.new.due.items ≡ waiting.old.due.items }
+    ensures serves { OnlyServes (L.plan link.old) (L.plan link.new) (L.faults link.old) (L.faults link.new) (L.lost link.old) (L.lost link.new) }
 {
-    send_queue(hub, link, conn)?;
+    if !waiting.is_on_hold(conn) {
+        return Ok(());
+    }
+    match link.release(conn) {
+        Ok(()) => {
+            waiting.release(conn);
+            Ok(())
+        }
+        Err(_) => Err(AllocError),
+    }
+}
+
+/// Hangs up a connection to which nothing is left to be sent, if it is closing.
+fn hang_up_closing<L: Link>(hub: &mut Hub, link: &mut L, conn: u32) -> Result<(), AllocError>
+    ensures adds { (start tree : DirectoryEntries) (due on_hold : List ℕ) → Adds (L.plan link.old)
+        (IsFree start conn due (held tree hub.old) on_hold)
+        (After result start tree (IsServing start due (held tree hub.new) on_hold))
+        (L.journal link.old) (L.journal link.new) }
+    ensures serves { OnlyServes (L.plan link.old) (L.plan link.new) (L.faults link.old) (L.faults link.new) (L.lost link.old) (L.lost link.new) }
+{
     if !hub.closing(conn) {
         return Ok(());
     }
-    link.hang_up(conn)?;
-    hub.drop_conn(conn);
-    Ok(())
-}
-
-/// Begins with a connection that opens: it is held where there is room, and else hung up.
-pub fn greet<L: Link>(hub: &mut Hub, link: &mut L, conn: u32) -> Result<(), AllocError>
-    ensures ok { OnOk result (Adds (L.plan link.old)
-        (IsHeard hub.old (event.Opened conn)) (IsCalm hub.new) (L.journal link.old) (L.journal link.new)) }
-    ensures err { OnErr result (Adds (L.plan link.old)
-        (IsHeard hub.old (event.Opened conn)) (Sound rules tt) (L.journal link.old) (L.journal link.new)) }
-    ensures refused { OnOk result (HangsUpRefused (L.journal link.old) (L.journal link.new)) }
-    ensures plan { L.plan link.new ≡ L.plan link.old }
-    ensures faults { L.faults link.new ≡ L.faults link.old }
-    ensures lost { NeverFalls (L.lost link.old) (L.lost link.new) }
-{
-    let has_room = hub.count() < MAX_CONNECTIONS;
-    hub.hear(Event::Opened(conn))?;
-    if has_room {
-        return Ok(());
+    match link.hang_up(conn) {
+        Ok(()) => {
+            hub.drop_conn(conn);
+            Ok(())
+        }
+        Err(_) => Err(AllocError),
     }
-    link.hang_up(conn)?;
-    hub.drop_conn(conn);
-    Ok(())
 }
 
-/// Hears what came on a connection, and ends its block.
-pub fn hear_and_finish<L: Link>(
+/// Ends what is to be done for a connection whose queue was sent.
+fn finish<L: Link>(
     hub: &mut Hub,
+    waiting: &mut Waiting,
     link: &mut L,
     conn: u32,
-    heard: Event<'_>,
 ) -> Result<(), AllocError>
-    requires { IsOf conn heard }
-    ensures ok { OnOk result (Adds (L.plan link.old)
-        (IsHeard hub.old (journal_event_of heard.entry)) (IsCalm hub.new) (L.journal link.old) (L.journal link.new)) }
-    ensures err { OnErr result (Adds (L.plan link.old)
-        (IsHeard hub.old (journal_event_of heard.entry)) (Sound rules tt) (L.journal link.old) (L.journal link.new)) }
-    ensures refused { OnOk result (HangsUpRefused (L.journal link.old) (L.journal link.new)) }
-    ensures plan { L.plan link.new ≡ L.plan link.old }
-    ensures faults { L.faults link.new ≡ L.faults link.old }
-    ensures lost { NeverFalls (L.lost link.old) (L.lost link.new) }
+    ensures adds { (start tree : DirectoryEntries) (due : List ℕ) → Adds (L.plan link.old)
+        (IsSent start conn due (held tree hub.old) waiting.old.on_hold.items)
+        (After result start tree (IsServing start due (held tree hub.new) waiting.new.on_hold.items))
+        (L.journal link.old) (L.journal link.new) }
+    ensures due { waiting.new.due.items ≡ waiting.old.due.items }
+    ensures serves { OnlyServes (L.plan link.old) (L.plan link.new) (L.faults link.old) (L.faults link.new) (L.lost link.old) (L.lost link.new) }
 {
-    hub.hear(heard)?;
-    finish(hub, link, conn)
+    match let_go(waiting, link, conn) {
+        Ok(()) => hang_up_closing(hub, link, conn),
+        Err(_) => Err(AllocError),
+    }
+}
+
+/// Does what is due for a connection: its queue is sent, and it is held back where it takes no more
+/// now, dropped where it was found lost, and hung up where it is closing and nothing is left.
+pub fn settle<L: Link>(
+    hub: &mut Hub,
+    waiting: &mut Waiting,
+    link: &mut L,
+    conn: u32,
+) -> Result<(), AllocError>
+    ensures adds { (start tree : DirectoryEntries) (due : List ℕ) → Adds (L.plan link.old)
+        (IsServing start (conn ∷ due) (held tree hub.old) waiting.old.on_hold.items)
+        (After result start tree (IsServing start due (held tree hub.new) waiting.new.on_hold.items))
+        (L.journal link.old) (L.journal link.new) }
+    ensures due { waiting.new.due.items ≡ waiting.old.due.items }
+    ensures serves { OnlyServes (L.plan link.old) (L.plan link.new) (L.faults link.old) (L.faults link.new) (L.lost link.old) (L.lost link.new) }
+{
+    match send_queue(hub, link, conn) {
+        Ok(Sent::All) => finish(hub, waiting, link, conn),
+        Ok(Sent::Later) => hold_back(waiting, link, conn),
+        Ok(Sent::Gone) => drop_lost(hub, waiting, link, conn),
+        Err(_) => Err(AllocError),
+    }
+}
+
+/// Does what is due for each connection that is.
+pub fn settle_all<L: Link>(
+    hub: &mut Hub,
+    waiting: &mut Waiting,
+    link: &mut L,
+) -> Result<(), AllocError>
+    ensures adds { (start tree : DirectoryEntries) → Adds (L.plan link.old)
+        (IsServing start waiting.old.due.items (held tree hub.old) waiting.old.on_hold.items)
+        (After result start tree (IsServing start [] (held tree hub.new) waiting.new.on_hold.items))
+        (L.journal link.old) (L.journal link.new) }
+    ensures serves { OnlyServes (L.plan link.old) (L.plan link.new) (L.faults link.old) (L.faults link.new) (L.lost link.old) (L.lost link.new) }
+{
+    'settling: while let Some(conn) = waiting.next_due() {
+        match settle(hub, waiting, link, conn) {
+            Ok(()) => {}
+            Err(_) => return Err(AllocError),
+        }
+    }
+    Ok(())
 }

@@ -1,13 +1,13 @@
 -- What a server holds stays what its sessions show, as a piece or the end of a connection's octets is heard.
-use Rattle.std.proofs.Common.{◌≡◌, ◌≤◌, ℕ, Bool, true, false, cond, not, ◌&&◌, ◌||◌, List, [], ◌++◌, length, drop, Some, option_map, refl, ap, ap₂, sym, ◌∙◌, arith, length-append}
+use Rattle.std.proofs.Common.{◌≡◌, ◌≤◌, ℕ, Bool, true, false, cond, ◌||◌, List, [], ◌++◌, length, drop, Option, Some, option_map, refl, ap, ap₂, sym, ◌∙◌, arith, length-append}
 use Rattle.std.proofs.lemmas.List.{drop-append-le}
 use Rattle.std.proofs.Math.Seq.{drop-append_seam}
 use Rattle.std.proofs.lemmas.Bool.Decides.{nat_tests}
 use Rattle.ldap_msg.specs.Streams.{whole, rest_of, is_broken}
 use Rattle.ldap_msg.proofs.Theorems.{whole_append, rest_append, broken_rest}
-use Rattle.session_model.specs.Rules.{Rules, Answered, talk}
-use Rattle.session_model.specs.Run.{Session, Sessions, State, Open, Closing, TurnedAway, Away, Unopened, Bytes, Ended, is_held, held_numbers, with_session, step, hears, ended, notice_if, new_messages}
-use Rattle.session_model.specs.Kept.{Kept, Held, changed, closed, heard, hears_kept, speech}
+use Rattle.session_model.specs.Rules.{Rules, Answered, said}
+use Rattle.session_model.specs.Run.{Session, Sessions, State, Open, Closing, TurnedAway, Away, Unopened, Bytes, Ended, is_held, held_numbers, with_session, step, hears, ended, new_messages}
+use Rattle.session_model.specs.Kept.{Kept, Held, changed, closed, heard, hears_kept, speech, is_cut}
 use Rattle.session_model.specs.Keeping.{Keeps, shown}
 use Rattle.session_model.proofs.HeldLemmas.{held_among-same}
 use Rattle.session_model.proofs.KeptLemmas.{kept_of-changed, number-changed}
@@ -29,11 +29,11 @@ shown-held TurnedAway c t s k h = cc
 shown-held Away c t s k h = cc
 
 -- one session and what is kept of it change together
-Keeps-one : {T W : Type 0} (u : Sessions T W) (taken : ℕ → ℕ) (h : Held T W) (c : ℕ) (t v : T) (s : Session W) (k : Kept W) → Keeps u taken h →
+Keeps-one : {T W : Type 0} (u : Sessions T W) (taken : ℕ → ℕ) (h : Held T W) (c : ℕ) (t v : T) (s : Session W) (k : Kept W) (was_cut : Bool) → Keeps u taken h →
     is_held (u.of c).state ≡ true → is_held s.state ≡ true → k.number ≡ c → shown s.state c (taken c) s ≡ Some k → taken c ≤ length s.reply → v ≡ t →
-    Keeps (record { tree = t; opened = u.opened; of = with_session c s u.of }) taken (record { tree = v; kept = changed c (λ _. k) h.kept })
+    Keeps (record { tree = t; opened = u.opened; of = with_session c s u.of }) taken (record { tree = v; kept = changed c (λ _. k) h.kept; was_cut = was_cut })
 unfolding held_numbers
-Keeps-one u taken h c t v s k keeps held_before held_now number shows fits same =
+Keeps-one u taken h c t v s k was_cut keeps held_before held_now number shows fits same =
     record {
       tree = same;
       numbers = number-changed c (λ _. k) (λ _ _. number) h.kept ∙ keeps.numbers ∙ sym (held_among-same u.of c s (held_now ∙ sym held_before) u.opened);
@@ -43,22 +43,22 @@ Keeps-one u taken h c t v s k keeps held_before held_now number shows fits same 
     }
 
 -- the session after a piece, by what is said to it
-abbrev session_after : {T W : Type 0} → List ℕ → Session W → Answered T W → Session W
-session_after piece s a = record { stream = s.stream ++ piece; who = a.who; reply = s.reply ++ a.replies; state = cond a.closes Closing Open }
+abbrev session_after : {T W : Type 0} → List ℕ → Option ℕ → Session W → Answered T W → Session W
+session_after piece cut s a = record { stream = s.stream ++ piece; who = a.who; reply = s.reply ++ a.replies; state = cond a.closes Closing Open; cut = cut }
 
 -- what is kept of it
-abbrev kept_after : {T W : Type 0} → ℕ → ℕ → List ℕ → Session W → Answered T W → Kept W
-kept_after c t piece s a =
-    record { number = c; rest = cond a.closes [] (rest_of (rest_of s.stream ++ piece)); who = a.who; queue = drop t s.reply ++ a.replies; closing = a.closes }
+abbrev kept_after : {T W : Type 0} → ℕ → ℕ → List ℕ → Option ℕ → Session W → Answered T W → Kept W
+kept_after c t piece cut s a =
+    record { number = c; rest = cond a.closes [] (rest_of (rest_of s.stream ++ piece)); who = a.who; queue = drop t s.reply ++ a.replies; closing = a.closes; cut = cut }
 
-shown-after : {T W : Type 0} (c t : ℕ) (piece : List ℕ) (s : Session W) (a : Answered T W) → t ≤ length s.reply →
-    shown (session_after piece s a).state c t (session_after piece s a) ≡ Some (kept_after c t piece s a)
-shown-after c t piece s a fits =
+shown-after : {T W : Type 0} (c t : ℕ) (piece : List ℕ) (cut : Option ℕ) (s : Session W) (a : Answered T W) → t ≤ length s.reply →
+    shown (session_after piece cut s a).state c t (session_after piece cut s a) ≡ Some (kept_after c t piece cut s a)
+shown-after c t piece cut s a fits =
     elim a.closes as (λ b.
-    shown (cond b Closing Open) c t (record { stream = s.stream ++ piece; who = a.who; reply = s.reply ++ a.replies; state = cond b Closing Open })
-    ≡ Some (record { number = c; rest = cond b [] (rest_of (rest_of s.stream ++ piece)); who = a.who; queue = drop t s.reply ++ a.replies; closing = b })) [
-      | true ↦ ap (λ q. Some (record { number = c; rest = []; who = a.who; queue = q; closing = true })) (drop-append-le t s.reply a.replies fits)
-      | false ↦ ap₂ (λ x q. Some (record { number = c; rest = x; who = a.who; queue = q; closing = false })) (rest_append s.stream piece) (drop-append-le t s.reply a.replies fits)
+    shown (cond b Closing Open) c t (record { stream = s.stream ++ piece; who = a.who; reply = s.reply ++ a.replies; state = cond b Closing Open; cut = cut })
+    ≡ Some (record { number = c; rest = cond b [] (rest_of (rest_of s.stream ++ piece)); who = a.who; queue = drop t s.reply ++ a.replies; closing = b; cut = cut })) [
+      | true ↦ ap (λ q. Some (record { number = c; rest = []; who = a.who; queue = q; closing = true; cut = cut })) (drop-append-le t s.reply a.replies fits)
+      | false ↦ ap₂ (λ x q. Some (record { number = c; rest = x; who = a.who; queue = q; closing = false; cut = cut })) (rest_append s.stream piece) (drop-append-le t s.reply a.replies fits)
     ]
 
 held-after : (b : Bool) → is_held (cond b Closing Open) ≡ true
@@ -88,38 +88,33 @@ reply-ended Away s = refl
 
 module _ {T W : Type 0} (r : Rules T W) where
   -- what is said to the rest and the piece is what is said to the new messages of the stream
-  speech-piece : (t v : T) (w : W) (stream piece : List ℕ) → v ≡ t →
-      let a = talk r t w (new_messages stream piece) in
-      let fault = not a.closes && is_broken (stream ++ piece) in
-      let said : Answered T W = record { replies = a.replies ++ notice_if fault; tree = a.tree; who = a.who; closes = a.closes || fault } in
-      speech r v w (rest_of stream ++ piece) ≡ said
+  speech-piece : (cut : Option ℕ) (t v : T) (w : W) (stream piece : List ℕ) → v ≡ t →
+      speech r cut v w (rest_of stream ++ piece) ≡ said r cut t w (new_messages stream piece) (is_broken (stream ++ piece))
   unfolding speech
-  speech-piece t v w stream piece same = rw (same, new_messages-are stream piece, is_broken-piece stream piece) refl
+  speech-piece cut t v w stream piece same = rw (same, new_messages-are stream piece, is_broken-piece stream piece) refl
 
   -- by the state of the session that hears the piece
-  bytes_in : (u : Sessions T W) (taken : ℕ → ℕ) (h : Held T W) (c : ℕ) (piece : List ℕ) → Keeps u taken h → (st : State) → (u.of c).state ≡ st →
-      Keeps (hears r st u c piece) taken (hears_kept r (shown st c (taken c) (u.of c)) c piece h)
-  bytes_in u taken h c piece keeps Open is_open =
+  bytes_in : (u : Sessions T W) (taken : ℕ → ℕ) (h : Held T W) (c : ℕ) (piece : List ℕ) (cut : Option ℕ) → Keeps u taken h → (st : State) → (u.of c).state ≡ st →
+      Keeps (hears r st u c piece cut) taken (hears_kept r (shown st c (taken c) (u.of c)) c piece cut h)
+  bytes_in u taken h c piece cut keeps Open is_open =
       let s = u.of c in
-      let talked = talk r u.tree s.who (new_messages s.stream piece) in
-      let fault = not talked.closes && is_broken (s.stream ++ piece) in
-      let a : Answered T W = record { replies = talked.replies ++ notice_if fault; tree = talked.tree; who = talked.who; closes = talked.closes || fault } in
-      let b = speech r h.tree s.who (rest_of s.stream ++ piece) in
-      let same : b ≡ a = speech-piece u.tree h.tree s.who s.stream piece keeps.tree in
-      Keeps-one u taken h c a.tree b.tree (session_after piece s a) (kept_after c (taken c) piece s b) keeps
+      let a = said r cut u.tree s.who (new_messages s.stream piece) (is_broken (s.stream ++ piece)) in
+      let b = speech r cut h.tree s.who (rest_of s.stream ++ piece) in
+      let same : b ≡ a = speech-piece cut u.tree h.tree s.who s.stream piece keeps.tree in
+      Keeps-one u taken h c a.tree b.tree (session_after piece cut s a) (kept_after c (taken c) piece cut s b) (h.was_cut || is_cut cut) keeps
       (ap is_held is_open) (held-after a.closes) refl
-      (shown-after c (taken c) piece s a (keeps.within c) ∙ ap (λ (x : Answered T W). Some (kept_after c (taken c) piece s x)) (sym same))
+      (shown-after c (taken c) piece cut s a (keeps.within c) ∙ ap (λ (x : Answered T W). Some (kept_after c (taken c) piece cut s x)) (sym same))
       (rw length-append (let fits : taken c ≤ length s.reply = keeps.within c in omega arith))
       (ap (λ (x : Answered T W). x.tree) same)
-  bytes_in u taken h c piece keeps Closing e = keeps
-  bytes_in u taken h c piece keeps Unopened e = keeps
-  bytes_in u taken h c piece keeps TurnedAway e = keeps
-  bytes_in u taken h c piece keeps Away e = keeps
+  bytes_in u taken h c piece cut keeps Closing e = keeps
+  bytes_in u taken h c piece cut keeps Unopened e = keeps
+  bytes_in u taken h c piece cut keeps TurnedAway e = keeps
+  bytes_in u taken h c piece cut keeps Away e = keeps
 
-  pub Keeps-bytes : (u : Sessions T W) (taken : ℕ → ℕ) (h : Held T W) (c : ℕ) (piece : List ℕ) → Keeps u taken h →
-      Keeps (step r u (Bytes c piece)) taken (heard r (Bytes c piece) h)
+  pub Keeps-bytes : (u : Sessions T W) (taken : ℕ → ℕ) (h : Held T W) (c : ℕ) (piece : List ℕ) (cut : Option ℕ) → Keeps u taken h →
+      Keeps (step r u (Bytes c piece cut)) taken (heard r (Bytes c piece cut) h)
   unfolding step heard
-  Keeps-bytes u taken h c piece keeps = rw (keeps.each c) (bytes_in u taken h c piece keeps (u.of c).state refl)
+  Keeps-bytes u taken h c piece cut keeps = rw (keeps.each c) (bytes_in u taken h c piece cut keeps (u.of c).state refl)
 
   -- by the state of the session whose octets end
   ended_in : (u : Sessions T W) (taken : ℕ → ℕ) (h : Held T W) (c : ℕ) → Keeps u taken h → (st : State) → (u.of c).state ≡ st →

@@ -1,207 +1,158 @@
--- An event heard between two blocks begins the block of its connection.
-use Rattle.std.proofs.Common.{◌≡◌, ◌≢◌, ℕ, nat_lt, Bool, true, false, cond, not, List, [], ◌∷◌, ◌++◌, length, refl, ap, sym, ◌∙◌, append-nil, arith, inl, inr, subst}
-use Rattle.std.proofs.Math.Seq.{drop-append_seam}
-use Rattle.std.proofs.lemmas.Bool.Decides.{nat_tests, eqb_tells}
+-- An event heard between two blocks begins a block, in which its connection is due, and all that are on hold.
+use Rattle.std.proofs.Common.{◌≡◌, ◌≢◌, ◌≤◌, ◌||◌, ℕ, Bool, true, false, not, List, [], ◌∷◌, ◌++◌, length, map, Option, Some, None, refl, ap, sym, ◌∙◌, arith, subst, true≢false}
+use Rattle.std.proofs.lemmas.Bool.Decides.{nat_tests}
 use Rattle.wire_io.specs.declared.journal.Event.{Event}
 use Rattle.wire_io.specs.declared.journal.Event.TheVariants as event
 use Rattle.wire_io.specs.declared.journal.Item.{Item}
 use Rattle.wire_io.specs.declared.journal.Item.TheVariants as item
-use Rattle.wire_io.specs.Journal.{heard, taken_of, is_hung_up, was_opened, opens}
+use Rattle.wire_io.specs.Journal.{taken_of, is_hung_up, opens}
 use Rattle.session_model.specs.Rules.{Rules}
-use Rattle.session_model.specs.Run.{Session, Sessions, Open, TurnedAway, Unopened, Step, Opened, Bytes, Ended, step, start, held_numbers, most_held, newcomer}
-use Rattle.session_model.specs.Kept.{Held}
+use Rattle.session_model.specs.Run.{Session, Sessions, State, Open, Closing, TurnedAway, Away, Unopened, Step, Opened, Bytes, Ended, step, run, start}
+use Rattle.session_model.specs.Run as session
+use Rattle.session_model.specs.Kept.{Kept, Held, kept_of, hears_kept, is_cut}
 use Rattle.session_model.specs.Kept as kept
-use Rattle.session_model.specs.Keeping.{Keeps, is_listed}
-use Rattle.session_model.specs.Journaled.{step_of_event, steps_of_events}
-use Rattle.session_model.specs.Serving.{sessions, IsFront, Rightly}
-use Rattle.session_model.specs.Replaying.{is_away, is_leaving, replayed, replayed_from, number_of, hung_up}
-use Rattle.session_model.specs.Working.{Opening, Tracks, IsDone, Calm, Busy, is_turned}
-use Rattle.session_model.proofs.JournalLemmas.{heard-append, taken_of-heard, is_hung_up-heard, is_held-heard, was_opened-one}
-use Rattle.session_model.proofs.StepLemmas.{with_session-other, Speaks, step-other, bytes-speaks, end-speaks, bytes-opened, end-opened, replayed_from-append, replayed_from-one, steps_of_events-append, steps_of_events-one, with_session-same}
-use Rattle.session_model.proofs.CalmLemmas.{done_front, sessions-step, sessions-stay, sound_more, calm_settled}
+use Rattle.session_model.specs.Keeping.{Keeps, is_listed, shown}
+use Rattle.session_model.specs.Journaled.{step_of_event, is_event, uncut, cuts_of, cuts_at, HasNoCut}
+use Rattle.session_model.specs.Serving.{IsFront, Rightly, Stands}
+use Rattle.session_model.specs.Replaying.{is_away, is_leaving, number_of, hung_up}
+use Rattle.session_model.specs.Working.{Works, Covers, CutsOpen, is_open_in, is_turned, cuts_in}
+use Rattle.session_model.proofs.JournalLemmas.{Still, still-heard, was_opened-still, all_taken-front}
+use Rattle.session_model.proofs.StepLemmas.{Speaks, OpenFor, step-other, bytes-speaks, end-speaks, bytes-opened, end-opened, replayed-more, run_from-one, cuts_of-one, cuts_at-other}
+use Rattle.session_model.proofs.StandLemmas.{at_numbers, Keeps-as, front_as, front_more, stands_free, stands_unleaving}
+use Rattle.session_model.proofs.TrackLemmas.{RightlyNow, tracks_more, tracks_stay, front_now, settled_now}
+use Rattle.session_model.proofs.LeavingLemmas.{unleaving_same, one_left}
 use Rattle.session_model.proofs.BytesLemmas.{Keeps-bytes, Keeps-ended}
-use Rattle.session_model.proofs.KeepingLemmas.{Keeps-opened, length-kept}
-use Rattle.session_model.proofs.HeldLemmas.{is_listed-append}
 
--- what holds of one number and of each other holds of all
-pub at_numbers : (c : ℕ) (P : ℕ → Type 0) → P c → ((d : ℕ) → d ≢ c → P d) → (d : ℕ) → P d
-at_numbers c P here others d = elim (eqb_tells d c) [ inl e ↦ subst P (sym e.1) here | inr e ↦ others d e.1 ]
+-- who isn't due is another, and isn't among the others that are
+pub not_due : (d c : ℕ) (ws : List ℕ) → is_listed d (c ∷ ws) ≡ false → (d ≢ c) × (is_listed d ws ≡ false)
+not_due d c ws h = ((λ e. true≢false (sym (grind (arith, nat_tests)) ∙ h)), grind (arith, nat_tests))
 
--- so much taken, counted in another way
-pub Keeps-as : {T W : Type 0} (u : Sessions T W) (f g : ℕ → ℕ) (h : Held T W) → ((c : ℕ) → f c ≡ g c) → Keeps u f h → Keeps u g h
-Keeps-as u f g h same keeps =
-    record {
-      tree = keeps.tree;
-      numbers = keeps.numbers;
-      each = λ c. rw (← same c) (keeps.each c);
-      within = λ c. rw (← same c) (keeps.within c);
-      unopened = keeps.unopened;
-    }
+-- an open connection is shown open
+open_shown : {W : Type 0} (st : State) (c taken : ℕ) (s : Session W) → is_open_in (shown st c taken s) ≡ true → st ≡ Open
+open_shown Open c taken s h = refl
+open_shown Closing c taken s h = cc
+open_shown Unopened c taken s h = cc
+open_shown TurnedAway c taken s h = cc
+open_shown Away c taken s h = cc
 
--- more of a reply leaves what was taken a front of it
-pub more_front : {W : Type 0} (before after : List Item) (c : ℕ) (s s' : Session W) (more : List ℕ) → taken_of c after ≡ taken_of c before → taken_of c before ≡ s.reply →
-    s'.reply ≡ s.reply ++ more → IsFront after c s'
-more_front before after c s s' more same all reply =
-    rw (same, all, reply) (ap (λ xs. s.reply ++ xs) (sym (drop-append_seam s.reply more)))
+-- a cut comes to an open session
+cuts_open : {T W : Type 0} (u : Sessions T W) (taken : ℕ → ℕ) (h : Held T W) (c : ℕ) (cut : Option ℕ) → Keeps u taken h → CutsOpen c h.kept cut → OpenFor (u.of c).state cut
+cuts_open u taken h c None keeps fits = tt
+cuts_open u taken h c (Some count) keeps fits = open_shown (u.of c).state c (taken c) (u.of c) (ap is_open_in (sym (keeps.each c)) ∙ fits)
 
-is_away-newcomer : (room : Bool) → is_away (cond room Open TurnedAway) ≡ false
-is_away-newcomer room = elim room as (λ b. is_away (cond b Open TurnedAway) ≡ false) [ true ↦ refl | false ↦ refl ]
+-- a step of octets is cut where the hub was
+cut_kept : {T W : Type 0} (r : Rules T W) (h : Held T W) (c : ℕ) (piece : List ℕ) (cut : Option ℕ) (o : Option (Kept W)) → kept_of c h.kept ≡ o → CutsOpen c h.kept cut →
+    (hears_kept r o c piece cut h).was_cut ≡ (h.was_cut || is_cut cut)
+cut_kept r h c piece None None e fits = grind arith
+cut_kept r h c piece (Some count) None e fits = absurd (true≢false (sym fits ∙ ap is_open_in e))
+cut_kept r h c piece None (Some k) e fits = grind arith
+cut_kept r h c piece (Some count) (Some k) e fits = let still : not k.closing ≡ true = sym (ap is_open_in e) ∙ fits in grind arith
 
-is_leaving-newcomer : (room : Bool) → is_leaving (cond room Open TurnedAway) ≡ not room
-is_leaving-newcomer room = elim room as (λ b. is_leaving (cond b Open TurnedAway) ≡ not b) [ true ↦ refl | false ↦ refl ]
-
-is_turned-newcomer : (room : Bool) → is_turned (cond room Open TurnedAway) ≡ not room
-is_turned-newcomer room = elim room as (λ b. is_turned (cond b Open TurnedAway) ≡ not b) [ true ↦ refl | false ↦ refl ]
-
-pub done_as : {W : Type 0} (before after : List Item) (c : ℕ) (s s' : Session W) → taken_of c after ≡ taken_of c before → s' ≡ s → IsDone before c s → IsDone after c s'
-done_as {W} before after c s s' same is done = record { taken = same ∙ done.taken ∙ ap (λ (x : Session W). x.reply) (sym is); still = ap (λ (x : Session W). is_leaving x.state) is ∙ done.still }
+none_cut : (b : Bool) (c : ℕ) (piece : List ℕ) (cut : Option ℕ) → (b || is_cut cut) ≡ false → (b ≡ false) × HasNoCut (Bytes c piece cut ∷ [])
+none_cut false c piece None h = (refl, refl)
+none_cut true c piece None h = cc
+none_cut true c piece (Some count) h = cc
+none_cut false c piece (Some count) h = cc
 
 module _ {T W : Type 0} (r : Rules T W) (t : T) where
-  -- the events heard, replayed with one more
-  pub replayed-more : (journal : List Item) (e : Event) (s : Step) (u : Sessions T W) → step_of_event e ≡ s ∷ [] → replayed r t (steps_of_events (heard journal)) ≡ u →
-      replayed r t (steps_of_events (heard (journal ++ item.Heard e ∷ []))) ≡ hung_up r (number_of s) (step r u s)
-  replayed-more journal e s u is same =
-      ap (λ es. replayed r t (steps_of_events es)) (heard-append journal e)
-      ∙ ap (λ steps. replayed_from r (start r t) steps) (steps_of_events-append (heard journal) (e ∷ []) ∙ ap (λ xs. steps_of_events (heard journal) ++ xs) (steps_of_events-one e ∙ is))
-      ∙ replayed_from-append r (start r t) (steps_of_events (heard journal)) (s ∷ [])
-      ∙ replayed_from-one r (replayed r t (steps_of_events (heard journal))) s
-      ∙ ap (λ (v : Sessions T W). hung_up r (number_of s) (step r v s)) same
-
-  pub replayed-stay : (journal : List Item) (e : Event) (u : Sessions T W) → step_of_event e ≡ [] → replayed r t (steps_of_events (heard journal)) ≡ u →
-      replayed r t (steps_of_events (heard (journal ++ item.Heard e ∷ []))) ≡ u
-  replayed-stay journal e u is same =
-      ap (λ es. replayed r t (steps_of_events es)) (heard-append journal e)
-      ∙ ap (λ steps. replayed_from r (start r t) steps) (steps_of_events-append (heard journal) (e ∷ []) ∙ ap (λ xs. steps_of_events (heard journal) ++ xs) (steps_of_events-one e ∙ is) ∙ append-nil (steps_of_events (heard journal)))
-      ∙ same
-
-  right_event : (h : Held T W) (journal : List Item) (e : Event) → Calm r t h journal → Rightly r t journal (item.Heard e)
-  unfolding Rightly
-  right_event h journal e calm = calm_settled r t h journal calm
+  right_event : (h : Held T W) (on_hold : List ℕ) (journal : List Item) (e : Event) → (works : Works r t [] h on_hold journal) → RightlyNow r t works.now journal (item.Heard e)
+  unfolding Rightly RightlyNow
+  right_event h on_hold journal e works = λ steps is. settled_now r t steps works.now journal is (λ d. works.stands d refl)
 
   -- a piece, or the end of a peer's octets, begins a block
-  speaks_busy : (h h' : Held T W) (journal : List Item) (e : Event) (s : Step) → (calm : Calm r t h journal) → step_of_event e ≡ s ∷ [] →
-      ((d : ℕ) → opens d (item.Heard e) ≡ false) →
+  speaks_works : (h h' : Held T W) (on_hold ws : List ℕ) (journal : List Item) (e : Event) (s : Step) → (works : Works r t [] h on_hold journal) → Covers ws on_hold →
+      map uncut (s ∷ []) ≡ step_of_event e → is_event s ≡ true → ((d : ℕ) → opens d (item.Heard e) ≡ false) →
       ((u : Sessions T W) (taken : ℕ → ℕ) → Keeps u taken h → Keeps (step r u s) taken h') →
-      Speaks (calm.now.of (number_of s)) ((step r calm.now s).of (number_of s)) →
-      (step r calm.now s).opened ≡ calm.now.opened →
-      Busy r t (number_of s) false h' (journal ++ item.Heard e ∷ [])
-  speaks_busy h h' journal e s calm is no_opening keeping speaks opened =
+      Speaks (works.now.of (number_of s)) ((step r works.now s).of (number_of s)) (cuts_at (number_of s) s) →
+      (step r works.now s).opened ≡ works.now.opened →
+      (h'.was_cut ≡ false → (h.was_cut ≡ false) × HasNoCut (s ∷ [])) →
+      Works r t (number_of s ∷ ws) h' on_hold (journal ++ item.Heard e ∷ [])
+  speaks_works h h' on_hold ws journal e s works covers are is_one no_opening keeping speaks opened no_cut =
       let c = number_of s in
-      let u = calm.now in
+      let u = works.now in
       let v = step r u s in
       let after = journal ++ item.Heard e ∷ [] in
-      let now : sessions r t after ≡ v = sessions-step r t journal (item.Heard e) s is ∙ ap (λ (x : Sessions T W). step r x s) calm.tracks.is in
-      let front : IsFront after c (v.of c) = more_front journal after c (u.of c) (v.of c) speaks.more (taken_of-heard c journal e) (calm.done c).taken speaks.reply in
-      let others : (d : ℕ) → d ≢ c → IsDone after d (v.of d) =
-      λ d differs. done_as journal after d (u.of d) (v.of d) (taken_of-heard d journal e) (step-other r u s d differs) (calm.done d) in
+      let still : (d : ℕ) → Still d journal after = λ d. still-heard d journal e in
+      let other : (d : ℕ) → d ≢ c → v.of d ≡ u.of d = λ d differs. step-other r u s d differs in
+      let front : (d : ℕ) → IsFront journal d (u.of d) = λ d. front_now r t works.steps u h on_hold journal works.tracks d in
       record {
+        steps = works.steps ++ s ∷ [];
         now = v;
-        tracks = record {
-          is = now;
-          keeps = Keeps-as v _ _ h' (λ d. ap length (sym (taken_of-heard d journal e))) (keeping u (λ d. length (taken_of d journal)) calm.tracks.keeps);
-          hung = at_numbers c (λ d. is_hung_up d after ≡ is_away (v.of d).state)
-              (is_hung_up-heard c journal e ∙ calm.tracks.hung c ∙ sym speaks.away)
-              (λ d differs. is_hung_up-heard d journal e ∙ calm.tracks.hung d ∙ ap (λ (x : Session W). is_away x.state) (sym (step-other r u s d differs)));
-          free = λ d. is_held-heard d journal e ∙ calm.tracks.free d;
-          opened = λ d. was_opened-one d journal (item.Heard e) ∙ (let none : opens d (item.Heard e) ≡ false = no_opening d in let before : was_opened d journal ≡ is_listed d u.opened = calm.tracks.opened d in rw (none, opened) (grind arith));
+        tracks = tracks_more r t works.steps (s ∷ []) u v h h' on_hold on_hold journal (item.Heard e) works.tracks (record {
+          are = are;
+          goes = run_from-one r u s;
+          keeps = Keeps-as v _ _ h' (λ d. ap length (sym (still d).taken)) (keeping u (λ d. length (taken_of d journal)) works.tracks.keeps);
+          holds = λ d. (still d).on_hold ∙ works.tracks.holds d;
+          opened = λ d. was_opened-still d journal (item.Heard e) (no_opening d) ∙ works.tracks.opened d ∙ ap (is_listed d) (sym opened);
           fresh = at_numbers c (λ d. is_listed d v.opened ≡ false → (v.of d).state ≡ Unopened)
-              (λ unlisted. speaks.fresh (calm.tracks.fresh c (ap (is_listed c) (sym opened) ∙ unlisted)))
-              (λ d differs unlisted. ap (λ (x : Session W). x.state) (step-other r u s d differs) ∙ calm.tracks.fresh d (ap (is_listed d) (sym opened) ∙ unlisted));
-          sound = sound_more r t journal (item.Heard e) v calm.tracks.sound now
-              (at_numbers c (λ d. IsFront after d (v.of d)) front (λ d differs. done_front after d (v.of d) (others d differs).taken))
-              (right_event h journal e calm);
-        };
-        others = others;
-        front = front;
-        unheld = λ unheld. taken_of-heard c journal e ∙ (calm.done c).taken ∙ ap (λ (x : Session W). x.reply) (sym (speaks.unheld unheld));
-        away = speaks.turned (calm.done c).still;
-        same = replayed-more journal e s u is calm.same;
-      }
-
-  pub calm_bytes : (h : Held T W) (journal : List Item) (c : ℕ) (piece : List ℕ) → Calm r t h journal →
-      Busy r t c false (kept.heard r (Bytes c piece) h) (journal ++ item.Heard (event.Bytes c piece) ∷ [])
-  unfolding opens
-  calm_bytes h journal c piece calm =
-      speaks_busy h (kept.heard r (Bytes c piece) h) journal (event.Bytes c piece) (Bytes c piece) calm refl (λ _. refl)
-      (λ u taken keeps. Keeps-bytes r u taken h c piece keeps) (bytes-speaks r calm.now c piece) (bytes-opened r calm.now c piece)
-
-  pub calm_ended : (h : Held T W) (journal : List Item) (c : ℕ) → Calm r t h journal →
-      Busy r t c false (kept.heard r (Ended c) h) (journal ++ item.Heard (event.Ended c) ∷ [])
-  unfolding opens
-  calm_ended h journal c calm =
-      speaks_busy h (kept.heard r (Ended c) h) journal (event.Ended c) (Ended c) calm refl (λ _. refl)
-      (λ u taken keeps. Keeps-ended r u taken h c keeps) (end-speaks r calm.now c) (end-opened r calm.now c)
-
-  -- an event that is no step leaves all as it is
-  pub calm_idle : (h : Held T W) (journal : List Item) (e : Event) → step_of_event e ≡ [] → ((d : ℕ) → opens d (item.Heard e) ≡ false) → Calm r t h journal →
-      Calm r t h (journal ++ item.Heard e ∷ [])
-  calm_idle h journal e is no_opening calm =
-      let u = calm.now in
-      let after = journal ++ item.Heard e ∷ [] in
-      let now : sessions r t after ≡ u = sessions-stay r t journal (item.Heard e) is ∙ calm.tracks.is in
-      let done : (d : ℕ) → IsDone after d (u.of d) = λ d. done_as journal after d (u.of d) (u.of d) (taken_of-heard d journal e) refl (calm.done d) in
-      record {
-        now = u;
-        tracks = record {
-          is = now;
-          keeps = Keeps-as u _ _ h (λ d. ap length (sym (taken_of-heard d journal e))) calm.tracks.keeps;
-          hung = λ d. is_hung_up-heard d journal e ∙ calm.tracks.hung d;
-          free = λ d. is_held-heard d journal e ∙ calm.tracks.free d;
-          opened = λ d. was_opened-one d journal (item.Heard e) ∙ (let none : opens d (item.Heard e) ≡ false = no_opening d in let before : was_opened d journal ≡ is_listed d u.opened = calm.tracks.opened d in rw none (grind arith));
-          fresh = calm.tracks.fresh;
-          sound = sound_more r t journal (item.Heard e) u calm.tracks.sound now (λ d. done_front after d (u.of d) (done d).taken) (right_event h journal e calm);
-        };
-        done = done;
-        same = replayed-stay journal e u is calm.same;
-      }
-
-  -- a connection that opens begins a block, turned away where there is no room
-  pub calm_opened : (h : Held T W) (journal : List Item) (c : ℕ) → was_opened c journal ≡ false → Calm r t h journal →
-      Opening r t c (nat_lt (length h.kept) most_held) (kept.heard r (Opened c) h) (journal ++ item.Heard (event.Opened c) ∷ [])
-  unfolding step opens
-  calm_opened h journal c new calm =
-      let u = calm.now in
-      let e = event.Opened c in
-      let room = nat_lt (length (held_numbers u)) most_held in
-      let s = newcomer r (length (held_numbers u)) in
-      let v = step r u (Opened c) in
-      let after = journal ++ item.Heard e ∷ [] in
-      let now : sessions r t after ≡ v = sessions-step r t journal (item.Heard e) (Opened c) refl ∙ ap (λ (x : Sessions T W). step r x (Opened c)) calm.tracks.is in
-      let unlisted : is_listed c u.opened ≡ false = sym (calm.tracks.opened c) ∙ new in
-      let empty : (u.of c).reply ≡ [] = (calm.tracks.keeps.unopened c unlisted).0 in
-      let is : v.of c ≡ s = with_session-same c s u.of in
-      let other : (d : ℕ) → d ≢ c → v.of d ≡ u.of d = λ d differs. with_session-other c d s u.of differs in
-      let reply : (v.of c).reply ≡ (u.of c).reply ++ [] = ap (λ (x : Session W). x.reply) is ∙ sym empty ∙ sym (append-nil (u.of c).reply) in
-      let front : IsFront after c (v.of c) = more_front journal after c (u.of c) (v.of c) [] (taken_of-heard c journal e) (calm.done c).taken reply in
-      let others : (d : ℕ) → d ≢ c → IsDone after d (v.of d) =
-      λ d differs. done_as journal after d (u.of d) (v.of d) (taken_of-heard d journal e) (other d differs) (calm.done d) in
-      let same_room : room ≡ nat_lt (length h.kept) most_held = ap (λ n. nat_lt n most_held) (sym (length-kept r u (λ d. length (taken_of d journal)) h calm.tracks.keeps)) in
-      let told_nothing : taken_of c after ≡ (v.of c).reply = taken_of-heard c journal e ∙ (calm.done c).taken ∙ empty ∙ ap (λ (x : Session W). x.reply) (sym is) in
-      let tracks : Tracks r t v (kept.heard r (Opened c) h) after = record {
-        is = now;
-        keeps = Keeps-as v _ _ (kept.heard r (Opened c) h) (λ d. ap length (sym (taken_of-heard d journal e))) (Keeps-opened r u (λ d. length (taken_of d journal)) h c calm.tracks.keeps unlisted);
+              (λ unlisted. speaks.fresh (works.tracks.fresh c (ap (is_listed c) (sym opened) ∙ unlisted)))
+              (λ d differs unlisted. ap (λ (x : Session W). x.state) (other d differs) ∙ works.tracks.fresh d (ap (is_listed d) (sym opened) ∙ unlisted));
+          cuts = at_numbers c (λ d. cuts_of d (works.steps ++ s ∷ []) ≤ cuts_in (v.of d).state)
+              (rw (cuts_of-one c works.steps s) (speaks.cuts (cuts_of c works.steps) (works.tracks.cuts c)))
+              (λ d differs. rw (cuts_of-one d works.steps s, cuts_at-other d s differs, other d differs) (let fits : cuts_of d works.steps ≤ cuts_in (u.of d).state = works.tracks.cuts d in omega arith));
+          no_cut = no_cut;
+          fronts = at_numbers c (λ d. IsFront after d (v.of d))
+              (front_more journal after c (u.of c) (v.of c) speaks.more (still c).taken (front c) speaks.reply)
+              (λ d differs. subst (λ (x : Session W). IsFront after d x) (sym (other d differs)) (front_as journal after d (u.of d) (still d).taken (front d)));
+          right = right_event h on_hold journal e works;
+        });
         hung = at_numbers c (λ d. is_hung_up d after ≡ is_away (v.of d).state)
-            (is_hung_up-heard c journal e ∙ calm.tracks.hung c ∙ ap is_away (calm.tracks.fresh c unlisted) ∙ sym (is_away-newcomer room) ∙ ap (λ (x : Session W). is_away x.state) (sym is))
-            (λ d differs. is_hung_up-heard d journal e ∙ calm.tracks.hung d ∙ ap (λ (x : Session W). is_away x.state) (sym (other d differs)));
-        free = λ d. is_held-heard d journal e ∙ calm.tracks.free d;
-        opened = λ d. was_opened-one d journal (item.Heard e) ∙ (let before : was_opened d journal ≡ is_listed d u.opened = calm.tracks.opened d in grind (arith, nat_tests, is_listed-append d u.opened c));
-        fresh = at_numbers c (λ d. is_listed d v.opened ≡ false → (v.of d).state ≡ Unopened)
-            (λ listed. absurd (grind (arith, nat_tests, is_listed-append c u.opened c)))
-            (λ d differs listed. ap (λ (x : Session W). x.state) (other d differs) ∙ calm.tracks.fresh d (grind (arith, nat_tests, is_listed-append d u.opened c)));
-        sound = sound_more r t journal (item.Heard e) v calm.tracks.sound now
-            (at_numbers c (λ d. IsFront after d (v.of d)) front (λ d differs. done_front after d (v.of d) (others d differs).taken))
-            (right_event h journal e calm);
-      } in
+            ((still c).hung ∙ works.hung c ∙ sym speaks.away)
+            (λ d differs. (still d).hung ∙ works.hung d ∙ ap (λ (x : Session W). is_away x.state) (sym (other d differs)));
+        unturned = at_numbers c (λ d. is_turned (v.of d).state ≡ false) (speaks.turned (works.unturned c)) (λ d differs. ap (λ (x : Session W). is_turned x.state) (other d differs) ∙ works.unturned d);
+        stands = λ d apart. (let is = not_due d c ws apart in
+            subst (λ (x : Session W). Stands x.state after d x) (sym (other d is.0))
+            (stands_free (u.of d).state journal after d (u.of d) (still d) (works.tracks.holds d ∙ covers.covers d is.1) (works.stands d refl)));
+        replay = λ all. (
+            let all_before = all_taken-front journal (item.Heard e) all in
+            let before = works.replay all_before in
+            let unleaving : (d : ℕ) → is_leaving (u.of d).state ≡ false = λ d. stands_unleaving (u.of d).state journal d (u.of d) all_before (works.stands d refl) in
+            record {
+              same = replayed-more r (start r t) works.steps s is_one ∙ ap (λ (x : Sessions T W). hung_up r c (step r x s)) (before.same ∙ unleaving_same u unleaving)
+                  ∙ sym (one_left r c v (λ d differs. ap (λ (x : Session W). is_leaving x.state) (other d differs) ∙ unleaving d));
+              taken = at_numbers c (λ d. session.is_held (v.of d).state ≡ false → taken_of d after ≡ (v.of d).reply)
+                  (λ unheld. (still c).taken ∙ before.taken c (ap (λ (x : Session W). session.is_held x.state) (sym (speaks.unheld unheld)) ∙ unheld) ∙ ap (λ (x : Session W). x.reply) (sym (speaks.unheld unheld)))
+                  (λ d differs unheld. (still d).taken ∙ before.taken d (ap (λ (x : Session W). session.is_held x.state) (sym (other d differs)) ∙ unheld) ∙ ap (λ (x : Session W). x.reply) (sym (other d differs)));
+            });
+      }
+
+  pub works_bytes : (h : Held T W) (on_hold ws : List ℕ) (journal : List Item) (c : ℕ) (piece : List ℕ) (cut : Option ℕ) → Works r t [] h on_hold journal → Covers ws on_hold → CutsOpen c h.kept cut →
+      Works r t (c ∷ ws) (kept.heard r (Bytes c piece cut) h) on_hold (journal ++ item.Heard (event.Bytes c piece) ∷ [])
+  unfolding opens kept.heard
+  works_bytes h on_hold ws journal c piece cut works covers fits =
+      speaks_works h (kept.heard r (Bytes c piece cut) h) on_hold ws journal (event.Bytes c piece) (Bytes c piece cut) works covers refl refl (λ _. refl)
+      (λ u taken keeps. Keeps-bytes r u taken h c piece cut keeps)
+      (bytes-speaks r works.now c piece cut (cuts_open works.now _ h c cut works.tracks.keeps fits)) (bytes-opened r works.now c piece cut)
+      (λ none. none_cut h.was_cut c piece cut (sym (cut_kept r h c piece cut (kept_of c h.kept) refl fits) ∙ none))
+
+  pub works_ended : (h : Held T W) (on_hold ws : List ℕ) (journal : List Item) (c : ℕ) → Works r t [] h on_hold journal → Covers ws on_hold →
+      Works r t (c ∷ ws) (kept.heard r (Ended c) h) on_hold (journal ++ item.Heard (event.Ended c) ∷ [])
+  unfolding opens kept.heard
+  works_ended h on_hold ws journal c works covers =
+      speaks_works h (kept.heard r (Ended c) h) on_hold ws journal (event.Ended c) (Ended c) works covers refl refl (λ _. refl)
+      (λ u taken keeps. Keeps-ended r u taken h c keeps) (end-speaks r works.now c) (end-opened r works.now c) (λ none. (none, refl))
+
+  -- after an event that is no step all that are on hold are due
+  pub works_idle : (h : Held T W) (on_hold ws : List ℕ) (journal : List Item) (e : Event) → step_of_event e ≡ [] → ((d : ℕ) → opens d (item.Heard e) ≡ false) → Works r t [] h on_hold journal →
+      Covers ws on_hold → Works r t ws h on_hold (journal ++ item.Heard e ∷ [])
+  works_idle h on_hold ws journal e none no_opening works covers =
+      let u = works.now in
+      let after = journal ++ item.Heard e ∷ [] in
+      let still : (d : ℕ) → Still d journal after = λ d. still-heard d journal e in
       record {
-        taken = told_nothing;
-        leaving = ap (λ (x : Session W). is_leaving x.state) is ∙ is_leaving-newcomer room ∙ ap not same_room;
-        busy = record {
-          now = v;
-          tracks = tracks;
-          others = others;
-          front = front;
-          unheld = λ _. told_nothing;
-          away = ap (λ (x : Session W). is_turned x.state) is ∙ is_turned-newcomer room ∙ ap not same_room;
-          same = replayed-more journal e (Opened c) u refl calm.same;
-        };
+        steps = works.steps;
+        now = u;
+        tracks = tracks_stay r t works.steps u h h on_hold on_hold journal (item.Heard e) works.tracks (record {
+          none = none;
+          keeps = Keeps-as u _ _ h (λ d. ap length (sym (still d).taken)) works.tracks.keeps;
+          holds = λ d. (still d).on_hold ∙ works.tracks.holds d;
+          opens_none = no_opening;
+          no_cut = refl;
+          fronts = λ d. front_as journal after d (u.of d) (still d).taken (front_now r t works.steps u h on_hold journal works.tracks d);
+          right = right_event h on_hold journal e works;
+        });
+        hung = λ d. (still d).hung ∙ works.hung d;
+        unturned = works.unturned;
+        stands = λ d apart. stands_free (u.of d).state journal after d (u.of d) (still d) (works.tracks.holds d ∙ covers.covers d apart) (works.stands d refl);
+        replay = λ all. (let before = works.replay (all_taken-front journal (item.Heard e) all) in record { same = before.same; taken = λ d unheld. (still d).taken ∙ before.taken d unheld });
       }

@@ -14,8 +14,8 @@ use Rattle.session_model.proofs.KeptLemmas.{kept_of-changed, number-changed, kep
 -- what is shown of a session after more of its reply was taken
 shown-taken : {W : Type 0} (st : State) (c t n : ℕ) (s : Session W) →
     option_map (without_front n) (shown st c t s) ≡ shown st c (t + n) s
-shown-taken Open c t n s = ap (λ q. Some (record { number = c; rest = rest_of s.stream; who = s.who; queue = q; closing = false })) (drop-drop n t s.reply)
-shown-taken Closing c t n s = ap (λ q. Some (record { number = c; rest = []; who = s.who; queue = q; closing = true })) (drop-drop n t s.reply)
+shown-taken Open c t n s = ap (λ q. Some (record { number = c; rest = rest_of s.stream; who = s.who; queue = q; closing = false; cut = s.cut })) (drop-drop n t s.reply)
+shown-taken Closing c t n s = ap (λ q. Some (record { number = c; rest = []; who = s.who; queue = q; closing = true; cut = s.cut })) (drop-drop n t s.reply)
 shown-taken Unopened c t n s = refl
 shown-taken TurnedAway c t n s = refl
 shown-taken Away c t n s = refl
@@ -103,10 +103,10 @@ module _ {T W : Type 0} (r : Rules T W) where
 
   -- what is shown of a connection that has just opened, where there is room or not
   shown-newcomer : (room : Bool) (c t : ℕ) → let st = cond room Open TurnedAway in
-      shown st c t (record { stream = []; who = r.nobody; reply = []; state = st }) ≡ cond room (Some (opened_kept r c)) None
+      shown st c t (record { stream = []; who = r.nobody; reply = []; state = st; cut = None }) ≡ cond room (Some (opened_kept r c)) None
   shown-newcomer room c t =
-      elim room as (λ b. shown (cond b Open TurnedAway) c t (record { stream = []; who = r.nobody; reply = []; state = cond b Open TurnedAway }) ≡ cond b (Some (opened_kept r c)) None)
-      [ true ↦ ap₂ (λ x y. Some (record { number = c; rest = x; who = r.nobody; queue = y; closing = false })) rest_nil (drop_of_length-le [] (omega arith)) | false ↦ refl ]
+      elim room as (λ b. shown (cond b Open TurnedAway) c t (record { stream = []; who = r.nobody; reply = []; state = cond b Open TurnedAway; cut = None }) ≡ cond b (Some (opened_kept r c)) None)
+      [ true ↦ ap₂ (λ x y. Some (record { number = c; rest = x; who = r.nobody; queue = y; closing = false; cut = None })) rest_nil (drop_of_length-le [] (omega arith)) | false ↦ refl ]
 
   pub Keeps-opened : (u : Sessions T W) (taken : ℕ → ℕ) (h : Held T W) (c : ℕ) → Keeps u taken h → is_listed c u.opened ≡ false →
       Keeps (step r u (Opened c)) taken (heard r (Opened c) h)

@@ -1,15 +1,16 @@
 -- The steps that a link's journal tells, and what each of its moments and items may be asked.
-use Rattle.std.specs.Prelude.{◌≡◌, ℕ, ◌==◌, Bool, true, false, ◌&&◌, cond, List, [], ◌∷◌, ◌++◌}
+use Rattle.std.specs.Prelude.{◌≡◌, ◌≤◌, ◌+◌, ℕ, ◌==◌, Bool, true, false, ◌&&◌, if◌then◌else◌, List, [], ◌∷◌, ◌++◌, map, None, Some}
 use Rattle.wire_io.specs.declared.journal.Event.{Event}
 use Rattle.wire_io.specs.declared.journal.Event.TheVariants as event
 use Rattle.wire_io.specs.declared.journal.Item.{Item}
 use Rattle.wire_io.specs.declared.journal.Item.TheVariants as item
+use Rattle.wire_io.specs.Journal.{heard}
 use Rattle.session_model.specs.Run.{Step, Opened, Bytes, Ended, Gone, HungUp}
 
--- the step that an event is, alone in a list
+-- the step that an event is, alone in a list; none of them is cut
 abbrev pub step_of_event : Event → List Step
 step_of_event (event.Opened number) = Opened number ∷ []
-step_of_event (event.Bytes number octets) = Bytes number octets ∷ []
+step_of_event (event.Bytes number octets) = Bytes number octets None ∷ []
 step_of_event (event.Ended number) = Ended number ∷ []
 step_of_event (event.Ready number) = []
 step_of_event event.Idle = []
@@ -36,46 +37,74 @@ unfoldable pub steps_of_events : List Event → List Step
 steps_of_events [] = []
 steps_of_events (first ∷ events) = step_of_event first ++ steps_of_events events
 
+-- a step without its cut
+abbrev pub uncut : Step → Step
+uncut (Opened number) = Opened number
+uncut (Bytes number piece cut) = Bytes number piece None
+uncut (Ended number) = Ended number
+uncut (Gone number) = Gone number
+uncut (HungUp number) = HungUp number
+
+-- no step is cut
+abbrev pub HasNoCut : List Step → Type 0
+HasNoCut steps = map uncut steps ≡ steps
+
+-- how often a step cuts a connection
+abbrev pub cuts_at : ℕ → Step → ℕ
+cuts_at number (Opened other) = 0
+cuts_at number (Bytes other piece None) = 0
+cuts_at number (Bytes other piece (Some count)) = if other == number then 1 else 0
+cuts_at number (Ended other) = 0
+cuts_at number (Gone other) = 0
+cuts_at number (HungUp other) = 0
+
+-- how often steps do
+unfoldable pub cuts_of : ℕ → List Step → ℕ
+cuts_of number [] = 0
+cuts_of number (first ∷ steps) = cuts_at number first + cuts_of number steps
+
+-- each connection is cut once at most
+unfoldable pub CutOnce : List Step → Type 0
+CutOnce steps = (number : ℕ) → cuts_of number steps ≤ 1
+
+-- but for their cuts the steps are those of the journal
+abbrev pub StepsOf : List Item → List Step → Type 0
+StepsOf journal steps = map uncut steps ≡ steps_of journal
+
+-- whether a step is an event
+abbrev pub is_event : Step → Bool
+is_event (Opened number) = true
+is_event (Bytes number piece cut) = true
+is_event (Ended number) = true
+is_event (Gone number) = false
+is_event (HungUp number) = false
+
 -- whether an item is no refusal to take octets
 abbrev pub is_no_refusal : Item → Bool
-is_no_refusal (item.Heard event) = true
-is_no_refusal (item.OpenedAt address sessions ok) = true
-is_no_refusal (item.Taken number octets) = true
 is_no_refusal (item.Later number) = false
 is_no_refusal (item.Gone number) = false
-is_no_refusal (item.Held number) = true
-is_no_refusal (item.Released number) = true
-is_no_refusal (item.HungUp number) = true
+is_no_refusal _ = true
 
 -- each write was answered by taking octets
 unfoldable pub all_taken : List Item → Bool
 all_taken [] = true
 all_taken (first ∷ journal) = is_no_refusal first && all_taken journal
 
--- whether a write was answered Later since the last event, where one was before or not
-abbrev pub later_after : ℕ → Bool → Item → Bool
-later_after number before (item.Heard event) = false
-later_after number before (item.Later other) = cond (number == other) true before
-later_after number before (item.OpenedAt address sessions ok) = before
-later_after number before (item.Taken other octets) = before
-later_after number before (item.Gone other) = before
-later_after number before (item.Held other) = before
-later_after number before (item.Released other) = before
-later_after number before (item.HungUp other) = before
+-- a write to the connection was answered Later, and no event was heard since
+pub record WasLater (number : ℕ) (journal : List Item) : Type 0 where
+  pub before : List Item
+  pub since : List Item
+  pub is : journal ≡ before ++ item.Later number ∷ since
+  pub same_block : heard since ≡ []
 
--- the same after all items of a journal
-unfoldable pub later_from : ℕ → Bool → List Item → Bool
-later_from number before [] = before
-later_from number before (first ∷ journal) = later_from number (later_after number before first) journal
+-- at each moment of a journal, before its first item and after each, the claim holds of what came so far and of the
+-- steps so far
+unfoldable pub AtEachMoment : (List Step → List Item → Type 0) → List Step → List Item → Type 0
+AtEachMoment claim steps journal =
+    (early late : List Step) (front back : List Item) → steps ≡ early ++ late → journal ≡ front ++ back → StepsOf front early → claim early front
 
--- a write to the connection was answered Later in the journal's last block
-abbrev pub is_later : ℕ → List Item → Bool
-is_later number journal = later_from number false journal
-
--- at each moment of a journal, before its first item and after each, the claim holds of what came so far
-unfoldable pub AtEachMoment : (List Item → Type 0) → List Item → Type 0
-AtEachMoment claim journal = (front back : List Item) → journal ≡ front ++ back → claim front
-
--- the claim holds of each item of a journal and what came before it
-unfoldable pub AtEachItem : (List Item → Item → Type 0) → List Item → Type 0
-AtEachItem claim journal = (front back : List Item) (current : Item) → journal ≡ front ++ current ∷ back → claim front current
+-- the claim holds of each item of a journal, and of the steps and the items before it
+unfoldable pub AtEachItem : (List Step → List Item → Item → Type 0) → List Step → List Item → Type 0
+AtEachItem claim steps journal =
+    (early late : List Step) (front back : List Item) (current : Item) →
+    steps ≡ early ++ late → journal ≡ front ++ current ∷ back → StepsOf front early → claim early front current

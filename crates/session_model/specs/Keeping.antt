@@ -8,9 +8,9 @@ use Rattle.session_model.specs.Kept.{Kept, Held, kept_of}
 -- what is kept of a session, if it is held: the rest of its stream while it is open, and the reply beyond what was taken
 abbrev pub shown : {W : Type 0} → State → ℕ → ℕ → Session W → Option (Kept W)
 shown Open number taken session =
-    Some (record { number = number; rest = rest_of session.stream; who = session.who; queue = drop taken session.reply; closing = false })
+    Some (record { number = number; rest = rest_of session.stream; who = session.who; queue = drop taken session.reply; closing = false; cut = session.cut })
 shown Closing number taken session =
-    Some (record { number = number; rest = []; who = session.who; queue = drop taken session.reply; closing = true })
+    Some (record { number = number; rest = []; who = session.who; queue = drop taken session.reply; closing = true; cut = session.cut })
 shown Unopened number taken session = None
 shown TurnedAway number taken session = None
 shown Away number taken session = None
@@ -30,7 +30,7 @@ more_taken number count taken other = cond (other == number) (taken other + coun
 -- a step opens no number that was opened before
 abbrev pub IsNew : {T W : Type 0} → Sessions T W → Step → Type 0
 IsNew sessions (Opened number) = is_listed number sessions.opened ≡ false
-IsNew sessions (Bytes number piece) = Unit {0}
+IsNew sessions (Bytes number piece cut) = Unit {0}
 IsNew sessions (Ended number) = Unit {0}
 IsNew sessions (Gone number) = Unit {0}
 IsNew sessions (HungUp number) = Unit {0}

@@ -6,5 +6,6 @@ pub mod Keeping
 pub mod Journaled
 pub mod Serving
 pub mod Replaying
+pub mod Joined
 -- what only the steps of a loop promise each other
 pub mod Working

@@ -1,16 +1,15 @@
 -- Sessions over a list of events alone, where each connection that closes or is turned away is hung up at once.
-use Rattle.std.specs.Prelude.{◌≡◌, ℕ, Bool, true, false, cond, List, [], ◌∷◌}
+use Rattle.std.specs.Prelude.{◌≡◌, ℕ, Bool, true, false, cond, List, [], ◌∷◌, filter}
 use Rattle.wire_io.specs.declared.journal.Item.{Item}
-use Rattle.wire_io.specs.Journal.{heard, taken_of, is_hung_up}
+use Rattle.wire_io.specs.Journal.{taken_of, is_hung_up}
 use Rattle.session_model.specs.Rules.{Rules}
-use Rattle.session_model.specs.Run.{Sessions, State, Open, Closing, TurnedAway, Away, Unopened, Step, Opened, Bytes, Ended, Gone, HungUp, step, start}
-use Rattle.session_model.specs.Journaled.{steps_of_events}
-use Rattle.session_model.specs.Serving.{sessions}
+use Rattle.session_model.specs.Run.{Sessions, State, Open, Closing, TurnedAway, Away, Unopened, Step, Opened, Bytes, Ended, Gone, HungUp, step, start, run}
+use Rattle.session_model.specs.Journaled.{is_event}
 
 -- the connection of a step
 abbrev pub number_of : Step → ℕ
 number_of (Opened number) = number
-number_of (Bytes number piece) = number
+number_of (Bytes number piece cut) = number
 number_of (Ended number) = number
 number_of (Gone number) = number
 number_of (HungUp number) = number
@@ -58,7 +57,7 @@ module _ {T W : Type 0} (rules : Rules T W) where
   replayed tree steps = replayed_from (start rules tree) steps
 
   -- the journal is that of its events replayed: the sessions are the same, all replies were taken, and whoever left was hung up
-  pub record IsReplay (tree : T) (journal : List Item) : Type 0 where
-    pub same : sessions rules tree journal ≡ replayed tree (steps_of_events (heard journal))
-    pub taken : (number : ℕ) → taken_of number journal ≡ ((sessions rules tree journal).of number).reply
-    pub hung_up : (number : ℕ) → is_hung_up number journal ≡ is_away ((sessions rules tree journal).of number).state
+  pub record IsReplay (tree : T) (steps : List Step) (journal : List Item) : Type 0 where
+    pub same : run rules tree steps ≡ replayed tree (filter is_event steps)
+    pub taken : (number : ℕ) → taken_of number journal ≡ ((run rules tree steps).of number).reply
+    pub hung_up : (number : ℕ) → is_hung_up number journal ≡ is_away ((run rules tree steps).of number).state

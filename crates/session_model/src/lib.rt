@@ -3,4 +3,4 @@
 
 mod laws;
 
-pub use laws::{keeps_each_step, keeps_each_taking};
+pub use laws::{keeps_each_step, keeps_each_taking, own_steps, pieces_join, talk_goes_on};

@@ -1,13 +1,16 @@
+use Rattle.std.proofs.Common.{sym, ap, subst}
+use Rattle.acdf_core.specs.Entries.{entries_of}
+use Rattle.data_file.specs.Files.{AreOfTable}
 use Rattle.acl_program.proofs.RunLemmas.{Loads-fresh, Replays-played, Replays-refused}
 use Rattle.acl_program.proofs.replay.replay_over.Goals as goal
 
 -- the link is fresh
 pub play-requires : goal.play-requires
-play-requires g c = record { fresh = Loads-fresh _ _ _ _ _ c.in-Ok.ensures.exact; table = c.dumped.ensures.table }
+play-requires g c = record { fresh = Loads-fresh _ _ _ _ _ c.in-Ok.ensures.exact; table = subst (λ rows. AreOfTable (entries_of rows)) (sym c.new.ensures) c.requires.table }
 
 -- the script was read
 pub returns-in-Ok-clause-replays : goal.returns-in-Ok-clause-replays
-returns-in-Ok-clause-replays g c = Replays-played _ _ _ _ _ _ _ _ _ _ _ _ _ _ c.in-Ok.ensures.exact c.dumped.ensures.text c.play.ensures.ends
+returns-in-Ok-clause-replays g c = Replays-played _ _ _ _ _ _ _ _ _ _ _ _ _ _ (ap entries_of c.new.ensures) c.in-Ok.ensures.exact c.play.ensures.ends
 
 -- it wasn't
 pub returns-in-Err-clause-replays : goal.returns-in-Err-clause-replays

@@ -1,5 +1,6 @@
 use Rattle.std.proofs.Common.{◌≡◌}
 use Rattle.plain_values.specs.Counts.{NeverFalls}
+use Rattle.session_hub.specs.Hubs.{held}
 use Rattle.session_hub.specs.Turns.{IsUnderWay}
 use Rattle.session_hub.proofs.serve.serve_in.Given as goal
 
@@ -8,8 +9,9 @@ abbrev pub invariant-loop-turn : goal.invariant-loop-turn
 invariant-loop-turn g l =
     let journal = g.L.Link.journal in
     let plan = g.L.Link.plan in
+    let entries = g.D.Dir.entries in
     record {
-      under_way : IsUnderWay l._turn (journal l.fn.link) (journal l.link) (plan l.fn.link) (plan l.link) l.hub;
+      under_way : IsUnderWay (entries l.fn.dir) l._turn (journal l.fn.link) (journal l.link) (plan l.fn.link) (plan l.link) (held (entries l.dir) l.hub) l.waiting.on_hold.items;
       faults : g.L.Link.faults l.link ≡ g.L.Link.faults l.fn.link;
       lost : NeverFalls (g.L.Link.lost l.fn.link) (g.L.Link.lost l.link);
     }

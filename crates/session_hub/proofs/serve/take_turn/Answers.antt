@@ -1,50 +1,51 @@
 use Rattle.std.proofs.Common.{sym, ◌∙◌}
 use Rattle.wire_io.proofs.Theorems.{LinkCause-given, LinkCause-starved}
-use Rattle.session_hub.proofs.LoopLemmas.{ends_failed, ends_stopped, ends_starved}
+use Rattle.session_hub.specs.Hubs.{held}
+use Rattle.session_hub.proofs.CauseLemmas.{ends_failed, ends_stopped, ends_starved, ends_as}
 use Rattle.session_hub.proofs.TurnLemmas.{turn_served, turn_cut, turn_stopped, turn_failed, turn_starved}
 use Rattle.session_hub.proofs.serve.take_turn.Goals as goal
 
--- the event was served
-pub returns-in-Ok-serve_event-clause-ok : goal.returns-in-Ok-serve_event-clause-ok
-returns-in-Ok-serve_event-clause-ok g c =
-    turn_served _ _ _ _ _ _ _ _ c.next.new.buf c.in-Ok.heard (record { long = c.next.auto.buf ∙ c.requires.long; tells = c.in-Ok.ensures.tells; plays = c.in-Ok.ensures.plays })
-    (sym c.is_stop.ensures ∙ c.if-is_stop.false) c.in-Ok-serve_event.ensures.ok c.in-Ok-serve_event.ensures.plan c.in-Ok-serve_event.ensures.refused
-
-pub returns-in-Ok-serve_event-clause-faults : goal.returns-in-Ok-serve_event-clause-faults
-returns-in-Ok-serve_event-clause-faults g c =
-    c.in-Ok-serve_event.ensures.faults ∙ LinkCause-given _ _ _ _ c.in-Ok.ensures.cause
-
--- there was no memory in its block
-pub returns-in-Err-clause-err : goal.returns-in-Err-clause-err
-returns-in-Err-clause-err g c =
-    turn_cut _ _ _ _ _ _ _ c.next.new.buf c.in-Ok.heard (record { long = c.next.auto.buf ∙ c.requires.long; tells = c.in-Ok.ensures.tells; plays = c.in-Ok.ensures.plays })
-    (sym c.is_stop.ensures ∙ c.if-is_stop.false) c.in-Err.ensures.err c.in-Err.ensures.plan
-
-pub returns-in-Err-clause-cause : goal.returns-in-Err-clause-cause
-returns-in-Err-clause-cause g c =
-    ends_starved _ _ _ (c.in-Err.ensures.faults ∙ LinkCause-given _ _ _ _ c.in-Ok.ensures.cause)
-
--- the event is Stop
-pub returns-then-is_stop-clause-err : goal.returns-then-is_stop-clause-err
-returns-then-is_stop-clause-err g c =
-    turn_stopped _ _ _ _ _ c.next.new.buf c.in-Ok.heard (record { long = c.next.auto.buf ∙ c.requires.long; tells = c.in-Ok.ensures.tells; plays = c.in-Ok.ensures.plays })
-    (sym c.is_stop.ensures ∙ c.if-is_stop.true)
-
-pub returns-then-is_stop-clause-cause : goal.returns-then-is_stop-clause-cause
-returns-then-is_stop-clause-cause g c = ends_stopped _ _ _ (LinkCause-given _ _ _ _ c.in-Ok.ensures.cause)
-
 -- the link failed
-pub returns-in-Err-Failed-clause-err : goal.returns-in-Err-Failed-clause-err
-returns-in-Err-Failed-clause-err g c =
-    turn_failed _ _ _ _ _ c.next.new.buf _ (rw c.in-Err-Failed.field-0-is at c.in-Err-Failed.ensures.tells) (rw c.in-Err-Failed.field-0-is at c.in-Err-Failed.ensures.plays)
+pub returns-in-Err-Failed-clause-some : goal.returns-in-Err-Failed-clause-some
+returns-in-Err-Failed-clause-some g c =
+    turn_failed _ _ _ _ _ _ _ c.next.new.buf _ _ (rw c.in-Err-Failed.field-0-is at c.in-Err-Failed.ensures.tells) (rw c.in-Err-Failed.field-0-is at c.in-Err-Failed.ensures.plays) c.end_of.ensures
 
 pub returns-in-Err-Failed-clause-cause : goal.returns-in-Err-Failed-clause-cause
-returns-in-Err-Failed-clause-cause g c = ends_failed _ _ _ (rw c.in-Err-Failed.field-0-is at c.in-Err-Failed.ensures.cause)
+returns-in-Err-Failed-clause-cause g c =
+    ends_as _ _ _ _ _ c.end_of.ensures (ends_failed _ _ _ c.args.hub.now.was_cut (rw c.in-Err-Failed.field-0-is at c.in-Err-Failed.ensures.cause))
 
 -- the link had no memory for an event
-pub returns-in-Err-NoMemory-clause-err : goal.returns-in-Err-NoMemory-clause-err
-returns-in-Err-NoMemory-clause-err g c =
-    turn_starved _ _ _ _ _ c.next.new.buf _ (rw c.in-Err-NoMemory.field-0-is at c.in-Err-NoMemory.ensures.tells) (rw c.in-Err-NoMemory.field-0-is at c.in-Err-NoMemory.ensures.plays)
+pub returns-in-Err-NoMemory-clause-some : goal.returns-in-Err-NoMemory-clause-some
+returns-in-Err-NoMemory-clause-some g c =
+    turn_starved _ _ _ _ (held _ c.args.hub.now) _ c.next.new.buf _ (rw c.in-Err-NoMemory.field-0-is at c.in-Err-NoMemory.ensures.tells) (rw c.in-Err-NoMemory.field-0-is at c.in-Err-NoMemory.ensures.plays)
 
 pub returns-in-Err-NoMemory-clause-cause : goal.returns-in-Err-NoMemory-clause-cause
 returns-in-Err-NoMemory-clause-cause g c = ends_starved _ _ _ (LinkCause-starved _ _ _ _ (rw c.in-Err-NoMemory.field-0-is at c.in-Err-NoMemory.ensures.cause))
+
+-- there was no memory in the event's block
+pub returns-in-Err-clause-some : goal.returns-in-Err-clause-some
+returns-in-Err-clause-some g c =
+    turn_cut _ _ _ _ _ _ _ _ _ c.next.new.buf c.in-Ok.heard (record { long = c.next.auto.buf ∙ c.requires.long; tells = c.in-Ok.ensures.tells; plays = c.in-Ok.ensures.plays })
+    (λ start. c.in-Err.ensures.adds start) c.in-Err.ensures.serves.plan
+
+pub returns-in-Err-clause-cause : goal.returns-in-Err-clause-cause
+returns-in-Err-clause-cause g c = ends_starved _ _ _ (c.in-Err.ensures.serves.faults ∙ LinkCause-given _ _ _ _ c.in-Ok.ensures.cause)
+
+-- the event is Stop
+pub returns-then-is_stop-clause-some : goal.returns-then-is_stop-clause-some
+returns-then-is_stop-clause-some g c =
+    turn_stopped _ _ _ _ _ _ _ _ _ _ _ c.next.new.buf c.in-Ok.heard _ (record { long = c.next.auto.buf ∙ c.requires.long; tells = c.in-Ok.ensures.tells; plays = c.in-Ok.ensures.plays })
+    (sym c.is_stop.ensures ∙ c.if-is_stop.true) (λ start. c.in-Ok-serve_event.ensures.adds start) c.in-Ok-serve_event.ensures.serves.plan c.end_of-then-is_stop.ensures
+
+pub returns-then-is_stop-clause-cause : goal.returns-then-is_stop-clause-cause
+returns-then-is_stop-clause-cause g c =
+    ends_as _ _ _ _ _ c.end_of-then-is_stop.ensures (ends_stopped _ _ _ c.serve_event.new.hub.was_cut (c.in-Ok-serve_event.ensures.serves.faults ∙ LinkCause-given _ _ _ _ c.in-Ok.ensures.cause))
+
+-- the loop goes on
+pub returns-else-is_stop-clause-none : goal.returns-else-is_stop-clause-none
+returns-else-is_stop-clause-none g c =
+    turn_served _ _ _ _ _ _ _ _ _ _ c.next.new.buf c.in-Ok.heard (record { long = c.next.auto.buf ∙ c.requires.long; tells = c.in-Ok.ensures.tells; plays = c.in-Ok.ensures.plays })
+    (sym c.is_stop.ensures ∙ c.if-is_stop.false) (λ start. c.in-Ok-serve_event.ensures.adds start) c.in-Ok-serve_event.ensures.serves.plan
+
+pub returns-else-is_stop-clause-faults : goal.returns-else-is_stop-clause-faults
+returns-else-is_stop-clause-faults g c = c.in-Ok-serve_event.ensures.serves.faults ∙ LinkCause-given _ _ _ _ c.in-Ok.ensures.cause

@@ -1,9 +1,9 @@
-use Rattle.session_hub.proofs.ServingLemmas.{hangs_up_ok, hangs_up_err}
+use Rattle.session_hub.specs.Hubs.{held}
+use Rattle.session_hub.proofs.ServingLemmas.{drops, not_dropped}
 use Rattle.session_hub.proofs.serving.drop_lost.Goals as goal
 
--- nothing is claimed where a write was refused
-pub returns-clause-ok : goal.returns-clause-ok
-returns-clause-ok g c = λ turned. hangs_up_ok _ c.args.conn _ _ _ _ c.hang_up.result c.hang_up.ensures.tells (λ added never. absurd never)
+pub returns-in-Ok-clause-adds : goal.returns-in-Ok-clause-adds
+returns-in-Ok-clause-adds g c = λ start tree due. drops _ _ start tree c.args.conn due _ _ _ _ _ _ _ c.in-Ok.ensures.tells c.release.ensures.released c.gone.ensures.exact
 
-pub returns-clause-err : goal.returns-clause-err
-returns-clause-err g c = hangs_up_err _ c.args.conn _ _ _ _ c.hang_up.result c.hang_up.ensures.tells (λ added never. absurd never)
+pub returns-in-Err-clause-adds : goal.returns-in-Err-clause-adds
+returns-in-Err-clause-adds g c = λ start tree due. not_dropped _ start c.args.conn due _ (held tree c.args.hub.now) _ _ _ c.in-Err.ensures.tells

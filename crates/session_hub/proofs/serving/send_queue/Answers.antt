@@ -1,38 +1,65 @@
-use Rattle.std.proofs.Common.{refl, ◌∙◌}
-use Rattle.plain_values.proofs.Theorems.{NeverFalls-trans, NeverFalls-refl}
-use Rattle.session_hub.specs.Adding.{IsBusy}
-use Rattle.session_hub.proofs.AddingLemmas.{adds_nothing, adds_as, adds_after}
-use Rattle.session_hub.proofs.ServingLemmas.{sent_goes, emptied, on_err_any}
-use Rattle.session_hub.proofs.RefusalLemmas.{refused_none, refused_then}
+use Rattle.std.proofs.Common.{◌≤◌, length, refl, sym, ◌∙◌, subst}
+use Rattle.wire_io.proofs.Theorems.{WriteCause-never_falls}
+use Rattle.session_hub.specs.Hubs.{held}
+use Rattle.session_hub.proofs.AddingLemmas.{adds_nothing, adds_as, adds_after, serves_none, serves_then}
+use Rattle.session_hub.proofs.ServingLemmas.{emptied, some_queued, queue_falls, took_goes, later_goes, gone_goes, starved_goes}
 use Rattle.session_hub.proofs.serving.send_queue.Goals as goal
 
 -- nothing was sent yet
 pub sending-init : goal.sending-init
-sending-init g c = record { adds = λ turned. adds_nothing _ _ _ _ _ refl (λ _ holds. holds); others = refl; refused = refused_none _ _ refl; plan = refl; faults = refl; lost = NeverFalls-refl _ }
+sending-init g c = record { adds = λ start tree due on_hold. adds_nothing _ _ _ _ _ refl (λ _ holds. holds); serves = serves_none _ _ _ }
 
--- octets were sent
+-- nothing is left
+pub returns-then-is_empty-clause-adds : goal.returns-then-is_empty-clause-adds
+returns-then-is_empty-clause-adds g c = λ start tree due on_hold.
+    adds_as _ _ _ _ _ _ _ (λ _ holds. holds)
+    (λ added works. record { serving = works; empty = sym c.queue-queue.ensures.exact ∙ emptied c.queue-queue.result.now (sym c.if-is_empty.true ∙ c.is_empty.ensures) })
+    (c.sending.invariant.adds start tree due on_hold)
+
+-- octets were taken
 pub sending-preserved : goal.sending-preserved
 sending-preserved g c =
     record {
-      adds = λ turned. adds_after _ _ _ (IsBusy c.args.conn turned c.sending.hub) _ _ _ _ c.sending.invariant.plan (c.sending.invariant.adds turned) (c.in_ok-send_some.ensures.ok turned);
-      others = c.in_ok-send_some.ensures.others ∙ c.sending.invariant.others;
-      refused = refused_then _ _ _ c.sending.invariant.refused c.in_ok-send_some.ensures.refused;
-      plan = c.in_ok-send_some.ensures.plan ∙ c.sending.invariant.plan;
-      faults = c.in_ok-send_some.ensures.faults ∙ c.sending.invariant.faults;
-      lost = NeverFalls-trans c.sending.invariant.lost c.in_ok-send_some.ensures.lost;
+      adds = λ start tree due on_hold.
+          adds_after _ _ _ _ _ _ _ _ c.sending.invariant.serves.plan (c.sending.invariant.adds start tree due on_hold)
+          (took_goes _ start tree c.args.conn c.in-Took.count due on_hold c.sending.hub c.took.new.self c.queue-queue.result.now _ _ c.in-Took.ensures.tells c.queue-queue.ensures.exact
+          (some_queued c.queue-queue.result.now (sym c.if-is_empty.false ∙ c.is_empty.ensures)) c.in-Took.ensures.fits.1 c.took.ensures.exact);
+      serves = serves_then _ _ _ _ _ _ _ _ _ c.sending.invariant.serves (record { plan = c.in-Took.ensures.plan; faults = c.in-Took.ensures.faults; lost = WriteCause-never_falls _ _ _ _ c.in-Took.ensures.cause });
     }
 
--- there was no memory to send them
-pub returns-in_err-send_some-clause-err : goal.returns-in_err-send_some-clause-err
-returns-in_err-send_some-clause-err g c = λ turned.
-    on_err_any c.from_residual.result (adds_after _ _ _ (IsBusy c.args.conn turned c.sending.hub) _ _ _ _ c.sending.invariant.plan (c.sending.invariant.adds turned) (c.in_err-send_some.ensures.err turned))
+pub sending-smaller : goal.sending-smaller
+sending-smaller g c =
+    queue_falls c.args.conn c.in-Took.count c.sending.hub c.took.new.self c.took.ensures.exact c.in-Took.ensures.fits.0
+    (subst (λ xs. c.in-Took.count ≤ length xs) c.queue-queue.ensures.exact c.in-Took.ensures.fits.1)
 
-pub returns-in_err-send_some-clause-others : goal.returns-in_err-send_some-clause-others
-returns-in_err-send_some-clause-others g c = c.in_err-send_some.ensures.others ∙ c.sending.invariant.others
+-- none were taken now
+pub returns-in-Later-clause-adds : goal.returns-in-Later-clause-adds
+returns-in-Later-clause-adds g c = λ start tree due on_hold.
+    adds_after _ _ _ _ _ _ _ _ c.sending.invariant.serves.plan (c.sending.invariant.adds start tree due on_hold)
+    (later_goes _ start tree c.args.conn _ _ due on_hold c.sending.hub c.queue-queue.result.now _ _ c.in-Later.ensures.tells c.in-Later.ensures.cause c.queue-queue.ensures.exact
+    (some_queued c.queue-queue.result.now (sym c.if-is_empty.false ∙ c.is_empty.ensures)))
 
--- nothing is left in the queue
-pub returns-clause-ok : goal.returns-clause-ok
-returns-clause-ok g c = λ turned.
-    adds_as _ _ _ (IsBusy c.args.conn turned c.sending.hub) _ _ _ (λ _ holds. holds)
-    (λ added busy. sent_goes c.args.conn turned c.sending.hub c.queue.result.now added c.queue.ensures.exact (emptied c.queue.result.now c.sending-test.ensures) busy)
-    (c.sending.invariant.adds turned)
+pub returns-in-Later-clause-serves : goal.returns-in-Later-clause-serves
+returns-in-Later-clause-serves g c =
+    serves_then _ _ _ _ _ _ _ _ _ c.sending.invariant.serves (record { plan = c.in-Later.ensures.plan; faults = c.in-Later.ensures.faults; lost = WriteCause-never_falls _ _ _ _ c.in-Later.ensures.cause })
+
+-- the connection was found lost
+pub returns-in-Gone-clause-adds : goal.returns-in-Gone-clause-adds
+returns-in-Gone-clause-adds g c = λ start tree due on_hold.
+    adds_after _ _ _ _ _ _ _ _ c.sending.invariant.serves.plan (c.sending.invariant.adds start tree due on_hold)
+    (gone_goes _ start tree c.args.conn _ _ due on_hold c.sending.hub c.queue-queue.result.now _ _ c.in-Gone.ensures.tells c.in-Gone.ensures.cause c.queue-queue.ensures.exact
+    (some_queued c.queue-queue.result.now (sym c.if-is_empty.false ∙ c.is_empty.ensures)))
+
+pub returns-in-Gone-clause-serves : goal.returns-in-Gone-clause-serves
+returns-in-Gone-clause-serves g c =
+    serves_then _ _ _ _ _ _ _ _ _ c.sending.invariant.serves (record { plan = c.in-Gone.ensures.plan; faults = c.in-Gone.ensures.faults; lost = WriteCause-never_falls _ _ _ _ c.in-Gone.ensures.cause })
+
+-- there was no memory
+pub returns-in-NoMemory-clause-adds : goal.returns-in-NoMemory-clause-adds
+returns-in-NoMemory-clause-adds g c = λ start tree due on_hold.
+    adds_after _ _ _ _ _ _ _ _ c.sending.invariant.serves.plan (c.sending.invariant.adds start tree due on_hold)
+    (starved_goes _ start _ on_hold (held tree c.sending.hub) c.args.conn c.queue-queue.result.now _ _ c.in-NoMemory.ensures.tells)
+
+pub returns-in-NoMemory-clause-serves : goal.returns-in-NoMemory-clause-serves
+returns-in-NoMemory-clause-serves g c =
+    serves_then _ _ _ _ _ _ _ _ _ c.sending.invariant.serves (record { plan = c.in-NoMemory.ensures.plan; faults = c.in-NoMemory.ensures.faults; lost = WriteCause-never_falls _ _ _ _ c.in-NoMemory.ensures.cause })

@@ -1,23 +1,19 @@
-use Rattle.std.proofs.Common.{◌≡◌, Bool, length}
-use Rattle.plain_values.specs.Counts.{NeverFalls}
+use Rattle.std.proofs.Common.{◌∷◌, List, ℕ, length}
 use Rattle.session_model.specs.Kept.{queue_of}
-use Rattle.session_hub.specs.Loops.{HangsUpRefused}
-use Rattle.session_hub.specs.Adding.{Adds, OthersStay, IsBusy}
+use Rattle.session_hub.specs.Parties.{DirectoryEntries}
+use Rattle.session_hub.specs.Hubs.{held}
+use Rattle.session_hub.specs.Adding.{Adds, OnlyServes, IsServing}
 use Rattle.session_hub.proofs.serving.send_queue.Given as goal
 
--- the block goes on
+-- the connection is still due
 abbrev pub invariant-sending : goal.invariant-sending
 invariant-sending g l =
     let journal = g.L.Link.journal in
     let plan = g.L.Link.plan in
     record {
-      adds : (turned : Bool) → Adds (plan l.fn.link) (IsBusy l.conn turned l.fn.hub) (IsBusy l.conn turned l.hub) (journal l.fn.link) (journal l.link);
-      others : OthersStay l.conn l.fn.hub l.hub;
-      refused : HangsUpRefused (journal l.fn.link) (journal l.link);
-      plan : plan l.link ≡ plan l.fn.link;
-      faults : g.L.Link.faults l.link ≡ g.L.Link.faults l.fn.link;
-      lost : NeverFalls (g.L.Link.lost l.fn.link) (g.L.Link.lost l.link);
+      adds : (start tree : DirectoryEntries) (due on_hold : List ℕ) → Adds (plan l.fn.link) (IsServing start (l.conn ∷ due) (held tree l.fn.hub) on_hold) (IsServing start (l.conn ∷ due) (held tree l.hub) on_hold) (journal l.fn.link) (journal l.link);
+      serves : OnlyServes (plan l.fn.link) (plan l.link) (g.L.Link.faults l.fn.link) (g.L.Link.faults l.link) (g.L.Link.lost l.fn.link) (g.L.Link.lost l.link);
     }
 
 abbrev pub decreases-sending : goal.decreases-sending
-decreases-sending g l = length (queue_of l.conn l.hub)
+decreases-sending g l = length (queue_of l.conn l.hub.kept)

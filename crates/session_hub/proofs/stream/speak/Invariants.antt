@@ -4,7 +4,7 @@ use Rattle.session_hub.proofs.stream.speak.Given as goal
 
 -- what was said so far, and what is said to the rest, is what is said to the stream
 abbrev pub invariant-messages : goal.invariant-messages
-invariant-messages l = SaysSoFar l.fn.requester l.stream l.fn.out.items l.out.items l.who l.read
+invariant-messages g l = SaysSoFar (g.D.Dir.entries l.fn.dir) l.fn.who l.stream l.fn.out.items l.out.items (g.D.Dir.entries l.dir) l.who l.read l.answered
 
 abbrev pub decreases-messages : goal.decreases-messages
-decreases-messages l = length l.stream - l.read
+decreases-messages g l = length l.stream - l.read

@@ -1,7 +1,7 @@
 use Rattle.std.proofs.Common.{◌≡◌, ◌++◌, length, take, drop, sym, ap, ◌∙◌, subst, arith}
 use Rattle.std.proofs.lemmas.Grind.{common_steps}
 use Rattle.session_model.specs.Kept.{changed, closed}
-use Rattle.session_hub.specs.Hubs.{IsBounded}
+use Rattle.session_hub.specs.Hubs.{HubState, IsBounded}
 use Rattle.session_hub.proofs.HubLemmas.{bounded_closed, ends}
 use Rattle.session_hub.proofs.hub.Hub.end.Goals as goal
 
@@ -14,4 +14,7 @@ pub invariant_of-self : goal.invariant_of-self
 invariant_of-self c = subst IsBounded (sym (written c)) (bounded_closed c.args.conn c.self.inside.connections.items c.self.invariant)
 
 pub returns : goal.returns
-returns c = written c ∙ ap (λ ks. changed c.args.conn closed ks) c.self.view_is ∙ ends c.args.conn c.args.self.now
+returns c =
+    ends c.args.conn c.args.self.now _
+    (ap (λ ks. let h : HubState = record { kept = ks; was_cut = c.self.inside.was_cut } in h) (written c)
+    ∙ ap (λ (h : HubState). let now : HubState = record h { kept = changed c.args.conn closed h.kept } in now) c.self.view_is)

@@ -1,5 +1,6 @@
+use Rattle.std.proofs.Common.{ap, false}
 use Rattle.session_hub.proofs.FollowingLemmas.{follows_start}
 use Rattle.session_hub.proofs.hub.Hub.new.Goals as goal
 
 pub returns-clause-run : goal.returns-clause-run
-returns-clause-run c = follows_start _ c.new.ensures.items
+returns-clause-run c = follows_start _ (ap (λ ks. record { kept = ks; was_cut = false }) c.in_ok-with_capacity.ensures.items)

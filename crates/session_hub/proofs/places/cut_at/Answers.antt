@@ -1,0 +1,11 @@
+use Rattle.std.proofs.Common.{sym, ◌∙◌}
+use Rattle.session_hub.proofs.PlaceLemmas.{cut_at, cut_nowhere}
+use Rattle.session_hub.proofs.places.cut_at.Goals as goal
+
+-- the connection is there
+pub returns-in-Some : goal.returns-in-Some
+returns-in-Some c = c.cut.ensures ∙ sym (cut_at c.args.number c.in-Some.at c.args.connections.now c.index-connections-at.result c.in-Some.ensures c.index-connections-at.is)
+
+-- it isn't
+pub returns-in-None : goal.returns-in-None
+returns-in-None c = sym (cut_nowhere c.args.number c.args.connections.now c.in-None.ensures)

@@ -1,0 +1,19 @@
+use Rattle.std.proofs.Common.{length}
+use Rattle.session_hub.specs.Parties.{DirectoryEntries}
+use Rattle.session_hub.specs.Hubs.{held}
+use Rattle.session_hub.specs.Adding.{Adds, OnlyServes, IsServing}
+use Rattle.session_hub.proofs.serving.settle_all.Given as goal
+
+-- so many are still due
+abbrev pub invariant-settling : goal.invariant-settling
+invariant-settling g l =
+    let journal = g.L.Link.journal in
+    let plan = g.L.Link.plan in
+    record {
+      adds : (start tree : DirectoryEntries) →
+          Adds (plan l.fn.link) (IsServing start l.fn.waiting.due.items (held tree l.fn.hub) l.fn.waiting.on_hold.items) (IsServing start l.waiting.due.items (held tree l.hub) l.waiting.on_hold.items) (journal l.fn.link) (journal l.link);
+      serves : OnlyServes (plan l.fn.link) (plan l.link) (g.L.Link.faults l.fn.link) (g.L.Link.faults l.link) (g.L.Link.lost l.fn.link) (g.L.Link.lost l.link);
+    }
+
+abbrev pub decreases-settling : goal.decreases-settling
+decreases-settling g l = length l.waiting.due.items

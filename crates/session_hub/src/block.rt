@@ -1,0 +1,137 @@
+//! The beginning of a block: an event of a link is heard.
+
+ghost use Rattle.std.specs.Prelude.{List, [], length};
+ghost use Rattle.wire_io.specs.Answers.{HeardFits};
+ghost use Rattle.wire_io.specs.Telling.{event_of};
+ghost use Rattle.wire_io.specs.declared.journal.Event.TheVariants as event;
+ghost use Rattle.wire_io.specs.declared.journal.Item.{Item};
+ghost use Rattle.session_hub.specs.Parties.{DirectoryEntries};
+ghost use Rattle.session_hub.specs.Hubs.{held};
+ghost use Rattle.session_hub.specs.Telling.{journal_event_of, IsOf};
+ghost use Rattle.session_hub.specs.Adding.{Adds, OnlyServes, IsServing, IsHeard, IsTurnedAway, After};
+
+use crate::serving::settle_all;
+use crate::waiting::Waiting;
+use crate::{Event, Hub, MAX_CONNECTIONS};
+use acdf_core::Dir;
+use std::alloc::AllocError;
+use wire_io::{Heard, Link};
+
+/// Begins with a connection that opens: it is held where there is room, and else hung up.
+fn greet<D: Dir, L: Link>(
+    hub: &mut Hub,
+    dir: &mut D,
+    waiting: &mut Waiting,
+    link: &mut L,
+    conn: u32,
+) -> Result<(), AllocError>
+    ensures adds { (start : DirectoryEntries) → Adds (L.plan link.old)
+        (IsHeard start (held (D.entries dir.old) hub.old) waiting.old.on_hold.items (event.Opened conn))
+        (After result start (D.entries dir.new) (IsServing start waiting.new.due.items (held (D.entries dir.new) hub.new) waiting.new.on_hold.items))
+        (L.journal link.old) (L.journal link.new) }
+    ensures serves { OnlyServes (L.plan link.old) (L.plan link.new) (L.faults link.old) (L.faults link.new) (L.lost link.old) (L.lost link.new) }
+{
+    let has_room = hub.count() < MAX_CONNECTIONS;
+    match hub.hear(dir, Event::Opened(conn)) {
+        Err(_) => Err(AllocError),
+        Ok(()) => {
+            if has_room {
+                waiting.begin_with(conn)
+            } else {
+                turn_away(hub, waiting, link, conn)
+            }
+        }
+    }
+}
+
+/// Hangs up a connection for which there is no room.
+fn turn_away<L: Link>(
+    hub: &mut Hub,
+    waiting: &mut Waiting,
+    link: &mut L,
+    conn: u32,
+) -> Result<(), AllocError>
+    ensures adds { (start tree : DirectoryEntries) → Adds (L.plan link.old)
+        (IsTurnedAway start conn (held tree hub.old) waiting.old.on_hold.items)
+        (After result start tree (IsServing start waiting.new.due.items (held tree hub.new) waiting.new.on_hold.items))
+        (L.journal link.old) (L.journal link.new) }
+    ensures serves { OnlyServes (L.plan link.old) (L.plan link.new) (L.faults link.old) (L.faults link.new) (L.lost link.old) (L.lost link.new) }
+{
+    match link.hang_up(conn) {
+        Err(_) => Err(AllocError),
+        Ok(()) => {
+            hub.drop_conn(conn);
+            waiting.begin()
+        }
+    }
+}
+
+/// Begins with what came on a connection.
+fn hear_on<D: Dir>(
+    hub: &mut Hub,
+    dir: &mut D,
+    waiting: &mut Waiting,
+    conn: u32,
+    heard: Event<'_>,
+) -> Result<(), AllocError>
+    requires { IsOf conn heard }
+    ensures leads { (start : DirectoryEntries) (added : List Item) →
+        IsHeard start (held (D.entries dir.old) hub.old) waiting.old.on_hold.items (journal_event_of heard.entry) added →
+        After result start (D.entries dir.new) (IsServing start waiting.new.due.items (held (D.entries dir.new) hub.new) waiting.new.on_hold.items) added }
+{
+    match hub.hear(dir, heard) {
+        Ok(()) => waiting.begin_with(conn),
+        Err(_) => Err(AllocError),
+    }
+}
+
+/// Begins the block of an event that the link gave, whose octets stand at the front of the buffer.
+fn begin_block<D: Dir, L: Link>(
+    hub: &mut Hub,
+    dir: &mut D,
+    waiting: &mut Waiting,
+    link: &mut L,
+    buffer: &[u8],
+    heard: Heard,
+) -> Result<(), AllocError>
+    requires { HeardFits (length buffer.now) heard }
+    ensures adds { (start : DirectoryEntries) → Adds (L.plan link.old)
+        (IsHeard start (held (D.entries dir.old) hub.old) waiting.old.on_hold.items (event_of buffer.now heard))
+        (After result start (D.entries dir.new) (IsServing start waiting.new.due.items (held (D.entries dir.new) hub.new) waiting.new.on_hold.items))
+        (L.journal link.old) (L.journal link.new) }
+    ensures serves { OnlyServes (L.plan link.old) (L.plan link.new) (L.faults link.old) (L.faults link.new) (L.lost link.old) (L.lost link.new) }
+{
+    match heard {
+        Heard::Opened(conn) => greet(hub, dir, waiting, link, conn),
+        Heard::Bytes(conn, count) => {
+            let piece = buffer.split_at(count).0;
+            hear_on(hub, dir, waiting, conn, Event::Bytes(conn, piece))
+        }
+        Heard::Ended(conn) => hear_on(hub, dir, waiting, conn, Event::Ended(conn)),
+        Heard::Ready(_) => waiting.begin(),
+        Heard::Idle => waiting.begin(),
+        Heard::Stop => waiting.begin(),
+    }
+}
+
+/// Serves an event that the link gave.
+pub fn serve_event<D: Dir, L: Link>(
+    hub: &mut Hub,
+    dir: &mut D,
+    waiting: &mut Waiting,
+    link: &mut L,
+    buffer: &[u8],
+    heard: Heard,
+) -> Result<(), AllocError>
+    requires { HeardFits (length buffer.now) heard }
+    ensures adds { (start : DirectoryEntries) → Adds (L.plan link.old)
+        (IsHeard start (held (D.entries dir.old) hub.old) waiting.old.on_hold.items (event_of buffer.now heard))
+        (After result start (D.entries dir.new) (IsServing start [] (held (D.entries dir.new) hub.new) waiting.new.on_hold.items))
+        (L.journal link.old) (L.journal link.new) }
+    ensures serves { OnlyServes (L.plan link.old) (L.plan link.new) (L.faults link.old) (L.faults link.new) (L.lost link.old) (L.lost link.new) }
+{
+    match begin_block(hub, dir, waiting, link, buffer, heard) {
+        Ok(()) => settle_all(hub, waiting, link),
+        Err(_) => Err(AllocError),
+    }
+}
