@@ -11,7 +11,7 @@ use Rattle.script_text.proofs.Theorems.{script_of-err}
 use Rattle.wire_io.specs.Scripted.{LinkState}
 use Rattle.acl_program.specs.declared.loading.Trouble.{Trouble}
 use Rattle.acl_program.specs.declared.loading.Trouble.TheVariants as trouble
-use Rattle.dir_tree.specs.Trees.{Numbered}
+use Rattle.dir_tree.specs.Numbered.{Numbered}
 use Rattle.dir_tree.specs.Numbered.{entries_of}
 use Rattle.op_write.specs.declared.fault.LoadCause.TheVariants.{Limit}
 use Rattle.op_write.specs.DataFile.{OfRecord, loads}

@@ -2,7 +2,7 @@
 use Rattle.std.proofs.Common.{◌≡◌, ℕ, Bool, List, Option, Ok, Err, refl, subst, ◌∙◌, inl, inr}
 use Rattle.wire_io.specs.Files.{Files}
 use Rattle.command_words.specs.Command.{CommandView, Replay, Check, Dump}
-use Rattle.dir_tree.specs.Trees.{Numbered}
+use Rattle.dir_tree.specs.Numbered.{Numbered}
 use Rattle.dir_tree.specs.Numbered.{entries_of}
 use Rattle.acl_program.specs.declared.status.Status.{Status}
 use Rattle.acl_program.specs.declared.loading.Trouble.{Trouble}

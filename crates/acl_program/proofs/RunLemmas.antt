@@ -12,9 +12,9 @@ use Rattle.session_hub.specs.declared.ended.Ended.TheVariants as ended
 use Rattle.session_hub.specs.Loops.{buffer_length}
 use Rattle.command_words.specs.Command.{CommandView, IsCommand}
 use Rattle.dir_tree.specs.Entries.{EntryInformation}
-use Rattle.dir_tree.specs.Trees.{Numbered}
+use Rattle.dir_tree.specs.Numbered.{Numbered}
 use Rattle.dir_tree.specs.Numbered.{entries_of}
-use Rattle.data_file.specs.Files.{AreOfTable}
+use Rattle.schema_rules.specs.Rules.{IsGoodTree}
 use Rattle.acl_program.specs.declared.status.Status.{Status}
 use Rattle.acl_program.specs.declared.status.Status.TheVariants.{Done, Usage, BadData, ShelfFault, SinkFault, LinkFault, TurnsSpent, NoMemory, BadScript}
 use Rattle.acl_program.specs.declared.loading.Trouble.{Trouble}
@@ -73,10 +73,10 @@ pub Loads-fresh : (files : Option Files) (name : List ℕ) (before after : ℕ) 
 unfolding Loads
 Loads-fresh files name before after link loads = loads.1
 
--- the types of a tree that was loaded are in the table
-pub LoadsData-table : (files : Option Files) (name : List ℕ) (before after : ℕ) (rows : List Numbered) → LoadsData files name before after (Ok rows) → AreOfTable (entries_of rows)
+-- a tree that was loaded is good
+pub LoadsData-good : (files : Option Files) (name : List ℕ) (before after : ℕ) (rows : List Numbered) → LoadsData files name before after (Ok rows) → IsGoodTree (entries_of rows)
 unfolding LoadsData
-LoadsData-table files name before after rows loads = loads.1
+LoadsData-good files name before after rows loads = loads.1
 
 module _ (script : List ℕ) (turns : ℕ) (dump : Bool) (entries : List EntryInformation) (files : Option Files) (before after : ℕ)
     (old : Option (List ℕ)) (sink_before : ℕ) (status : Status) (new : Option (List ℕ)) (sink_after : ℕ) where

@@ -12,10 +12,10 @@ use Rattle.session_hub.specs.declared.ended.Ended.TheVariants as ended
 use Rattle.session_hub.specs.Loops.{buffer_length}
 use Rattle.command_words.specs.Command.{CommandView, IsCommand}
 use Rattle.dir_tree.specs.Entries.{EntryInformation}
-use Rattle.dir_tree.specs.Trees.{Numbered}
+use Rattle.dir_tree.specs.Numbered.{Numbered}
 use Rattle.ldif_core.specs.WrittenFile.{written_file}
 use Rattle.dir_tree.specs.Numbered.{entries_of}
-use Rattle.data_file.specs.Files.{AreOfTable}
+use Rattle.schema_rules.specs.Rules.{IsGoodTree}
 use Rattle.acl_program.specs.declared.status.Status.{Status}
 use Rattle.acl_program.specs.declared.status.Status.TheVariants.{Done, Usage, BadData, ShelfFault, SinkFault, LinkFault, TurnsSpent, NoMemory, BadScript}
 use Rattle.acl_program.specs.Lines.{line_of, replay_text, entries_after}
@@ -36,10 +36,10 @@ abbrev pub dumped_text : Option (List Numbered) → List ℕ
 dumped_text None = []
 dumped_text (Some rows) = written_file (entries_of rows)
 
--- its types are in the table
+-- it is good
 abbrev pub IsDumpable : Option (List Numbered) → Type 0
 IsDumpable None = Unit {0}
-IsDumpable (Some rows) = AreOfTable (entries_of rows)
+IsDumpable (Some rows) = IsGoodTree (entries_of rows)
 
 -- what a loop of so many turns over a script and these entries leaves: the journal tells the replay's lines, and the entries
 -- are those that the replay leaves

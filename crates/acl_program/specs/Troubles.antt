@@ -6,13 +6,14 @@ use Rattle.wire_io.specs.declared.answers.ReadFault.{ReadFault}
 use Rattle.wire_io.specs.declared.answers.ReadFault.TheVariants as read
 use Rattle.wire_io.specs.Files.{Files}
 use Rattle.wire_io.specs.Scripted.{LinkState, fresh_link}
-use Rattle.dir_tree.specs.Trees.{Numbered}
+use Rattle.dir_tree.specs.Numbered.{Numbered}
 use Rattle.dir_tree.specs.Numbered.{entries_of}
 use Rattle.op_write.specs.declared.fault.LoadCause.TheVariants.{Limit}
 use Rattle.data_file.specs.declared.fault.DataCause.TheVariants as DataCause
 use Rattle.data_file.specs.declared.fault.DataFault.{DataFault}
 use Rattle.data_file.specs.declared.fault.DataFault.TheVariants as loading
-use Rattle.data_file.specs.Files.{AreOfTable, cause_of}
+use Rattle.schema_rules.specs.Rules.{IsGoodTree}
+use Rattle.data_file.specs.Files.{cause_of}
 use Rattle.acl_program.specs.declared.loading.Trouble.{Trouble}
 use Rattle.acl_program.specs.declared.loading.Trouble.TheVariants as trouble
 use Rattle.acl_program.specs.Outcomes.{Outcome, NoFile, BadDataLine, BadLine, OutOfMemory}
@@ -20,7 +21,7 @@ use Rattle.acl_program.specs.Causes.{IsUnread, HoldsIn, IsBadData, IsGoodData, I
 
 -- the data file of the name was loaded, or why not
 unfoldable pub LoadsData : Option Files → List ℕ → ℕ → ℕ → Result (List Numbered) Trouble → Type 0
-LoadsData files name before after (Ok rows) = HoldsIn files name (IsGoodData (entries_of rows)) × AreOfTable (entries_of rows) × (after ≡ before)
+LoadsData files name before after (Ok rows) = HoldsIn files name (IsGoodData (entries_of rows)) × IsGoodTree (entries_of rows) × (after ≡ before)
 LoadsData files name before after (Err trouble.NoFile) = IsUnread files name before after
 LoadsData files name before after (Err (trouble.BadData line cause)) = HoldsIn files name (IsBadData line (cause_of cause)) × (after ≡ before)
 LoadsData files name before after (Err (trouble.BadLine line)) = ⊥
@@ -28,7 +29,7 @@ LoadsData files name before after (Err trouble.NoMemory) = after ≡ before
 
 -- the data file was loaded, or is bad at this line
 unfoldable pub ReadsData : List ℕ → Result (List Numbered) Trouble → Type 0
-ReadsData content (Ok rows) = IsGoodData (entries_of rows) content × AreOfTable (entries_of rows)
+ReadsData content (Ok rows) = IsGoodData (entries_of rows) content × IsGoodTree (entries_of rows)
 ReadsData content (Err trouble.NoFile) = ⊥
 ReadsData content (Err (trouble.BadData line cause)) = IsBadData line (cause_of cause) content
 ReadsData content (Err (trouble.BadLine line)) = ⊥

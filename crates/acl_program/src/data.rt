@@ -3,7 +3,7 @@
 ghost use Rattle.std.specs.Prelude.{◌≡◌, IfOk, string_bytes};
 ghost use Rattle.command_words.specs.Command.{Check, Dump};
 ghost use Rattle.dir_tree.specs.Numbered.{entries_of};
-ghost use Rattle.data_file.specs.Files.{AreOfTable};
+ghost use Rattle.schema_rules.specs.Rules.{IsGoodTree};
 ghost use Rattle.acl_program.specs.Outcomes.{Checked, Dumped, status_of, text_of};
 ghost use Rattle.acl_program.specs.Playing.{Ends, Performs};
 
@@ -49,7 +49,7 @@ fn counts(alloc: Global, tree: &Tree) -> Result<String, AllocError>
     ensures { IfOk result (λ text. string_bytes text ≡ text_of (Checked (entries_of tree.now))) }
 {
     let entries = tree.len();
-    let subentries = tree.access_subentries();
+    let subentries = tree.access_subentries().len();
     format!(in alloc; "ok {entries} {subentries}\n")
 }
 
@@ -73,7 +73,7 @@ pub(crate) fn dump<H: Shelf, K: Sink>(
 /// Prints the tree as a data file.
 #[tactic(auto, unfolding(crate::specs::Outcomes::text_of, crate::specs::Outcomes::status_of))]
 fn print_tree<K: Sink>(alloc: Global, tree: &Tree, out: &mut K) -> Status
-    requires { AreOfTable (entries_of tree.now) }
+    requires { IsGoodTree (entries_of tree.now) }
     ensures ends { Ends (Dumped (entries_of tree.now)) (K.put out.old) (K.faults out.old) result (K.put out.new) (K.faults out.new) }
 {
     let put = put_tree(alloc, tree, out);

@@ -6,7 +6,7 @@ ghost use Rattle.command_words.specs.Command.{Replay};
 ghost use Rattle.wire_io.specs.Scripted.{fresh_link};
 ghost use Rattle.dir_tree.specs.Numbered.{entries_of};
 ghost use Rattle.acl_program.specs.Outcomes.{Replayed, dump_text};
-ghost use Rattle.data_file.specs.Files.{AreOfTable};
+ghost use Rattle.schema_rules.specs.Rules.{IsGoodTree};
 ghost use Rattle.acl_program.specs.Playing.{Performs, Plays, Shows, Ends, dumped_text, IsDumpable, Replays};
 
 use crate::loading::{load_data, load_script};
@@ -55,7 +55,7 @@ fn replay_over<H: Shelf, K: Sink>(
     shelf: &mut H,
     out: &mut K,
 ) -> Status
-    requires table { AreOfTable (entries_of tree) }
+    requires good { IsGoodTree (entries_of tree) }
     ensures replays { Replays asked.now.script.now asked.now.turns asked.now.dump (entries_of tree)
         (H.files shelf.old) (H.faults shelf.old) (H.faults shelf.new)
         (K.put out.old) (K.faults out.old) result (K.put out.new) (K.faults out.new) }
@@ -76,9 +76,9 @@ fn replay_over<H: Shelf, K: Sink>(
 
 /// The tree, where it is to be put.
 fn dumped(tree: &Tree, dump: bool) -> Option<&Tree>
-    requires table { IsDumpable (Some tree.now) }
+    requires good { IsDumpable (Some tree.now) }
     ensures text { dumped_text (option_map (λ tree. tree.now) result) ≡ dump_text dump (entries_of tree.now) }
-    ensures table { IsDumpable (option_map (λ tree. tree.now) result) }
+    ensures good { IsDumpable (option_map (λ tree. tree.now) result) }
 {
     if dump { Some(tree) } else { None }
 }
@@ -94,7 +94,7 @@ fn play<K: Sink>(
     out: &mut K,
 ) -> Status
     requires fresh { link ≡ fresh_link link.plan.to_come [] [] [] }
-    requires table { AreOfTable (entries_of dir) }
+    requires good { IsGoodTree (entries_of dir) }
     ensures ends { Ends (Replayed link.plan.to_come turns dump (entries_of dir))
         (K.put out.old) (K.faults out.old) result (K.put out.new) (K.faults out.new) }
 {
@@ -131,7 +131,7 @@ fn show<K: Sink>(
     status: Status,
     out: &mut K,
 ) -> Status
-    requires table { IsDumpable (option_map (λ tree. tree.now) dumped) }
+    requires good { IsDumpable (option_map (λ tree. tree.now) dumped) }
     ensures ends { Shows link.now.journal (dumped_text (option_map (λ tree. tree.now) dumped.entry)) status
         (K.put out.old) (K.faults out.old) result (K.put out.new) (K.faults out.new) }
 {

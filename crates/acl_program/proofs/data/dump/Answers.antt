@@ -1,11 +1,11 @@
 use Rattle.command_words.specs.Command.{Dump}
-use Rattle.acl_program.proofs.RunLemmas.{LoadsData-table}
+use Rattle.acl_program.proofs.RunLemmas.{LoadsData-good}
 use Rattle.acl_program.proofs.PerformLemmas.{Performs-dumped, Performs-refused}
 use Rattle.acl_program.proofs.data.dump.Goals as goal
 
--- the types of the tree are in the table
+-- the tree is good
 pub print_tree-requires : goal.print_tree-requires
-print_tree-requires g c = LoadsData-table _ _ _ _ _ c.in-Ok.ensures.exact
+print_tree-requires g c = LoadsData-good _ _ _ _ _ c.in-Ok.ensures.exact
 
 -- the data file was loaded
 pub returns-in-Ok-clause-performs : goal.returns-in-Ok-clause-performs

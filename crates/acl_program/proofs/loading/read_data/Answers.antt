@@ -5,7 +5,7 @@ use Rattle.acl_program.proofs.loading.read_data.Goals as goal
 -- the text is accepted
 pub returns-in-Ok : goal.returns-in-Ok
 unfolding ReadsData
-returns-in-Ok c = record { exact = (record { short = c.requires; loaded = c.in-Ok.ensures.ok }, c.in-Ok.ensures.table) }
+returns-in-Ok c = record { exact = (record { short = c.requires; loaded = c.in-Ok.ensures.ok }, c.in-Ok.ensures.good) }
 
 -- it isn't
 pub returns-in-Err : goal.returns-in-Err

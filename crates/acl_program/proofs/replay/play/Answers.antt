@@ -1,12 +1,12 @@
 use Rattle.std.proofs.Common.{sym, ap, ◌∙◌, subst}
-use Rattle.data_file.specs.Files.{AreOfTable}
+use Rattle.schema_rules.specs.Rules.{IsGoodTree}
 use Rattle.acl_program.specs.Outcomes.{dump_text}
 use Rattle.acl_program.proofs.RunLemmas.{Played-stopped, Played-spent, Played-nothing, no_fault}
 use Rattle.acl_program.proofs.replay.play.Goals as goal
 
 -- Stop was heard
 pub dumped-requires : goal.dumped-requires
-dumped-requires g c = record { table = subst AreOfTable (sym (c.tree.ensures ∙ c.in-Stopped.ensures.stays)) c.requires.table }
+dumped-requires g c = record { good = subst IsGoodTree (sym (c.tree.ensures ∙ c.in-Stopped.ensures.stays)) c.requires.good }
 
 pub returns-in-Stopped : goal.returns-in-Stopped
 returns-in-Stopped g c =
@@ -14,7 +14,7 @@ returns-in-Stopped g c =
 
 -- the turns are spent
 pub dumped-requires-in-TurnsSpent : goal.dumped-requires-in-TurnsSpent
-dumped-requires-in-TurnsSpent g c = record { table = subst AreOfTable (sym (c.tree-in-TurnsSpent.ensures ∙ c.in-TurnsSpent.ensures.stays)) c.requires.table }
+dumped-requires-in-TurnsSpent g c = record { good = subst IsGoodTree (sym (c.tree-in-TurnsSpent.ensures ∙ c.in-TurnsSpent.ensures.stays)) c.requires.good }
 
 pub returns-in-TurnsSpent : goal.returns-in-TurnsSpent
 returns-in-TurnsSpent g c =

@@ -1,11 +1,11 @@
 use Rattle.command_words.specs.Command.{Replay}
-use Rattle.acl_program.proofs.RunLemmas.{LoadsData-table}
+use Rattle.acl_program.proofs.RunLemmas.{LoadsData-good}
 use Rattle.acl_program.proofs.PerformLemmas.{Performs-replayed, Performs-refused}
 use Rattle.acl_program.proofs.replay.replay.Goals as goal
 
--- the types of the tree are in the table
+-- the tree is good
 pub replay_over-requires : goal.replay_over-requires
-replay_over-requires g c = record { table = LoadsData-table _ _ _ _ _ c.in-Ok.ensures.exact }
+replay_over-requires g c = record { good = LoadsData-good _ _ _ _ _ c.in-Ok.ensures.exact }
 
 -- the data file was loaded
 pub returns-in-Ok-clause-performs : goal.returns-in-Ok-clause-performs

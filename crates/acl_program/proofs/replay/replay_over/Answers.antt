@@ -1,12 +1,12 @@
 use Rattle.std.proofs.Common.{sym, ap, subst}
 use Rattle.acdf_core.specs.Entries.{entries_of}
-use Rattle.data_file.specs.Files.{AreOfTable}
+use Rattle.schema_rules.specs.Rules.{IsGoodTree}
 use Rattle.acl_program.proofs.RunLemmas.{Loads-fresh, Replays-played, Replays-refused}
 use Rattle.acl_program.proofs.replay.replay_over.Goals as goal
 
 -- the link is fresh
 pub play-requires : goal.play-requires
-play-requires g c = record { fresh = Loads-fresh _ _ _ _ _ c.in-Ok.ensures.exact; table = subst (λ rows. AreOfTable (entries_of rows)) (sym c.new.ensures) c.requires.table }
+play-requires g c = record { fresh = Loads-fresh _ _ _ _ _ c.in-Ok.ensures.exact; good = subst (λ rows. IsGoodTree (entries_of rows)) (sym c.new.ensures) c.requires.good }
 
 -- the script was read
 pub returns-in-Ok-clause-replays : goal.returns-in-Ok-clause-replays
