@@ -11,6 +11,8 @@ mod keys;
 #[cfg(test)]
 mod names;
 #[cfg(test)]
+mod paths;
+#[cfg(test)]
 mod tables;
 #[cfg(test)]
 mod trees;
