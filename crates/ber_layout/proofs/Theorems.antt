@@ -1,0 +1,10 @@
+-- What crates above may cite.
+
+-- what is read of a layout is what the octets say, and what is made of it
+pub use Rattle.ber_layout.proofs.LayoutLemmas.{Sound, sound_into, complete_into, reads_sound, reads_complete}
+-- what is written says the value, and is read again
+pub use Rattle.ber_layout.proofs.SpellingLemmas.{element_spells, writes_says, written_into, reads_again}
+-- a step of a reading that gave something
+pub use Rattle.ber_layout.proofs.StepLemmas.{bind_some, guard_some, guard_passed}
+-- an element is found, whatever follows it, and one that was found stands there
+pub use Rattle.ber_layout.proofs.PieceLemmas.{piece_sound, piece_again}
