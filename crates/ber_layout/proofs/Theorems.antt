@@ -8,3 +8,5 @@ pub use Rattle.ber_layout.proofs.SpellingLemmas.{element_spells, writes_says, wr
 pub use Rattle.ber_layout.proofs.StepLemmas.{bind_some, guard_some, guard_passed}
 -- an element is found, whatever follows it, and one that was found stands there
 pub use Rattle.ber_layout.proofs.PieceLemmas.{piece_sound, piece_again}
+-- an element with a tag that is read stands there, and one that stands there is read
+pub use Rattle.ber_layout.proofs.ComponentLemmas.{Stands, follows, required_sound, required_again}

@@ -2,12 +2,12 @@
 
 ghost use Rattle.std.specs.Prelude.{◌≡◌, ◌≤◌, ℕ, Bool, map, option_map, IfOk, OnOk, ◌++◌, ◌∷◌, []};
 ghost use Rattle.ber_layout.specs.Flags.{flag_of};
-ghost use Rattle.ber_layout.specs.Components.{required_of, optional_of, marked_of, each_of};
+ghost use Rattle.ber_layout.specs.Components.{any_of, required_of, optional_of, marked_of, each_of};
 ghost use Rattle.ber_layout.specs.Layouts.{reads};
-ghost use Rattle.ber_layout.specs.Layouts.Layout.{AnyOctets, Number, Flag, End, Each};
+ghost use Rattle.ber_layout.specs.Layouts.Layout.{AnyOctets, Ignored, Number, Skipped, Flag, End, Each};
 ghost use Rattle.ber_layout.specs.Reading.{Gives};
 
-use crate::element::{begins, number, tagged};
+use crate::element::{Element, any_element, begins, number, tagged};
 use crate::kinds::{Component, NoMemory, ReadFault};
 use crate::laid::Laid;
 use plain_values::{Octets, OneOrMany};
@@ -64,6 +64,33 @@ pub fn integer(tag: u8, low: u32, high: u32, bytes: &[u8]) -> Result<Component<'
         value,
         rest: element.rest,
     })
+}
+
+/// An element with any tag.
+#[tactic(auto, unfolding(crate::specs::Components::any_of))]
+pub fn any(bytes: &[u8]) -> Result<Element<'_>, ReadFault>
+    ensures { Gives (λ found. record { value = (found.tag, found.content.now); rest = found.rest.now }) result (any_of bytes.now) }
+{
+    any_element(bytes)
+}
+
+/// What follows an element with this tag, whatever its content.
+#[tactic(auto, unfolding(crate::specs::Components::required_of, crate::specs::Layouts::reads_into))]
+pub fn ignored(tag: u8, bytes: &[u8]) -> Result<&[u8], ReadFault>
+    ensures { Gives (λ rest. record { value = tt; rest = rest.now }) result (required_of tag (reads Ignored) bytes.now) }
+{
+    let element = tagged(tag, bytes)?;
+    Ok(element.rest)
+}
+
+/// What follows a number from `low` to `high` in an element with this tag.
+#[tactic(auto, unfolding(crate::specs::Components::required_of, crate::specs::Layouts::reads_into))]
+pub fn skipped(tag: u8, low: u32, high: u32, bytes: &[u8]) -> Result<&[u8], ReadFault>
+    ensures { Gives (λ rest. record { value = tt; rest = rest.now }) result (required_of tag (reads (Skipped low high)) bytes.now) }
+{
+    let element = tagged(tag, bytes)?;
+    number(low, high, element.content)?;
+    Ok(element.rest)
 }
 
 fn flag_in(content: &[u8]) -> Result<bool, ReadFault>
@@ -176,4 +203,11 @@ pub fn octets_list(
     ensures { Gives (λ found. record { value = (found.value, tt); rest = found.rest.now }) result (required_of outer (reads (Each tag AnyOctets End)) bytes.now) }
 {
     list::<Octets>(alloc, outer, tag, bytes)
+}
+
+/// Octets in an element with this tag, or none where the octets begin with another.
+pub fn optional_octets(alloc: Global, tag: u8, bytes: &[u8]) -> Result<Component<'_, Option<Octets>>, ReadFault>
+    ensures { Gives (λ found. record { value = found.value; rest = found.rest.now }) result (optional_of tag (reads AnyOctets) bytes.now) }
+{
+    optional::<Octets>(alloc, tag, bytes)
 }

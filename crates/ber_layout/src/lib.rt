@@ -9,7 +9,9 @@ mod laid;
 mod laws;
 mod write;
 
-pub use components::{each, flag, integer, list, marked, octets_list, optional, required};
+pub use components::{
+    any, each, flag, ignored, integer, list, marked, octets_list, optional, optional_octets, required, skipped,
+};
 pub use element::{
     Element, any_element, begins, first_element, is_further, is_further_but, number, tagged,
 };

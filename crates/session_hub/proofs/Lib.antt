@@ -2,7 +2,6 @@ pub mod StreamLemmas
 pub mod PlaceLemmas
 pub mod HearLemmas
 pub mod HubLemmas
-pub mod AnswerLemmas
 pub mod AddingLemmas
 pub mod FollowingLemmas
 pub mod ServingLemmas
