@@ -7,5 +7,6 @@ pub mod SpellingLemmas
 pub mod EncloseLemmas
 pub mod FaultLemmas
 pub mod WritingLemmas
+pub mod RangeLemmas
 pub mod Theorems
 pub mod Examples

@@ -10,3 +10,9 @@ pub use Rattle.ber_layout.proofs.StepLemmas.{bind_some, guard_some, guard_passed
 pub use Rattle.ber_layout.proofs.PieceLemmas.{piece_sound, piece_again}
 -- an element with a tag that is read stands there, and one that stands there is read
 pub use Rattle.ber_layout.proofs.ComponentLemmas.{Stands, follows, required_sound, required_again}
+-- a value in its ranges fits where all that is written of it is short
+pub use Rattle.ber_layout.proofs.RangeLemmas.{fits_within}
+-- an element at the front that is read stands there, and one that stands there is read
+pub use Rattle.ber_layout.proofs.ComponentLemmas.{any_sound, any_again}
+-- a fault of a part is one of the whole
+pub use Rattle.ber_layout.proofs.FaultLemmas.{fails_so}

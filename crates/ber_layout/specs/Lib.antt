@@ -4,5 +4,6 @@ pub mod Flags
 pub mod Components
 pub mod Layouts
 pub mod Spellings
+pub mod Ranges
 pub mod Reading
 pub mod Laws

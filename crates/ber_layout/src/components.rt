@@ -205,6 +205,17 @@ pub fn octets_list(
     list::<Octets>(alloc, outer, tag, bytes)
 }
 
+/// Octets of as many elements as begin with this tag.
+pub fn each_octets(alloc: Global, tag: u8, bytes: &[u8]) -> Result<Component<'_, OneOrMany<Octets>>, ReadFault>
+    ensures { Gives (λ found. record { value = found.value; rest = found.rest.now }) result (each_of tag (reads AnyOctets) bytes.now) }
+{
+    let found = each::<Octets>(alloc, tag, bytes)?;
+    Ok(Component {
+        value: OneOrMany::from_vec(found.value),
+        rest: found.rest,
+    })
+}
+
 /// Octets in an element with this tag, or none where the octets begin with another.
 pub fn optional_octets(alloc: Global, tag: u8, bytes: &[u8]) -> Result<Component<'_, Option<Octets>>, ReadFault>
     ensures { Gives (λ found. record { value = found.value; rest = found.rest.now }) result (optional_of tag (reads AnyOctets) bytes.now) }

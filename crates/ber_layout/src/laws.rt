@@ -1,6 +1,6 @@
 //! Laws over the definitions: each function's clause is the law, and its body does nothing.
 
-ghost use Rattle.ber_layout.specs.Laws.{ReadingIsSound, ReadingIsComplete, WritingSays, WritingIsReadAgain};
+ghost use Rattle.ber_layout.specs.Laws.{ReadingIsSound, ReadingIsComplete, WritingSays, WritingIsReadAgain, ShortValuesFit};
 
 /// What is read of a layout is what the octets say.
 pub fn reading_is_sound()
@@ -20,4 +20,9 @@ pub fn writing_says()
 /// What is written is read again.
 pub fn writing_is_read_again()
     ensures { WritingIsReadAgain }
+{}
+
+/// A value in its ranges fits where all that is written of it is short.
+pub fn short_values_fit()
+    ensures { ShortValuesFit }
 {}

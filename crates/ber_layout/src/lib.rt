@@ -10,15 +10,17 @@ mod laws;
 mod write;
 
 pub use components::{
-    any, each, flag, ignored, integer, list, marked, octets_list, optional, optional_octets, required, skipped,
+    any, each, each_octets, flag, ignored, integer, list, marked, octets_list, optional, optional_octets, required, skipped,
 };
 pub use element::{
     Element, any_element, begins, first_element, is_further, is_further_but, number, tagged,
 };
 pub use kinds::{Component, NoMemory, ReadFault};
 pub use laid::Laid;
-pub use laws::{reading_is_complete, reading_is_sound, writing_is_read_again, writing_says};
+pub use laws::{
+    reading_is_complete, reading_is_sound, short_values_fit, writing_is_read_again, writing_says,
+};
 pub use write::{
-    enclose, put_element, put_flag, put_inside, put_list, put_mark, put_number, put_octets_list,
+    enclose, put_each_octets, put_element, put_flag, put_inside, put_list, put_mark, put_number, put_octets_list,
     put_optional,
 };

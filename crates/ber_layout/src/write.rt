@@ -128,6 +128,15 @@ fn put_each<T: Laid>(out: &mut Vec<u8>, tag: u8, values: &[T]) -> Result<(), NoM
     Ok(())
 }
 
+/// Appends an element of these octets for each value.
+pub fn put_each_octets(out: &mut Vec<u8>, tag: u8, values: &[Octets]) -> Result<(), NoMemory>
+    requires { IsTag tag }
+    ensures ok { OnOk result (out.new.items ≡ out.old.items ++ each_octets tag (λ octets. octets) values.now) }
+    ensures kept { Extends out.old.items out.new.items }
+{
+    put_each::<Octets>(out, tag, values)
+}
+
 /// Appends an element with the tag `outer` that holds an element with the tag `tag` for each value.
 pub fn put_list<T: Laid>(
     out: &mut Vec<u8>,

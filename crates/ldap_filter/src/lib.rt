@@ -2,5 +2,9 @@
 #![tactic(auto)]
 
 mod assertion;
+mod filter;
+mod reading;
 
 pub use assertion::{Assertion, put_assertion};
+pub use filter::{Filter, Node};
+pub use reading::{MOST_DEEP, read_filter};

@@ -7,3 +7,5 @@ pub mod ContentLemmas
 pub mod MessageLemmas
 pub mod ReplyLemmas
 pub mod AnswerLemmas
+pub mod WrittenLemmas
+pub mod Theorems

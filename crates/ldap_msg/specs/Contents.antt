@@ -9,6 +9,7 @@ use Rattle.ldap_msg.specs.declared.operations.Operation.{Operation}
 use Rattle.ldap_msg.specs.declared.operations.Operation.TheVariants as operation
 use Rattle.ldap_msg.specs.Operations.{operation_of}
 use Rattle.ldap_msg.specs.Binds.{bind_layout, bind_parts, bind_from, bind_of}
+use Rattle.ldap_msg.specs.Searches.{search_layout, search_parts, SaysSearch, search_of}
 use Rattle.ldap_msg.specs.Kinds.{modify_layout, modify_parts, modify_from, add_layout, add_parts, add_from, rename_layout, rename_parts, rename_from, compare_layout, compare_parts, compare_from, extended_layout, abandon_layout}
 
 -- the octets say parts of which the value is made
@@ -21,6 +22,7 @@ pub record SaysBy (l : Layout) {A : Type 0} (from : Value l → A) (value : A) (
 abbrev pub operation_for : Request → Operation
 operation_for (request.Bind bind) = operation.Bind
 operation_for request.Unbind = operation.Unbind
+operation_for (request.Search search) = operation.Search
 operation_for (request.Modify modify) = operation.Modify
 operation_for (request.Add add) = operation.Add
 operation_for (request.Delete delete) = operation.Delete
@@ -33,6 +35,7 @@ operation_for (request.Extended name value) = operation.Extended
 abbrev pub SaysContent : Request → List ℕ → Type 0
 SaysContent (request.Bind bind) content = SaysBy bind_layout bind_from bind content
 SaysContent request.Unbind content = SaysLayout End tt content
+SaysContent (request.Search search) content = SaysSearch search content
 SaysContent (request.Modify modify) content = SaysBy modify_layout modify_from modify content
 SaysContent (request.Add add) content = SaysBy add_layout add_from add content
 SaysContent (request.Delete delete) content = SaysLayout AnyOctets delete.name content
@@ -45,7 +48,7 @@ SaysContent (request.Extended name value) content = SaysLayout extended_layout (
 abbrev pub request_in : Operation → List ℕ → Option Request
 request_in operation.Bind content = bind_of content >>= λ bind. Some (request.Bind bind)
 request_in operation.Unbind content = reads End content >>= λ parts. Some request.Unbind
-request_in operation.Search content = None
+request_in operation.Search content = search_of content >>= λ search. Some (request.Search search)
 request_in operation.Modify content = reads modify_layout content >>= λ parts. Some (request.Modify (modify_from parts))
 request_in operation.Add content = reads add_layout content >>= λ parts. Some (request.Add (add_from parts))
 request_in operation.Delete content = reads AnyOctets content >>= λ name. Some (request.Delete (record { name = name }))
@@ -62,6 +65,7 @@ request_of element = operation_of element.0 >>= λ operation. request_in operati
 abbrev pub content_octets : Request → List ℕ
 content_octets (request.Bind bind) = writes bind_layout (bind_parts bind)
 content_octets request.Unbind = []
+content_octets (request.Search search) = writes search_layout (search_parts search)
 content_octets (request.Modify modify) = writes modify_layout (modify_parts modify)
 content_octets (request.Add add) = writes add_layout (add_parts add)
 content_octets (request.Delete delete) = delete.name

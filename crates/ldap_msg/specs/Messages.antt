@@ -59,6 +59,7 @@ request_octets message = element_octets 0x30 (writes message_layout (message_par
 abbrev pub HasOwnTag : Request → Type 0
 HasOwnTag (request.Bind bind) = HasTag bind.auth
 HasOwnTag request.Unbind = Unit {0}
+HasOwnTag (request.Search search) = Unit {0}
 HasOwnTag (request.Modify modify) = Unit {0}
 HasOwnTag (request.Add add) = Unit {0}
 HasOwnTag (request.Delete delete) = Unit {0}

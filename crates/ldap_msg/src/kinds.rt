@@ -1,5 +1,6 @@
 //! The values of this crate (RFC 4511 section 4).
 
+use ldap_filter::Filter;
 use plain_values::{Octets, OneOrMany};
 use std::alloc::AllocError;
 
@@ -90,13 +91,29 @@ pub struct CompareRequest {
     pub value: Octets,
 }
 
+/// A search request (RFC 4511 4.5.1).
+#[derive(Drop)]
+pub struct SearchRequest {
+    pub base: Octets,
+    /// 0 the base alone, 1 what stands immediately below it, 2 both and all below.
+    pub scope: u8,
+    /// The most entries to be sent, 0 for no limit; up to 2,147,483,647.
+    pub size: u32,
+    /// Whether values are left out.
+    pub kinds_only: bool,
+    pub filter: Filter,
+    pub selection: OneOrMany<Octets>,
+}
+
 /// What a client asks for.
-#[derive(Debug, Drop)]
+#[derive(Drop)]
 pub enum Request {
     /// To bind (RFC 4511 4.2).
     Bind(BindRequest),
     /// To end the session (RFC 4511 4.3).
     Unbind,
+    /// To search entries (RFC 4511 4.5.1).
+    Search(SearchRequest),
     /// To change an entry's attributes (RFC 4511 4.6).
     Modify(ModifyRequest),
     /// To add an entry (RFC 4511 4.7).
@@ -122,7 +139,7 @@ pub struct Control {
 }
 
 /// A request's message (RFC 4511 4.1.1).
-#[derive(Debug, Drop)]
+#[derive(Drop)]
 pub struct Message {
     /// From 1 to 2,147,483,647.
     pub id: u32,

@@ -7,19 +7,27 @@ mod controls;
 mod extended;
 mod framing;
 mod kinds;
+mod laws;
 mod operations;
 mod reading;
 mod replies;
 mod requests;
 mod results;
+mod search;
 mod writing;
 
 pub use ber_layout::ReadFault;
+pub use ldap_filter::{Filter, Node};
 pub use framing::frame;
 pub use kinds::{
     AddRequest, Auth, BindRequest, Change, CompareRequest, Control, DeleteRequest, Frame,
     KindValues, LdapResult, MAX_CONTENT, Message, ModifyRequest, NoMemory, RenameRequest, Reply,
-    Request,
+    Request, SearchRequest,
+};
+pub use laws::{
+    broken_streams, messages_are_longest, messages_are_read, one_message, replies_are_read,
+    replies_are_read_again, replies_have_octets, requests_are_read_again, rests_are_done,
+    streams_go_on, streams_step,
 };
 pub use operations::{Operation, Response, ResultCode};
 pub use reading::read_request;

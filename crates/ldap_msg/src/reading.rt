@@ -17,6 +17,7 @@ use crate::kinds::{
     Request,
 };
 use crate::operations::Operation;
+use crate::search::search;
 use ber_layout::{Laid, ReadFault, any, integer, is_further_but, number, tagged};
 use plain_values::{Octets, OneOrMany};
 use std::alloc::Global;
@@ -67,12 +68,6 @@ fn abandon(content: &[u8]) -> Result<Request, ReadFault>
     Ok(Request::Abandon(number(0, MAX_ID, content)?))
 }
 
-fn search(_alloc: Global, _content: &[u8]) -> Result<Request, ReadFault>
-    ensures { Gives (λ request. request) result (request_in operation_is.Search _content.now) }
-{
-    Err(ReadFault::BadMessage)
-}
-
 /// The request of an operation that a content says.
 fn request(alloc: Global, operation: Operation, content: &[u8]) -> Result<Request, ReadFault>
     ensures { Gives (λ request. request) result (request_in operation content.now) }
@@ -80,7 +75,7 @@ fn request(alloc: Global, operation: Operation, content: &[u8]) -> Result<Reques
     match operation {
         Operation::Bind => Ok(Request::Bind(bind(alloc, content)?)),
         Operation::Unbind => unbind(content),
-        Operation::Search => search(alloc, content),
+        Operation::Search => Ok(Request::Search(search(alloc, content)?)),
         Operation::Modify => modify(alloc, content),
         Operation::Add => add(alloc, content),
         Operation::Delete => delete(alloc, content),

@@ -12,6 +12,7 @@ use crate::controls::put_controls;
 use crate::extended::put_extended;
 use crate::kinds::{Message, NoMemory, Request};
 use crate::operations::Operation;
+use crate::search::put_search;
 use ber_core::put_int;
 use ber_layout::{Laid, enclose, put_number};
 
@@ -23,6 +24,7 @@ impl Request {
         match self {
             Request::Bind(_) => Operation::Bind,
             Request::Unbind => Operation::Unbind,
+            Request::Search(_) => Operation::Search,
             Request::Modify(_) => Operation::Modify,
             Request::Add(_) => Operation::Add,
             Request::Delete(_) => Operation::Delete,
@@ -43,6 +45,7 @@ fn put_content(out: &mut Vec<u8>, request: &Request) -> Result<(), NoMemory>
     match request {
         Request::Bind(bind) => put_bind(out, bind),
         Request::Unbind => Ok(()),
+        Request::Search(search) => put_search(out, search),
         Request::Modify(modify) => modify.put(out),
         Request::Add(add) => add.put(out),
         Request::Delete(delete) => out.extend_from_slice(delete.name.as_slice()),
