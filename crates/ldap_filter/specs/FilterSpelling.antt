@@ -6,7 +6,7 @@ use Rattle.ldap_filter.specs.Filters.{Filter, Filters}
 use Rattle.ldap_filter.specs.Filters.Filter.{And, Or, Not, Equal, Parts, AtLeast, AtMost, Present, Approx, Extensible}
 use Rattle.ldap_filter.specs.Filters.Filters.{Nil, Cons}
 use Rattle.ldap_filter.specs.Assertions.{assertion_layout}
-use Rattle.ldap_filter.specs.FilterLayouts.{parts_layout}
+use Rattle.ldap_filter.specs.FilterLayouts.{parts_layout, IsSome}
 
 -- the tag of a filter
 abbrev pub filter_tag : Filter → ℕ
@@ -43,3 +43,22 @@ abbrev mutual
 -- the tag and the content of a filter
 abbrev pub filter_octets : Filter → ℕ × List ℕ
 filter_octets filter = (filter_tag filter, filter_content filter)
+
+-- each substring filter has a part
+abbrev mutual
+  pub HasParts : Filter → Type 0
+  HasParts (And members) = HaveParts members
+  HasParts (Or members) = HaveParts members
+  HasParts (Not member) = HasParts member
+  HasParts (Equal kind value) = Unit {0}
+  HasParts (Parts kind initial any final) = IsSome initial any final
+  HasParts (AtLeast kind value) = Unit {0}
+  HasParts (AtMost kind value) = Unit {0}
+  HasParts (Present kind) = Unit {0}
+  HasParts (Approx kind value) = Unit {0}
+  HasParts (Extensible content) = Unit {0}
+
+  -- the same of each filter
+  pub HaveParts : Filters → Type 0
+  HaveParts Nil = Unit {0}
+  HaveParts (Cons first rest) = HasParts first × HaveParts rest

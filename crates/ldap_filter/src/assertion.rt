@@ -42,7 +42,7 @@ impl Laid for Assertion {
     }
 }
 
-fn put_pair(out: &mut Vec<u8>, kind: &[u8], value: &[u8]) -> Result<(), NoMemory>
+pub(crate) fn put_pair(out: &mut Vec<u8>, kind: &[u8], value: &[u8]) -> Result<(), NoMemory>
     ensures ok { OnOk result (out.new.items ≡ out.old.items ++ writes assertion_layout (kind.now, (value.now, tt))) }
     ensures kept { Extends out.old.items out.new.items }
 {

@@ -13,6 +13,9 @@ use Rattle.ldap_msg.specs.declared.operations.Operation.TheVariants as operation
 use Rattle.ldap_msg.specs.Operations.{request_tag, operation_of}
 use Rattle.ldap_msg.specs.Binds.{bind_layout, bind_from, bind_of}
 use Rattle.ldap_msg.specs.Kinds.{modify_layout, modify_from, add_layout, add_from, rename_layout, rename_parts, rename_from, compare_layout, compare_parts, compare_from, extended_layout, abandon_layout}
+use Rattle.ldap_msg.specs.declared.kinds.SearchRequest.{SearchRequest}
+use Rattle.ldap_msg.specs.Searches.{search_of}
+use Rattle.ldap_msg.proofs.SearchLemmas.{search_sound, search_again}
 use Rattle.ldap_msg.specs.Contents.{SaysBy, operation_for, SaysContent, request_in}
 
 -- the content says the request, which is of the operation
@@ -39,7 +42,9 @@ request_sound operation.Bind content is e =
     record { operation = refl; says = record { parts = b.0; says = reads_sound bind_layout b.0 content b.1; is = some_is (bind_from b.0) a.0 b.2 } } in
     subst (λ (r : Request). Sounds r operation.Bind content) (some_is (request.Bind a.0) is a.2) made
 request_sound operation.Unbind content is e = by_reads End (λ parts. request.Unbind) operation.Unbind content is e (λ parts says. record { operation = refl; says = says })
-request_sound operation.Search content is e = absurd cc
+request_sound operation.Search content is e =
+    let a = bind_some (search_of content) (λ (search : SearchRequest). Some (request.Search search)) is e in
+    subst (λ (r : Request). Sounds r operation.Search content) (some_is (request.Search a.0) is a.2) (record { operation = refl; says = search_sound content a.0 a.1 })
 request_sound operation.Modify content is e =
     by_reads modify_layout (λ parts. request.Modify (modify_from parts)) operation.Modify content is e
     (λ parts says. record { operation = refl; says = record { parts = parts; says = says; is = refl } })
@@ -67,6 +72,7 @@ request_again (request.Bind bind) content says =
     ap (λ (o : Option BindRequest). o >>= λ (b : BindRequest). Some (request.Bind b)) (again bind_layout refl bind_from says.parts content says.says)
     ∙ ap (λ (b : BindRequest). Some (request.Bind b)) says.is
 request_again request.Unbind content says = again End refl (λ parts. request.Unbind) tt content says
+request_again (request.Search search) content says = ap (λ (o : Option SearchRequest). o >>= λ (s : SearchRequest). Some (request.Search s)) (search_again search content says)
 request_again (request.Modify modify) content says =
     again modify_layout refl (λ parts. request.Modify (modify_from parts)) says.parts content says.says ∙ ap (λ m. Some (request.Modify m)) says.is
 request_again (request.Add add) content says =

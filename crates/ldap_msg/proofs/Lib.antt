@@ -3,6 +3,7 @@ pub mod WholeLemmas
 pub mod OuterLemmas
 pub mod LongestLemmas
 pub mod PartLemmas
+pub mod SearchLemmas
 pub mod ContentLemmas
 pub mod MessageLemmas
 pub mod ReplyLemmas

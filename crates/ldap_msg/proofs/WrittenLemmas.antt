@@ -21,6 +21,8 @@ use Rattle.ldap_msg.specs.declared.kinds.Reply.{Reply}
 use Rattle.ldap_msg.specs.declared.kinds.Reply.TheVariants as reply
 use Rattle.ldap_msg.specs.Binds.{bind_layout, bind_parts, bind_from, auth_parts, auth_from, HasTag}
 use Rattle.ldap_msg.specs.Kinds.{modify_layout, modify_parts, add_layout, add_parts, rename_layout, rename_parts, compare_layout, compare_parts, extended_layout, abandon_layout}
+use Rattle.ldap_msg.specs.Searches.{search_layout, search_parts}
+use Rattle.ldap_filter.proofs.Theorems.{filter_spells}
 use Rattle.ldap_msg.specs.Controls.{control_parts, controls_from, controls_parts}
 use Rattle.ldap_msg.specs.Contents.{SaysContent, content_octets}
 use Rattle.ldap_msg.specs.Messages.{message_layout, message_parts, Says, request_octets}
@@ -47,6 +49,15 @@ bind_back bind has =
 pub content_says : (asked : Request) → IsWithin asked → IsShort (content_octets asked) → SaysContent asked (content_octets asked)
 content_says (request.Bind bind) within short = record { parts = bind_parts bind; says = spelled bind_layout refl (bind_parts bind) within.0 short; is = bind_back bind within.1 }
 content_says request.Unbind within short = refl
+content_says (request.Search search) within short =
+    let fits = fits_within search_layout (search_parts search) within.0 short in
+    let filter = filter_spells search.filter within.2 fits.1.1.1.1.1.1.0.1 in
+    record {
+      parts = search_parts search;
+      says = writes_says search_layout (search_parts search) refl fits;
+      filter = (filter, within.1);
+      is = refl;
+    }
 content_says (request.Modify modify) within short =
     record { parts = modify_parts modify; says = spelled modify_layout refl (modify_parts modify) within short; is = modify_back modify }
 content_says (request.Add add) within short = record { parts = add_parts add; says = spelled add_layout refl (add_parts add) within short; is = add_back add }

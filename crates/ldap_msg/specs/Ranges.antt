@@ -1,6 +1,6 @@
 -- Messages and replies that can be read again when they are written: their numbers are in the ranges of the layouts,
 -- and their contents have less than 2^32 octets.
-use Rattle.std.specs.Prelude.{ℕ}
+use Rattle.std.specs.Prelude.{ℕ, ◌≤◌}
 use Rattle.ber_layout.specs.Layouts.{IsShort, writes}
 use Rattle.ber_layout.specs.Layouts.Layout.{AnyOctets, End}
 use Rattle.ber_layout.specs.Ranges.{Within}
@@ -10,6 +10,10 @@ use Rattle.ldap_msg.specs.declared.kinds.Message.{Message}
 use Rattle.ldap_msg.specs.declared.kinds.Reply.{Reply}
 use Rattle.ldap_msg.specs.declared.kinds.Reply.TheVariants as reply
 use Rattle.ldap_msg.specs.Binds.{bind_layout, bind_parts, HasTag}
+use Rattle.ldap_msg.specs.Searches.{search_layout, search_parts}
+use Rattle.ldap_filter.specs.Filters.{depth}
+use Rattle.ldap_filter.specs.FilterLayouts.{most_deep}
+use Rattle.ldap_filter.specs.FilterSpelling.{HasParts}
 use Rattle.ldap_msg.specs.Kinds.{modify_layout, modify_parts, add_layout, add_parts, rename_layout, rename_parts, compare_layout, compare_parts, extended_layout, abandon_layout}
 use Rattle.ldap_msg.specs.Messages.{message_layout, message_parts}
 use Rattle.ldap_msg.specs.Results.{result_layout, result_parts, entry_layout, entry_parts, answered_layout, answered_parts}
@@ -19,7 +23,7 @@ use Rattle.ldap_msg.specs.Replies.{reply_layout, reply_parts}
 abbrev pub IsWithin : Request → Type 0
 IsWithin (request.Bind bind) = Within bind_layout (bind_parts bind) × HasTag bind.auth
 IsWithin request.Unbind = Unit {0}
-IsWithin (request.Search search) = Within search_layout (search_parts search) × (depth search.filter ≤ most_deep) × IsSubstring search.filter
+IsWithin (request.Search search) = Within search_layout (search_parts search) × (depth search.filter ≤ most_deep) × HasParts search.filter
 IsWithin (request.Modify modify) = Within modify_layout (modify_parts modify)
 IsWithin (request.Add add) = Within add_layout (add_parts add)
 IsWithin (request.Delete delete) = Unit {0}
