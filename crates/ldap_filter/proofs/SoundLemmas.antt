@@ -126,19 +126,19 @@ level_sound deep reader sounds element f e =
     let G = Sounds (suc deep) f element in
     pick tag 0xa0 _ _ f G e
     (λ t e. let a = bind_some (all_of reader element.1) (λ (fs : Filters). Some (And fs)) f e in
-      let all = all_sound deep reader sounds element.1 a.0 a.1 in
-      subst (λ (g : Filter). Sounds (suc deep) g element) (some_is (And a.0) f a.2) (record { says = (t, all.says); within = one_more (depths a.0) deep all.within }))
+    let all = all_sound deep reader sounds element.1 a.0 a.1 in
+    subst (λ (g : Filter). Sounds (suc deep) g element) (some_is (And a.0) f a.2) (record { says = (t, all.says); within = one_more (depths a.0) deep all.within }))
     (λ e. pick tag 0xa1 _ _ f G e
     (λ t e. let a = bind_some (all_of reader element.1) (λ (fs : Filters). Some (Or fs)) f e in
-      let all = all_sound deep reader sounds element.1 a.0 a.1 in
-      subst (λ (g : Filter). Sounds (suc deep) g element) (some_is (Or a.0) f a.2) (record { says = (t, all.says); within = one_more (depths a.0) deep all.within }))
+    let all = all_sound deep reader sounds element.1 a.0 a.1 in
+    subst (λ (g : Filter). Sounds (suc deep) g element) (some_is (Or a.0) f a.2) (record { says = (t, all.says); within = one_more (depths a.0) deep all.within }))
     (λ e. pick tag 0xa2 _ _ f G e
     (λ t e. let a = bind_some (only_of reader element.1) (λ (member : Filter). Some (Not member)) f e in
-      let b = bind_some (any_of element.1) (λ (found : Component (ℕ × List ℕ)). cond (eqb (length found.rest) 0) (reader found.value) None) a.0 a.1 in
-      let g = guard_passed (eqb (length b.0.rest) 0) (reader b.0.value) a.0 b.2 in
-      let none : b.0.rest ≡ [] = nil_from_length b.0.rest (eqb-true (length b.0.rest) 0 g.0) in
-      let says = first_follows deep reader sounds element.1 b.0 a.0 (λ rest. rest ≡ []) b.1 g.1 none in
-      subst (λ (h : Filter). Sounds (suc deep) h element) (some_is (Not a.0) f a.2) (record { says = (t, says); within = one_more (depth a.0) deep (sounds b.0.value a.0 g.1).within }))
+    let b = bind_some (any_of element.1) (λ (found : Component (ℕ × List ℕ)). cond (eqb (length found.rest) 0) (reader found.value) None) a.0 a.1 in
+    let g = guard_passed (eqb (length b.0.rest) 0) (reader b.0.value) a.0 b.2 in
+    let none : b.0.rest ≡ [] = nil_from_length b.0.rest (eqb-true (length b.0.rest) 0 g.0) in
+    let says = first_follows deep reader sounds element.1 b.0 a.0 (λ rest. rest ≡ []) b.1 g.1 none in
+    subst (λ (h : Filter). Sounds (suc deep) h element) (some_is (Not a.0) f a.2) (record { says = (t, says); within = one_more (depth a.0) deep (sounds b.0.value a.0 g.1).within }))
     (λ e. let item = item_sound element f e in record { says = item.says; within = more_than (depth f) deep item.within })))
 
 pub at_sound : (deep : ℕ) (element : ℕ × List ℕ) (f : Filter) → filter_at deep element ≡ Some f → Sounds deep f element

@@ -76,16 +76,21 @@ mutual
   filter_spells (Or members) has short = (refl, members_spell members has short)
   filter_spells (Not member) has short =
       let content = filter_content member in
-      let less = content_short (filter_tag member) content short in
-      (refl, (filter_tag member, record {
-        content = content;
-        front = element_octets (filter_tag member) content;
-        rest = [];
-        element = element_spells (filter_tag member) content (tag_is member) less;
-        inner = filter_spells member has less;
-        next = refl;
-        joins = sym (append-nil (element_octets (filter_tag member) content));
-      }))
+      let less = content_short (filter_tag member) content short in (
+        refl,
+        (
+          filter_tag member,
+          record {
+            content = content;
+            front = element_octets (filter_tag member) content;
+            rest = [];
+            element = element_spells (filter_tag member) content (tag_is member) less;
+            inner = filter_spells member has less;
+            next = refl;
+            joins = sym (append-nil (element_octets (filter_tag member) content));
+          },
+        ),
+      )
   filter_spells (Equal kind value) has short = (refl, spelled assertion_layout refl (kind, (value, tt)) (tt, (tt, tt)) short)
   filter_spells (Parts kind initial any final) has short =
       (refl, (has, spelled parts_layout refl (kind, ((initial, (any, (final, tt))), tt)) (tt, ((may_within initial, (all_within any, (may_within final, tt))), tt)) short))
@@ -100,13 +105,15 @@ mutual
   members_spell (Cons first rest) has short =
       let content = filter_content first in
       let front = element_octets (filter_tag first) content in
-      let less = content_short (filter_tag first) content (front_short front (members_octets rest) short) in
-      (filter_tag first, record {
-        content = content;
-        front = front;
-        rest = members_octets rest;
-        element = element_spells (filter_tag first) content (tag_is first) less;
-        inner = filter_spells first has.0 less;
-        next = members_spell rest has.1 (back_short front (members_octets rest) short);
-        joins = refl;
-      })
+      let less = content_short (filter_tag first) content (front_short front (members_octets rest) short) in (
+        filter_tag first,
+        record {
+          content = content;
+          front = front;
+          rest = members_octets rest;
+          element = element_spells (filter_tag first) content (tag_is first) less;
+          inner = filter_spells first has.0 less;
+          next = members_spell rest has.1 (back_short front (members_octets rest) short);
+          joins = refl;
+        },
+      )

@@ -14,6 +14,7 @@ mutual
     Present : List ℕ → Filter
     Approx : List ℕ → List ℕ → Filter
     Extensible : List ℕ → Filter
+
   pub data Filters : Type 0 where
     Nil : Filters
     Cons : Filter → Filters → Filters

@@ -7,9 +7,7 @@ ghost use Rattle.ber_layout.specs.Spellings.{Extends, element_octets};
 ghost use Rattle.ldap_msg.specs.Binds.{bind_layout, bind_of, bind_parts, auth_from, auth_parts, HasTag};
 
 use crate::kinds::{Auth, BindRequest, NoMemory};
-use ber_layout::{
-    Laid, ReadFault, any, integer, is_further, put_element, put_number, required,
-};
+use ber_layout::{Laid, ReadFault, any, integer, is_further, put_element, put_number, required};
 use plain_values::Octets;
 use std::alloc::Global;
 

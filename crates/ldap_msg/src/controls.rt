@@ -46,7 +46,10 @@ impl Laid for Control {
 
 /// The controls at the front of what follows an operation, if there are any.
 #[tactic(auto, unfolding(ber_layout::specs::Components::optional_of))]
-pub fn controls(alloc: Global, bytes: &[u8]) -> Result<Component<'_, Option<OneOrMany<Control>>>, ReadFault>
+pub fn controls(
+    alloc: Global,
+    bytes: &[u8],
+) -> Result<Component<'_, Option<OneOrMany<Control>>>, ReadFault>
     ensures { Gives (λ found. record { value = option_map (λ controls. (map control_parts controls, tt)) found.value; rest = found.rest.now }) result (optional_of 0xa0 (reads controls_layout) bytes.now) }
 {
     if !begins(0xa0, bytes) {

@@ -17,7 +17,6 @@ mod search;
 mod writing;
 
 pub use ber_layout::ReadFault;
-pub use ldap_filter::{Filter, Node};
 pub use framing::frame;
 pub use kinds::{
     AddRequest, Auth, BindRequest, Change, CompareRequest, Control, DeleteRequest, Frame,
@@ -29,6 +28,7 @@ pub use laws::{
     replies_are_read_again, replies_have_octets, requests_are_read_again, rests_are_done,
     streams_go_on, streams_step,
 };
+pub use ldap_filter::{Filter, Node};
 pub use operations::{Operation, Response, ResultCode};
 pub use reading::read_request;
 pub use replies::{put_notice, put_reply, read_reply};

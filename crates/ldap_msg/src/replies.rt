@@ -49,7 +49,11 @@ fn put_entry(out: &mut Vec<u8>, name: &[u8], attributes: &[KindValues]) -> Resul
     put_list::<KindValues>(out, 0x30, 0x30, attributes)
 }
 
-fn put_names(out: &mut Vec<u8>, name: &Option<Octets>, value: &Option<Octets>) -> Result<(), NoMemory>
+fn put_names(
+    out: &mut Vec<u8>,
+    name: &Option<Octets>,
+    value: &Option<Octets>,
+) -> Result<(), NoMemory>
     ensures ok { OnOk result (out.new.items ≡ out.old.items ++ writes names_layout (name.now, (value.now, tt))) }
     ensures kept { Extends out.old.items out.new.items }
 {

@@ -4,8 +4,8 @@ use crate::kinds::{
     AddRequest, Change, CompareRequest, KindValues, ModifyRequest, NoMemory, RenameRequest,
 };
 use ber_layout::{
-    Laid, ReadFault, flag, is_further, is_further_but, list, optional_octets, put_element, put_flag,
-    put_list, put_optional, required,
+    Laid, ReadFault, flag, is_further, is_further_but, list, optional_octets, put_element,
+    put_flag, put_list, put_optional, required,
 };
 use ldap_filter::{Assertion, put_assertion};
 use plain_values::Octets;

@@ -76,14 +76,8 @@ static FILTERS: [Row; 15] = [
         b"\x87\x0b\x6f\x62\x6a\x65\x63\x74\x43\x6c\x61\x73\x73",
         "(objectClass=*)",
     ),
-    (
-        b"\xa0\x00",
-        "an empty and",
-    ),
-    (
-        b"\xa1\x00",
-        "an empty or",
-    ),
+    (b"\xa0\x00", "an empty and"),
+    (b"\xa1\x00", "an empty or"),
 ];
 
 #[test]
@@ -97,10 +91,7 @@ fn filters_are_read_and_written_again(rt: HostRuntime) -> Result<(), Fail> {
 
 /// Elements that are no filter.
 static OTHERS: [Row; 10] = [
-    (
-        b"\xa4\x05\x04\x01\x6f\x30\x00",
-        "substrings without a part",
-    ),
+    (b"\xa4\x05\x04\x01\x6f\x30\x00", "substrings without a part"),
     (
         b"\xa4\x0b\x04\x01\x6f\x30\x06\x80\x01\x61\x80\x01\x62",
         "two initial parts",
@@ -113,30 +104,12 @@ static OTHERS: [Row; 10] = [
         b"\xa4\x0b\x04\x01\x6f\x30\x06\x82\x01\x61\x82\x01\x62",
         "two final parts",
     ),
-    (
-        b"\xa2\x00",
-        "a not of nothing",
-    ),
-    (
-        b"\xa2\x06\x87\x01\x61\x87\x01\x62",
-        "a not of two filters",
-    ),
-    (
-        b"\xa3\x03\x04\x01\x61",
-        "an equality without a value",
-    ),
-    (
-        b"\xa7\x01\x61",
-        "another tag for presence",
-    ),
-    (
-        b"\xaa\x00",
-        "a tag past the last",
-    ),
-    (
-        b"\xa0\x03\x87\x05\x61",
-        "a member longer than its and",
-    ),
+    (b"\xa2\x00", "a not of nothing"),
+    (b"\xa2\x06\x87\x01\x61\x87\x01\x62", "a not of two filters"),
+    (b"\xa3\x03\x04\x01\x61", "an equality without a value"),
+    (b"\xa7\x01\x61", "another tag for presence"),
+    (b"\xaa\x00", "a tag past the last"),
+    (b"\xa0\x03\x87\x05\x61", "a member longer than its and"),
 ];
 
 #[test]

@@ -5,23 +5,20 @@ use plain_values::{Octets, OneOrMany};
 use std::alloc::Global;
 use std::test::*;
 
-fn ended(alloc: Global, code: u8) -> LdapResult
-{
+fn ended(alloc: Global, code: u8) -> LdapResult {
     LdapResult {
         code,
         matched: Octets::from_vec(Vec::new(alloc)),
     }
 }
 
-fn extended(alloc: Global, code: u8, name: &[u8], value: &[u8]) -> Result<Reply, NoMemory>
-{
+fn extended(alloc: Global, code: u8, name: &[u8], value: &[u8]) -> Result<Reply, NoMemory> {
     let name = Octets::from_vec(name.to_vec(alloc)?);
     let value = Octets::from_vec(value.to_vec(alloc)?);
     Ok(Reply::Extended(ended(alloc, code), Some(name), Some(value)))
 }
 
-fn matching(alloc: Global, code: u8, matched: &[u8]) -> Result<Reply, NoMemory>
-{
+fn matching(alloc: Global, code: u8, matched: &[u8]) -> Result<Reply, NoMemory> {
     let matched = Octets::from_vec(matched.to_vec(alloc)?);
     Ok(Reply::Compare(LdapResult { code, matched }))
 }
@@ -50,8 +47,7 @@ enum Saying {
     Matching(u8),
 }
 
-fn reply_of(alloc: Global, saying: Saying) -> Result<Reply, NoMemory>
-{
+fn reply_of(alloc: Global, saying: Saying) -> Result<Reply, NoMemory> {
     match saying {
         Saying::Code(kind, code) => Ok(plain(alloc, kind, code)),
         Saying::Named(code) => extended(alloc, code, b"1.2", b"v"),
@@ -59,8 +55,7 @@ fn reply_of(alloc: Global, saying: Saying) -> Result<Reply, NoMemory>
     }
 }
 
-fn plain(alloc: Global, kind: Kind, code: u8) -> Reply
-{
+fn plain(alloc: Global, kind: Kind, code: u8) -> Reply {
     match kind {
         Kind::Bind => Reply::Bind(ended(alloc, code)),
         Kind::Done => Reply::Done(ended(alloc, code)),

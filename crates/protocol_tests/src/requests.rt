@@ -58,7 +58,11 @@ fn put_changes(out: &mut String, changes: &[Change]) -> Result<(), Fail> {
 fn put_search(out: &mut String, search: &SearchRequest) -> Result<(), Fail> {
     out.push_str("search")?;
     put_octets(out, &search.base)?;
-    write!(out, " {} {} {}", search.scope, search.size, search.kinds_only)?;
+    write!(
+        out,
+        " {} {} {}",
+        search.scope, search.size, search.kinds_only
+    )?;
     for kind in search.selection.as_slice() {
         put_octets(out, kind)?;
     }
@@ -189,11 +193,7 @@ static READ: [Row; 14] = [
         "2 unbind",
         "a further component",
     ),
-    (
-        b"\x30\x05\x02\x01\x02\x42\x00",
-        "2 unbind",
-        "an unbind",
-    ),
+    (b"\x30\x05\x02\x01\x02\x42\x00", "2 unbind", "an unbind"),
     (
         b"\x30\x06\x02\x01\x03\x50\x01\x02",
         "3 abandon 2",

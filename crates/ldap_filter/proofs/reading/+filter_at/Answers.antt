@@ -30,8 +30,8 @@ all-returns-in_err-member t c =
     let rest = c.in_ok-found.found.rest.now in
     rw (p.1, p.2) (fails_so c.in_err-member.field-0.0 (reader (tag, content)) (all_of reader c.args.content.now)
     (λ none. c.loop-rest.invariant
-      ∙ ap (behind c.loop-rest.members.items) (all_step reader c.loop-rest.rest.now (record { value = (tag, content); rest = rest }) c.in_ok-found.ensures)
-      ∙ ap (λ (o : Option Filter). behind c.loop-rest.members.items (o >>= λ (first : Filter). (all_of reader rest >>= λ (others : Filters). Some (Cons first others)))) none) c.in_err-member.ensures)
+    ∙ ap (behind c.loop-rest.members.items) (all_step reader c.loop-rest.rest.now (record { value = (tag, content); rest = rest }) c.in_ok-found.ensures)
+    ∙ ap (λ (o : Option Filter). behind c.loop-rest.members.items (o >>= λ (first : Filter). (all_of reader rest >>= λ (others : Filters). Some (Cons first others)))) none) c.in_err-member.ensures)
 
 pub all-loop-rest-smaller : goal.all-loop-rest-smaller
 all-loop-rest-smaller t c =
