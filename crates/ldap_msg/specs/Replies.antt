@@ -1,95 +1,115 @@
--- The one written spelling of a reply (RFC 4511 4.1.1, 4.1.9, 4.12): each length, messageID and code in its shortest
--- form, the diagnostic message empty, and nothing behind the last component.
-use Rattle.std.specs.Prelude.{◌≡◌, ℕ, ◌<◌, ◌^◌, List, [], ◌∷◌, ◌++◌, length, Option, Some, None, pos}
-use Rattle.ber_core.specs.Integer.{int_octets}
-use Rattle.ber_core.specs.Spelling.{header_octets}
+-- Replies and their octets (RFC 4511 4.1.1, 4.1.9, 4.2.2, 4.5.2, 4.12).
+use Rattle.std.specs.Prelude.{◌≡◌, ℕ, List, [], ◌∷◌, length, map, Option, Some, None, ◌==◌, if◌then◌else◌}
+use Rattle.ber_layout.specs.Pieces.{◌>>=◌}
+use Rattle.ber_layout.specs.Components.{Follows, required_of}
+use Rattle.ber_layout.specs.Spellings.{element_octets}
+use Rattle.ber_layout.specs.Layouts.{Layout, Value, Says as SaysLayout, reads, writes}
+use Rattle.ber_layout.specs.Layouts.Layout.{Number, FurtherBut, AnyElement, Then, Maybe}
 use Rattle.ldap_msg.specs.declared.kinds.LdapResult.{LdapResult}
 use Rattle.ldap_msg.specs.declared.kinds.Reply.{Reply}
-use Rattle.ldap_msg.specs.declared.kinds.Reply.TheVariants.{Bind, Done, Modify, Add, Delete, Rename, Compare, Extended}
+use Rattle.ldap_msg.specs.declared.kinds.Reply.TheVariants as reply
+use Rattle.ldap_msg.specs.declared.operations.Response.{Response}
+use Rattle.ldap_msg.specs.declared.operations.Response.TheVariants as response
+use Rattle.ldap_msg.specs.Operations.{response_tag, response_of}
+use Rattle.ldap_msg.specs.Attributes.{attribute_from}
+use Rattle.ldap_msg.specs.Results.{result_layout, result_parts, result_from, entry_layout, entry_parts, answered_layout, answered_parts}
+use Rattle.ldap_msg.specs.Controls.{controls_layout}
+use Rattle.ldap_msg.specs.Contents.{SaysBy}
 
--- an element with the shortest length
-unfoldable pub element_octets : ℕ → List ℕ → List ℕ
-element_octets tag content = header_octets tag (length content) ++ content
+-- LDAPMessage, whose messageID may be 0 in a reply (4.4)
+abbrev pub reply_layout : Layout
+reply_layout = Then 0x02 (Number 0 2147483647) (AnyElement (Maybe 0xa0 controls_layout (FurtherBut 0xa0)))
 
--- LDAPResult ::= SEQUENCE { resultCode ENUMERATED, matchedDN LDAPDN, diagnosticMessage LDAPString, ... }
-unfoldable pub result_octets : LdapResult → List ℕ
-result_octets result = element_octets 0x0a (int_octets (pos result.code)) ++ (element_octets 0x04 result.matched ++ element_octets 0x04 [])
+-- the response of a reply
+abbrev pub response_for : Reply → Response
+response_for (reply.Bind result) = response.Bind
+response_for (reply.Entry name attributes) = response.Entry
+response_for (reply.Done result) = response.Done
+response_for (reply.Modify result) = response.Modify
+response_for (reply.Add result) = response.Add
+response_for (reply.Delete result) = response.Delete
+response_for (reply.Rename result) = response.Rename
+response_for (reply.Compare result) = response.Compare
+response_for (reply.Extended result name value) = response.Extended
 
--- an optional component
-unfoldable pub optional_octets : ℕ → Option (List ℕ) → List ℕ
-optional_octets tag None = []
-optional_octets tag (Some value) = element_octets tag value
+-- the content of its element says the reply
+abbrev pub SaysReply : Reply → List ℕ → Type 0
+SaysReply (reply.Bind result) content = SaysLayout result_layout (result_parts result) content
+SaysReply (reply.Entry name attributes) content = SaysBy entry_layout (λ parts. reply.Entry parts.0 (map attribute_from parts.1.0.0)) (reply.Entry name attributes) content
+SaysReply (reply.Done result) content = SaysLayout result_layout (result_parts result) content
+SaysReply (reply.Modify result) content = SaysLayout result_layout (result_parts result) content
+SaysReply (reply.Add result) content = SaysLayout result_layout (result_parts result) content
+SaysReply (reply.Delete result) content = SaysLayout result_layout (result_parts result) content
+SaysReply (reply.Rename result) content = SaysLayout result_layout (result_parts result) content
+SaysReply (reply.Compare result) content = SaysLayout result_layout (result_parts result) content
+SaysReply (reply.Extended result name value) content = SaysLayout answered_layout (answered_parts result name value) content
 
--- the operation's tag
-unfoldable pub operation_tag : Reply → ℕ
-operation_tag (Bind result) = 0x61
-operation_tag (Done result) = 0x65
-operation_tag (Modify result) = 0x67
-operation_tag (Add result) = 0x69
-operation_tag (Delete result) = 0x6b
-operation_tag (Rename result) = 0x6d
-operation_tag (Compare result) = 0x6f
-operation_tag (Extended result name value) = 0x78
+-- the content of its element says the reply with this messageID
+pub record SaysIn (answer : ℕ × Reply) (content : List ℕ) : Type 0 where
+  pub parts : Value reply_layout
+  pub says : SaysLayout reply_layout parts content
+  pub id : parts.0 ≡ answer.0
+  pub tag : parts.1.0.0 ≡ response_tag (response_for answer.1)
+  pub reply : SaysReply answer.1 parts.1.0.1
 
--- the operation's content
-unfoldable pub operation_content : Reply → List ℕ
-operation_content (Bind result) = result_octets result
-operation_content (Done result) = result_octets result
-operation_content (Modify result) = result_octets result
-operation_content (Add result) = result_octets result
-operation_content (Delete result) = result_octets result
-operation_content (Rename result) = result_octets result
-operation_content (Compare result) = result_octets result
-operation_content (Extended result name value) = result_octets result ++ (optional_octets 0x8a name ++ optional_octets 0x8b value)
+-- the octets say the reply with this messageID
+abbrev pub Replies : ℕ → Reply → List ℕ → Type 0
+Replies id answer bytes = Follows 0x30 (SaysIn (id, answer)) (λ rest. rest ≡ []) bytes
 
--- the content of the message
-unfoldable pub reply_content : ℕ → Reply → List ℕ
-reply_content id reply = element_octets 0x02 (int_octets (pos id)) ++ element_octets (operation_tag reply) (operation_content reply)
+-- ---- computed
 
--- the message
+-- what is made of the result that a content says
+abbrev pub ended_in : (LdapResult → Reply) → List ℕ → Option Reply
+ended_in make content = reads result_layout content >>= λ parts. Some (make (result_from parts))
+
+-- the reply of a response that a content says
+abbrev pub reply_in : Response → List ℕ → Option Reply
+reply_in response.Bind content = ended_in reply.Bind content
+reply_in response.Entry content = reads entry_layout content >>= λ parts. Some (reply.Entry parts.0 (map attribute_from parts.1.0.0))
+reply_in response.Done content = ended_in reply.Done content
+reply_in response.Modify content = ended_in reply.Modify content
+reply_in response.Add content = ended_in reply.Add content
+reply_in response.Delete content = ended_in reply.Delete content
+reply_in response.Rename content = ended_in reply.Rename content
+reply_in response.Compare content = ended_in reply.Compare content
+reply_in response.Extended content =
+    reads answered_layout content >>= λ parts. Some (reply.Extended (record { code = parts.0; matched = parts.1.0 }) parts.1.1.1.0 parts.1.1.1.1.0)
+
+-- the reply that a tag and a content say
+abbrev pub reply_at : ℕ × List ℕ → Option Reply
+reply_at element = response_of element.0 >>= λ response. reply_in response element.1
+
+-- the messageID and the reply of these parts
+abbrev pub answer_from : Value reply_layout → Option (ℕ × Reply)
+answer_from parts = reply_at parts.1.0 >>= λ answer. Some (parts.0, answer)
+
+-- the messageID and the reply that a content says
+unfoldable pub answer_in : List ℕ → Option (ℕ × Reply)
+answer_in content = reads reply_layout content >>= answer_from
+
+-- the messageID and the reply that the octets say
+unfoldable pub reply_of : List ℕ → Option (ℕ × Reply)
+reply_of bytes = required_of 0x30 answer_in bytes >>= λ found. if length found.rest == 0 then Some found.value else None
+
+-- the written content of a reply
+abbrev pub reply_content : Reply → List ℕ
+reply_content (reply.Bind result) = writes result_layout (result_parts result)
+reply_content (reply.Entry name attributes) = writes entry_layout (entry_parts name attributes)
+reply_content (reply.Done result) = writes result_layout (result_parts result)
+reply_content (reply.Modify result) = writes result_layout (result_parts result)
+reply_content (reply.Add result) = writes result_layout (result_parts result)
+reply_content (reply.Delete result) = writes result_layout (result_parts result)
+reply_content (reply.Rename result) = writes result_layout (result_parts result)
+reply_content (reply.Compare result) = writes result_layout (result_parts result)
+reply_content (reply.Extended result name value) = writes answered_layout (answered_parts result name value)
+
+-- the parts of a reply's message
+abbrev pub reply_parts : ℕ → Reply → Value reply_layout
+reply_parts id answer = (id, ((response_tag (response_for answer), reply_content answer), (None, tt)))
+
+-- the written octets of a reply's message
 unfoldable pub reply_octets : ℕ → Reply → List ℕ
-reply_octets id reply = element_octets 0x30 (reply_content id reply)
-
--- the reply's content is below 2 ^ 32 octets, so that each length in it has a spelling
-pub record IsWritable (id : ℕ) (reply : Reply) : Type 0 where
-  pub fits : length (reply_content id reply) < 2 ^ 32
-
--- a code of one octet, and a matched name below 2 ^ 30 octets
-pub record IsShortResult (result : LdapResult) : Type 0 where
-  pub code : result.code < 256
-  pub matched : length result.matched < 2 ^ 30
-
--- a value below 2 ^ 30 octets, or none
-abbrev pub IsShortValue : Option (List ℕ) → Type 0
-IsShortValue None = Unit {0}
-IsShortValue (Some value) = length value < 2 ^ 30
-
--- a reply of such parts
-abbrev pub IsShort : Reply → Type 0
-IsShort (Bind result) = IsShortResult result
-IsShort (Done result) = IsShortResult result
-IsShort (Modify result) = IsShortResult result
-IsShort (Add result) = IsShortResult result
-IsShort (Delete result) = IsShortResult result
-IsShort (Rename result) = IsShortResult result
-IsShort (Compare result) = IsShortResult result
-IsShort (Extended result name value) = IsShortResult result × IsShortValue name × IsShortValue value
-
--- a result with a code of one octet and the empty matched name
-pub record IsBare (result : LdapResult) : Type 0 where
-  pub code : result.code < 256
-  pub matched : result.matched ≡ []
-
--- a reply with such a result and, where it is extended, no name and no value
-abbrev pub IsPlain : Reply → Type 0
-IsPlain (Bind result) = IsBare result
-IsPlain (Done result) = IsBare result
-IsPlain (Modify result) = IsBare result
-IsPlain (Add result) = IsBare result
-IsPlain (Delete result) = IsBare result
-IsPlain (Rename result) = IsBare result
-IsPlain (Compare result) = IsBare result
-IsPlain (Extended result name value) = IsBare result × (name ≡ None) × (value ≡ None)
+reply_octets id answer = element_octets 0x30 (writes reply_layout (reply_parts id answer))
 
 -- 1.3.6.1.4.1.1466.20036
 abbrev pub notice_name : List ℕ
@@ -97,4 +117,4 @@ notice_name = 49 ∷ 46 ∷ 51 ∷ 46 ∷ 54 ∷ 46 ∷ 49 ∷ 46 ∷ 52 ∷ 46 
 
 -- the notice of disconnection, with the code protocolError (RFC 4511 4.4.1)
 unfoldable pub notice_octets : List ℕ
-notice_octets = reply_octets 0 (Extended (record { code = 2; matched = [] }) (Some notice_name) None)
+notice_octets = reply_octets 0 (reply.Extended (record { code = 2; matched = [] }) (Some notice_name) None)

@@ -1,11 +1,8 @@
 //! The values of this crate (RFC 4511 section 4).
 
-ghost use Rattle.std.specs.Prelude.{◌≡◌};
-ghost use Rattle.ldap_msg.specs.declared.kinds.ReadFault.TheVariants.{NoMemory};
-
-use plain_values::Octets;
+use ldap_filter::Filter;
+use plain_values::{Octets, OneOrMany};
 use std::alloc::AllocError;
-use thiserror::Error;
 
 /// The one error of the calls that append: there was no memory.
 pub type NoMemory = AllocError;
@@ -42,27 +39,112 @@ pub struct BindRequest {
     pub auth: Auth,
 }
 
-/// What a client asks for.
+/// An attribute's type and values (RFC 4511 4.1.7).
 #[derive(Debug, Drop)]
+pub struct KindValues {
+    pub kind: Octets,
+    pub values: OneOrMany<Octets>,
+}
+
+/// One change of a modify request (RFC 4511 4.6).
+#[derive(Debug, Drop)]
+pub struct Change {
+    /// From 0 to 127.
+    pub operation: u8,
+    pub body: KindValues,
+}
+
+/// A modify request (RFC 4511 4.6).
+#[derive(Debug, Drop)]
+pub struct ModifyRequest {
+    pub name: Octets,
+    pub changes: OneOrMany<Change>,
+}
+
+/// An add request (RFC 4511 4.7).
+#[derive(Debug, Drop)]
+pub struct AddRequest {
+    pub name: Octets,
+    pub attributes: OneOrMany<KindValues>,
+}
+
+/// A delete request (RFC 4511 4.8).
+#[derive(Debug, Drop)]
+pub struct DeleteRequest {
+    pub name: Octets,
+}
+
+/// A modify DN request (RFC 4511 4.9).
+#[derive(Debug, Drop)]
+pub struct RenameRequest {
+    pub name: Octets,
+    pub new_rdn: Octets,
+    pub delete_old: bool,
+    pub superior: Option<Octets>,
+}
+
+/// A compare request (RFC 4511 4.10).
+#[derive(Debug, Drop)]
+pub struct CompareRequest {
+    pub name: Octets,
+    pub kind: Octets,
+    pub value: Octets,
+}
+
+/// A search request (RFC 4511 4.5.1).
+#[derive(Drop)]
+pub struct SearchRequest {
+    pub base: Octets,
+    /// 0 the base alone, 1 what stands immediately below it, 2 both and all below.
+    pub scope: u8,
+    /// The most entries to be sent, 0 for no limit; up to 2,147,483,647.
+    pub size: u32,
+    /// Whether values are left out.
+    pub kinds_only: bool,
+    pub filter: Filter,
+    pub selection: OneOrMany<Octets>,
+}
+
+/// What a client asks for.
+#[derive(Drop)]
 pub enum Request {
     /// To bind (RFC 4511 4.2).
     Bind(BindRequest),
     /// To end the session (RFC 4511 4.3).
     Unbind,
+    /// To search entries (RFC 4511 4.5.1).
+    Search(SearchRequest),
+    /// To change an entry's attributes (RFC 4511 4.6).
+    Modify(ModifyRequest),
+    /// To add an entry (RFC 4511 4.7).
+    Add(AddRequest),
+    /// To delete an entry (RFC 4511 4.8).
+    Delete(DeleteRequest),
+    /// To give an entry another name (RFC 4511 4.9).
+    Rename(RenameRequest),
+    /// To compare a value with those of an entry (RFC 4511 4.10).
+    Compare(CompareRequest),
     /// To abandon the operation with this message's number (RFC 4511 4.11).
     Abandon(u32),
-    /// One of the operations that this crate doesn't read yet, by its tag.
-    Unbuilt(u8),
+    /// To run the operation of this name, with a value (RFC 4511 4.12).
+    Extended(Octets, Option<Octets>),
+}
+
+/// What goes with an operation (RFC 4511 4.1.11).
+#[derive(Debug, Drop)]
+pub struct Control {
+    pub kind: Octets,
+    pub critical: bool,
+    pub value: Option<Octets>,
 }
 
 /// A request's message (RFC 4511 4.1.1).
-#[derive(Debug, Drop)]
+#[derive(Drop)]
 pub struct Message {
     /// From 1 to 2,147,483,647.
     pub id: u32,
     pub request: Request,
-    /// Whether controls follow the operation.
-    pub marked: bool,
+    pub controls: OneOrMany<Control>,
 }
 
 /// How an operation ended (RFC 4511 4.1.9). The diagnostic message is always empty.
@@ -77,6 +159,8 @@ pub struct LdapResult {
 pub enum Reply {
     /// To a bind (RFC 4511 4.2.2).
     Bind(LdapResult),
+    /// One entry of a search, its name and its attributes (RFC 4511 4.5.2).
+    Entry(Octets, OneOrMany<KindValues>),
     /// At the end of a search (RFC 4511 4.5.2).
     Done(LdapResult),
     /// To a modify (RFC 4511 4.6).
@@ -91,23 +175,4 @@ pub enum Reply {
     Compare(LdapResult),
     /// To an extended operation, with its name and its value (RFC 4511 4.12).
     Extended(LdapResult, Option<Octets>, Option<Octets>),
-}
-
-/// Why a message wasn't read.
-#[derive(Debug, Drop, Error)]
-pub enum ReadFault {
-    /// The octets are no message's.
-    #[error("the octets are no message")]
-    BadMessage,
-    /// There was no memory.
-    #[error("no memory")]
-    NoMemory,
-}
-
-impl From<AllocError> for ReadFault {
-    ghost from_gives = { λ _ fault. fault ≡ NoMemory };
-
-    fn from(_error: AllocError) -> ReadFault {
-        ReadFault::NoMemory
-    }
 }

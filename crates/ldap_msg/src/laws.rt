@@ -1,12 +1,13 @@
 //! Laws over the definitions: each function's clauses are the laws, and its body does nothing.
 
-ghost use Rattle.std.specs.Prelude.{◌≡◌, ℕ, ◌<◌, ◌^◌, true, false, List, [], length};
+ghost use Rattle.std.specs.Prelude.{◌≡◌, ℕ, ◌<◌, true, false, List, [], Some, length};
 ghost use Rattle.ldap_msg.specs.declared.kinds.Frame.TheVariants.{Whole, More, Bad};
 ghost use Rattle.ldap_msg.specs.declared.kinds.Message.{Message};
 ghost use Rattle.ldap_msg.specs.declared.kinds.Reply.{Reply};
 ghost use Rattle.ldap_msg.specs.Streams.{IsWhole, IsBroken, frame_at, whole, rest_of, is_broken};
-ghost use Rattle.ldap_msg.specs.Messages.{Says};
-ghost use Rattle.ldap_msg.specs.Replies.{IsShort, IsPlain, IsWritable, reply_octets};
+ghost use Rattle.ldap_msg.specs.Messages.{Says, message_of, request_octets};
+ghost use Rattle.ldap_msg.specs.Replies.{Replies, reply_of, reply_octets};
+ghost use Rattle.ldap_msg.specs.Ranges.{IsWritable, IsWritableReply};
 ghost use Rattle.ldap_msg.specs.Laws.{GoesOn, IsDone, StepsOver, StopsAt, OnlyWhole};
 
 /// The messages of a stream are those of its front, and then those of its rest with what came.
@@ -46,9 +47,31 @@ pub fn one_message()
     ensures { (message other : Message) (bytes : List ℕ) → Says message bytes → Says other bytes → message ≡ other }
 {}
 
-/// A reply of short parts can be written, a plain one among them, and no reply is empty.
-pub fn replies_are_writable()
-    ensures short { (id : ℕ) (reply : Reply) → id < 2 ^ 32 → IsShort reply → IsWritable id reply }
-    ensures plain { (id : ℕ) (reply : Reply) → id < 2 ^ 32 → IsPlain reply → IsWritable id reply }
-    ensures some { (id : ℕ) (reply : Reply) → 0 < length (reply_octets id reply) }
+/// What is computed of octets is the message that they say.
+pub fn messages_are_read()
+    ensures found { (message : Message) (bytes : List ℕ) → message_of bytes ≡ Some message → Says message bytes }
+    ensures only { (message : Message) (bytes : List ℕ) → Says message bytes → message_of bytes ≡ Some message }
+{}
+
+/// A written request is read again.
+pub fn requests_are_read_again()
+    ensures says { (message : Message) → IsWritable message → Says message (request_octets message) }
+    ensures exact { (message : Message) → IsWritable message → message_of (request_octets message) ≡ Some message }
+{}
+
+/// What is computed of octets is the reply that they say.
+pub fn replies_are_read()
+    ensures found { (id : ℕ) (reply : Reply) (bytes : List ℕ) → reply_of bytes ≡ Some (id, reply) → Replies id reply bytes }
+    ensures only { (id : ℕ) (reply : Reply) (bytes : List ℕ) → Replies id reply bytes → reply_of bytes ≡ Some (id, reply) }
+{}
+
+/// A written reply is read again.
+pub fn replies_are_read_again()
+    ensures says { (id : ℕ) (reply : Reply) → IsWritableReply id reply → Replies id reply (reply_octets id reply) }
+    ensures exact { (id : ℕ) (reply : Reply) → IsWritableReply id reply → reply_of (reply_octets id reply) ≡ Some (id, reply) }
+{}
+
+/// No reply is empty.
+pub fn replies_have_octets()
+    ensures { (id : ℕ) (reply : Reply) → 0 < length (reply_octets id reply) }
 {}

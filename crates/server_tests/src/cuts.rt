@@ -95,10 +95,11 @@ fn three_streams_that_come_octet_by_octet_are_answered_alone(rt: HostRuntime) ->
 #[test]
 fn the_largest_message_is_answered_and_one_octet_more_is_not(rt: HostRuntime) -> Result<(), Fail> {
     let alloc = rt.alloc();
-    // 5 octets of header, then 02 01 01, then the 5 octets before the content of an extended request
+    // 5 octets of header, then 02 01 01, then the 5 octets before the content of an extended request, and the 5 before
+    // its name
     let mut script = String::from_str(alloc, "open 1\nsend 1 3083100000")?;
-    script.push_str("02010177830ffff8")?;
-    for _ in 0..1_048_568u32 {
+    script.push_str("02010177830ffff880830ffff3")?;
+    for _ in 0..1_048_563u32 {
         script.push_str("00")?;
     }
     assert_replay(

@@ -113,7 +113,7 @@ fn each_script_gives_its_lines(rt: HostRuntime) -> Result<(), Fail> {
 }
 
 /// Scripts of one request each.
-static REQUESTS: [Replay<'static>; 7] = [
+static REQUESTS: [Replay<'static>; 10] = [
     Replay {
         script: "open 1\nsend 1 300a02010177058003312e32",
         put: "1 300c02010178070a010204000400\n",
@@ -121,8 +121,23 @@ static REQUESTS: [Replay<'static>; 7] = [
     },
     Replay {
         script: "open 1\nsend 1 300e020101600702010304008000a000",
-        put: "1 300c02010161070a013504000400\n",
-        what: "a bind with controls",
+        put: "1 300c02010161070a010004000400\n",
+        what: "a bind with an empty list of controls",
+    },
+    Replay {
+        script: "open 1\nsend 1 3016020101600702010304008000a00830060401610101ff",
+        put: "1 300c02010161070a010c04000400\n",
+        what: "a bind with a critical control",
+    },
+    Replay {
+        script: "open 1\nsend 1 3013020101600702010304008000a0053003040161",
+        put: "1 300c02010161070a010004000400\n",
+        what: "a bind with a control that isn't critical",
+    },
+    Replay {
+        script: "open 1\nsend 1 30110201054a026161a00830060401610101ff",
+        put: "1 300c0201056b070a010c04000400\n",
+        what: "a delete with a critical control",
     },
     Replay {
         script: "open 1\nsend 1 30070201054a026161",

@@ -1,15 +1,20 @@
 -- How this server answers each message (RFC 4511 4.1.1, 4.2 to 4.4, 4.11, 4.12). The rules of sessions take this, and
 -- nothing else of them knows what is answered.
 use Rattle.std.specs.Prelude.{ℕ, ◌==◌, Bool, true, false, List, [], ◌∷◌, Option, Some, None, if◌then◌else◌}
+use Rattle.std.specs.List.{list_any}
 use Rattle.ldap_msg.specs.declared.kinds.Auth.{Auth}
 use Rattle.ldap_msg.specs.declared.kinds.Auth.TheVariants.{Simple, Other}
 use Rattle.ldap_msg.specs.declared.kinds.BindRequest.{BindRequest}
 use Rattle.ldap_msg.specs.declared.kinds.Request.{Request}
 use Rattle.ldap_msg.specs.declared.kinds.Request.TheVariants as request
+use Rattle.ldap_msg.specs.declared.kinds.Control.{Control}
 use Rattle.ldap_msg.specs.declared.kinds.Message.{Message}
 use Rattle.ldap_msg.specs.declared.kinds.LdapResult.{LdapResult}
 use Rattle.ldap_msg.specs.declared.kinds.Reply.{Reply}
 use Rattle.ldap_msg.specs.declared.kinds.Reply.TheVariants as reply
+use Rattle.ldap_msg.specs.declared.operations.ResultCode.{ResultCode}
+use Rattle.ldap_msg.specs.declared.operations.ResultCode.TheVariants as code
+use Rattle.ldap_msg.specs.ResultCodes.{code_number}
 use Rattle.ldap_msg.specs.Messages.{message_of}
 use Rattle.ldap_msg.specs.Replies.{reply_octets, notice_octets}
 use Rattle.session_model.specs.Rules.{Rules, Answered}
@@ -17,59 +22,87 @@ use Rattle.session_hub.specs.Parties.{DirectoryEntries, Requester}
 use Rattle.session_hub.specs.declared.requester.Requester.TheVariants.{Anonymous}
 
 -- a result with this code and no matched name
-abbrev pub coded : ℕ → LdapResult
-coded code = record { code = code; matched = [] }
-
--- the response to an operation by its tag
-abbrev pub response_to : ℕ → LdapResult → Reply
-response_to tag result =
-    if tag == 0x63 then reply.Done result
-    else if tag == 0x66 then reply.Modify result
-    else if tag == 0x68 then reply.Add result
-    else if tag == 0x4a then reply.Delete result
-    else if tag == 0x6c then reply.Rename result
-    else if tag == 0x6e then reply.Compare result
-    else reply.Extended result None None
+abbrev pub coded : ResultCode → LdapResult
+coded code = record { code = code_number code; matched = [] }
 
 -- success for no name and no password, unwillingToPerform for any other
-abbrev pub simple_code : List ℕ → List ℕ → ℕ
-simple_code [] [] = 0
-simple_code [] (octet ∷ octets) = 53
-simple_code (letter ∷ letters) password = 53
+abbrev pub simple_code : List ℕ → List ℕ → ResultCode
+simple_code [] [] = code.Success
+simple_code [] (octet ∷ octets) = code.UnwillingToPerform
+simple_code (letter ∷ letters) password = code.UnwillingToPerform
 
 -- authMethodNotSupported for another method
-abbrev pub auth_code : List ℕ → Auth → ℕ
-auth_code name (Other tag) = 7
+abbrev pub auth_code : List ℕ → Auth → ResultCode
+auth_code name (Other tag) = code.AuthMethodNotSupported
 auth_code name (Simple password) = simple_code name password
 
 -- protocolError for a version other than 3
-abbrev pub bind_code : BindRequest → ℕ
-bind_code bind = if bind.version == 3 then auth_code bind.name bind.auth else 2
+abbrev pub bind_code : BindRequest → ResultCode
+bind_code bind = if bind.version == 3 then auth_code bind.name bind.auth else code.ProtocolError
 
 -- protocolError for an extended operation, unwillingToPerform for any other that isn't built yet
-abbrev pub unbuilt_code : ℕ → ℕ
-unbuilt_code tag = if tag == 0x77 then 2 else 53
+abbrev pub request_code : Request → ResultCode
+request_code (request.Bind bind) = bind_code bind
+request_code request.Unbind = code.UnwillingToPerform
+request_code (request.Search search) = code.UnwillingToPerform
+request_code (request.Modify modify) = code.UnwillingToPerform
+request_code (request.Add add) = code.UnwillingToPerform
+request_code (request.Delete delete) = code.UnwillingToPerform
+request_code (request.Rename rename) = code.UnwillingToPerform
+request_code (request.Compare compare) = code.UnwillingToPerform
+request_code (request.Abandon id) = code.UnwillingToPerform
+request_code (request.Extended name value) = code.ProtocolError
 
--- the reply to a request, with unwillingToPerform where controls follow it; none to an unbind or an abandon
-abbrev pub reply_to : Bool → Request → Option Reply
-reply_to marked (request.Bind bind) = Some (reply.Bind (coded (if marked then 53 else bind_code bind)))
-reply_to marked request.Unbind = None
-reply_to marked (request.Abandon id) = None
-reply_to marked (request.Unbuilt tag) = Some (response_to tag (coded (if marked then 53 else unbuilt_code tag)))
+-- the response to a request, with a result; none to an unbind or an abandon
+abbrev pub response_to : Request → LdapResult → Option Reply
+response_to (request.Bind bind) result = Some (reply.Bind result)
+response_to request.Unbind result = None
+response_to (request.Search search) result = Some (reply.Done result)
+response_to (request.Modify modify) result = Some (reply.Modify result)
+response_to (request.Add add) result = Some (reply.Add result)
+response_to (request.Delete delete) result = Some (reply.Delete result)
+response_to (request.Rename rename) result = Some (reply.Rename result)
+response_to (request.Compare compare) result = Some (reply.Compare result)
+response_to (request.Abandon id) result = None
+response_to (request.Extended name value) result = Some (reply.Extended result None None)
+
+-- no control is known yet (RFC 4511 4.1.11): a critical one makes an operation unavailable, the others are ignored
+abbrev pub has_critical : List Control → Bool
+has_critical controls = list_any (λ control. control.critical) controls
+
+-- the code of a request with its controls
+abbrev pub code_with : List Control → Request → ResultCode
+code_with controls asked = if has_critical controls then code.UnavailableCriticalExtension else request_code asked
+
+-- the reply to a request with its controls
+abbrev pub reply_to : List Control → Request → Option Reply
+reply_to controls asked = response_to asked (coded (code_with controls asked))
 
 -- an unbind closes
 abbrev pub is_unbind : Request → Bool
-is_unbind request.Unbind = true
 is_unbind (request.Bind bind) = false
+is_unbind request.Unbind = true
+is_unbind (request.Search search) = false
+is_unbind (request.Modify modify) = false
+is_unbind (request.Add add) = false
+is_unbind (request.Delete delete) = false
+is_unbind (request.Rename rename) = false
+is_unbind (request.Compare compare) = false
 is_unbind (request.Abandon id) = false
-is_unbind (request.Unbuilt tag) = false
+is_unbind (request.Extended name value) = false
 
 -- who the requester is after a request: a bind makes it anonymous
 abbrev pub requester_after : Requester → Request → Requester
 requester_after who (request.Bind bind) = Anonymous
 requester_after who request.Unbind = who
+requester_after who (request.Search search) = who
+requester_after who (request.Modify modify) = who
+requester_after who (request.Add add) = who
+requester_after who (request.Delete delete) = who
+requester_after who (request.Rename rename) = who
+requester_after who (request.Compare compare) = who
 requester_after who (request.Abandon id) = who
-requester_after who (request.Unbuilt tag) = who
+requester_after who (request.Extended name value) = who
 
 -- the octets of a reply, if there is one
 abbrev pub octets_of : ℕ → Option Reply → List ℕ
@@ -81,7 +114,7 @@ abbrev pub answer_read : {T : Type 0} → T → Requester → Option Message →
 answer_read tree who None = record { replies = notice_octets; tree = tree; who = who; closes = true }
 answer_read tree who (Some message) =
     record {
-      replies = octets_of message.id (reply_to message.marked message.request);
+      replies = octets_of message.id (reply_to message.controls message.request);
       tree = tree;
       who = requester_after who message.request;
       closes = is_unbind message.request;

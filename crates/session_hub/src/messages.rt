@@ -2,92 +2,103 @@
 
 ghost use Rattle.std.specs.Prelude.{◌≡◌, ◌++◌, length, IfOk, OnOk, OnErr, Some, None};
 ghost use Rattle.ldap_msg.specs.Streams.{frame_at};
-ghost use Rattle.session_hub.specs.Answering.{rules, reply_to as reply_of, response_to as response_of, bind_code as code_of, auth_code, simple_code, is_unbind, requester_after, octets_of, answer_read, coded};
+ghost use Rattle.session_hub.specs.Answering.{rules, reply_to as reply_of, response_to as response_of, bind_code as code_of, auth_code, simple_code, request_code, has_critical, code_with, is_unbind, requester_after, octets_of, answer_read, coded};
 ghost use Rattle.session_hub.specs.Parties.{DirectoryEntries, Requester};
 ghost use Rattle.session_hub.specs.Answers.{Gives};
 
 use crate::Requester;
 use acdf_core::Dir;
 use ldap_msg::{
-    Auth, BindRequest, Frame, LdapResult, Message, ReadFault, Reply, Request, put_notice,
-    put_reply, read_request,
+    Auth, BindRequest, Control, Frame, LdapResult, Message, ReadFault, Reply, Request, ResultCode,
+    put_notice, put_reply, read_request,
 };
 use plain_values::Octets;
 use std::alloc::{AllocError, Global};
 
-fn result_of(alloc: Global, code: u8) -> LdapResult
+fn result_of(alloc: Global, code: ResultCode) -> LdapResult
     ensures { result ≡ coded code }
 {
     LdapResult {
-        code,
+        code: code.number(),
         matched: Octets::from_vec(Vec::new(alloc)),
     }
 }
 
-fn bind_code(request: &BindRequest) -> u8
+fn bind_code(request: &BindRequest) -> ResultCode
     ensures { result ≡ code_of request.now }
 {
     if request.version == 3 {
         auth_code(request.name.as_slice(), &request.auth)
     } else {
-        2
+        ResultCode::ProtocolError
     }
 }
 
-fn auth_code(name: &[u8], auth: &Auth) -> u8
+fn auth_code(name: &[u8], auth: &Auth) -> ResultCode
     ensures { result ≡ auth_code name.now auth.now }
 {
     match auth {
-        Auth::Other(_) => 7,
+        Auth::Other(_) => ResultCode::AuthMethodNotSupported,
         Auth::Simple(password) => simple_code(name, password.as_slice()),
     }
 }
 
-fn simple_code(name: &[u8], password: &[u8]) -> u8
+fn simple_code(name: &[u8], password: &[u8]) -> ResultCode
     ensures { result ≡ simple_code name.now password.now }
 {
     match (name, password) {
-        ([], []) => 0,
-        _ => 53,
+        ([], []) => ResultCode::Success,
+        _ => ResultCode::UnwillingToPerform,
     }
 }
 
-fn response_to(tag: u8, outcome: LdapResult) -> Reply
-    ensures { result ≡ response_of tag outcome }
+fn request_code(request: &Request) -> ResultCode
+    ensures { result ≡ request_code request.now }
 {
-    match tag {
-        0x63 => Reply::Done(outcome),
-        0x66 => Reply::Modify(outcome),
-        0x68 => Reply::Add(outcome),
-        0x4a => Reply::Delete(outcome),
-        0x6c => Reply::Rename(outcome),
-        0x6e => Reply::Compare(outcome),
-        _ => Reply::Extended(outcome, None, None),
+    match request {
+        Request::Bind(bind) => bind_code(bind),
+        Request::Extended(_, _) => ResultCode::ProtocolError,
+        _ => ResultCode::UnwillingToPerform,
+    }
+}
+
+fn has_critical(controls: &[Control]) -> bool
+    ensures { result ≡ has_critical controls.now }
+{
+    controls.iter().any(|control| control.critical)
+}
+
+fn code_with(controls: &[Control], request: &Request) -> ResultCode
+    ensures { result ≡ code_with controls.now request.now }
+{
+    if has_critical(controls) {
+        ResultCode::UnavailableCriticalExtension
+    } else {
+        request_code(request)
+    }
+}
+
+fn response_to(request: &Request, ended: LdapResult) -> Option<Reply>
+    ensures { result ≡ response_of request.now ended }
+{
+    match request {
+        Request::Unbind | Request::Abandon(_) => None,
+        Request::Bind(_) => Some(Reply::Bind(ended)),
+        Request::Search(_) => Some(Reply::Done(ended)),
+        Request::Modify(_) => Some(Reply::Modify(ended)),
+        Request::Add(_) => Some(Reply::Add(ended)),
+        Request::Delete(_) => Some(Reply::Delete(ended)),
+        Request::Rename(_) => Some(Reply::Rename(ended)),
+        Request::Compare(_) => Some(Reply::Compare(ended)),
+        Request::Extended(_, _) => Some(Reply::Extended(ended, None, None)),
     }
 }
 
 fn reply_to(alloc: Global, message: &Message) -> Option<Reply>
-    ensures { result ≡ reply_of message.now.marked message.now.request }
+    ensures { result ≡ reply_of message.now.controls message.now.request }
 {
-    match &message.request {
-        Request::Unbind | Request::Abandon(_) => None,
-        Request::Bind(request) => {
-            let code = if message.marked {
-                53
-            } else {
-                bind_code(request)
-            };
-            Some(Reply::Bind(result_of(alloc, code)))
-        }
-        Request::Unbuilt(tag) => {
-            let code = if message.marked || *tag != 0x77 {
-                53
-            } else {
-                2
-            };
-            Some(response_to(*tag, result_of(alloc, code)))
-        }
-    }
+    let code = code_with(message.controls.as_slice(), &message.request);
+    response_to(&message.request, result_of(alloc, code))
 }
 
 /// A bind makes the requester anonymous; no other request changes it.
@@ -107,7 +118,7 @@ fn closes_after(request: &Request) -> bool
 
 fn put_answer(alloc: Global, message: &Message, out: &mut Vec<u8>) -> Result<(), AllocError>
     ensures ok { OnOk result (out.new.items ≡ out.old.items
-        ++ octets_of message.now.id (reply_of message.now.marked message.now.request)) }
+        ++ octets_of message.now.id (reply_of message.now.controls message.now.request)) }
     ensures err { OnErr result (out.new.items ≡ out.old.items) }
 {
     match reply_to(alloc, message) {

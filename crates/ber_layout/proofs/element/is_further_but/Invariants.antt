@@ -1,0 +1,11 @@
+-- The octets left are elements exactly where all are.
+use Rattle.std.proofs.Common.{◌≡◌, length}
+use Rattle.ber_layout.specs.Pieces.{are_pieces}
+use Rattle.ber_layout.specs.Pieces.{other_than}
+use Rattle.ber_layout.proofs.element.is_further_but.Given as goal
+
+abbrev pub invariant-loop-rest : goal.invariant-loop-rest
+invariant-loop-rest l = are_pieces (other_than l.tag) l.rest ≡ are_pieces (other_than l.tag) l.bytes
+
+abbrev pub decreases-loop-rest : goal.decreases-loop-rest
+decreases-loop-rest l = length l.rest

@@ -1,0 +1,5 @@
+pub mod JoinedLemmas
+pub mod SoundLemmas
+pub mod CompleteLemmas
+pub mod SpellingLemmas
+pub mod Theorems

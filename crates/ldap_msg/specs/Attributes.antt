@@ -1,0 +1,30 @@
+-- An attribute's type and values, and a change of one (RFC 4511 4.1.7, 4.6).
+use Rattle.std.specs.Prelude.{ℕ, List}
+use Rattle.ber_layout.specs.Layouts.{Layout, Value}
+use Rattle.ber_layout.specs.Layouts.Layout.{AnyOctets, Number, End, Then, Each}
+use Rattle.ldap_msg.specs.declared.kinds.KindValues.{KindValues}
+use Rattle.ldap_msg.specs.declared.kinds.Change.{Change}
+
+-- PartialAttribute ::= SEQUENCE { type AttributeDescription, vals SET OF value AttributeValue }
+abbrev pub attribute_layout : Layout
+attribute_layout = Then 0x04 AnyOctets (Then 0x31 (Each 0x04 AnyOctets End) End)
+
+-- the parts of an attribute
+abbrev pub attribute_parts : KindValues → Value attribute_layout
+attribute_parts attribute = (attribute.kind, ((attribute.values, tt), tt))
+
+-- the attribute of these parts
+abbrev pub attribute_from : Value attribute_layout → KindValues
+attribute_from parts = record { kind = parts.0; values = parts.1.0.0 }
+
+-- change SEQUENCE { operation ENUMERATED, modification PartialAttribute }
+abbrev pub change_layout : Layout
+change_layout = Then 0x0a (Number 0 127) (Then 0x30 attribute_layout End)
+
+-- the parts of a change
+abbrev pub change_parts : Change → Value change_layout
+change_parts change = (change.operation, (attribute_parts change.body, tt))
+
+-- the change of these parts
+abbrev pub change_from : Value change_layout → Change
+change_from parts = record { operation = parts.0; body = attribute_from parts.1.0 }
