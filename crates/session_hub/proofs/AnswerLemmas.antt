@@ -1,5 +1,5 @@
 -- What is answered to octets, by the message that they are read as.
-use Rattle.std.proofs.Common.{◌≡◌, ℕ, Bool, List, Option, None, Result, IfOk, sym, subst}
+use Rattle.std.proofs.Common.{◌≡◌, ℕ, Bool, List, Option, None, Result, Ok, Err, IfOk, OnErr, sym, subst}
 use Rattle.std.proofs.lemmas.Result.{IfOk-weaker}
 use Rattle.ldap_msg.specs.declared.kinds.Message.{Message}
 use Rattle.ldap_msg.specs.Messages.{message_of}
@@ -23,3 +23,8 @@ unfolding rules
 refused_as r entries who bytes old new is h =
     IfOk-weaker r (λ closes. (others : DirectoryEntries) (asks : Requester) → Gives (answer_read others asks None) old new others asks closes) (λ closes. Gives (rules.answer entries who bytes) old new entries who closes)
     (λ closes gives. subst (λ m. Gives (answer_read entries who m) old new entries who closes) (sym is) (gives entries who)) h
+
+-- what holds anyway holds where there is a refusal
+pub refused_anyway : {A E : Type 0} (r : Result A E) (P : Type 0) → P → OnErr r P
+refused_anyway (Ok value) P holds = tt
+refused_anyway (Err fault) P holds = holds

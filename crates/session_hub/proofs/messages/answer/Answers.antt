@@ -1,4 +1,5 @@
-use Rattle.session_hub.proofs.AnswerLemmas.{answered_as, refused_as}
+use Rattle.std.proofs.Common.{refl}
+use Rattle.session_hub.proofs.AnswerLemmas.{answered_as, refused_as, refused_anyway}
 use Rattle.session_hub.proofs.messages.answer.Goals as goal
 
 -- the octets are a message
@@ -9,3 +10,7 @@ returns-in-Ok-clause-ok g c = answered_as c.answer_message.result _ (g.D.Dir.ent
 pub returns-in-Err-BadMessage-clause-ok : goal.returns-in-Err-BadMessage-clause-ok
 returns-in-Err-BadMessage-clause-ok g c =
     refused_as c.refuse_octets.result (g.D.Dir.entries c.args.dir.now) _ _ _ _ (rw c.in-Err-BadMessage.field-0-is at c.in-Err-BadMessage.ensures.exact) c.refuse_octets.ensures.ok
+
+-- the directory stays
+pub returns-in-Ok-clause-entries : goal.returns-in-Ok-clause-entries
+returns-in-Ok-clause-entries g c = refused_anyway c.answer_message.result _ refl
