@@ -86,12 +86,12 @@ abbrev pub fresh : Stack
 fresh = record { top = Fresh; below = [] }
 
 -- one value, and no braces are open
+abbrev pub value_at : Frame → List Frame → Option Shape
+value_at (Holding shape None) [] = std.Some shape
+value_at frame frames = std.None
+
 abbrev pub value_in : Stack → Option Shape
 value_in stack = value_at stack.top stack.below
-  where
-    value_at : Frame → List Frame → Option Shape
-    value_at (Holding shape None) [] = std.Some shape
-    value_at frame frames = std.None
 
 -- the value of tokens
 unfoldable pub value_of : List Token → Option Shape

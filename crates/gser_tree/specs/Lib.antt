@@ -1,6 +1,7 @@
 -- what public clauses cite
 pub mod Lexemes
 pub mod Shapes
+pub mod Trees
 pub mod TextOf
 -- for the inside of the crate alone
 pub mod Lexing

@@ -2,6 +2,7 @@
 //! values.
 #![tactic(auto)]
 
+mod growing;
 mod lexing;
 mod marks;
 mod part;
