@@ -18,45 +18,7 @@ use Rattle.gser_tree.specs.Lexemes.{Lexeme, Space, Marked, Word, Quoted, class_o
 use Rattle.gser_tree.specs.TextOf.{part_at, tokens_at}
 use Rattle.gser_tree.specs.Lexing.{Step, go, more, begin, finish, whole, in_word, in_string, after_quote, step, at_end, lex_from, lex}
 
--- the octets of the classes
-blank_is : (x : ℕ) → class_of x ≡ Blank → x ≡ 32
-unfolding class_of
-blank_is x h = grind (arith, nat_tests)
-
-quote_is : (x : ℕ) → class_of x ≡ Quote → x ≡ 34
-unfolding class_of
-quote_is x h = grind (arith, nat_tests)
-
-sign_is : (x : ℕ) (mark : Mark) → class_of x ≡ Sign mark → x ≡ octet_of mark
-unfolding class_of
-sign_is x Open h = grind (arith, nat_tests)
-sign_is x Close h = grind (arith, nat_tests)
-sign_is x Comma h = grind (arith, nat_tests)
-sign_is x Colon h = grind (arith, nat_tests)
-
-mark_class : (mark : Mark) → class_of (octet_of mark) ≡ Sign mark
-unfolding class_of
-mark_class Open = refl
-mark_class Close = refl
-mark_class Comma = refl
-mark_class Colon = refl
-
-blank_class : class_of 32 ≡ Blank
-unfolding class_of
-blank_class = refl
-
-quote_class : class_of 34 ≡ Quote
-unfolding class_of
-quote_class = refl
-
--- a quotation mark has the class of no other octet
-not_quote : (x : ℕ) (class : Class) → class_of x ≡ class → (class ≡ Quote → ⊥) → (x == 34) ≡ false
-unfolding class_of
-not_quote x class is other =
-    elim (x == 34) as (λ b. (x == 34) ≡ b → b ≡ false) [
-      | false ↦ λ _. refl
-      | true ↦ λ e. absurd (other (let at : x ≡ 34 = grind (arith, nat_tests) in sym is ∙ ap class_of at ∙ quote_class))
-    ] refl
+use Rattle.gser_tree.proofs.ClassLemmas.{blank_is, quote_is, sign_is, mark_class, blank_class, quote_class, not_quote, and_parts, and_both, are_letters, are_letters-push, is_word-push, doubled-push, doubled-quote, doubled-other}
 
 -- ---- what is lexed are lexemes
 
@@ -97,47 +59,6 @@ split : (ended tokens : List Token) (found : Option (List Token)) → option_map
     → (more : List Token) × (found ≡ Some more) × (ended ++ more ≡ tokens)
 split ended tokens None h = cc
 split ended tokens (Some more) h = (more, refl, cc)
-
--- both tests
-and_parts : (a b : Bool) → (a && b) ≡ true → (a ≡ true) × (b ≡ true)
-and_parts true b h = (refl, h)
-and_parts false b h = cc
-
-and_both : (a b : Bool) → a ≡ true → b ≡ true → (a && b) ≡ true
-and_both a b h k = rw (h, k) refl
-
--- octets of a word
-abbrev are_letters : List ℕ → Bool
-are_letters octets = list_all (λ x. is_letter (class_of x)) octets
-
-are_letters-push : (text : List ℕ) (x : ℕ) → are_letters text ≡ true → class_of x ≡ Letter → are_letters (text ++ x ∷ []) ≡ true
-are_letters-push [] x h is = and_both (is_letter (class_of x)) true (ap is_letter is) refl
-are_letters-push (first ∷ text) x h is =
-    let parts = and_parts (is_letter (class_of first)) (are_letters text) h in
-    and_both (is_letter (class_of first)) (are_letters (text ++ x ∷ [])) parts.0 (are_letters-push text x parts.1 is)
-
--- a letter behind a word
-is_word-push : (text : List ℕ) (x : ℕ) → is_word text ≡ true → class_of x ≡ Letter → is_word (text ++ x ∷ []) ≡ true
-is_word-push [] x h is = cc
-is_word-push (first ∷ text) x h is =
-    let parts = and_parts (is_letter (class_of first)) (are_letters text) h in
-    and_both (is_letter (class_of first)) (are_letters (text ++ x ∷ [])) parts.0 (are_letters-push text x parts.1 is)
-
-doubled-push : (text : List ℕ) (x : ℕ) → doubled (text ++ x ∷ []) ≡ doubled text ++ doubled (x ∷ [])
-doubled-push [] x = refl
-doubled-push (first ∷ text) x = inner (first == 34) (doubled-push text x)
-  where
-    inner : (b : Bool) → doubled (text ++ x ∷ []) ≡ doubled text ++ doubled (x ∷ [])
-        → (if b then 34 ∷ 34 ∷ doubled (text ++ x ∷ []) else first ∷ doubled (text ++ x ∷ []))
-        ≡ (if b then 34 ∷ 34 ∷ doubled text else first ∷ doubled text) ++ doubled (x ∷ [])
-    inner true h = ap (λ rest. 34 ∷ 34 ∷ rest) h
-    inner false h = ap (λ rest. first ∷ rest) h
-
-doubled-quote : (x : ℕ) → class_of x ≡ Quote → doubled (x ∷ []) ≡ 34 ∷ 34 ∷ []
-doubled-quote x is = ap (λ o. doubled (o ∷ [])) (quote_is x is)
-
-doubled-other : (x : ℕ) → (x == 34) ≡ false → doubled (x ∷ []) ≡ x ∷ []
-doubled-other x is = rw is refl
 
 -- an octet where nothing has begun
 from_between : (place x : ℕ) (text : List ℕ) (tokens : List Token) → lex_from Between place (x ∷ text) ≡ Some tokens → Leads place text

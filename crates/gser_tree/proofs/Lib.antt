@@ -3,4 +3,7 @@ pub mod LexingLemmas
 pub mod GrowingLemmas
 pub mod GrownLemmas
 pub mod WholeLemmas
+pub mod ClassLemmas
 pub mod LexemesLemmas
+pub mod LexesLemmas
+pub mod TextLemmas

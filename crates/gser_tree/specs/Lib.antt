@@ -3,6 +3,8 @@ pub mod Lexemes
 pub mod Shapes
 pub mod Trees
 pub mod TextOf
+pub mod Looking
+pub mod Reading
 -- for the inside of the crate alone
 pub mod Lexing
 pub mod Growing

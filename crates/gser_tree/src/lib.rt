@@ -4,10 +4,14 @@
 
 mod growing;
 mod lexing;
+mod looking;
 mod marks;
 mod part;
+mod reading;
 mod token;
 mod tree;
 
+pub use looking::read_tree;
 pub use part::Part;
+pub use reading::{Bad, Stop};
 pub use tree::Tree;
