@@ -7,3 +7,4 @@ pub mod ClassLemmas
 pub mod LexemesLemmas
 pub mod LexesLemmas
 pub mod TextLemmas
+pub mod LookingLemmas

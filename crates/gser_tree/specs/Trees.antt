@@ -1,5 +1,7 @@
 -- The value that a tree of the program is.
 use Rattle.std.specs.Prelude.{List, map, reverse}
+use Rattle.std.specs.Borrow.{Bor}
+use Rattle.gser_tree.specs.Looking.{Behind}
 use Rattle.gser_tree.specs.declared.tree.Tree.{Tree, fold-Tree}
 use Rattle.gser_tree.specs.declared.tree.Tree.TheOpen.{Tree-F}
 use Rattle.gser_tree.specs.declared.growing.Level.{Level}
@@ -19,6 +21,10 @@ level_shape (Tree-F.Chosen part tree) = Chosen part tree.value
 -- the value
 abbrev pub shape_of : Tree → Shape
 shape_of = fold-Tree Shape level_shape
+
+-- a value and the members behind it
+abbrev pub behind_of : Bor Tree × Bor (List Tree) → Behind Shape
+behind_of found = record { value = shape_of found.0.now; rest = map shape_of found.1.now }
 
 -- trees that came from the end, in the order of the text
 abbrev pub from_end : List Tree → Shapes

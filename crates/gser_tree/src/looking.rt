@@ -4,8 +4,8 @@ ghost use Rattle.std.specs.Prelude.{◌≡◌, ◌==◌, ◌≤◌, ◌<◌, ◌
 ghost use Rattle.gser_tree.specs.Shapes.{Shape, nest};
 ghost use Rattle.gser_tree.specs.TextOf.{IsTextOf};
 ghost use Rattle.gser_tree.specs.Growing.{tree_of};
-ghost use Rattle.gser_tree.specs.Trees.{shape_of};
-ghost use Rattle.gser_tree.specs.Looking.{members_in, word_in, string_in, named_in, chosen_in, component, is_null, flag};
+ghost use Rattle.gser_tree.specs.Trees.{shape_of, behind_of};
+ghost use Rattle.gser_tree.specs.Looking.{members_in, word_in, string_in, named_in, chosen_in, Behind, component, is_null, flag};
 
 use crate::growing::tree_of;
 use crate::part::Part;
@@ -73,4 +73,38 @@ impl Tree {
             _ => None,
         }
     }
+}
+
+/// The value of the first member, where that is the component of the name, and the members behind it.
+pub fn component<'a>(name: &str, trees: &'a [Tree]) -> Option<(&'a Tree, &'a [Tree])>
+    ensures exact { option_map behind_of result ≡ component name.now (map shape_of trees.now) }
+{
+    let (first, rest) = trees.split_first()?;
+    match first.named() {
+        Some((part, value)) if part.text.as_str() == name => Some((value, rest)),
+        _ => None,
+    }
+}
+
+// Whether the value is NULL.
+fn is_null(tree: &Tree) -> bool
+    ensures exact { result ≡ is_null (shape_of tree.now) }
+{
+    match tree.word() {
+        Some(part) => part.text.as_str() == "NULL",
+        None => false,
+    }
+}
+
+/// The members behind the first, where that is the identifier alone, or before NULL.
+pub fn flag<'a>(name: &str, trees: &'a [Tree]) -> Option<&'a [Tree]>
+    ensures exact { option_map (λ rest. map shape_of rest.now) result ≡ flag name.now (map shape_of trees.now) }
+{
+    let (first, rest) = trees.split_first()?;
+    let found = match first {
+        Tree::Word(part) => part.text.as_str() == name,
+        Tree::Named(part, value) => part.text.as_str() == name && is_null(value),
+        _ => false,
+    };
+    if found { Some(rest) } else { None }
 }
