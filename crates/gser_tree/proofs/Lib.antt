@@ -8,3 +8,4 @@ pub mod LexemesLemmas
 pub mod LexesLemmas
 pub mod TextLemmas
 pub mod LookingLemmas
+pub mod NumberLemmas

@@ -1,9 +1,12 @@
 -- Reading a value: it misfits, or it gives something and keeps the place of the first part that is bad.
-use Rattle.std.specs.Prelude.{◌≡◌, ℕ, List, [], ◌∷◌, ◌++◌, Option, Some, None, option_and_then, Result, Ok, Err}
+use Rattle.std.specs.Prelude.{◌≡◌, ℕ, ◌==◌, ◌&&◌, ◌||◌, not, nat_le, Bool, false, List, [], ◌∷◌, ◌++◌, length, Option, Some, None, option_and_then, Result, Ok, Err, if◌then◌else◌}
+use Rattle.std.specs.Char.{is_ascii_digit}
+use Rattle.std.specs.List.{list_all}
+use Rattle.std.specs.Str.Parse.{digits_value}
 use Rattle.gser_tree.specs.declared.reading.Stop.{Stop}
 use Rattle.gser_tree.specs.declared.reading.Stop.TheVariants.{Misfit, NoMemory}
 use Rattle.gser_tree.specs.Shapes.{Shape}
-use Rattle.gser_tree.specs.Looking.{Behind, component, flag}
+use Rattle.gser_tree.specs.Looking.{Behind, component, word_in}
 
 -- what was read, and the place of the first bad part
 pub record Found (A : Type 0) : Type 0 where
@@ -67,3 +70,17 @@ abbrev pub Reads : {V A : Type 0} → (V → A) → Result V Stop → Option ℕ
 Reads view (Ok value) bad read = read ≡ Some (record { value = view value; bad = bad })
 Reads view (Err Misfit) bad read = read ≡ None
 Reads view (Err NoMemory) bad read = Unit {0}
+
+-- "0", or digits of which the first is not 0 (RFC 3641 section 3.2)
+abbrev pub is_number : List ℕ → Bool
+is_number [] = false
+is_number (first ∷ rest) = is_ascii_digit first && (list_all is_ascii_digit rest && (not (first == 48) || length rest == 0))
+
+-- the value of digits, where it is at most so much
+abbrev pub at_most : ℕ → List ℕ → Option ℕ
+at_most most digits = if nat_le (digits_value 10 digits) most then Some (digits_value 10 digits) else None
+
+-- a number of at most so much
+unfoldable pub number : ℕ → Shape → Read ℕ
+number most shape =
+    expect (word_in shape) >>= λ word. if is_number word.text then part word.place 0 (at_most most word.text) else λ bad. None

@@ -11,7 +11,7 @@ mod reading;
 mod token;
 mod tree;
 
-pub use looking::read_tree;
+pub use looking::{component, flag, read_tree};
 pub use part::Part;
-pub use reading::{Bad, Stop};
+pub use reading::{Bad, Stop, number};
 pub use tree::Tree;
