@@ -1,0 +1,7 @@
+-- what public clauses cite
+pub mod Subtrees
+pub mod Parts
+pub mod SubtreeText
+pub mod Membership
+-- for the inside of the crate alone
+pub mod Excluding

@@ -1,0 +1,14 @@
+//! Subtree specifications (RFC 3672): read from text, printed, and which names belong to a subtree.
+#![tactic(auto)]
+
+mod error;
+mod exclusions;
+mod parts;
+mod reading;
+mod refinements;
+mod spec;
+
+pub use error::BadText;
+pub use parts::{is_oid, name, oid};
+pub use reading::subtree;
+pub use spec::{Refinement, Spec};
