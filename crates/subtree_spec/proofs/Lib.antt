@@ -1,2 +1,4 @@
 pub mod PartsLemmas
 pub mod RefinementLemmas
+pub mod FrontLemmas
+pub mod PairOrderLemmas

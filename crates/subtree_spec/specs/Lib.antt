@@ -3,5 +3,6 @@ pub mod Subtrees
 pub mod Parts
 pub mod SubtreeText
 pub mod Membership
+pub mod Fronts
 -- for the inside of the crate alone
 pub mod Excluding

@@ -109,3 +109,9 @@ judged (Some found) = unless_bad found.bad found.value
 -- the specification of a text, or the fault
 unfoldable pub read_subtree : List ℕ → Result Subtree BadText
 read_subtree text = judged (option_and_then (λ shape. subtree shape None) (tree_of text))
+
+-- the fault of an error; want of memory is none
+abbrev pub fault_of : BadText → Option BadText
+fault_of Text = Some Text
+fault_of (Part place) = Some (Part place)
+fault_of NoMemory = None

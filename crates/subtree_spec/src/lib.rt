@@ -3,12 +3,14 @@
 
 mod error;
 mod exclusions;
+mod membership;
 mod parts;
 mod reading;
 mod refinements;
 mod spec;
 
 pub use error::BadText;
+pub use membership::{holds_below, holds_name};
 pub use parts::{is_oid, name, oid};
-pub use reading::subtree;
+pub use reading::{read, subtree};
 pub use spec::{Refinement, Spec};

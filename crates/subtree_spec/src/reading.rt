@@ -5,8 +5,9 @@ ghost use Rattle.gser_tree.specs.Shapes.{Shape};
 ghost use Rattle.gser_tree.specs.Trees.{shape_of};
 ghost use Rattle.gser_tree.specs.Reading.{Reads, optional};
 ghost use Rattle.subtree_spec.specs.Parts.{name};
-ghost use Rattle.subtree_spec.specs.SubtreeText.{no_chops, exclusions, distance, there, refinement, subtree, SubText, read_subtree, judged};
+ghost use Rattle.subtree_spec.specs.SubtreeText.{no_chops, exclusions, distance, there, refinement, subtree, SubText, read_subtree, fault_of};
 ghost use Rattle.subtree_spec.specs.Excluding.{chops_of, behind};
+ghost use Rattle.plain_values.specs.Answers.{Answers};
 ghost use Rattle.subtree_spec.specs.Subtrees.{choice_of, subtree_of};
 
 use crate::error::BadText;
@@ -102,4 +103,35 @@ pub fn subtree(alloc: Global, tree: &Tree, bad: &mut Bad) -> Result<Spec, Stop>
         maximum,
         filter,
     })
+}
+
+/// Reads a subtree specification (RFC 3672 Appendix A, RFC 3641).
+///
+/// `Text` comes for octets that are not in the grammar, else `Part` for the first part that breaks its rule: a name that
+/// is none, a number above 2,147,483,647, an object identifier of no class. `NoMemory` may come in place of any answer.
+pub fn read(alloc: Global, text: &[u8]) -> Result<Spec, BadText>
+    ensures ok { IfOk result (λ spec. SubText (subtree_of spec) text.now) }
+    ensures exact { Answers subtree_of fault_of result (read_subtree text.now) }
+{
+    read_all(alloc, text)
+}
+
+// As `read`, by the function of the text.
+#[tactic(auto, unfolding(crate::specs::SubtreeText::read_subtree))]
+fn read_all(alloc: Global, text: &[u8]) -> Result<Spec, BadText>
+    ensures exact { Answers subtree_of fault_of result (read_subtree text.now) }
+{
+    let tree = match read_tree(alloc, text)? {
+        Some(tree) => tree,
+        None => return Err(BadText::Text),
+    };
+    let mut bad = Bad::none();
+    match subtree(alloc, &tree, &mut bad) {
+        Ok(spec) => match bad.first {
+            Some(place) => Err(BadText::Part { place }),
+            None => Ok(spec),
+        },
+        Err(Stop::Misfit) => Err(BadText::Text),
+        Err(Stop::NoMemory) => Err(BadText::NoMemory),
+    }
 }
