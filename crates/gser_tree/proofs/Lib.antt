@@ -9,3 +9,4 @@ pub mod LexesLemmas
 pub mod TextLemmas
 pub mod LookingLemmas
 pub mod NumberLemmas
+pub mod Theorems

@@ -5,6 +5,7 @@ pub mod Trees
 pub mod TextOf
 pub mod Looking
 pub mod Reading
+pub mod Writing
 -- for the inside of the crate alone
 pub mod Lexing
 pub mod Growing

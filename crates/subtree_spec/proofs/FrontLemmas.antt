@@ -1,5 +1,5 @@
 -- A name begins with another exactly where that is a prefix of it.
-use Rattle.std.proofs.Common.{◌≡◌, ℕ, ◌≤◌, ◌<◌, ◌+◌, suc, Bool, true, false, ◌&&◌, List, [], ◌∷◌, ◌++◌, length, take, drop, get_or, refl, sym, ap, ◌∙◌, arith, add-one}
+use Rattle.std.proofs.Common.{◌≡◌, ℕ, ◌≤◌, ◌<◌, ◌+◌, suc, Bool, true, false, ◌&&◌, List, [], ◌∷◌, ◌++◌, length, take, drop, get_or, length-drop, ◌-◌, refl, sym, ap, ◌∙◌, arith, add-one}
 use Rattle.std.proofs.Math.Seq.{drop-cons}
 use Rattle.std.proofs.lemmas.List.{drop_all}
 use Rattle.std.specs.Ordering.{ordering_then, is_eq, is_ne}
@@ -86,3 +86,7 @@ step_other Greater rest h = refl
 -- all RDNs of the front
 pub begins_all : (front name : RdnSequence) → begins (drop (length front) front) name ≡ true
 begins_all front name = rw (drop_all (length front) front (omega arith)) refl
+
+-- how many RDNs are left
+pub drop_length : (name : RdnSequence) (at : ℕ) → length (drop at name) ≡ length name - at
+drop_length name at = omega (arith, length-drop at name)

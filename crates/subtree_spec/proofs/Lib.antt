@@ -2,3 +2,4 @@ pub mod PartsLemmas
 pub mod RefinementLemmas
 pub mod FrontLemmas
 pub mod PairOrderLemmas
+pub mod ReadLemmas

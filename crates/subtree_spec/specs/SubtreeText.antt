@@ -72,23 +72,32 @@ refinement (suc depth) shape = expect (chosen_in shape) >>= λ chosen. alternati
 abbrev pub there : {A : Type 0} → (Shape → Read A) → Shape → Read (Option A)
 there reader shape = reader shape >>= λ value. give (Some value)
 
--- SubtreeSpecification
-unfoldable pub subtree : Shape → Read Subtree
-subtree shape = do
-  all ← expect (members_in shape)
+-- the components of SubtreeSpecification, and the members behind them
+unfoldable pub components : List Shape → Read (Behind Subtree)
+components all = do
   base ← optional (codes "base") [] name all
   chops ← optional (codes "specificExclusions") no_chops exclusions base.rest
   minimum ← optional (codes "minimum") 0 distance chops.rest
   maximum ← optional (codes "maximum") None (there distance) minimum.rest
   filter ← optional (codes "specificationFilter") None (there (refinement 64)) maximum.rest
-  nothing_left filter.rest (record {
-    base = base.value;
-    before = chops.value.before;
-    after = chops.value.after;
-    minimum = minimum.value;
-    maximum = maximum.value;
-    filter = filter.value;
+  give (record {
+    value = record {
+      base = base.value;
+      before = chops.value.before;
+      after = chops.value.after;
+      minimum = minimum.value;
+      maximum = maximum.value;
+      filter = filter.value;
+    };
+    rest = filter.rest;
   })
+
+-- SubtreeSpecification
+unfoldable pub subtree : Shape → Read Subtree
+subtree shape = do
+  all ← expect (members_in shape)
+  spec ← components all
+  nothing_left spec.rest spec.value
 
 -- the text is written for a value that reads as the specification, and no part of it is bad
 pub record SubText (spec : Subtree) (text : List ℕ) : Type 0 where

@@ -5,7 +5,7 @@ ghost use Rattle.gser_tree.specs.Shapes.{Shape};
 ghost use Rattle.gser_tree.specs.Trees.{shape_of};
 ghost use Rattle.gser_tree.specs.Reading.{Reads, optional};
 ghost use Rattle.subtree_spec.specs.Parts.{name};
-ghost use Rattle.subtree_spec.specs.SubtreeText.{no_chops, exclusions, distance, there, refinement, subtree, SubText, read_subtree, fault_of};
+ghost use Rattle.subtree_spec.specs.SubtreeText.{no_chops, exclusions, distance, there, refinement, components, subtree, SubText, read_subtree, fault_of};
 ghost use Rattle.subtree_spec.specs.Excluding.{chops_of, behind};
 ghost use Rattle.plain_values.specs.Answers.{Answers};
 ghost use Rattle.subtree_spec.specs.Subtrees.{choice_of, subtree_of};
@@ -80,29 +80,43 @@ fn filter<'a>(
     }
 }
 
-/// The specification that a value is.
-#[tactic(auto, unfolding(crate::specs::SubtreeText::subtree))]
-pub fn subtree(alloc: Global, tree: &Tree, bad: &mut Bad) -> Result<Spec, Stop>
-    ensures read { Reads subtree_of result bad.new.first (subtree (shape_of tree.now) bad.old.first) }
+// The components of a specification, and the members behind them.
+#[tactic(auto, unfolding(crate::specs::SubtreeText::components))]
+fn components<'a>(
+    alloc: Global,
+    trees: &'a [Tree],
+    bad: &mut Bad,
+) -> Result<(Spec, &'a [Tree]), Stop>
+    ensures read { Reads (behind subtree_of) result bad.new.first (components (map shape_of trees.now) bad.old.first) }
 {
-    let trees = tree.members().ok_or(Stop::Misfit)?;
     let (base, trees) = base(alloc, trees, bad)?;
     let (chops, trees) = chops(alloc, trees, bad)?;
     let (minimum, trees) = minimum(trees, bad)?;
     let (maximum, trees) = maximum(trees, bad)?;
     let (filter, trees) = filter(alloc, trees, bad)?;
-    if !trees.is_empty() {
-        return Err(Stop::Misfit);
-    }
     let Chopped { before, after } = chops;
-    Ok(Spec {
+    let spec = Spec {
         base,
         before,
         after,
         minimum,
         maximum,
         filter,
-    })
+    };
+    Ok((spec, trees))
+}
+
+/// The specification that a value is.
+#[tactic(auto, unfolding(crate::specs::SubtreeText::subtree))]
+pub fn subtree(alloc: Global, tree: &Tree, bad: &mut Bad) -> Result<Spec, Stop>
+    ensures read { Reads subtree_of result bad.new.first (subtree (shape_of tree.now) bad.old.first) }
+{
+    let trees = tree.members().ok_or(Stop::Misfit)?;
+    let (spec, trees) = components(alloc, trees, bad)?;
+    match trees {
+        [] => Ok(spec),
+        [_, ..] => Err(Stop::Misfit),
+    }
 }
 
 /// Reads a subtree specification (RFC 3672 Appendix A, RFC 3641).
