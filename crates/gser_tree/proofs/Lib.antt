@@ -9,4 +9,5 @@ pub mod LexesLemmas
 pub mod TextLemmas
 pub mod LookingLemmas
 pub mod NumberLemmas
+pub mod WritingLemmas
 pub mod Theorems

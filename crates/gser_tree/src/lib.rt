@@ -10,8 +10,10 @@ mod part;
 mod reading;
 mod token;
 mod tree;
+mod writing;
 
 pub use looking::{component, flag, read_tree};
 pub use part::Part;
 pub use reading::{Bad, Stop, number};
 pub use tree::Tree;
+pub use writing::{put_end, put_separator, put_string};
