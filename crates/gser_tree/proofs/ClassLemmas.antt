@@ -1,22 +1,13 @@
 -- The octets of the classes, words and doubled quotation marks.
-use Rattle.std.proofs.Common.{◌≡◌, ◌≢◌, ℕ, ◌+◌, suc, List, [], ◌∷◌, ◌++◌, length, Bool, true, false, refl, sym, ap, subst, ◌∙◌, append_assoc, length-append, arith}
-use Rattle.std.proofs.lemmas.List.{append-nil}
-use Rattle.std.specs.Prelude.{Option, Some, None, option_map, option_and_then, ◌==◌, ◌&&◌, flat_map, if◌then◌else◌}
+use Rattle.std.proofs.Common.{◌≡◌, ℕ, List, [], ◌∷◌, ◌++◌, Bool, true, false, refl, sym, ap, ◌∙◌, arith}
+use Rattle.std.specs.Prelude.{◌==◌, ◌&&◌, if◌then◌else◌}
 use Rattle.std.specs.List.{list_all}
-use Rattle.std.specs.Str.{is_utf8}
 use Rattle.std.proofs.lemmas.Bool.Decides.{nat_tests}
 use Rattle.gser_tree.specs.declared.marks.Mark.{Mark}
 use Rattle.gser_tree.specs.declared.marks.Mark.TheVariants.{Open, Close, Comma, Colon}
 use Rattle.gser_tree.specs.declared.marks.Class.{Class}
-use Rattle.gser_tree.specs.declared.marks.Class.TheVariants.{Blank, Letter, Quote, Sign, Other}
-use Rattle.gser_tree.specs.declared.part.Part.{Part}
-use Rattle.gser_tree.specs.declared.token.Token.{Token}
-use Rattle.gser_tree.specs.declared.token.Token.TheVariants as token
-use Rattle.gser_tree.specs.declared.lexing.Mode.{Mode}
-use Rattle.gser_tree.specs.declared.lexing.Mode.TheVariants.{Between, InWord, InString, AfterQuote}
-use Rattle.gser_tree.specs.Lexemes.{Lexeme, Space, Marked, Word, Quoted, class_of, octet_of, is_letter, is_word, doubled, show, EndsBefore, AreLexemes}
-use Rattle.gser_tree.specs.TextOf.{part_at, tokens_at}
-use Rattle.gser_tree.specs.Lexing.{Step, go, more, begin, finish, whole, in_word, in_string, after_quote, step, at_end, lex_from, lex}
+use Rattle.gser_tree.specs.declared.marks.Class.TheVariants.{Blank, Letter, Quote, Sign}
+use Rattle.gser_tree.specs.Lexemes.{class_of, octet_of, is_letter, is_word, doubled}
 
 -- the octets of the classes
 pub blank_is : (x : ℕ) → class_of x ≡ Blank → x ≡ 32

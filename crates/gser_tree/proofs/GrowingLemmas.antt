@@ -42,11 +42,11 @@ pub alone : (value : Shape) (trees : List Tree) (below : List Level) (empty : Bo
 alone value [] [] empty h = rw h refl
 alone value [] (level ∷ below) empty h =
     let frames : map frame_of (reverse (level ∷ below)) ≡ map frame_of (reverse below) ++ frame_of level ∷ [] =
-        ap (map frame_of) (reverse-append (level ∷ []) below) ∙ map_push frame_of (reverse below) level in
+    ap (map frame_of) (reverse-append (level ∷ []) below) ∙ map_push frame_of (reverse below) level in
     let no_value : empty ≡ false = grind (arith, nat_tests) in
     rw (no_value, frames) (not_outermost value (map frame_of (reverse below)) (frame_of level))
 alone value (tree ∷ trees) below empty h =
     let shapes : map shape_of (reverse (tree ∷ trees)) ≡ map shape_of (reverse trees) ++ shape_of tree ∷ [] =
-        ap (map shape_of) (reverse-append (tree ∷ []) trees) ∙ map_push shape_of (reverse trees) tree in
+    ap (map shape_of) (reverse-append (tree ∷ []) trees) ∙ map_push shape_of (reverse trees) tree in
     let no_value : empty ≡ false = grind (arith, nat_tests) in
     rw (no_value, shapes) (not_empty (map shape_of (reverse trees)) (shape_of tree) value (map frame_of (reverse below)))

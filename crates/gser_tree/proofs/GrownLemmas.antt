@@ -7,7 +7,7 @@ use Rattle.gser_tree.specs.declared.marks.Mark.TheVariants.{Open, Close, Comma, 
 use Rattle.gser_tree.specs.declared.part.Part.{Part}
 use Rattle.gser_tree.specs.declared.token.Token.{Token}
 use Rattle.gser_tree.specs.declared.token.Token.TheVariants as token
-use Rattle.gser_tree.specs.Shapes.{Shape, Shapes, Word, Quoted, Braces, Named, Chosen, None, Some, tokens_of, tokens_in, tokens_behind}
+use Rattle.gser_tree.specs.Shapes.{Shape, Shapes, Quoted, Braces, None, Some, tokens_of, tokens_behind}
 use Rattle.gser_tree.specs.Growing.{Frame, Stack, Fresh, Wanting, Holding, Choosing, with_word, with_value, with_comma, with_colon, all_of, with_braces, on_top, grow, grow_all, fresh, value_at, value_in, value_of}
 
 -- the tokens of values behind another, before more tokens
@@ -114,7 +114,7 @@ unfolding grow
 grown (token.Word part) stack next h =
     topped (token.Word part ∷ written_in stack) stack next (std.Some (with_word part stack.top)) h
     (λ top is. let e : with_word part stack.top ≡ top = cc in
-      subst (λ (t : Frame). written t (around stack.below) ≡ token.Word part ∷ written_in stack) e (worded part stack.top (around stack.below)))
+    subst (λ (t : Frame). written t (around stack.below) ≡ token.Word part ∷ written_in stack) e (worded part stack.top (around stack.below)))
 grown (token.Quoted part) stack next h =
     topped (token.Quoted part ∷ written_in stack) stack next (with_value (Quoted part) stack.top) h
     (λ top is. valued (Quoted part) stack.top top (around stack.below) is)

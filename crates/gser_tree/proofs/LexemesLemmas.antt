@@ -1,10 +1,7 @@
 -- What is lexed are lexemes, and lexemes are lexed.
-use Rattle.std.proofs.Common.{◌≡◌, ◌≢◌, ℕ, ◌+◌, suc, List, [], ◌∷◌, ◌++◌, length, Bool, true, false, refl, sym, ap, subst, ◌∙◌, append_assoc, length-append, arith}
-use Rattle.std.proofs.lemmas.List.{append-nil}
-use Rattle.std.specs.Prelude.{Option, Some, None, option_map, option_and_then, ◌==◌, ◌&&◌, flat_map, if◌then◌else◌}
-use Rattle.std.specs.List.{list_all}
+use Rattle.std.proofs.Common.{◌≡◌, ℕ, ◌+◌, suc, List, [], ◌∷◌, ◌++◌, length, Bool, true, false, refl, sym, ap, ◌∙◌, append_assoc, length-append, arith}
+use Rattle.std.specs.Prelude.{Option, Some, None, option_map, option_and_then, flat_map, if◌then◌else◌}
 use Rattle.std.specs.Str.{is_utf8}
-use Rattle.std.proofs.lemmas.Bool.Decides.{nat_tests}
 use Rattle.gser_tree.specs.declared.marks.Mark.{Mark}
 use Rattle.gser_tree.specs.declared.marks.Mark.TheVariants.{Open, Close, Comma, Colon}
 use Rattle.gser_tree.specs.declared.marks.Class.{Class}
@@ -16,9 +13,8 @@ use Rattle.gser_tree.specs.declared.lexing.Mode.{Mode}
 use Rattle.gser_tree.specs.declared.lexing.Mode.TheVariants.{Between, InWord, InString, AfterQuote}
 use Rattle.gser_tree.specs.Lexemes.{Lexeme, Space, Marked, Word, Quoted, class_of, octet_of, is_letter, is_word, doubled, show, EndsBefore, AreLexemes}
 use Rattle.gser_tree.specs.TextOf.{part_at, tokens_at}
-use Rattle.gser_tree.specs.Lexing.{Step, go, more, begin, finish, whole, in_word, in_string, after_quote, step, at_end, lex_from, lex}
-
-use Rattle.gser_tree.proofs.ClassLemmas.{blank_is, quote_is, sign_is, mark_class, blank_class, quote_class, not_quote, and_parts, and_both, are_letters, are_letters-push, is_word-push, doubled-push, doubled-quote, doubled-other}
+use Rattle.gser_tree.specs.Lexing.{Step, go, more, begin, finish, whole, in_word, in_string, after_quote, step, lex_from, lex}
+use Rattle.gser_tree.proofs.ClassLemmas.{blank_is, quote_is, sign_is, not_quote, and_both, is_word-push, doubled-push, doubled-quote, doubled-other}
 
 -- ---- what is lexed are lexemes
 
@@ -115,11 +111,12 @@ from_mark : (lexeme : Lexeme) (kind : Token) (start place x : ℕ) (text : List 
     → (lexemes : List Lexeme) × AreLexemes lexemes × (flat_map show lexemes ≡ show lexeme ++ x ∷ text) × (tokens_at start lexemes ≡ tokens)
 from_mark lexeme kind start place x text tokens mark ends item is h again =
     let rest = split (kind ∷ token.Sign mark ∷ []) tokens (lex_from Between (place + 1) text) h in
-    let found = again Between rest.0 tt rest.1 in
-    (lexeme ∷ Marked mark ∷ found.lexemes,
+    let found = again Between rest.0 tt rest.1 in (
+      lexeme ∷ Marked mark ∷ found.lexemes,
       item.allowed (Marked mark ∷ found.lexemes) (ends_any mark ends found.lexemes) found.proper,
       ap (λ more. show lexeme ++ more) (ap (λ more. octet_of mark ∷ more) found.joined ∙ ap (λ o. o ∷ text) (sym (sign_is x mark is))),
-      item.token (Marked mark ∷ found.lexemes) ∙ ap (λ more. kind ∷ token.Sign mark ∷ more) found.placed ∙ rest.2)
+      item.token (Marked mark ∷ found.lexemes) ∙ ap (λ more. kind ∷ token.Sign mark ∷ more) found.placed ∙ rest.2,
+    )
   where
     ends_any : (mark : Mark) → EndsBefore (Marked mark ∷ []) → (rest : List Lexeme) → EndsBefore (Marked mark ∷ rest)
     ends_any Open h rest = h
@@ -135,11 +132,12 @@ from_finish : (lexeme : Lexeme) (kind : Token) (start place x : ℕ) (text : Lis
     → (lexemes : List Lexeme) × AreLexemes lexemes × (flat_map show lexemes ≡ show lexeme ++ x ∷ text) × (tokens_at start lexemes ≡ tokens)
 from_finish lexeme kind start place x text tokens Blank item is h again =
     let rest = split (kind ∷ []) tokens (lex_from Between (place + 1) text) h in
-    let found = again Between rest.0 tt rest.1 in
-    (lexeme ∷ Space ∷ found.lexemes,
+    let found = again Between rest.0 tt rest.1 in (
+      lexeme ∷ Space ∷ found.lexemes,
       item.allowed (Space ∷ found.lexemes) tt found.proper,
       ap (λ more. show lexeme ++ more) (ap (λ more. 32 ∷ more) found.joined ∙ ap (λ o. o ∷ text) (sym (blank_is x is))),
-      item.token (Space ∷ found.lexemes) ∙ ap (λ more. kind ∷ more) found.placed ∙ rest.2)
+      item.token (Space ∷ found.lexemes) ∙ ap (λ more. kind ∷ more) found.placed ∙ rest.2,
+    )
 from_finish lexeme kind start place x text tokens (Sign Open) item is h again = cc
 from_finish lexeme kind start place x text tokens (Sign Close) item is h again = from_mark lexeme kind start place x text tokens Close tt item is h again
 from_finish lexeme kind start place x text tokens (Sign Comma) item is h again = from_mark lexeme kind start place x text tokens Comma tt item is h again
@@ -200,7 +198,7 @@ from_word part place x text tokens stands h again = inner (class_of x) refl h
         → Lexed (InWord part) place (x ∷ text) tokens
     ended class is h =
         let found = from_finish (Word part.text) (token.Word part) part.place place x text tokens class (word_item part place stands.0 stands.1) is
-            (stepped_whole token.Word part place text class tokens h).1 again in
+        (stepped_whole token.Word part place text class tokens h).1 again in
         record { lexemes = found.0; proper = found.1; joined = found.2; placed = found.3 }
 
     inner : (class : Class) → class_of x ≡ class
@@ -233,9 +231,9 @@ from_string part place x text tokens stands h again = inner (class_of x) refl h
     within class is other h =
         let rest = split [] tokens (lex_from (InString (more part x)) (place + 1) text) h in
         let grown : doubled (part.text ++ x ∷ []) ≡ doubled part.text ++ x ∷ [] =
-            doubled-push part.text x ∙ ap (λ o. doubled part.text ++ o) (doubled-other x (not_quote x class is other)) in
+        doubled-push part.text x ∙ ap (λ o. doubled part.text ++ o) (doubled-other x (not_quote x class is other)) in
         let at : place + 1 ≡ part.place + suc (length (doubled (part.text ++ x ∷ []))) =
-            omega (arith, ap length grown, length-append (doubled part.text) (x ∷ []), stands) in
+        omega (arith, ap length grown, length-append (doubled part.text) (x ∷ []), stands) in
         let found = again (InString (more part x)) rest.0 at rest.1 in
         record {
           lexemes = found.lexemes;
@@ -255,7 +253,7 @@ from_string part place x text tokens stands h again = inner (class_of x) refl h
           lexemes = found.lexemes;
           proper = found.proper;
           joined = found.joined ∙ ap (λ o. 34 ∷ o) (append_assoc (doubled part.text) (34 ∷ []) text)
-            ∙ ap (λ o. 34 ∷ doubled part.text ++ o ∷ text) (sym (quote_is x is));
+              ∙ ap (λ o. 34 ∷ doubled part.text ++ o ∷ text) (sym (quote_is x is));
           placed = found.placed ∙ rest.2;
         }
     inner Blank is h = within Blank is (λ e. cc) h
@@ -284,17 +282,17 @@ from_quote part place x text tokens stands h again = inner (class_of x) refl h
     inner Quote is h =
         let rest = split [] tokens (lex_from (InString (more part x)) (place + 1) text) h in
         let grown : doubled (part.text ++ x ∷ []) ≡ doubled part.text ++ 34 ∷ 34 ∷ [] =
-            doubled-push part.text x ∙ ap (λ o. doubled part.text ++ o) (doubled-quote x is) in
+        doubled-push part.text x ∙ ap (λ o. doubled part.text ++ o) (doubled-quote x is) in
         let at : place + 1 ≡ part.place + suc (length (doubled (part.text ++ x ∷ []))) =
-            omega (arith, ap length grown, length-append (doubled part.text) (34 ∷ 34 ∷ []), length-append (doubled part.text) (34 ∷ []), stands) in
+        omega (arith, ap length grown, length-append (doubled part.text) (34 ∷ 34 ∷ []), length-append (doubled part.text) (34 ∷ []), stands) in
         let found = again (InString (more part x)) rest.0 at rest.1 in
         let regrouped : (doubled part.text ++ 34 ∷ 34 ∷ []) ++ text ≡ (doubled part.text ++ 34 ∷ []) ++ 34 ∷ text =
-            append_assoc (doubled part.text) (34 ∷ 34 ∷ []) text ∙ sym (append_assoc (doubled part.text) (34 ∷ []) (34 ∷ text)) in
+        append_assoc (doubled part.text) (34 ∷ 34 ∷ []) text ∙ sym (append_assoc (doubled part.text) (34 ∷ []) (34 ∷ text)) in
         record {
           lexemes = found.lexemes;
           proper = found.proper;
           joined = found.joined ∙ ap (λ o. 34 ∷ o ++ text) grown ∙ ap (λ o. 34 ∷ o) regrouped
-            ∙ ap (λ o. 34 ∷ (doubled part.text ++ 34 ∷ []) ++ o ∷ text) (sym (quote_is x is));
+              ∙ ap (λ o. 34 ∷ (doubled part.text ++ 34 ∷ []) ++ o ∷ text) (sym (quote_is x is));
           placed = found.placed ∙ rest.2;
         }
     inner Blank is h = ended Blank is h

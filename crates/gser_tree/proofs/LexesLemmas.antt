@@ -1,7 +1,7 @@
 -- Lexemes are lexed as their tokens.
-use Rattle.std.proofs.Common.{◌≡◌, ◌<◌, ℕ, ◌+◌, List, [], ◌∷◌, ◌++◌, length, Bool, true, false, refl, sym, ap, subst, ◌∙◌, append_assoc, length-append, arith}
+use Rattle.std.proofs.Common.{◌≡◌, ◌<◌, ℕ, ◌+◌, List, [], ◌∷◌, ◌++◌, length, Bool, true, false, refl, sym, ap, ◌∙◌, append_assoc, arith}
 use Rattle.std.proofs.lemmas.List.{append-nil}
-use Rattle.std.specs.Prelude.{Option, Some, None, option_map, option_and_then, ◌==◌, ◌&&◌, flat_map, if◌then◌else◌, IsAscii}
+use Rattle.std.specs.Prelude.{Option, Some, None, option_map, ◌==◌, flat_map, if◌then◌else◌, IsAscii}
 use Rattle.std.specs.Str.{is_utf8}
 use Rattle.std.proofs.lemmas.Str.{is_utf8-from_IsUtf8, IsUtf8-from_ascii}
 use Rattle.std.proofs.lemmas.Str.Ascii.{IsAscii-nil, IsAscii-cons}
@@ -17,7 +17,7 @@ use Rattle.gser_tree.specs.declared.lexing.Mode.{Mode}
 use Rattle.gser_tree.specs.declared.lexing.Mode.TheVariants.{Between, InWord, InString, AfterQuote}
 use Rattle.gser_tree.specs.Lexemes.{Lexeme, Space, Marked, Word, Quoted, class_of, octet_of, is_letter, is_word, doubled, show, EndsBefore, AreLexemes}
 use Rattle.gser_tree.specs.TextOf.{part_at, tokens_at}
-use Rattle.gser_tree.specs.Lexing.{Step, more, begin, finish, whole, in_word, in_string, after_quote, step, at_end, lex_from, lex}
+use Rattle.gser_tree.specs.Lexing.{more, begin, finish, in_word, in_string, after_quote, step, at_end, lex_from, lex}
 use Rattle.gser_tree.proofs.ClassLemmas.{and_parts, are_letters, quote_is, quote_class, blank_class, mark_class}
 
 -- a letter's class, and its octet
@@ -125,7 +125,7 @@ string_goes (x ∷ text) part place rest = inner (x == 34) refl (λ part place. 
     inner true is again =
         let mark : x ≡ 34 = grind (arith, nat_tests) in
         let same : part_at part.place ((part.text ++ 34 ∷ []) ++ text) ≡ part_at part.place (part.text ++ x ∷ text) =
-            part_more part 34 text ∙ ap (λ o. part_at part.place (part.text ++ o ∷ text)) (sym mark) in
+        part_more part 34 text ∙ ap (λ o. part_at part.place (part.text ++ o ∷ text)) (sym mark) in
         let at : place + 1 + 1 + length (doubled text ++ 34 ∷ []) ≡ place + length (34 ∷ 34 ∷ (doubled text ++ 34 ∷ [])) = omega arith in
         goes (InString part) (AfterQuote part) place 34 (34 ∷ ((doubled text ++ 34 ∷ []) ++ rest)) (quote_step part place)
         ∙ goes (AfterQuote part) (InString (more part 34)) (place + 1) 34 ((doubled text ++ 34 ∷ []) ++ rest) (again_step part (place + 1))
@@ -147,7 +147,7 @@ unfolding step
 ended mode kind place [] ends before h = ends.1
 ended mode kind place (Space ∷ rest) ends before h =
     let here : step mode place 32 ≡ Some (record { ended = kind ∷ []; mode = Between }) =
-        ends.0 place 32 (λ e. let k = blank_class in cc) (λ e. let k = blank_class in cc) ∙ ap (finish kind) blank_class in
+    ends.0 place 32 (λ e. let k = blank_class in cc) (λ e. let k = blank_class in cc) ∙ ap (finish kind) blank_class in
     let plain : step Between place 32 ≡ Some (record { ended = []; mode = Between }) = ap (begin place 32) blank_class in
     let left = rw plain at h in
     rw here (put (lex_from Between (place + 1) (flat_map show rest)) (tokens_at (place + 1) rest) [] left)
@@ -174,7 +174,7 @@ ended mode kind place (Marked mark ∷ rest) ends before h = marked mark before 
         → lex_from mode place (octet_of mark ∷ flat_map show rest) ≡ Some (kind ∷ token.Sign mark ∷ tokens_at (place + 1) rest)
     marked mark before is h =
         let here : step mode place (octet_of mark) ≡ Some (record { ended = kind ∷ token.Sign mark ∷ []; mode = Between }) =
-            ends.0 place (octet_of mark) (λ e. cc) (λ e. cc) ∙ ap (finish kind) is ∙ finishes mark before in
+        ends.0 place (octet_of mark) (λ e. cc) (λ e. cc) ∙ ap (finish kind) is ∙ finishes mark before in
         let plain : step Between place (octet_of mark) ≡ Some (record { ended = token.Sign mark ∷ []; mode = Between }) = ap (begin place (octet_of mark)) is in
         let left = rw plain at h in
         rw here (put (lex_from Between (place + 1) (flat_map show rest)) (token.Sign mark ∷ tokens_at (place + 1) rest) (token.Sign mark ∷ []) left)
@@ -220,7 +220,7 @@ lexes (Word (x ∷ text) ∷ rest) place proper =
     let both = and_parts (is_letter (class_of x)) (are_letters text) proper.0 in
     let part = part_at place (x ∷ text) in
     let begun : step Between place x ≡ Some (record { ended = []; mode = InWord (part_at place (x ∷ [])) }) =
-        ap (begin place x) (letter_class (class_of x) both.0) in
+    ap (begin place x) (letter_class (class_of x) both.0) in
     let at : place + 1 + length text ≡ place + length (x ∷ text) = omega arith in
     goes Between (InWord (part_at place (x ∷ []))) place x (text ++ flat_map show rest) begun
     ∙ word_goes text (part_at place (x ∷ [])) (place + 1) (flat_map show rest) both.1

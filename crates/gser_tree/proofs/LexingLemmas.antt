@@ -1,5 +1,5 @@
 -- The tokens of a text behind those that were found.
-use Rattle.std.proofs.Common.{◌≡◌, ℕ, List, [], ◌∷◌, ◌++◌, refl, ap, subst, append_assoc}
+use Rattle.std.proofs.Common.{◌≡◌, ℕ, List, ◌∷◌, ◌++◌, refl, ap, subst, append_assoc}
 use Rattle.std.specs.Prelude.{Option, Some, None, option_map, option_and_then, ◌+◌}
 use Rattle.gser_tree.specs.declared.token.Token.{Token}
 use Rattle.gser_tree.specs.declared.lexing.Mode.{Mode}
@@ -27,6 +27,6 @@ goes_on tokens new mode next place octet rest = went (step mode place octet)
         let same : found.mode ≡ next = ap (λ (p : List Token × Mode). p.1) both in
         let out = behind_both tokens found.ended (lex_from found.mode (place + 1) rest) in
         subst (λ (n : List Token). option_map (λ more. n ++ more) (lex_from next (place + 1) rest)
-            ≡ option_map (λ more. tokens ++ more) (option_map (λ more. found.ended ++ more) (lex_from found.mode (place + 1) rest))) front
+        ≡ option_map (λ more. tokens ++ more) (option_map (λ more. found.ended ++ more) (lex_from found.mode (place + 1) rest))) front
         (subst (λ (m : Mode). option_map (λ more. (tokens ++ found.ended) ++ more) (lex_from m (place + 1) rest)
-            ≡ option_map (λ more. tokens ++ more) (option_map (λ more. found.ended ++ more) (lex_from found.mode (place + 1) rest))) same out)
+        ≡ option_map (λ more. tokens ++ more) (option_map (λ more. found.ended ++ more) (lex_from found.mode (place + 1) rest))) same out)

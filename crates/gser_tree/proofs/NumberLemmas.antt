@@ -1,5 +1,5 @@
 -- Numbers of at most so much, and what the library's `parse` gives of them.
-use Rattle.std.proofs.Common.{◌≡◌, ℕ, ◌<◌, ◌≤◌, ◌^◌, Bool, true, false, ◌&&◌, ◌||◌, List, [], ◌∷◌, length, Option, Some, None, Result, Ok, Err, sym, refl, subst, ap, ◌∙◌, rules, arith}
+use Rattle.std.proofs.Common.{◌≡◌, ℕ, ◌<◌, ◌≤◌, ◌^◌, true, false, ◌&&◌, ◌||◌, List, [], ◌∷◌, length, Some, None, Err, refl, rules, arith}
 use Rattle.std.specs.Prelude.{◌==◌, not, nat_le, if◌then◌else◌}
 use Rattle.std.proofs.lemmas.Bool.Decides.{nat_tests}
 use Rattle.std.proofs.lemmas.Str.Parse.{IsNumeralModel, numerals_by_value, parse_digits}
@@ -30,7 +30,7 @@ pub too_large : {E : Type 0} (most : ℕ) (text : List ℕ) (fault : E) → most
 too_large {E} most text fault fits is parses =
     let gives = parse_digits own {E = E} 32 text (Err fault) parses (number_digits text is) in
     elim (nat_le (digits_value 10 text) most) as (λ b. nat_le (digits_value 10 text) most ≡ b
-        → (if b then Some (digits_value 10 text) else None) ≡ None) [
+    → (if b then Some (digits_value 10 text) else None) ≡ None) [
       | false ↦ λ e. refl
       | true ↦ λ e. absurd (gives (some_digits text is, below (digits_value 10 text) e))
     ] refl

@@ -1,9 +1,8 @@
 -- The value of a text is the one for which it is written.
-use Rattle.std.proofs.Common.{◌≡◌, ◌≤◌, ℕ, List, refl, sym, ap, subst, ◌∙◌}
-use Rattle.std.specs.Prelude.{Option, Some, None, option_and_then, flat_map}
+use Rattle.std.proofs.Common.{◌≡◌, ◌≤◌, ℕ, List, refl, sym, ap, ◌∙◌}
+use Rattle.std.specs.Prelude.{Option, Some, None, option_and_then}
 use Rattle.gser_tree.specs.declared.token.Token.{Token}
-use Rattle.gser_tree.specs.Lexemes.{show}
-use Rattle.gser_tree.specs.Shapes.{Shape, tokens_of, nest}
+use Rattle.gser_tree.specs.Shapes.{Shape, nest}
 use Rattle.gser_tree.specs.TextOf.{IsTextOf}
 use Rattle.gser_tree.specs.Lexing.{lex}
 use Rattle.gser_tree.specs.Growing.{value_of, tree_of}

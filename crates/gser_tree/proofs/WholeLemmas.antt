@@ -1,5 +1,5 @@
 -- The tokens of a value give the value, where its braces are at most a hundred deep.
-use Rattle.std.proofs.Common.{◌≡◌, ◌≤◌, ◌<◌, ◌+◌, suc, List, [], ◌∷◌, ◌++◌, length, refl, sym, ap, subst, ◌∙◌, arith}
+use Rattle.std.proofs.Common.{◌≡◌, ◌≤◌, ◌<◌, ◌+◌, suc, List, [], ◌∷◌, ◌++◌, length, refl, ap, ◌∙◌, arith}
 use Rattle.std.specs.Prelude.{Option, option_and_then, nat_lt, if◌then◌else◌, true}
 use Rattle.std.specs.Prelude as std
 use Rattle.std.proofs.lemmas.Bool.Decides.{nat_tests}
@@ -7,7 +7,7 @@ use Rattle.gser_tree.specs.declared.marks.Mark.TheVariants.{Open, Close, Comma, 
 use Rattle.gser_tree.specs.declared.token.Token.{Token}
 use Rattle.gser_tree.specs.declared.token.Token.TheVariants as token
 use Rattle.gser_tree.specs.Shapes.{Shape, Shapes, Word, Quoted, Braces, Named, Chosen, None, Some, tokens_of, tokens_in, tokens_behind, nest, nest_in}
-use Rattle.gser_tree.specs.Growing.{Frame, Stack, Fresh, Wanting, Holding, Choosing, grow, grow_all, fresh, value_of}
+use Rattle.gser_tree.specs.Growing.{Frame, Stack, Fresh, Wanting, Holding, grow, grow_all, value_of}
 
 abbrev stack : Frame → List Frame → Stack
 stack top below = record { top = top; below = below }

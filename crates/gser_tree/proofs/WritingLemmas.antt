@@ -44,7 +44,7 @@ pub joined : (out middle new before after rest : List ℕ) → middle ≡ out ++
     → new ++ doubled after ≡ out ++ doubled rest
 joined out middle new before after rest one two within front back =
     let whole : before ++ 34 ∷ 34 ∷ doubled after ≡ doubled rest =
-        ap (λ b. b ++ 34 ∷ 34 ∷ doubled after) front ∙ ap (λ a. before_first is_mark rest ++ 34 ∷ 34 ∷ doubled a) back ∙ sym (doubled_first rest within) in
+    ap (λ b. b ++ 34 ∷ 34 ∷ doubled after) front ∙ ap (λ a. before_first is_mark rest ++ 34 ∷ 34 ∷ doubled a) back ∙ sym (doubled_first rest within) in
     ap (λ n. n ++ doubled after) (two ∙ ap (λ m. m ++ 34 ∷ 34 ∷ []) one)
     ∙ append_assoc (out ++ before) (34 ∷ 34 ∷ []) (doubled after)
     ∙ append_assoc out before (34 ∷ 34 ∷ doubled after)

@@ -1,8 +1,7 @@
 -- The tokens of a text, octet by octet.
-use Rattle.std.specs.Prelude.{◌≡◌, ℕ, ◌+◌, Bool, true, false, ◌==◌, not, List, [], ◌∷◌, ◌++◌, Option, Some, None, option_map, option_and_then, if◌then◌else◌}
+use Rattle.std.specs.Prelude.{ℕ, ◌+◌, List, [], ◌∷◌, ◌++◌, Option, Some, None, option_map, option_and_then, if◌then◌else◌}
 use Rattle.std.specs.Str.{is_utf8}
-use Rattle.gser_tree.specs.declared.marks.Mark.{Mark}
-use Rattle.gser_tree.specs.declared.marks.Mark.TheVariants.{Open, Close, Comma, Colon}
+use Rattle.gser_tree.specs.declared.marks.Mark.TheVariants.{Open}
 use Rattle.gser_tree.specs.declared.marks.Class.{Class}
 use Rattle.gser_tree.specs.declared.marks.Class.TheVariants.{Blank, Letter, Quote, Sign, Other}
 use Rattle.gser_tree.specs.declared.part.Part.{Part}

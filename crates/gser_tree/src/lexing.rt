@@ -44,11 +44,7 @@ fn begin(
 }
 
 // An octet behind a whole word or string.
-fn finish(
-    tokens: &mut Vec<Token>,
-    whole: Token,
-    class: Class,
-) -> Result<Option<Mode>, AllocError>
+fn finish(tokens: &mut Vec<Token>, whole: Token, class: Class) -> Result<Option<Mode>, AllocError>
     ensures ok { IfOk result (λ next. stepped tokens.old.items (finish whole class) ≡ left tokens.new.items next) }
 {
     match class {

@@ -83,13 +83,7 @@ fn at_most(most: u32, digits: &str) -> Option<u32>
     ensures exact { result ≡ at_most most digits.now }
 {
     match digits.parse::<u32>() {
-        Ok(value) => {
-            if value <= most {
-                Some(value)
-            } else {
-                None
-            }
-        }
+        Ok(value) => { if value <= most { Some(value) } else { None } }
         Err(_) => None,
     }
 }

@@ -1,10 +1,10 @@
 //! Why a text is not read.
 
-use std::alloc::AllocError;
-use thiserror::Error;
-
 ghost use Rattle.std.specs.Prelude.{◌≡◌};
 ghost use Rattle.subtree_spec.specs.declared.error.BadText.TheVariants.{NoMemory};
+
+use std::alloc::AllocError;
+use thiserror::Error;
 
 /// Why a text is not read, in the order in which the causes are tried.
 #[derive(Clone, Copy, Debug, PartialEq, Eq, Error)]

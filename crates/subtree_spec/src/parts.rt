@@ -55,7 +55,9 @@ pub fn name(alloc: Global, tree: &Tree, bad: &mut Bad) -> Result<Dn, Stop>
 fn are_key_octets(octets: &[u8]) -> bool
     ensures exact { result ≡ list_all (λ octet. is_ascii_alphanumeric octet || octet == 45) octets.now }
 {
-    octets.iter().all(|octet| octet.is_ascii_alphanumeric() || *octet == b'-')
+    octets
+        .iter()
+        .all(|octet| octet.is_ascii_alphanumeric() || *octet == b'-')
 }
 
 // Whether a text is a descriptor: a letter, and then letters, digits and hyphens.

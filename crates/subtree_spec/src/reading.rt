@@ -20,6 +20,7 @@ use gser_tree::{Bad, Stop, Tree, component, number, read_tree};
 use std::alloc::Global;
 
 const MOST: u32 = 2_147_483_647;
+
 const DEEPEST: usize = 64;
 
 fn base<'a>(alloc: Global, trees: &'a [Tree], bad: &mut Bad) -> Result<(Dn, &'a [Tree]), Stop>
@@ -32,11 +33,7 @@ fn base<'a>(alloc: Global, trees: &'a [Tree], bad: &mut Bad) -> Result<(Dn, &'a 
     }
 }
 
-fn chops<'a>(
-    alloc: Global,
-    trees: &'a [Tree],
-    bad: &mut Bad,
-) -> Result<(Chopped, &'a [Tree]), Stop>
+fn chops<'a>(alloc: Global, trees: &'a [Tree], bad: &mut Bad) -> Result<(Chopped, &'a [Tree]), Stop>
     ensures read { Reads (behind chops_of) result bad.new.first
         (optional (codes "specificExclusions") no_chops exclusions (map shape_of trees.now) bad.old.first) }
 {

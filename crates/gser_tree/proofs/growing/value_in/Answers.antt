@@ -11,5 +11,7 @@ returns-in-Holding c =
     let trees = c.in-Holding.trees.items in
     let below = c.args.growing.below.items in
     let empty : false ≡ ((length trees == 0) && (length below == 0)) = cc in
-    record { exact = alone (shape_of c.in-Holding.tree) trees below false empty
-        ∙ ap (λ level. value_at (frame_of level) (map frame_of (reverse below))) (sym c.in-Holding.is) }
+    record {
+      exact = alone (shape_of c.in-Holding.tree) trees below false empty
+          ∙ ap (λ level. value_at (frame_of level) (map frame_of (reverse below))) (sym c.in-Holding.is);
+    }

@@ -21,7 +21,7 @@ returns-in-None c =
     let left = c.pop.new.self.items in
     record {
       ok = ap (option_and_then value_in)
-        (ap (option_and_then (grow_all left)) (sym (ap (option_map stack_of) c.in-None.is) ∙ c.in_ok-next.ensures.ok)
-        ∙ sym (grow_all-push left c.in-Some.token stack)
-        ∙ sym (ap (λ tokens. grow_all tokens stack) c.in-Some.ensures.items) ∙ c.tokens.invariant);
+          (ap (option_and_then (grow_all left)) (sym (ap (option_map stack_of) c.in-None.is) ∙ c.in_ok-next.ensures.ok)
+          ∙ sym (grow_all-push left c.in-Some.token stack)
+          ∙ sym (ap (λ tokens. grow_all tokens stack) c.in-Some.ensures.items) ∙ c.tokens.invariant);
     }

@@ -1,5 +1,5 @@
 -- A step leaves the tokens of what is left.
-use Rattle.std.proofs.Common.{◌≡◌, ◌∷◌, ◌++◌, ◌∙◌, ap, sym, drop, get_or, add-one, suc}
+use Rattle.std.proofs.Common.{◌≡◌, ◌∷◌, ◌++◌, ◌∙◌, ap, sym, drop, get_or, add-one}
 use Rattle.std.specs.Prelude.{option_map, ◌+◌}
 use Rattle.std.proofs.Math.Seq.{drop-cons}
 use Rattle.gser_tree.specs.Lexing.{lex_from, left}

@@ -1,5 +1,4 @@
 -- The laws of the value of a text.
-use Rattle.std.specs.Prelude.{Ok, Err}
 use Rattle.gser_tree.proofs.LookingLemmas.{found_text, only_text}
 use Rattle.gser_tree.proofs.looking.read_tree.Goals as goal
 use Rattle.std.proofs.lemmas.Result.{IfOk-weaker}

@@ -19,8 +19,8 @@ loop-index-preserved c =
     let at = c.args.at in
     let index = c.loop-index.index in
     let order : c.compare_rdn.result ≡ rdn_cmp (get_or name (at + index) []) (get_or front index []) =
-        c.compare_rdn.ensures.exact ∙ ap (λ r. rdn_cmp r c.rdn_at-in-loop-index.result.now) c.rdn_at.ensures.exact
-        ∙ ap (rdn_cmp (get_or name (at + index) [])) c.rdn_at-in-loop-index.ensures.exact in
+    c.compare_rdn.ensures.exact ∙ ap (λ r. rdn_cmp r c.rdn_at-in-loop-index.result.now) c.rdn_at.ensures.exact
+    ∙ ap (rdn_cmp (get_or name (at + index) [])) c.rdn_at-in-loop-index.ensures.exact in
     let test : false ≡ is_ne (rdn_cmp (get_or name (at + index) []) (get_or front index [])) = c.if-is_ne.ensures ∙ ap is_ne order in
     sym (step_equal (rdn_cmp (get_or name (at + index) []) (get_or front index [])) (begins (drop (index + 1) front) (drop (at + (index + 1)) name)) test)
     ∙ sym (begins_step front name at index (omega arith) (omega arith)) ∙ c.loop-index.invariant
@@ -32,12 +32,12 @@ returns-then-is_ne c =
     let at = c.args.at in
     let index = c.loop-index.index in
     let order : c.compare_rdn.result ≡ rdn_cmp (get_or name (at + index) []) (get_or front index []) =
-        c.compare_rdn.ensures.exact ∙ ap (λ r. rdn_cmp r c.rdn_at-in-loop-index.result.now) c.rdn_at.ensures.exact
-        ∙ ap (rdn_cmp (get_or name (at + index) [])) c.rdn_at-in-loop-index.ensures.exact in
+    c.compare_rdn.ensures.exact ∙ ap (λ r. rdn_cmp r c.rdn_at-in-loop-index.result.now) c.rdn_at.ensures.exact
+    ∙ ap (rdn_cmp (get_or name (at + index) [])) c.rdn_at-in-loop-index.ensures.exact in
     let test : true ≡ is_ne (rdn_cmp (get_or name (at + index) []) (get_or front index [])) = c.if-is_ne.ensures ∙ ap is_ne order in
     record {
       exact = sym (step_other (rdn_cmp (get_or name (at + index) []) (get_or front index [])) (begins (drop (index + 1) front) (drop (at + (index + 1)) name)) test)
-        ∙ sym (begins_step front name at index (omega arith) (omega arith)) ∙ c.loop-index.invariant ∙ begins-prefix front (drop at name);
+          ∙ sym (begins_step front name at index (omega arith) (omega arith)) ∙ c.loop-index.invariant ∙ begins-prefix front (drop at name);
     }
 
 pub returns : goal.returns
@@ -47,5 +47,5 @@ returns c =
     let at = c.args.at in
     let last : c.loop-index.index ≡ length front = omega arith in
     let ended : begins (drop c.loop-index.index front) (drop (at + c.loop-index.index) name) ≡ true =
-        ap (λ i. begins (drop i front) (drop (at + c.loop-index.index) name)) last ∙ begins_all front (drop (at + c.loop-index.index) name) in
+    ap (λ i. begins (drop i front) (drop (at + c.loop-index.index) name)) last ∙ begins_all front (drop (at + c.loop-index.index) name) in
     record { exact = sym ended ∙ c.loop-index.invariant ∙ begins-prefix front (drop at name) }
