@@ -1,12 +1,14 @@
 -- What was read of a text is what it is written for.
-use Rattle.std.proofs.Common.{◌≡◌, ℕ, List, refl, sym, ap, ◌∙◌, subst}
+use Rattle.std.proofs.Common.{◌≡◌, ◌≤◌, ℕ, List, refl, sym, ap, ◌∙◌, subst}
 use Rattle.std.specs.Prelude.{Option, Some, None, option_and_then, Result, Ok, Err, IfOk}
 use Rattle.plain_values.specs.Answers.{Answers}
-use Rattle.gser_tree.specs.Shapes.{Shape}
+use Rattle.gser_tree.specs.Shapes.{Shape, nest}
+use Rattle.gser_tree.specs.TextOf.{IsTextOf}
 use Rattle.gser_tree.specs.Growing.{tree_of}
 use Rattle.gser_tree.specs.Reading.{Found}
-use Rattle.gser_tree.proofs.Theorems.{tree_of-IsTextOf}
+use Rattle.gser_tree.proofs.Theorems.{tree_of-IsTextOf, IsTextOf-tree_of}
 use Rattle.subtree_spec.specs.declared.error.BadText.{BadText}
+use Rattle.subtree_spec.specs.declared.error.BadText.TheVariants.{Text}
 use Rattle.subtree_spec.specs.declared.spec.Spec.{Spec}
 use Rattle.subtree_spec.specs.Subtrees.{Subtree, subtree_of}
 use Rattle.subtree_spec.specs.SubtreeText.{subtree, SubText, unless_bad, judged, fault_of, read_subtree}
@@ -37,3 +39,27 @@ pub read_text : (text : List ℕ) (result : Result Spec BadText) → Answers sub
     → IfOk result (λ spec. SubText (subtree_of spec) text)
 read_text text (Ok spec) h = reads_as text (subtree_of spec) h
 read_text text (Err fault) h = tt
+
+-- the value that a text is written for decides
+reads_shape : (text : List ℕ) (shape : Shape) → IsTextOf shape text → nest shape ≤ 100 → read_subtree text ≡ judged (subtree shape None)
+unfolding read_subtree
+reads_shape text shape written deep =
+    ap (λ found. judged (option_and_then (λ shape. subtree shape None) found)) (IsTextOf-tree_of text shape written deep)
+
+pub read_shape : (text : List ℕ) (result : Result Spec BadText) → Answers subtree_of fault_of result (read_subtree text)
+    → (shape : Shape) → IsTextOf shape text → nest shape ≤ 100 → Answers subtree_of fault_of result (judged (subtree shape None))
+read_shape text result h shape written deep =
+    subst (λ (r : Result Subtree BadText). Answers subtree_of fault_of result r) (reads_shape text shape written deep) h
+
+-- a text that is written for no value
+reads_nothing : (text : List ℕ) → ((shape : Shape) → IsTextOf shape text → ⊥) → read_subtree text ≡ Err Text
+unfolding read_subtree
+reads_nothing text never = inner (tree_of text) refl
+  where
+    inner : (found : Option Shape) → tree_of text ≡ found → judged (option_and_then (λ shape. subtree shape None) found) ≡ Err Text
+    inner None is = refl
+    inner (Some shape) is = absurd (never shape (tree_of-IsTextOf text shape is))
+
+pub read_nothing : (text : List ℕ) (result : Result Spec BadText) → Answers subtree_of fault_of result (read_subtree text)
+    → ((shape : Shape) → IsTextOf shape text → ⊥) → Answers subtree_of fault_of result (Err Text)
+read_nothing text result h never = subst (λ (r : Result Subtree BadText). Answers subtree_of fault_of result r) (reads_nothing text never) h

@@ -1,11 +1,13 @@
 //! Subtree specifications from their texts.
 
-ghost use Rattle.std.specs.Prelude.{◌≡◌, [], codes, map, option_map, IfOk};
-ghost use Rattle.gser_tree.specs.Shapes.{Shape};
+ghost use Rattle.std.specs.Prelude.{◌≡◌, ◌≤◌, None, Err, [], codes, map, option_map, IfOk};
+ghost use Rattle.gser_tree.specs.Shapes.{Shape, nest};
+ghost use Rattle.gser_tree.specs.TextOf.{IsTextOf};
+ghost use Rattle.subtree_spec.specs.declared.error.BadText.TheVariants.{Text};
 ghost use Rattle.gser_tree.specs.Trees.{shape_of};
 ghost use Rattle.gser_tree.specs.Reading.{Reads, optional};
 ghost use Rattle.subtree_spec.specs.Parts.{name};
-ghost use Rattle.subtree_spec.specs.SubtreeText.{no_chops, exclusions, distance, there, refinement, components, subtree, SubText, read_subtree, fault_of};
+ghost use Rattle.subtree_spec.specs.SubtreeText.{no_chops, exclusions, distance, there, refinement, components, subtree, SubText, read_subtree, judged, fault_of};
 ghost use Rattle.subtree_spec.specs.Excluding.{chops_of, behind};
 ghost use Rattle.plain_values.specs.Answers.{Answers};
 ghost use Rattle.subtree_spec.specs.Subtrees.{choice_of, subtree_of};
@@ -122,6 +124,10 @@ pub fn subtree(alloc: Global, tree: &Tree, bad: &mut Bad) -> Result<Spec, Stop>
 /// is none, a number above 2,147,483,647, an object identifier of no class. `NoMemory` may come in place of any answer.
 pub fn read(alloc: Global, text: &[u8]) -> Result<Spec, BadText>
     ensures ok { IfOk result (λ spec. SubText (subtree_of spec) text.now) }
+    ensures only { (shape : Shape) → IsTextOf shape text.now → nest shape ≤ 100
+        → Answers subtree_of fault_of result (judged (subtree shape None)) }
+    ensures outside { ((shape : Shape) → IsTextOf shape text.now → ⊥)
+        → Answers subtree_of fault_of result (Err Text) }
     ensures exact { Answers subtree_of fault_of result (read_subtree text.now) }
 {
     read_all(alloc, text)
