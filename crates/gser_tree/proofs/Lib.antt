@@ -1,3 +1,4 @@
+pub mod Examples
 pub mod PartLemmas
 pub mod LexingLemmas
 pub mod GrowingLemmas

@@ -1,5 +1,5 @@
 -- The empty text is that of the name of no RDN.
-use Rattle.std.proofs.Common.{◌≡◌, ℕ, List, [], refl, ap, sym, ◌∙◌, arith}
+use Rattle.std.proofs.Common.{◌≡◌, [], refl, ap, sym, ◌∙◌, arith}
 use Rattle.std.specs.Prelude.{Ok}
 use Rattle.dn_names.specs.Names.{RdnSequence}
 use Rattle.dn_names.specs.Printing.{print_name, print_by}

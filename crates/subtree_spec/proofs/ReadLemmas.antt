@@ -1,5 +1,5 @@
 -- What was read of a text is what it is written for.
-use Rattle.std.proofs.Common.{◌≡◌, ◌≤◌, ℕ, List, refl, sym, ap, ◌∙◌, subst}
+use Rattle.std.proofs.Common.{◌≡◌, ◌≤◌, ℕ, List, refl, ap, ◌∙◌, subst}
 use Rattle.std.specs.Prelude.{Option, Some, None, option_and_then, Result, Ok, Err, IfOk}
 use Rattle.plain_values.specs.Answers.{Answers}
 use Rattle.gser_tree.specs.Shapes.{Shape, nest}

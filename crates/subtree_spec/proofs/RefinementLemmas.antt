@@ -1,11 +1,10 @@
 -- A refinement at some depth.
-use Rattle.std.proofs.Common.{◌≡◌, ℕ, ◌<◌, ◌-◌, ◌+◌, suc, refl, ap, sym, subst, ◌∙◌, arith}
+use Rattle.std.proofs.Common.{◌≡◌, ℕ, ◌<◌, ◌-◌, suc, refl, ap, sym, arith}
 use Prim.Native.Nat.{zero}
 use Rattle.std.specs.Prelude.{Option, None}
 use Rattle.gser_tree.specs.Shapes.{Shape}
 use Rattle.gser_tree.specs.Looking.{chosen_in}
-use Rattle.gser_tree.specs.Reading.{Read, expect, ◌>>=◌}
-use Rattle.subtree_spec.specs.Subtrees.{Choice}
+use Rattle.gser_tree.specs.Reading.{expect, ◌>>=◌}
 use Rattle.subtree_spec.specs.SubtreeText.{alternative, refinement}
 
 -- no depth is left

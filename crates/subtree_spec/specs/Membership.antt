@@ -1,5 +1,5 @@
 -- Which names belong to a subtree, its refinement aside (X.501 12.3, RFC 3672 section 2.1).
-use Rattle.std.specs.Prelude.{◌≡◌, ℕ, ◌+◌, Bool, true, ◌&&◌, nat_le, nat_lt, not, List, [], ◌++◌, length, drop, Option, Some, None}
+use Rattle.std.specs.Prelude.{ℕ, ◌+◌, Bool, true, ◌&&◌, nat_le, nat_lt, not, ◌++◌, length, drop, Option, Some, None}
 use Rattle.std.specs.List.{list_any}
 use Rattle.dn_names.specs.Names.{RdnSequence}
 use Rattle.dn_names.specs.NameOrder.{is_prefix_of}

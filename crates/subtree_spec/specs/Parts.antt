@@ -1,5 +1,5 @@
 -- The parts of subtree specifications and access control items: names, object identifiers, and their values.
-use Rattle.std.specs.Prelude.{ℕ, Bool, ◌||◌, List, [], ◌∷◌, Option, Some, None, option_and_then, Result, Ok, Err, if◌then◌else◌}
+use Rattle.std.specs.Prelude.{ℕ, Bool, ◌||◌, List, [], Option, Some, None, option_and_then, if◌then◌else◌}
 use Rattle.std.specs.Result.{result_ok}
 use Rattle.schema_core.specs.Naming.{is_keystring}
 use Rattle.schema_core.specs.Oid.{is_dotted_oid}

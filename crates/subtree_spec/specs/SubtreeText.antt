@@ -1,5 +1,5 @@
 -- Subtree specifications as text (RFC 3672 Appendix A), a production a definition.
-use Rattle.std.specs.Prelude.{◌≡◌, ℕ, suc, Bool, true, false, List, [], ◌∷◌, Option, Some, None, option_map, option_and_then, Result, Ok, Err, codes, if◌then◌else◌}
+use Rattle.std.specs.Prelude.{◌≡◌, ℕ, suc, List, [], ◌∷◌, Option, Some, None, option_and_then, Result, Ok, Err, codes, if◌then◌else◌}
 use Prim.Native.Nat.{zero}
 use Rattle.std.specs.Str.{bytes_eq}
 use Rattle.dn_names.specs.Names.{RdnSequence}
@@ -8,12 +8,12 @@ use Rattle.std.specs.Ordering.{match_ordering}
 use Rattle.gser_tree.specs.Shapes.{Shape}
 use Rattle.gser_tree.specs.TextOf.{IsTextOf}
 use Rattle.gser_tree.specs.Growing.{tree_of}
-use Rattle.gser_tree.specs.Looking.{Behind, members_in, word_in, string_in, chosen_in}
-use Rattle.gser_tree.specs.Reading.{Found, Read, give, ◌>>=◌, expect, part, optional, nothing_left, gather, number}
+use Rattle.gser_tree.specs.Looking.{Behind, members_in, chosen_in}
+use Rattle.gser_tree.specs.Reading.{Found, Read, give, ◌>>=◌, expect, part, optional, nothing_left, number}
 use Rattle.subtree_spec.specs.declared.error.BadText.{BadText}
 use Rattle.subtree_spec.specs.declared.error.BadText.TheVariants.{Text, Part, NoMemory}
 use Rattle.subtree_spec.specs.Parts.{name, oid, class_oid, set_of}
-use Rattle.subtree_spec.specs.Subtrees.{Choice, Choices, Item, And, Or, Not, gathered, Subtree}
+use Rattle.subtree_spec.specs.Subtrees.{Choice, Item, And, Or, Not, gathered, Subtree}
 
 -- the names of specificExclusions by their kind
 pub record Chops : Type 0 where

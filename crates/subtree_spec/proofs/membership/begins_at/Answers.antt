@@ -1,5 +1,5 @@
 -- A front is begun by its RDNs one by one.
-use Rattle.std.proofs.Common.{◌≡◌, ◌∙◌, sym, ap, length, drop, get_or, [], arith, length-drop, ◌<◌, ◌+◌, false, true, true, subst}
+use Rattle.std.proofs.Common.{◌≡◌, ◌∙◌, sym, ap, length, drop, get_or, [], arith, length-drop, ◌<◌, ◌+◌, false, true, true}
 use Rattle.std.specs.Ordering.{is_ne}
 use Rattle.dn_names.specs.NameOrder.{rdn_cmp}
 use Rattle.subtree_spec.specs.Fronts.{begins}

@@ -1,5 +1,5 @@
 -- What is at a place, or past the end.
-use Rattle.std.proofs.Common.{◌≡◌, [], sym, ap, ◌∙◌, unwrap_or}
+use Rattle.std.proofs.Common.{[], ap, ◌∙◌, unwrap_or}
 use Rattle.std.proofs.lemmas.Option.{unwrap_or-slice_get}
 use Rattle.subtree_spec.proofs.membership.rdn_at.Goals as goal
 
