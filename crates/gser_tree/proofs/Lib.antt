@@ -5,6 +5,7 @@ pub mod GrowingLemmas
 pub mod GrownLemmas
 pub mod WholeLemmas
 pub mod ClassLemmas
+pub mod ItemLemmas
 pub mod LexemesLemmas
 pub mod LexesLemmas
 pub mod TextLemmas
