@@ -1,0 +1,15 @@
+pub mod Examples
+pub mod PartLemmas
+pub mod LexingLemmas
+pub mod GrowingLemmas
+pub mod GrownLemmas
+pub mod WholeLemmas
+pub mod ClassLemmas
+pub mod ItemLemmas
+pub mod LexemesLemmas
+pub mod LexesLemmas
+pub mod TextLemmas
+pub mod LookingLemmas
+pub mod NumberLemmas
+pub mod WritingLemmas
+pub mod Theorems

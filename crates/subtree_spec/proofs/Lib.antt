@@ -1,0 +1,5 @@
+pub mod PartsLemmas
+pub mod RefinementLemmas
+pub mod FrontLemmas
+pub mod PairOrderLemmas
+pub mod ReadLemmas

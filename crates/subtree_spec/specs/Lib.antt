@@ -1,0 +1,8 @@
+-- what public clauses cite
+pub mod Subtrees
+pub mod Parts
+pub mod SubtreeText
+pub mod Membership
+pub mod Fronts
+-- for the inside of the crate alone
+pub mod Excluding

@@ -1,0 +1,16 @@
+//! Subtree specifications (RFC 3672): read from text, printed, and which names belong to a subtree.
+#![tactic(auto)]
+
+mod error;
+mod exclusions;
+mod membership;
+mod parts;
+mod reading;
+mod refinements;
+mod spec;
+
+pub use error::BadText;
+pub use membership::{holds_below, holds_name};
+pub use parts::{is_oid, name, oid};
+pub use reading::{read, subtree};
+pub use spec::{Refinement, Spec};

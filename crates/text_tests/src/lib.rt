@@ -1,0 +1,6 @@
+//! Tests of texts under the generic string encoding rules, with expected values from their grammar in RFC 3672 and
+//! RFC 3641.
+#![tactic(auto)]
+
+#[cfg(test)]
+mod subtrees;
