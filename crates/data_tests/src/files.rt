@@ -79,6 +79,6 @@ fn a_file_is_refused_at_its_first_bad_line(rt: HostRuntime) -> Result<(), Fail> 
 #[test]
 fn a_file_without_subentries_has_none_for_access_control(rt: HostRuntime) -> Result<(), Fail> {
     let tree = load(rt.alloc(), FILE.as_bytes())?;
-    assert_eq!(rt; tree.access_subentries(), 0);
+    assert!(rt; tree.access_subentries().is_empty());
     Ok(())
 }

@@ -1,7 +1,7 @@
 //! Entries: what each change leaves, and the classes of RFC 4519 and RFC 2798 with their superclasses.
 use crate::fixtures::{entry, name, put};
 use dir_tree::Entry;
-use dn_names::same;
+use dn_names::{make_value, same};
 use schema_core::{AttrId, row};
 use std::alloc::Global;
 use std::process::Abort;
@@ -22,6 +22,11 @@ enum Call {
     // Whether the name is the same as this.
     HasName(&'static str),
     HasValues(AttrId),
+    HasKind(AttrId),
+    // Whether a value of the type has the key.
+    HasValue(AttrId, &'static str),
+    // Gives the type this value alone.
+    SetValue(AttrId, &'static str),
     HasKindAt(usize),
     HasClass(&'static str),
     IsPoint,
@@ -32,14 +37,22 @@ enum Call {
 }
 
 fn put_attributes(entry: &Entry, out: &mut String) -> Result<(), Fail> {
-    for index in 0..entry.kinds() {
-        let kind = entry.kind_at(index).ok_or("no type at the index")?;
+    for (kind, values) in entry.attributes() {
         write!(out, "{}=", row(kind).ok_or("no such type")?.name)?;
-        for value in entry.values(kind) {
+        for value in values {
             write!(out, "{},", str::from_utf8(value.octets())?)?;
         }
     }
     Ok(())
+}
+
+// Gives the type the one value, and answers true.
+fn set_value(alloc: Global, entry: &mut Entry, kind: AttrId, text: &str) -> Result<bool, Fail> {
+    let value = make_value(alloc, kind, text.as_bytes().to_vec(alloc)?)?;
+    let mut values = Vec::new(alloc);
+    values.push(value)?;
+    entry.set_values(kind, values)?;
+    Ok(true)
 }
 
 // Appends what a call answers: + for true, - for false, or the attributes.
@@ -54,7 +67,10 @@ fn put_answer(alloc: Global, entry: &mut Entry, call: Call, out: &mut String) ->
         }
         Call::HasName(text) => same(entry.name(), &name(alloc, text)?),
         Call::HasValues(kind) => !entry.values(kind).is_empty(),
-        Call::HasKindAt(index) => entry.kind_at(index).is_some(),
+        Call::HasKind(kind) => entry.has_kind(kind),
+        Call::HasValue(kind, key) => entry.has_value(kind, key.as_bytes()),
+        Call::SetValue(kind, text) => set_value(alloc, entry, kind, text)?,
+        Call::HasKindAt(index) => entry.kind_at(index).is_some() && index < entry.kinds(),
         Call::HasClass(oid) => entry.has_class(oid),
         Call::IsPoint => entry.is_point(),
         Call::IsSubentry => entry.is_subentry(),
@@ -131,6 +147,21 @@ static ADDED: [Row; 6] = [
 #[test]
 fn a_value_is_added_where_no_key_is_equal(rt: HostRuntime) -> Result<(), Fail> {
     check(&rt, rt.alloc(), &ADDED)
+}
+
+#[rattlefmt::skip]
+static SET: [Row; 2] = [
+    ("cn Anna alone", ANN,
+        &[Call::HasValue(AttrId::CN, "ann"), Call::SetValue(AttrId::CN, "Anna"), Call::HasValue(AttrId::CN, "ann"),
+          Call::Attributes], "++-objectClass=inetOrgPerson,cn=Anna,sn=Lee,"),
+    ("uid, which is new", ANN,
+        &[Call::HasKind(AttrId::UID), Call::SetValue(AttrId::UID, "al"), Call::HasKind(AttrId::UID), Call::Attributes],
+        "-++objectClass=inetOrgPerson,cn=Ann,Anna,sn=Lee,uid=al,"),
+];
+
+#[test]
+fn values_take_the_place_of_others_where_these_stood(rt: HostRuntime) -> Result<(), Fail> {
+    check(&rt, rt.alloc(), &SET)
 }
 
 #[rattlefmt::skip]

@@ -22,6 +22,10 @@ enum Call {
     FindPrefix(usize),
     Len,
     AccessSubentries,
+    // Whether an entry stands below.
+    HasBelow,
+    // Whether the number is below the bound of numbers in use.
+    IsBounded,
     // Puts in an entry of the name with these values: whether the name finds it then, or the refusal.
     Insert(Values),
     // Takes the entry out: its name, or the refusal.
@@ -78,7 +82,14 @@ fn put_answer(
         Call::Find => put_found(alloc, tree, tree.find(name), out),
         Call::FindPrefix(len) => put_found(alloc, tree, tree.find_prefix(name, len), out),
         Call::Len => Ok(write!(out, "{}\n", tree.len())?),
-        _ => Ok(write!(out, "{}\n", tree.access_subentries())?),
+        Call::HasBelow => Ok(write!(out, "{}\n", tree.has_below(no))?),
+        Call::IsBounded => Ok(write!(out, "{}\n", (no.0 as usize) < tree.bound())?),
+        _ => {
+            for no in tree.access_subentries() {
+                put_name(alloc, tree.at(*no), out)?;
+            }
+            Ok(())
+        }
     }
 }
 
@@ -187,7 +198,7 @@ static NAMES: [&str; 8] = [
 ];
 
 #[rattlefmt::skip]
-static SCOPES: [Row; 7] = [
+static SCOPES: [Row; 9] = [
     ("the scope Base", "dc=example,dc=com", &[Call::Below(Scope::Base)], "dc=example,dc=com\n"),
     ("the scope One", "dc=example,dc=com", &[Call::Below(Scope::One)],
         "ou=groups,dc=example,dc=com\nou=lab,dc=example,dc=com\nou=people,dc=example,dc=com\n"),
@@ -197,6 +208,8 @@ static SCOPES: [Row; 7] = [
         "uid=ada,ou=people,dc=example,dc=com\nuid=bob,ou=people,dc=example,dc=com\n"),
     ("the scope Sub", "ou=lab,dc=example,dc=com", &[Call::Below(Scope::Sub)], "ou=lab,dc=example,dc=com\n"),
     ("the scope One", "ou=lab,dc=example,dc=com", &[Call::Below(Scope::One)], ""),
+    ("what is below", "ou=people,dc=example,dc=com", &[Call::HasBelow, Call::IsBounded], "true\ntrue\n"),
+    ("what is below", "ou=lab,dc=example,dc=com", &[Call::HasBelow, Call::IsBounded], "false\ntrue\n"),
     ("the number", "ou=lab,dc=example,dc=com", &[Call::Len], "8\n"),
 ];
 
@@ -205,12 +218,13 @@ fn a_scope_takes_in_what_is_in_it_in_the_order_of_names(rt: HostRuntime) -> Resu
     check(&rt, rt.alloc(), &NAMES, &SCOPES)
 }
 
-static UNUSED: [Row; 5] = [
+static UNUSED: [Row; 6] = [
     ("the scope Base", "dc=none", &[Call::Below(Scope::Base)], ""),
     ("the scope One", "dc=none", &[Call::Below(Scope::One)], ""),
     ("the scope Sub", "dc=none", &[Call::Below(Scope::Sub)], ""),
     ("the entry", "dc=none", &[Call::At], "none\n"),
     ("the superior", "dc=none", &[Call::Superior], "none\n"),
+    ("what is below", "dc=none", &[Call::HasBelow], "false\n"),
 ];
 
 static EMPTY: [Row; 1] = [("the suffix", "", &[Call::Suffix, Call::Len], "none\n0\n")];
@@ -322,8 +336,8 @@ const SUBENTRY: Values = &[
     ("objectClass", "accessControlSubentry"),
 ];
 
-// How many there are after one is put in, after an entry of none takes its place, after one is back there, and after it
-// is taken out.
+// Which there are after one is put in, after an entry of none takes its place, after one is back there, and after it is
+// taken out.
 #[rattlefmt::skip]
 static COUNTED: [Row; 1] = [
     ("the subentries", "cn=x,ou=lab,dc=example,dc=com",
@@ -331,7 +345,7 @@ static COUNTED: [Row; 1] = [
             Call::Replace("cn=x,ou=lab,dc=example,dc=com", &[]), Call::AccessSubentries,
             Call::Replace("cn=x,ou=lab,dc=example,dc=com", SUBENTRY), Call::AccessSubentries,
             Call::Remove, Call::AccessSubentries],
-        "true\n1\ncn=x,ou=lab,dc=example,dc=com\ntrue\n0\ncn=x,ou=lab,dc=example,dc=com\ntrue\n1\ncn=x,ou=lab,dc=example,dc=com\n0\n"),
+        "true\ncn=x,ou=lab,dc=example,dc=com\ncn=x,ou=lab,dc=example,dc=com\ntrue\ncn=x,ou=lab,dc=example,dc=com\ntrue\ncn=x,ou=lab,dc=example,dc=com\ncn=x,ou=lab,dc=example,dc=com\n"),
 ];
 
 #[test]
