@@ -16,9 +16,10 @@ pub mod OrderedLemmas
 pub mod CountLemmas
 pub mod SlotLemmas
 pub mod WalkLemmas
+pub mod MapLemmas
+pub mod PathLemmas
 pub mod KeptLemmas
 pub mod AccessLemmas
-pub mod FrontLemmas
 pub mod ReplaceLemmas
 pub mod TreeLemmas
 pub mod TreeExamples

@@ -1,19 +1,17 @@
 -- Rows found, put in and taken out.
-use Rattle.std.proofs.Common.{◌≡◌, ◌≢◌, ◌⊎◌, inl, inr, ℕ, ◌<◌, ◌≤◌, ◌==◌, zero, suc, Bool, true, false, cond, ◌||◌, List, [], ◌∷◌, length, take, get_or, Some, None, refl, sym, ap, subst, ◌∙◌, arith, find, filter, insert, remove}
+use Rattle.std.proofs.Common.{◌≡◌, ◌≢◌, inl, inr, ℕ, ◌<◌, ◌==◌, zero, suc, Bool, true, false, cond, ◌||◌, List, [], ◌∷◌, length, get_or, Some, None, refl, sym, ap, subst, ◌∙◌, arith, find, insert, remove}
 use Rattle.std.specs.List.{AllByRecursion, list_any}
 use Rattle.std.specs.Option.{option_map}
 use Rattle.std.specs.Ordering.{is_lt}
-use Rattle.std.proofs.lemmas.List.{take_all}
-use Rattle.std.proofs.lemmas.Bool.{cases_Bool, cond-true, cond-false, cond_both, false_from_ne_true, eqb-true, ne_eqb, eq-eqb}
+use Rattle.std.proofs.lemmas.Bool.{cases_Bool, cond-true, cond-false, eqb-true, ne_eqb, eq-eqb}
 use Rattle.std.specs.declared.cmp.Ordering.TheVariants.{Less}
 use Rattle.dn_names.specs.Names.{RdnSequence}
-use Rattle.dn_names.specs.NameOrder.{name_cmp, is_same}
+use Rattle.dn_names.specs.NameOrder.{name_cmp}
 use Rattle.dir_tree.specs.Entries.{EntryInformation}
 use Rattle.dir_tree.specs.Trees.{is_before, is_named, put_in, IsInOrder}
-use Rattle.dir_tree.specs.Numbered.{Numbered, entries_of, find_name, entry_of, put_row, without, AreDistinct}
+use Rattle.dir_tree.specs.Numbered.{Numbered, entries_of, entry_of, put_row, without, AreDistinct}
 use Rattle.dir_tree.specs.Places.{front_count, stands_before, place_of, no_row}
 use Rattle.dir_tree.proofs.NameLemmas.{before_chain, before_not_back, before_not_itself, before_not_same}
-use Rattle.dir_tree.proofs.OrderLemmas.{other_way, comes_before}
 
 -- whether a row's entry has the name
 abbrev pub is_row_named : RdnSequence → Numbered → Bool
@@ -69,47 +67,12 @@ put_row-insert row (x ∷ rows) = by (is_before x.entry.name row.entry.name) (pu
     by true later = ap (λ (xs : List Numbered). x ∷ xs) later
     by false later = refl
 
--- a name is found at its place or not at all
+-- a name before all is not found
 pub find_none : (name : RdnSequence) (row : Numbered) (rows : List Numbered) → is_before name row.entry.name ≡ true → AllByRecursion (λ later. name_cmp row.entry.name later.name ≡ Less) (entries_of rows) → find (is_row_named name) rows ≡ None
 find_none name row [] e h = refl
 find_none name row (x ∷ rows) e h =
     let before = before_chain name row.entry.name x.entry.name e (ap is_lt h.0) in
     cond-false (is_row_named name x) (Some x) (find (is_row_named name) rows) (before_not_same name x.entry.name before) ∙ find_none name row rows e h.1
-
-find_first : (name : RdnSequence) (x : Numbered) (rows : List Numbered) → is_before x.entry.name name ≡ false → AllByRecursion (λ later. name_cmp x.entry.name later.name ≡ Less) (entries_of rows) → find (is_row_named name) (x ∷ rows) ≡ cond (is_row_named name x) (Some x) None
-find_first name x rows e h = elim (cases_Bool (is_row_named name x)) [
-  | inl f ↦ rw f refl
-  | inr f ↦ rw f (find_none name x rows (comes_before name x.entry.name e f) h)
-]
-
-pub find-at : (name : RdnSequence) (rows : List Numbered) → IsInOrder (entries_of rows) → place_of name rows < length rows → find (is_row_named name) rows ≡ cond (is_row_named name (get_or rows (place_of name rows) no_row)) (Some (get_or rows (place_of name rows) no_row)) None
-unfolding place_of
-find-at name [] o h = absurd (omega arith)
-find-at name (x ∷ rows) o h = by (cases_Bool (is_before x.entry.name name)) (find-at name rows o.1)
-  where
-    at : ℕ → Numbered
-    at k = get_or (x ∷ rows) k no_row
-
-    by : ((is_before x.entry.name name ≡ true) ⊎ (is_before x.entry.name name ≡ false)) → (front_count (stands_before name) rows < length rows → find (is_row_named name) rows ≡ cond (is_row_named name (get_or rows (front_count (stands_before name) rows) no_row)) (Some (get_or rows (front_count (stands_before name) rows) no_row)) None) → cond (is_row_named name x) (Some x) (find (is_row_named name) rows) ≡ cond (is_row_named name (at (cond (is_before x.entry.name name) (suc (front_count (stands_before name) rows)) 0))) (Some (at (cond (is_before x.entry.name name) (suc (front_count (stands_before name) rows)) 0))) None
-    by (inl e) later =
-        let inner = rw e at h in
-        let less : front_count (stands_before name) rows < length rows = omega arith in
-        rw (e, other_way name x.entry.name e) (later less)
-    by (inr e) later = rw e (find_first name x rows e o.0)
-
-pub find-past : (name : RdnSequence) (rows : List Numbered) → length rows ≤ place_of name rows → find (is_row_named name) rows ≡ None
-unfolding place_of
-find-past name [] h = refl
-find-past name (x ∷ rows) h = by (cases_Bool (is_before x.entry.name name)) (find-past name rows)
-  where
-    by : ((is_before x.entry.name name ≡ true) ⊎ (is_before x.entry.name name ≡ false)) → (length rows ≤ front_count (stands_before name) rows → find (is_row_named name) rows ≡ None) → cond (is_row_named name x) (Some x) (find (is_row_named name) rows) ≡ None
-    by (inl e) later =
-        let inner = rw e at h in
-        let past : length rows ≤ front_count (stands_before name) rows = omega arith in
-        rw (other_way name x.entry.name e) (later past)
-    by (inr e) later =
-        let inner = rw e at h in
-        absurd (omega arith)
 
 -- the row of a number stands at the place of its name
 pub record StandsAt (id : ℕ) (entry : EntryInformation) (rows : List Numbered) : Type 0 where
@@ -171,22 +134,6 @@ put_row-without id entry (x ∷ rows) o d f = elim (cases_Bool (x.id == id)) [
       let before : is_before x.entry.name entry.name ≡ true = ap is_lt (all_known_entry (λ later. name_cmp x.entry.name later.name ≡ Less) id entry rows o.0 known) in
       rw (e, before) (ap (λ (xs : List Numbered). x ∷ xs) (put_row-without id entry rows o.1 d.1 known)))
 ]
-
--- the number that is found
-pub find_name-past : (name : RdnSequence) (rows : List Numbered) → length rows ≤ place_of name rows → find_name name rows ≡ None
-find_name-past name rows h = ap (option_map (λ (row : Numbered). row.id)) (find-past name rows h)
-
-pub find_name-at : (name : RdnSequence) (rows : List Numbered) → IsInOrder (entries_of rows) → place_of name rows < length rows → is_same name (get_or rows (place_of name rows) no_row).entry.name ≡ true → find_name name rows ≡ Some (get_or rows (place_of name rows) no_row).id
-find_name-at name rows o h e =
-    ap (option_map (λ (row : Numbered). row.id)) (find-at name rows o h ∙ cond-true (is_row_named name (get_or rows (place_of name rows) no_row)) (Some (get_or rows (place_of name rows) no_row)) None e)
-
-pub find_name-not_at : (name : RdnSequence) (rows : List Numbered) → IsInOrder (entries_of rows) → place_of name rows < length rows → is_same name (get_or rows (place_of name rows) no_row).entry.name ≡ false → find_name name rows ≡ None
-find_name-not_at name rows o h e =
-    ap (option_map (λ (row : Numbered). row.id)) (find-at name rows o h ∙ cond-false (is_row_named name (get_or rows (place_of name rows) no_row)) (Some (get_or rows (place_of name rows) no_row)) None e)
-
--- the place of a whole name
-pub place_of-whole : (len : ℕ) (name : RdnSequence) (rows : List Numbered) → len ≡ length name → place_of (take len name) rows ≡ place_of name rows
-place_of-whole len name rows e = ap (λ (n : RdnSequence). place_of n rows) (take_all len name (omega arith))
 
 -- the entries of rows with one put in, and without one
 pub entries_of-put_row : (row : Numbered) (rows : List Numbered) → entries_of (put_row row rows) ≡ put_in row.entry (entries_of rows)

@@ -139,7 +139,7 @@ module _ (slots : List (Option EntryInformation)) (order : List ℕ) (id from pl
   to : ℕ
   to = place_without from place
 
-  goes_to : place_without from place ≡ place_of new.name (without id (rows_of slots order))
+  pub goes_to : place_without from place ≡ place_of new.name (without id (rows_of slots order))
   goes_to =
       rw (placed, goes)
       (sym (place_of-without new.name id old (rows_of slots order) kept.ordered.sorted (distinct_rows slots order kept.ordered.sorted) known))

@@ -1,18 +1,18 @@
 -- Laws of trees over their entries: all stand at or below the suffix, and a change that is not refused leaves a tree.
-use Rattle.std.proofs.Common.{◌≡◌, ◌≢◌, ◌⊎◌, inl, inr, ℕ, ◌-◌, ◌<◌, ◌≤◌, zero, suc, Bool, true, false, cond, ◌||◌, List, [], ◌∷◌, length, take, Some, refl, sym, ap, ◌∙◌, arith, length-take}
+use Rattle.std.proofs.Common.{◌≡◌, ◌≢◌, ◌⊎◌, inl, inr, ℕ, ◌-◌, ◌<◌, ◌≤◌, zero, suc, Bool, true, false, ◌||◌, List, [], ◌∷◌, length, take, Some, refl, sym, ap, ◌∙◌, arith, length-take}
 use Rattle.std.specs.List.{AllByRecursion}
 use Rattle.std.specs.Ordering.{is_lt}
-use Rattle.std.proofs.lemmas.Bool.{cases_Bool, cond_both, not-false, or_left, or_cases, or_parts, true≢false}
+use Rattle.std.proofs.lemmas.Bool.{cases_Bool, cond_both, not-false, or_left, or_cases, true≢false}
 use Rattle.std.proofs.lemmas.List.{take_all, take-take, length-take-le}
 use Rattle.std.specs.declared.cmp.Ordering.TheVariants.{Less}
 use Rattle.dn_names.specs.Names.{RdnSequence}
 use Rattle.dn_names.specs.NameOrder.{name_cmp, is_same, is_prefix_of}
 use Rattle.dir_tree.specs.Entries.{EntryInformation}
-use Rattle.dir_tree.specs.Trees.{is_named, is_before, has_name, named_in, superior_name, lacks_superior, has_below, put_in, taken_out, IsInOrder, IsTree}
+use Rattle.dir_tree.specs.Trees.{is_named, is_before, has_name, named_in, superior_name, lacks_superior, has_below, put_in, taken_out, IsTree}
 use Rattle.dir_tree.specs.Scopes.{is_within}
 use Rattle.dir_tree.specs.Slots.{has_before, HasSuperiors, IsOrderedTree}
 use Rattle.dir_tree.proofs.NameLemmas.{same_itself, same_back, same-superior, length-same, before_like, before_not_back, before_not_itself}
-use Rattle.dir_tree.proofs.OrderLemmas.{put_in-taken_out, taken_out-absent}
+use Rattle.dir_tree.proofs.OrderLemmas.{put_in-taken_out}
 use Rattle.dir_tree.proofs.RootLemmas.{has_name_like, named_filled}
 use Rattle.dir_tree.proofs.OrderedLemmas.{ordered_put, ordered_without, ordered_same, ordered_renamed}
 use Rattle.dir_tree.proofs.TreeLemmas.{IsRooted-ordered}

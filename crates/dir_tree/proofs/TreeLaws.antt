@@ -1,13 +1,13 @@
 -- Laws of trees: superiors, scopes, and entries put in again.
-use Rattle.std.proofs.Common.{◌≡◌, ◌≢◌, ◌⊎◌, inl, inr, ℕ, ◌+◌, ◌-◌, ◌<◌, ◌≤◌, ◌==◌, zero, suc, Bool, true, false, ◌&&◌, ◌||◌, List, [], ◌∷◌, length, take, Option, Some, None, refl, sym, ap, subst, ◌∙◌, arith, find, filter, length-take}
+use Rattle.std.proofs.Common.{◌≡◌, ◌≢◌, ◌⊎◌, inl, inr, ℕ, ◌+◌, ◌-◌, ◌<◌, ◌==◌, Bool, true, false, ◌&&◌, List, [], ◌∷◌, length, take, Option, Some, None, refl, sym, ap, subst, ◌∙◌, arith, find, filter}
 use Rattle.std.specs.Prelude.{is_some, IsSome}
 use Rattle.std.specs.List.{AllByRecursion}
 use Rattle.std.specs.Option.{option_map, option_and_then}
 use Rattle.std.specs.Ordering.{is_lt}
 use Rattle.std.specs.declared.cmp.Ordering.TheVariants.{Less}
-use Rattle.std.proofs.lemmas.Bool.{cases_Bool, cond-true, cond-false, eqb-true, eqb-false, ne_eqb, eq-eqb, or_left, or_cases, and_right, false_from_ne_true}
+use Rattle.std.proofs.lemmas.Bool.{cases_Bool, cond-true, cond-false, eqb-true, eqb-false, ne_eqb, eq-eqb, and_right, false_from_ne_true}
 use Rattle.std.proofs.lemmas.Option.{same_Some}
-use Rattle.std.proofs.lemmas.List.{take_all, take-take, length-take-le}
+use Rattle.std.proofs.lemmas.List.{length-take-le}
 use Rattle.dn_names.specs.Names.{RdnSequence}
 use Rattle.dn_names.specs.NameOrder.{name_cmp, is_same, is_prefix_of}
 use Rattle.dir_tree.specs.Entries.{EntryInformation}
@@ -15,7 +15,7 @@ use Rattle.dir_tree.specs.Trees.{is_named, is_before, has_name, named_in, superi
 use Rattle.dir_tree.specs.Numbered.{Numbered, ids_of, entries_of, find_name, entry_of, entries_at, suffix_of, superior_of, put_row, without, AreDistinct, IsNumberedTree}
 use Rattle.dir_tree.specs.Scopes.{is_within, is_child, in_scope, scoped, is_number, is_superior}
 use Rattle.dir_tree.specs.declared.scope.Scope.TheVariants.{One, Sub}
-use Rattle.dir_tree.proofs.NameLemmas.{same_itself, same_like, before_not_same, superior_before, same-superior, length-same}
+use Rattle.dir_tree.proofs.NameLemmas.{same_like, before_not_same, superior_before, length-same}
 use Rattle.dir_tree.proofs.NumberedLemmas.{find_none, found_row, found_later, all_known_entry, put_row-without, keep_all, entries_of-others}
 use Rattle.dir_tree.proofs.OrderLemmas.{taken_out-put_in}
 use Rattle.dir_tree.proofs.RootLemmas.{absent_from_sorted}

@@ -7,7 +7,7 @@ use Rattle.std.proofs.lemmas.Bool.{or_left, or_right, eq-eqb}
 use Rattle.std.proofs.lemmas.List.{length-map}
 use Rattle.dn_names.specs.NameOrder.{name_cmp}
 use Rattle.dir_tree.specs.Entries.{EntryInformation}
-use Rattle.dir_tree.specs.Trees.{is_named, is_before, has_name, superior_name, IsRooted, IsTree}
+use Rattle.dir_tree.specs.Trees.{is_named, is_before, has_name, superior_name, IsRooted}
 use Rattle.dir_tree.specs.Numbered.{Numbered, entries_of, IsNumberedTree}
 use Rattle.dir_tree.specs.Slots.{rows_of, has_id, has_before, HasSuperiors, IsOrderedTree, IsKept}
 use Rattle.dir_tree.proofs.NameLemmas.{same_itself}

@@ -1,137 +1,236 @@
 -- Walks, step by step and from the start of a scope.
-use Rattle.std.proofs.Common.{◌≡◌, inl, inr, ℕ, ◌+◌, ◌-◌, ◌<◌, ◌≤◌, ◌==◌, suc, Bool, true, false, not, cond, ◌&&◌, List, [], ◌∷◌, length, take, drop, get_or, Option, Some, None, refl, sym, ap, subst, ◌∙◌, arith, filter, length-take, length-drop, nat_lt, ◌||◌}
-use Rattle.std.specs.List.{AllByRecursion, list_any}
-use Rattle.std.specs.Ordering.{is_lt}
-use Rattle.std.specs.declared.cmp.Ordering.TheVariants.{Less}
-use Rattle.std.proofs.lemmas.Bool.{cases_Bool, cases_lt, cond-false, cond_both, not_from_true, lt-ltb, le-ltb}
-use Rattle.std.proofs.lemmas.List.{drop_more, drop_all, get_or-take, length-take-le}
+use Rattle.std.proofs.Common.{◌≡◌, ◌⊎◌, inl, inr, ℕ, ◌≤◌, ◌==◌, suc, Bool, true, false, not, cond, ◌&&◌, List, [], ◌∷◌, length, Option, Some, None, refl, sym, ap, subst, ◌∙◌, arith, filter, Ordering}
+use Rattle.std.specs.Prelude.{nat_eq}
+use Rattle.std.specs.List.{AllByRecursion, starts_with}
+use Rattle.std.specs.Ordering.{nat_cmp, is_lt, is_le, is_gt, is_eq}
+use Rattle.std.specs.Cmp.Lexicographic.{slice_cmp}
+use Rattle.std.specs.Map.{values_of}
+use Rattle.std.specs.declared.cmp.Ordering.TheVariants.{Less, Equal, Greater}
+use Rattle.std.proofs.lemmas.List.{take_all}
+use Rattle.std.proofs.lemmas.Bool.{cases_Bool, cond_both, and_right, eqb-true}
 use Rattle.dn_names.specs.Names.{RdnSequence}
-use Rattle.dn_names.specs.NameOrder.{name_cmp}
+use Rattle.dn_names.specs.NameOrder.{name_cmp, is_same, is_prefix_of}
+use Rattle.dn_names.specs.PathKeys.{path_key}
 use Rattle.dir_tree.specs.Entries.{EntryInformation}
-use Rattle.dir_tree.specs.Trees.{is_before, is_below, has_below, IsInOrder}
+use Rattle.dir_tree.specs.Trees.{is_before, is_below, is_named, has_below, IsInOrder}
 use Rattle.dir_tree.specs.Numbered.{Numbered, ids_of, entry_of, entries_of}
 use Rattle.dir_tree.specs.Scopes.{is_within, is_child, in_scope}
 use Rattle.dir_tree.specs.declared.scope.Scope.{Scope}
 use Rattle.dir_tree.specs.declared.scope.Scope.TheVariants.{Base, One, Sub}
-use Rattle.dir_tree.specs.Places.{front_count, stands_before, stands_within, place_of, end_of, no_row}
-use Rattle.dir_tree.specs.Walks.{is_one_below, walked}
-use Rattle.dir_tree.proofs.NameLemmas.{prefix_between, below_between, before_not_itself, before_not_back}
-use Rattle.dir_tree.proofs.PlaceLemmas.{stands_before_down, stands_within_down, stands_upto_down, filter_between, end_of-le}
-use Rattle.dir_tree.proofs.NumberedLemmas.{stands_at, found_row, found_later, all_known_entry}
+use Rattle.dir_tree.specs.Slots.{row_at, rows_of}
+use Rattle.dir_tree.specs.Maps.{AreKeyed}
+use Rattle.dir_tree.specs.Walks.{is_one_below, is_at_depth, front_of, walked}
+use Rattle.dir_tree.proofs.NameLemmas.{prefix_between, below_between, before_not_back, before_not_same, same_itself, same_back, length-same, is_gt-turned, same-from_Equal}
+use Rattle.dir_tree.proofs.OrderLemmas.{other_way}
+use Rattle.dir_tree.proofs.PlaceLemmas.{stands_within, stands_within_down, fails_after}
+use Rattle.dir_tree.proofs.NumberedLemmas.{found_row, found_later, all_known_entry}
+use Rattle.dir_tree.proofs.MapLemmas.{starts-prefix, keys_cmp}
 
--- tests that give the same answers keep the same, and one after another keeps what passes both
-pub filter_like : (test other : Numbered → Bool) → ((row : Numbered) → test row ≡ other row) → (rows : List Numbered) → filter test rows ≡ filter other rows
-filter_like test other f [] = refl
-filter_like test other f (x ∷ rows) = rw (f x, filter_like test other f rows) refl
+-- what the answers of an order say of each other
+from_start : (o : Ordering) → is_le o ≡ not (is_gt o)
+from_start Less = refl
+from_start Equal = refl
+from_start Greater = refl
 
-filter_true : (rows : List Numbered) → filter (λ row. true) rows ≡ rows
+at_both : (o : Ordering) → (is_le o && not (is_lt o)) ≡ is_eq o
+at_both Less = refl
+at_both Equal = refl
+at_both Greater = refl
+
+-- tests that fail for all keep none
+none_kept : {A : Type 0} (test : A → Bool) (xs : List A) → AllByRecursion (λ x. test x ≡ false) xs → filter test xs ≡ []
+none_kept test [] h = refl
+none_kept test (x ∷ xs) h = rw h.0 (none_kept test xs h.1)
+
+filter_true : {A : Type 0} (xs : List A) → filter (λ x. true) xs ≡ xs
 filter_true [] = refl
-filter_true (x ∷ rows) = ap (λ (xs : List Numbered). x ∷ xs) (filter_true rows)
+filter_true {A} (x ∷ xs) = ap (λ (xs : List A). x ∷ xs) (filter_true xs)
 
-filter_both : (test other : Numbered → Bool) (rows : List Numbered) → filter other (filter test rows) ≡ filter (λ row. test row && other row) rows
+filter_both : {A : Type 0} (test other : A → Bool) (xs : List A) → filter other (filter test xs) ≡ filter (λ x. test x && other x) xs
 filter_both test other [] = refl
-filter_both test other (x ∷ rows) = by (test x) (filter_both test other rows)
+filter_both {A} test other (x ∷ xs) = by (test x) (filter_both test other xs)
   where
-    by : (b : Bool) → filter other (filter test rows) ≡ filter (λ row. test row && other row) rows → filter other (cond b (x ∷ filter test rows) (filter test rows)) ≡ cond (b && other x) (x ∷ filter (λ row. test row && other row) rows) (filter (λ row. test row && other row) rows)
-    by true later = ap (λ (xs : List Numbered). cond (other x) (x ∷ xs) xs) later
+    by : (b : Bool) → filter other (filter test xs) ≡ filter (λ x. test x && other x) xs → filter other (cond b (x ∷ filter test xs) (filter test xs)) ≡ cond (b && other x) (x ∷ filter (λ x. test x && other x) xs) (filter (λ x. test x && other x) xs)
+    by true later = ap (λ (xs : List A). cond (other x) (x ∷ xs) xs) later
     by false later = later
 
--- the entries at or below a name stand from its place to its end
-pub filter-within : (name : RdnSequence) (rows : List Numbered) → IsInOrder (entries_of rows) → filter (λ row. is_within name row.entry) rows ≡ drop (place_of name rows) (take (end_of name rows) rows)
-unfolding place_of end_of
-filter-within name rows o =
-    filter_like (λ row. is_within name row.entry) (λ row. not (stands_before name row) && stands_within name row) (λ row. prefix_between name row.entry.name) rows
-    ∙ filter_between (stands_before name) (stands_within name) (stands_before_down name) (stands_within_down name) rows o
+-- a name begins one that is the same, and has below it what comes after it and begins with it
+same-prefix : (name other : RdnSequence) → is_same name other ≡ true → is_prefix_of name other ≡ true
+unfolding is_prefix_of
+same-prefix name other e = rw (take_all (length name) other (omega (arith, length-same name other e))) (same_back name other e)
 
--- one place on
-left_more : (place end : ℕ) (rows : List Numbered) → place < end → end ≤ length rows → drop place (take end rows) ≡ get_or rows place no_row ∷ drop (place + 1) (take end rows)
-left_more place end rows h k =
-    let long : length (take end rows) ≡ end = length-take-le end rows k in
-    drop_more (take end rows) place no_row (omega arith)
-    ∙ ap (λ (row : Numbered). row ∷ drop (place + 1) (take end rows)) (get_or-take end rows place no_row h)
+below_like : (name other : RdnSequence) → is_before name other ≡ true → is_prefix_of name other ≡ is_below name other
+below_like name other e =
+    let within = rw (before_not_back name other e) at (prefix_between name other) in
+    let below = rw e at (below_between name other) in
+    within ∙ sym below
 
-pub walked-first : (depth : Option ℕ) (place end : ℕ) (rows : List Numbered) → place < end → end ≤ length rows → is_one_below depth (get_or rows place no_row).entry.name ≡ true → walked depth place end rows ≡ (get_or rows place no_row).id ∷ walked depth (place + 1) end rows
-unfolding walked
-walked-first depth place end rows h k e = rw (left_more place end rows h k, e) refl
+-- whether the path begins the first key
+abbrev pub begins_first : {K : Type 0} → (K → List ℕ) → List ℕ → List (K × ℕ) → Bool
+begins_first octets path [] = false
+begins_first octets path (place ∷ places) = starts_with nat_eq (octets place.0) path
 
-pub walked-other : (depth : Option ℕ) (place end : ℕ) (rows : List Numbered) → place < end → end ≤ length rows → is_one_below depth (get_or rows place no_row).entry.name ≡ false → walked depth place end rows ≡ walked depth (place + 1) end rows
-unfolding walked
-walked-other depth place end rows h k e = rw (left_more place end rows h k, e) refl
-
-pub walked-past : (depth : Option ℕ) (place end : ℕ) (rows : List Numbered) → end ≤ place → walked depth place end rows ≡ []
-unfolding walked
-walked-past depth place end rows h = rw (drop_all place (take end rows) (omega (arith, length-take end rows))) refl
-
--- from the start of each scope
-pub walked-base : (id : ℕ) (entry : EntryInformation) (rows : List Numbered) → IsInOrder (entries_of rows) → entry_of id rows ≡ Some entry → walked None (place_of entry.name rows) (place_of entry.name rows + 1) rows ≡ id ∷ []
-walked-base id entry rows o known =
-    let stands = stands_at id entry rows o known in
-    walked-first None (place_of entry.name rows) (place_of entry.name rows + 1) rows (omega arith) (omega (arith, stands.within)) refl
-    ∙ ap (λ (row : Numbered). row.id ∷ walked None (place_of entry.name rows + 1) (place_of entry.name rows + 1) rows) stands.row
-    ∙ ap (λ (xs : List ℕ). id ∷ xs) (walked-past None (place_of entry.name rows + 1) (place_of entry.name rows + 1) rows (omega arith))
-
-pub walked-sub : (name : RdnSequence) (rows : List Numbered) → IsInOrder (entries_of rows) → walked None (place_of name rows) (end_of name rows) rows ≡ ids_of (filter (λ row. is_within name row.entry) rows)
-unfolding walked
-walked-sub name rows o = ap ids_of (filter_true (drop (place_of name rows) (take (end_of name rows) rows)) ∙ sym (filter-within name rows o))
-
-pub walked-one : (name : RdnSequence) (rows : List Numbered) → IsInOrder (entries_of rows) → walked (Some (length name)) (place_of name rows) (end_of name rows) rows ≡ ids_of (filter (λ row. is_child name row.entry) rows)
-unfolding walked
-walked-one name rows o =
-    ap (λ (xs : List Numbered). ids_of (filter (λ row. is_one_below (Some (length name)) row.entry.name) xs)) (sym (filter-within name rows o))
-    ∙ ap ids_of (filter_both (λ row. is_within name row.entry) (λ row. is_one_below (Some (length name)) row.entry.name) rows)
-
--- an entry stands below exactly where the end is past the place after the entry's own
-fails_all : (name : RdnSequence) (rows : List Numbered) → AllByRecursion (λ later. name_cmp name later.name ≡ Less) (entries_of rows) → front_count (λ row. not (is_before name row.entry.name)) rows ≡ 0
-fails_all name [] h = refl
-fails_all name (x ∷ rows) h = cond-false (not (is_before name x.entry.name)) (suc (front_count (λ row. not (is_before name row.entry.name)) rows)) 0 (not_from_true (is_before name x.entry.name) (ap is_lt h.0))
-
-upto_place : (id : ℕ) (entry : EntryInformation) (rows : List Numbered) → IsInOrder (entries_of rows) → entry_of id rows ≡ Some entry → front_count (λ row. not (is_before entry.name row.entry.name)) rows ≡ suc (place_of entry.name rows)
-unfolding place_of
-upto_place id entry [] o f = absurd cc
-upto_place id entry (x ∷ rows) o f = elim (cases_Bool (x.id == id)) [
+-- the row of a number is the one of its name
+pub filter-named : (id : ℕ) (entry : EntryInformation) (rows : List Numbered) → IsInOrder (entries_of rows) → entry_of id rows ≡ Some entry → ids_of (filter (λ row. is_named entry.name row.entry) rows) ≡ id ∷ []
+filter-named id entry [] o known = absurd cc
+filter-named id entry (x ∷ rows) o known = elim (cases_Bool (x.id == id)) [
   | inl e ↦ (
-      let is = found_row id entry x rows e f in
+      let is = found_row id entry x rows e known in
       let name : x.entry.name ≡ entry.name = ap (λ (row : Numbered). row.entry.name) is in
-      let not_before : is_before x.entry.name entry.name ≡ false = subst (λ (n : RdnSequence). is_before x.entry.name n ≡ false) name (before_not_itself x.entry.name) in
-      let not_after : is_before entry.name x.entry.name ≡ false = subst (λ (n : RdnSequence). is_before n x.entry.name ≡ false) name (before_not_itself x.entry.name) in
-      let none = fails_all entry.name rows (subst (λ (n : RdnSequence). AllByRecursion (λ later. name_cmp n later.name ≡ Less) (entries_of rows)) name o.0) in
-      rw (not_before, not_after, none) refl)
+      let here : is_named entry.name x.entry ≡ true = subst (λ (n : RdnSequence). is_same n x.entry.name ≡ true) name (same_itself x.entry.name) in
+      rw here (ap (λ (xs : List Numbered). x.id ∷ ids_of xs) (none_kept (λ row. is_named entry.name row.entry) rows (others name rows o.0)) ∙ ap (λ (n : ℕ). n ∷ []) (eqb-true x.id id e)))
   | inr e ↦ (
-      let known = found_later id entry x rows e f in
-      let before : is_before x.entry.name entry.name ≡ true = ap is_lt (all_known_entry (λ later. name_cmp x.entry.name later.name ≡ Less) id entry rows o.0 known) in
-      rw (before, before_not_back x.entry.name entry.name before) (ap suc (upto_place id entry rows o.1 known)))
+      let later = found_later id entry x rows e known in
+      let before : is_before x.entry.name entry.name ≡ true = ap is_lt (all_known_entry (λ later. name_cmp x.entry.name later.name ≡ Less) id entry rows o.0 later) in
+      rw (other_way entry.name x.entry.name before) (filter-named id entry rows o.1 later))
 ]
-
-any-filter : (test : Numbered → Bool) (rows : List Numbered) → list_any test rows ≡ nat_lt 0 (length (filter test rows))
-any-filter test [] = refl
-any-filter test (x ∷ rows) = by (test x) (any-filter test rows)
   where
-    by : (b : Bool) → list_any test rows ≡ nat_lt 0 (length (filter test rows)) → (b || list_any test rows) ≡ nat_lt 0 (length (cond b (x ∷ filter test rows) (filter test rows)))
-    by true later = sym (lt-ltb 0 (suc (length (filter test rows))) (omega arith))
+    others : x.entry.name ≡ entry.name → (rows : List Numbered) → AllByRecursion (λ later. name_cmp x.entry.name later.name ≡ Less) (entries_of rows) → AllByRecursion (λ row. is_named entry.name row.entry ≡ false) rows
+    others name [] h = tt
+    others name (y ∷ rows) h = (subst (λ (n : RdnSequence). is_same n y.entry.name ≡ false) name (before_not_same x.entry.name y.entry.name (ap is_lt h.0)), others name rows h.1)
+
+module _ {K : Type 0} (octets : K → List ℕ) (slots : List (Option EntryInformation)) where
+  abbrev rows : List (K × ℕ) → List Numbered
+  rows places = rows_of slots (values_of places)
+
+  abbrev name_of : K × ℕ → RdnSequence
+  name_of place = (row_at slots place.1).entry.name
+
+  -- tests of keys and rows that give the same answers keep the same
+  pub values-filter : (test : K × ℕ → Bool) (other : Numbered → Bool) (places : List (K × ℕ)) → AllByRecursion (λ place. test place ≡ other (row_at slots place.1)) places → values_of (filter test places) ≡ ids_of (filter other (rows_of slots (values_of places)))
+  values-filter test other [] h = refl
+  values-filter test other (x ∷ places) h = by (other (row_at slots x.1)) refl (values-filter test other places h.1)
+    where
+      by : (b : Bool) → other (row_at slots x.1) ≡ b → values_of (filter test places) ≡ ids_of (filter other (rows places)) → values_of (filter test (x ∷ places)) ≡ ids_of (filter other (rows (x ∷ places)))
+      by true e later = rw (h.0, e) (ap (λ (ids : List ℕ). x.1 ∷ ids) later)
+      by false e later = rw (h.0, e) later
+
+  -- what holds of each place whose key is its name's
+  pub all_keyed : (P : K × ℕ → Type 0) → ((place : K × ℕ) → octets place.0 ≡ path_key (row_at slots place.1).entry.name → P place) → (places : List (K × ℕ)) → AreKeyed octets slots places → AllByRecursion P places
+  all_keyed P f [] keyed = tt
+  all_keyed P f (x ∷ places) keyed = (f x keyed.0, all_keyed P f places keyed.1)
+
+  module _ (path : List ℕ) (name : RdnSequence) (is : path ≡ path_key name) where
+    -- the tests of a key, as those of its name
+    starts : (place : K × ℕ) → octets place.0 ≡ path_key (name_of place) → starts_with nat_eq (octets place.0) path ≡ is_prefix_of name (name_of place)
+    starts place e = rw (is, e) (starts-prefix name (name_of place))
+
+    compares : (place : K × ℕ) → octets place.0 ≡ path_key (name_of place) → slice_cmp nat_cmp path (octets place.0) ≡ name_cmp name (name_of place)
+    compares place e = keys_cmp path (octets place.0) name (name_of place) is e
+
+    -- none after one that is not before the name and does not begin with it
+    not_within : (x : K × ℕ) (places : List (K × ℕ)) → is_before (name_of x) name ≡ false → is_prefix_of name (name_of x) ≡ false → AllByRecursion (λ later. name_cmp (name_of x) later.name ≡ Less) (entries_of (rows places)) → AllByRecursion (λ row. stands_within name row ≡ false) (rows places)
+    not_within x places e f h =
+        let fails : stands_within name (row_at slots x.1) ≡ false = rw e at (sym (prefix_between name (name_of x)) ∙ f) in
+        fails_after (stands_within name) (stands_within_down name) (row_at slots x.1) (rows places) fails h
+
+    none_begin : (places : List (K × ℕ)) → AreKeyed octets slots places → AllByRecursion (λ row. stands_within name row ≡ false) (rows places) → AllByRecursion (λ place. starts_with nat_eq (octets place.0) path ≡ false) places
+    none_begin [] keyed h = tt
+    none_begin (x ∷ places) keyed h = (
+      starts x keyed.0 ∙ prefix_between name (name_of x) ∙ and_right (not (is_before (name_of x) name)) (stands_within name (row_at slots x.1)) h.0,
+      none_begin places keyed.1 h.1,
+    )
+
+    -- from the name's own key on, those at the front whose keys the path begins are all
+    pub front-from : (places : List (K × ℕ)) → AreKeyed octets slots places → IsInOrder (entries_of (rows_of slots (values_of places))) → front_of octets path (filter (λ place. is_le (slice_cmp nat_cmp path (octets place.0)) && true) places) ≡ filter (λ place. starts_with nat_eq (octets place.0) path) places
+    front-from [] keyed o = refl
+    front-from (x ∷ places) keyed o = by (cases_Bool (is_before (name_of x) name)) (cases_Bool (is_prefix_of name (name_of x))) (front-from places keyed.1 o.1)
+      where
+        from : is_le (slice_cmp nat_cmp path (octets x.0)) ≡ not (is_before (name_of x) name)
+        from = ap is_le (compares x keyed.0) ∙ from_start (name_cmp name (name_of x)) ∙ ap not (is_gt-turned name (name_of x))
+
+        by : ((is_before (name_of x) name ≡ true) ⊎ (is_before (name_of x) name ≡ false)) → ((is_prefix_of name (name_of x) ≡ true) ⊎ (is_prefix_of name (name_of x) ≡ false)) → front_of octets path (filter (λ place. is_le (slice_cmp nat_cmp path (octets place.0)) && true) places) ≡ filter (λ place. starts_with nat_eq (octets place.0) path) places → front_of octets path (filter (λ place. is_le (slice_cmp nat_cmp path (octets place.0)) && true) (x ∷ places)) ≡ filter (λ place. starts_with nat_eq (octets place.0) path) (x ∷ places)
+        by (inl e) f later =
+            let out : is_le (slice_cmp nat_cmp path (octets x.0)) ≡ false = from ∙ ap not e in
+            let not_front = rw e at (prefix_between name (name_of x)) in
+            let no : starts_with nat_eq (octets x.0) path ≡ false = starts x keyed.0 ∙ not_front in
+            rw (out, no) later
+        by (inr e) (inl f) later =
+            let within : is_le (slice_cmp nat_cmp path (octets x.0)) ≡ true = from ∙ ap not e in
+            let yes : starts_with nat_eq (octets x.0) path ≡ true = starts x keyed.0 ∙ f in
+            rw (within, yes) (ap (λ (xs : List (K × ℕ)). x ∷ xs) later)
+        by (inr e) (inr f) later =
+            let within : is_le (slice_cmp nat_cmp path (octets x.0)) ≡ true = from ∙ ap not e in
+            let no : starts_with nat_eq (octets x.0) path ≡ false = starts x keyed.0 ∙ f in
+            rw (within, no) (sym (none_kept (λ (place : K × ℕ). starts_with nat_eq (octets place.0) path) places (none_begin places keyed.1 (not_within x places e f o.0))))
+
+    pub walked-within : (depth : Option ℕ) (places : List (K × ℕ)) → AreKeyed octets slots places → IsInOrder (entries_of (rows_of slots (values_of places))) → walked octets depth slots path (filter (λ place. is_le (slice_cmp nat_cmp path (octets place.0)) && true) places) ≡ ids_of (filter (λ row. is_within name row.entry && is_one_below depth row.entry.name) (rows_of slots (values_of places)))
+    unfolding walked
+    walked-within depth places keyed o =
+        ap (λ (xs : List (K × ℕ)). values_of (filter (λ place. is_at_depth depth slots place.1) xs)) (front-from places keyed o)
+        ∙ ap values_of (filter_both (λ (place : K × ℕ). starts_with nat_eq (octets place.0) path) (λ place. is_at_depth depth slots place.1) places)
+        ∙ values-filter (λ place. starts_with nat_eq (octets place.0) path && is_at_depth depth slots place.1) (λ row. is_within name row.entry && is_one_below depth row.entry.name) places
+        (all_keyed (λ place. (starts_with nat_eq (octets place.0) path && is_at_depth depth slots place.1) ≡ (is_within name (row_at slots place.1).entry && is_one_below depth (row_at slots place.1).entry.name)) (λ place e. ap (λ (b : Bool). b && is_at_depth depth slots place.1) (starts place e)) places keyed)
+
+    -- at the name's own key
+    front-at : (places : List (K × ℕ)) → AreKeyed octets slots places → front_of octets path (filter (λ place. is_le (slice_cmp nat_cmp path (octets place.0)) && not (is_lt (slice_cmp nat_cmp path (octets place.0)))) places) ≡ filter (λ place. is_le (slice_cmp nat_cmp path (octets place.0)) && not (is_lt (slice_cmp nat_cmp path (octets place.0)))) places
+    front-at [] keyed = refl
+    front-at (x ∷ places) keyed = by (name_cmp name (name_of x)) refl (front-at places keyed.1)
+      where
+        by : (o : Ordering) → name_cmp name (name_of x) ≡ o → front_of octets path (filter (λ place. is_le (slice_cmp nat_cmp path (octets place.0)) && not (is_lt (slice_cmp nat_cmp path (octets place.0)))) places) ≡ filter (λ place. is_le (slice_cmp nat_cmp path (octets place.0)) && not (is_lt (slice_cmp nat_cmp path (octets place.0)))) places → front_of octets path (filter (λ place. is_le (slice_cmp nat_cmp path (octets place.0)) && not (is_lt (slice_cmp nat_cmp path (octets place.0)))) (x ∷ places)) ≡ filter (λ place. is_le (slice_cmp nat_cmp path (octets place.0)) && not (is_lt (slice_cmp nat_cmp path (octets place.0)))) (x ∷ places)
+        by Less f later = rw (compares x keyed.0, f) later
+        by Equal f later = rw (compares x keyed.0, f, starts x keyed.0, same-prefix name (name_of x) (same-from_Equal name (name_of x) f)) (ap (λ (xs : List (K × ℕ)). x ∷ xs) later)
+        by Greater f later = rw (compares x keyed.0, f) later
+
+    pub walked-at : (places : List (K × ℕ)) → AreKeyed octets slots places → walked octets None slots path (filter (λ place. is_le (slice_cmp nat_cmp path (octets place.0)) && not (is_lt (slice_cmp nat_cmp path (octets place.0)))) places) ≡ ids_of (filter (λ row. is_named name row.entry) (rows_of slots (values_of places)))
+    unfolding walked is_same
+    walked-at places keyed =
+        ap (λ (xs : List (K × ℕ)). values_of (filter (λ place. true) xs)) (front-at places keyed)
+        ∙ ap values_of (filter_true (filter (λ (place : K × ℕ). is_le (slice_cmp nat_cmp path (octets place.0)) && not (is_lt (slice_cmp nat_cmp path (octets place.0)))) places))
+        ∙ values-filter (λ place. is_le (slice_cmp nat_cmp path (octets place.0)) && not (is_lt (slice_cmp nat_cmp path (octets place.0)))) (λ row. is_named name row.entry) places
+        (all_keyed (λ place. (is_le (slice_cmp nat_cmp path (octets place.0)) && not (is_lt (slice_cmp nat_cmp path (octets place.0)))) ≡ is_named name (row_at slots place.1).entry) (λ place e. rw (compares place e) (at_both (name_cmp name (name_of place)))) places keyed)
+
+    -- after the name's own key, the first begins with it where an entry stands below
+    none_below : (all : List Numbered) → AllByRecursion (λ row. stands_within name row ≡ false) all → has_below name (entries_of all) ≡ false
+    none_below [] h = refl
+    none_below (x ∷ all) h =
+        (let here : is_below name x.entry.name ≡ false = below_between name x.entry.name ∙ and_right (not (not (is_before name x.entry.name))) (stands_within name x) h.0 in
+        rw here (none_below all h.1))
+
+    pub below-first : (places : List (K × ℕ)) → AreKeyed octets slots places → IsInOrder (entries_of (rows_of slots (values_of places))) → begins_first octets path (filter (λ place. is_lt (slice_cmp nat_cmp path (octets place.0)) && true) places) ≡ has_below name (entries_of (rows_of slots (values_of places)))
+    below-first [] keyed o = refl
+    below-first (x ∷ places) keyed o = by (cases_Bool (is_before name (name_of x))) (cases_Bool (is_prefix_of name (name_of x))) (below-first places keyed.1 o.1)
+      where
+        after : is_lt (slice_cmp nat_cmp path (octets x.0)) ≡ is_before name (name_of x)
+        after = ap is_lt (compares x keyed.0)
+
+        by : ((is_before name (name_of x) ≡ true) ⊎ (is_before name (name_of x) ≡ false)) → ((is_prefix_of name (name_of x) ≡ true) ⊎ (is_prefix_of name (name_of x) ≡ false)) → begins_first octets path (filter (λ place. is_lt (slice_cmp nat_cmp path (octets place.0)) && true) places) ≡ has_below name (entries_of (rows places)) → begins_first octets path (filter (λ place. is_lt (slice_cmp nat_cmp path (octets place.0)) && true) (x ∷ places)) ≡ has_below name (entries_of (rows (x ∷ places)))
+        by (inl e) (inl f) later =
+            let here = sym (below_like name (name_of x) e) ∙ f in
+            rw (after, e, here) (starts x keyed.0 ∙ f)
+        by (inl e) (inr f) later =
+            let here = sym (below_like name (name_of x) e) ∙ f in
+            rw (after, e, here) (starts x keyed.0 ∙ f ∙ sym (none_below (rows places) (not_within x places (before_not_back name (name_of x) e) f o.0)))
+        by (inr e) f later =
+            let out = after ∙ e in
+            let here : is_below name (name_of x) ≡ false = rw e at (below_between name (name_of x)) in
+            rw (out, here) later
+
+-- a walk, step by step
+pub walked-out : {K : Type 0} (octets : K → List ℕ) (depth : Option ℕ) (slots : List (Option EntryInformation)) (base : List ℕ) (place : K × ℕ) (places : List (K × ℕ)) → starts_with nat_eq (octets place.0) base ≡ false → walked octets depth slots base (place ∷ places) ≡ []
+unfolding walked
+walked-out octets depth slots base place places e = rw e refl
+
+pub walked-here : {K : Type 0} (octets : K → List ℕ) (depth : Option ℕ) (slots : List (Option EntryInformation)) (base : List ℕ) (place : K × ℕ) (places : List (K × ℕ)) → starts_with nat_eq (octets place.0) base ≡ true → is_at_depth depth slots place.1 ≡ true → walked octets depth slots base (place ∷ places) ≡ place.1 ∷ walked octets depth slots base places
+unfolding walked
+walked-here octets depth slots base place places e f = rw (e, f) refl
+
+pub walked-over : {K : Type 0} (octets : K → List ℕ) (depth : Option ℕ) (slots : List (Option EntryInformation)) (base : List ℕ) (place : K × ℕ) (places : List (K × ℕ)) → starts_with nat_eq (octets place.0) base ≡ true → is_at_depth depth slots place.1 ≡ false → walked octets depth slots base (place ∷ places) ≡ walked octets depth slots base places
+unfolding walked
+walked-over octets depth slots base place places e f = rw (e, f) refl
+
+pub walked-none : {K : Type 0} (octets : K → List ℕ) (depth : Option ℕ) (slots : List (Option EntryInformation)) (base : List ℕ) → walked octets depth slots base [] ≡ []
+unfolding walked
+walked-none octets depth slots base = refl
+
+-- what is behind a test of nothing
+pub filter_and_true : (test : Numbered → Bool) (rows : List Numbered) → filter (λ row. test row && true) rows ≡ filter test rows
+filter_and_true test [] = refl
+filter_and_true test (x ∷ rows) = by (test x) (filter_and_true test rows)
+  where
+    by : (b : Bool) → filter (λ row. test row && true) rows ≡ filter test rows → cond (b && true) (x ∷ filter (λ row. test row && true) rows) (filter (λ row. test row && true) rows) ≡ cond b (x ∷ filter test rows) (filter test rows)
+    by true later = ap (λ (xs : List Numbered). x ∷ xs) later
     by false later = later
-
-any_entries : (test : EntryInformation → Bool) (rows : List Numbered) → list_any test (entries_of rows) ≡ list_any (λ (row : Numbered). test row.entry) rows
-any_entries test [] = refl
-any_entries test (x ∷ rows) = ap (λ (b : Bool). test x.entry || b) (any_entries test rows)
-
-shifted : (a b : ℕ) → nat_lt 0 (b - suc a) ≡ nat_lt (a + 1) b
-shifted a b = elim (cases_lt (a + 1) b) [
-  | inl h ↦ lt-ltb 0 (b - suc a) (omega arith) ∙ sym (lt-ltb (a + 1) b h)
-  | inr h ↦ le-ltb 0 (b - suc a) (omega arith) ∙ sym (le-ltb (a + 1) b h)
-]
-
-pub has_below-end : (id : ℕ) (entry : EntryInformation) (rows : List Numbered) → IsInOrder (entries_of rows) → entry_of id rows ≡ Some entry → has_below entry.name (entries_of rows) ≡ nat_lt (place_of entry.name rows + 1) (end_of entry.name rows)
-unfolding end_of
-has_below-end id entry rows o known =
-    any_entries (λ other. is_below entry.name other.name) rows
-    ∙ any-filter (λ row. is_below entry.name row.entry.name) rows
-    ∙ ap (λ (xs : List Numbered). nat_lt 0 (length xs)) (
-    filter_like (λ row. is_below entry.name row.entry.name) (λ row. not (not (is_before entry.name row.entry.name)) && stands_within entry.name row) (λ row. below_between entry.name row.entry.name) rows
-    ∙ filter_between (λ row. not (is_before entry.name row.entry.name)) (stands_within entry.name) (stands_upto_down entry.name) (stands_within_down entry.name) rows o
-    ∙ ap (λ (n : ℕ). drop n (take (end_of entry.name rows) rows)) (upto_place id entry rows o known))
-    ∙ ap (nat_lt 0) (length-drop (suc (place_of entry.name rows)) (take (end_of entry.name rows) rows)
-    ∙ ap (λ (n : ℕ). n - suc (place_of entry.name rows)) (length-take-le (end_of entry.name rows) rows (end_of-le entry.name rows)))
-    ∙ shifted (place_of entry.name rows) (end_of entry.name rows)
 
 -- no scope takes in more than all, and one
 filter_fits : (test : Numbered → Bool) (rows : List Numbered) → length (ids_of (filter test rows)) ≤ length rows

@@ -1,5 +1,5 @@
 -- A tree as a program knows it: its entries in their order, each with a number.
-use Rattle.std.specs.Prelude.{◌≡◌, ◌≢◌, ℕ, ◌<◌, ◌==◌, nat_le, not, List, [], ◌∷◌, length, take, map, filter, find, if◌then◌else◌, Option, Some, None}
+use Rattle.std.specs.Prelude.{◌≢◌, ℕ, ◌<◌, ◌==◌, nat_le, not, List, [], ◌∷◌, length, take, map, filter, find, if◌then◌else◌, Option, Some, None}
 use Rattle.std.specs.Option.{option_map, option_and_then}
 use Rattle.std.specs.List.{AllByRecursion, filter_map}
 use Rattle.dn_names.specs.Names.{RdnSequence}

@@ -1,8 +1,6 @@
--- Places in a list of rows: where a name belongs, and where the entries at or below it end.
-use Rattle.std.specs.Prelude.{ℕ, ◌-◌, nat_lt, suc, Bool, not, List, [], ◌∷◌, length, take, if◌then◌else◌}
-use Rattle.std.specs.Ordering.{is_gt}
+-- Places in a list of rows: where a name belongs.
+use Rattle.std.specs.Prelude.{ℕ, ◌-◌, nat_lt, suc, Bool, List, [], ◌∷◌, if◌then◌else◌}
 use Rattle.dn_names.specs.Names.{RdnSequence}
-use Rattle.dn_names.specs.NameOrder.{name_cmp}
 use Rattle.dir_tree.specs.Trees.{is_before}
 use Rattle.dir_tree.specs.Numbered.{Numbered}
 
@@ -15,17 +13,9 @@ front_count test (row ∷ rows) = if test row then suc (front_count test rows) e
 abbrev pub stands_before : RdnSequence → Numbered → Bool
 stands_before name row = is_before row.entry.name name
 
--- the row's name does not come after all names at or below the name
-abbrev pub stands_within : RdnSequence → Numbered → Bool
-stands_within name row = not (is_gt (name_cmp (take (length name) row.entry.name) name))
-
 -- how many come before the name
 unfoldable pub place_of : RdnSequence → List Numbered → ℕ
 place_of name rows = front_count (stands_before name) rows
-
--- how many come before the name, are of it or are below it
-unfoldable pub end_of : RdnSequence → List Numbered → ℕ
-end_of name rows = front_count (stands_within name) rows
 
 -- the place where one goes out at the other
 abbrev pub place_without : ℕ → ℕ → ℕ

@@ -5,18 +5,15 @@ use Rattle.dir_tree.specs.Entries.{EntryInformation}
 use Rattle.dir_tree.specs.Trees.{has_below}
 use Rattle.dir_tree.specs.Numbered.{Numbered, entries_of, entry_of}
 use Rattle.dir_tree.specs.Refusals.{refusal_in_place}
-use Rattle.dir_tree.specs.Places.{place_of}
 
--- the number is that of an entry at the place, below which none stands
-pub record IsRemovable (id place : ℕ) (rows : List Numbered) : Type 0 where
+-- the number is that of an entry, below which none stands
+pub record IsRemovable (id : ℕ) (rows : List Numbered) : Type 0 where
   pub entry : EntryInformation
   pub known : entry_of id rows ≡ Some entry
-  pub placed : place ≡ place_of entry.name rows
   pub alone : has_below entry.name (entries_of rows) ≡ false
 
--- the number is that of an entry at the place, which an entry of the name may take
-pub record IsReplaceable (id place : ℕ) (name : RdnSequence) (rows : List Numbered) : Type 0 where
+-- the number is that of an entry, whose place an entry of the name may take
+pub record IsReplaceable (id : ℕ) (name : RdnSequence) (rows : List Numbered) : Type 0 where
   pub entry : EntryInformation
   pub known : entry_of id rows ≡ Some entry
-  pub placed : place ≡ place_of entry.name rows
   pub allowed : refusal_in_place id name (Some entry) rows ≡ None

@@ -1,4 +1,4 @@
--- How a tree is kept: entries in slots by their numbers, the numbers in the order of the names, and a count.
+-- How a tree is kept: entries in slots by their numbers, and the numbers in the order of the names.
 use Rattle.std.specs.Prelude.{◌≡◌, ◌≢◌, ℕ, suc, ◌+◌, ◌/◌, ◌≤◌, ◌==◌, nat_lt, not, if◌then◌else◌, Bool, true, List, [], ◌∷◌, length, map, filter, insert, Option, Some, None, is_some, get_or}
 use Rattle.std.specs.List.{AllByRecursion, list_any}
 use Rattle.dn_names.specs.Names.{RdnSequence}
@@ -7,7 +7,7 @@ use Rattle.dir_tree.specs.Points.{is_access_subentry}
 use Rattle.dir_tree.specs.declared.number.EntryNo.{EntryNo}
 use Rattle.dir_tree.specs.Trees.{most_entries, is_before, has_name, superior_name, IsInOrder}
 use Rattle.dir_tree.specs.Places.{place_of}
-use Rattle.dir_tree.specs.Numbered.{Numbered, ids_of, entries_of, subentry_rows}
+use Rattle.dir_tree.specs.Numbered.{Numbered, entries_of}
 
 -- the slot of the number
 abbrev pub slot_of : List (Option EntryInformation) → ℕ → Option EntryInformation
@@ -65,11 +65,6 @@ pub record IsKept (slots : List (Option EntryInformation)) (order : List ℕ) : 
   pub used : (id : ℕ) → has_id id order ≡ is_some (slot_of slots id)
   pub count : count_full slots ≡ length order
   pub ordered : IsOrderedTree (entries_of (rows_of slots order))
-
--- and the last numbers are those of their access control subentries
-pub record IsListed (slots : List (Option EntryInformation)) (order subentries : List ℕ) : Type 0 where
-  pub kept : IsKept slots order
-  pub listed : subentries ≡ ids_of (subentry_rows (rows_of slots order))
 
 -- the numbers as naturals
 abbrev pub numbers_in : List EntryNo → List ℕ

@@ -6,11 +6,10 @@ mod attribute_iter;
 mod attributes;
 mod classes;
 mod entry;
-mod fronts;
 mod insert;
 mod laws;
 mod number;
-mod places;
+mod paths;
 mod refusals;
 mod remove;
 mod replace;
@@ -19,6 +18,7 @@ mod slots;
 mod subentries;
 mod tree;
 mod tree_laws;
+mod vacancy;
 mod values;
 mod walk;
 
@@ -36,4 +36,5 @@ pub use tree_laws::{
     a_change_leaves_a_tree, all_but_the_suffix_have_superiors, entries_change_as_rows_do,
     numbers_stand_for_entries, putting_in_undoes_taking_out, scopes_take_in_what_is_below,
 };
+pub use vacancy::Vacancy;
 pub use walk::Walk;

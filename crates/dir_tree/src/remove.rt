@@ -1,6 +1,6 @@
 //! Entries taken out.
 
-ghost use Rattle.std.specs.Prelude.{◌≡◌, ◌<◌, ◌≤◌, length, Some, None, IfOk, IfErr, OnOk, OnErr, IsSomeAnd, MatchResult, true, false};
+ghost use Rattle.std.specs.Prelude.{◌≡◌, Some, None, IfOk, IfErr, OnOk, OnErr, IsSomeAnd, MatchResult, true, false};
 ghost use Rattle.std.specs.Option.{option_map_or};
 ghost use Rattle.dir_tree.specs.Removals.{IsRemovable};
 
@@ -10,6 +10,8 @@ use crate::refusals::RemoveRefusal;
 use crate::slots::take_entry;
 use crate::subentries::drop_number;
 use crate::tree::Tree;
+use dn_names::Dn;
+use std::ops::Bound;
 
 impl Tree {
     ghost use Rattle.dir_tree.specs.Trees.{has_below};
@@ -28,23 +30,23 @@ impl Tree {
         ensures kept { OnErr result (self.new ≡ self.old) }
     {
         match self.removable(no) {
-            Ok(place) => Ok(self.take_out(no, place)),
+            Ok(()) => Ok(self.take_out(no)),
             Err(refusal) => Err(refusal),
         }
     }
 
-    // The place of the entry of the number, below which no entry stands.
-    fn removable(&self, no: EntryNo) -> Result<usize, RemoveRefusal>
-        ensures ok { IfOk result (λ place. IsRemovable no.0 place self.now) }
+    // That the number is in use, and no entry stands below its own.
+    fn removable(&self, no: EntryNo) -> Result<(), RemoveRefusal>
+        ensures ok { OnOk result (IsRemovable no.0 self.now) }
         ensures exact { OnOk result (remove_refusal no.0 self.now ≡ None) }
         ensures cause { IfErr result (λ refusal. remove_refusal no.0 self.now ≡ Some refusal) }
     {
         match self.at(no) {
             Some(entry) => {
-                if self.has_any_below(no, entry) {
+                if self.has_any_below(entry.name()) {
                     Err(RemoveRefusal::HasBelow)
                 } else {
-                    Ok(self.own_place(no, entry))
+                    Ok(())
                 }
             }
             None => Err(RemoveRefusal::Absent),
@@ -57,29 +59,33 @@ impl Tree {
             ≡ option_map_or (λ entry. has_below entry.name (entries_of self.now)) (entry_of no.0 self.now) false }
     {
         match self.at(no) {
-            Some(entry) => self.has_any_below(no, entry),
+            Some(entry) => self.has_any_below(entry.name()),
             None => false,
         }
     }
 
-    /// Whether an entry stands below the entry of the number, which is this one.
-    pub(crate) fn has_any_below(&self, no: EntryNo, entry: &Entry) -> bool
-        requires { entry_of no.0 self.now ≡ Some entry.now }
-        ensures exact { result ≡ has_below entry.now.name (entries_of self.now) }
+    /// Whether an entry stands below the name.
+    pub(crate) fn has_any_below(&self, name: &Dn) -> bool
+        ensures exact { result ≡ has_below name.now (entries_of self.now) }
     {
-        let place = self.own_place(no, entry);
-        self.end_of(entry.name()) > place + 1
+        let path = name.path();
+        let mut after = self.places.range((Bound::Excluded(path), Bound::Unbounded));
+        match after.next() {
+            Some((next, _)) => next.as_slice().starts_with(path.as_slice()),
+            None => false,
+        }
     }
 
-    // Takes the entry of the number out of its place.
-    fn take_out(&mut self, no: EntryNo, place: usize) -> Entry
-        requires { IsRemovable no.0 place self.old }
+    // Takes the entry of the number out, and its path key.
+    fn take_out(&mut self, no: EntryNo) -> Entry
+        requires { IsRemovable no.0 self.old }
         ensures found { entry_of no.0 self.old ≡ Some result }
         ensures exact { self.new ≡ without no.0 self.old }
     {
-        let _number = self.order.remove(place);
+        let entry = take_entry(&mut self.slots, no.0);
+        let _number = self.places.remove(entry.name().path().as_slice());
         self.low = self.low.min(no.0 as usize);
         drop_number(&mut self.subentries, no);
-        take_entry(&mut self.slots, no.0)
+        entry
     }
 }

@@ -1,15 +1,16 @@
 //! Entries that take another's place.
 
-ghost use Rattle.std.specs.Prelude.{◌≡◌, ◌⊎◌, ◌&&◌, not, length, Some, None, IfOk, IfErr, OnOk, OnErr};
+ghost use Rattle.std.specs.Prelude.{◌≡◌, ◌⊎◌, ◌&&◌, not, true, false, Some, None, IfOk, IfErr, OnOk, OnErr};
+ghost use Rattle.std.specs.Option.{option_map_or};
 ghost use Rattle.dn_names.specs.NameOrder.{is_same};
 ghost use Rattle.dir_tree.specs.Removals.{IsReplaceable};
 ghost use Rattle.dir_tree.specs.Refusals.{is_elsewhere};
 
 use crate::entry::Entry;
-use crate::fronts::same_superior;
 use crate::number::EntryNo;
+use crate::paths::{copy_path, same_superior};
 use crate::refusals::ReplaceRefusal;
-use crate::slots::{move_number, replace_entry};
+use crate::slots::replace_entry;
 use crate::subentries::{drop_number, list_number, make_room};
 use crate::tree::Tree;
 use dn_names::{Dn, same};
@@ -19,7 +20,6 @@ impl Tree {
     ghost use Rattle.dir_tree.specs.Trees.{has_name, has_below};
     ghost use Rattle.dir_tree.specs.Numbered.{entries_of, entry_of, without, put_entry};
     ghost use Rattle.dir_tree.specs.Refusals.{refusal_in_place, replace_refusal};
-    ghost use Rattle.dir_tree.specs.Places.{place_of};
 
     /// Gives the entry's place to another, which is known by the same number. The memory that the attributes of the
     /// other do not need is given back.
@@ -38,11 +38,10 @@ impl Tree {
         ensures kept { OnErr result (self.new ≡ self.old) }
     {
         match self.replaceable(no, entry.name()) {
-            Ok(from) => {
+            Ok(()) => {
                 let mut entry = entry;
                 entry.fit();
-                let place = self.place_of(entry.name(), entry.name().len());
-                match self.change(no, from, place, entry) {
+                match self.change(no, entry) {
                     Ok(old) => Ok(old),
                     Err(_) => Err(ReplaceRefusal::NoMemory),
                 }
@@ -51,9 +50,9 @@ impl Tree {
         }
     }
 
-    // The place of the entry of the number, which an entry of the name may take.
-    fn replaceable(&self, no: EntryNo, name: &Dn) -> Result<usize, ReplaceRefusal>
-        ensures ok { IfOk result (λ place. IsReplaceable no.0 place name.now self.now) }
+    // That an entry of the name may take the place of the entry of the number.
+    fn replaceable(&self, no: EntryNo, name: &Dn) -> Result<(), ReplaceRefusal>
+        ensures ok { OnOk result (IsReplaceable no.0 name.now self.now) }
         ensures exact { OnOk result (replace_refusal no.0 name.now self.now ≡ None) }
         ensures cause { IfErr result (λ refusal.
             replace_refusal no.0 name.now self.now ≡ Some refusal) }
@@ -61,7 +60,7 @@ impl Tree {
         match self.at(no) {
             Some(old) => match self.refusal_in_place(no, name, old) {
                 Some(refusal) => Err(refusal),
-                None => Ok(self.own_place(no, old)),
+                None => Ok(()),
             },
             None => Err(ReplaceRefusal::Absent),
         }
@@ -76,7 +75,7 @@ impl Tree {
             Some(ReplaceRefusal::NameTaken)
         } else if is_elsewhere(name, old.name()) {
             Some(ReplaceRefusal::Elsewhere)
-        } else if self.takes_along(no, name, old) {
+        } else if self.takes_along(name, old.name()) {
             Some(ReplaceRefusal::HasBelow)
         } else {
             None
@@ -87,40 +86,75 @@ impl Tree {
     fn is_taken(&self, no: EntryNo, name: &Dn) -> bool
         ensures exact { result ≡ has_name name.now (entries_of (without no.0 self.now)) }
     {
-        match self.search(name, name.len()) {
+        self.entries_form_a_tree();
+        match self.find(name) {
             Some(other) => other.0 != no.0,
             None => false,
         }
     }
 
-    // Whether the name is another than the entry's, and an entry stands below that.
-    fn takes_along(&self, no: EntryNo, name: &Dn, old: &Entry) -> bool
-        requires { entry_of no.0 self.now ≡ Some old.now }
-        ensures exact { result
-            ≡ (not (is_same name.now old.now.name) && has_below old.now.name (entries_of self.now)) }
+    // Whether the name is another than the old one, and an entry stands below that.
+    fn takes_along(&self, name: &Dn, old: &Dn) -> bool
+        ensures exact { result ≡ (not (is_same name.now old.now) && has_below old.now (entries_of self.now)) }
     {
-        !same(name, old.name()) && self.has_any_below(no, old)
+        !same(name, old) && self.has_any_below(old)
     }
 
-    // Gives the place of the entry of the number to another, whose number goes to its own place.
-    fn change(
-        &mut self,
-        no: EntryNo,
-        from: usize,
-        place: usize,
-        entry: Entry,
-    ) -> Result<Entry, AllocError>
-        requires may { IsReplaceable no.0 from entry.name self.old }
-        requires placed { place ≡ place_of entry.name self.old }
+    // Gives the place of the entry of the number to another.
+    fn change(&mut self, no: EntryNo, entry: Entry) -> Result<Entry, AllocError>
+        requires may { IsReplaceable no.0 entry.name self.old }
+        ensures found { IfOk result (λ old. entry_of no.0 self.old ≡ Some old) }
+        ensures ok { OnOk result (self.new ≡ put_entry no.0 entry (without no.0 self.old)) }
+        ensures kept { OnErr result (self.new ≡ self.old) }
+    {
+        if self.is_called(no, entry.name()) {
+            self.change_here(no, entry)
+        } else {
+            self.change_path(no, entry)
+        }
+    }
+
+    // Whether the number is that of an entry of the name.
+    fn is_called(&self, no: EntryNo, name: &Dn) -> bool
+        ensures exact { result
+            ≡ option_map_or (λ old. is_same name.now old.name) (entry_of no.0 self.now) false }
+    {
+        match self.at(no) {
+            Some(old) => same(name, old.name()),
+            None => false,
+        }
+    }
+
+    // Gives the place of the entry of the number to another of the same name: the path keys stay.
+    fn change_here(&mut self, no: EntryNo, entry: Entry) -> Result<Entry, AllocError>
+        requires may { IsReplaceable no.0 entry.name self.old }
+        requires called { option_map_or (λ old. is_same entry.name old.name) (entry_of no.0 self.old) false ≡ true }
         ensures found { IfOk result (λ old. entry_of no.0 self.old ≡ Some old) }
         ensures ok { OnOk result (self.new ≡ put_entry no.0 entry (without no.0 self.old)) }
         ensures kept { OnErr result (self.new ≡ self.old) }
     {
         make_room(&mut self.subentries, &entry)?;
-        move_number(&mut self.order, from, place);
         drop_number(&mut self.subentries, no);
         list_number(&self.slots, &mut self.subentries, &entry, no);
         Ok(replace_entry(&mut self.slots, no.0, entry))
+    }
+
+    // Gives the place of the entry of the number to one of another name: its path key comes in before the old one goes.
+    fn change_path(&mut self, no: EntryNo, entry: Entry) -> Result<Entry, AllocError>
+        requires may { IsReplaceable no.0 entry.name self.old }
+        requires called { option_map_or (λ old. is_same entry.name old.name) (entry_of no.0 self.old) false ≡ false }
+        ensures found { IfOk result (λ old. entry_of no.0 self.old ≡ Some old) }
+        ensures ok { OnOk result (self.new ≡ put_entry no.0 entry (without no.0 self.old)) }
+        ensures kept { OnErr result (self.new ≡ self.old) }
+    {
+        let path = copy_path(entry.name())?;
+        make_room(&mut self.subentries, &entry)?;
+        self.places.insert(path, no.0)?;
+        drop_number(&mut self.subentries, no);
+        list_number(&self.slots, &mut self.subentries, &entry, no);
+        let old = replace_entry(&mut self.slots, no.0, entry);
+        let _number = self.places.remove(old.name().path().as_slice());
+        Ok(old)
     }
 }
 

@@ -1,10 +1,9 @@
 //! Entries in slots by their numbers, and numbers in order.
 
-ghost use Rattle.std.specs.Prelude.{◌≡◌, ◌≢◌, ℕ, ◌<◌, ◌≤◌, ◌+◌, length, IfSome, IsSome, is_some, IfOk, Some, None, true, insert, remove, set, get_or, vec_len, vec_capacity, OnOk, OnErr};
+ghost use Rattle.std.specs.Prelude.{◌≡◌, ◌≢◌, ℕ, ◌<◌, ◌≤◌, ◌+◌, length, IfSome, IsSome, is_some, IfOk, Some, None, true, insert, set, vec_len, vec_capacity, OnOk, OnErr};
 ghost use Rattle.std.specs.Option.{option_map};
 ghost use Rattle.dir_tree.specs.Slots.{slot_of, count_full, HasSameSlots, with_room};
 ghost use Rattle.dir_tree.specs.Trees.{most_entries};
-ghost use Rattle.dir_tree.specs.Places.{place_without};
 
 use crate::entry::Entry;
 use std::alloc::AllocError;
@@ -130,22 +129,4 @@ pub(crate) fn put_at<T: Drop>(items: &mut Vec<T>, place: usize, item: T)
     ensures exact { items.new.items ≡ insert items.old.items place item }
 {
     items.insert(place, item).unwrap();
-}
-
-/// Moves the number at a place to where it stands before the one at the other. Takes no memory.
-pub(crate) fn move_number(order: &mut Vec<u32>, from: usize, place: usize)
-    requires found { from < vec_len order.old }
-    requires fits { place ≤ vec_len order.old }
-    ensures exact { order.new.items ≡ insert (remove order.old.items from)
-        (place_without from place) (get_or order.old.items from 0) }
-{
-    let number = order.remove(from);
-    put_at(order, place_without(from, place), number);
-}
-
-// The place where one goes out at the other.
-fn place_without(from: usize, place: usize) -> usize
-    ensures exact { result ≡ place_without from place }
-{
-    if from < place { place - 1 } else { place }
 }

@@ -9,6 +9,7 @@ use crate::number::EntryNo;
 use crate::slots::entry_at;
 use dn_names::Dn;
 use std::alloc::Global;
+use std::collections::BTreeMap;
 use std::marker::Model;
 
 /// A tree of at most 200,000 entries. Contracts see the list of the entries with their numbers, in the order of
@@ -16,21 +17,24 @@ use std::marker::Model;
 #[derive(Debug, Drop)]
 pub struct Tree {
     pub(crate) slots: Vec<Option<Entry>>,
-    pub(crate) order: Vec<u32>,
+    pub(crate) places: BTreeMap<Vec<u8>, u32>,
     pub(crate) low: usize,
     pub(crate) subentries: Vec<EntryNo>,
 }
 
 impl Model for Tree {
     ghost use Rattle.std.specs.Prelude.{List};
+    ghost use Rattle.std.specs.BTreeMap.{values};
     ghost use Rattle.dir_tree.specs.Numbered.{Numbered};
-    ghost use Rattle.dir_tree.specs.Slots.{rows_of, numbers_in, IsListed};
+    ghost use Rattle.dir_tree.specs.Slots.{rows_of, numbers_in};
+    ghost use Rattle.dir_tree.specs.Maps.{IsMapped};
 
     ghost Value = { List Numbered };
 
-    ghost view = { λ tree. rows_of tree.slots.items tree.order.items };
+    ghost view = { λ tree. rows_of tree.slots.items (values tree.places) };
 
-    ghost invariant = { λ tree. IsListed tree.slots.items tree.order.items (numbers_in tree.subentries.items) };
+    ghost invariant = { λ tree.
+        IsMapped (λ key. key.items) tree.slots.items tree.places.entries (numbers_in tree.subentries.items) };
 }
 
 impl Tree {
@@ -43,7 +47,7 @@ impl Tree {
     {
         Tree {
             slots: Vec::new(alloc),
-            order: Vec::new(alloc),
+            places: BTreeMap::new(alloc),
             low: 0,
             subentries: Vec::new(alloc),
         }
@@ -53,14 +57,14 @@ impl Tree {
     pub fn entries_form_a_tree(&self)
         ensures exact { IsNumberedTree self.now }
     {
-        let _order = &self.order;
+        let _places = &self.places;
     }
 
     /// The number of entries.
     pub fn len(&self) -> usize
         ensures exact { result ≡ length self.now }
     {
-        self.order.len()
+        self.places.len()
     }
 
     /// The numbers of the access control subentries, in the order of the names. The tree keeps them: no entry is looked
@@ -83,8 +87,8 @@ impl Tree {
     pub fn suffix(&self) -> Option<EntryNo>
         ensures exact { option_map (λ no. no.0) result ≡ suffix_of self.now }
     {
-        match self.order.first() {
-            Some(no) => Some(EntryNo(*no)),
+        match self.places.first_key_value() {
+            Some((_, no)) => Some(EntryNo(*no)),
             None => None,
         }
     }
@@ -93,7 +97,7 @@ impl Tree {
     pub fn find(&self, name: &Dn) -> Option<EntryNo>
         ensures exact { option_map (λ no. no.0) result ≡ find_name name.now self.now }
     {
-        self.search(name, name.len())
+        self.number_of(name.path().as_slice())
     }
 
     /// The number of the entry that the front of the name names, a front of `len` RDNs. None exactly where no entry has
@@ -101,10 +105,9 @@ impl Tree {
     pub fn find_prefix(&self, name: &Dn, len: usize) -> Option<EntryNo>
         ensures exact { option_map (λ no. no.0) result ≡ find_front len name.now self.now }
     {
-        if len > name.len() {
-            None
-        } else {
-            self.search(name, len)
+        match name.path_to(len) {
+            Some(path) => self.number_of(path),
+            None => None,
         }
     }
 
@@ -121,7 +124,7 @@ impl Tree {
         ensures exact { option_map (λ no. no.0) result ≡ superior_of no.0 self.now }
     {
         match self.at(no) {
-            Some(entry) => self.search(entry.name(), entry.name().len().saturating_sub(1)),
+            Some(entry) => self.number_above(entry.name()),
             None => None,
         }
     }

@@ -1,5 +1,5 @@
 -- Those passed over come before the name, and the one at which it ends does not.
-use Rattle.std.proofs.Common.{◌≡◌, true, false, ◌∙◌, sym, ap, arith, length}
+use Rattle.std.proofs.Common.{◌∙◌, sym, arith}
 use Rattle.dir_tree.proofs.AccessLemmas.{among-more, among-none}
 use Rattle.dir_tree.proofs.subentries.place_among.Goals as goal
 

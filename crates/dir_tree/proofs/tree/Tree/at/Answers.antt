@@ -1,4 +1,5 @@
 -- The entry of a number is what its slot has.
+use Rattle.std.specs.Map.{values_of}
 use Rattle.std.proofs.Common.{sym, ap, ◌∙◌, List, Option}
 use Rattle.dir_tree.specs.Entries.{EntryInformation}
 use Rattle.dir_tree.specs.Slots.{slot_of}
@@ -10,5 +11,5 @@ returns c = record {
   exact = rw (← c.self.view_is)
       (c.entry_at.ensures.exact
       ∙ ap (λ (slots : List (Option EntryInformation)). slot_of slots c.args.no.0) c.deref.ensures.value
-      ∙ sym (entry_of-rows_of c.self.inside.slots.items c.self.inside.order.items c.args.no.0 (c.self.invariant.kept.used c.args.no.0)));
+      ∙ sym (entry_of-rows_of c.self.inside.slots.items (values_of c.self.inside.places.entries) c.args.no.0 (c.self.invariant.kept.used c.args.no.0)));
 }

@@ -1,4 +1,5 @@
 -- Each number in use is one of a slot.
+use Rattle.std.specs.Map.{values_of}
 use Rattle.std.proofs.Common.{◌≡◌, ℕ, List, ◌<◌, length, arith, subst}
 use Rattle.std.specs.List.{AllByRecursion}
 use Rattle.dir_tree.specs.Numbered.{Numbered}
@@ -10,4 +11,4 @@ returns-clause-exact c =
     let same : length c.self.inside.slots.items ≡ c.len.result = omega (arith, c.len.ensures) in
     subst (λ (most : ℕ). AllByRecursion (λ (row : Numbered). row.id < most) c.args.self.now) same
     (subst (λ (rows : List Numbered). AllByRecursion (λ row. row.id < length c.self.inside.slots.items) rows) c.self.view_is
-    (numbers_below c.self.inside.slots.items c.self.inside.order.items c.self.invariant.kept))
+    (numbers_below c.self.inside.slots.items (values_of c.self.inside.places.entries) c.self.invariant.kept))

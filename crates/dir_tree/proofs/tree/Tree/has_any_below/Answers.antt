@@ -1,12 +1,19 @@
--- An entry stands below where the end is past the place after the entry's own.
-use Rattle.std.proofs.Common.{sym}
-use Rattle.dir_tree.proofs.WalkLemmas.{has_below-end}
+-- The first key after the name's own begins with it where an entry stands below.
+use Rattle.std.proofs.Common.{ℕ, sym, ap, ◌∙◌, Vec, Global}
+use Rattle.dir_tree.proofs.WalkLemmas.{begins_first, below-first}
 use Rattle.dir_tree.proofs.tree.Tree.has_any_below.Goals as goal
 
-pub returns : goal.returns
-returns c =
-    let name = c.name.ensures.exact in
+pub returns-in-Some : goal.returns-in-Some
+returns-in-Some c =
+    let value = rw (c.as_slice.ensures.value, c.as_slice-in-Some.ensures.value) at c.starts_with.ensures.value in
+    let first = ap (begins_first (λ (key : Vec ℕ Global). key.items) c.path-path.result.now.items) (sym (c.range-after.ensures.between tt) ∙ c.in-Some.ensures.steps) in
     record {
-      exact = rw (c.own_place-place.ensures.exact, c.end_of.ensures.exact, name)
-          (sym (has_below-end c.args.no.0 c.args.entry.now c.args.self.now c.own_place-place.ensures.ordered.sorted c.requires));
+      exact = value ∙ rw (← c.self.view_is) (sym first ∙ below-first (λ (key : Vec ℕ Global). key.items) c.self.inside.slots.items c.path-path.result.now.items c.args.name.now c.path-path.ensures.exact c.self.inside.places.entries c.self.invariant.keyed c.self.invariant.kept.ordered.sorted);
+    }
+
+pub returns-in-None : goal.returns-in-None
+returns-in-None c =
+    let first = ap (begins_first (λ (key : Vec ℕ Global). key.items) c.path-path.result.now.items) (sym (c.range-after.ensures.between tt) ∙ c.in-None.ensures.steps.0) in
+    record {
+      exact = rw (← c.self.view_is) (sym first ∙ below-first (λ (key : Vec ℕ Global). key.items) c.self.inside.slots.items c.path-path.result.now.items c.args.name.now c.path-path.ensures.exact c.self.inside.places.entries c.self.invariant.keyed c.self.invariant.kept.ordered.sorted);
     }

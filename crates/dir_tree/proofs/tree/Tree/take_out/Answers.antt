@@ -1,45 +1,51 @@
--- The number goes out of its place, and the entry out of its slot.
-use Rattle.std.proofs.Common.{ap, ◌∙◌, arith, ◌≡◌, Some, false}
+-- The entry goes out of its slot, and its path key out of the map.
+use Rattle.std.proofs.Common.{ℕ, ap, sym, ◌∙◌, ◌≡◌, Some, None, false, set, subst, List, Vec, Global}
+use Rattle.std.specs.Ordering.{nat_cmp}
+use Rattle.std.specs.Map.{values_of, remove_entry}
+use Rattle.std.specs.BTreeMap.{is_at}
+use Rattle.std.specs.Cmp.Lexicographic.{slice_cmp}
+use Rattle.dn_names.specs.PathKeys.{path_key}
+use Rattle.dir_tree.specs.Entries.{EntryInformation}
 use Rattle.dir_tree.specs.Trees.{has_below}
-use Rattle.dir_tree.specs.Numbered.{entries_of, entry_of}
-use Rattle.dir_tree.specs.Places.{place_of}
+use Rattle.dir_tree.specs.Numbered.{Numbered, ids_of, subentry_rows, entries_of, entry_of}
 use Rattle.dir_tree.specs.Slots.{rows_of, unlisted}
 use Rattle.dir_tree.proofs.SlotLemmas.{entry_of-rows_of}
 use Rattle.dir_tree.proofs.AccessLemmas.{unlisted-without}
-use Rattle.dir_tree.proofs.KeptLemmas.{place_within, kept_without, shown_without, slot_known}
+use Rattle.dir_tree.proofs.KeptLemmas.{slot_known}
+use Rattle.dir_tree.proofs.PathLemmas.{TakenPath, taken_path}
 use Rattle.dir_tree.proofs.tree.Tree.take_out.Goals as goal
 
-pub remove-number-requires : goal.remove-number-requires
-remove-number-requires c =
-    let known : entry_of c.args.no.0 (rows_of c.self.inside.slots.items c.self.inside.order.items) ≡ Some c.requires.entry = rw c.self.view_is c.requires.known in
-    let placed : c.args.place ≡ place_of c.requires.entry.name (rows_of c.self.inside.slots.items c.self.inside.order.items) = rw c.self.view_is c.requires.placed in
-    omega (arith, place_within c.self.inside.slots.items c.self.inside.order.items c.args.no.0 c.args.place c.requires.entry c.self.invariant.kept known placed)
+pub take_entry-entry-requires : goal.take_entry-entry-requires
+take_entry-entry-requires c = slot_known c.self.inside.slots.items (values_of c.self.inside.places.entries) c.args.no.0 c.requires.entry c.self.invariant.kept (rw c.self.view_is c.requires.known)
 
-pub take_entry-requires : goal.take_entry-requires
-take_entry-requires c = slot_known c.self.inside.slots.items c.self.inside.order.items c.args.no.0 c.requires.entry c.self.invariant.kept (rw c.self.view_is c.requires.known)
+known : (c : goal.After-drop_number) → entry_of c.args.no.0 (rows_of c.self.inside.slots.items (values_of c.self.inside.places.entries)) ≡ Some c.take_entry-entry.result
+known c = entry_of-rows_of c.self.inside.slots.items (values_of c.self.inside.places.entries) c.args.no.0 (c.self.invariant.kept.used c.args.no.0) ∙ c.take_entry-entry.ensures.found
+
+taken : (c : goal.After-drop_number) → TakenPath (λ (key : Vec ℕ Global). key.items) (set c.self.inside.slots.items c.args.no.0 None) (remove_entry (is_at (λ key. slice_cmp nat_cmp c.as_slice.result.now key.items)) c.self.inside.places.entries) c.args.no.0 (rows_of c.self.inside.slots.items (values_of c.self.inside.places.entries))
+taken c =
+    let asked : entry_of c.args.no.0 (rows_of c.self.inside.slots.items (values_of c.self.inside.places.entries)) ≡ Some c.requires.entry = rw c.self.view_is c.requires.known in
+    let both : Some c.take_entry-entry.result ≡ Some c.requires.entry = sym (known c) ∙ asked in
+    let same : c.requires.entry ≡ c.take_entry-entry.result = cc in
+    let alone : has_below c.requires.entry.name (entries_of (rows_of c.self.inside.slots.items (values_of c.self.inside.places.entries))) ≡ false = rw c.self.view_is c.requires.alone in
+    taken_path (λ (key : Vec ℕ Global). key.items) c.self.inside.slots.items c.self.inside.places.entries c.self.invariant.kept c.self.invariant.keyed c.args.no.0 c.take_entry-entry.result c.as_slice.result.now (known c)
+    (c.as_slice.ensures.value ∙ c.path.ensures.exact ∙ ap path_key c.name.ensures.exact)
+    (subst (λ (entry : EntryInformation). has_below entry.name (entries_of (rows_of c.self.inside.slots.items (values_of c.self.inside.places.entries))) ≡ false) same alone)
 
 -- its number is listed no more
 pub invariant_of-self : goal.invariant_of-self
 invariant_of-self c =
-    let known : entry_of c.args.no.0 (rows_of c.self.inside.slots.items c.self.inside.order.items) ≡ Some c.requires.entry = rw c.self.view_is c.requires.known in
-    let placed : c.args.place ≡ place_of c.requires.entry.name (rows_of c.self.inside.slots.items c.self.inside.order.items) = rw c.self.view_is c.requires.placed in
-    let alone : has_below c.requires.entry.name (entries_of (rows_of c.self.inside.slots.items c.self.inside.order.items)) ≡ false = rw c.self.view_is c.requires.alone in
-    rw (c.take_entry.ensures.exact, c.remove-number.ensures.items) (record {
-      kept = kept_without c.self.inside.slots.items c.self.inside.order.items c.args.no.0 c.args.place c.requires.entry c.self.invariant.kept known placed alone;
+    rw (c.take_entry-entry.ensures.exact, c.remove-number.ensures.entries) (record {
+      kept = (taken c).kept;
+      keyed = (taken c).keyed;
       listed =
-          rw (shown_without c.self.inside.slots.items c.self.inside.order.items c.args.no.0 c.args.place c.requires.entry c.self.invariant.kept known placed)
-          (c.drop_number.ensures.exact
+          c.drop_number.ensures.exact
           ∙ ap (unlisted c.args.no.0) c.self.invariant.listed
-          ∙ unlisted-without c.args.no.0 (rows_of c.self.inside.slots.items c.self.inside.order.items));
+          ∙ unlisted-without c.args.no.0 (rows_of c.self.inside.slots.items (values_of c.self.inside.places.entries))
+          ∙ sym (ap (λ (rows : List Numbered). ids_of (subentry_rows rows)) (taken c).shown);
     })
 
 pub returns-clause-found : goal.returns-clause-found
-returns-clause-found c =
-    rw (← c.self.view_is) (entry_of-rows_of c.self.inside.slots.items c.self.inside.order.items c.args.no.0 (c.self.invariant.kept.used c.args.no.0) ∙ c.take_entry.ensures.found)
+returns-clause-found c = rw (← c.self.view_is) (known c)
 
 pub returns-clause-exact : goal.returns-clause-exact
-returns-clause-exact c =
-    let known : entry_of c.args.no.0 (rows_of c.self.inside.slots.items c.self.inside.order.items) ≡ Some c.requires.entry = rw c.self.view_is c.requires.known in
-    let placed : c.args.place ≡ place_of c.requires.entry.name (rows_of c.self.inside.slots.items c.self.inside.order.items) = rw c.self.view_is c.requires.placed in
-    rw (c.take_entry.ensures.exact, c.remove-number.ensures.items, ← c.self.view_is)
-    (shown_without c.self.inside.slots.items c.self.inside.order.items c.args.no.0 c.args.place c.requires.entry c.self.invariant.kept known placed)
+returns-clause-exact c = rw (c.take_entry-entry.ensures.exact, c.remove-number.ensures.entries, ← c.self.view_is) (taken c).shown

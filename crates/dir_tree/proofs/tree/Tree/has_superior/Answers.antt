@@ -1,0 +1,11 @@
+-- The superior is there where it is found.
+use Rattle.std.proofs.Common.{◌∙◌}
+use Rattle.dir_tree.specs.declared.number.EntryNo.{EntryNo}
+use Rattle.dir_tree.specs.Trees.{superior_name}
+use Rattle.dir_tree.proofs.KeptLemmas.{has_name-found}
+use Rattle.dir_tree.proofs.tree.Tree.has_superior.Goals as goal
+
+pub returns : goal.returns
+returns c = record {
+  exact = c.is_some.ensures ∙ has_name-found (λ (no : EntryNo). no.0) c.args.superior (superior_name c.args.name.now) c.args.self.now c.requires;
+}

@@ -1,0 +1,18 @@
+-- A tree as it is kept: the map from path keys to numbers, beside the slots. `octets` gives those of a key of the map.
+use Rattle.std.specs.Prelude.{◌≡◌, ℕ, List, Option}
+use Rattle.std.specs.List.{AllByRecursion}
+use Rattle.std.specs.Map.{values_of}
+use Rattle.dn_names.specs.PathKeys.{path_key}
+use Rattle.dir_tree.specs.Entries.{EntryInformation}
+use Rattle.dir_tree.specs.Numbered.{ids_of, subentry_rows}
+use Rattle.dir_tree.specs.Slots.{row_at, rows_of, IsKept}
+
+-- each key is the path key of the entry of its number
+abbrev pub AreKeyed : {K : Type 0} → (K → List ℕ) → List (Option EntryInformation) → List (K × ℕ) → Type 0
+AreKeyed octets slots places = AllByRecursion (λ place. octets place.0 ≡ path_key (row_at slots place.1).entry.name) places
+
+-- the slots and the map are those of a tree, and the last numbers those of its access control subentries
+pub record IsMapped {K : Type 0} (octets : K → List ℕ) (slots : List (Option EntryInformation)) (places : List (K × ℕ)) (subentries : List ℕ) : Type 0 where
+  pub kept : IsKept slots (values_of places)
+  pub keyed : AreKeyed octets slots places
+  pub listed : subentries ≡ ids_of (subentry_rows (rows_of slots (values_of places)))
