@@ -2,6 +2,7 @@
 
 ghost use Rattle.std.specs.Prelude.{◌≡◌, IfOk, string_bytes};
 ghost use Rattle.command_words.specs.Command.{Check, Dump};
+ghost use Rattle.dir_tree.specs.Points.{access_subentries};
 ghost use Rattle.dir_tree.specs.Numbered.{entries_of};
 ghost use Rattle.schema_rules.specs.Rules.{IsGoodTree};
 ghost use Rattle.acl_program.specs.Outcomes.{Checked, Dumped, status_of, text_of};
@@ -49,8 +50,15 @@ fn counts(alloc: Global, tree: &Tree) -> Result<String, AllocError>
     ensures { IfOk result (λ text. string_bytes text ≡ text_of (Checked (entries_of tree.now))) }
 {
     let entries = tree.len();
-    let subentries = tree.access_subentries().len();
+    let subentries = count_subentries(tree);
     format!(in alloc; "ok {entries} {subentries}\n")
+}
+
+// How many access control subentries the tree has.
+fn count_subentries(tree: &Tree) -> usize
+    ensures exact { result ≡ access_subentries (entries_of tree.now) }
+{
+    tree.access_subentries().len()
 }
 
 /// Loads the data file, and prints the tree as a data file.
