@@ -1,6 +1,6 @@
 -- What a call answers that may want memory: the expected value, or the expected fault. An error type tells its cause,
 -- or that it is want of memory, which has none and may come in place of anything.
-use Rattle.std.specs.Prelude.{◌≡◌, Unit, Option, Some, None, Result, Ok, Err}
+use Rattle.std.specs.Prelude.{◌≡◌, Option, Some, None, Result, Ok, Err}
 
 -- the fault has the expected cause, or is want of memory
 abbrev pub IsFaultOf : {A F : Type 0} → Option F → Result A F → Type 0
