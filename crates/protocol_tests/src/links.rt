@@ -226,7 +226,11 @@ static REFUSING: [Row; 20] = [
     (Call::Next, "Ready(2)", "2 is still on hold"),
     (Call::Write(2, b"d"), "Took(1)", "write 4"),
     (Call::SaidOf(2), "abd", "what was taken, in order"),
-    (Call::Next, "Ready(2)", "a write that is taken is no release"),
+    (
+        Call::Next,
+        "Ready(2)",
+        "a write that is taken is no release",
+    ),
     (Call::Release(2), "done", "2 is released"),
     (Call::Next, "Ended(2)", "the last event"),
     (Call::Next, "Stop", "the end"),
@@ -245,7 +249,11 @@ static HUNG_UP: [Row; 5] = [
     (Call::Next, "Opened(1)", "the second event"),
     (Call::Hold(2), "done", "2 is on hold"),
     (Call::HangUp(2), "done", "2 is hung up"),
-    (Call::Next, "Bytes(2, 3) 303132", "what is still to come of 2"),
+    (
+        Call::Next,
+        "Bytes(2, 3) 303132",
+        "what is still to come of 2",
+    ),
 ];
 
 #[test]

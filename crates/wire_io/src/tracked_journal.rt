@@ -9,7 +9,7 @@ ghost use Rattle.wire_io.specs.Rising.{rising};
 ghost use Rattle.wire_io.specs.Telling.{event_of};
 
 use crate::log::{Log, Note};
-use crate::peers::{Peer, add_peer, set_on_hold, set_hung_up, take};
+use crate::peers::{Peer, add_peer, set_hung_up, set_on_hold, take};
 use crate::rising::{in_order, number_at};
 use crate::{Event, Heard, Item};
 use plain_values::Text;
