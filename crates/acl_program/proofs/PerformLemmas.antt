@@ -5,12 +5,14 @@ use Rattle.command_words.specs.Command.{CommandView, Replay, Check, Dump}
 use Rattle.dir_tree.specs.Trees.{Numbered}
 use Rattle.schema_rules.specs.Checking.{entries_of}
 use Rattle.acl_program.specs.declared.status.Status.{Status}
-use Rattle.acl_program.specs.declared.loading.Trouble.{Trouble}
-use Rattle.acl_program.specs.declared.loading.Trouble.TheVariants as trouble
+use Rattle.command_files.specs.declared.loading.Trouble.{Trouble}
+use Rattle.command_files.specs.declared.loading.Trouble.TheVariants as trouble
 use Rattle.acl_program.specs.Outcomes.{Outcome, NoCommand, NoFile, BadDataLine, BadLine, Checked, Dumped, Replayed, OutOfMemory}
-use Rattle.acl_program.specs.Causes.{AsksData, IsUnread, Comes, data_of}
+use Rattle.command_files.specs.Accepting.{IsUnread}
+use Rattle.acl_program.specs.Causes.{AsksData, Comes, data_of}
 use Rattle.acl_program.specs.Playing.{Ends, ComesFor, ReplayComes, Replays, Performs}
-use Rattle.acl_program.specs.Troubles.{LoadsData, outcome_of}
+use Rattle.command_files.specs.Loading.{LoadsData}
+use Rattle.acl_program.specs.Troubles.{outcome_of}
 
 -- a file that wasn't read after a count stayed
 unread_later : (files : Option Files) (name : List ℕ) (before middle after : ℕ) → middle ≡ before → IsUnread files name middle after → IsUnread files name before after

@@ -17,13 +17,14 @@ use Rattle.schema_rules.specs.Checking.{entries_of}
 use Rattle.data_file.specs.Files.{AreOfTable}
 use Rattle.acl_program.specs.declared.status.Status.{Status}
 use Rattle.acl_program.specs.declared.status.Status.TheVariants.{Done, Usage, BadData, ShelfFault, SinkFault, LinkFault, TurnsSpent, NoMemory, BadScript}
-use Rattle.acl_program.specs.declared.loading.Trouble.{Trouble}
-use Rattle.acl_program.specs.declared.loading.Trouble.TheVariants as trouble
+use Rattle.command_files.specs.declared.loading.Trouble.{Trouble}
+use Rattle.command_files.specs.declared.loading.Trouble.TheVariants as trouble
 use Rattle.acl_program.specs.Outcomes.{Outcome, NoCommand, NoFile, BadLine, Replayed, OutOfMemory, dump_text, text_of, status_of}
 use Rattle.acl_program.specs.Causes.{IsNoCommand, Comes, IsDue}
 use Rattle.acl_program.specs.Running.{Prints, Puts, EndsAs, IsCause, EndsAtFaults}
 use Rattle.acl_program.specs.Playing.{IsSinkCount, Plays, Played, Shows, Ends, Replays, Performs, Runs, journal_text}
-use Rattle.acl_program.specs.Troubles.{Loads, LoadsData, outcome_of}
+use Rattle.command_files.specs.Loading.{LoadsScript, LoadsData}
+use Rattle.acl_program.specs.Troubles.{outcome_of}
 use Rattle.acl_program.proofs.EndsLemmas.{Ends-no_memory}
 use Rattle.acl_program.proofs.OutcomeLemmas.{usage_comes, cause_comes, faults_end}
 use Rattle.acl_program.proofs.DueLemmas.{due_comes}
@@ -68,10 +69,10 @@ unfolding Played
 Played-nothing events turns dumped old before = λ dump entries is. Ends-no_memory (Replayed events turns dump entries) old old before before 0 (appended-none old) refl
 
 -- a link that was loaded has done nothing yet
-pub Loads-fresh : (files : Option Files) (name : List ℕ) (before after : ℕ) (link : LinkState) → Loads files name before after (Ok link)
+pub LoadsScript-fresh : (files : Option Files) (name : List ℕ) (before after : ℕ) (link : LinkState) → LoadsScript files name before after (Ok link)
     → link ≡ fresh_link link.plan.to_come [] [] []
-unfolding Loads
-Loads-fresh files name before after link loads = loads.1
+unfolding LoadsScript
+LoadsScript-fresh files name before after link loads = loads.1
 
 -- the types of a tree that was loaded are in the table
 pub LoadsData-table : (files : Option Files) (name : List ℕ) (before after : ℕ) (rows : List Numbered) → LoadsData files name before after (Ok rows) → AreOfTable (entries_of rows)
@@ -81,16 +82,16 @@ LoadsData-table files name before after rows loads = loads.1
 module _ (script : List ℕ) (turns : ℕ) (dump : Bool) (entries : List EntryInformation) (files : Option Files) (before after : ℕ)
     (old : Option (List ℕ)) (sink_before : ℕ) (status : Status) (new : Option (List ℕ)) (sink_after : ℕ) where
   -- the script was read and replayed
-  pub Replays-played : (link : LinkState) (dumped : List ℕ) → Loads files script before after (Ok link) → dumped ≡ dump_text dump entries
+  pub Replays-played : (link : LinkState) (dumped : List ℕ) → LoadsScript files script before after (Ok link) → dumped ≡ dump_text dump entries
       → Played link.plan.to_come turns dumped old sink_before status new sink_after
       → Replays script turns dump entries files before after old sink_before status new sink_after
-  unfolding Replays Loads Played
+  unfolding Replays LoadsScript Played
   Replays-played link dumped loads is played = (Replayed link.plan.to_come turns dump entries, (refl, refl, refl, loads.0, loads.2), played dump entries (sym is))
 
   -- the script wasn't read
-  pub Replays-refused : (why : Trouble) → Loads files script before after (Err why) → Ends (outcome_of why) old sink_before status new sink_after
+  pub Replays-refused : (why : Trouble) → LoadsScript files script before after (Err why) → Ends (outcome_of why) old sink_before status new sink_after
       → Replays script turns dump entries files before after old sink_before status new sink_after
-  unfolding Replays Loads
+  unfolding Replays LoadsScript
   Replays-refused trouble.NoFile loads ends = (NoFile, loads, ends)
   Replays-refused (trouble.BadData line cause) loads ends = absurd loads
   Replays-refused (trouble.BadLine line) loads ends = (BadLine line, loads, ends)

@@ -20,7 +20,8 @@ use Rattle.acl_program.specs.declared.status.Status.{Status}
 use Rattle.acl_program.specs.declared.status.Status.TheVariants.{Done, Usage, BadData, ShelfFault, SinkFault, LinkFault, TurnsSpent, NoMemory, BadScript}
 use Rattle.acl_program.specs.Lines.{line_of, replay_text}
 use Rattle.acl_program.specs.Outcomes.{Outcome, NoCommand, NoFile, BadDataLine, BadLine, Checked, Dumped, Replayed, OutOfMemory, dump_text, text_of, status_of}
-use Rattle.acl_program.specs.Causes.{Comes, IsUnread, HoldsIn, IsBadScript, IsGoodScript}
+use Rattle.command_files.specs.Accepting.{IsUnread, HoldsIn, IsBadScript, IsGoodScript}
+use Rattle.acl_program.specs.Causes.{Comes}
 use Rattle.acl_program.specs.Running.{Puts}
 
 -- the lines that a journal tells, of these connections

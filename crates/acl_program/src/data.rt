@@ -7,9 +7,9 @@ ghost use Rattle.data_file.specs.Files.{AreOfTable};
 ghost use Rattle.acl_program.specs.Outcomes.{Checked, Dumped, status_of, text_of};
 ghost use Rattle.acl_program.specs.Playing.{Ends, Performs};
 
-use crate::loading::load_data;
 use crate::status::Status;
 use crate::troubles::print_trouble;
+use command_files::load_data;
 use data_file::put_tree;
 use dir_tree::Tree;
 use std::alloc::{AllocError, Global};

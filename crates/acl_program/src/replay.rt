@@ -8,10 +8,10 @@ ghost use Rattle.schema_rules.specs.Checking.{entries_of};
 ghost use Rattle.acl_program.specs.Outcomes.{dump_text};
 ghost use Rattle.acl_program.specs.Playing.{Performs, Plays, Shows, dumped_text, IsDumpable, Played, Replays};
 
-use crate::loading::{load_data, load_script};
 use crate::printing::print_replay;
 use crate::status::Status;
 use crate::troubles::print_trouble;
+use command_files::{load_data, load_script};
 use dir_tree::Tree;
 use session_hub::{Ended, serve_loop};
 use std::alloc::Global;

@@ -6,8 +6,8 @@ ghost use Rattle.acl_program.specs.Outcomes.{NoCommand, NoFile, BadDataLine, Bad
 ghost use Rattle.acl_program.specs.Playing.{Ends};
 ghost use Rattle.acl_program.specs.Troubles.{outcome_of};
 
-use crate::loading::Trouble;
 use crate::status::Status;
+use command_files::Trouble;
 use data_file::DataCause;
 use ldif_core::LineCause;
 use op_write::LoadCause;

@@ -1,9 +1,9 @@
-use Rattle.acl_program.proofs.RunLemmas.{Loads-fresh, Replays-played, Replays-refused}
+use Rattle.acl_program.proofs.RunLemmas.{LoadsScript-fresh, Replays-played, Replays-refused}
 use Rattle.acl_program.proofs.replay.replay_over.Goals as goal
 
 -- the link is fresh
 pub play-requires : goal.play-requires
-play-requires g c = record { fresh = Loads-fresh _ _ _ _ _ c.in-Ok.ensures.exact; table = c.dumped.ensures.table }
+play-requires g c = record { fresh = LoadsScript-fresh _ _ _ _ _ c.in-Ok.ensures.exact; table = c.dumped.ensures.table }
 
 -- the script was read
 pub returns-in-Ok-clause-replays : goal.returns-in-Ok-clause-replays
