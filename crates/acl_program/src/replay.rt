@@ -6,7 +6,8 @@ ghost use Rattle.command_words.specs.Command.{Replay};
 ghost use Rattle.wire_io.specs.Scripted.{fresh_link};
 ghost use Rattle.schema_rules.specs.Checking.{entries_of};
 ghost use Rattle.acl_program.specs.Outcomes.{dump_text};
-ghost use Rattle.acl_program.specs.Playing.{Performs, Plays, Shows, dumped_text, IsDumpable, Played, Replays};
+ghost use Rattle.acl_program.specs.Outside.{Linked, outside, written};
+ghost use Rattle.acl_program.specs.Playing.{Performs, Plays, Shows, dumped_text, IsDumpable, Played, Replays, replay_asked};
 
 use crate::printing::print_replay;
 use crate::status::Status;
@@ -34,9 +35,10 @@ pub(crate) fn replay<H: Shelf, K: Sink>(
     shelf: &mut H,
     out: &mut K,
 ) -> Status
-    ensures performs { Performs (Replay asked.now.data.now asked.now.script.now asked.now.turns asked.now.dump)
-        (H.files shelf.old) (H.faults shelf.old) (H.faults shelf.new)
-        (K.put out.old) (K.faults out.old) result (K.put out.new) (K.faults out.new) }
+    ensures performs { (link : Linked) →
+        Performs (Replay asked.now.data.now asked.now.script.now asked.now.turns asked.now.dump)
+        (outside (H.files shelf.old) (H.faults shelf.old) (K.put out.old) (K.faults out.old) link) result
+        (outside (H.files shelf.new) (H.faults shelf.new) (K.put out.new) (K.faults out.new) link) }
     ensures kept { H.files shelf.new ≡ H.files shelf.old }
 {
     match load_data(alloc, shelf, asked.data) {
@@ -54,9 +56,10 @@ fn replay_over<H: Shelf, K: Sink>(
     out: &mut K,
 ) -> Status
     requires table { IsDumpable (Some tree.now) }
-    ensures replays { Replays asked.now.script.now asked.now.turns asked.now.dump (entries_of tree.now)
-        (H.files shelf.old) (H.faults shelf.old) (H.faults shelf.new)
-        (K.put out.old) (K.faults out.old) result (K.put out.new) (K.faults out.new) }
+    ensures replays { (link : Linked) →
+        Replays (replay_asked asked.now.script.now asked.now.turns asked.now.dump (entries_of tree.now))
+        (outside (H.files shelf.old) (H.faults shelf.old) (K.put out.old) (K.faults out.old) link) result
+        (outside (H.files shelf.new) (H.faults shelf.new) (K.put out.new) (K.faults out.new) link) }
     ensures kept { H.files shelf.new ≡ H.files shelf.old }
 {
     match load_script(alloc, shelf, asked.script) {
@@ -85,7 +88,8 @@ fn play<K: Sink>(
     requires fresh { link ≡ fresh_link link.plan.to_come [] [] [] }
     requires table { IsDumpable (option_map (λ tree. tree.now) dumped) }
     ensures ends { Played link.plan.to_come turns (dumped_text (option_map (λ tree. tree.now) dumped.entry))
-        (K.put out.old) (K.faults out.old) result (K.put out.new) (K.faults out.new) }
+        (written (K.put out.old) (K.faults out.old)) result
+        (written (K.put out.new) (K.faults out.new)) }
 {
     let mut link = link;
     match serve(alloc, &mut link, turns) {
@@ -114,7 +118,8 @@ fn show<K: Sink>(
 ) -> Status
     requires table { IsDumpable (option_map (λ tree. tree.now) dumped) }
     ensures ends { Shows link.now.journal (dumped_text (option_map (λ tree. tree.now) dumped.entry)) status
-        (K.put out.old) (K.faults out.old) result (K.put out.new) (K.faults out.new) }
+        (written (K.put out.old) (K.faults out.old)) result
+        (written (K.put out.new) (K.faults out.new)) }
 {
     let put = print_replay(alloc, link, dumped, out);
     status.after(put)

@@ -1,3 +1,5 @@
+use Rattle.acl_program.specs.Outside.{outside}
+use Rattle.acl_program.specs.Playing.{replay_asked}
 use Rattle.acl_program.proofs.RunLemmas.{LoadsScript-fresh, Replays-played, Replays-refused}
 use Rattle.acl_program.proofs.replay.replay_over.Goals as goal
 
@@ -7,8 +9,8 @@ play-requires g c = record { fresh = LoadsScript-fresh _ _ _ _ _ c.in-Ok.ensures
 
 -- the script was read
 pub returns-in-Ok-clause-replays : goal.returns-in-Ok-clause-replays
-returns-in-Ok-clause-replays g c = Replays-played _ _ _ _ _ _ _ _ _ _ _ _ _ _ c.in-Ok.ensures.exact c.dumped.ensures.text c.play.ensures.ends
+returns-in-Ok-clause-replays g c = λ link. Replays-played (replay_asked _ _ _ _) (outside _ _ _ _ link) (outside _ _ _ _ link) _ _ _ c.in-Ok.ensures.exact c.dumped.ensures.text c.play.ensures.ends
 
 -- it wasn't
 pub returns-in-Err-clause-replays : goal.returns-in-Err-clause-replays
-returns-in-Err-clause-replays g c = Replays-refused _ _ _ _ _ _ _ _ _ _ _ _ _ c.in-Err.ensures.exact c.print_trouble.ensures.ends
+returns-in-Err-clause-replays g c = λ link. Replays-refused (replay_asked _ _ _ _) (outside _ _ _ _ link) (outside _ _ _ _ link) _ _ c.in-Err.ensures.exact c.print_trouble.ensures.ends
