@@ -21,6 +21,8 @@ mod shelves;
 #[cfg(test)]
 mod sinks;
 #[cfg(test)]
+mod sockets;
+#[cfg(test)]
 mod values;
 #[cfg(test)]
 mod words;
