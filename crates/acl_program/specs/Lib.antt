@@ -1,4 +1,5 @@
 -- what public clauses cite
+pub mod Outside
 pub mod Lines
 pub mod Outcomes
 pub mod Causes
