@@ -11,7 +11,8 @@ use Rattle.acl_program.specs.Outcomes.{Outcome, NoCommand, NoFile, BadDataLine, 
 use Rattle.command_files.specs.Accepting.{IsUnread}
 use Rattle.acl_program.specs.Causes.{AsksData, Comes, data_of}
 use Rattle.acl_program.specs.Outside.{Outside}
-use Rattle.acl_program.specs.Playing.{Ends, ComesFor, ReplayAsked, ReplayComes, Replays, Performs}
+use Rattle.acl_program.specs.Playing.{Ends, ComesFor, Performs}
+use Rattle.acl_program.specs.Asked.{ReplayAsked, ReplayComes, Replays}
 use Rattle.command_files.specs.Loading.{LoadsData}
 use Rattle.acl_program.specs.Troubles.{outcome_of}
 

@@ -24,7 +24,8 @@ use Rattle.acl_program.specs.Lines.{entries_after}
 use Rattle.acl_program.specs.Causes.{IsNoCommand, Comes, IsDue}
 use Rattle.acl_program.specs.Running.{Prints, Puts, EndsAs, IsCause, EndsAtFaults}
 use Rattle.acl_program.specs.Outside.{Written, Outside}
-use Rattle.acl_program.specs.Playing.{IsSinkCount, Plays, Shows, Ends, ReplayAsked, Replays, Performs, Runs, journal_text}
+use Rattle.acl_program.specs.Playing.{IsSinkCount, Plays, Shows, Ends, Performs, Runs, journal_text}
+use Rattle.acl_program.specs.Asked.{ReplayAsked, Replays}
 use Rattle.command_files.specs.Loading.{LoadsScript, LoadsData}
 use Rattle.acl_program.specs.Troubles.{outcome_of}
 use Rattle.acl_program.proofs.EndsLemmas.{Ends-no_memory}

@@ -7,3 +7,4 @@ pub mod Running
 -- for the inside of the crate alone
 pub mod Troubles
 pub mod Playing
+pub mod Asked

@@ -1,5 +1,5 @@
 -- What the parts of a replay promise each other: a script read from a shelf, and what its loop leaves in the journal.
-use Rattle.std.specs.Prelude.{◌≡◌, ◌<◌, ◌≤◌, ◌++◌, ℕ, Bool, List, [], length, flat_map, Option, Some, None}
+use Rattle.std.specs.Prelude.{◌≡◌, ◌<◌, ◌≤◌, ◌++◌, ℕ, List, [], length, flat_map, Option, Some, None}
 use Rattle.plain_values.specs.Counts.{Rose}
 use Rattle.script_text.specs.declared.event.ScriptEvent.{ScriptEvent}
 use Rattle.wire_io.specs.declared.journal.Item.{Item}
@@ -12,15 +12,13 @@ use Rattle.session_hub.specs.declared.ended.Ended.TheVariants as ended
 use Rattle.session_hub.specs.Loops.{buffer_length}
 use Rattle.command_words.specs.Command.{CommandView, IsCommand}
 use Rattle.dir_tree.specs.Entries.{EntryInformation}
-use Rattle.dir_tree.specs.Numbered.{Numbered}
+use Rattle.dir_tree.specs.Numbered.{Numbered, entries_of}
 use Rattle.ldif_core.specs.WrittenFile.{written_file}
-use Rattle.dir_tree.specs.Numbered.{entries_of}
 use Rattle.schema_rules.specs.Rules.{IsGoodTree}
 use Rattle.acl_program.specs.declared.status.Status.{Status}
 use Rattle.acl_program.specs.declared.status.Status.TheVariants.{Done, Usage, BadData, ShelfFault, SinkFault, LinkFault, TurnsSpent, NoMemory, BadScript}
 use Rattle.acl_program.specs.Lines.{line_of, replay_text, entries_after}
-use Rattle.acl_program.specs.Outcomes.{Outcome, NoCommand, NoFile, BadDataLine, BadLine, Checked, Dumped, Replayed, OutOfMemory, text_of, status_of}
-use Rattle.command_files.specs.Accepting.{IsUnread, HoldsIn, IsBadScript, IsGoodScript}
+use Rattle.acl_program.specs.Outcomes.{Outcome, text_of, status_of}
 use Rattle.acl_program.specs.Causes.{Comes}
 use Rattle.acl_program.specs.Outside.{Written, Outside}
 use Rattle.acl_program.specs.Running.{Puts}
@@ -69,34 +67,6 @@ IsSinkCount before after BadScript = after ≡ before
 pub record Ends (outcome : Outcome) (before : Written) (status : Status) (after : Written) : Type 0 where
   pub puts : Puts outcome before.put status after.put
   pub cause : IsSinkCount before.faults after.faults status
-
--- a replay as it is asked for, over the entries of its data file
-pub record ReplayAsked : Type 0 where
-  pub script : List ℕ
-  pub turns : ℕ
-  pub dump : Bool
-  pub entries : List EntryInformation
-
--- a replay, by what is asked for and the entries
-abbrev pub replay_asked : List ℕ → ℕ → Bool → List EntryInformation → ReplayAsked
-replay_asked script turns dump entries = record { script = script; turns = turns; dump = dump; entries = entries }
-
--- a replay came to an outcome: its data file aside
-abbrev pub ReplayComes : ReplayAsked → Option Files → ℕ → ℕ → Outcome → Type 0
-ReplayComes asked files before after NoCommand = ⊥
-ReplayComes asked files before after NoFile = IsUnread files asked.script before after
-ReplayComes asked files before after (BadDataLine line cause) = ⊥
-ReplayComes asked files before after (BadLine line) = HoldsIn files asked.script (IsBadScript line) × (after ≡ before)
-ReplayComes asked files before after (Checked found) = ⊥
-ReplayComes asked files before after (Dumped found) = ⊥
-ReplayComes asked files before after (Replayed events turns dumped found) =
-    (turns ≡ asked.turns) × (dumped ≡ asked.dump) × (found ≡ asked.entries) × HoldsIn files asked.script (IsGoodScript events) × (after ≡ before)
-ReplayComes asked files before after OutOfMemory = after ≡ before
-
--- a replay came to some outcome, whose text was put
-unfoldable pub Replays : ReplayAsked → Outside → Status → Outside → Type 0
-Replays asked before status after =
-    (outcome : Outcome) × ReplayComes asked before.shelf.files before.shelf.faults after.shelf.faults outcome × Ends outcome before.out status after.out
 
 -- the outcome comes with every words that ask for the command
 abbrev pub ComesFor : CommandView → Option Files → ℕ → ℕ → Outcome → Type 0

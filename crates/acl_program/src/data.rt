@@ -2,8 +2,8 @@
 
 ghost use Rattle.std.specs.Prelude.{◌≡◌, IfOk, string_bytes};
 ghost use Rattle.command_words.specs.Command.{Check, Dump};
-ghost use Rattle.dir_tree.specs.Numbered.{entries_of};
 ghost use Rattle.dir_tree.specs.Points.{access_subentries};
+ghost use Rattle.dir_tree.specs.Numbered.{entries_of};
 ghost use Rattle.schema_rules.specs.Rules.{IsGoodTree};
 ghost use Rattle.acl_program.specs.Outcomes.{Checked, Dumped, status_of, text_of};
 ghost use Rattle.acl_program.specs.Outside.{Linked, outside, written};
@@ -53,13 +53,13 @@ fn counts(alloc: Global, tree: &Tree) -> Result<String, AllocError>
     ensures { IfOk result (λ text. string_bytes text ≡ text_of (Checked (entries_of tree.now))) }
 {
     let entries = tree.len();
-    let subentries = subentry_count(tree);
+    let subentries = count_subentries(tree);
     format!(in alloc; "ok {entries} {subentries}\n")
 }
 
-/// How many access control subentries the tree has.
-fn subentry_count(tree: &Tree) -> usize
-    ensures { result ≡ access_subentries (entries_of tree.now) }
+// How many access control subentries the tree has.
+fn count_subentries(tree: &Tree) -> usize
+    ensures exact { result ≡ access_subentries (entries_of tree.now) }
 {
     tree.access_subentries().len()
 }

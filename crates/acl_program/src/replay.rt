@@ -8,7 +8,8 @@ ghost use Rattle.dir_tree.specs.Numbered.{entries_of};
 ghost use Rattle.schema_rules.specs.Rules.{IsGoodTree};
 ghost use Rattle.acl_program.specs.Outcomes.{Replayed, dump_text};
 ghost use Rattle.acl_program.specs.Outside.{Linked, outside, written};
-ghost use Rattle.acl_program.specs.Playing.{Performs, Plays, Shows, Ends, dumped_text, IsDumpable, Replays, replay_asked};
+ghost use Rattle.acl_program.specs.Asked.{Replays, replay_asked};
+ghost use Rattle.acl_program.specs.Playing.{Performs, Plays, Shows, Ends, dumped_text, IsDumpable};
 
 use crate::printing::print_replay;
 use crate::status::Status;

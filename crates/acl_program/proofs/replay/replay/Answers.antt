@@ -1,7 +1,7 @@
 use Rattle.command_words.specs.Command.{Replay}
 use Rattle.std.proofs.Common.{refl}
 use Rattle.acl_program.specs.Outside.{outside}
-use Rattle.acl_program.specs.Playing.{replay_asked}
+use Rattle.acl_program.specs.Asked.{replay_asked}
 use Rattle.acl_program.proofs.RunLemmas.{LoadsData-good}
 use Rattle.acl_program.proofs.PerformLemmas.{Performs-replayed, Performs-refused}
 use Rattle.acl_program.proofs.replay.replay.Goals as goal

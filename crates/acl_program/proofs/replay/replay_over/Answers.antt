@@ -2,7 +2,7 @@ use Rattle.std.proofs.Common.{sym, ap, subst}
 use Rattle.acdf_core.specs.Entries.{entries_of}
 use Rattle.schema_rules.specs.Rules.{IsGoodTree}
 use Rattle.acl_program.specs.Outside.{outside}
-use Rattle.acl_program.specs.Playing.{replay_asked}
+use Rattle.acl_program.specs.Asked.{replay_asked}
 use Rattle.acl_program.proofs.RunLemmas.{LoadsScript-fresh, Replays-played, Replays-refused}
 use Rattle.acl_program.proofs.replay.replay_over.Goals as goal
 
