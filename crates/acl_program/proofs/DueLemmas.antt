@@ -10,7 +10,8 @@ use Rattle.command_words.proofs.Theorems.{IsCommand-unique}
 use Rattle.dir_tree.specs.Entries.{EntryInformation}
 use Rattle.op_write.specs.DataFile.{FileCause}
 use Rattle.acl_program.specs.Outcomes.{Outcome, NoCommand, NoFile, BadDataLine, BadLine, Checked, Dumped, Replayed, OutOfMemory}
-use Rattle.acl_program.specs.Causes.{IsNoCommand, AsksData, data_of, IsUnread, IsGoodData, IsBadData, IsGoodScript, IsBadScript, HoldsOf, HoldsIn, IsTold, LacksData, RefusesData, AsksReplay, AsksAlone, Comes, IsDue}
+use Rattle.command_files.specs.Accepting.{IsUnread, IsGoodData, IsBadData, IsGoodScript, IsBadScript, HoldsOf, HoldsIn, IsTold}
+use Rattle.acl_program.specs.Causes.{IsNoCommand, AsksData, data_of, LacksData, RefusesData, AsksReplay, AsksAlone, Comes, IsDue}
 
 -- a file that is known isn't lacking
 known_there : (files : Option Files) (name : List ℕ) (P : List ℕ → Type 0) → IsTold files name P → Lacks files name → ⊥

@@ -1,6 +1,5 @@
 mod Examples
 mod EndsLemmas
-mod LoadLemmas
 mod PrintLemmas
 mod JournalLemmas
 mod PlayLemmas

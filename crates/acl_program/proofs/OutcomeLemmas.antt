@@ -8,6 +8,7 @@ use Rattle.dir_tree.specs.Entries.{EntryInformation}
 use Rattle.op_write.specs.DataFile.{FileCause}
 use Rattle.acl_program.specs.declared.status.Status.{Status}
 use Rattle.acl_program.specs.declared.status.Status.TheVariants.{Done, Usage, BadData, ShelfFault, SinkFault, LinkFault, TurnsSpent, NoMemory, BadScript}
+use Rattle.acl_program.specs.Outside.{Shelved, Outside}
 use Rattle.acl_program.specs.Outcomes.{Outcome, NoCommand, NoFile, BadDataLine, BadLine, Checked, Dumped, Replayed, OutOfMemory, status_of}
 use Rattle.acl_program.specs.Causes.{IsNoCommand, LacksData, LacksScript, RefusesData, RefusesScript, Comes}
 use Rattle.acl_program.specs.Running.{Puts, IsCause, EndsAtFaults}
@@ -91,18 +92,18 @@ no_link_fault (Replayed events turns dump entries) is = not_replayed LinkFault e
 no_link_fault OutOfMemory is = cc
 
 -- the cause of each status
-pub cause_comes : (words : List (List ℕ)) (files : Option Files) (before after : ℕ) (outcome : Outcome) (old : Option (List ℕ)) (status : Status) (new : Option (List ℕ))
-    → Puts outcome old status new → Comes words files before after outcome → IsCause words files before after status
+pub cause_comes : (words : List (List ℕ)) (before after : Shelved) (outcome : Outcome) (old : Option (List ℕ)) (status : Status) (new : Option (List ℕ))
+    → Puts outcome old status new → Comes words before.files before.faults after.faults outcome → IsCause words before after status
 unfolding IsCause
-cause_comes words files before after outcome old Done new puts comes = tt
-cause_comes words files before after outcome old Usage new puts comes = tt
-cause_comes words files before after outcome old BadData new puts comes = data_cause words files before after outcome puts.0 comes
-cause_comes words files before after outcome old ShelfFault new puts comes = shelf_cause words files before after outcome puts.0 comes
-cause_comes words files before after outcome old SinkFault new puts comes = tt
-cause_comes words files before after outcome old LinkFault new puts comes = no_link_fault outcome puts.0
-cause_comes words files before after outcome old TurnsSpent new puts comes = tt
-cause_comes words files before after outcome old NoMemory new puts comes = tt
-cause_comes words files before after outcome old BadScript new puts comes = script_cause words files before after outcome puts.0 comes
+cause_comes words before after outcome old Done new puts comes = tt
+cause_comes words before after outcome old Usage new puts comes = tt
+cause_comes words before after outcome old BadData new puts comes = data_cause words before.files before.faults after.faults outcome puts.0 comes
+cause_comes words before after outcome old ShelfFault new puts comes = shelf_cause words before.files before.faults after.faults outcome puts.0 comes
+cause_comes words before after outcome old SinkFault new puts comes = tt
+cause_comes words before after outcome old LinkFault new puts comes = no_link_fault outcome puts.0
+cause_comes words before after outcome old TurnsSpent new puts comes = tt
+cause_comes words before after outcome old NoMemory new puts comes = tt
+cause_comes words before after outcome old BadScript new puts comes = script_cause words before.files before.faults after.faults outcome puts.0 comes
 
 -- the shelf's count is as it was where its fault isn't answered
 pub count_stays : (words : List (List ℕ)) (files : Option Files) (before after : ℕ) (outcome : Outcome) (status : Status)
@@ -118,15 +119,15 @@ count_stays words files before after (Replayed events turns dump entries) status
 count_stays words files before after OutOfMemory status is other comes = comes
 
 -- what the two counts say of each status
-pub faults_end : (words : List (List ℕ)) (files : Option Files) (before after : ℕ) (outcome : Outcome) (old : Option (List ℕ)) (sink_before : ℕ) (status : Status) (new : Option (List ℕ)) (sink_after : ℕ)
-    → Comes words files before after outcome → Ends outcome old sink_before status new sink_after → EndsAtFaults before after sink_before sink_after status
+pub faults_end : (words : List (List ℕ)) (before after : Outside) (outcome : Outcome) (status : Status)
+    → Comes words before.shelf.files before.shelf.faults after.shelf.faults outcome → Ends outcome before.out status after.out → EndsAtFaults before after status
 unfolding EndsAtFaults
-faults_end words files before after outcome old sink_before Done new sink_after comes ends = (count_stays words files before after outcome Done ends.puts.0 (λ e. cc) comes, ends.cause)
-faults_end words files before after outcome old sink_before Usage new sink_after comes ends = (count_stays words files before after outcome Usage ends.puts.0 (λ e. cc) comes, ends.cause)
-faults_end words files before after outcome old sink_before BadData new sink_after comes ends = (count_stays words files before after outcome BadData ends.puts.0 (λ e. cc) comes, ends.cause)
-faults_end words files before after outcome old sink_before ShelfFault new sink_after comes ends = ends.cause
-faults_end words files before after outcome old sink_before SinkFault new sink_after comes ends = ends.cause
-faults_end words files before after outcome old sink_before LinkFault new sink_after comes ends = (count_stays words files before after outcome LinkFault ends.puts.0 (λ e. cc) comes, ends.cause)
-faults_end words files before after outcome old sink_before TurnsSpent new sink_after comes ends = (count_stays words files before after outcome TurnsSpent ends.puts.0 (λ e. cc) comes, ends.cause)
-faults_end words files before after outcome old sink_before NoMemory new sink_after comes ends = ends.cause
-faults_end words files before after outcome old sink_before BadScript new sink_after comes ends = (count_stays words files before after outcome BadScript ends.puts.0 (λ e. cc) comes, ends.cause)
+faults_end words before after outcome Done comes ends = (count_stays words before.shelf.files before.shelf.faults after.shelf.faults outcome Done ends.puts.0 (λ e. cc) comes, ends.cause)
+faults_end words before after outcome Usage comes ends = (count_stays words before.shelf.files before.shelf.faults after.shelf.faults outcome Usage ends.puts.0 (λ e. cc) comes, ends.cause)
+faults_end words before after outcome BadData comes ends = (count_stays words before.shelf.files before.shelf.faults after.shelf.faults outcome BadData ends.puts.0 (λ e. cc) comes, ends.cause)
+faults_end words before after outcome ShelfFault comes ends = ends.cause
+faults_end words before after outcome SinkFault comes ends = ends.cause
+faults_end words before after outcome LinkFault comes ends = (count_stays words before.shelf.files before.shelf.faults after.shelf.faults outcome LinkFault ends.puts.0 (λ e. cc) comes, ends.cause)
+faults_end words before after outcome TurnsSpent comes ends = (count_stays words before.shelf.files before.shelf.faults after.shelf.faults outcome TurnsSpent ends.puts.0 (λ e. cc) comes, ends.cause)
+faults_end words before after outcome NoMemory comes ends = ends.cause
+faults_end words before after outcome BadScript comes ends = (count_stays words before.shelf.files before.shelf.faults after.shelf.faults outcome BadScript ends.puts.0 (λ e. cc) comes, ends.cause)

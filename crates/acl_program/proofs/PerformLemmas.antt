@@ -1,16 +1,20 @@
 -- What the parts of a command say together of how it ended.
-use Rattle.std.proofs.Common.{◌≡◌, ℕ, Bool, List, Option, Ok, Err, refl, subst, ◌∙◌, inl, inr}
+use Rattle.std.proofs.Common.{◌≡◌, ℕ, List, Option, Ok, Err, refl, subst, ◌∙◌, inl, inr}
 use Rattle.wire_io.specs.Files.{Files}
 use Rattle.command_words.specs.Command.{CommandView, Replay, Check, Dump}
 use Rattle.dir_tree.specs.Numbered.{Numbered}
 use Rattle.dir_tree.specs.Numbered.{entries_of}
 use Rattle.acl_program.specs.declared.status.Status.{Status}
-use Rattle.acl_program.specs.declared.loading.Trouble.{Trouble}
-use Rattle.acl_program.specs.declared.loading.Trouble.TheVariants as trouble
+use Rattle.command_files.specs.declared.loading.Trouble.{Trouble}
+use Rattle.command_files.specs.declared.loading.Trouble.TheVariants as trouble
 use Rattle.acl_program.specs.Outcomes.{Outcome, NoCommand, NoFile, BadDataLine, BadLine, Checked, Dumped, Replayed, OutOfMemory}
-use Rattle.acl_program.specs.Causes.{AsksData, IsUnread, Comes, data_of}
-use Rattle.acl_program.specs.Playing.{Ends, ComesFor, ReplayComes, Replays, Performs}
-use Rattle.acl_program.specs.Troubles.{LoadsData, outcome_of}
+use Rattle.command_files.specs.Accepting.{IsUnread}
+use Rattle.acl_program.specs.Causes.{AsksData, Comes, data_of}
+use Rattle.acl_program.specs.Outside.{Outside}
+use Rattle.acl_program.specs.Playing.{Ends, ComesFor, Performs}
+use Rattle.acl_program.specs.Asked.{ReplayAsked, ReplayComes, Replays}
+use Rattle.command_files.specs.Loading.{LoadsData}
+use Rattle.acl_program.specs.Troubles.{outcome_of}
 
 -- a file that wasn't read after a count stayed
 unread_later : (files : Option Files) (name : List ℕ) (before middle after : ℕ) → middle ≡ before → IsUnread files name middle after → IsUnread files name before after
@@ -29,83 +33,84 @@ data_refused asked files before after (trouble.BadLine line) loads = absurd load
 data_refused asked files before after trouble.NoMemory loads = λ words is. loads
 
 pub Performs-refused :
-    (asked : CommandView) (files : Option Files) (before after : ℕ) (old : Option (List ℕ)) (sink_before : ℕ) (status : Status) (new : Option (List ℕ)) (sink_after : ℕ) (why : Trouble)
-    → LoadsData files (data_of asked) before after (Err why) → Ends (outcome_of why) old sink_before status new sink_after
-    → Performs asked files before after old sink_before status new sink_after
+    (asked : CommandView) (before after : Outside) (status : Status) (why : Trouble)
+    → LoadsData before.shelf.files (data_of asked) before.shelf.faults after.shelf.faults (Err why) → Ends (outcome_of why) before.out status after.out
+    → after.link ≡ before.link → Performs asked before status after
 unfolding Performs
-Performs-refused asked files before after old sink_before status new sink_after why loads ends =
-    (outcome_of why, data_refused asked files before after why loads, ends)
+Performs-refused asked before after status why loads ends stays =
+    (outcome_of why, data_refused asked before.shelf.files before.shelf.faults after.shelf.faults why loads, ends, stays)
 
 -- a data file that was checked, or put again
 pub Performs-checked :
-    (name : List ℕ) (files : Option Files) (before after : ℕ) (old : Option (List ℕ)) (sink_before : ℕ) (status : Status) (new : Option (List ℕ)) (sink_after : ℕ) (rows : List Numbered)
-    → LoadsData files name before after (Ok rows) → Ends (Checked (entries_of rows)) old sink_before status new sink_after
-    → Performs (Check name) files before after old sink_before status new sink_after
+    (name : List ℕ) (before after : Outside) (status : Status) (rows : List Numbered)
+    → LoadsData before.shelf.files name before.shelf.faults after.shelf.faults (Ok rows) → Ends (Checked (entries_of rows)) before.out status after.out
+    → after.link ≡ before.link → Performs (Check name) before status after
 unfolding Performs LoadsData Comes
-Performs-checked name files before after old sink_before status new sink_after rows loads ends =
-    (Checked (entries_of rows), (λ words is. (record { data_file = name; asked = is; good = loads.0 }, loads.2)), ends)
+Performs-checked name before after status rows loads ends stays =
+    (Checked (entries_of rows), (λ words is. (record { data_file = name; asked = is; good = loads.0 }, loads.2)), ends, stays)
 
 pub Performs-dumped :
-    (name : List ℕ) (files : Option Files) (before after : ℕ) (old : Option (List ℕ)) (sink_before : ℕ) (status : Status) (new : Option (List ℕ)) (sink_after : ℕ) (rows : List Numbered)
-    → LoadsData files name before after (Ok rows) → Ends (Dumped (entries_of rows)) old sink_before status new sink_after
-    → Performs (Dump name) files before after old sink_before status new sink_after
+    (name : List ℕ) (before after : Outside) (status : Status) (rows : List Numbered)
+    → LoadsData before.shelf.files name before.shelf.faults after.shelf.faults (Ok rows) → Ends (Dumped (entries_of rows)) before.out status after.out
+    → after.link ≡ before.link → Performs (Dump name) before status after
 unfolding Performs LoadsData Comes
-Performs-dumped name files before after old sink_before status new sink_after rows loads ends =
-    (Dumped (entries_of rows), (λ words is. (record { data_file = name; asked = is; good = loads.0 }, loads.2)), ends)
+Performs-dumped name before after status rows loads ends stays =
+    (Dumped (entries_of rows), (λ words is. (record { data_file = name; asked = is; good = loads.0 }, loads.2)), ends, stays)
 
 -- an outcome of a replay over a data file is one of the command
 replay_comes :
-    (name script : List ℕ) (turns : ℕ) (dump : Bool) (rows : List Numbered) (files : Option Files) (before middle after : ℕ) (outcome : Outcome)
-    → LoadsData files name before middle (Ok rows) → ReplayComes script turns dump (entries_of rows) files middle after outcome
-    → ComesFor (Replay name script turns dump) files before after outcome
+    (name : List ℕ) (asked : ReplayAsked) (rows : List Numbered) (files : Option Files) (before middle after : ℕ) (outcome : Outcome)
+    → asked.entries ≡ entries_of rows → LoadsData files name before middle (Ok rows) → ReplayComes asked files middle after outcome
+    → ComesFor (Replay name asked.script asked.turns asked.dump) files before after outcome
 unfolding LoadsData Comes
-replay_comes name script turns dump rows files before middle after NoCommand loads comes = absurd comes
-replay_comes name script turns dump rows files before middle after NoFile loads comes =
+replay_comes name asked rows files before middle after NoCommand over loads comes = absurd comes
+replay_comes name asked rows files before middle after NoFile over loads comes =
     λ words is. inr (record {
-      script = script;
-      turns = turns;
-      dump = dump;
+      script = asked.script;
+      turns = asked.turns;
+      dump = asked.dump;
       entries = entries_of rows;
       asked = record { data_file = name; asked = is; good = loads.0 };
-      unread = unread_later files script before middle after loads.2 comes;
+      unread = unread_later files asked.script before middle after loads.2 comes;
     })
-replay_comes name script turns dump rows files before middle after (BadDataLine line cause) loads comes = absurd comes
-replay_comes name script turns dump rows files before middle after (BadLine line) loads comes =
+replay_comes name asked rows files before middle after (BadDataLine line cause) over loads comes = absurd comes
+replay_comes name asked rows files before middle after (BadLine line) over loads comes =
     λ words is. (
       record {
-        script = script;
-        turns = turns;
-        dump = dump;
+        script = asked.script;
+        turns = asked.turns;
+        dump = asked.dump;
         entries = entries_of rows;
         asked = record { data_file = name; asked = is; good = loads.0 };
         bad = comes.0;
       },
       comes.1 ∙ loads.2,
     )
-replay_comes name script turns dump rows files before middle after (Checked found) loads comes = absurd comes
-replay_comes name script turns dump rows files before middle after (Dumped found) loads comes = absurd comes
-replay_comes name script turns dump rows files before middle after (Replayed events asked dumped found) loads comes =
+replay_comes name asked rows files before middle after (Checked found) over loads comes = absurd comes
+replay_comes name asked rows files before middle after (Dumped found) over loads comes = absurd comes
+replay_comes name asked rows files before middle after (Replayed events turns dumped found) over loads comes =
     λ words is. (
       record {
-        script = script;
+        script = asked.script;
         asked = record {
           data_file = name;
           asked = rw (comes.0, comes.1) is;
-          good = rw (comes.2) loads.0;
+          good = rw (comes.2 ∙ over) loads.0;
         };
         good = comes.3;
       },
       comes.4 ∙ loads.2,
     )
-replay_comes name script turns dump rows files before middle after OutOfMemory loads comes = λ words is. comes ∙ loads.2
+replay_comes name asked rows files before middle after OutOfMemory over loads comes = λ words is. comes ∙ loads.2
 
+-- a replay after its data file was loaded, from the shelf as it then was
 pub Performs-replayed :
-    (name script : List ℕ) (turns : ℕ) (dump : Bool) (files kept : Option Files) (before middle after : ℕ)
-    (old : Option (List ℕ)) (sink_before : ℕ) (status : Status) (new : Option (List ℕ)) (sink_after : ℕ) (rows : List Numbered)
-    → LoadsData files name before middle (Ok rows) → kept ≡ files → Replays script turns dump (entries_of rows) kept middle after old sink_before status new sink_after
-    → Performs (Replay name script turns dump) files before after old sink_before status new sink_after
+    (name : List ℕ) (asked : ReplayAsked) (before after : Outside) (kept : Option Files) (middle : ℕ) (status : Status) (rows : List Numbered)
+    → asked.entries ≡ entries_of rows → LoadsData before.shelf.files name before.shelf.faults middle (Ok rows) → kept ≡ before.shelf.files
+    → Replays asked (record { shelf = record { files = kept; faults = middle }; out = before.out; link = before.link }) status after
+    → after.link ≡ before.link → Performs (Replay name asked.script asked.turns asked.dump) before status after
 unfolding Performs Replays
-Performs-replayed name script turns dump files kept before middle after old sink_before status new sink_after rows loads stays replays =
-    let comes : ReplayComes script turns dump (entries_of rows) files middle after replays.0 =
-    subst (λ shown. ReplayComes script turns dump (entries_of rows) shown middle after replays.0) stays replays.1 in
-    (replays.0, replay_comes name script turns dump rows files before middle after replays.0 loads comes, replays.2)
+Performs-replayed name asked before after kept middle status rows over loads stays replays same =
+    let comes : ReplayComes asked before.shelf.files middle after.shelf.faults replays.0 =
+    subst (λ shown. ReplayComes asked shown middle after.shelf.faults replays.0) stays replays.1 in
+    (replays.0, replay_comes name asked rows before.shelf.files before.shelf.faults middle after.shelf.faults replays.0 over loads comes, replays.2, same)

@@ -17,14 +17,17 @@ use Rattle.dir_tree.specs.Numbered.{entries_of}
 use Rattle.schema_rules.specs.Rules.{IsGoodTree}
 use Rattle.acl_program.specs.declared.status.Status.{Status}
 use Rattle.acl_program.specs.declared.status.Status.TheVariants.{Done, Usage, BadData, ShelfFault, SinkFault, LinkFault, TurnsSpent, NoMemory, BadScript}
-use Rattle.acl_program.specs.declared.loading.Trouble.{Trouble}
-use Rattle.acl_program.specs.declared.loading.Trouble.TheVariants as trouble
+use Rattle.command_files.specs.declared.loading.Trouble.{Trouble}
+use Rattle.command_files.specs.declared.loading.Trouble.TheVariants as trouble
 use Rattle.acl_program.specs.Outcomes.{Outcome, NoCommand, NoFile, BadLine, Replayed, OutOfMemory, dump_text, text_of, status_of}
 use Rattle.acl_program.specs.Lines.{entries_after}
 use Rattle.acl_program.specs.Causes.{IsNoCommand, Comes, IsDue}
 use Rattle.acl_program.specs.Running.{Prints, Puts, EndsAs, IsCause, EndsAtFaults}
-use Rattle.acl_program.specs.Playing.{IsSinkCount, Plays, Shows, Ends, Replays, Performs, Runs, journal_text}
-use Rattle.acl_program.specs.Troubles.{Loads, LoadsData, outcome_of}
+use Rattle.acl_program.specs.Outside.{Written, Outside}
+use Rattle.acl_program.specs.Playing.{IsSinkCount, Plays, Shows, Ends, Performs, Runs, journal_text}
+use Rattle.acl_program.specs.Asked.{ReplayAsked, Replays}
+use Rattle.command_files.specs.Loading.{LoadsScript, LoadsData}
+use Rattle.acl_program.specs.Troubles.{outcome_of}
 use Rattle.acl_program.proofs.EndsLemmas.{Ends-no_memory}
 use Rattle.acl_program.proofs.OutcomeLemmas.{usage_comes, cause_comes, faults_end}
 use Rattle.acl_program.proofs.DueLemmas.{due_comes}
@@ -42,19 +45,19 @@ status_of-spent events turns dump entries long = grind (arith, nat_tests)
 
 -- Stop was heard, and the lines and the tree were to be put
 pub Played-stopped :
-    (entries left : List EntryInformation) (events : List ScriptEvent) (turns : ℕ) (dump : Bool) (journal : List Item) (dumped : List ℕ) (old : Option (List ℕ)) (before : ℕ) (status : Status) (new : Option (List ℕ)) (after : ℕ)
-    → Plays entries left events turns ended.Stopped journal → dumped ≡ dump_text dump left → Shows journal dumped Done old before status new after → Ends (Replayed events turns dump entries) old before status new after
+    (entries left : List EntryInformation) (events : List ScriptEvent) (turns : ℕ) (dump : Bool) (journal : List Item) (dumped : List ℕ) (before after : Written) (status : Status)
+    → Plays entries left events turns ended.Stopped journal → dumped ≡ dump_text dump left → Shows journal dumped Done before status after → Ends (Replayed events turns dump entries) before status after
 unfolding Plays Shows text_of
-Played-stopped entries left events turns dump journal dumped old before status new after plays is shows =
+Played-stopped entries left events turns dump journal dumped before after status plays is shows =
     shows (Replayed events turns dump entries)
     (ap (λ text. text ++ dump_text dump (entries_after entries events turns)) (sym plays.0) ∙ ap (λ text. journal_text journal ++ text) (ap (dump_text dump) (sym plays.1) ∙ sym is)) (status_of-done events turns dump entries plays.2)
 
 -- the turns were spent, and they were to be put
 pub Played-spent :
-    (entries left : List EntryInformation) (events : List ScriptEvent) (turns : ℕ) (dump : Bool) (journal : List Item) (dumped : List ℕ) (old : Option (List ℕ)) (before : ℕ) (status : Status) (new : Option (List ℕ)) (after : ℕ)
-    → Plays entries left events turns ended.TurnsSpent journal → dumped ≡ dump_text dump left → Shows journal dumped TurnsSpent old before status new after → Ends (Replayed events turns dump entries) old before status new after
+    (entries left : List EntryInformation) (events : List ScriptEvent) (turns : ℕ) (dump : Bool) (journal : List Item) (dumped : List ℕ) (before after : Written) (status : Status)
+    → Plays entries left events turns ended.TurnsSpent journal → dumped ≡ dump_text dump left → Shows journal dumped TurnsSpent before status after → Ends (Replayed events turns dump entries) before status after
 unfolding Plays Shows text_of
-Played-spent entries left events turns dump journal dumped old before status new after plays is shows =
+Played-spent entries left events turns dump journal dumped before after status plays is shows =
     shows (Replayed events turns dump entries)
     (ap (λ text. text ++ dump_text dump (entries_after entries events turns)) (sym plays.0) ∙ ap (λ text. journal_text journal ++ text) (ap (dump_text dump) (sym plays.1) ∙ sym is)) (status_of-spent events turns dump entries plays.2)
 
@@ -64,34 +67,32 @@ unfolding Plays
 no_fault entries left events turns journal plays = plays
 
 -- nothing was put for want of memory
-pub Played-nothing : (entries : List EntryInformation) (events : List ScriptEvent) (turns : ℕ) (dump : Bool) (old : Option (List ℕ)) (before : ℕ) → Ends (Replayed events turns dump entries) old before NoMemory old before
-Played-nothing entries events turns dump old before = Ends-no_memory (Replayed events turns dump entries) old old before before 0 (appended-none old) refl
+pub Played-nothing : (entries : List EntryInformation) (events : List ScriptEvent) (turns : ℕ) (dump : Bool) (before : Written) → Ends (Replayed events turns dump entries) before NoMemory before
+Played-nothing entries events turns dump before = Ends-no_memory (Replayed events turns dump entries) before before 0 (appended-none before.put) refl
 
 -- a link that was loaded has done nothing yet
-pub Loads-fresh : (files : Option Files) (name : List ℕ) (before after : ℕ) (link : LinkState) → Loads files name before after (Ok link)
+pub LoadsScript-fresh : (files : Option Files) (name : List ℕ) (before after : ℕ) (link : LinkState) → LoadsScript files name before after (Ok link)
     → link ≡ fresh_link link.plan.to_come [] [] []
-unfolding Loads
-Loads-fresh files name before after link loads = loads.1
+unfolding LoadsScript
+LoadsScript-fresh files name before after link loads = loads.1
 
 -- a tree that was loaded is good
 pub LoadsData-good : (files : Option Files) (name : List ℕ) (before after : ℕ) (rows : List Numbered) → LoadsData files name before after (Ok rows) → IsGoodTree (entries_of rows)
 unfolding LoadsData
 LoadsData-good files name before after rows loads = loads.1
 
-module _ (script : List ℕ) (turns : ℕ) (dump : Bool) (entries : List EntryInformation) (files : Option Files) (before after : ℕ)
-    (old : Option (List ℕ)) (sink_before : ℕ) (status : Status) (new : Option (List ℕ)) (sink_after : ℕ) where
+module _ (asked : ReplayAsked) (before after : Outside) (status : Status) where
   -- the script was read and replayed
-  pub Replays-played : (link : LinkState) (found : List EntryInformation) → found ≡ entries → Loads files script before after (Ok link)
-      → Ends (Replayed link.plan.to_come turns dump found) old sink_before status new sink_after
-      → Replays script turns dump entries files before after old sink_before status new sink_after
-  unfolding Replays Loads
+  pub Replays-played : (link : LinkState) (found : List EntryInformation) → found ≡ asked.entries → LoadsScript before.shelf.files asked.script before.shelf.faults after.shelf.faults (Ok link)
+      → Ends (Replayed link.plan.to_come asked.turns asked.dump found) before.out status after.out → Replays asked before status after
+  unfolding Replays LoadsScript
   Replays-played link found is loads ends =
-      (Replayed link.plan.to_come turns dump entries, (refl, refl, refl, loads.0, loads.2), subst (λ e. Ends (Replayed link.plan.to_come turns dump e) old sink_before status new sink_after) is ends)
+      (Replayed link.plan.to_come asked.turns asked.dump asked.entries, (refl, refl, refl, loads.0, loads.2), subst (λ e. Ends (Replayed link.plan.to_come asked.turns asked.dump e) before.out status after.out) is ends)
 
   -- the script wasn't read
-  pub Replays-refused : (why : Trouble) → Loads files script before after (Err why) → Ends (outcome_of why) old sink_before status new sink_after
-      → Replays script turns dump entries files before after old sink_before status new sink_after
-  unfolding Replays Loads
+  pub Replays-refused : (why : Trouble) → LoadsScript before.shelf.files asked.script before.shelf.faults after.shelf.faults (Err why)
+      → Ends (outcome_of why) before.out status after.out → Replays asked before status after
+  unfolding Replays LoadsScript
   Replays-refused trouble.NoFile loads ends = (NoFile, loads, ends)
   Replays-refused (trouble.BadData line cause) loads ends = absurd loads
   Replays-refused (trouble.BadLine line) loads ends = (BadLine line, loads, ends)
@@ -99,32 +100,30 @@ module _ (script : List ℕ) (turns : ℕ) (dump : Bool) (entries : List EntryIn
 
 -- the words ask for this command
 pub Runs-performed :
-    (words : List (List ℕ)) (asked : CommandView) (files : Option Files) (before after : ℕ)
-    (old : Option (List ℕ)) (sink_before : ℕ) (status : Status) (new : Option (List ℕ)) (sink_after : ℕ)
-    → IsCommand words asked → Performs asked files before after old sink_before status new sink_after
-    → Runs words files before after old sink_before status new sink_after
+    (words : List (List ℕ)) (asked : CommandView) (before after : Outside) (status : Status)
+    → IsCommand words asked → Performs asked before status after → Runs words before status after
 unfolding Runs Performs
-Runs-performed words asked files before after old sink_before status new sink_after is performs =
-    (performs.0, performs.1 words is, performs.2)
+Runs-performed words asked before after status is performs = (performs.0, performs.1 words is, performs.2, performs.3)
 
 -- they ask for nothing
 pub Runs-usage :
-    (words : List (List ℕ)) (files : Option Files) (before after : ℕ) (old : Option (List ℕ)) (sink_before : ℕ) (status : Status) (new : Option (List ℕ)) (sink_after : ℕ)
-    → ((asked : CommandView) → IsCommand words asked → None ≡ Some asked) → Ends NoCommand old sink_before status new sink_after
-    → after ≡ before → Runs words files before after old sink_before status new sink_after
+    (words : List (List ℕ)) (before after : Outside) (status : Status)
+    → ((asked : CommandView) → IsCommand words asked → None ≡ Some asked) → Ends NoCommand before.out status after.out
+    → after.shelf.faults ≡ before.shelf.faults → after.link ≡ before.link → Runs words before status after
 unfolding Runs Comes IsNoCommand
-Runs-usage words files before after old sink_before status new sink_after only ends stays = (NoCommand, ((λ asked is. let none : None ≡ Some asked = only asked is in cc), stays), ends)
+Runs-usage words before after status only ends stays same =
+    (NoCommand, ((λ asked is. let none : None ≡ Some asked = only asked is in cc), stays), ends, same)
 
-module _ (words : List (List ℕ)) (files : Option Files) (before after : ℕ) (old : Option (List ℕ)) (sink_before : ℕ) (status : Status) (new : Option (List ℕ)) (sink_after : ℕ) where
+module _ (words : List (List ℕ)) (before after : Outside) (status : Status) where
   -- the text of an outcome that comes
-  pub Runs-prints : Runs words files before after old sink_before status new sink_after → Prints words files before after old status new
+  pub Runs-prints : Runs words before status after → Prints words before status after
   unfolding Runs Prints
   Runs-prints runs = (runs.0, runs.1, runs.2.puts)
 
   -- a fault ends the program
-  pub Runs-faults : Runs words files before after old sink_before status new sink_after → EndsAtFaults before after sink_before sink_after status
+  pub Runs-faults : Runs words before status after → EndsAtFaults before after status
   unfolding Runs
-  Runs-faults runs = faults_end words files before after runs.0 old sink_before status new sink_after runs.1 runs.2
+  Runs-faults runs = faults_end words before after runs.0 status runs.1 runs.2
 
 -- a status that isn't one of a refusal of the sink, or of want of memory, is that of the outcome
 status_is : (outcome : Outcome) (old : Option (List ℕ)) (status : Status) (new : Option (List ℕ)) → Puts outcome old status new
@@ -154,24 +153,26 @@ status_of-memory : status_of OutOfMemory ≡ NoMemory
 unfolding status_of
 status_of-memory = refl
 
-module _ (words : List (List ℕ)) (files : Option Files) (before after : ℕ) (old : Option (List ℕ)) (sink_before : ℕ) (status : Status) (new : Option (List ℕ)) (sink_after : ℕ) where
-  pub Runs-usage_cause : Runs words files before after old sink_before status new sink_after → status ≡ Usage → IsNoCommand words
+module _ (words : List (List ℕ)) (before after : Outside) (status : Status) where
+  pub Runs-usage_cause : Runs words before status after → status ≡ Usage → IsNoCommand words
   unfolding Runs
-  Runs-usage_cause runs is = usage_comes words files before after runs.0 (status_comes runs.0 old status Usage new runs.2.puts is (λ e. cc) (λ e. cc)) runs.1
+  Runs-usage_cause runs is =
+      usage_comes words before.shelf.files before.shelf.faults after.shelf.faults runs.0
+      (status_comes runs.0 before.out.put status Usage after.out.put runs.2.puts is (λ e. cc) (λ e. cc)) runs.1
 
-  pub Runs-cause : Runs words files before after old sink_before status new sink_after → IsCause words files before after status
+  pub Runs-cause : Runs words before status after → IsCause words before.shelf after.shelf status
   unfolding Runs
-  Runs-cause runs = cause_comes words files before after runs.0 old status new runs.2.puts runs.1
+  Runs-cause runs = cause_comes words before.shelf after.shelf runs.0 before.out.put status after.out.put runs.2.puts runs.1
 
   -- a command whose files are told and accepted is done
-  pub Runs-complete : (outcome : Outcome) → Runs words files before after old sink_before status new sink_after
-      → IsDue words files outcome → (Rose before after → ⊥) → (Rose sink_before sink_after → ⊥) → EndsAs outcome status
+  pub Runs-complete : (outcome : Outcome) → Runs words before status after
+      → IsDue words before.shelf.files outcome → (Rose before.shelf.faults after.shelf.faults → ⊥) → (Rose before.out.faults after.out.faults → ⊥) → EndsAs outcome status
   unfolding Runs
   Runs-complete outcome runs due shelf sink =
-      elim (status_is runs.0 old status new runs.2.puts) [
-        | inl fault ↦ absurd (sink (subst (λ ended. IsSinkCount sink_before sink_after ended) fault runs.2.cause))
+      elim (status_is runs.0 before.out.put status after.out.put runs.2.puts) [
+        | inl fault ↦ absurd (sink (subst (λ ended. IsSinkCount before.out.faults after.out.faults ended) fault runs.2.cause))
         | inr (inl memory) ↦ inl memory
-        | inr (inr same) ↦ elim (due_comes words files before after runs.0 outcome due shelf runs.1) [
+        | inr (inr same) ↦ elim (due_comes words before.shelf.files before.shelf.faults after.shelf.faults runs.0 outcome due shelf runs.1) [
           | inl none ↦ inl (same ∙ ap status_of none ∙ status_of-memory)
           | inr is ↦ inr (same ∙ ap status_of is)
         ]

@@ -1,24 +1,13 @@
 -- When each outcome of the program comes, by its words and its shelf. The files are read in the order of the words: the
 -- data file first.
-use Rattle.std.specs.Prelude.{◌≡◌, ◌⊎◌, ◌<◌, ◌≤◌, ℕ, Bool, List, length, take, Option, Some, None, Ok, Err}
-use Rattle.plain_values.specs.Counts.{Rose}
+use Rattle.std.specs.Prelude.{◌≡◌, ◌⊎◌, ℕ, Bool, List, Option}
 use Rattle.script_text.specs.declared.event.ScriptEvent.{ScriptEvent}
-use Rattle.script_text.specs.Script.{IsScript, IsFirstBadLine}
-use Rattle.wire_io.specs.Files.{Files, file_of, Lacks}
-use Rattle.wire_io.specs.ReadWhole.{line_past}
+use Rattle.wire_io.specs.Files.{Files}
 use Rattle.command_words.specs.Command.{CommandView, Replay, Check, Dump, IsCommand}
 use Rattle.dir_tree.specs.Entries.{EntryInformation}
-use Rattle.op_write.specs.declared.fault.LoadCause.TheVariants.{Limit}
-use Rattle.op_write.specs.DataFile.{FileCause, OfRecord, loads}
+use Rattle.op_write.specs.DataFile.{FileCause}
+use Rattle.command_files.specs.Accepting.{IsUnread, HoldsIn, IsTold, IsGoodData, IsBadData, IsGoodScript, IsBadScript}
 use Rattle.acl_program.specs.Outcomes.{Outcome, NoCommand, NoFile, BadDataLine, BadLine, Checked, Dumped, Replayed, OutOfMemory}
-
--- the most octets of a data file
-abbrev pub most_data : ℕ
-most_data = 67108864
-
--- the most octets of a script file
-abbrev pub most_script : ℕ
-most_script = 67108864
 
 -- the words ask for nothing
 unfoldable pub IsNoCommand : List (List ℕ) → Type 0
@@ -33,48 +22,6 @@ data_of (Dump data_file) = data_file
 -- the words ask for a command with this data file
 unfoldable pub AsksData : List (List ℕ) → List ℕ → Type 0
 AsksData words data_file = (asked : CommandView) × IsCommand words asked × (data_of asked ≡ data_file)
-
--- the file wasn't read: the shelf's count of faults rose, or stayed where the shelf tells that it has no such file
-unfoldable pub IsUnread : Option Files → List ℕ → ℕ → ℕ → Type 0
-IsUnread files name before after = Rose before after ⊎ (Lacks files name × (after ≡ before))
-
--- the content is a data file of these entries, and not too long
-pub record IsGoodData (entries : List EntryInformation) (content : List ℕ) : Type 0 where
-  pub short : length content ≤ most_data
-  pub loaded : loads content ≡ Ok entries
-
--- the content isn't accepted, for this cause at this line; or it is too long, and this is the line of the first octet past
--- the limit
-unfoldable pub IsBadData : ℕ → FileCause → List ℕ → Type 0
-IsBadData line cause content =
-    ((length content ≤ most_data) × (loads content ≡ Err (record { line = line; cause = cause })))
-    ⊎ ((most_data < length content) × (line ≡ line_past (take most_data content)) × (cause ≡ OfRecord Limit))
-
--- the content is a script of these events, and not too long
-pub record IsGoodScript (events : List ScriptEvent) (content : List ℕ) : Type 0 where
-  pub short : length content ≤ most_script
-  pub script : IsScript content events
-
--- the content isn't a script, and this is its first bad line; or it is too long, and this is the line of the first octet
--- past the limit
-unfoldable pub IsBadScript : ℕ → List ℕ → Type 0
-IsBadScript line content =
-    ((length content ≤ most_script) × IsFirstBadLine content line) ⊎ ((most_script < length content) × (line ≡ line_past (take most_script content)))
-
--- the file is there, and this holds of its content
-abbrev pub HoldsOf : (List ℕ → Type 0) → Option (List ℕ) → Type 0
-HoldsOf P None = ⊥
-HoldsOf P (Some content) = P content
-
--- the same, where the shelf tells its files
-unfoldable pub HoldsIn : Option Files → List ℕ → (List ℕ → Type 0) → Type 0
-HoldsIn None name P = Unit {0}
-HoldsIn (Some files) name P = HoldsOf P (file_of name files)
-
--- the shelf tells its files, the file is there, and this holds of its content
-unfoldable pub IsTold : Option Files → List ℕ → (List ℕ → Type 0) → Type 0
-IsTold None name P = ⊥
-IsTold (Some files) name P = HoldsOf P (file_of name files)
 
 -- a replay whose data file is accepted
 pub record AsksReplay (words : List (List ℕ)) (files : Option Files) (script : List ℕ) (turns : ℕ) (dump : Bool) (entries : List EntryInformation) : Type 0 where

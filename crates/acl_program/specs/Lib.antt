@@ -1,4 +1,5 @@
 -- what public clauses cite
+pub mod Outside
 pub mod Lines
 pub mod Outcomes
 pub mod Causes
@@ -6,3 +7,4 @@ pub mod Running
 -- for the inside of the crate alone
 pub mod Troubles
 pub mod Playing
+pub mod Asked

@@ -1,5 +1,5 @@
 -- What the parts of a replay promise each other: a script read from a shelf, and what its loop leaves in the journal.
-use Rattle.std.specs.Prelude.{◌≡◌, ◌<◌, ◌≤◌, ◌++◌, ℕ, Bool, List, [], length, flat_map, Option, Some, None}
+use Rattle.std.specs.Prelude.{◌≡◌, ◌<◌, ◌≤◌, ◌++◌, ℕ, List, [], length, flat_map, Option, Some, None}
 use Rattle.plain_values.specs.Counts.{Rose}
 use Rattle.script_text.specs.declared.event.ScriptEvent.{ScriptEvent}
 use Rattle.wire_io.specs.declared.journal.Item.{Item}
@@ -12,15 +12,15 @@ use Rattle.session_hub.specs.declared.ended.Ended.TheVariants as ended
 use Rattle.session_hub.specs.Loops.{buffer_length}
 use Rattle.command_words.specs.Command.{CommandView, IsCommand}
 use Rattle.dir_tree.specs.Entries.{EntryInformation}
-use Rattle.dir_tree.specs.Numbered.{Numbered}
+use Rattle.dir_tree.specs.Numbered.{Numbered, entries_of}
 use Rattle.ldif_core.specs.WrittenFile.{written_file}
-use Rattle.dir_tree.specs.Numbered.{entries_of}
 use Rattle.schema_rules.specs.Rules.{IsGoodTree}
 use Rattle.acl_program.specs.declared.status.Status.{Status}
 use Rattle.acl_program.specs.declared.status.Status.TheVariants.{Done, Usage, BadData, ShelfFault, SinkFault, LinkFault, TurnsSpent, NoMemory, BadScript}
 use Rattle.acl_program.specs.Lines.{line_of, replay_text, entries_after}
-use Rattle.acl_program.specs.Outcomes.{Outcome, NoCommand, NoFile, BadDataLine, BadLine, Checked, Dumped, Replayed, OutOfMemory, text_of, status_of}
-use Rattle.acl_program.specs.Causes.{Comes, IsUnread, HoldsIn, IsBadScript, IsGoodScript}
+use Rattle.acl_program.specs.Outcomes.{Outcome, text_of, status_of}
+use Rattle.acl_program.specs.Causes.{Comes}
+use Rattle.acl_program.specs.Outside.{Written, Outside}
 use Rattle.acl_program.specs.Running.{Puts}
 
 -- the lines that a journal tells, of these connections
@@ -64,43 +64,28 @@ IsSinkCount before after NoMemory = after ≡ before
 IsSinkCount before after BadScript = after ≡ before
 
 -- the text of an outcome was put, and the sink's fault has its cause
-pub record Ends (outcome : Outcome) (old : Option (List ℕ)) (before : ℕ) (status : Status) (new : Option (List ℕ)) (after : ℕ) : Type 0 where
-  pub puts : Puts outcome old status new
-  pub cause : IsSinkCount before after status
-
--- a replay over these entries came to an outcome: its data file aside
-abbrev pub ReplayComes : List ℕ → ℕ → Bool → List EntryInformation → Option Files → ℕ → ℕ → Outcome → Type 0
-ReplayComes script turns dump entries files before after NoCommand = ⊥
-ReplayComes script turns dump entries files before after NoFile = IsUnread files script before after
-ReplayComes script turns dump entries files before after (BadDataLine line cause) = ⊥
-ReplayComes script turns dump entries files before after (BadLine line) = HoldsIn files script (IsBadScript line) × (after ≡ before)
-ReplayComes script turns dump entries files before after (Checked found) = ⊥
-ReplayComes script turns dump entries files before after (Dumped found) = ⊥
-ReplayComes script turns dump entries files before after (Replayed events asked dumped found) =
-    (asked ≡ turns) × (dumped ≡ dump) × (found ≡ entries) × HoldsIn files script (IsGoodScript events) × (after ≡ before)
-ReplayComes script turns dump entries files before after OutOfMemory = after ≡ before
-
--- a replay over these entries came to some outcome, whose text was put
-unfoldable pub Replays : List ℕ → ℕ → Bool → List EntryInformation → Option Files → ℕ → ℕ → Option (List ℕ) → ℕ → Status → Option (List ℕ) → ℕ → Type 0
-Replays script turns dump entries files before after old sink_before status new sink_after =
-    (outcome : Outcome) × ReplayComes script turns dump entries files before after outcome × Ends outcome old sink_before status new sink_after
+pub record Ends (outcome : Outcome) (before : Written) (status : Status) (after : Written) : Type 0 where
+  pub puts : Puts outcome before.put status after.put
+  pub cause : IsSinkCount before.faults after.faults status
 
 -- the outcome comes with every words that ask for the command
 abbrev pub ComesFor : CommandView → Option Files → ℕ → ℕ → Outcome → Type 0
 ComesFor asked files before after outcome = (words : List (List ℕ)) → IsCommand words asked → Comes words files before after outcome
 
--- a command came to an outcome
-unfoldable pub Performs : CommandView → Option Files → ℕ → ℕ → Option (List ℕ) → ℕ → Status → Option (List ℕ) → ℕ → Type 0
-Performs asked files before after old sink_before status new sink_after =
-    (outcome : Outcome) × ComesFor asked files before after outcome × Ends outcome old sink_before status new sink_after
+-- a command came to an outcome, and did nothing with the link
+unfoldable pub Performs : CommandView → Outside → Status → Outside → Type 0
+Performs asked before status after =
+    (outcome : Outcome) × ComesFor asked before.shelf.files before.shelf.faults after.shelf.faults outcome × Ends outcome before.out status after.out
+    × (after.link ≡ before.link)
 
--- the program came to an outcome
-unfoldable pub Runs : List (List ℕ) → Option Files → ℕ → ℕ → Option (List ℕ) → ℕ → Status → Option (List ℕ) → ℕ → Type 0
-Runs words files before after old sink_before status new sink_after =
-    (outcome : Outcome) × Comes words files before after outcome × Ends outcome old sink_before status new sink_after
+-- the program came to an outcome, and did nothing with the link
+unfoldable pub Runs : List (List ℕ) → Outside → Status → Outside → Type 0
+Runs words before status after =
+    (outcome : Outcome) × Comes words before.shelf.files before.shelf.faults after.shelf.faults outcome × Ends outcome before.out status after.out
+    × (after.link ≡ before.link)
 
 -- the lines of a journal and then a tree were to be put, and then the program was to end so: an outcome with this text and
 -- this status
-unfoldable pub Shows : List Item → List ℕ → Status → Option (List ℕ) → ℕ → Status → Option (List ℕ) → ℕ → Type 0
-Shows journal dumped wanted old before status new after =
-    (outcome : Outcome) → text_of outcome ≡ journal_text journal ++ dumped → status_of outcome ≡ wanted → Ends outcome old before status new after
+unfoldable pub Shows : List Item → List ℕ → Status → Written → Status → Written → Type 0
+Shows journal dumped wanted before status after =
+    (outcome : Outcome) → text_of outcome ≡ journal_text journal ++ dumped → status_of outcome ≡ wanted → Ends outcome before status after

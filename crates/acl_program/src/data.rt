@@ -6,11 +6,12 @@ ghost use Rattle.dir_tree.specs.Points.{access_subentries};
 ghost use Rattle.dir_tree.specs.Numbered.{entries_of};
 ghost use Rattle.schema_rules.specs.Rules.{IsGoodTree};
 ghost use Rattle.acl_program.specs.Outcomes.{Checked, Dumped, status_of, text_of};
+ghost use Rattle.acl_program.specs.Outside.{Linked, outside, written};
 ghost use Rattle.acl_program.specs.Playing.{Ends, Performs};
 
-use crate::loading::load_data;
 use crate::status::Status;
 use crate::troubles::print_trouble;
+use command_files::load_data;
 use data_file::put_tree;
 use dir_tree::Tree;
 use std::alloc::{AllocError, Global};
@@ -23,8 +24,9 @@ pub(crate) fn check<H: Shelf, K: Sink>(
     shelf: &mut H,
     out: &mut K,
 ) -> Status
-    ensures performs { Performs (Check name.now) (H.files shelf.old) (H.faults shelf.old) (H.faults shelf.new)
-        (K.put out.old) (K.faults out.old) result (K.put out.new) (K.faults out.new) }
+    ensures performs { (link : Linked) → Performs (Check name.now)
+        (outside (H.files shelf.old) (H.faults shelf.old) (K.put out.old) (K.faults out.old) link) result
+        (outside (H.files shelf.new) (H.faults shelf.new) (K.put out.new) (K.faults out.new) link) }
     ensures kept { H.files shelf.new ≡ H.files shelf.old }
 {
     match load_data(alloc, shelf, name) {
@@ -36,7 +38,8 @@ pub(crate) fn check<H: Shelf, K: Sink>(
 /// Prints how many entries and access control subentries the tree has.
 #[tactic(auto, unfolding(crate::specs::Outcomes::text_of, crate::specs::Outcomes::status_of))]
 fn print_counts<K: Sink>(alloc: Global, tree: &Tree, out: &mut K) -> Status
-    ensures ends { Ends (Checked (entries_of tree.now)) (K.put out.old) (K.faults out.old) result (K.put out.new) (K.faults out.new) }
+    ensures ends { Ends (Checked (entries_of tree.now)) (written (K.put out.old) (K.faults out.old)) result
+        (written (K.put out.new) (K.faults out.new)) }
 {
     let Ok(text) = counts(alloc, tree) else {
         return Status::NoMemory;
@@ -68,8 +71,9 @@ pub(crate) fn dump<H: Shelf, K: Sink>(
     shelf: &mut H,
     out: &mut K,
 ) -> Status
-    ensures performs { Performs (Dump name.now) (H.files shelf.old) (H.faults shelf.old) (H.faults shelf.new)
-        (K.put out.old) (K.faults out.old) result (K.put out.new) (K.faults out.new) }
+    ensures performs { (link : Linked) → Performs (Dump name.now)
+        (outside (H.files shelf.old) (H.faults shelf.old) (K.put out.old) (K.faults out.old) link) result
+        (outside (H.files shelf.new) (H.faults shelf.new) (K.put out.new) (K.faults out.new) link) }
     ensures kept { H.files shelf.new ≡ H.files shelf.old }
 {
     match load_data(alloc, shelf, name) {
@@ -82,7 +86,8 @@ pub(crate) fn dump<H: Shelf, K: Sink>(
 #[tactic(auto, unfolding(crate::specs::Outcomes::text_of, crate::specs::Outcomes::status_of))]
 fn print_tree<K: Sink>(alloc: Global, tree: &Tree, out: &mut K) -> Status
     requires { IsGoodTree (entries_of tree.now) }
-    ensures ends { Ends (Dumped (entries_of tree.now)) (K.put out.old) (K.faults out.old) result (K.put out.new) (K.faults out.new) }
+    ensures ends { Ends (Dumped (entries_of tree.now)) (written (K.put out.old) (K.faults out.old)) result
+        (written (K.put out.new) (K.faults out.new)) }
 {
     let put = put_tree(alloc, tree, out);
     Status::Done.after(put)

@@ -3,7 +3,6 @@
 #![tactic(auto)]
 
 mod data;
-mod loading;
 mod printing;
 mod program;
 mod replay;

@@ -4,6 +4,7 @@ ghost use Rattle.std.specs.Prelude.{◌≡◌, map, string_bytes};
 ghost use Rattle.plain_values.specs.Counts.{Rose};
 ghost use Rattle.acl_program.specs.Causes.{IsNoCommand, IsDue};
 ghost use Rattle.acl_program.specs.Outcomes.{Outcome};
+ghost use Rattle.acl_program.specs.Outside.{Linked, linked, outside, shelved};
 ghost use Rattle.acl_program.specs.Running.{Prints, EndsAs, IsCause, EndsAtFaults};
 ghost use Rattle.acl_program.specs.Playing.{Runs, Performs};
 ghost use Rattle.command_words.specs.Command.{view};
@@ -34,16 +35,24 @@ pub fn run<H: Shelf, K: Sink, L: Link>(
     link: &mut L,
 ) -> Status
     // what is put: the text of an outcome that comes, with its status; or a front of it
-    ensures text { Prints (map string_bytes words.now) (H.files shelf.old) (H.faults shelf.old) (H.faults shelf.new)
-        (K.put out.old) result (K.put out.new) }
+    ensures text { Prints (map string_bytes words.now)
+        (outside (H.files shelf.old) (H.faults shelf.old) (K.put out.old) (K.faults out.old)
+        (linked (L.journal link.old) (L.faults link.old))) result
+        (outside (H.files shelf.new) (H.faults shelf.new) (K.put out.new) (K.faults out.new)
+        (linked (L.journal link.new) (L.faults link.new))) }
     // where the files are told and accepted, the command is done
     ensures complete { (outcome : Outcome) → IsDue (map string_bytes words.now) (H.files shelf.old) outcome
         → (Rose (H.faults shelf.old) (H.faults shelf.new) → ⊥) → (Rose (K.faults out.old) (K.faults out.new) → ⊥)
         → EndsAs outcome result }
     // each refusal
     ensures usage { result ≡ Status.Usage → IsNoCommand (map string_bytes words.now) }
-    ensures refused { IsCause (map string_bytes words.now) (H.files shelf.old) (H.faults shelf.old) (H.faults shelf.new) result }
-    ensures faults { EndsAtFaults (H.faults shelf.old) (H.faults shelf.new) (K.faults out.old) (K.faults out.new) result }
+    ensures refused { IsCause (map string_bytes words.now) (shelved (H.files shelf.old) (H.faults shelf.old))
+        (shelved (H.files shelf.new) (H.faults shelf.new)) result }
+    ensures faults { EndsAtFaults
+        (outside (H.files shelf.old) (H.faults shelf.old) (K.put out.old) (K.faults out.old)
+        (linked (L.journal link.old) (L.faults link.old)))
+        (outside (H.files shelf.new) (H.faults shelf.new) (K.put out.new) (K.faults out.new)
+        (linked (L.journal link.new) (L.faults link.new))) result }
     // what stays
     ensures link { (L.journal link.new ≡ L.journal link.old) × (L.plan link.new ≡ L.plan link.old)
         × (L.faults link.new ≡ L.faults link.old) × (L.lost link.new ≡ L.lost link.old) }
@@ -60,8 +69,9 @@ fn run_words<H: Shelf, K: Sink>(
     shelf: &mut H,
     out: &mut K,
 ) -> Status
-    ensures runs { Runs (map string_bytes words.now) (H.files shelf.old) (H.faults shelf.old) (H.faults shelf.new)
-        (K.put out.old) (K.faults out.old) result (K.put out.new) (K.faults out.new) }
+    ensures runs { (link : Linked) → Runs (map string_bytes words.now)
+        (outside (H.files shelf.old) (H.faults shelf.old) (K.put out.old) (K.faults out.old) link) result
+        (outside (H.files shelf.new) (H.faults shelf.new) (K.put out.new) (K.faults out.new) link) }
     ensures kept { H.files shelf.new ≡ H.files shelf.old }
 {
     match read_words(words) {
@@ -78,8 +88,9 @@ fn perform<H: Shelf, K: Sink>(
     shelf: &mut H,
     out: &mut K,
 ) -> Status
-    ensures performs { Performs (view command.entry) (H.files shelf.old) (H.faults shelf.old) (H.faults shelf.new)
-        (K.put out.old) (K.faults out.old) result (K.put out.new) (K.faults out.new) }
+    ensures performs { (link : Linked) → Performs (view command.entry)
+        (outside (H.files shelf.old) (H.faults shelf.old) (K.put out.old) (K.faults out.old) link) result
+        (outside (H.files shelf.new) (H.faults shelf.new) (K.put out.new) (K.faults out.new) link) }
     ensures kept { H.files shelf.new ≡ H.files shelf.old }
 {
     match command {

@@ -5,15 +5,17 @@ ghost use Rattle.std.specs.Option.{option_map};
 ghost use Rattle.command_words.specs.Command.{Replay};
 ghost use Rattle.wire_io.specs.Scripted.{fresh_link};
 ghost use Rattle.dir_tree.specs.Numbered.{entries_of};
-ghost use Rattle.acl_program.specs.Outcomes.{Replayed, dump_text};
 ghost use Rattle.schema_rules.specs.Rules.{IsGoodTree};
-ghost use Rattle.acl_program.specs.Playing.{Performs, Plays, Shows, Ends, dumped_text, IsDumpable, Replays};
+ghost use Rattle.acl_program.specs.Outcomes.{Replayed, dump_text};
+ghost use Rattle.acl_program.specs.Outside.{Linked, outside, written};
+ghost use Rattle.acl_program.specs.Asked.{Replays, replay_asked};
+ghost use Rattle.acl_program.specs.Playing.{Performs, Plays, Shows, Ends, dumped_text, IsDumpable};
 
-use crate::loading::{load_data, load_script};
 use crate::printing::print_replay;
 use crate::status::Status;
 use crate::troubles::print_trouble;
 use acdf_core::{Dir, PlainDir};
+use command_files::{load_data, load_script};
 use dir_tree::Tree;
 use session_hub::{Ended, serve_loop};
 use std::alloc::Global;
@@ -36,9 +38,10 @@ pub(crate) fn replay<H: Shelf, K: Sink>(
     shelf: &mut H,
     out: &mut K,
 ) -> Status
-    ensures performs { Performs (Replay asked.now.data.now asked.now.script.now asked.now.turns asked.now.dump)
-        (H.files shelf.old) (H.faults shelf.old) (H.faults shelf.new)
-        (K.put out.old) (K.faults out.old) result (K.put out.new) (K.faults out.new) }
+    ensures performs { (link : Linked) →
+        Performs (Replay asked.now.data.now asked.now.script.now asked.now.turns asked.now.dump)
+        (outside (H.files shelf.old) (H.faults shelf.old) (K.put out.old) (K.faults out.old) link) result
+        (outside (H.files shelf.new) (H.faults shelf.new) (K.put out.new) (K.faults out.new) link) }
     ensures kept { H.files shelf.new ≡ H.files shelf.old }
 {
     match load_data(alloc, shelf, asked.data) {
@@ -56,9 +59,10 @@ fn replay_over<H: Shelf, K: Sink>(
     out: &mut K,
 ) -> Status
     requires good { IsGoodTree (entries_of tree) }
-    ensures replays { Replays asked.now.script.now asked.now.turns asked.now.dump (entries_of tree)
-        (H.files shelf.old) (H.faults shelf.old) (H.faults shelf.new)
-        (K.put out.old) (K.faults out.old) result (K.put out.new) (K.faults out.new) }
+    ensures replays { (link : Linked) →
+        Replays (replay_asked asked.now.script.now asked.now.turns asked.now.dump (entries_of tree))
+        (outside (H.files shelf.old) (H.faults shelf.old) (K.put out.old) (K.faults out.old) link) result
+        (outside (H.files shelf.new) (H.faults shelf.new) (K.put out.new) (K.faults out.new) link) }
     ensures kept { H.files shelf.new ≡ H.files shelf.old }
 {
     match load_script(alloc, shelf, asked.script) {
@@ -96,7 +100,8 @@ fn play<K: Sink>(
     requires fresh { link ≡ fresh_link link.plan.to_come [] [] [] }
     requires good { IsGoodTree (entries_of dir) }
     ensures ends { Ends (Replayed link.plan.to_come turns dump (entries_of dir))
-        (K.put out.old) (K.faults out.old) result (K.put out.new) (K.faults out.new) }
+        (written (K.put out.old) (K.faults out.old)) result
+        (written (K.put out.new) (K.faults out.new)) }
 {
     let mut dir = dir;
     let mut link = link;
@@ -133,7 +138,8 @@ fn show<K: Sink>(
 ) -> Status
     requires good { IsDumpable (option_map (λ tree. tree.now) dumped) }
     ensures ends { Shows link.now.journal (dumped_text (option_map (λ tree. tree.now) dumped.entry)) status
-        (K.put out.old) (K.faults out.old) result (K.put out.new) (K.faults out.new) }
+        (written (K.put out.old) (K.faults out.old)) result
+        (written (K.put out.new) (K.faults out.new)) }
 {
     let put = print_replay(alloc, link, dumped, out);
     status.after(put)

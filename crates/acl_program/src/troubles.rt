@@ -3,11 +3,12 @@
 ghost use Rattle.std.specs.Prelude.{◌≡◌, IfOk, string_bytes};
 ghost use Rattle.data_file.specs.Files.{cause_of};
 ghost use Rattle.acl_program.specs.Outcomes.{NoCommand, NoFile, BadDataLine, BadLine, cause_text, line_cause_text, record_cause_text, status_of, text_of};
+ghost use Rattle.acl_program.specs.Outside.{written};
 ghost use Rattle.acl_program.specs.Playing.{Ends};
 ghost use Rattle.acl_program.specs.Troubles.{outcome_of};
 
-use crate::loading::Trouble;
 use crate::status::Status;
+use command_files::Trouble;
 use data_file::DataCause;
 use ldif_core::LineCause;
 use op_write::LoadCause;
@@ -19,7 +20,8 @@ const USAGE: &[u8] = b"usage: aclserver (serve|replay|check|dump|explain|sample)
 /// Prints that the words are no command.
 #[tactic(auto, unfolding(crate::specs::Outcomes::text_of, crate::specs::Outcomes::status_of))]
 pub(crate) fn print_usage<K: Sink>(out: &mut K) -> Status
-    ensures ends { Ends NoCommand (K.put out.old) (K.faults out.old) result (K.put out.new) (K.faults out.new) }
+    ensures ends { Ends NoCommand (written (K.put out.old) (K.faults out.old)) result
+        (written (K.put out.new) (K.faults out.new)) }
 {
     let put = write_all(out, USAGE);
     Status::Usage.after(put)
@@ -27,7 +29,8 @@ pub(crate) fn print_usage<K: Sink>(out: &mut K) -> Status
 
 /// Prints why a file wasn't read.
 pub(crate) fn print_trouble<K: Sink>(alloc: Global, trouble: Trouble, out: &mut K) -> Status
-    ensures ends { Ends (outcome_of trouble) (K.put out.old) (K.faults out.old) result (K.put out.new) (K.faults out.new) }
+    ensures ends { Ends (outcome_of trouble) (written (K.put out.old) (K.faults out.old)) result
+        (written (K.put out.new) (K.faults out.new)) }
 {
     match trouble {
         Trouble::NoFile => print_data_fault(out),
@@ -40,7 +43,8 @@ pub(crate) fn print_trouble<K: Sink>(alloc: Global, trouble: Trouble, out: &mut 
 /// Prints that a file wasn't read.
 #[tactic(auto, unfolding(crate::specs::Outcomes::text_of, crate::specs::Outcomes::status_of))]
 fn print_data_fault<K: Sink>(out: &mut K) -> Status
-    ensures ends { Ends NoFile (K.put out.old) (K.faults out.old) result (K.put out.new) (K.faults out.new) }
+    ensures ends { Ends NoFile (written (K.put out.old) (K.faults out.old)) result
+        (written (K.put out.new) (K.faults out.new)) }
 {
     let put = write_all(out, b"data fault\n");
     Status::ShelfFault.after(put)
@@ -49,7 +53,8 @@ fn print_data_fault<K: Sink>(out: &mut K) -> Status
 /// Prints the number of a data file's bad line, and its cause.
 #[tactic(auto, unfolding(crate::specs::Outcomes::text_of, crate::specs::Outcomes::status_of))]
 fn print_bad_data<K: Sink>(alloc: Global, line: u64, cause: DataCause, out: &mut K) -> Status
-    ensures ends { Ends (BadDataLine line (cause_of cause)) (K.put out.old) (K.faults out.old) result (K.put out.new) (K.faults out.new) }
+    ensures ends { Ends (BadDataLine line (cause_of cause)) (written (K.put out.old) (K.faults out.old)) result
+        (written (K.put out.new) (K.faults out.new)) }
 {
     let Ok(text) = bad_data(alloc, line, cause) else {
         return Status::NoMemory;
@@ -103,7 +108,8 @@ fn record_cause_text(alloc: Global, cause: LoadCause) -> Result<String, AllocErr
 /// Prints the number of a script's bad line.
 #[tactic(auto, unfolding(crate::specs::Outcomes::text_of, crate::specs::Outcomes::status_of))]
 fn print_bad_line<K: Sink>(alloc: Global, line: u64, out: &mut K) -> Status
-    ensures ends { Ends (BadLine line) (K.put out.old) (K.faults out.old) result (K.put out.new) (K.faults out.new) }
+    ensures ends { Ends (BadLine line) (written (K.put out.old) (K.faults out.old)) result
+        (written (K.put out.new) (K.faults out.new)) }
 {
     let Ok(text) = bad_line(alloc, line) else {
         return Status::NoMemory;

@@ -23,6 +23,8 @@ mod shelves;
 #[cfg(test)]
 mod sinks;
 #[cfg(test)]
+mod sockets;
+#[cfg(test)]
 mod values;
 #[cfg(test)]
 mod words;

@@ -193,6 +193,74 @@ fn a_link_fails_at_the_calls_that_are_to_fail_and_takes_no_event_there(
     check(&rt, rt.alloc(), &mut link, &FAILING)
 }
 
+/// A link of two connections, whose calls of `write` 0 and 3 take nothing now, and whose call 2 finds
+/// the connection lost.
+fn refusing_link(alloc: Global) -> Result<ScriptLink, AllocError> {
+    let mut events = Vec::new(alloc);
+    events.push(ScriptEvent::Opened(2))?;
+    events.push(ScriptEvent::Opened(1))?;
+    events.push(ScriptEvent::Ended(2))?;
+    let mut later = Vec::new(alloc);
+    later.push(0)?;
+    later.push(3)?;
+    let mut gone = Vec::new(alloc);
+    gone.push(2)?;
+    let link = ScriptLink::new(alloc, events, Vec::new(alloc), later, gone);
+    Ok(link)
+}
+
+static REFUSING: [Row; 20] = [
+    (Call::Next, "Opened(2)", "the first event"),
+    (Call::Next, "Opened(1)", "the second event"),
+    (Call::Write(2, b"ab"), "Later", "write 0"),
+    (Call::SaidOf(2), "", "nothing was taken"),
+    (Call::Hold(2), "done", "2 is on hold"),
+    (Call::Next, "Ready(2)", "2 is ready"),
+    (Call::Write(2, b"ab"), "Took(2)", "write 1"),
+    (Call::Write(1, b"c"), "Gone", "write 2"),
+    (Call::SaidOf(1), "", "nothing was taken"),
+    (Call::IsHungUp(1), "false", "1 is lost, and not hung up yet"),
+    (Call::HangUp(1), "done", "1 is hung up"),
+    (Call::IsHungUp(1), "true", "1 was hung up"),
+    (Call::Write(2, b"d"), "Later", "write 3"),
+    (Call::Next, "Ready(2)", "2 is still on hold"),
+    (Call::Write(2, b"d"), "Took(1)", "write 4"),
+    (Call::SaidOf(2), "abd", "what was taken, in order"),
+    (
+        Call::Next,
+        "Ready(2)",
+        "a write that is taken is no release",
+    ),
+    (Call::Release(2), "done", "2 is released"),
+    (Call::Next, "Ended(2)", "the last event"),
+    (Call::Next, "Stop", "the end"),
+];
+
+#[test]
+fn a_link_takes_nothing_now_or_finds_a_connection_lost_at_the_calls_that_are_to(
+    rt: HostRuntime,
+) -> Result<(), Fail> {
+    let mut link = refusing_link(rt.alloc())?;
+    check(&rt, rt.alloc(), &mut link, &REFUSING)
+}
+
+static HUNG_UP: [Row; 5] = [
+    (Call::Next, "Opened(2)", "the first event"),
+    (Call::Next, "Opened(1)", "the second event"),
+    (Call::Hold(2), "done", "2 is on hold"),
+    (Call::HangUp(2), "done", "2 is hung up"),
+    (
+        Call::Next,
+        "Bytes(2, 3) 303132",
+        "what is still to come of 2",
+    ),
+];
+
+#[test]
+fn a_connection_that_is_hung_up_is_not_on_hold(rt: HostRuntime) -> Result<(), Fail> {
+    check_script(&rt, rt.alloc(), SCRIPT, &HUNG_UP)
+}
+
 /// The first bad line of a text that is no script.
 fn bad_line(alloc: Global, text: &str) -> Option<u64> {
     match ScriptLink::read(alloc, text.as_bytes()) {

@@ -9,7 +9,7 @@ use Rattle.wire_io.proofs.JournalLemmas.{taken_of-push, is_hung_up-push, is_held
 
 -- a state by its parts
 state : List ℕ → Bool → Bool → PeerState
-state taken held hung_up = record { taken = taken; held = held; hung_up = hung_up }
+state taken held hung_up = record { taken = taken; on_hold = held; hung_up = hung_up }
 
 -- what the journal says of a connection after one more item, in the item's own words
 state_in-push :
@@ -17,9 +17,9 @@ state_in-push :
     → state_in (journal ++ item ∷ []) conn ≡ state (taken_of conn journal ++ taken_at conn item) (hold_after conn (is_held conn journal) item) (is_hung_up conn journal || hangs_up conn item)
 unfolding state
 state_in-push journal item conn =
-    ap (λ taken. record { taken = taken; held = is_held conn (journal ++ item ∷ []); hung_up = is_hung_up conn (journal ++ item ∷ []) }) (taken_of-push conn journal item)
-    ∙ ap (λ held. record { taken = taken_of conn journal ++ taken_at conn item; held = held; hung_up = is_hung_up conn (journal ++ item ∷ []) }) (is_held-push conn journal item)
-    ∙ ap (λ hung_up. record { taken = taken_of conn journal ++ taken_at conn item; held = hold_after conn (is_held conn journal) item; hung_up = hung_up }) (is_hung_up-push conn journal item)
+    ap (λ taken. record { taken = taken; on_hold = is_held conn (journal ++ item ∷ []); hung_up = is_hung_up conn (journal ++ item ∷ []) }) (taken_of-push conn journal item)
+    ∙ ap (λ held. record { taken = taken_of conn journal ++ taken_at conn item; on_hold = held; hung_up = is_hung_up conn (journal ++ item ∷ []) }) (is_held-push conn journal item)
+    ∙ ap (λ hung_up. record { taken = taken_of conn journal ++ taken_at conn item; on_hold = hold_after conn (is_held conn journal) item; hung_up = hung_up }) (is_hung_up-push conn journal item)
 
 -- each kind of item, by whether it is of the connection
 after-taken :

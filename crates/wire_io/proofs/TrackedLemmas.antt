@@ -111,7 +111,7 @@ IsTracked-opened {journal} {grown} {peers} {opened} {more} conn grows pushed tra
 -- nothing was done yet
 pub IsTracked-nothing :
     {journal : List Item} {peers : BTreeMap ℕ Peer} {opened : List ℕ}
-    → journal ≡ [] → ((conn : ℕ) → state_of peers conn ≡ record { taken = []; held = false; hung_up = false }) → opened ≡ [] → IsTracked journal peers opened
+    → journal ≡ [] → ((conn : ℕ) → state_of peers conn ≡ record { taken = []; on_hold = false; hung_up = false }) → opened ≡ [] → IsTracked journal peers opened
 unfolding TracksPeers taken_of is_held hold_after_all is_hung_up opened_by
 IsTracked-nothing {journal} {peers} {opened} nothing empty none =
     let P : List Item → Type 0 = λ items. IsTracked items peers opened in

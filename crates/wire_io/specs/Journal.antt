@@ -72,3 +72,7 @@ hold_after_all conn before (item ∷ journal) = hold_after_all conn (hold_after 
 -- the connection is on hold: it was put on hold, and since then not released and not hung up
 unfoldable pub is_held : ℕ → List Item → Bool
 is_held conn journal = hold_after_all conn false journal
+
+-- the same, by the name that contracts use
+abbrev pub is_on_hold : ℕ → List Item → Bool
+is_on_hold = is_held

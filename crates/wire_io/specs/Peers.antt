@@ -6,30 +6,30 @@ use Rattle.wire_io.specs.declared.journal.Event.TheVariants.{Opened}
 use Rattle.wire_io.specs.declared.journal.Item.{Item}
 use Rattle.wire_io.specs.declared.journal.Item.TheVariants.{Heard, Taken, Held, Released, HungUp}
 use Rattle.wire_io.specs.declared.peers.Peer.{Peer}
-use Rattle.wire_io.specs.Journal.{taken_of, is_held, is_hung_up, opened_by}
+use Rattle.wire_io.specs.Journal.{taken_of, is_on_hold, is_hung_up, opened_by}
 
 -- the octets taken for a connection, whether it is on hold, and whether it was hung up
 pub record PeerState : Type 0 where
   pub taken : List ℕ
-  pub held : Bool
+  pub on_hold : Bool
   pub hung_up : Bool
 
 -- what the journal says of the connection
 abbrev pub state_in : List Item → ℕ → PeerState
-state_in journal conn = record { taken = taken_of conn journal; held = is_held conn journal; hung_up = is_hung_up conn journal }
+state_in journal conn = record { taken = taken_of conn journal; on_hold = is_on_hold conn journal; hung_up = is_hung_up conn journal }
 
 -- what one more item makes of it
 abbrev pub state_after : Item → PeerState → PeerState
 state_after (Taken conn octets) state = record state { taken = state.taken ++ octets }
-state_after (Held conn) state = record state { held = true }
-state_after (Released conn) state = record state { held = false }
-state_after (HungUp conn) state = record state { held = false; hung_up = true }
+state_after (Held conn) state = record state { on_hold = true }
+state_after (Released conn) state = record state { on_hold = false }
+state_after (HungUp conn) state = record state { on_hold = false; hung_up = true }
 state_after _ state = state
 
 -- what is kept of a connection; of one that isn't kept nothing was taken
 abbrev pub state_of_kept : Option Peer → PeerState
-state_of_kept None = record { taken = []; held = false; hung_up = false }
-state_of_kept (Some peer) = record { taken = peer.taken.items; held = peer.held; hung_up = peer.hung_up }
+state_of_kept None = record { taken = []; on_hold = false; hung_up = false }
+state_of_kept (Some peer) = record { taken = peer.taken.items; on_hold = peer.on_hold; hung_up = peer.hung_up }
 
 -- what the map keeps of the connection
 abbrev pub state_of : BTreeMap ℕ Peer → ℕ → PeerState

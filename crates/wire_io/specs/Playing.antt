@@ -8,7 +8,7 @@ use Rattle.script_text.specs.declared.event.ScriptEvent.TheVariants as script
 use Rattle.wire_io.specs.declared.journal.Event.{Event}
 use Rattle.wire_io.specs.declared.journal.Event.TheVariants.{Opened, Bytes, Ended, Ready, Stop}
 use Rattle.wire_io.specs.declared.journal.Item.{Item}
-use Rattle.wire_io.specs.Journal.{is_held}
+use Rattle.wire_io.specs.Journal.{is_on_hold}
 use Rattle.wire_io.specs.Plan.{Plan}
 use Rattle.wire_io.specs.Telling.{event_of}
 
@@ -48,7 +48,7 @@ next_turn on_hold len (event ∷ events) =
 -- which connections the journal, if it is told, has on hold
 unfoldable pub holds_of : Option (List Item) → ℕ → Bool
 holds_of None conn = false
-holds_of (Some journal) conn = is_held conn journal
+holds_of (Some journal) conn = is_on_hold conn journal
 
 -- the connection of the first planned event
 abbrev pub first_conn : List ScriptEvent → Option ℕ

@@ -1,5 +1,6 @@
 -- A link that gives the events of a script: what it holds, and what each of its calls does.
 use Rattle.std.specs.Prelude.{◌≡◌, ℕ, true, false, List, [], ◌∷◌, ◌++◌, length, Result, Ok, Err}
+use Rattle.std.specs.List.{list_any}
 use Rattle.plain_values.specs.Counts.{next_count}
 use Rattle.script_text.specs.declared.event.ScriptEvent.{ScriptEvent}
 use Rattle.script_text.specs.Script.{OpensOnce, AreFilled, opened_by, has}
@@ -27,6 +28,10 @@ pub record LinkState : Type 0 where
 abbrev pub fresh_link : List ScriptEvent → List ℕ → List ℕ → List ℕ → LinkState
 fresh_link events failing later gone =
     record { journal = []; plan = record { to_come = events; failing = failing; later = later; gone = gone }; calls = 0; writes = 0; faults = 0; lost = 0 }
+
+-- no call is listed to take nothing now and to find its connection lost
+abbrev pub AreApart : List ℕ → List ℕ → Type 0
+AreApart later gone = list_any (λ call. is_listed call gone) later ≡ false
 
 -- the events may still come after what was done: no number is opened twice, no octets are empty, and
 -- after Stop there are none
@@ -63,7 +68,7 @@ LinkWrites old conn octets (took.Took count) new = (is_listed old.writes old.pla
     × (count ≡ length octets) × (new ≡ record (with_item old (Taken conn octets)) { writes = next_count old.writes })
 LinkWrites old conn octets took.Later new = (is_listed old.writes old.plan.later ≡ true)
     × (new ≡ record (with_item old (Later conn)) { writes = next_count old.writes })
-LinkWrites old conn octets took.Gone new = (is_listed old.writes old.plan.gone ≡ true)
+LinkWrites old conn octets took.Gone new = (is_listed old.writes old.plan.later ≡ false) × (is_listed old.writes old.plan.gone ≡ true)
     × (new ≡ record (with_item old (Gone conn)) { writes = next_count old.writes; lost = next_count old.lost })
 LinkWrites old conn octets took.NoMemory new = new ≡ record old { writes = next_count old.writes }
 

@@ -10,7 +10,7 @@ use Rattle.wire_io.specs.declared.journal.Event.{Event}
 use Rattle.wire_io.specs.declared.journal.Event.TheVariants.{Opened, Bytes, Ended, Ready, Idle, Stop}
 use Rattle.wire_io.specs.declared.journal.Item.{Item}
 use Rattle.wire_io.specs.declared.journal.Item.TheVariants.{Heard, OpenedAt, Taken, Later, Gone}
-use Rattle.wire_io.specs.Journal.{was_opened, was_stopped, is_held}
+use Rattle.wire_io.specs.Journal.{was_opened, was_stopped, is_on_hold}
 
 -- the event of an answer, whose octets stand at the front of the buffer
 unfoldable pub event_of : List ℕ → Answer → Event
@@ -35,7 +35,7 @@ OpenTells old address sessions (Err NoMemory) new = new ≡ old
 -- the event may come after what was done: a number is opened once, no octets come on hold
 unfoldable pub MayCome : List Item → Event → Type 0
 MayCome journal (Opened conn) = was_opened conn journal ≡ false
-MayCome journal (Bytes conn octets) = is_held conn journal ≡ false
+MayCome journal (Bytes conn octets) = is_on_hold conn journal ≡ false
 MayCome journal (Ended conn) = Unit {0}
 MayCome journal (Ready conn) = Unit {0}
 MayCome journal Idle = Unit {0}

@@ -13,7 +13,7 @@ use std::collections::BTreeMap;
 #[derive(Debug, Drop)]
 pub(crate) struct Peer {
     pub(crate) taken: Vec<u8>,
-    pub(crate) held: bool,
+    pub(crate) on_hold: bool,
     pub(crate) hung_up: bool,
 }
 
@@ -32,7 +32,7 @@ pub(crate) fn add_peer(
     }
     let peer = Peer {
         taken: Vec::new(alloc),
-        held: false,
+        on_hold: false,
         hung_up: false,
     };
     peers.insert(conn, peer)?;
@@ -58,13 +58,13 @@ pub(crate) fn take(
 
 #[tactic(auto, unfolding(crate::specs::Peers::KeepsPeers, crate::specs::Peers::ChangesPeer))]
 /// Puts the connection, which is kept, on hold, or releases it.
-pub(crate) fn set_held(peers: &mut BTreeMap<u32, Peer>, conn: u32, held: bool)
+pub(crate) fn set_on_hold(peers: &mut BTreeMap<u32, Peer>, conn: u32, on_hold: bool)
     requires { IsSome (get nat_cmp peers.old conn) }
-    ensures held { held ≡ true → ChangesPeer peers.old conn (Item.Held conn) peers.new }
-    ensures released { held ≡ false → ChangesPeer peers.old conn (Item.Released conn) peers.new }
+    ensures held { on_hold ≡ true → ChangesPeer peers.old conn (Item.Held conn) peers.new }
+    ensures released { on_hold ≡ false → ChangesPeer peers.old conn (Item.Released conn) peers.new }
 {
     if let Some(peer) = peers.get_mut(&conn) {
-        peer.held = held;
+        peer.on_hold = on_hold;
     }
 }
 
@@ -75,7 +75,7 @@ pub(crate) fn set_hung_up(peers: &mut BTreeMap<u32, Peer>, conn: u32)
     ensures exact { ChangesPeer peers.old conn (Item.HungUp conn) peers.new }
 {
     if let Some(peer) = peers.get_mut(&conn) {
-        peer.held = false;
+        peer.on_hold = false;
         peer.hung_up = true;
     }
 }

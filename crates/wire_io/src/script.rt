@@ -192,7 +192,7 @@ pub(crate) fn turn(script: &Script, journal: &TrackedJournal, buf: &mut [u8]) ->
     let Some(conn) = script.conn() else {
         return Heard::Stop;
     };
-    if journal.held(conn) {
+    if journal.on_hold(conn) {
         return Heard::Ready(conn);
     }
     script.give(buf)

@@ -10,7 +10,7 @@ ghost use Rattle.wire_io.specs.Journal.{is_hung_up, opened_by, taken_of};
 ghost use Rattle.wire_io.specs.MemoryForms.{is_listed};
 ghost use Rattle.wire_io.specs.Playing.{NextPlays};
 ghost use Rattle.wire_io.specs.Rising.{rising};
-ghost use Rattle.wire_io.specs.Scripted.{fresh_link, LinkOpens, LinkHears, LinkWrites, LinkNotes};
+ghost use Rattle.wire_io.specs.Scripted.{fresh_link, AreApart, LinkOpens, LinkHears, LinkWrites, LinkNotes};
 ghost use Rattle.wire_io.specs.Telling.{OpenTells, NextTells, TookTells, NoteTells};
 
 use crate::listed::is_listed;
@@ -24,7 +24,8 @@ use std::alloc::{AllocError, Global};
 use std::marker::Model;
 
 /// A link that gives planned events in their order, each as soon as it is asked for, takes every
-/// piece whole, and keeps a journal. It fails at chosen calls.
+/// piece whole, and keeps a journal. It fails, takes nothing now, or finds a connection lost, at
+/// chosen calls.
 #[derive(Debug, Drop)]
 pub struct ScriptLink {
     script: Script,
@@ -52,7 +53,7 @@ impl ScriptLink {
     /// A link with these events, which open no number twice and have no empty octets. It counts from 0
     /// the calls of `open` and `next` together, and those of `write` alone. Of the former those in
     /// `failing` fail; of the latter those in `later` take nothing now, and those in `gone` find the
-    /// connection lost. Both of these lists are empty in this version. Takes no memory.
+    /// connection lost; no number is in both of these. Takes no memory.
     pub fn new(
         alloc: Global,
         events: Vec<ScriptEvent>,
@@ -62,7 +63,7 @@ impl ScriptLink {
     ) -> ScriptLink
         requires once { OpensOnce events.items }
         requires filled { AreFilled events.items }
-        requires takes { (later.items ≡ []) × (gone.items ≡ []) }
+        requires apart { AreApart later.items gone.items }
         ensures exact { result ≡ fresh_link events.items failing.items later.items gone.items }
     {
         let script = Script::of_list(alloc, events);

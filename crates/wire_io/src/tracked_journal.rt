@@ -3,13 +3,13 @@
 ghost use Rattle.std.specs.Prelude.{◌≡◌, ◌<◌, [], ◌∷◌, ◌++◌, length, slice_get, IfOk, OnOk, OnErr, vec_len, vec_capacity};
 ghost use Rattle.wire_io.specs.Answers.{HeardFits};
 ghost use Rattle.wire_io.specs.Log.{IsQuietNote, item_of};
-ghost use Rattle.wire_io.specs.Journal.{is_held, is_hung_up, opened_by, taken_of};
+ghost use Rattle.wire_io.specs.Journal.{is_on_hold, is_hung_up, opened_by, taken_of};
 ghost use Rattle.wire_io.specs.Peers.{IsQuiet};
 ghost use Rattle.wire_io.specs.Rising.{rising};
 ghost use Rattle.wire_io.specs.Telling.{event_of};
 
 use crate::log::{Log, Note};
-use crate::peers::{Peer, add_peer, set_held, set_hung_up, take};
+use crate::peers::{Peer, add_peer, set_hung_up, set_on_hold, take};
 use crate::rising::{in_order, number_at};
 use crate::{Event, Heard, Item};
 use plain_values::Text;
@@ -72,11 +72,11 @@ impl TrackedJournal {
     }
 
     /// Whether the connection is on hold.
-    pub(crate) fn held(&self, conn: u32) -> bool
-        ensures exact { result ≡ is_held conn self.now }
+    pub(crate) fn on_hold(&self, conn: u32) -> bool
+        ensures exact { result ≡ is_on_hold conn self.now }
     {
         match self.peers.get(&conn) {
-            Some(peer) => peer.held,
+            Some(peer) => peer.on_hold,
             None => false,
         }
     }
@@ -114,7 +114,7 @@ impl TrackedJournal {
     {
         self.log.reserve(0)?;
         add_peer(self.alloc, &mut self.peers, conn)?;
-        set_held(&mut self.peers, conn, true);
+        set_on_hold(&mut self.peers, conn, true);
         self.log.put(Note::Held(conn), &[]);
         Ok(())
     }
@@ -126,7 +126,7 @@ impl TrackedJournal {
     {
         self.log.reserve(0)?;
         add_peer(self.alloc, &mut self.peers, conn)?;
-        set_held(&mut self.peers, conn, false);
+        set_on_hold(&mut self.peers, conn, false);
         self.log.put(Note::Released(conn), &[]);
         Ok(())
     }

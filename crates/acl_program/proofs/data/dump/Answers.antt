@@ -1,4 +1,6 @@
 use Rattle.command_words.specs.Command.{Dump}
+use Rattle.std.proofs.Common.{refl}
+use Rattle.acl_program.specs.Outside.{outside}
 use Rattle.acl_program.proofs.RunLemmas.{LoadsData-good}
 use Rattle.acl_program.proofs.PerformLemmas.{Performs-dumped, Performs-refused}
 use Rattle.acl_program.proofs.data.dump.Goals as goal
@@ -9,8 +11,8 @@ print_tree-requires g c = LoadsData-good _ _ _ _ _ c.in-Ok.ensures.exact
 
 -- the data file was loaded
 pub returns-in-Ok-clause-performs : goal.returns-in-Ok-clause-performs
-returns-in-Ok-clause-performs g c = Performs-dumped _ _ _ _ _ _ _ _ _ _ c.in-Ok.ensures.exact c.print_tree.ensures.ends
+returns-in-Ok-clause-performs g c = λ link. Performs-dumped _ (outside _ _ _ _ link) (outside _ _ _ _ link) _ _ c.in-Ok.ensures.exact c.print_tree.ensures.ends refl
 
 -- it wasn't
 pub returns-in-Err-clause-performs : goal.returns-in-Err-clause-performs
-returns-in-Err-clause-performs g c = Performs-refused (Dump c.args.name.now) _ _ _ _ _ _ _ _ _ c.in-Err.ensures.exact c.print_trouble.ensures.ends
+returns-in-Err-clause-performs g c = λ link. Performs-refused (Dump c.args.name.now) (outside _ _ _ _ link) (outside _ _ _ _ link) _ _ c.in-Err.ensures.exact c.print_trouble.ensures.ends refl

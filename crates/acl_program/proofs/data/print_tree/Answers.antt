@@ -1,10 +1,11 @@
 use Rattle.std.proofs.Common.{refl}
 use Rattle.dir_tree.specs.Numbered.{entries_of}
 use Rattle.acl_program.specs.Outcomes.{Dumped, text_of, status_of}
+use Rattle.acl_program.specs.Outside.{written}
 use Rattle.acl_program.proofs.EndsLemmas.{Ends-put}
 use Rattle.acl_program.proofs.data.print_tree.Goals as goal
 
 -- the tree was to be put, and how the sink answered
 pub returns : goal.returns
 unfolding text_of status_of
-returns g c = record { ends = Ends-put (Dumped (entries_of c.args.tree.now)) _ _ _ _ _ _ _ _ refl refl c.after.ensures.exact c.put_tree-put.ensures.tells c.put_tree-put.ensures.cause }
+returns g c = record { ends = Ends-put (Dumped (entries_of c.args.tree.now)) (written _ _) (written _ _) _ _ _ _ refl refl c.after.ensures.exact c.put_tree-put.ensures.tells c.put_tree-put.ensures.cause }

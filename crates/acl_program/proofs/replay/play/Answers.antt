@@ -1,6 +1,7 @@
 use Rattle.std.proofs.Common.{sym, ap, ◌∙◌, subst}
 use Rattle.schema_rules.specs.Rules.{IsGoodTree}
 use Rattle.acl_program.specs.Outcomes.{dump_text}
+use Rattle.acl_program.specs.Outside.{written}
 use Rattle.acl_program.proofs.RunLemmas.{Played-stopped, Played-spent, Played-nothing, no_fault}
 use Rattle.acl_program.proofs.replay.play.Goals as goal
 
@@ -10,7 +11,7 @@ dumped-requires g c = record { good = subst IsGoodTree (sym (c.tree.ensures ∙ 
 
 pub returns-in-Stopped : goal.returns-in-Stopped
 returns-in-Stopped g c =
-    record { ends = Played-stopped _ _ _ _ c.args.dump _ _ _ _ _ _ _ c.in-Stopped.ensures.plays (c.dumped.ensures.text ∙ ap (dump_text c.args.dump) c.tree.ensures) c.show.ensures.ends }
+    record { ends = Played-stopped _ _ _ _ c.args.dump _ _ (written _ _) (written _ _) _ c.in-Stopped.ensures.plays (c.dumped.ensures.text ∙ ap (dump_text c.args.dump) c.tree.ensures) c.show.ensures.ends }
 
 -- the turns are spent
 pub dumped-requires-in-TurnsSpent : goal.dumped-requires-in-TurnsSpent
@@ -18,7 +19,7 @@ dumped-requires-in-TurnsSpent g c = record { good = subst IsGoodTree (sym (c.tre
 
 pub returns-in-TurnsSpent : goal.returns-in-TurnsSpent
 returns-in-TurnsSpent g c =
-    record { ends = Played-spent _ _ _ _ c.args.dump _ _ _ _ _ _ _ c.in-TurnsSpent.ensures.plays (c.dumped-in-TurnsSpent.ensures.text ∙ ap (dump_text c.args.dump) c.tree-in-TurnsSpent.ensures) c.show-in-TurnsSpent.ensures.ends }
+    record { ends = Played-spent _ _ _ _ c.args.dump _ _ (written _ _) (written _ _) _ c.in-TurnsSpent.ensures.plays (c.dumped-in-TurnsSpent.ensures.text ∙ ap (dump_text c.args.dump) c.tree-in-TurnsSpent.ensures) c.show-in-TurnsSpent.ensures.ends }
 
 -- the link never fails
 pub returns-in-LinkFault : goal.returns-in-LinkFault
@@ -26,4 +27,4 @@ returns-in-LinkFault g c = absurd (no_fault _ _ _ _ _ c.in-LinkFault.ensures.pla
 
 -- nothing was put
 pub returns : goal.returns
-returns g c = record { ends = Played-nothing _ _ _ _ _ _ }
+returns g c = record { ends = Played-nothing _ _ _ _ (written _ _) }

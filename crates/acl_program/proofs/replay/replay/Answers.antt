@@ -1,4 +1,7 @@
 use Rattle.command_words.specs.Command.{Replay}
+use Rattle.std.proofs.Common.{refl}
+use Rattle.acl_program.specs.Outside.{outside}
+use Rattle.acl_program.specs.Asked.{replay_asked}
 use Rattle.acl_program.proofs.RunLemmas.{LoadsData-good}
 use Rattle.acl_program.proofs.PerformLemmas.{Performs-replayed, Performs-refused}
 use Rattle.acl_program.proofs.replay.replay.Goals as goal
@@ -9,8 +12,9 @@ replay_over-requires g c = record { good = LoadsData-good _ _ _ _ _ c.in-Ok.ensu
 
 -- the data file was loaded
 pub returns-in-Ok-clause-performs : goal.returns-in-Ok-clause-performs
-returns-in-Ok-clause-performs g c = Performs-replayed _ _ _ _ _ _ _ _ _ _ _ _ _ _ _ c.in-Ok.ensures.exact c.in-Ok.ensures.kept c.replay_over.ensures.replays
+returns-in-Ok-clause-performs g c = λ link. Performs-replayed _ (replay_asked _ _ _ _) (outside _ _ _ _ link) (outside _ _ _ _ link) _ _ _ _ refl c.in-Ok.ensures.exact c.in-Ok.ensures.kept (c.replay_over.ensures.replays link) refl
 
 -- it wasn't
 pub returns-in-Err-clause-performs : goal.returns-in-Err-clause-performs
-returns-in-Err-clause-performs g c = Performs-refused (Replay c.args.asked.now.data.now c.args.asked.now.script.now c.args.asked.now.turns c.args.asked.now.dump) _ _ _ _ _ _ _ _ _ c.in-Err.ensures.exact c.print_trouble.ensures.ends
+returns-in-Err-clause-performs g c = λ link. Performs-refused (Replay c.args.asked.now.data.now c.args.asked.now.script.now c.args.asked.now.turns c.args.asked.now.dump)
+    (outside _ _ _ _ link) (outside _ _ _ _ link) _ _ c.in-Err.ensures.exact c.print_trouble.ensures.ends refl

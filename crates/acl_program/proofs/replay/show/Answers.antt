@@ -1,5 +1,6 @@
 use Rattle.std.proofs.Common.{sym}
 use Rattle.acl_program.specs.Playing.{Shows}
+use Rattle.acl_program.specs.Outside.{written}
 use Rattle.acl_program.proofs.EndsLemmas.{Ends-put}
 use Rattle.acl_program.proofs.replay.show.Goals as goal
 
@@ -7,5 +8,5 @@ use Rattle.acl_program.proofs.replay.show.Goals as goal
 pub returns : goal.returns
 unfolding Shows
 returns g c = record {
-  ends = λ outcome text status. Ends-put outcome _ _ _ _ _ _ _ _ (sym text) (sym status) c.after.ensures.exact c.print_replay-put.ensures.tells c.print_replay-put.ensures.cause;
+  ends = λ outcome text status. Ends-put outcome (written _ _) (written _ _) _ _ _ _ (sym text) (sym status) c.after.ensures.exact c.print_replay-put.ensures.tells c.print_replay-put.ensures.cause;
 }

@@ -1,10 +1,11 @@
 use Rattle.std.proofs.Common.{refl, ◌∙◌}
 use Rattle.data_file.specs.Files.{cause_of}
 use Rattle.acl_program.specs.Outcomes.{BadDataLine, status_of}
+use Rattle.acl_program.specs.Outside.{written}
 use Rattle.acl_program.proofs.EndsLemmas.{Ends-put}
 use Rattle.acl_program.proofs.troubles.print_bad_data.Goals as goal
 
 -- the text was to be put, and how the sink answered
 pub returns : goal.returns
 unfolding status_of
-returns g c = record { ends = Ends-put (BadDataLine c.args.line (cause_of c.args.cause)) _ _ _ _ _ _ _ _ (c.as_bytes.ensures.value ∙ c.in-Ok.ensures) refl c.after.ensures.exact c.write_all-put.ensures.tells c.write_all-put.ensures.cause }
+returns g c = record { ends = Ends-put (BadDataLine c.args.line (cause_of c.args.cause)) (written _ _) (written _ _) _ _ _ _ (c.as_bytes.ensures.value ∙ c.in-Ok.ensures) refl c.after.ensures.exact c.write_all-put.ensures.tells c.write_all-put.ensures.cause }

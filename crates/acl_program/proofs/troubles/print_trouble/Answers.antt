@@ -1,9 +1,10 @@
 use Rattle.std.proofs.Common.{refl}
 use Rattle.acl_program.specs.Outcomes.{OutOfMemory}
+use Rattle.acl_program.specs.Outside.{written}
 use Rattle.acl_program.proofs.EndsLemmas.{Ends-no_memory}
 use Rattle.wire_io.proofs.Theorems.{appended-none}
 use Rattle.acl_program.proofs.troubles.print_trouble.Goals as goal
 
 -- nothing is printed for want of memory
 pub returns-in-NoMemory : goal.returns-in-NoMemory
-returns-in-NoMemory g c = record { ends = rw c.in-NoMemory.is (Ends-no_memory OutOfMemory _ _ _ _ 0 (appended-none _) refl) }
+returns-in-NoMemory g c = record { ends = rw c.in-NoMemory.is (Ends-no_memory OutOfMemory (written _ _) (written _ _) 0 (appended-none _) refl) }

@@ -1,9 +1,10 @@
 use Rattle.std.proofs.Common.{refl}
 use Rattle.acl_program.specs.Outcomes.{NoCommand, text_of, status_of}
+use Rattle.acl_program.specs.Outside.{written}
 use Rattle.acl_program.proofs.EndsLemmas.{Ends-put}
 use Rattle.acl_program.proofs.troubles.print_usage.Goals as goal
 
 -- the text was to be put, and how the sink answered
 pub returns : goal.returns
 unfolding text_of status_of
-returns g c = record { ends = Ends-put NoCommand _ _ _ _ _ _ _ _ refl refl c.after.ensures.exact c.write_all-put.ensures.tells c.write_all-put.ensures.cause }
+returns g c = record { ends = Ends-put NoCommand (written _ _) (written _ _) _ _ _ _ refl refl c.after.ensures.exact c.write_all-put.ensures.tells c.write_all-put.ensures.cause }

@@ -13,4 +13,4 @@ pub invariant_of-self-2 : goal.invariant_of-self-2
 unfolding IsOf
 invariant_of-self-2 c =
     IsTracked-changed c.args.conn (Held c.args.conn) refl (cc)
-    (IsTracked-kept c.reserve.ensures.kept c.self.invariant c.add_peer.ensures.kept) (c.set_held.ensures.held refl)
+    (IsTracked-kept c.reserve.ensures.kept c.self.invariant c.add_peer.ensures.kept) (c.set_on_hold.ensures.held refl)

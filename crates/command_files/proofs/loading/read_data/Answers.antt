@@ -1,6 +1,6 @@
-use Rattle.acl_program.specs.Troubles.{ReadsData}
-use Rattle.acl_program.proofs.LoadLemmas.{ReadsData-refused}
-use Rattle.acl_program.proofs.loading.read_data.Goals as goal
+use Rattle.command_files.specs.Loading.{ReadsData}
+use Rattle.command_files.proofs.LoadLemmas.{ReadsData-refused}
+use Rattle.command_files.proofs.loading.read_data.Goals as goal
 
 -- the text is accepted
 pub returns-in-Ok : goal.returns-in-Ok

@@ -1,6 +1,6 @@
-use Rattle.acl_program.specs.Troubles.{ReadsScript}
-use Rattle.acl_program.proofs.LoadLemmas.{ReadsScript-refused}
-use Rattle.acl_program.proofs.loading.read_script.Goals as goal
+use Rattle.command_files.specs.Loading.{ReadsScript}
+use Rattle.command_files.proofs.LoadLemmas.{ReadsScript-refused}
+use Rattle.command_files.proofs.loading.read_script.Goals as goal
 
 -- the text is a script
 pub returns-in-Ok : goal.returns-in-Ok

@@ -1,5 +1,5 @@
-use Rattle.acl_program.proofs.LoadLemmas.{LoadsData-read, LoadsData-refused}
-use Rattle.acl_program.proofs.loading.load_data.Goals as goal
+use Rattle.command_files.proofs.LoadLemmas.{LoadsData-read, LoadsData-refused}
+use Rattle.command_files.proofs.loading.load_data.Goals as goal
 
 -- the file was read
 pub returns-in-Ok-clause-exact : goal.returns-in-Ok-clause-exact

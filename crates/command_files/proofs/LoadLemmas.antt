@@ -9,18 +9,17 @@ use Rattle.script_text.specs.declared.event.ScriptFault.TheVariants as script
 use Rattle.script_text.specs.ScriptReading.{IsCause, script_of}
 use Rattle.script_text.proofs.Theorems.{script_of-err}
 use Rattle.wire_io.specs.Scripted.{LinkState}
-use Rattle.acl_program.specs.declared.loading.Trouble.{Trouble}
-use Rattle.acl_program.specs.declared.loading.Trouble.TheVariants as trouble
-use Rattle.dir_tree.specs.Numbered.{Numbered}
-use Rattle.dir_tree.specs.Numbered.{entries_of}
+use Rattle.command_files.specs.declared.loading.Trouble.{Trouble}
+use Rattle.command_files.specs.declared.loading.Trouble.TheVariants as trouble
+use Rattle.dir_tree.specs.Numbered.{Numbered, entries_of}
 use Rattle.op_write.specs.declared.fault.LoadCause.TheVariants.{Limit}
 use Rattle.op_write.specs.DataFile.{OfRecord, loads}
 use Rattle.data_file.specs.declared.fault.DataCause.TheVariants as DataCause
 use Rattle.data_file.specs.declared.fault.DataFault.{DataFault}
 use Rattle.data_file.specs.declared.fault.DataFault.TheVariants as loading
 use Rattle.data_file.specs.Files.{IsDataFault, cause_of}
-use Rattle.acl_program.specs.Causes.{HoldsOf, HoldsIn, IsUnread, IsBadData, IsGoodData, IsBadScript, IsGoodScript, most_data, most_script}
-use Rattle.acl_program.specs.Troubles.{Loads, LoadsData, ReadsScript, ReadsData, data_trouble_of_file, trouble_of_data, trouble_of_file, trouble_of_script}
+use Rattle.command_files.specs.Accepting.{HoldsOf, HoldsIn, IsUnread, IsBadData, IsGoodData, IsBadScript, IsGoodScript, most_data, most_script}
+use Rattle.command_files.specs.Loading.{LoadsScript, LoadsData, ReadsScript, ReadsData, data_trouble_of_file, trouble_of_data, trouble_of_file, trouble_of_script}
 
 -- what holds of the content that was given holds of the file, where the shelf tells
 HoldsIn-given : (files : Option Files) (name content : List ℕ) (P : List ℕ → Type 0) → GivesFile files name content → P content → HoldsIn files name P
@@ -31,19 +30,19 @@ HoldsIn-given (Some files) name content P gives holds = let Q : Option (List ℕ
 -- the script of a file that was given
 loads_given :
     (files : Option Files) (name content : List ℕ) (before after : ℕ) (result : Result LinkState Trouble)
-    → GivesFile files name content → after ≡ before → ReadsScript content result → Loads files name before after result
-unfolding Loads ReadsScript
+    → GivesFile files name content → after ≡ before → ReadsScript content result → LoadsScript files name before after result
+unfolding LoadsScript ReadsScript
 loads_given files name content before after (Ok link) gives stays reads = (HoldsIn-given files name content (IsGoodScript link.plan.to_come) gives reads.0, reads.1, stays)
 loads_given files name content before after (Err trouble.NoFile) gives stays reads = absurd reads
 loads_given files name content before after (Err (trouble.BadData line cause)) gives stays reads = absurd reads
 loads_given files name content before after (Err (trouble.BadLine line)) gives stays reads = (HoldsIn-given files name content (IsBadScript line) gives reads, stays)
 loads_given files name content before after (Err trouble.NoMemory) gives stays reads = stays
 
-pub Loads-read :
+pub LoadsScript-read :
     {T : Type 0} (files : Option Files) (name content lent : List ℕ) (before after : ℕ) (text : T) (result : Result LinkState Trouble)
-    → lent ≡ content → GivesFile files name content → ReadCause {T = T} files name most_script before after (Ok text) → ReadsScript lent result → Loads files name before after result
+    → lent ≡ content → GivesFile files name content → ReadCause {T = T} files name most_script before after (Ok text) → ReadsScript lent result → LoadsScript files name before after result
 unfolding ReadCause
-Loads-read files name content lent before after text result same gives stays reads =
+LoadsScript-read files name content lent before after text result same gives stays reads =
     let P : List ℕ → Type 0 = λ octets. ReadsScript octets result in loads_given files name content before after result gives stays (subst P same reads)
 
 -- a file that is too long is no script
@@ -52,22 +51,22 @@ unfolding IsLongerFile IsBadScript
 too_long None line longer = absurd longer
 too_long (Some content) line longer = inr longer
 
-Loads-too_long :
+LoadsScript-too_long :
     (files : Option Files) (name : List ℕ) (before after line : ℕ)
-    → IsLonger files name most_script line → after ≡ before → Loads files name before after (Err (trouble.BadLine line))
-unfolding Loads IsLonger HoldsIn
-Loads-too_long None name before after line longer stays = (tt, stays)
-Loads-too_long (Some files) name before after line longer stays = (too_long (file_of name files) line longer, stays)
+    → IsLonger files name most_script line → after ≡ before → LoadsScript files name before after (Err (trouble.BadLine line))
+unfolding LoadsScript IsLonger HoldsIn
+LoadsScript-too_long None name before after line longer stays = (tt, stays)
+LoadsScript-too_long (Some files) name before after line longer stays = (too_long (file_of name files) line longer, stays)
 
 -- the file wasn't read, or is too long
-pub Loads-refused :
+pub LoadsScript-refused :
     (T : Type 0) (files : Option Files) (name : List ℕ) (before after : ℕ) (fault : ReadFault)
-    → ReadCause {T = T} files name most_script before after (Err fault) → Loads files name before after (Err (trouble_of_file fault))
-unfolding Loads ReadCause IsUnread
-Loads-refused T files name before after read.Absent cause = inr cause
-Loads-refused T files name before after read.Failed cause = inl cause
-Loads-refused T files name before after (read.TooLong line) cause = Loads-too_long files name before after line cause.0 cause.1
-Loads-refused T files name before after read.NoMemory cause = cause
+    → ReadCause {T = T} files name most_script before after (Err fault) → LoadsScript files name before after (Err (trouble_of_file fault))
+unfolding LoadsScript ReadCause IsUnread
+LoadsScript-refused T files name before after read.Absent cause = inr cause
+LoadsScript-refused T files name before after read.Failed cause = inl cause
+LoadsScript-refused T files name before after (read.TooLong line) cause = LoadsScript-too_long files name before after line cause.0 cause.1
+LoadsScript-refused T files name before after read.NoMemory cause = cause
 
 -- the text isn't a script
 pub ReadsScript-refused :

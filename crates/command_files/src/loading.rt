@@ -1,8 +1,8 @@
 //! Reading a data file and a script from a shelf.
 
 ghost use Rattle.std.specs.Prelude.{◌≡◌, ◌≤◌, length};
-ghost use Rattle.acl_program.specs.Causes.{most_data, most_script};
-ghost use Rattle.acl_program.specs.Troubles.{Loads, LoadsData, ReadsScript, ReadsData, data_trouble_of_file, trouble_of_data, trouble_of_file, trouble_of_script};
+ghost use Rattle.command_files.specs.Accepting.{most_data, most_script};
+ghost use Rattle.command_files.specs.Loading.{LoadsScript, LoadsData, ReadsScript, ReadsData, data_trouble_of_file, trouble_of_data, trouble_of_file, trouble_of_script};
 
 use data_file::{DataCause, DataFault, load};
 use dir_tree::Tree;
@@ -19,7 +19,7 @@ const MOST_SCRIPT: u64 = 67_108_864;
 
 /// Why a file wasn't read.
 #[derive(Clone, Copy, Debug, PartialEq)]
-pub(crate) enum Trouble {
+pub enum Trouble {
     /// The shelf has no such file, or could not read it.
     NoFile,
     /// The data file's first bad line and its cause, or the line where it becomes too long.
@@ -31,7 +31,7 @@ pub(crate) enum Trouble {
 }
 
 /// The tree of the data file.
-pub(crate) fn load_data<H: Shelf>(alloc: Global, shelf: &mut H, name: &str) -> Result<Tree, Trouble>
+pub fn load_data<H: Shelf>(alloc: Global, shelf: &mut H, name: &str) -> Result<Tree, Trouble>
     ensures exact { LoadsData (H.files shelf.old) name.now (H.faults shelf.old) (H.faults shelf.new) result }
     ensures kept { H.files shelf.new ≡ H.files shelf.old }
 {
@@ -73,12 +73,12 @@ fn misread_data(fault: DataFault) -> Trouble
 }
 
 /// A link that gives the events of the script file.
-pub(crate) fn load_script<H: Shelf>(
+pub fn load_script<H: Shelf>(
     alloc: Global,
     shelf: &mut H,
     name: &str,
 ) -> Result<ScriptLink, Trouble>
-    ensures exact { Loads (H.files shelf.old) name.now (H.faults shelf.old) (H.faults shelf.new) result }
+    ensures exact { LoadsScript (H.files shelf.old) name.now (H.faults shelf.old) (H.faults shelf.new) result }
     ensures kept { H.files shelf.new ≡ H.files shelf.old }
 {
     match read_all(alloc, shelf, name, MOST_SCRIPT) {

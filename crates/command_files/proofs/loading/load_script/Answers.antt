@@ -1,0 +1,10 @@
+use Rattle.command_files.proofs.LoadLemmas.{LoadsScript-read, LoadsScript-refused}
+use Rattle.command_files.proofs.loading.load_script.Goals as goal
+
+-- the file was read
+pub returns-in-Ok-clause-exact : goal.returns-in-Ok-clause-exact
+returns-in-Ok-clause-exact g c = LoadsScript-read _ _ _ _ _ _ _ _ c.as_slice.ensures.value c.in-Ok.ensures.ok c.in-Ok.ensures.cause c.read_script.ensures.exact
+
+-- it wasn't
+pub returns-in-Err-clause-exact : goal.returns-in-Err-clause-exact
+returns-in-Err-clause-exact g c = rw c.unread.ensures.exact (LoadsScript-refused _ _ _ _ _ _ c.in-Err.ensures.cause)

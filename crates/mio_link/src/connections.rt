@@ -1,0 +1,132 @@
+//! The connections of the system, each at a place.
+
+ghost use Rattle.std.specs.Prelude.{◌<◌, length, IfSome};
+ghost use Rattle.wire_io.specs.Answers.{HeardFits, TookFits};
+
+use crate::connection::Connection;
+use mio::event::Event;
+use std::alloc::{AllocError, Global};
+use wire_io::{Heard, Took};
+
+/// How many connections there may be: as many as a server holds, and one that it turns away.
+pub(crate) const PLACES: usize = 257;
+
+/// How many places are remembered by number.
+const HINTS: usize = 512;
+
+/// Places of connections, and at which of them each of the last numbers was put.
+#[derive(Drop)]
+pub(crate) struct Connections {
+    places: Vec<Option<Connection>>,
+    hints: Vec<usize>,
+}
+
+impl Connections {
+    /// All places free. Later calls take no memory.
+    pub(crate) fn new(alloc: Global) -> Result<Connections, AllocError> {
+        let mut places = Vec::with_capacity(alloc, PLACES)?;
+        for _ in 0..PLACES {
+            places.push(None)?;
+        }
+        let hints = vec![in alloc; 0; HINTS]?;
+        Ok(Connections { places, hints })
+    }
+
+    /// A free place.
+    pub(crate) fn free(&self) -> Option<usize> {
+        self.places.iter().position(|place| place.is_none())
+    }
+
+    /// Puts the connection at the place.
+    pub(crate) fn put(&mut self, place: usize, number: u32, connection: Connection) {
+        if let Some(free) = self.places.get_mut(place) {
+            *free = Some(connection);
+        }
+        if let Some(hint) = self.hints.get_mut(number as usize % HINTS) {
+            *hint = place;
+        }
+    }
+
+    /// The place of the connection of the number: first where a number like it was put last.
+    fn place_of(&self, number: u32) -> Option<usize> {
+        let hint = match self.hints.get(number as usize % HINTS) {
+            Some(place) => *place,
+            None => 0,
+        };
+        if self.is_at(hint, number) {
+            return Some(hint);
+        }
+        self.places
+            .iter()
+            .position(|place| has_number(place, number))
+    }
+
+    fn is_at(&self, place: usize, number: u32) -> bool {
+        match self.places.get(place) {
+            Some(found) => has_number(found, number),
+            None => false,
+        }
+    }
+
+    /// The connection of the number.
+    pub(crate) fn of(&mut self, number: u32) -> Option<&mut Connection> {
+        let place = self.place_of(number)?;
+        self.at(place)
+    }
+
+    /// The connection at the place.
+    fn at(&mut self, place: usize) -> Option<&mut Connection> {
+        match self.places.get_mut(place) {
+            Some(found) => found.as_mut(),
+            None => None,
+        }
+    }
+
+    /// Ends the connection of the number, and says whether there was one.
+    pub(crate) fn end(&mut self, number: u32) -> bool {
+        let Some(place) = self.place_of(number) else {
+            return false;
+        };
+        if let Some(found) = self.places.get_mut(place) {
+            *found = None;
+        }
+        true
+    }
+
+    /// Notes what the system reports of the place.
+    pub(crate) fn note(&mut self, place: usize, event: &Event) {
+        if let Some(connection) = self.at(place) {
+            connection.note(event);
+        }
+    }
+
+    /// What is to be heard of the place now.
+    pub(crate) fn hear(&mut self, place: usize, buf: &mut [u8]) -> Option<Heard>
+        requires room { 0 < length buf.old }
+        ensures fits { IfSome result (HeardFits (length buf.new)) }
+    {
+        match self.at(place) {
+            Some(connection) => connection.hear(buf),
+            None => None,
+        }
+    }
+
+    /// Offers octets for the connection of the number; one that isn't there is lost.
+    pub(crate) fn write(&mut self, number: u32, bytes: &[u8]) -> Took
+        requires { 0 < length bytes.now }
+        ensures fits { TookFits (length bytes.now) result }
+    {
+        match self.of(number) {
+            Some(connection) => connection.write(bytes),
+            None => Took::Gone,
+        }
+    }
+}
+
+/// Whether the connection of the number is at the place.
+fn has_number(place: &Option<Connection>, number: u32) -> bool {
+    match place {
+        Some(connection) => connection.number() == number,
+        None => false,
+    }
+}

@@ -1,0 +1,104 @@
+//! The link over the system's sockets.
+
+ghost use Rattle.std.specs.Prelude.{◌≡◌, IfOk};
+ghost use Rattle.mio_link.specs.SystemLink.{link_faults, lost_connections};
+
+use crate::sockets::Sockets;
+use plain_values::raised;
+use std::alloc::Global;
+use std::io::ErrorKind;
+use std::net::Net;
+use wire_io::{Heard, Link, NextFault, NoMemory, Took};
+
+/// A link to connections of the system. It tells nothing of what it did. Connections have the numbers 1,
+/// 2, 3 and so on; after 4294967295 none is accepted any more. At most 257 are open at a time.
+#[derive(Drop)]
+pub struct MioLink<R> {
+    rt: R,
+    sockets: Sockets,
+    faults: u64,
+    lost: u64,
+}
+
+impl<R: Net + Drop> MioLink<R> {
+    /// A link over the runtime, which isn't open yet and had no fault. Its tables are made here.
+    pub fn new(rt: R, alloc: Global) -> Result<MioLink<R>, NoMemory>
+        ensures fresh { IfOk result (λ link. (link_faults link ≡ 0) × (lost_connections link ≡ 0)) }
+    {
+        Ok(MioLink {
+            rt,
+            sockets: Sockets::new(alloc)?,
+            faults: 0,
+            lost: 0,
+        })
+    }
+}
+
+impl<R: Net> Link for MioLink<R> {
+    ghost use Rattle.std.specs.Prelude.{None};
+
+    ghost journal = { λ _. None };
+
+    ghost plan = { λ _. None };
+
+    ghost faults = { λ link. link.faults };
+
+    ghost lost = { λ link. link.lost };
+
+    /// Listens at the address, an IP address and a port.
+    #[tactic(auto, unfolding(wire_io::specs::Telling::OpenTells, wire_io::specs::Answers::LinkCause, wire_io::specs::Answers::IsPlanned))]
+    fn open(&mut self, address: &str, sessions: u64) -> Result<(), NextFault> {
+        match self.sockets.open(&self.rt, address, sessions) {
+            Ok(()) => Ok(()),
+            Err(error) if error.kind() == ErrorKind::OutOfMemory => Err(NextFault::NoMemory),
+            Err(_) => {
+                self.faults = raised(self.faults);
+                Err(NextFault::Failed)
+            }
+        }
+    }
+
+    /// Waits for the next event; Stop once as many connections ended as there were to be sessions.
+    #[tactic(auto, unfolding(wire_io::specs::Telling::NextTells, wire_io::specs::Playing::NextPlays, wire_io::specs::Answers::LinkCause, wire_io::specs::Answers::IsPlanned))]
+    fn next(&mut self, buf: &mut [u8]) -> Result<Heard, NextFault> {
+        if self.sockets.are_done() {
+            return Ok(Heard::Stop);
+        }
+        match self.sockets.next(buf) {
+            Ok(heard) => Ok(heard),
+            Err(error) if error.kind() == ErrorKind::OutOfMemory => Err(NextFault::NoMemory),
+            Err(_) => {
+                self.faults = raised(self.faults);
+                Err(NextFault::Failed)
+            }
+        }
+    }
+
+    /// Offers octets; a connection that was reset, or whose peer takes no more, is lost.
+    #[tactic(auto, unfolding(wire_io::specs::Telling::TookTells, wire_io::specs::Answers::WriteCause, wire_io::specs::Answers::IsPlanned))]
+    fn write(&mut self, conn: u32, bytes: &[u8]) -> Took {
+        let took = self.sockets.write(conn, bytes);
+        if took == Took::Gone {
+            self.lost = raised(self.lost);
+        }
+        took
+    }
+
+    #[tactic(auto, unfolding(wire_io::specs::Telling::NoteTells))]
+    fn hold(&mut self, conn: u32) -> Result<(), NoMemory> {
+        self.sockets.set_on_hold(conn, true);
+        Ok(())
+    }
+
+    #[tactic(auto, unfolding(wire_io::specs::Telling::NoteTells))]
+    fn release(&mut self, conn: u32) -> Result<(), NoMemory> {
+        self.sockets.set_on_hold(conn, false);
+        Ok(())
+    }
+
+    #[tactic(auto, unfolding(wire_io::specs::Telling::NoteTells))]
+    fn hang_up(&mut self, conn: u32) -> Result<(), NoMemory> {
+        self.sockets.hang_up(conn);
+        Ok(())
+    }
+}

@@ -1,0 +1,98 @@
+//! The listening socket and the poll of its connections.
+
+use crate::connections::PLACES;
+use mio::event::Event;
+use mio::net::{TcpListener, TcpStream};
+use mio::{Events, Interest, Poll, Token};
+use std::io;
+use std::io::ErrorKind;
+use std::net::{Net, SocketAddr};
+use std::time::Duration;
+
+/// What the listening socket is called in reports: no connection has this place.
+pub(crate) const LISTENER: usize = PLACES;
+
+/// How many milliseconds a poll waits at most where a connection could not be accepted.
+const PAUSE: u64 = 100;
+
+/// A listening socket, and the poll of it and of all connections.
+#[derive(Drop)]
+pub(crate) struct Server {
+    poll: Poll,
+    listener: TcpListener,
+    may_accept: bool,
+    // the system refused to accept a connection that waits
+    is_refused: bool,
+}
+
+impl Server {
+    /// Listens at the address.
+    pub(crate) fn open<R: Net>(rt: &R, address: SocketAddr) -> io::Result<Server> {
+        let poll = Poll::new(rt)?;
+        let mut listener = TcpListener::bind(rt, address)?;
+        let token = Token(LISTENER);
+        poll.registry()
+            .register(&mut listener, token, Interest::READABLE)?;
+        Ok(Server {
+            poll,
+            listener,
+            may_accept: false,
+            is_refused: false,
+        })
+    }
+
+    /// Waits for reports: where a connection could not be accepted, not for long.
+    pub(crate) fn wait(&mut self, events: &mut Events) -> io::Result<()> {
+        let limit = if self.is_refused {
+            Some(Duration::from_millis(PAUSE))
+        } else {
+            None
+        };
+        self.poll.poll(events, limit)
+    }
+
+    /// Takes the reports that are there.
+    pub(crate) fn look(&mut self, events: &mut Events) -> io::Result<()> {
+        self.poll.poll(events, Some(Duration::ZERO))
+    }
+
+    /// Connections wait.
+    pub(crate) fn note(&mut self, event: &Event) {
+        if event.is_readable() {
+            self.may_accept = true;
+        }
+    }
+
+    /// The next connection that waits, whose reports are called by the place.
+    pub(crate) fn accept(&mut self, place: usize) -> Option<TcpStream> {
+        if !self.may_accept {
+            return None;
+        }
+        match self.listener.accept() {
+            Ok((stream, _)) => self.watch(stream, place),
+            Err(error) => self.unaccepted(error.kind()),
+        }
+    }
+
+    /// Has the connection reported. Where the system refuses that, the connection is closed.
+    fn watch(&mut self, stream: TcpStream, place: usize) -> Option<TcpStream> {
+        self.is_refused = false;
+        let mut stream = stream;
+        let interest = Interest::READABLE | Interest::WRITABLE;
+        let token = Token(place);
+        if stream.set_nodelay(true).is_err() {
+            return None;
+        }
+        match self.poll.registry().register(&mut stream, token, interest) {
+            Ok(()) => Some(stream),
+            Err(_) => None,
+        }
+    }
+
+    /// Nothing was accepted: none waits, or it is tried again later.
+    fn unaccepted(&mut self, kind: ErrorKind) -> Option<TcpStream> {
+        self.may_accept = kind != ErrorKind::WouldBlock;
+        self.is_refused = self.may_accept;
+        None
+    }
+}

@@ -1,0 +1,9 @@
+use Rattle.std.proofs.Common.{refl}
+use Rattle.std.specs.List.{IsDistinct, list_any}
+use Rattle.script_text.specs.Script.{opens}
+use Rattle.protocol_tests.proofs.links.refusing_link.Goals as goal
+
+-- two of the events open two numbers
+pub new-link-requires-clause-once : goal.new-link-requires-clause-once
+unfolding IsDistinct
+new-link-requires-clause-once c = rw (c.in_ok-push-3.ensures.items, c.in_ok-push-2.ensures.items, c.in_ok-push.ensures.items, c.new-events.ensures.items) ((refl, tt), (tt, tt))
