@@ -206,7 +206,11 @@ pub fn octets_list(
 }
 
 /// Octets of as many elements as begin with this tag.
-pub fn each_octets(alloc: Global, tag: u8, bytes: &[u8]) -> Result<Component<'_, OneOrMany<Octets>>, ReadFault>
+pub fn each_octets(
+    alloc: Global,
+    tag: u8,
+    bytes: &[u8],
+) -> Result<Component<'_, OneOrMany<Octets>>, ReadFault>
     ensures { Gives (λ found. record { value = found.value; rest = found.rest.now }) result (each_of tag (reads AnyOctets) bytes.now) }
 {
     let found = each::<Octets>(alloc, tag, bytes)?;
@@ -217,7 +221,11 @@ pub fn each_octets(alloc: Global, tag: u8, bytes: &[u8]) -> Result<Component<'_,
 }
 
 /// Octets in an element with this tag, or none where the octets begin with another.
-pub fn optional_octets(alloc: Global, tag: u8, bytes: &[u8]) -> Result<Component<'_, Option<Octets>>, ReadFault>
+pub fn optional_octets(
+    alloc: Global,
+    tag: u8,
+    bytes: &[u8],
+) -> Result<Component<'_, Option<Octets>>, ReadFault>
     ensures { Gives (λ found. record { value = found.value; rest = found.rest.now }) result (optional_of tag (reads AnyOctets) bytes.now) }
 {
     optional::<Octets>(alloc, tag, bytes)

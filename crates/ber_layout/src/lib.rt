@@ -10,7 +10,8 @@ mod laws;
 mod write;
 
 pub use components::{
-    any, each, each_octets, flag, ignored, integer, list, marked, octets_list, optional, optional_octets, required, skipped,
+    any, each, each_octets, flag, ignored, integer, list, marked, octets_list, optional,
+    optional_octets, required, skipped,
 };
 pub use element::{
     Element, any_element, begins, first_element, is_further, is_further_but, number, tagged,
@@ -21,6 +22,6 @@ pub use laws::{
     reading_is_complete, reading_is_sound, short_values_fit, writing_is_read_again, writing_says,
 };
 pub use write::{
-    enclose, put_each_octets, put_element, put_flag, put_inside, put_list, put_mark, put_number, put_octets_list,
-    put_optional,
+    enclose, put_each_octets, put_element, put_flag, put_inside, put_list, put_mark, put_number,
+    put_octets_list, put_optional,
 };
