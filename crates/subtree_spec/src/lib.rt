@@ -1,4 +1,4 @@
-//! Subtree specifications (RFC 3672): read from text, printed, and which names belong to a subtree.
+//! Subtree specifications (RFC 3672): read from text, and which names belong to a subtree.
 #![tactic(auto)]
 
 mod error;
