@@ -1,7 +1,7 @@
 //! Entries: what each change leaves, and the classes of RFC 4519 and RFC 2798 with their superclasses.
 use crate::fixtures::{entry, name, put};
 use dir_tree::Entry;
-use dn_names::{make_value, same};
+use dn_names::same;
 use schema_core::{AttrId, row};
 use std::alloc::Global;
 use std::process::Abort;
@@ -25,8 +25,6 @@ enum Call {
     HasKind(AttrId),
     // Whether a value of the type has the key.
     HasValue(AttrId, &'static str),
-    // Gives the type this value alone.
-    SetValue(AttrId, &'static str),
     HasKindAt(usize),
     HasClass(&'static str),
     IsPoint,
@@ -46,15 +44,6 @@ fn put_attributes(entry: &Entry, out: &mut String) -> Result<(), Fail> {
     Ok(())
 }
 
-// Gives the type the one value, and answers true.
-fn set_value(alloc: Global, entry: &mut Entry, kind: AttrId, text: &str) -> Result<bool, Fail> {
-    let value = make_value(alloc, kind, text.as_bytes().to_vec(alloc)?)?;
-    let mut values = Vec::new(alloc);
-    values.push(value)?;
-    entry.set_values(kind, values)?;
-    Ok(true)
-}
-
 // Appends what a call answers: + for true, - for false, or the attributes.
 fn put_answer(alloc: Global, entry: &mut Entry, call: Call, out: &mut String) -> Result<(), Fail> {
     let answer = match call {
@@ -69,7 +58,6 @@ fn put_answer(alloc: Global, entry: &mut Entry, call: Call, out: &mut String) ->
         Call::HasValues(kind) => !entry.values(kind).is_empty(),
         Call::HasKind(kind) => entry.has_kind(kind),
         Call::HasValue(kind, key) => entry.has_value(kind, key.as_bytes()),
-        Call::SetValue(kind, text) => set_value(alloc, entry, kind, text)?,
         Call::HasKindAt(index) => entry.kind_at(index).is_some() && index < entry.kinds(),
         Call::HasClass(oid) => entry.has_class(oid),
         Call::IsPoint => entry.is_point(),
@@ -150,18 +138,14 @@ fn a_value_is_added_where_no_key_is_equal(rt: HostRuntime) -> Result<(), Fail> {
 }
 
 #[rattlefmt::skip]
-static SET: [Row; 2] = [
-    ("cn Anna alone", ANN,
-        &[Call::HasValue(AttrId::CN, "ann"), Call::SetValue(AttrId::CN, "Anna"), Call::HasValue(AttrId::CN, "ann"),
-          Call::Attributes], "++-objectClass=inetOrgPerson,cn=Anna,sn=Lee,"),
-    ("uid, which is new", ANN,
-        &[Call::HasKind(AttrId::UID), Call::SetValue(AttrId::UID, "al"), Call::HasKind(AttrId::UID), Call::Attributes],
-        "-++objectClass=inetOrgPerson,cn=Ann,Anna,sn=Lee,uid=al,"),
+static FOUND: [Row; 2] = [
+    ("cn ann, and no uid", ANN, &[Call::HasValue(AttrId::CN, "ann"), Call::HasKind(AttrId::UID)], "+-"),
+    ("cn, and none of Lee", ANN, &[Call::HasKind(AttrId::CN), Call::HasValue(AttrId::CN, "lee")], "+-"),
 ];
 
 #[test]
-fn values_take_the_place_of_others_where_these_stood(rt: HostRuntime) -> Result<(), Fail> {
-    check(&rt, rt.alloc(), &SET)
+fn types_and_values_are_found_by_their_keys(rt: HostRuntime) -> Result<(), Fail> {
+    check(&rt, rt.alloc(), &FOUND)
 }
 
 #[rattlefmt::skip]
