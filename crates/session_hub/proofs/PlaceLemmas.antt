@@ -1,12 +1,12 @@
 -- The first connection with a number, looked for from the front.
-use Rattle.std.proofs.Common.{◌≡◌, ◌<◌, ℕ, ◌==◌, cond, true, false, Option, List, [], ◌∷◌, ◌++◌, length, take, drop, set, get_or, Some, None, refl, ap, sym, ◌∙◌, drop-cons, suc, arith}
+use Rattle.std.proofs.Common.{◌≡◌, ◌<◌, ℕ, ◌==◌, cond, Bool, true, false, zero, Option, List, [], ◌∷◌, ◌++◌, length, take, drop, set, get_or, Some, None, refl, ap, sym, ◌∙◌, drop-cons, suc, arith}
 use Rattle.std.proofs.lemmas.Bool.Decides.{nat_tests}
 use Rattle.std.proofs.lemmas.Option.{slice_get_read}
 use Rattle.std.proofs.lemmas.List.{set_split}
 use Rattle.session_model.specs.Kept.{Kept, kept_of, queue_of, closing_of, cut_of, changed}
 use Rattle.session_model.proofs.Theorems.{queue_in, closing_in, queue_of_is, closing_of_is}
 use Rattle.session_hub.specs.Parties.{Requester}
-use Rattle.session_hub.specs.Hubs.{IsAt, NoneBefore}
+use Rattle.session_hub.specs.Hubs.{IsAt, NoneBefore, AreDistinct}
 
 -- a change of the first connection
 changed_first : (c : ℕ) (f : Kept Requester → Kept Requester) (k : Kept Requester) (ks : List (Kept Requester)) → k.number ≡ c → changed c f (k ∷ ks) ≡ f k ∷ ks
@@ -26,6 +26,37 @@ found_at c at kept k none within is same =
           ∙ ap (λ xs. take at kept ++ xs) (changed_first c f k (drop (suc at) kept) same)
           ∙ sym (set_split kept at (f k) within) ∙ ap (λ y. set kept at (f y)) (sym is_k);
     }
+
+-- a number of which nothing is kept stands at no place
+pub absent_at : (c at : ℕ) (ks : List (Kept Requester)) (k : Kept Requester) → kept_of c ks ≡ None → at < length ks → k ≡ get_or ks at k → k.number ≡ c → ⊥
+absent_at c at [] k none within is same = absurd (omega arith)
+absent_at c zero (x ∷ xs) k none within is same =
+    let there : kept_of c (x ∷ xs) ≡ Some x = grind (arith, nat_tests) in
+    absurd (cc)
+absent_at c (suc at) (x ∷ xs) k none within is same =
+    let later : kept_of c xs ≡ None = grind (arith, nat_tests) in
+    absent_at c at xs k later (omega arith) is same
+
+-- a connection of another number stands before
+none_step : (c at : ℕ) (x : Kept Requester) (xs : List (Kept Requester)) (k : Kept Requester) → kept_of x.number xs ≡ None → at < length xs → k ≡ get_or xs at k → k.number ≡ c → NoneBefore c at xs → NoneBefore c (suc at) (x ∷ xs)
+none_step c at x xs k none within is same later = by_number (x.number == c) refl
+  where
+    by_number : (b : Bool) → x.number == c ≡ b → NoneBefore c (suc at) (x ∷ xs)
+    by_number true e =
+        let one : x.number ≡ c = grind (arith, nat_tests) in
+        absurd (absent_at x.number at xs k none within is (same ∙ sym one))
+    by_number false e =
+        record {
+          found = ap (λ b. cond b (Some x) (kept_of c xs)) e ∙ later.found;
+          changes = λ f. ap (λ b. cond b (f x ∷ xs) (x ∷ changed c f xs)) e ∙ ap (λ ys. x ∷ ys) (later.changes f);
+        }
+
+-- where numbers are distinct, the number at a place stands at none before
+pub none_before : (c at : ℕ) (ks : List (Kept Requester)) (k : Kept Requester) → AreDistinct ks → at < length ks → k ≡ get_or ks at k → k.number ≡ c → NoneBefore c at ks
+none_before c at [] k distinct within is same = absurd (omega arith)
+none_before c zero (x ∷ xs) k distinct within is same = record { found = refl; changes = λ f. refl }
+none_before c (suc at) (x ∷ xs) k distinct within is same =
+    none_step c at x xs k distinct.0 (omega arith) is same (none_before c at xs k distinct.1 (omega arith) is same)
 
 -- the connection at the place of a number is the one that is kept of it
 kept_at : (c at : ℕ) (ks : List (Kept Requester)) (k : Kept Requester) → IsAt c at ks → k ≡ get_or ks at k → kept_of c ks ≡ Some k

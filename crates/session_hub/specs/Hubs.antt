@@ -1,5 +1,5 @@
 -- What a hub holds, and what each step leaves of it.
-use Rattle.std.specs.Prelude.{◌≡◌, ◌<◌, ◌≤◌, ℕ, Bool, false, cond, ◌||◌, List, [], ◌++◌, length, take, drop, Some, slice_get, slice_set}
+use Rattle.std.specs.Prelude.{◌≡◌, ◌<◌, ◌≤◌, ℕ, Bool, false, cond, ◌||◌, List, [], ◌∷◌, ◌++◌, length, take, drop, Some, None, slice_get, slice_set}
 use Rattle.std.specs.List.{AllByRecursion}
 use Rattle.session_model.specs.Run.{Session, Bytes, is_held, most_held}
 use Rattle.session_model.specs.Kept.{Kept, Held, heard, kept_of, is_kept, cut_of, changed}
@@ -46,6 +46,16 @@ OpensOne (event.Ended number) kept = ⊥
 -- each connection held has at most so many unread octets
 abbrev pub IsBounded : List (Kept Requester) → Type 0
 IsBounded kept = AllByRecursion (λ connection. length connection.rest ≤ most_unread) kept
+
+-- no two connections held have one number
+abbrev pub AreDistinct : List (Kept Requester) → Type 0
+AreDistinct [] = Unit {0}
+AreDistinct (connection ∷ connections) = (kept_of connection.number connections ≡ None) × AreDistinct connections
+
+-- what is always true of the connections held
+pub record AreHeld (kept : List (Kept Requester)) : Type 0 where
+  pub bounded : IsBounded kept
+  pub distinct : AreDistinct kept
 
 -- of a session, the reply beyond what was taken, where it is held
 abbrev pub left_of : Session Requester → ℕ → List ℕ

@@ -25,16 +25,18 @@ pub struct Hub {
     alloc: Global,
     connections: Vec<Connection>,
     was_cut: bool,
+    // the place of the connection that was heard last, where the next is looked for first
+    last: usize,
 }
 
 impl Model for Hub {
-    ghost use Rattle.session_hub.specs.Hubs.{HubState, IsBounded};
+    ghost use Rattle.session_hub.specs.Hubs.{HubState, AreHeld};
 
     ghost Value = { HubState };
 
     ghost view = { λ hub. record { kept = hub.connections.items; was_cut = hub.was_cut } };
 
-    ghost invariant = { λ hub. IsBounded hub.connections.items };
+    ghost invariant = { λ hub. AreHeld hub.connections.items };
 }
 
 impl Hub {
@@ -47,6 +49,7 @@ impl Hub {
             alloc,
             connections: Vec::with_capacity(alloc, MAX_CONNECTIONS)?,
             was_cut: false,
+            last: 0,
         })
     }
 
@@ -64,7 +67,7 @@ impl Hub {
         ensures exact { result.now ≡ queue_of conn self.now.kept }
         ensures run { QueuesReply conn self.now result.now }
     {
-        queue_at(&self.connections, conn)
+        queue_at(&self.connections, self.last, conn)
     }
 
     /// Whether the connection is to be hung up when nothing is left in its queue.
@@ -72,7 +75,7 @@ impl Hub {
         ensures exact { result ≡ closing_of conn self.now.kept }
         ensures run { ClosesWith conn self.now result }
     {
-        closing_at(&self.connections, conn)
+        closing_at(&self.connections, self.last, conn)
     }
 
     /// Behind how many messages of its last octets the connection was cut for want of memory, if it
@@ -80,7 +83,7 @@ impl Hub {
     pub fn cut(&self, conn: u32) -> Option<u64>
         ensures { result ≡ cut_of conn self.now.kept }
     {
-        cut_at(&self.connections, conn)
+        cut_at(&self.connections, self.last, conn)
     }
 
     /// Whether any connection was cut so far.
@@ -97,7 +100,7 @@ impl Hub {
         ensures exact { self.new ≡ record self.old { kept = taken_off conn count self.old.kept } }
         ensures run { FollowsTaking conn count self.old self.new }
     {
-        take_off(&mut self.connections, conn, count);
+        take_off(&mut self.connections, self.last, conn, count);
     }
 
     /// Hears an event (RFC 4511 5): a connection that opens is held where there is room, the
@@ -158,7 +161,7 @@ impl Hub {
         ensures cause { OnErr result (OpensOne (Event.Opened conn) self.old.kept) }
         ensures kept { OnErr result (self.new ≡ self.old) }
     {
-        if is_at(&self.connections, conn) {
+        if is_at(&self.connections, self.last, conn) {
             return Ok(());
         }
         if self.connections.len() >= MAX_CONNECTIONS {
@@ -172,19 +175,20 @@ impl Hub {
     fn end(&mut self, conn: u32)
         ensures { HearsAnywhere (Event.Ended conn) self.old self.new }
     {
-        end_at(&mut self.connections, conn);
+        end_at(&mut self.connections, self.last, conn);
     }
 
     fn hear_piece<D: Dir>(&mut self, dir: &mut D, conn: u32, piece: &[u8])
         ensures { Hears (Event.Bytes conn piece.entry) (held (D.entries dir.old) self.old) (held (D.entries dir.new) self.new) }
     {
-        let cut = hear_at(self.alloc, dir, &mut self.connections, conn, piece);
+        let connections = &mut self.connections;
+        let cut = hear_at(self.alloc, dir, connections, &mut self.last, conn, piece);
         self.was_cut |= cut;
     }
 
     fn forget(&mut self, conn: u32)
         ensures { self.new ≡ record self.old { kept = forgotten conn self.old.kept } }
     {
-        forget_at(&mut self.connections, conn);
+        forget_at(&mut self.connections, self.last, conn);
     }
 }

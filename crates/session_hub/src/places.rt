@@ -1,17 +1,21 @@
 //! Where a connection stands among those held.
 
-ghost use Rattle.std.specs.Prelude.{◌≡◌, ◌≤◌, length, MatchOption, None};
+ghost use Rattle.std.specs.Prelude.{◌≡◌, ◌≤◌, length, MatchOption, None, true};
 ghost use Rattle.session_model.specs.Kept.{kept_of, is_kept, queue_of, closing_of, cut_of, forgotten, taken_off, changed, closed};
-ghost use Rattle.session_hub.specs.Hubs.{IsAt, IsBounded, HearsAt};
+ghost use Rattle.session_hub.specs.Hubs.{IsAt, IsBounded, AreDistinct, HearsAt};
 
 use crate::connection::Connection;
 use acdf_core::Dir;
 use std::alloc::Global;
 
-/// The place of the first connection with the number.
-pub fn place_of(connections: &[Connection], number: u32) -> Option<usize>
+/// The place of the connection with the number. The place that is guessed is tried first.
+pub fn place_of(connections: &[Connection], guess: usize, number: u32) -> Option<usize>
+    requires { AreDistinct connections.now }
     ensures { MatchOption result (kept_of number connections.now ≡ None) (λ at. IsAt number at connections.now) }
 {
+    if is_number_at(connections, guess, number) {
+        return Some(guess);
+    }
     for (at, connection) in connections.iter().enumerate() {
         if connection.number() == number {
             return Some(at);
@@ -20,82 +24,100 @@ pub fn place_of(connections: &[Connection], number: u32) -> Option<usize>
     None
 }
 
+/// Whether the connection at the place has the number.
+fn is_number_at(connections: &[Connection], at: usize, number: u32) -> bool
+    requires { AreDistinct connections.now }
+    ensures { result ≡ true → IsAt number at connections.now }
+{
+    at < connections.len() && connections[at].number() == number
+}
+
 /// Whether there is a connection with the number.
-pub fn is_at(connections: &[Connection], number: u32) -> bool
+pub fn is_at(connections: &[Connection], guess: usize, number: u32) -> bool
+    requires { AreDistinct connections.now }
     ensures { result ≡ is_kept (kept_of number connections.now) }
 {
-    match place_of(connections, number) {
+    match place_of(connections, guess, number) {
         Some(_) => true,
         None => false,
     }
 }
 
 /// The octets still to be sent to the connection with the number.
-pub fn queue_at(connections: &[Connection], number: u32) -> &[u8]
+pub fn queue_at(connections: &[Connection], guess: usize, number: u32) -> &[u8]
+    requires { AreDistinct connections.now }
     ensures { result.now ≡ queue_of number connections.now }
 {
-    match place_of(connections, number) {
+    match place_of(connections, guess, number) {
         Some(at) => connections[at].queue(),
         None => &[],
     }
 }
 
 /// Whether the connection with the number is closing.
-pub fn closing_at(connections: &[Connection], number: u32) -> bool
+pub fn closing_at(connections: &[Connection], guess: usize, number: u32) -> bool
+    requires { AreDistinct connections.now }
     ensures { result ≡ closing_of number connections.now }
 {
-    match place_of(connections, number) {
+    match place_of(connections, guess, number) {
         Some(at) => connections[at].is_closing(),
         None => false,
     }
 }
 
 /// Octets of the queue of the connection with the number were taken.
-pub fn take_off(connections: &mut [Connection], number: u32, count: usize)
-    requires { count ≤ length (queue_of number connections.old) }
+pub fn take_off(connections: &mut [Connection], guess: usize, number: u32, count: usize)
+    requires distinct { AreDistinct connections.old }
+    requires within { count ≤ length (queue_of number connections.old) }
     ensures { connections.new ≡ taken_off number count connections.old }
 {
-    match place_of(connections, number) {
+    match place_of(connections, guess, number) {
         Some(at) => connections[at].took(count),
         None => {}
     }
 }
 
 /// The peer of the connection with the number sends no more.
-pub fn end_at(connections: &mut [Connection], number: u32)
+pub fn end_at(connections: &mut [Connection], guess: usize, number: u32)
+    requires { AreDistinct connections.old }
     ensures { connections.new ≡ changed number closed connections.old }
 {
-    match place_of(connections, number) {
+    match place_of(connections, guess, number) {
         Some(at) => connections[at].end(),
         None => {}
     }
 }
 
 /// Where the connection with the number was cut.
-pub fn cut_at(connections: &[Connection], number: u32) -> Option<u64>
+pub fn cut_at(connections: &[Connection], guess: usize, number: u32) -> Option<u64>
+    requires { AreDistinct connections.now }
     ensures { result ≡ cut_of number connections.now }
 {
-    match place_of(connections, number) {
+    match place_of(connections, guess, number) {
         Some(at) => connections[at].cut(),
         None => None,
     }
 }
 
-/// The connection with the number hears a piece, unless it is closing. The answer says whether it
-/// was cut in this.
+/// The connection with the number hears a piece, unless it is closing, and its place is noted. The
+/// answer says whether it was cut in this.
 pub fn hear_at<D: Dir>(
     alloc: Global,
     dir: &mut D,
     connections: &mut [Connection],
+    place: &mut usize,
     number: u32,
     piece: &[u8],
 ) -> bool
+    requires { AreDistinct connections.old }
     ensures exact { HearsAt number piece.now (D.entries dir.old) connections.old (D.entries dir.new) connections.new result }
     ensures bounded { IsBounded connections.old → IsBounded connections.new }
+    ensures distinct { AreDistinct connections.new }
 {
-    match place_of(connections, number) {
+    match place_of(connections, *place, number) {
         None => false,
         Some(at) => {
+            *place = at;
             let connection = &mut connections[at];
             if connection.is_closing() {
                 return false;
@@ -106,11 +128,15 @@ pub fn hear_at<D: Dir>(
     }
 }
 
-/// Forgets the connections with the number.
-pub fn forget_at(connections: &mut Vec<Connection>, number: u32)
+/// Forgets the connection with the number.
+pub fn forget_at(connections: &mut Vec<Connection>, guess: usize, number: u32)
+    requires { AreDistinct connections.old.items }
     ensures { connections.new.items ≡ forgotten number connections.old.items }
 {
-    while let Some(at) = place_of(connections, number) {
-        let _gone = connections.remove(at);
+    match place_of(connections, guess, number) {
+        Some(at) => {
+            let _gone = connections.remove(at);
+        }
+        None => {}
     }
 }

@@ -1,17 +1,17 @@
-use Rattle.std.proofs.Common.{ap, ◌∙◌, ◌≡◌, subst, None}
-use Rattle.session_model.specs.Kept.{forgotten, kept_of}
+use Rattle.std.proofs.Common.{◌∙◌, ◌≡◌, subst, None}
+use Rattle.session_model.specs.Kept.{kept_of}
 use Rattle.session_hub.specs.Hubs.{IsAt}
-use Rattle.session_hub.proofs.HubLemmas.{forgets_one, forgets_none}
+use Rattle.session_hub.proofs.HubLemmas.{removes_all, forgets_none}
 use Rattle.session_hub.proofs.places.forget_at.Goals as goal
 
--- one more is gone that was to be forgotten
-pub loop-at-preserved : goal.loop-at-preserved
-loop-at-preserved c =
-    let place : IsAt c.args.number c.in-Some.at c.loop-at.connections.items = subst (λ ks. IsAt c.args.number c.in-Some.at ks) c.deref.ensures.value c.in-Some.ensures in
-    ap (forgotten c.args.number) c.remove-gone.ensures.items ∙ forgets_one c.args.number c.in-Some.at c.loop-at.connections.items place ∙ c.loop-at.invariant
+-- the one that was to be forgotten is gone
+pub returns-in-Some : goal.returns-in-Some
+returns-in-Some c =
+    let place : IsAt c.args.number c.in-Some.at c.args.connections.now.items = subst (λ ks. IsAt c.args.number c.in-Some.at ks) c.deref.ensures.value c.in-Some.ensures in
+    c.remove-gone.ensures.items ∙ removes_all c.args.number c.in-Some.at c.args.connections.now.items c.requires place
 
--- none is left
-pub returns : goal.returns
-returns c =
-    let none : kept_of c.args.number c.loop-at.connections.items ≡ None = subst (λ ks. kept_of c.args.number ks ≡ None) c.deref.ensures.value c.in_default.ensures in
-    forgets_none c.args.number c.loop-at.connections.items none ∙ c.loop-at.invariant
+-- there was none
+pub returns-in-None : goal.returns-in-None
+returns-in-None c =
+    let none : kept_of c.args.number c.args.connections.now.items ≡ None = subst (λ ks. kept_of c.args.number ks ≡ None) c.deref.ensures.value c.in-None.ensures in
+    forgets_none c.args.number c.args.connections.now.items none

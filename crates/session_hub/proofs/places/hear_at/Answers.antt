@@ -1,8 +1,9 @@
-use Rattle.std.proofs.Common.{sym, ap, ◌∙◌, subst}
+use Rattle.std.proofs.Common.{sym, ap, ◌∙◌, subst, refl, slice_set}
 use Rattle.std.proofs.lemmas.List.{set-get_or}
 use Rattle.session_model.specs.Kept.{Kept, is_cut}
 use Rattle.session_hub.specs.Parties.{Requester}
-use Rattle.session_hub.specs.Hubs.{HearsAt}
+use Rattle.session_hub.specs.Hubs.{HearsAt, AreDistinct}
+use Rattle.session_hub.proofs.HubLemmas.{distinct_set}
 use Rattle.session_hub.specs.Connections.{HearsPiece}
 use Rattle.session_hub.proofs.HearLemmas.{hears_nowhere, hears_closing, hears_open, is_some_cut}
 use Rattle.session_hub.proofs.places.hear_at.Goals as goal
@@ -29,3 +30,17 @@ returns-else-is_closing-clause-exact g c =
     (ap (λ (x : Kept Requester). x.closing) c.index-connections-at.is ∙ sym c.is_closing.ensures ∙ c.if-is_closing.false)
     (subst (λ x. HearsPiece c.args.piece.now (g.D.Dir.entries c.args.dir.now) x (g.D.Dir.entries c.hear.new.dir) c.hear.new.self) (sym c.index-connections-at.is) c.hear.ensures.exact)
     (c.is_some.ensures ∙ is_some_cut c.cut.result ∙ ap is_cut c.cut.ensures)
+
+-- the connection that was looked at is as it was
+pub returns-then-is_closing-clause-distinct : goal.returns-then-is_closing-clause-distinct
+returns-then-is_closing-clause-distinct g c =
+    let k = c.index-connections-at.result in
+    subst (λ x. AreDistinct (slice_set c.args.connections.now c.in-Some.at x)) c.index-connections-at.is
+    (distinct_set c.in-Some.at c.args.connections.now k k c.requires c.in-Some.ensures.within c.index-connections-at.is refl)
+
+-- the connection that heard keeps its number
+pub returns-else-is_closing-clause-distinct : goal.returns-else-is_closing-clause-distinct
+returns-else-is_closing-clause-distinct g c =
+    let k = c.index-connections-at.result in
+    distinct_set c.in-Some.at c.args.connections.now k c.hear.new.self c.requires c.in-Some.ensures.within c.index-connections-at.is
+    (ap (λ (x : Kept Requester). x.number) c.hear.ensures.exact.kept ∙ ap (λ (x : Kept Requester). x.number) (sym c.index-connections-at.is))

@@ -7,7 +7,7 @@ use Rattle.session_hub.proofs.places.take_off.Goals as goal
 pub took-requires : goal.took-requires
 took-requires c =
     let same = queue_at c.args.number c.in-Some.at c.args.connections.now c.index-connections-at.result c.in-Some.ensures c.index-connections-at.is in
-    let long : c.args.count ≤ length c.index-connections-at.result.queue = rw (← same) c.requires in
+    let long : c.args.count ≤ length c.index-connections-at.result.queue = rw (← same) c.requires.within in
     rw (← c.index-connections-at.is) long
 
 -- the connection is there

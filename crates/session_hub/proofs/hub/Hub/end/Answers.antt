@@ -1,8 +1,8 @@
 use Rattle.std.proofs.Common.{◌≡◌, ◌++◌, length, take, drop, sym, ap, ◌∙◌, subst, arith}
 use Rattle.std.proofs.lemmas.Grind.{common_steps}
 use Rattle.session_model.specs.Kept.{changed, closed}
-use Rattle.session_hub.specs.Hubs.{HubState, IsBounded}
-use Rattle.session_hub.proofs.HubLemmas.{bounded_closed, ends}
+use Rattle.session_hub.specs.Hubs.{HubState, AreHeld}
+use Rattle.session_hub.proofs.HubLemmas.{held_closed, ends}
 use Rattle.session_hub.proofs.hub.Hub.end.Goals as goal
 
 -- the vector is what the slice became
@@ -11,7 +11,7 @@ written : (c : goal.After-self-1) →
 written c = grind (arith, common_steps)
 
 pub invariant_of-self : goal.invariant_of-self
-invariant_of-self c = subst IsBounded (sym (written c)) (bounded_closed c.args.conn c.self.inside.connections.items c.self.invariant)
+invariant_of-self c = subst AreHeld (sym (written c)) (held_closed c.args.conn c.self.inside.connections.items c.self.invariant)
 
 pub returns : goal.returns
 returns c =

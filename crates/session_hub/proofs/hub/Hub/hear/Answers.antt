@@ -8,4 +8,4 @@ pub returns-clause-run : goal.returns-clause-run
 returns-clause-run g c = on_ok_weaker c.hear_event-heard.result (follows_event c.args.event _ _) c.hear_event-heard.ensures.ok
 
 pub returns-clause-bounded : goal.returns-clause-bounded
-returns-clause-bounded g c = subst (λ (h : HubState). IsBounded h.kept) c.self.view_is c.self.invariant
+returns-clause-bounded g c = subst (λ (h : HubState). IsBounded h.kept) c.self.view_is c.self.invariant.bounded

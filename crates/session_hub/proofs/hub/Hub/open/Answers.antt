@@ -1,8 +1,8 @@
-use Rattle.std.proofs.Common.{◌≡◌, ◌++◌, ◌∷◌, [], length, sym, ap, ◌∙◌, arith}
+use Rattle.std.proofs.Common.{◌≡◌, ◌++◌, ◌∷◌, [], length, false, sym, ap, ◌∙◌, subst, arith}
 use Rattle.session_model.specs.Kept.{is_kept, kept_of, opened_kept}
 use Rattle.session_hub.specs.Answering.{rules}
-use Rattle.session_hub.specs.Hubs.{HubState}
-use Rattle.session_hub.proofs.HubLemmas.{opens_held, opens_full, opens_new, on_err_any}
+use Rattle.session_hub.specs.Hubs.{HubState, AreHeld}
+use Rattle.session_hub.proofs.HubLemmas.{opens_held, opens_full, opens_new, held_opened, on_err_any}
 use Rattle.session_hub.proofs.hub.Hub.open.Goals as goal
 
 -- the number is held already
@@ -35,3 +35,11 @@ returns-in_err-push-clause-cause c =
     ap (λ (h : HubState). length h.kept) (sym c.self.view_is) ∙ ap length (sym c.deref.ensures.value) ∙ c.deref.ensures.len ∙ sym c.len.ensures in
     let absent = ap (λ (h : HubState). is_kept (kept_of c.args.conn h.kept)) (sym c.self.view_is) ∙ ap (λ ks. is_kept (kept_of c.args.conn ks)) (sym c.deref.ensures.value) ∙ sym c.is_at.ensures ∙ c.if-is_at.false in
     on_err_any c.from_residual.result (absent, omega arith)
+
+-- the new connection's number was held by none
+pub invariant_of-self-2 : goal.invariant_of-self-2
+invariant_of-self-2 c =
+    let absent : is_kept (kept_of c.args.conn c.self.inside.connections.items) ≡ false =
+    ap (λ ks. is_kept (kept_of c.args.conn ks)) (sym c.deref.ensures.value) ∙ sym c.is_at.ensures ∙ c.if-is_at.false in
+    subst AreHeld (sym (c.in_ok-push.ensures.items ∙ ap (λ k. c.self.inside.connections.items ++ k ∷ []) c.new-connection.ensures))
+    (held_opened c.args.conn c.self.inside.connections.items c.self.invariant absent)

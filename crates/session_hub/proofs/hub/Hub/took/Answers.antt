@@ -1,9 +1,9 @@
 use Rattle.std.proofs.Common.{◌≡◌, ◌++◌, length, take, drop, sym, ap, ◌∙◌, subst, arith}
 use Rattle.std.proofs.lemmas.Grind.{common_steps}
 use Rattle.session_model.specs.Kept.{taken_off}
-use Rattle.session_hub.specs.Hubs.{HubState, IsBounded}
+use Rattle.session_hub.specs.Hubs.{HubState, AreHeld}
 use Rattle.session_hub.proofs.FollowingLemmas.{follows_taking}
-use Rattle.session_hub.proofs.HubLemmas.{bounded_taken}
+use Rattle.session_hub.proofs.HubLemmas.{held_taken}
 use Rattle.session_hub.proofs.hub.Hub.took.Goals as goal
 
 -- the vector is what the slice became
@@ -12,7 +12,7 @@ written : (c : goal.After-self-1) →
 written c = grind (arith, common_steps)
 
 pub invariant_of-self : goal.invariant_of-self
-invariant_of-self c = subst IsBounded (sym (written c)) (bounded_taken c.args.conn c.args.count c.self.inside.connections.items c.self.invariant)
+invariant_of-self c = subst AreHeld (sym (written c)) (held_taken c.args.conn c.args.count c.self.inside.connections.items c.self.invariant)
 
 pub returns-clause-exact : goal.returns-clause-exact
 returns-clause-exact c =
