@@ -1,5 +1,5 @@
-//! Tests of the hub of sessions and of its loop, and of the whole program over files, sinks and links in memory: tables
-//! of events, scripts and words, with what is sent or printed and how it ends.
+//! Tests of the whole program over files, sinks and links in memory: tables of scripts and words, with what is printed
+//! and how it ends.
 #![tactic(auto)]
 
 #[cfg(test)]
@@ -9,10 +9,6 @@ mod cuts;
 #[cfg(test)]
 mod data;
 #[cfg(test)]
-mod hubs;
-#[cfg(test)]
-mod loops;
-#[cfg(test)]
 mod messages;
 #[cfg(test)]
 mod replays;
@@ -20,5 +16,3 @@ mod replays;
 mod runs;
 #[cfg(test)]
 mod sets;
-#[cfg(test)]
-mod slow;

@@ -1,5 +1,5 @@
 use Rattle.std.specs.List.{IsDistinct}
-use Rattle.server_tests.proofs.loops.the_loop_ends_where_its_link_fails.Goals as goal
+use Rattle.session_tests.proofs.loops.the_loop_ends_where_its_link_fails.Goals as goal
 
 -- no events open no number
 pub new-link-requires-clause-once : goal.new-link-requires-clause-once
