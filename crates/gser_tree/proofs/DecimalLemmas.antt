@@ -3,7 +3,7 @@ use Rattle.std.proofs.Common.{◌≡◌, ℕ, ◌<◌, ◌≤◌, ◌^◌, Bool,
 use Rattle.std.specs.Prelude.{◌==◌, not, nat_le, decimal, if◌then◌else◌}
 use Rattle.std.proofs.lemmas.Bool.Decides.{nat_tests}
 use Rattle.std.proofs.lemmas.Fmt.{digits_decimal, digits_value-decimal, decimal_digit, decimal_nonempty, first_decimal}
-use Rattle.std.specs.Char.{is_ascii_digit}
+use Rattle.std.specs.Char.{is_ascii_digit, is_ascii_alphanumeric}
 use Rattle.std.specs.List.{list_all}
 use Rattle.std.specs.Str.Parse.{digits_value}
 use Rattle.gser_tree.specs.declared.marks.Class.TheVariants.{Letter}
@@ -22,6 +22,25 @@ use Rattle.gser_tree.proofs.OnlyLemmas.{Only, Gives, gives_both, gives_choice, g
 digit_letter : (x : ℕ) → is_ascii_digit x ≡ true → class_of x ≡ Letter
 unfolding class_of
 digit_letter x h = grind (arith, nat_tests)
+
+-- octets of words
+pub is_letter-digit : (x : ℕ) → is_ascii_digit x ≡ true → is_letter (class_of x) ≡ true
+is_letter-digit x h = ap is_letter (digit_letter x h)
+
+alphanumeric_letter : (x : ℕ) → is_ascii_alphanumeric x ≡ true → class_of x ≡ Letter
+unfolding class_of
+alphanumeric_letter x h = grind (arith, nat_tests)
+
+pub is_letter-alphanumeric : (x : ℕ) → is_ascii_alphanumeric x ≡ true → is_letter (class_of x) ≡ true
+is_letter-alphanumeric x h = ap is_letter (alphanumeric_letter x h)
+
+pub is_letter-hyphen : is_letter (class_of 45) ≡ true
+unfolding class_of
+is_letter-hyphen = refl
+
+pub is_letter-dot : is_letter (class_of 46) ≡ true
+unfolding class_of
+is_letter-dot = refl
 
 digits_letters : (text : List ℕ) → list_all is_ascii_digit text ≡ true → are_letters text ≡ true
 digits_letters [] h = refl
