@@ -179,4 +179,4 @@ item_is_good shape =
         gives_both (λ _. Unit {0}) (λ (_ : Part). Unit {0}) (expect (word_in shape)) (λ word. if is_oid word.text then give word else λ bad. None)
         (gives_expected (λ _. Unit {0}) (word_in shape) (λ value is. tt))
         (λ word. gives_choice (λ _. Unit {0} → Unit {0}) (is_oid word.text) (give word) (λ bad. None)
-            (λ _. gives_value (λ _. Unit {0} → Unit {0}) word (λ _. tt)) (λ _. gives_nothing (λ _. Unit {0} → Unit {0})))
+        (λ _. gives_value (λ _. Unit {0} → Unit {0}) word (λ _. tt)) (λ _. gives_nothing (λ _. Unit {0} → Unit {0})))

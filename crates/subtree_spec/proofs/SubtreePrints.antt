@@ -139,6 +139,7 @@ set_prints depth items choices written =
 
 mutual
   unfolding refinement
+
   choice_prints : (depth : ℕ) (choice : Choice) → IsGoodChoice depth choice → Prints depth (refinement depth) (print_refinement choice) choice
   choice_prints zero choice good = absurd good
   choice_prints (suc depth) (Item oid) good =
@@ -253,7 +254,7 @@ filter_is_written spec good =
     (optional_is_written 64 (codes "maximum" ∷ codes "minimum" ∷ codes "specificExclusions" ∷ codes "base" ∷ []) (codes "specificationFilter") None (there (refinement 64))
     (option_map print_refinement spec.filter) spec.filter (λ rest. rest ≡ []) [] filter_word (refl, (refl, (refl, (refl, tt))))
     (λ members none. subst (λ (m : List Shape). Skips (codes "specificationFilter" ∷ codes "maximum" ∷ codes "minimum" ∷ codes "specificExclusions" ∷ codes "base" ∷ []) m)
-        (sym none) (skips_end (codes "specificationFilter" ∷ codes "maximum" ∷ codes "minimum" ∷ codes "specificExclusions" ∷ codes "base" ∷ [])))
+    (sym none) (skips_end (codes "specificationFilter" ∷ codes "maximum" ∷ codes "minimum" ∷ codes "specificExclusions" ∷ codes "base" ∷ [])))
     (filter_prints spec.filter good.filter) (none_are_written 64 (λ rest. rest ≡ []) refl))
 
 components_are_written : (spec : Subtree) → IsGoodSubtree spec → AreWritten 64 (FromBase spec) (print_components spec)
