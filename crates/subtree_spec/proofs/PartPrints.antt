@@ -1,7 +1,7 @@
 -- Printed names, object identifiers and classes are read as they were, and what is read of a part is good.
 use Prim.Native.Nat.{zero}
-use Rattle.std.proofs.Common.{◌≡◌, ℕ, suc, ◌≤◌, ◌<◌, Bool, true, false, List, [], ◌∷◌, ◌++◌, length, reverse, All, Option, Some, None, option_map, option_and_then, refl, sym, ap, ◌∙◌, subst, arith}
-use Rattle.std.specs.Prelude.{◌&&◌, ◌||◌, Result, Ok, Err, slice_get, if◌then◌else◌}
+use Rattle.std.proofs.Common.{◌≡◌, ℕ, suc, ◌≤◌, ◌<◌, Bool, true, false, List, [], ◌∷◌, ◌++◌, length, All, Option, Some, None, option_map, option_and_then, refl, sym, ap, ◌∙◌, subst, arith}
+use Rattle.std.specs.Prelude.{◌&&◌, Result, Ok, Err, slice_get, if◌then◌else◌}
 use Rattle.std.specs.Char.{IsAsciiDigit, is_ascii_digit}
 use Rattle.std.specs.List.{AllByRecursion, list_all, join_with_byte}
 use Rattle.std.specs.Result.{result_ok}
@@ -10,7 +10,6 @@ use Rattle.std.proofs.lemmas.Bool.Decides.{nat_tests}
 use Rattle.std.proofs.lemmas.List.Elements.{All-head, All-tail}
 use Rattle.std.proofs.lemmas.Str.{is_utf8-from_IsUtf8}
 use Rattle.schema_core.specs.Classes.{Class, classes, class_at, class_of, class_oid_of}
-use Rattle.schema_core.specs.Naming.{is_keystring}
 use Rattle.schema_core.specs.Oid.{IsNumber, is_dotted_oid}
 use Rattle.schema_core.proofs.Theorems.{IsDottedOid-from}
 use Rattle.dn_names.specs.declared.error.BadName.{BadName}
@@ -22,9 +21,8 @@ use Rattle.dn_names.proofs.Theorems.{read_name-print_name, NameText-read_name, I
 use Rattle.gser_tree.specs.Lexemes as lexemes
 use Rattle.gser_tree.specs.Lexemes.{is_letter, is_word}
 use Rattle.gser_tree.specs.declared.part.Part.{Part}
-use Rattle.gser_tree.specs.Shapes.{Shape}
 use Rattle.gser_tree.specs.Looking.{string_in, word_in}
-use Rattle.gser_tree.specs.Reading.{expect, part, give, ◌>>=◌}
+use Rattle.gser_tree.specs.Reading.{expect, part, give}
 use Rattle.gser_tree.specs.Writing.{print_word}
 use Rattle.gser_tree.proofs.Theorems.{IsRead, Prints, word_is_written, string_is_written, is_letter-digit, is_letter-dot, Only, Gives, gives_both, gives_choice, gives_expected, gives_part, gives_value, gives_nothing}
 use Rattle.subtree_spec.specs.Parts.{name, name_of, is_oid, oid, class_oid}

@@ -1,5 +1,5 @@
 -- A specification that some text gives is read again from its printed form.
-use Rattle.std.proofs.Common.{◌≡◌, ◌≤◌, ℕ, List, refl, ap, ◌∙◌, arith}
+use Rattle.std.proofs.Common.{◌≡◌, ℕ, List, ap, ◌∙◌, arith}
 use Rattle.std.specs.Prelude.{None, Ok}
 use Rattle.gser_tree.specs.Writing.{text_of}
 use Rattle.gser_tree.proofs.Theorems.{IsRead, IsTextOf-written}

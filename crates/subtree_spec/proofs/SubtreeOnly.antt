@@ -1,20 +1,18 @@
 -- What is read as a specification, with no bad part, is good.
 use Prim.Native.Nat.{zero}
-use Rattle.std.proofs.Common.{◌≡◌, ℕ, suc, ◌≤◌, Bool, true, false, List, [], ◌∷◌, ◌++◌, Option, Some, None, codes, refl, sym, ap, ◌∙◌, subst, arith}
-use Rattle.std.specs.Prelude.{if◌then◌else◌}
+use Rattle.std.proofs.Common.{◌≡◌, ℕ, suc, ◌≤◌, true, List, [], ◌∷◌, Some, None, codes, arith}
 use Rattle.std.specs.List.{AllByRecursion}
 use Rattle.std.specs.List.Sorted.{IsStrictlySortedBy}
 use Rattle.std.specs.Str.{bytes_eq}
 use Rattle.schema_core.specs.Oid.{is_dotted_oid}
 use Rattle.dn_names.specs.Names.{RdnSequence}
-use Rattle.dn_names.specs.NameOrder.{name_cmp}
 use Rattle.dn_names.specs.GoodNames.{IsGoodName}
 use Rattle.gser_tree.specs.Shapes.{Shape}
-use Rattle.gser_tree.specs.Looking.{Behind, members_in, chosen_in}
-use Rattle.gser_tree.specs.Reading.{Read, expect, give, ◌>>=◌, gather, optional, nothing_left, number}
+use Rattle.gser_tree.specs.Looking.{members_in, chosen_in}
+use Rattle.gser_tree.specs.Reading.{Read, expect, give, gather, optional}
 use Rattle.gser_tree.proofs.Theorems.{Only, Gives, gives_value, gives_nothing, gives_weaker, gives_both, gives_choice, gives_expected, gives_optional, gives_end, gives_gathered, number_is_at_most}
 use Rattle.subtree_spec.specs.Parts.{name, set_of}
-use Rattle.subtree_spec.specs.Subtrees.{Choice, Item, And, Or, Not, gathered, Subtree}
+use Rattle.subtree_spec.specs.Subtrees.{Choice, Item, And, Or, Not, gathered}
 use Rattle.subtree_spec.specs.SubtreeText.{Chops, no_chops, put_name, chop, chop_member, chops, exclusions, distance, item, alternative, refinement, there, components, subtree}
 use Rattle.subtree_spec.specs.GoodSubtrees.{AreGoodNames, IsGoodChoice, AreGoodChoices, IfThere, IsGoodSubtree}
 use Rattle.subtree_spec.proofs.PartPrints.{name_is_good, item_is_good}
