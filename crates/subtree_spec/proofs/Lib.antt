@@ -10,3 +10,4 @@ pub mod ChopLemmas
 pub mod SubtreePrints
 pub mod SubtreeOnly
 pub mod RoundTrip
+pub mod SubtreeNested

@@ -229,7 +229,7 @@ static PRINTED: [(&str, &str); 14] = [
         "{ specificationFilter not:and:{ } }",
     ),
     (
-        "{base \"ou=b\",specificExclusions{chopAfter:\"ou=c\"},minimum 1,maximum 2,specificationFilter item:top}",
+        "{base \"ou=b\",specificExclusions {chopAfter:\"ou=c\"},minimum 1,maximum 2,specificationFilter item:top}",
         "{ base \"ou=b\", specificExclusions { chopAfter:\"ou=c\" }, minimum 1, maximum 2, specificationFilter item:2.5.6.0 }",
     ),
 ];
