@@ -1,5 +1,13 @@
+pub mod Examples
 pub mod PartsLemmas
 pub mod RefinementLemmas
 pub mod FrontLemmas
 pub mod PairOrderLemmas
 pub mod ReadLemmas
+pub mod PrintedLemmas
+pub mod PartPrints
+pub mod ChopLemmas
+pub mod SubtreePrints
+pub mod SubtreeOnly
+pub mod RoundTrip
+pub mod SubtreeNested

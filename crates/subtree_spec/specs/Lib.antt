@@ -2,6 +2,8 @@
 pub mod Subtrees
 pub mod Parts
 pub mod SubtreeText
+pub mod SubtreePrinted
+pub mod GoodSubtrees
 pub mod Membership
 pub mod Fronts
 -- for the inside of the crate alone
