@@ -6,7 +6,7 @@ use Rattle.filter_core.specs.declared.truth.Truth.TheVariants.{True, False, Unde
 use Rattle.filter_core.specs.declared.question.Question.{Question}
 use Rattle.filter_core.specs.declared.question.Question.TheVariants.{IsTrue, IsFalse, Settled}
 use Rattle.filter_core.specs.Truths.{is_true, is_false, all_of, any_of, negated}
-use Rattle.filter_core.specs.Walks.{answer, turned, asks_all_of_and, asks_all_of_or, join, joined, asked_next}
+use Rattle.filter_core.specs.Walks.{answer, turned, asks_all_of_and, asks_all_of_or, join, joined}
 
 -- ---- the answers of a list
 
@@ -95,11 +95,3 @@ join-done true true = refl
 join-done true false = refl
 join-done false true = refl
 join-done false false = refl
-
--- what was not asked changes no answer that was settled
-pub join-next : (every holds others : Bool) (question : Question) (one : Truth)
-    → join every (join every holds (answer (asked_next every holds question) one)) others ≡ join every holds (join every (answer question one) others)
-join-next true true others question one = refl
-join-next true false others question one = refl
-join-next false true others question one = refl
-join-next false false others question one = refl

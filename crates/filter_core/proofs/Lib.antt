@@ -1,6 +1,7 @@
 pub mod BoolLemmas
 pub mod SubstringsLemmas
 pub mod JoinLemmas
+pub mod JudgingLemmas
 pub mod WalkLemmas
 pub mod PreparingLemmas
 pub mod ClassLemmas

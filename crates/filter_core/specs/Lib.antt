@@ -6,3 +6,5 @@ pub mod Truths
 pub mod Asked
 pub mod Preparing
 pub mod Walks
+pub mod Judging
+pub mod OnTheWay

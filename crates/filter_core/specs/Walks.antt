@@ -1,14 +1,13 @@
 -- What a walk down a filter keeps: the tests of its items in their order, and what is asked of each part.
-use Rattle.std.specs.Prelude.{◌≡◌, ℕ, Bool, true, false, ◌&&◌, ◌||◌, List, [], ◌∷◌, ◌++◌, drop}
-use Rattle.dir_tree.specs.Entries.{EntryInformation}
-use Rattle.ldap_filter.specs.Filters.{Filter, Filters, filters_of}
+use Rattle.std.specs.Prelude.{◌≡◌, Bool, true, false, ◌&&◌, ◌||◌, List, [], ◌∷◌, ◌++◌}
+use Rattle.ldap_filter.specs.Filters.{Filter, Filters}
 use Rattle.ldap_filter.specs.Filters.Filter.{And, Or, Not, Equal, Parts, AtLeast, AtMost, Present, Approx, Extensible}
 use Rattle.ldap_filter.specs.Filters.Filters.{Nil, Cons}
 use Rattle.filter_core.specs.declared.truth.Truth.{Truth}
 use Rattle.filter_core.specs.declared.question.Question.{Question}
 use Rattle.filter_core.specs.declared.question.Question.TheVariants.{IsTrue, IsFalse, Settled}
 use Rattle.filter_core.specs.Tests.{Test, test_of}
-use Rattle.filter_core.specs.Truths.{Permits, is_true, is_false, truths}
+use Rattle.filter_core.specs.Truths.{is_true, is_false}
 
 -- the tests of a filter's items, in their order
 abbrev mutual
@@ -73,11 +72,3 @@ asked_next false false question = question
 -- of these tests, the first ones are the filter's own; they were walked over, and gave the answer
 abbrev pub Walks : List Test → Bool → List Test → Bool → List Test → Type 0
 Walks own holds tests found rest = (others : List Test) → tests ≡ own ++ others → (found ≡ holds) × (rest ≡ others)
-
--- the same on the way, before the member at the index: with the answers of those that are left the answer is that of
--- all members, and their tests are left
-unfoldable pub IsOnTheWay : Bool → Question → Permits → EntryInformation → List Filter → ℕ → List Test → Bool → List Test → Type 0
-IsOnTheWay every question permits entry members index tests holds rest =
-    (others : List Test) → tests ≡ tests_of_all (filters_of members) ++ others
-    → (join every holds (joined every question (truths permits entry (filters_of (drop index members)))) ≡ joined every question (truths permits entry (filters_of members)))
-    × (rest ≡ tests_of_all (filters_of (drop index members)) ++ others)

@@ -5,8 +5,11 @@
 mod allow;
 mod asked;
 mod evaluating;
+mod exact;
+mod judge;
 mod laws;
 mod matching;
+mod possible;
 mod prepared;
 mod preparing;
 mod question;

@@ -6,6 +6,7 @@ ghost use Rattle.std.specs.Str.{bytes_eq};
 ghost use Rattle.dir_tree.specs.Entries.{values_of};
 ghost use Rattle.dir_tree.specs.EntryClasses.{own_oid, oids_of, oids_of_listed};
 ghost use Rattle.filter_core.specs.Asked.{assertion_asked};
+ghost use Rattle.filter_core.specs.Judging.{has_value};
 ghost use Rattle.filter_core.specs.Substrings.{is_substring};
 ghost use Rattle.filter_core.specs.Truths.{matches, has_match};
 
@@ -71,6 +72,16 @@ fn matches(asserted: &Asserted, value: &Value) -> bool
         Asserted::IsAtMost(key) => order(value.key(), key).is_le(),
         Asserted::HasParts(first, middle, last) => has_parts(value.key(), first, middle, last),
     }
+}
+
+/// Whether the entry has a value of the type that is as asserted, permitted or not.
+pub(crate) fn has_possible(asserted: &Asserted, kind: AttrId, entry: &Entry) -> bool
+    ensures exact { result ≡ has_value entry.now kind.0 (assertion_asked asserted.now) }
+{
+    entry
+        .values(kind)
+        .iter()
+        .any(|value| matches(asserted, value))
 }
 
 /// Whether the value is as asserted, and permitted; permission is asked only of a value that is.

@@ -1,17 +1,14 @@
-//! The walk down a filter, over one entry.
+//! The walk down a filter.
 
-ghost use Rattle.std.specs.Prelude.{◌≡◌, Bool, ◌∷◌, []};
+ghost use Rattle.std.specs.Prelude.{◌≡◌, ◌∷◌, []};
+ghost use Rattle.filter_core.specs.Judging.{judged};
 ghost use Rattle.filter_core.specs.Tests as items;
-ghost use Rattle.filter_core.specs.Truths.{if_permitted, test_truth, truth};
-ghost use Rattle.filter_core.specs.Walks.{answer, tests_of, Walks};
+ghost use Rattle.filter_core.specs.Walks.{tests_of, Walks};
 
-use crate::allow::Allow;
-use crate::asked::{Asks, Test};
-use crate::matching::has_match;
+use crate::asked::Test;
+use crate::judge::Judge;
 use crate::question::{Question, join};
-use dir_tree::Entry;
 use ldap_filter::{Filter, Node};
-use schema_core::AttrId;
 
 /// The answer to what was asked, and the tests of what comes behind.
 #[derive(Drop)]
@@ -20,44 +17,14 @@ pub(crate) struct Walked<'t> {
     pub(crate) rest: &'t [Test],
 }
 
-/// The answer of an item, by whether it was found; permission on the type is asked only where it decides.
-fn if_permitted<A: Allow>(question: Question, kind: AttrId, found: bool, allow: &A) -> bool
-    ensures { result ≡ answer question (if_permitted (A.permits allow.now) kind.0 found) }
-{
-    match question {
-        Question::IsTrue => found && allow.kind(kind),
-        Question::IsFalse => !found && allow.kind(kind),
-        Question::Settled => false,
-    }
-}
-
-/// The answer of a test.
-#[tactic(auto, unfolding(crate::specs::Truths::test_truth))]
-fn answer_of<A: Allow>(question: Question, test: &Test, entry: &Entry, allow: &A) -> bool
-    ensures { result ≡ answer question (test_truth (A.permits allow.now) entry.now test.now) }
-{
-    match &test.asks {
-        Asks::Nothing => false,
-        Asks::IsThere(kind) => if_permitted(question, *kind, entry.has_kind(*kind), allow),
-        Asks::HasValue(kind, asserted) => {
-            if_permitted(
-                question,
-                *kind,
-                has_match(asserted, *kind, entry, allow),
-                allow,
-            )
-        }
-    }
-}
-
 /// Walks over an item.
-fn item<'t, A: Allow>(question: Question, tests: &'t [Test], entry: &Entry, allow: &A) -> Walked<'t>
+fn item<'t, J: Judge>(question: Question, tests: &'t [Test], judge: &J) -> Walked<'t>
     ensures { (test : items.Test)
-        → Walks (test ∷ []) (answer question (test_truth (A.permits allow.now) entry.now test)) tests.now result.holds result.rest.now }
+        → Walks (test ∷ []) (J.answers judge.now question test) tests.now result.holds result.rest.now }
 {
     match tests.split_first() {
         Some((test, rest)) => Walked {
-            holds: question != Question::Settled && answer_of(question, test, entry, allow),
+            holds: judge.answer(question, test),
             rest,
         },
         None => Walked {
@@ -68,14 +35,13 @@ fn item<'t, A: Allow>(question: Question, tests: &'t [Test], entry: &Entry, allo
 }
 
 /// Walks over a filter: its own tests are the first. What is settled is passed over.
-pub(crate) fn walk<'t, A: Allow>(
+pub(crate) fn walk<'t, J: Judge>(
     filter: &Filter,
     question: Question,
     tests: &'t [Test],
-    entry: &Entry,
-    allow: &A,
+    judge: &J,
 ) -> Walked<'t>
-    ensures { Walks (tests_of filter.now) (answer question (truth (A.permits allow.now) entry.now filter.now)) tests.now result.holds result.rest.now }
+    ensures { Walks (tests_of filter.now) (judged (J.answers judge.now) question filter.now) tests.now result.holds result.rest.now }
 {
     match &filter.node {
         Node::And(members) => {
@@ -84,7 +50,7 @@ pub(crate) fn walk<'t, A: Allow>(
             let mut rest = tests;
             for member in members {
                 let asked = question.asked_next(every, holds);
-                let walked = walk(member, asked, rest, entry, allow);
+                let walked = walk(member, asked, rest, judge);
                 holds = join(every, holds, walked.holds);
                 rest = walked.rest;
             }
@@ -96,19 +62,19 @@ pub(crate) fn walk<'t, A: Allow>(
             let mut rest = tests;
             for member in members {
                 let asked = question.asked_next(every, holds);
-                let walked = walk(member, asked, rest, entry, allow);
+                let walked = walk(member, asked, rest, judge);
                 holds = join(every, holds, walked.holds);
                 rest = walked.rest;
             }
             Walked { holds, rest }
         }
-        Node::Not(member) => walk(member, question.turned(), tests, entry, allow),
+        Node::Not(member) => walk(member, question.turned(), tests, judge),
         Node::Equal(_, _)
         | Node::Parts(_, _, _, _)
         | Node::AtLeast(_, _)
         | Node::AtMost(_, _)
         | Node::Present(_)
         | Node::Approx(_, _)
-        | Node::Extensible(_) => item(question, tests, entry, allow),
+        | Node::Extensible(_) => item(question, tests, judge),
     }
 }

@@ -1,7 +1,9 @@
 //! Filters over entries: the examples of RFC 4515, the three values, each syntax, classes, and permission.
 use crate::fixtures::{Values, entry};
 use crate::grants::AllBut;
-use crate::steps::Step::{self, And, Approx, AtLeast, AtMost, Equal, Extensible, Not, Or, Parts, Present};
+use crate::steps::Step::{
+    self, And, Approx, AtLeast, AtMost, Equal, Extensible, Not, Or, Parts, Present,
+};
 use crate::steps::filter;
 use filter_core::{Truth, evaluate, is_true, prepare_filter};
 use schema_core::AttrId;
@@ -25,7 +27,11 @@ fn check(
         let filter = filter(alloc, steps)?;
         let prepared = prepare_filter(alloc, &filter)?;
         assert_eq!(rt; evaluate(&prepared, &entry, grants), *want, "{what}");
-        assert_eq!(rt; is_true(&prepared, &entry, grants), *want == Truth::True, "{what}");
+        assert_eq!(rt;
+            is_true(&prepared, &entry, grants),
+            *want == Truth::True,
+            "{what}"
+        );
     }
     Ok(())
 }
@@ -52,8 +58,16 @@ const TIM: Values = &[
 ];
 
 const EXAMPLES_OF_BABS: &[Row] = &[
-    ("(cn=Babs Jensen)", &[Equal("cn", "Babs Jensen")], Truth::True),
-    ("(!(cn=Tim Howes))", &[Equal("cn", "Tim Howes"), Not], Truth::True),
+    (
+        "(cn=Babs Jensen)",
+        &[Equal("cn", "Babs Jensen")],
+        Truth::True,
+    ),
+    (
+        "(!(cn=Tim Howes))",
+        &[Equal("cn", "Tim Howes"), Not],
+        Truth::True,
+    ),
     (
         "(&(objectClass=Person)(|(sn=Jensen)(cn=Babs J*)))",
         &[
@@ -81,13 +95,21 @@ const EXAMPLES_OF_BABS: &[Row] = &[
         &[Equal("o", "Parens R Us (for all your parenthetical needs)")],
         Truth::True,
     ),
-    ("(cn=*\\2A*)", &[Parts("cn", None, &["*"], None)], Truth::False),
+    (
+        "(cn=*\\2A*)",
+        &[Parts("cn", None, &["*"], None)],
+        Truth::False,
+    ),
     (
         "(filename=C:\\5cMyFile)",
         &[Equal("filename", "C:\\MyFile")],
         Truth::Undefined,
     ),
-    ("(bin=\\00\\00\\00\\04)", &[Equal("bin", "\0\0\0\u{4}")], Truth::Undefined),
+    (
+        "(bin=\\00\\00\\00\\04)",
+        &[Equal("bin", "\0\0\0\u{4}")],
+        Truth::Undefined,
+    ),
     (
         "(1.3.6.1.4.1.1466.0=\\04\\02\\48\\69)",
         &[Equal("1.3.6.1.4.1.1466.0", "\u{4}\u{2}Hi")],
@@ -101,8 +123,16 @@ const EXAMPLES_OF_BABS: &[Row] = &[
 ];
 
 const EXAMPLES_OF_TIM: &[Row] = &[
-    ("(cn=Babs Jensen)", &[Equal("cn", "Babs Jensen")], Truth::False),
-    ("(!(cn=Tim Howes))", &[Equal("cn", "Tim Howes"), Not], Truth::False),
+    (
+        "(cn=Babs Jensen)",
+        &[Equal("cn", "Babs Jensen")],
+        Truth::False,
+    ),
+    (
+        "(!(cn=Tim Howes))",
+        &[Equal("cn", "Tim Howes"), Not],
+        Truth::False,
+    ),
     (
         "(&(objectClass=Person)(|(sn=Jensen)(cn=Babs J*)))",
         &[
@@ -114,7 +144,11 @@ const EXAMPLES_OF_TIM: &[Row] = &[
         ],
         Truth::False,
     ),
-    ("(cn=*\\2A*)", &[Parts("cn", None, &["*"], None)], Truth::True),
+    (
+        "(cn=*\\2A*)",
+        &[Parts("cn", None, &["*"], None)],
+        Truth::True,
+    ),
     (
         "(sn=Lu\\c4\\8di\\c4\\87)",
         &[Equal("sn", "LU\u{10c}I\u{106}")],
@@ -144,22 +178,42 @@ const THREE_VALUES: &[Row] = &[
     ("or of none", &[Or(0)], Truth::False),
     ("true and true", &[YES, YES, And(2)], Truth::True),
     ("true and false", &[YES, NO, And(2)], Truth::False),
-    ("true and undefined", &[YES, UNKNOWN, And(2)], Truth::Undefined),
+    (
+        "true and undefined",
+        &[YES, UNKNOWN, And(2)],
+        Truth::Undefined,
+    ),
     ("false and undefined", &[NO, UNKNOWN, And(2)], Truth::False),
     ("undefined and false", &[UNKNOWN, NO, And(2)], Truth::False),
-    ("undefined and undefined", &[UNKNOWN, UNKNOWN, And(2)], Truth::Undefined),
+    (
+        "undefined and undefined",
+        &[UNKNOWN, UNKNOWN, And(2)],
+        Truth::Undefined,
+    ),
     ("false or false", &[NO, NO, Or(2)], Truth::False),
     ("false or true", &[NO, YES, Or(2)], Truth::True),
     ("true or undefined", &[YES, UNKNOWN, Or(2)], Truth::True),
     ("undefined or true", &[UNKNOWN, YES, Or(2)], Truth::True),
-    ("false or undefined", &[NO, UNKNOWN, Or(2)], Truth::Undefined),
-    ("undefined or undefined", &[UNKNOWN, UNKNOWN, Or(2)], Truth::Undefined),
+    (
+        "false or undefined",
+        &[NO, UNKNOWN, Or(2)],
+        Truth::Undefined,
+    ),
+    (
+        "undefined or undefined",
+        &[UNKNOWN, UNKNOWN, Or(2)],
+        Truth::Undefined,
+    ),
     (
         "a settled and before others",
         &[NO, YES, And(2), YES, UNKNOWN, Or(2), YES, And(2), Or(2)],
         Truth::True,
     ),
-    ("approximate", &[Approx("cn", "Babs Jensen")], Truth::Undefined),
+    (
+        "approximate",
+        &[Approx("cn", "Babs Jensen")],
+        Truth::Undefined,
+    ),
 ];
 
 #[test]
@@ -180,38 +234,138 @@ const OF_EACH_SYNTAX: Values = &[
 ];
 
 const SYNTAXES: &[Row] = &[
-    ("a text", &[Equal("commonName", "ann lee"), Equal("cn", " ann LEE"), Or(2)], Truth::True),
+    (
+        "a text",
+        &[
+            Equal("commonName", "ann lee"),
+            Equal("cn", " ann LEE"),
+            Or(2),
+        ],
+        Truth::True,
+    ),
     ("another text", &[Equal("cn", "AnnLee")], Truth::False),
     ("an empty text", &[Equal("cn", "")], Truth::Undefined),
-    ("parts of a text", &[Parts("cn", Some("ANN "), &[], Some("lee"))], Truth::True),
-    ("parts over each other", &[Parts("cn", Some("ann le"), &[], Some("lee"))], Truth::False),
+    (
+        "parts of a text",
+        &[Parts("cn", Some("ANN "), &[], Some("lee"))],
+        Truth::True,
+    ),
+    (
+        "parts over each other",
+        &[Parts("cn", Some("ann le"), &[], Some("lee"))],
+        Truth::False,
+    ),
     ("a text from here on", &[AtLeast("cn", "Ann")], Truth::True),
     ("a text up to here", &[AtMost("cn", "Ann")], Truth::False),
-    ("a text up to itself", &[AtMost("cn", "ANN LEE"), AtLeast("cn", "ann lee"), And(2)], Truth::True),
-    ("an ASCII text", &[Equal("mail", "ann@example.COM")], Truth::True),
-    ("no ASCII text", &[Equal("mail", "\u{e4}nn@example.com")], Truth::Undefined),
-    ("a part that is no ASCII text", &[Parts("mail", None, &["\u{e4}"], None)], Truth::Undefined),
-    ("a telephone number", &[Equal("2.5.4.20", "+15550100")], Truth::True),
-    ("a part of a telephone number", &[Parts("telephoneNumber", None, &["5 5-5 01"], None)], Truth::True),
+    (
+        "a text up to itself",
+        &[AtMost("cn", "ANN LEE"), AtLeast("cn", "ann lee"), And(2)],
+        Truth::True,
+    ),
+    (
+        "an ASCII text",
+        &[Equal("mail", "ann@example.COM")],
+        Truth::True,
+    ),
+    (
+        "no ASCII text",
+        &[Equal("mail", "\u{e4}nn@example.com")],
+        Truth::Undefined,
+    ),
+    (
+        "a part that is no ASCII text",
+        &[Parts("mail", None, &["\u{e4}"], None)],
+        Truth::Undefined,
+    ),
+    (
+        "a telephone number",
+        &[Equal("2.5.4.20", "+15550100")],
+        Truth::True,
+    ),
+    (
+        "a part of a telephone number",
+        &[Parts("telephoneNumber", None, &["5 5-5 01"], None)],
+        Truth::True,
+    ),
     ("a country", &[Equal("c", "us")], Truth::True),
-    ("three letters for a country", &[Equal("c", "USA")], Truth::Undefined),
-    ("a letter of a country", &[Parts("c", Some("u"), &[], None)], Truth::True),
+    (
+        "three letters for a country",
+        &[Equal("c", "USA")],
+        Truth::Undefined,
+    ),
+    (
+        "a letter of a country",
+        &[Parts("c", Some("u"), &[], None)],
+        Truth::True,
+    ),
     ("octets", &[Equal("userPassword", "Secret")], Truth::True),
-    ("other octets", &[Equal("userPassword", "secret")], Truth::False),
-    ("order of octets", &[AtLeast("userPassword", "A")], Truth::Undefined),
-    ("parts of octets", &[Parts("userPassword", Some("S"), &[], None)], Truth::Undefined),
-    ("a name", &[Equal("member", "CN = bob , dc=example")], Truth::True),
+    (
+        "other octets",
+        &[Equal("userPassword", "secret")],
+        Truth::False,
+    ),
+    (
+        "order of octets",
+        &[AtLeast("userPassword", "A")],
+        Truth::Undefined,
+    ),
+    (
+        "parts of octets",
+        &[Parts("userPassword", Some("S"), &[], None)],
+        Truth::Undefined,
+    ),
+    (
+        "a name",
+        &[Equal("member", "CN = bob , dc=example")],
+        Truth::True,
+    ),
     ("another name", &[Equal("member", "cn=bob")], Truth::False),
     ("no name", &[Equal("member", "bob")], Truth::Undefined),
-    ("order of names", &[AtMost("member", "cn=bob")], Truth::Undefined),
-    ("parts of a name", &[Parts("member", Some("cn"), &[], None)], Truth::Undefined),
-    ("an identifier", &[Equal("administrativeRole", "2.5.23.1")], Truth::True),
-    ("another identifier", &[Equal("administrativeRole", "1.2.3")], Truth::False),
-    ("no identifier", &[Equal("administrativeRole", "no such role")], Truth::Undefined),
-    ("order of identifiers", &[AtLeast("objectClass", "person")], Truth::Undefined),
-    ("an access control item", &[Equal("entryACI", "{ }")], Truth::True),
-    ("order of access control items", &[AtLeast("entryACI", "{ }")], Truth::Undefined),
-    ("a type with an option", &[Equal("cn;lang-en", "Ann Lee")], Truth::Undefined),
+    (
+        "order of names",
+        &[AtMost("member", "cn=bob")],
+        Truth::Undefined,
+    ),
+    (
+        "parts of a name",
+        &[Parts("member", Some("cn"), &[], None)],
+        Truth::Undefined,
+    ),
+    (
+        "an identifier",
+        &[Equal("administrativeRole", "2.5.23.1")],
+        Truth::True,
+    ),
+    (
+        "another identifier",
+        &[Equal("administrativeRole", "1.2.3")],
+        Truth::False,
+    ),
+    (
+        "no identifier",
+        &[Equal("administrativeRole", "no such role")],
+        Truth::Undefined,
+    ),
+    (
+        "order of identifiers",
+        &[AtLeast("objectClass", "person")],
+        Truth::Undefined,
+    ),
+    (
+        "an access control item",
+        &[Equal("entryACI", "{ }")],
+        Truth::True,
+    ),
+    (
+        "order of access control items",
+        &[AtLeast("entryACI", "{ }")],
+        Truth::Undefined,
+    ),
+    (
+        "a type with an option",
+        &[Equal("cn;lang-en", "Ann Lee")],
+        Truth::Undefined,
+    ),
 ];
 
 #[test]
@@ -220,13 +374,41 @@ fn each_syntax_matches_by_its_rule(rt: HostRuntime) -> Result<(), Fail> {
 }
 
 const CLASSES: &[Row] = &[
-    ("its own", &[Equal("objectClass", "organizationalPerson")], Truth::True),
-    ("its superclass", &[Equal("objectClass", "PERSON")], Truth::True),
-    ("the superclass of that", &[Equal("objectClass", "2.5.6.0")], Truth::True),
-    ("a subclass", &[Equal("objectClass", "inetOrgPerson")], Truth::False),
-    ("another class", &[Equal("objectClass", "device")], Truth::False),
-    ("a class outside the table", &[Equal("objectClass", "1.2.3")], Truth::False),
-    ("no class", &[Equal("objectClass", "no such class")], Truth::Undefined),
+    (
+        "its own",
+        &[Equal("objectClass", "organizationalPerson")],
+        Truth::True,
+    ),
+    (
+        "its superclass",
+        &[Equal("objectClass", "PERSON")],
+        Truth::True,
+    ),
+    (
+        "the superclass of that",
+        &[Equal("objectClass", "2.5.6.0")],
+        Truth::True,
+    ),
+    (
+        "a subclass",
+        &[Equal("objectClass", "inetOrgPerson")],
+        Truth::False,
+    ),
+    (
+        "another class",
+        &[Equal("objectClass", "device")],
+        Truth::False,
+    ),
+    (
+        "a class outside the table",
+        &[Equal("objectClass", "1.2.3")],
+        Truth::False,
+    ),
+    (
+        "no class",
+        &[Equal("objectClass", "no such class")],
+        Truth::Undefined,
+    ),
 ];
 
 #[test]
@@ -235,49 +417,115 @@ fn a_class_matches_with_its_superclasses(rt: HostRuntime) -> Result<(), Fail> {
 }
 
 const WITHOUT_CN: &[Row] = &[
-    ("a value of it", &[Equal("cn", "Babs Jensen")], Truth::Undefined),
+    (
+        "a value of it",
+        &[Equal("cn", "Babs Jensen")],
+        Truth::Undefined,
+    ),
     ("no value of it", &[Equal("cn", "Ann")], Truth::Undefined),
-    ("not a value of it", &[Equal("cn", "Ann"), Not], Truth::Undefined),
+    (
+        "not a value of it",
+        &[Equal("cn", "Ann"), Not],
+        Truth::Undefined,
+    ),
     ("its presence", &[Present("cn")], Truth::Undefined),
     ("another type", &[Equal("sn", "Jensen")], Truth::True),
 ];
 
-const WITHOUT_MAIL: &[Row] = &[("the presence of a type that isn't there", &[NO], Truth::Undefined)];
+const WITHOUT_MAIL: &[Row] = &[(
+    "the presence of a type that isn't there",
+    &[NO],
+    Truth::Undefined,
+)];
 
 #[test]
 fn without_permission_on_its_type_an_item_is_undefined(rt: HostRuntime) -> Result<(), Fail> {
-    check(&rt, rt.alloc(), BABS, &AllBut::new(AttrId::CN, ""), WITHOUT_CN)?;
-    check(&rt, rt.alloc(), BABS, &AllBut::new(AttrId::MAIL, ""), WITHOUT_MAIL)
+    check(
+        &rt,
+        rt.alloc(),
+        BABS,
+        &AllBut::new(AttrId::CN, ""),
+        WITHOUT_CN,
+    )?;
+    check(
+        &rt,
+        rt.alloc(),
+        BABS,
+        &AllBut::new(AttrId::MAIL, ""),
+        WITHOUT_MAIL,
+    )
 }
 
 const WITHOUT_A_NAME: &[Row] = &[
     ("the value", &[Equal("cn", "Babs Jensen")], Truth::False),
-    ("not the value", &[Equal("cn", "Babs Jensen"), Not], Truth::True),
-    ("another value", &[Equal("cn", "Barbara Jensen")], Truth::True),
-    ("a part of both", &[Parts("cn", None, &["jens"], None)], Truth::True),
-    ("a part of the value alone", &[Parts("cn", Some("babs"), &[], None)], Truth::False),
+    (
+        "not the value",
+        &[Equal("cn", "Babs Jensen"), Not],
+        Truth::True,
+    ),
+    (
+        "another value",
+        &[Equal("cn", "Barbara Jensen")],
+        Truth::True,
+    ),
+    (
+        "a part of both",
+        &[Parts("cn", None, &["jens"], None)],
+        Truth::True,
+    ),
+    (
+        "a part of the value alone",
+        &[Parts("cn", Some("babs"), &[], None)],
+        Truth::False,
+    ),
     ("presence", &[Present("cn")], Truth::True),
 ];
 
 const WITHOUT_A_LAST_NAME: &[Row] = &[
     ("the value", &[Equal("sn", "Jensen")], Truth::False),
-    ("presence, which asks for no value", &[Present("sn")], Truth::True),
+    (
+        "presence, which asks for no value",
+        &[Present("sn")],
+        Truth::True,
+    ),
 ];
 
 #[test]
 fn without_permission_on_a_value_it_does_not_match(rt: HostRuntime) -> Result<(), Fail> {
-    check(&rt, rt.alloc(), BABS, &AllBut::new(AttrId::MAIL, "Babs Jensen"), WITHOUT_A_NAME)?;
-    check(&rt, rt.alloc(), BABS, &AllBut::new(AttrId::MAIL, "Jensen"), WITHOUT_A_LAST_NAME)
+    check(
+        &rt,
+        rt.alloc(),
+        BABS,
+        &AllBut::new(AttrId::MAIL, "Babs Jensen"),
+        WITHOUT_A_NAME,
+    )?;
+    check(
+        &rt,
+        rt.alloc(),
+        BABS,
+        &AllBut::new(AttrId::MAIL, "Jensen"),
+        WITHOUT_A_LAST_NAME,
+    )
 }
 
 // Filters that are not True of Babs by what she has.
 const NOT_OF_BABS: &[(&str, &[Step])] = &[
     ("another value", &[Equal("cn", "Tim Howes")]),
-    ("a type that isn't there", &[Equal("mail", "babs@example.com")]),
+    (
+        "a type that isn't there",
+        &[Equal("mail", "babs@example.com")],
+    ),
     ("another class", &[Equal("objectClass", "device")]),
     ("no presence", &[Present("mail")]),
     ("one of none", &[Equal("cn", "Tim"), Present("mail"), Or(2)]),
-    ("the first of an and", &[Present("cn"), Equal("cn", "Tim Howes"), And(2)]),
+    (
+        "the second of an and",
+        &[Present("cn"), Equal("cn", "Tim Howes"), And(2)],
+    ),
+    (
+        "a value beside a not",
+        &[Present("mail"), Not, Equal("cn", "Tim Howes"), And(2)],
+    ),
 ];
 
 #[test]

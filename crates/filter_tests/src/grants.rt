@@ -36,8 +36,8 @@ impl AllBut {
 
 impl Allow for AllBut {
     ghost permits = { λ all. record {
-        kind = λ kind. not (kind == all.kind);
-        value = λ kind value. not (bytes_eq value.octets all.octets.now);
+      kind = λ kind. not (kind == all.kind);
+      value = λ kind value. not (bytes_eq value.octets all.octets.now);
     } };
 
     fn kind(&self, kind: AttrId) -> bool {

@@ -39,12 +39,13 @@ fn parts(alloc: Global, texts: &[&'static str]) -> Result<OneOrMany<Octets>, Fai
     Ok(OneOrMany::from_vec(parts))
 }
 
-// Takes the last filters.
+// Takes the last filters, in their order.
 fn last(alloc: Global, made: &mut Vec<Filter>, count: usize) -> Result<Vec<Filter>, Fail> {
     let mut members = Vec::new(alloc);
     for _ in 0..count {
         members.push(made.pop().ok_or("no filter to join")?)?;
     }
+    members.reverse();
     Ok(members)
 }
 
