@@ -1,5 +1,5 @@
--- What a search filter is of an entry (RFC 4511 4.5.1.7): True, False or Undefined, by the permission FilterMatch on each
--- type and on each value (X.511 7.?; X.501 18).
+-- What a search filter is of an entry (RFC 4511 4.5.1.7, X.511 7.8): True, False or Undefined, by the permission
+-- FilterMatch on each type and on each value (X.501 18.2).
 use Rattle.std.specs.Prelude.{ℕ, Bool, true, false, ◌&&◌, List, [], ◌∷◌, if◌then◌else◌}
 use Rattle.std.specs.List.{list_any, list_all}
 use Rattle.std.specs.Str.{bytes_eq}

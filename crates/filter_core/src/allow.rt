@@ -6,7 +6,7 @@ ghost use Rattle.filter_core.specs.Truths.{Permits};
 use dn_names::Value;
 use schema_core::AttrId;
 
-/// What the requester may match filters against, of one entry: the permission FilterMatch (X.501 18.2.3).
+/// What the requester may match filters against, of one entry: the permission FilterMatch (X.501 18.2).
 pub trait Allow {
     ghost permits: { Self → Permits };
 
