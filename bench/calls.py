@@ -1,5 +1,5 @@
 #!/usr/bin/env python3
-"""Measures calls by themselves: keys and names, or trees and records.
+"""Measures calls by themselves: keys and names, trees and records, or messages.
 
 The program of that name in the folder calls is built beside copies of the crates that it uses, and run.
 """
@@ -25,6 +25,11 @@ class Program(NamedTuple):
 
 
 PROGRAMS = {
+    "messages": Program(
+        ("ldap_msg",),
+        ("ldap_filter", "ber_layout", "ber_core", "plain_values"),
+        {"src/main.rt": "messages.txt"},
+    ),
     "names": Program(
         ("dn_names", "match_rules"),
         ("schema_core", "regular_text", "plain_values"),

@@ -1,0 +1,11 @@
+//! Tests of filters over entries, with expected values from the public standards.
+#![tactic(auto)]
+
+#[cfg(test)]
+mod filters;
+#[cfg(test)]
+mod fixtures;
+#[cfg(test)]
+mod grants;
+#[cfg(test)]
+mod steps;
