@@ -1,0 +1,4 @@
+-- what public clauses cite
+pub mod Refinements
+pub mod Areas
+pub mod InForce
