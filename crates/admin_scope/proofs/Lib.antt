@@ -1,4 +1,8 @@
-mod Examples
 pub mod ListLemmas
 pub mod PrefixLemmas
+pub mod FrontLemmas
+pub mod LineLemmas
 pub mod WithoutLemmas
+pub mod WalkLemmas
+pub mod FindLemmas
+pub mod Theorems

@@ -1,8 +1,8 @@
 -- Fronts of names.
 use Rattle.std.proofs.Common.{◌≡◌, true, ◌++◌, ap, sym, ◌∙◌}
-use Rattle.std.proofs.lemmas.List.{append-assoc}
+use Rattle.std.proofs.lemmas.List.{append_assoc}
 use Rattle.dn_names.specs.Names.{RdnSequence}
-use Rattle.dn_names.specs.NameOrder.{is_prefix_of}
+use Rattle.dn_names.specs.NameOrder.{is_prefix_of, types_and_keys}
 use Rattle.dn_names.proofs.Theorems.{is_prefix_of-types_and_keys}
 
 -- a front of a front is a front
@@ -11,6 +11,6 @@ prefix_chain x y z e f =
     let first = (is_prefix_of-types_and_keys x y).0 e in
     let second = (is_prefix_of-types_and_keys y z).0 f in
     (is_prefix_of-types_and_keys x z).1 (
-    first.0 ++ second.0,
-    second.1 ∙ ap (λ t. t ++ second.0) first.1 ∙ append-assoc _ _ _,
+      first.0 ++ second.0,
+      second.1 ∙ ap (λ t. t ++ second.0) first.1 ∙ append_assoc (types_and_keys x) first.0 second.0,
     )

@@ -17,7 +17,7 @@ is_access_point entry = is_specific_point entry || is_inner_point entry
 
 -- the points from the name upwards
 abbrev pub points_from : RdnSequence → List EntryInformation → List EntryInformation
-points_from name entries = reverse (filter is_access_point (line_of name entries))
+points_from name entries = filter is_access_point (reverse (line_of name entries))
 
 -- those up to the first specific one, which is the last of them; None where there is none
 abbrev pub to_specific : List EntryInformation → Option (List EntryInformation)

@@ -23,9 +23,13 @@ subtree_of_entry entry =
 unfoldable pub subtree_holds : EntryInformation → EntryInformation → EntryInformation → Bool
 subtree_holds point subentry entry = option_map_or (λ subtree. holds subtree point.name entry) (subtree_of_entry subentry) false
 
--- an access control subentry immediately below the point, whose subtree holds the entry
+-- an access control subentry whose subtree, read from the point on, holds the entry
+abbrev pub applies : EntryInformation → EntryInformation → EntryInformation → Bool
+applies point subentry entry = is_access_subentry subentry && subtree_holds point subentry entry
+
+-- such a subentry immediately below the point
 abbrev pub reaches : EntryInformation → EntryInformation → EntryInformation → Bool
-reaches point subentry entry = is_child point.name subentry && is_access_subentry subentry && subtree_holds point subentry entry
+reaches point subentry entry = is_child point.name subentry && applies point subentry entry
 
 -- those under a point
 abbrev pub in_force_at : EntryInformation → EntryInformation → List EntryInformation → List EntryInformation

@@ -2,3 +2,6 @@
 pub mod Refinements
 pub mod Areas
 pub mod InForce
+-- for the inside of the crate alone
+pub mod Walking
+pub mod Finding

@@ -2,5 +2,15 @@
 #![tactic(auto)]
 
 mod laws;
+mod membership;
+mod point_list;
+mod refinements;
+mod roles;
+mod subentries;
+mod upwards;
 
 pub use laws::a_subtree_without_subentries_changes_no_area;
+pub use membership::holds;
+pub use point_list::areas;
+pub use subentries::{applies, in_force, in_force_for, subtree};
+pub use upwards::{PointWalk, points};
