@@ -1,11 +1,10 @@
 -- The numbers that are found are those of the subentries in force.
-use Rattle.std.proofs.Common.{◌≡◌, ℕ, Bool, true, false, ◌&&◌, List, [], ◌∷◌, ◌++◌, filter, Option, Some, None, refl, sym, ap, ◌∙◌, inl, inr}
+use Rattle.std.proofs.Common.{◌≡◌, ℕ, Bool, true, false, ◌&&◌, List, [], ◌∷◌, ◌++◌, filter, Option, Some, None, refl, sym, ap, subst, ◌∙◌, inl, inr}
 use Rattle.std.specs.Prelude.{flat_map, filter_map, IsSome}
 use Rattle.std.specs.List.{AllByRecursion}
 use Rattle.std.specs.Option.{option_map_or}
 use Rattle.std.proofs.lemmas.Bool.{cases_Bool}
-use Rattle.std.proofs.lemmas.List.Elements.{filter-append, filter_map-append}
-use Rattle.std.proofs.lemmas.List.{append_assoc}
+use Rattle.std.proofs.lemmas.List.Elements.{filter_map-append}
 use Rattle.dir_tree.specs.Entries.{EntryInformation}
 use Rattle.dir_tree.specs.Points.{is_subentry}
 use Rattle.dir_tree.specs.Numbered.{Numbered, entries_of, entry_of, entries_at, IsNumberedTree}
@@ -14,10 +13,10 @@ use Rattle.dir_tree.specs.declared.scope.Scope.TheVariants.{One}
 use Rattle.dir_tree.proofs.TreeTheorems.{scoped-One-entries}
 use Rattle.admin_scope.specs.Areas.{areas}
 use Rattle.admin_scope.specs.InForce.{applies, reaches, in_force_at, in_force}
-use Rattle.admin_scope.specs.Walking.{stands}
+use Rattle.admin_scope.specs.Walking.{stands, walk_of}
 use Rattle.admin_scope.specs.Finding.{applying, numbers_at}
 use Rattle.admin_scope.proofs.ListLemmas.{filter-filter, all-append}
-use Rattle.admin_scope.proofs.WalkLemmas.{live-stands}
+use Rattle.admin_scope.proofs.WalkLemmas.{live-stands, areas-gathered}
 
 -- the entries of the numbers that pass are the entries that pass
 entries_at-filter : (rows : List Numbered) (test : EntryInformation → Bool) (ids : List ℕ) → entries_at rows (filter (λ id. stands test id rows) ids) ≡ filter test (entries_at rows ids)
@@ -62,12 +61,17 @@ entries_at-flat_map rows tree entry (id ∷ ids) = by (entry_of id rows) refl (e
         split e = rw e refl
 
 -- so what is found below the points is what is in force
-pub in_force-found : (rows : List Numbered) → IsNumberedTree rows → (entry : EntryInformation) → is_subentry entry ≡ false → (ids : List ℕ) → entries_at rows ids ≡ areas (entries_of rows) entry → entries_at rows (flat_map (numbers_at rows entry) ids) ≡ in_force (entries_of rows) entry
+in_force-found : (rows : List Numbered) → IsNumberedTree rows → (entry : EntryInformation) → is_subentry entry ≡ false → (ids : List ℕ) → entries_at rows ids ≡ areas (entries_of rows) entry → entries_at rows (flat_map (numbers_at rows entry) ids) ≡ in_force (entries_of rows) entry
 unfolding in_force
 in_force-found rows tree entry ordinary ids e =
     entries_at-flat_map rows tree entry ids
     ∙ ap (flat_map (λ point. in_force_at entry point (entries_of rows))) e
     ∙ sym (rw ordinary refl)
+
+pub in_force-gathered : (rows : List Numbered) → IsNumberedTree rows → (entry : EntryInformation) → is_subentry entry ≡ false → (ids : List ℕ) → ids ≡ flat_map (numbers_at rows entry) (walk_of entry.name rows) → entries_at rows ids ≡ in_force (entries_of rows) entry
+in_force-gathered rows tree entry ordinary ids e =
+    ap (entries_at rows) e
+    ∙ in_force-found rows tree entry ordinary (walk_of entry.name rows) (areas-gathered rows tree entry (walk_of entry.name rows) refl)
 
 -- nothing is in force for a subentry
 pub in_force-subentry : (rows : List Numbered) (entry : EntryInformation) → is_subentry entry ≡ true → [] ≡ in_force (entries_of rows) entry
@@ -89,10 +93,10 @@ live-numbers_at rows entry id = by (entry_of id rows)
     by None = tt
     by (Some point) = live-filter rows (λ subentry. applies point subentry entry) (scoped One id rows)
 
-pub live-flat_map : (rows : List Numbered) (entry : EntryInformation) (ids : List ℕ) → AllByRecursion (λ id. IsSome (entry_of id rows)) (flat_map (numbers_at rows entry) ids)
+live-flat_map : (rows : List Numbered) (entry : EntryInformation) (ids : List ℕ) → AllByRecursion (λ id. IsSome (entry_of id rows)) (flat_map (numbers_at rows entry) ids)
 live-flat_map rows entry [] = tt
 live-flat_map rows entry (id ∷ ids) = all-append _ _ _ (live-numbers_at rows entry id) (live-flat_map rows entry ids)
 
--- one number more of those that pass
-pub filter-more : {A : Type 0} (test : A → Bool) (seen : List A) (x : A) (rest : List A) → (seen ++ filter test (x ∷ [])) ++ filter test rest ≡ seen ++ filter test (x ∷ rest)
-filter-more test seen x rest = append_assoc seen (filter test (x ∷ [])) (filter test rest) ∙ ap (λ more. seen ++ more) (sym (filter-append test (x ∷ []) rest))
+pub live-found : (rows : List Numbered) (entry : EntryInformation) (ids points : List ℕ) → ids ≡ flat_map (numbers_at rows entry) points → AllByRecursion (λ id. IsSome (entry_of id rows)) ids
+live-found rows entry ids points e =
+    subst (λ (all : List ℕ). AllByRecursion (λ id. IsSome (entry_of id rows)) all) (sym e) (live-flat_map rows entry points)

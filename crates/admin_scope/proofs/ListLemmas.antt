@@ -1,6 +1,6 @@
 -- Lists that are left, and tests.
 use Rattle.std.proofs.Common.{◌≡◌, ◌⊎◌, inl, inr, Bool, true, false, ◌&&◌, ◌||◌, List, [], ◌∷◌, ◌++◌, refl, ap, ◌∙◌, filter}
-use Rattle.std.specs.Prelude.{flat_map}
+use Rattle.std.specs.Prelude.{flat_map, Result, Ok, Err, IfOk}
 use Rattle.std.specs.List.{AllByRecursion, list_any}
 use Rattle.std.proofs.lemmas.Bool.{cases_Bool}
 
@@ -64,3 +64,8 @@ filter_like p q h (x ∷ xs) = rw (h x, filter_like p q h xs) refl
 pub all-append : {A : Type 0} (P : A → Type 0) (xs ys : List A) → AllByRecursion P xs → AllByRecursion P ys → AllByRecursion P (xs ++ ys)
 all-append P [] ys h k = k
 all-append P (x ∷ xs) ys h k = (h.0, all-append P xs ys h.1 k)
+
+-- one fact of the value that an answer has, from another
+pub ok_from : {T E : Type 0} (P Q : T → Type 0) → ((x : T) → P x → Q x) → (r : Result T E) → IfOk r P → IfOk r Q
+ok_from P Q f (Ok x) h = f x h
+ok_from P Q f (Err e) h = tt

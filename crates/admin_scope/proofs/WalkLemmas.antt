@@ -11,7 +11,7 @@ use Rattle.dir_tree.specs.Trees.{named_in}
 use Rattle.dir_tree.specs.Numbered.{Numbered, entries_of, entry_of, entries_at, find_name, find_front, AreDistinct, IsNumberedTree}
 use Rattle.dir_tree.proofs.TreeTheorems.{entry_of-found}
 use Rattle.admin_scope.specs.Areas.{is_access_point, to_specific, areas}
-use Rattle.admin_scope.specs.Walking.{stands, with_front, points_up, is_specific_front, has_specific, first_front}
+use Rattle.admin_scope.specs.Walking.{stands, with_front, points_up, is_specific_front, has_specific, first_front, walk_of}
 use Rattle.admin_scope.proofs.LineLemmas.{line_up, reverse-line_of}
 
 -- what the walk finds, where there is a specific point among it
@@ -33,7 +33,7 @@ one_front rows (Some n) line there above h = by (entry_of n rows) refl
     at x e = elim (cases_Bool (is_specific_point x)) [
       | inl s ↦ rw (e, s, s, e) refl
       | inr s ↦ elim (cases_Bool (is_inner_point x)) [
-        | inl i ↦ (let after = below_inner x e there in rw (e, s, i, h) after)
+        | inl i ↦ (let after = below_inner x e there in rw (e, s, i, s, h) after)
         | inr i ↦ rw (e, s, i) h
       ]
     ]
@@ -96,24 +96,62 @@ live-points_up (suc len) name rows = with (find_front (suc len) name rows) (poin
     ]
 
 -- one front less
-pub points_up-step : (len : ℕ) (name : RdnSequence) (rows : List Numbered) → 0 < len → points_up len name rows ≡ with_front rows (find_front len name rows) (points_up (len - 1) name rows)
+points_up-step : (len : ℕ) (name : RdnSequence) (rows : List Numbered) → 0 < len → points_up len name rows ≡ with_front rows (find_front len name rows) (points_up (len - 1) name rows)
 unfolding points_up
 points_up-step zero name rows h = absurd (omega arith)
 points_up-step (suc len) name rows h =
     let left : suc len - 1 ≡ len = omega arith in
     ap (λ n. with_front rows (find_front (suc len) name rows) (points_up n name rows)) (sym left)
 
-pub points_up-none : (name : RdnSequence) (rows : List Numbered) → points_up 0 name rows ≡ []
+points_up-none : (name : RdnSequence) (rows : List Numbered) → points_up 0 name rows ≡ []
 unfolding points_up
 points_up-none name rows = refl
 
-pub has_specific-step : (len : ℕ) (name : RdnSequence) (rows : List Numbered) → 0 < len → has_specific len name rows ≡ (is_specific_front len name rows || has_specific (len - 1) name rows)
+-- a front that is a specific point, an inner one, another entry, or none
+pub points_up-specific : (len : ℕ) (name : RdnSequence) (rows : List Numbered) (id : ℕ) → 0 < len → find_front len name rows ≡ Some id → stands is_specific_point id rows ≡ true → points_up len name rows ≡ id ∷ points_up 0 name rows
+points_up-specific len name rows id h e s =
+    points_up-step len name rows h ∙ ap (λ o. with_front rows o (points_up (len - 1) name rows)) e ∙ rw s (ap (λ rest. id ∷ rest) (sym (points_up-none name rows)))
+
+pub points_up-inner : (len : ℕ) (name : RdnSequence) (rows : List Numbered) (id : ℕ) → 0 < len → find_front len name rows ≡ Some id → stands is_specific_point id rows ≡ false → stands is_inner_point id rows ≡ true → points_up len name rows ≡ id ∷ points_up (len - 1) name rows
+points_up-inner len name rows id h e s i =
+    points_up-step len name rows h ∙ ap (λ o. with_front rows o (points_up (len - 1) name rows)) e ∙ rw (s, i) refl
+
+pub points_up-other : (len : ℕ) (name : RdnSequence) (rows : List Numbered) (id : ℕ) → 0 < len → find_front len name rows ≡ Some id → stands is_specific_point id rows ≡ false → stands is_inner_point id rows ≡ false → points_up len name rows ≡ points_up (len - 1) name rows
+points_up-other len name rows id h e s i =
+    points_up-step len name rows h ∙ ap (λ o. with_front rows o (points_up (len - 1) name rows)) e ∙ rw (s, i) refl
+
+pub points_up-nothing : (len : ℕ) (name : RdnSequence) (rows : List Numbered) → 0 < len → find_front len name rows ≡ None → points_up len name rows ≡ points_up (len - 1) name rows
+points_up-nothing len name rows h e =
+    points_up-step len name rows h ∙ ap (λ o. with_front rows o (points_up (len - 1) name rows)) e
+
+pub points_up-end : (len : ℕ) (name : RdnSequence) (rows : List Numbered) → len ≡ 0 → points_up len name rows ≡ []
+points_up-end len name rows e = ap (λ n. points_up n name rows) e ∙ points_up-none name rows
+
+has_specific-step : (len : ℕ) (name : RdnSequence) (rows : List Numbered) → 0 < len → has_specific len name rows ≡ (is_specific_front len name rows || has_specific (len - 1) name rows)
 unfolding has_specific
 has_specific-step zero name rows h = absurd (omega arith)
 has_specific-step (suc len) name rows h =
     let left : suc len - 1 ≡ len = omega arith in
     ap (λ n. is_specific_front (suc len) name rows || has_specific n name rows) (sym left)
 
-pub has_specific-none : (name : RdnSequence) (rows : List Numbered) → has_specific 0 name rows ≡ false
+has_specific-none : (name : RdnSequence) (rows : List Numbered) → has_specific 0 name rows ≡ false
 unfolding has_specific
 has_specific-none name rows = refl
+
+-- a front that is a specific point, or is none
+pub has_specific-here : (len : ℕ) (name : RdnSequence) (rows : List Numbered) → 0 < len → is_specific_front len name rows ≡ true → has_specific len name rows ≡ true
+has_specific-here len name rows h e = has_specific-step len name rows h ∙ rw e refl
+
+pub has_specific-other : (len : ℕ) (name : RdnSequence) (rows : List Numbered) → 0 < len → is_specific_front len name rows ≡ false → has_specific len name rows ≡ has_specific (len - 1) name rows
+has_specific-other len name rows h e = has_specific-step len name rows h ∙ rw e refl
+
+pub has_specific-end : (len : ℕ) (name : RdnSequence) (rows : List Numbered) → len ≡ 0 → has_specific len name rows ≡ false
+has_specific-end len name rows e = ap (λ n. has_specific n name rows) e ∙ has_specific-none name rows
+
+-- the same of a list of the numbers
+pub areas-gathered : (rows : List Numbered) → IsNumberedTree rows → (entry : EntryInformation) (ids : List ℕ) → ids ≡ walk_of entry.name rows → entries_at rows ids ≡ areas (entries_of rows) entry
+areas-gathered rows tree entry ids e = ap (entries_at rows) e ∙ own_points rows tree entry
+
+pub live-gathered : (rows : List Numbered) (name : RdnSequence) (ids : List ℕ) → ids ≡ walk_of name rows → AllByRecursion (λ id. IsSome (entry_of id rows)) ids
+live-gathered rows name ids e =
+    subst (λ (all : List ℕ). AllByRecursion (λ id. IsSome (entry_of id rows)) all) (sym e) (live-points_up (first_front name rows) name rows)

@@ -101,20 +101,16 @@ fn list_below(
     Ok(())
 }
 
-// Lists those below each point of the entry.
-fn list_all(
-    alloc: Global,
-    tree: &Tree,
-    entry: &Entry,
-    found: &mut Vec<EntryNo>,
-) -> Result<(), NoMemory>
-    ensures ok { OnOk result (map (λ no. no.0) found.new.items ≡ map (λ no. no.0) found.old.items
-        ++ flat_map (numbers_at tree.now entry.now) (walk_of entry.now.name tree.now)) }
+// Those below each point of the entry.
+fn below_points(alloc: Global, tree: &Tree, entry: &Entry) -> Result<Vec<EntryNo>, NoMemory>
+    ensures exact { IfOk result (λ found. map (λ no. no.0) found.items
+        ≡ flat_map (numbers_at tree.now entry.now) (walk_of entry.now.name tree.now)) }
 {
+    let mut found = Vec::new(alloc);
     for point in walk(tree, entry.name()) {
-        list_below(alloc, tree, point, entry, found)?;
+        list_below(alloc, tree, point, entry, &mut found)?;
     }
-    Ok(())
+    Ok(found)
 }
 
 /// The numbers of the access control subentries in force for an entry (X.501 18.3, RFC 3672 section 2), which need not be
@@ -127,11 +123,10 @@ pub fn in_force_for(alloc: Global, tree: &Tree, entry: &Entry) -> Result<Vec<Ent
         AllByRecursion (λ id. IsSome (entry_of id tree.now)) (map (λ no. no.0) found.items)) }
 {
     tree.entries_form_a_tree();
-    let mut found = Vec::new(alloc);
-    if !entry.is_subentry() {
-        list_all(alloc, tree, entry, &mut found)?;
+    if entry.is_subentry() {
+        return Ok(Vec::new(alloc));
     }
-    Ok(found)
+    below_points(alloc, tree, entry)
 }
 
 /// The same for the entry of a number; none where the number is not in use.

@@ -1,6 +1,6 @@
 //! The points of a name, without memory.
 
-ghost use Rattle.std.specs.Prelude.{◌≡◌, ℕ, ◌<◌, ◌-◌, ◌≤◌, [], ◌∷◌, IfSome, IsSome, None, false, length};
+ghost use Rattle.std.specs.Prelude.{◌≡◌, [], ◌∷◌, IsSome, MatchOption, false, length};
 ghost use Rattle.std.specs.List.{AllByRecursion};
 ghost use Rattle.std.specs.Option.{option_map_or};
 ghost use Rattle.dir_tree.specs.Entries.{EntryInformation};
@@ -46,9 +46,9 @@ impl<'a> Iterator for PointWalk<'a> {
 
 // The first of the points that are left, which are those of so many RDNs at most.
 fn next_point(tree: &Tree, name: &Dn, len: &mut usize) -> Option<EntryNo>
-    ensures found { IfSome result (λ number. points_up len.old name.now tree.now
-        ≡ number.0 ∷ points_up len.new name.now tree.now) }
-    ensures empty { result ≡ None → points_up len.old name.now tree.now ≡ [] }
+    ensures exact { MatchOption result
+        ((points_up len.old name.now tree.now ≡ []) × (points_up len.new name.now tree.now ≡ []))
+        (λ number. points_up len.old name.now tree.now ≡ number.0 ∷ points_up len.new name.now tree.now) }
 {
     while *len > 0 {
         let front = *len;
