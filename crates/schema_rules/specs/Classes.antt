@@ -5,7 +5,8 @@ use Rattle.std.specs.Option.{option_map_or}
 use Rattle.dn_names.specs.Names.{Keyed}
 use Rattle.dir_tree.specs.Entries.{Attribute, has_kind}
 use Rattle.schema_core.specs.Classes.{class_with}
-use Rattle.schema_rules.specs.Listed.{is_structural, are_in_line, with_superclasses, is_among, required_by, permitted_by}
+use Rattle.schema_core.specs.Superclasses.{with_superclasses}
+use Rattle.schema_rules.specs.Listed.{is_structural, are_in_line, is_among, required_by, permitted_by}
 
 -- the classes of the table that have the keys
 abbrev pub classes_in : List Keyed → List ℕ

@@ -14,5 +14,5 @@ mod rules;
 mod values;
 
 pub use broken::{Broken, NoMemory};
-pub use check::check_entry;
+pub use check::{check_entry, check_entry_below};
 pub use laws::{a_tree_stays_good, an_entry_meets_the_rules_or_breaks_one};
