@@ -55,12 +55,7 @@ fn value_of(alloc: Global, kind: AttrId, line: &RecordLine) -> Result<Value, Loa
 }
 
 // Adds the value. `Twice` comes exactly where the entry has an equal one of the type.
-fn add_value(
-    entry: &mut Entry,
-    line: u64,
-    kind: AttrId,
-    value: Value,
-) -> Result<(), LoadFault>
+fn add_value(entry: &mut Entry, line: u64, kind: AttrId, value: Value) -> Result<(), LoadFault>
     ensures ok { OnOk result (with_new_value entry.old line kind.0 (Some value) ≡ Ok entry.new) }
     ensures bad { IfErr result (λ fault.
         IsFault fault (with_new_value entry.old line kind.0 (Some value))) }

@@ -43,12 +43,7 @@ fn fault_of(line: u64, broken: Broken) -> LoadFault
 }
 
 // Whether the entry breaks a rule, the number of whose superior is known.
-fn ruled(
-    tree: &Tree,
-    line: u64,
-    superior: Option<EntryNo>,
-    entry: &Entry,
-) -> Result<(), LoadFault>
+fn ruled(tree: &Tree, line: u64, superior: Option<EntryNo>, entry: &Entry) -> Result<(), LoadFault>
     requires { option_map (λ no. no.0) superior ≡ find_name (superior_name entry.now.name) tree.now }
     ensures ok { OnOk result (broken_rule None (entries_of tree.now) entry.now ≡ None) }
     ensures bad { IfErr result (λ fault.

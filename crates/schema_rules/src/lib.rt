@@ -8,6 +8,7 @@ mod contents;
 mod laws;
 mod limits;
 mod listed;
+mod marks;
 mod own;
 mod points;
 mod rules;
