@@ -9,7 +9,8 @@ use Rattle.dn_names.specs.NameOrder.{name_cmp, is_same, is_prefix_of}
 use Rattle.dir_tree.specs.Entries.{Attribute, EntryInformation}
 use Rattle.dir_tree.specs.EntryClasses.{has_class}
 use Rattle.dir_tree.specs.Points.{is_point, is_subentry, is_access_subentry}
-use Rattle.schema_rules.specs.Listed.{with_superclasses, are_in_line}
+use Rattle.schema_core.specs.Superclasses.{with_superclasses}
+use Rattle.schema_rules.specs.Listed.{are_in_line}
 use Rattle.schema_rules.specs.Rules.{broken_rule, lacks_own_value, has_other_structural, breaks_classes, has_unread, has_two_values, is_misplaced, is_past_limits, stands_wrong, octets_in}
 
 -- a value of its key, which stands for its octets too

@@ -1,11 +1,13 @@
 //! Whether an entry may be added to a tree.
 
 ghost use Rattle.std.specs.Prelude.{◌≡◌, ◌≢◌, None, IfOk, IfErr};
+ghost use Rattle.std.specs.Option.{option_map};
 ghost use Rattle.dir_tree.specs.Numbered.{entries_of};
-ghost use Rattle.schema_rules.specs.Checking.{code_of};
+ghost use Rattle.schema_rules.specs.Checking.{IsSuperior, code_of};
 ghost use Rattle.schema_rules.specs.Rules.{broken_rule};
 
 use crate::broken::Broken;
+use crate::points::number_above;
 use crate::rules::broken_rule;
 use dir_tree::{Entry, EntryNo, Tree};
 
@@ -18,7 +20,23 @@ pub fn check_entry(tree: &Tree, old: Option<EntryNo>, entry: &Entry) -> Result<(
     ensures rule { IfErr result (λ broken.
         code_of broken ≡ broken_rule None (entries_of tree.now) entry.now) }
 {
-    match broken_rule(tree, entry) {
+    check_entry_below(tree, number_above(tree, entry.name()), entry)
+}
+
+/// The same for a caller that knows the number of the entry's superior: the tree isn't searched for it. None says that
+/// the tree has no entry of the superior's name.
+pub fn check_entry_below(
+    tree: &Tree,
+    superior: Option<EntryNo>,
+    entry: &Entry,
+) -> Result<(), Broken>
+    requires { IsSuperior (option_map (λ no. no.0) superior) entry.now tree.now }
+    ensures ok { IfOk result (λ _. broken_rule None (entries_of tree.now) entry.now ≡ None) }
+    ensures no_memory { IfErr result (λ broken. broken ≢ Broken.NoMemory) }
+    ensures rule { IfErr result (λ broken.
+        code_of broken ≡ broken_rule None (entries_of tree.now) entry.now) }
+{
+    match broken_rule(tree, superior, entry) {
         Some(code) => Err(Broken::Rule(code)),
         None => Ok(()),
     }

@@ -1,7 +1,9 @@
 //! The table of the rules, in the order in which they are tried.
 
 ghost use Rattle.std.specs.Prelude.{◌≡◌, None};
+ghost use Rattle.std.specs.Option.{option_map};
 ghost use Rattle.dir_tree.specs.Numbered.{entries_of};
+ghost use Rattle.schema_rules.specs.Checking.{IsSuperior};
 ghost use Rattle.schema_rules.specs.Rules.{breaks_classes, broken_rule};
 
 use crate::contents::{has_unpermitted, lacks_required};
@@ -12,11 +14,13 @@ use crate::listed::{
 use crate::own::lacks_own_value;
 use crate::points::is_misplaced;
 use crate::values::{has_two_values, has_unread};
-use dir_tree::{Entry, Tree};
+use dir_tree::{Entry, EntryNo, Tree};
 
-/// The result code of the first rule that the entry breaks in the tree; None where it breaks none.
+/// The result code of the first rule that the entry breaks in the tree; None where it breaks none. The number is that
+/// of its superior.
 #[tactic(auto, unfolding(crate::specs::Rules::broken_rule, crate::specs::Rules::has_other_structural))]
-pub(crate) fn broken_rule(tree: &Tree, entry: &Entry) -> Option<u8>
+pub(crate) fn broken_rule(tree: &Tree, superior: Option<EntryNo>, entry: &Entry) -> Option<u8>
+    requires { IsSuperior (option_map (λ no. no.0) superior) entry.now tree.now }
     ensures exact { result ≡ broken_rule None (entries_of tree.now) entry.now }
 {
     if lacks_own_value(entry) {
@@ -27,7 +31,7 @@ pub(crate) fn broken_rule(tree: &Tree, entry: &Entry) -> Option<u8>
         Some(21)
     } else if has_two_values(entry) {
         Some(19)
-    } else if is_misplaced(tree, entry) {
+    } else if is_misplaced(tree, superior, entry) {
         Some(64)
     } else if is_past_limits(tree, entry) {
         Some(11)

@@ -3,7 +3,7 @@ use Rattle.std.proofs.lemmas.List.{drop_all}
 use Rattle.dir_tree.specs.Changes.{with_value}
 use Rattle.op_write.specs.Loading.{with_pairs}
 use Rattle.op_write.proofs.OwnLemmas.{pairs-step, pairs-done}
-use Rattle.op_write.proofs.own.with_pairs.Goals as goal
+use Rattle.op_write.proofs.own.add_pairs.Goals as goal
 
 -- the pair's value is there
 pub loop-pair-preserved : goal.loop-pair-preserved
