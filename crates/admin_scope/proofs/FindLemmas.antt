@@ -1,6 +1,6 @@
 -- The numbers that are found are those of the subentries in force.
-use Rattle.std.proofs.Common.{◌≡◌, ℕ, Bool, true, false, ◌&&◌, List, [], ◌∷◌, ◌++◌, filter, Option, Some, None, refl, sym, ap, subst, ◌∙◌, inl, inr}
-use Rattle.std.specs.Prelude.{flat_map, filter_map, IsSome}
+use Rattle.std.proofs.Common.{◌≡◌, ℕ, Bool, true, false, List, [], ◌∷◌, ◌++◌, filter, Option, Some, None, refl, sym, ap, subst, ◌∙◌, inl, inr}
+use Rattle.std.specs.Prelude.{flat_map, IsSome}
 use Rattle.std.specs.List.{AllByRecursion}
 use Rattle.std.specs.Option.{option_map_or}
 use Rattle.std.proofs.lemmas.Bool.{cases_Bool}
@@ -12,7 +12,7 @@ use Rattle.dir_tree.specs.Scopes.{is_child, scoped}
 use Rattle.dir_tree.specs.declared.scope.Scope.TheVariants.{One}
 use Rattle.dir_tree.proofs.TreeTheorems.{scoped-One-entries}
 use Rattle.admin_scope.specs.Areas.{areas}
-use Rattle.admin_scope.specs.InForce.{applies, reaches, in_force_at, in_force}
+use Rattle.admin_scope.specs.InForce.{applies, in_force_at, in_force}
 use Rattle.admin_scope.specs.Walking.{stands, walk_of}
 use Rattle.admin_scope.specs.Finding.{applying, numbers_at}
 use Rattle.admin_scope.proofs.ListLemmas.{filter-filter, all-append}

@@ -1,5 +1,5 @@
 -- Fronts of names.
-use Rattle.std.proofs.Common.{◌≡◌, true, ◌++◌, ap, sym, ◌∙◌}
+use Rattle.std.proofs.Common.{◌≡◌, true, ◌++◌, ap, ◌∙◌}
 use Rattle.std.proofs.lemmas.List.{append_assoc}
 use Rattle.dn_names.specs.Names.{RdnSequence}
 use Rattle.dn_names.specs.NameOrder.{is_prefix_of, types_and_keys}

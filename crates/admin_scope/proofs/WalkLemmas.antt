@@ -1,13 +1,12 @@
 -- The points that are found front by front are the areas.
-use Rattle.std.proofs.Common.{◌≡◌, ℕ, zero, suc, ◌-◌, ◌<◌, ◌≤◌, Bool, true, false, ◌||◌, List, [], ◌∷◌, ◌++◌, length, take, filter, reverse, Option, Some, None, refl, sym, ap, subst, ◌∙◌, arith, ◌⊎◌, inl, inr}
-use Rattle.std.specs.Prelude.{nat_le, option_to_list, option_map, unwrap_or, is_some, IsSome, if◌then◌else◌}
+use Rattle.std.proofs.Common.{◌≡◌, ℕ, zero, suc, ◌-◌, ◌<◌, ◌≤◌, Bool, true, false, ◌||◌, List, [], ◌∷◌, ◌++◌, length, take, filter, Option, Some, None, refl, sym, ap, subst, ◌∙◌, arith, inl, inr}
+use Rattle.std.specs.Prelude.{option_to_list, option_map, unwrap_or, IsSome, if◌then◌else◌}
 use Rattle.std.specs.List.{AllByRecursion}
 use Rattle.std.specs.Option.{option_and_then, option_map_or}
 use Rattle.std.proofs.lemmas.Bool.{cases_Bool, le-leb}
 use Rattle.dn_names.specs.Names.{RdnSequence}
 use Rattle.dir_tree.specs.Entries.{EntryInformation}
 use Rattle.dir_tree.specs.Points.{is_specific_point, is_inner_point}
-use Rattle.dir_tree.specs.Trees.{named_in}
 use Rattle.dir_tree.specs.Numbered.{Numbered, entries_of, entry_of, entries_at, find_name, find_front, AreDistinct, IsNumberedTree}
 use Rattle.dir_tree.proofs.TreeTheorems.{entry_of-found}
 use Rattle.admin_scope.specs.Areas.{is_access_point, to_specific, areas}

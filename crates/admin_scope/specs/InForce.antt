@@ -1,5 +1,5 @@
 -- The access control subentries in force for an entry (X.501 18.3, RFC 3672 section 2).
-use Rattle.std.specs.Prelude.{ℕ, Bool, true, false, ◌&&◌, List, [], ◌∷◌, filter, flat_map, slice_get, Option, option_and_then, if◌then◌else◌}
+use Rattle.std.specs.Prelude.{ℕ, Bool, false, ◌&&◌, List, [], filter, flat_map, slice_get, Option, option_and_then, if◌then◌else◌}
 use Rattle.std.specs.Option.{option_map_or}
 use Rattle.std.specs.Result.{result_ok}
 use Rattle.dir_tree.specs.Entries.{EntryInformation, values_of}

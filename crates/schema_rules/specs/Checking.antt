@@ -14,3 +14,8 @@ IsSuperior number entry rows = number ≡ find_name (superior_name entry.name) r
 abbrev pub code_of : Broken → Option ℕ
 code_of (Rule code) = Some code
 code_of NoMemory = None
+
+-- the refusal is for the rule that is broken; want of memory may come in place of any answer
+abbrev pub IsFor : Broken → Option ℕ → Type 0
+IsFor (Rule code) expected = expected ≡ Some code
+IsFor NoMemory expected = Unit {0}

@@ -1,5 +1,5 @@
 -- By the front.
-use Rattle.std.proofs.Common.{◌≡◌, ◌<◌, length, sym, ◌∙◌, ap, arith}
+use Rattle.std.proofs.Common.{◌≡◌, ◌<◌, sym, ◌∙◌, ap, arith}
 use Rattle.admin_scope.specs.Walking.{has_specific}
 use Rattle.admin_scope.proofs.WalkLemmas.{has_specific-here, has_specific-other, has_specific-end}
 use Rattle.admin_scope.proofs.upwards.has_specific.Goals as goal

@@ -1,7 +1,6 @@
 -- By what stands at the front.
-use Rattle.std.proofs.Common.{◌≡◌, ◌<◌, Some, None, sym, ◌∙◌, ap, arith}
+use Rattle.std.proofs.Common.{◌≡◌, ◌<◌, sym, ◌∙◌, ap, arith}
 use Rattle.std.specs.Option.{option_map}
-use Rattle.dir_tree.specs.Numbered.{find_front}
 use Rattle.admin_scope.proofs.WalkLemmas.{points_up-specific, points_up-inner, points_up-other, points_up-nothing, points_up-end}
 use Rattle.admin_scope.proofs.upwards.next_point.Goals as goal
 

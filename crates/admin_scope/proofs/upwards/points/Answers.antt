@@ -1,5 +1,5 @@
 -- By the walk's lemmas.
-use Rattle.std.proofs.Common.{◌≡◌, ℕ, sym, ap, subst, ◌∙◌}
+use Rattle.std.proofs.Common.{ℕ, sym, ap, subst, ◌∙◌}
 use Rattle.std.specs.Prelude.{List, IsSome}
 use Rattle.std.specs.List.{AllByRecursion}
 use Rattle.dir_tree.specs.Numbered.{entries_at, entry_of}
