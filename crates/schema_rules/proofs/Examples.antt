@@ -10,6 +10,10 @@ use Rattle.dir_tree.specs.Entries.{Attribute, EntryInformation}
 use Rattle.dir_tree.specs.EntryClasses.{has_class}
 use Rattle.dir_tree.specs.Points.{is_point, is_subentry, is_access_subentry}
 use Rattle.schema_core.specs.Superclasses.{with_superclasses}
+use Rattle.gser_tree.specs.Growing.{grow, value_of, tree_of}
+use Rattle.gser_tree.specs.Lexemes.{class_of}
+use Rattle.gser_tree.specs.Lexing.{step, lex}
+use Rattle.subtree_spec.specs.SubtreeText.{components, subtree, read_subtree}
 use Rattle.schema_rules.specs.Listed.{are_in_line}
 use Rattle.schema_rules.specs.Rules.{broken_rule, lacks_own_value, has_other_structural, breaks_classes, has_unread, has_two_values, is_misplaced, is_past_limits, stands_wrong, octets_in}
 
@@ -140,10 +144,18 @@ a_role_in_a_subentry : broken_rule None (area ∷ []) (entry ann (one 0 "2.5.17.
 unfolding breaking
 a_role_in_a_subentry = refl
 
--- invalidAttributeSyntax: these two syntaxes are not read yet
-a_subtree : broken_rule None (area ∷ []) (subentry ann) ≡ Some 21
-unfolding breaking
+-- invalidAttributeSyntax: a text that is no subtree specification; access control items are not read yet
+unfoldable reading : Unit {0}
+unfolding read_subtree subtree components tree_of value_of grow lex step class_of
+reading = tt
+
+a_subtree : broken_rule None (area ∷ []) (subentry ann) ≡ None
+unfolding breaking reading
 a_subtree = refl
+
+no_subtree : broken_rule None (area ∷ []) (entry ann (one 0 "2.5.17.0" ∷ one 1 "ann" ∷ one 30 "{" ∷ [])) ≡ Some 21
+unfolding breaking reading
+no_subtree = refl
 
 an_item : broken_rule None (suffix ∷ []) (with_more (one 33 "{ }" ∷ [])) ≡ Some 21
 unfolding breaking

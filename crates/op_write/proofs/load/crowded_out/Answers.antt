@@ -1,7 +1,6 @@
-use Rattle.std.proofs.Common.{ℕ, Option}
-use Rattle.std.proofs.Common.{subst}
+use Rattle.std.proofs.Common.{None}
 use Rattle.dir_tree.specs.Numbered.{entries_of}
-use Rattle.op_write.specs.Loading.{ruled, IsLoadFault}
+use Rattle.schema_rules.specs.Rules.{broken_rule}
 use Rattle.op_write.proofs.PlaceLemmas.{full_breaks}
 use Rattle.op_write.proofs.load.crowded_out.Goals as goal
 
@@ -13,6 +12,6 @@ returns-in-Ok c = record {
 
 -- the rule that is broken
 pub returns-in-Err : goal.returns-in-Err
-returns-in-Err c =
-    let P : Option ℕ → Type 0 = λ code. IsLoadFault c.fault_of.result (ruled c.args.line c.args.entry.now code) in
-    record { bad = subst P c.in-Err.ensures.rule (c.fault_of.ensures.exact c.args.entry.now) }
+returns-in-Err c = record {
+  bad = c.fault_of.ensures.exact c.args.entry.now (broken_rule None (entries_of c.args.tree.now) c.args.entry.now) c.in-Err.ensures.rule;
+}
