@@ -1,6 +1,6 @@
 -- Entries that keep the rules or break one: the first that is broken answers.
 use Rattle.std.proofs.Common.{◌≡◌, ℕ, true, false, [], ◌∷◌, Some, None, refl}
-use Rattle.std.specs.Prelude.{List, codes}
+use Rattle.std.specs.Prelude.{List, codes, is_err}
 use Prim.Native.String.{String}
 use Rattle.schema_core.specs.Attributes.{attributes}
 use Rattle.schema_core.specs.Classes.{classes}
@@ -10,12 +10,10 @@ use Rattle.dir_tree.specs.Entries.{Attribute, EntryInformation}
 use Rattle.dir_tree.specs.EntryClasses.{has_class}
 use Rattle.dir_tree.specs.Points.{is_point, is_subentry, is_access_subentry}
 use Rattle.schema_core.specs.Superclasses.{with_superclasses}
-use Rattle.gser_tree.specs.Growing.{grow, value_of, tree_of}
-use Rattle.gser_tree.specs.Lexemes.{class_of}
-use Rattle.gser_tree.specs.Lexing.{step, lex}
-use Rattle.subtree_spec.specs.SubtreeText.{components, subtree, read_subtree}
+use Rattle.schema_core.specs.declared.kinds.Syntax.TheVariants.{Subtree}
+use Rattle.subtree_spec.specs.SubtreeText.{read_subtree}
 use Rattle.schema_rules.specs.Listed.{are_in_line}
-use Rattle.schema_rules.specs.Rules.{broken_rule, lacks_own_value, has_other_structural, breaks_classes, has_unread, has_two_values, is_misplaced, is_past_limits, stands_wrong, octets_in}
+use Rattle.schema_rules.specs.Rules.{broken_rule, lacks_own_value, has_other_structural, breaks_classes, is_unread, has_unread, has_two_values, is_misplaced, is_past_limits, stands_wrong, octets_in}
 
 -- a value of its key, which stands for its octets too
 abbrev value : String → Keyed
@@ -145,17 +143,8 @@ unfolding breaking
 a_role_in_a_subentry = refl
 
 -- invalidAttributeSyntax: a text that is no subtree specification; access control items are not read yet
-unfoldable reading : Unit {0}
-unfolding read_subtree subtree components tree_of value_of grow lex step class_of
-reading = tt
-
-a_subtree : broken_rule None (area ∷ []) (subentry ann) ≡ None
-unfolding breaking reading
-a_subtree = refl
-
-no_subtree : broken_rule None (area ∷ []) (entry ann (one 0 "2.5.17.0" ∷ one 1 "ann" ∷ one 30 "{" ∷ [])) ≡ Some 21
-unfolding breaking reading
-no_subtree = refl
+a_subtree_is_read : (octets : List ℕ) → is_unread Subtree octets ≡ is_err (read_subtree octets)
+a_subtree_is_read octets = refl
 
 an_item : broken_rule None (suffix ∷ []) (with_more (one 33 "{ }" ∷ [])) ≡ Some 21
 unfolding breaking

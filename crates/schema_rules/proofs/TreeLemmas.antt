@@ -1,5 +1,5 @@
 -- The first entry of a name is the one that the number of the name finds.
-use Rattle.std.proofs.Common.{◌≡◌, ℕ, suc, ◌-◌, nat_le, true, if◌then◌else◌, List, [], ◌∷◌, length, take, map, Option, Some, None, refl, sym, ap, ◌∙◌, inl, inr, arith}
+use Rattle.std.proofs.Common.{◌≡◌, ℕ, suc, ◌-◌, nat_le, true, if◌then◌else◌, List, [], ◌∷◌, length, take, map, Option, None, refl, sym, ap, ◌∙◌, inl, inr, arith}
 use Rattle.std.proofs.lemmas.Bool.{cases_Bool}
 use Rattle.std.proofs.lemmas.List.{length-map}
 use Rattle.std.specs.Option.{option_and_then}

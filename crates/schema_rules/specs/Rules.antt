@@ -7,7 +7,7 @@ use Rattle.schema_core.specs.declared.kinds.Syntax.{Syntax}
 use Rattle.schema_core.specs.declared.kinds.Syntax.TheVariants.{Text, Ascii, Phone, Country, Octets, Oid, Name, Subtree, Aci}
 use Rattle.schema_core.specs.Attributes.{is_single, syntax_of}
 use Rattle.schema_core.specs.Classes.{class_with}
-use Rattle.dn_names.specs.Names.{Keyed, RdnSequence, last_rdn}
+use Rattle.dn_names.specs.Names.{Keyed, last_rdn}
 use Rattle.dn_names.specs.GoodNames.{IsGoodName}
 use Rattle.dir_tree.specs.Entries.{Attribute, EntryInformation, kinds_of, values_of, has_kind, has_key, IsGoodAttributes}
 use Rattle.dir_tree.specs.EntryClasses.{object_class, has_class}

@@ -1,5 +1,5 @@
 -- The tree keeps the number of each access control subentry.
-use Rattle.std.proofs.Common.{ap, ◌∙◌, nat_le}
+use Rattle.std.proofs.Common.{ap, nat_le}
 use Rattle.schema_rules.proofs.TreeLemmas.{count-numbers}
 use Rattle.schema_rules.proofs.limits.is_full_of_subentries.Goals as goal
 

@@ -1,5 +1,5 @@
 -- The superior is in the tree or not; below a new entry none stands.
-use Rattle.std.proofs.Common.{false, ◌||◌, sym, ap, ◌∙◌}
+use Rattle.std.proofs.Common.{sym, ap, ◌∙◌}
 use Rattle.std.proofs.Math.Bool.{or-false}
 use Rattle.schema_rules.specs.Rules.{is_misplaced, stands_wrong}
 use Rattle.schema_rules.proofs.TreeLemmas.{superior-found}

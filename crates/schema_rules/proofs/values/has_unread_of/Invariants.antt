@@ -1,5 +1,5 @@
 -- None of the values so far.
-use Rattle.std.proofs.Common.{◌≡◌, false, drop}
+use Rattle.std.proofs.Common.{◌≡◌, drop}
 use Rattle.schema_rules.specs.Rules.{has_unread_of}
 use Rattle.schema_rules.proofs.values.has_unread_of.Given as goal
 
