@@ -1,3 +1,4 @@
+mod Examples
 pub mod ListLemmas
 pub mod PrefixLemmas
 pub mod FrontLemmas
