@@ -1,5 +1,5 @@
 //! Entries: what each change leaves, and the classes of RFC 4519 and RFC 2798 with their superclasses.
-use crate::fixtures::{entry, name, put};
+use crate::fixtures::{entry, name, put, set_one};
 use dir_tree::Entry;
 use dn_names::same;
 use schema_core::{AttrId, row};
@@ -15,6 +15,8 @@ type Values = &'static [(&'static str, &'static str)];
 enum Call {
     // Puts a value of the type in.
     Push(&'static str, &'static str),
+    // Gives the type the value in place of its own.
+    SetOne(&'static str, &'static str),
     // Drops the value of the type by its key.
     DropValue(AttrId, &'static str),
     DropKind(AttrId),
@@ -48,6 +50,10 @@ fn put_attributes(entry: &Entry, out: &mut String) -> Result<(), Fail> {
 fn put_answer(alloc: Global, entry: &mut Entry, call: Call, out: &mut String) -> Result<(), Fail> {
     let answer = match call {
         Call::Push(kind, text) => put(alloc, entry, kind, text)?,
+        Call::SetOne(kind, text) => {
+            set_one(alloc, entry, kind, text)?;
+            true
+        }
         Call::DropValue(kind, key) => entry.drop_value(kind, key.as_bytes()),
         Call::DropKind(kind) => entry.drop_kind(kind),
         Call::SetName(text) => {
@@ -170,6 +176,20 @@ static DROPPED: [Row; 7] = [
 #[test]
 fn a_value_goes_by_its_key_and_the_attribute_with_its_last(rt: HostRuntime) -> Result<(), Fail> {
     check(&rt, rt.alloc(), &DROPPED)
+}
+
+#[rattlefmt::skip]
+static SET: [Row; 3] = [
+    ("cn Annie", ANN, &[Call::SetOne("cn", "Annie"), Call::Attributes], "+objectClass=inetOrgPerson,cn=Annie,sn=Lee,"),
+    ("uid ann", ANN, &[Call::SetOne("uid", "ann"), Call::Attributes],
+        "+objectClass=inetOrgPerson,cn=Ann,Anna,sn=Lee,uid=ann,"),
+    ("sn Lea, and Lee after it", ANN, &[Call::SetOne("sn", "Lea"), Call::Push("sn", "Lee"), Call::Attributes],
+        "++objectClass=inetOrgPerson,cn=Ann,Anna,sn=Lea,Lee,"),
+];
+
+#[test]
+fn an_attribute_is_given_other_values_in_its_place(rt: HostRuntime) -> Result<(), Fail> {
+    check(&rt, rt.alloc(), &SET)
 }
 
 #[rattlefmt::skip]

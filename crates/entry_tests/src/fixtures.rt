@@ -22,6 +22,12 @@ pub fn put(alloc: Global, entry: &mut Entry, kind: &str, text: &str) -> Result<b
     Ok(entry.push(attr(kind).ok_or("no such type")?, value)?)
 }
 
+// Gives the attribute of the type of this name the value in place of its own.
+pub fn set_one(alloc: Global, entry: &mut Entry, kind: &str, text: &str) -> Result<(), Fail> {
+    let values = vec![in alloc; value(alloc, kind, text)?]?;
+    Ok(entry.set_values(attr(kind).ok_or("no such type")?, values)?)
+}
+
 // The entry of the name with these values, each of which is added.
 pub fn entry(alloc: Global, text: &str, values: &[(&str, &str)]) -> Result<Entry, Fail> {
     let mut entry = Entry::new(alloc, name(alloc, text)?)?;
