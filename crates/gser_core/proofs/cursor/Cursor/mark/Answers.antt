@@ -3,7 +3,8 @@ use Rattle.std.proofs.Common.{◌≡◌, false}
 use Rattle.gser_core.specs.Productions.{IsMark}
 use Rattle.gser_core.specs.Cursors.{rest_of}
 use Rattle.gser_core.specs.Counts.{begins}
-use Rattle.gser_core.proofs.FrontLemmas.{mark_none, lacks_here}
+use Rattle.gser_core.proofs.FrontLemmas.{lacks_here}
+use Rattle.gser_core.proofs.MarkLemmas.{mark_none}
 use Rattle.gser_core.proofs.cursor.Cursor.mark.Goals as goal
 
 pub returns-then-not-at_mark-clause-err : goal.returns-then-not-at_mark-clause-err
