@@ -13,8 +13,8 @@ use Rattle.dir_tree.specs.declared.scope.Scope.TheVariants.{One}
 use Rattle.dir_tree.proofs.TreeTheorems.{scoped-One-entries}
 use Rattle.admin_scope.specs.Areas.{areas}
 use Rattle.admin_scope.specs.InForce.{applies, in_force_at, in_force}
-use Rattle.admin_scope.specs.Walking.{stands, walk_of}
-use Rattle.admin_scope.specs.Finding.{applying, numbers_at}
+use Rattle.admin_scope.specs.Walking.{walk_of}
+use Rattle.admin_scope.specs.Finding.{stands, applying, numbers_at}
 use Rattle.admin_scope.proofs.ListLemmas.{filter-filter, all-append}
 use Rattle.admin_scope.proofs.WalkLemmas.{live-stands, areas-gathered}
 
@@ -61,7 +61,7 @@ entries_at-flat_map rows tree entry (id ∷ ids) = by (entry_of id rows) refl (e
         split e = rw e refl
 
 -- so what is found below the points is what is in force
-in_force-found : (rows : List Numbered) → IsNumberedTree rows → (entry : EntryInformation) → is_subentry entry ≡ false → (ids : List ℕ) → entries_at rows ids ≡ areas (entries_of rows) entry → entries_at rows (flat_map (numbers_at rows entry) ids) ≡ in_force (entries_of rows) entry
+pub in_force-found : (rows : List Numbered) → IsNumberedTree rows → (entry : EntryInformation) → is_subentry entry ≡ false → (ids : List ℕ) → entries_at rows ids ≡ areas (entries_of rows) entry → entries_at rows (flat_map (numbers_at rows entry) ids) ≡ in_force (entries_of rows) entry
 unfolding in_force
 in_force-found rows tree entry ordinary ids e =
     entries_at-flat_map rows tree entry ids
@@ -93,7 +93,7 @@ live-numbers_at rows entry id = by (entry_of id rows)
     by None = tt
     by (Some point) = live-filter rows (λ subentry. applies point subentry entry) (scoped One id rows)
 
-live-flat_map : (rows : List Numbered) (entry : EntryInformation) (ids : List ℕ) → AllByRecursion (λ id. IsSome (entry_of id rows)) (flat_map (numbers_at rows entry) ids)
+pub live-flat_map : (rows : List Numbered) (entry : EntryInformation) (ids : List ℕ) → AllByRecursion (λ id. IsSome (entry_of id rows)) (flat_map (numbers_at rows entry) ids)
 live-flat_map rows entry [] = tt
 live-flat_map rows entry (id ∷ ids) = all-append _ _ _ (live-numbers_at rows entry id) (live-flat_map rows entry ids)
 

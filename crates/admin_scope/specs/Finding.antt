@@ -1,12 +1,15 @@
 -- The subentries that apply to an entry as a program finds them: by their numbers.
-use Rattle.std.specs.Prelude.{ℕ, List, [], filter}
+use Rattle.std.specs.Prelude.{ℕ, Bool, false, List, [], filter}
 use Rattle.std.specs.Option.{option_map_or}
 use Rattle.dir_tree.specs.Entries.{EntryInformation}
 use Rattle.dir_tree.specs.Numbered.{Numbered, entry_of}
 use Rattle.dir_tree.specs.Scopes.{scoped}
 use Rattle.dir_tree.specs.declared.scope.Scope.TheVariants.{One}
 use Rattle.admin_scope.specs.InForce.{applies}
-use Rattle.admin_scope.specs.Walking.{stands}
+
+-- the entry of the number passes the test
+abbrev pub stands : (EntryInformation → Bool) → ℕ → List Numbered → Bool
+stands test id rows = option_map_or test (entry_of id rows) false
 
 -- those of the numbers whose entries apply below the point
 abbrev pub applying : List Numbered → EntryInformation → EntryInformation → List ℕ → List ℕ

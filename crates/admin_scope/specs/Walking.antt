@@ -2,13 +2,9 @@
 use Rattle.std.specs.Prelude.{ℕ, zero, suc, Bool, false, ◌||◌, List, [], ◌∷◌, length, Option, Some, None, if◌then◌else◌}
 use Rattle.std.specs.Option.{option_map_or}
 use Rattle.dn_names.specs.Names.{RdnSequence}
-use Rattle.dir_tree.specs.Entries.{EntryInformation}
 use Rattle.dir_tree.specs.Points.{is_specific_point, is_inner_point}
-use Rattle.dir_tree.specs.Numbered.{Numbered, entry_of, find_front}
-
--- the entry of the number passes the test
-abbrev pub stands : (EntryInformation → Bool) → ℕ → List Numbered → Bool
-stands test id rows = option_map_or test (entry_of id rows) false
+use Rattle.dir_tree.specs.Numbered.{Numbered, find_front}
+use Rattle.admin_scope.specs.Finding.{stands}
 
 -- the points of a front, and those above it
 abbrev pub with_front : List Numbered → Option ℕ → List ℕ → List ℕ

@@ -9,7 +9,9 @@ mod roles;
 mod subentries;
 mod upwards;
 
-pub use laws::a_subtree_without_subentries_changes_no_area;
+pub use laws::{
+    a_subtree_without_subentries_changes_no_area, subentries_are_found_below_the_points,
+};
 pub use membership::holds;
 pub use point_list::areas;
 pub use subentries::{applies, in_force, in_force_for, subtree};

@@ -5,7 +5,7 @@ ghost use Rattle.std.specs.Option.{option_map_or};
 ghost use Rattle.dir_tree.specs.Entries.{has_key, values_of};
 ghost use Rattle.dir_tree.specs.Points.{administrative_role, is_specific_point, is_inner_point};
 ghost use Rattle.dir_tree.specs.Numbered.{entry_of};
-ghost use Rattle.admin_scope.specs.Walking.{stands};
+ghost use Rattle.admin_scope.specs.Finding.{stands};
 
 use dir_tree::{Entry, EntryNo, Tree};
 use schema_core::AttrId;

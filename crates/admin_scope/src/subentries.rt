@@ -9,8 +9,8 @@ ghost use Rattle.dir_tree.specs.Numbered.{entry_of, entries_of, entries_at};
 ghost use Rattle.subtree_spec.specs.Subtrees.{subtree_of};
 ghost use Rattle.subtree_spec.specs.SubtreeText.{read_subtree};
 ghost use Rattle.admin_scope.specs.InForce.{subtree_of_entry, applies, in_force};
-ghost use Rattle.admin_scope.specs.Walking.{stands, walk_of};
-ghost use Rattle.admin_scope.specs.Finding.{applying, numbers_at};
+ghost use Rattle.admin_scope.specs.Walking.{walk_of};
+ghost use Rattle.admin_scope.specs.Finding.{stands, applying, numbers_at};
 
 use crate::membership::holds;
 use crate::upwards::walk;

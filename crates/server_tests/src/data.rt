@@ -28,9 +28,8 @@ fn assert_refused(
 const RULE_21_AT_9: &str = "bad data line 9: rule 21\n";
 
 /// A data file, what its check prints, and what it shows.
-static TREES: [(&str, &str, &str); 4] = [
+static TREES: [(&str, &str, &str); 3] = [
     (ORGANISATION, RULE_21_AT_9, "an organisation"),
-    (ONE_SUBENTRY, RULE_21_AT_9, "one subentry"),
     (POINT, "bad data line 1: rule 21\n", "a point"),
     (
         TWO_SUBENTRIES,
@@ -40,9 +39,11 @@ static TREES: [(&str, &str, &str); 4] = [
 ];
 
 #[test]
-fn a_tree_is_counted_unless_an_entry_has_a_subtree_or_an_item(rt: HostRuntime) -> Result<(), Fail> {
+fn a_tree_is_counted_unless_an_entry_has_an_item(rt: HostRuntime) -> Result<(), Fail> {
     let counted = run_data(rt.alloc(), "check d", TWO_ENTRIES.as_bytes())?;
     assert_ran(&rt, &counted, "ok 2 0\n", Status::Done, "two entries");
+    let counted = run_data(rt.alloc(), "check d", ONE_SUBENTRY.as_bytes())?;
+    assert_ran(&rt, &counted, "ok 3 1\n", Status::Done, "one subentry");
     for (data, put, what) in &TREES {
         assert_refused(&rt, rt.alloc(), data.as_bytes(), put, what)?;
     }
