@@ -1,6 +1,7 @@
 //! The loop over links whose connections take nothing for a while, or are found lost.
 
 ghost use Rattle.std.specs.Prelude.{◌<◌, length, IfOk};
+ghost use Rattle.script_text.specs.Script.{OpensOnce, AreFilled};
 
 use crate::messages::{BIND, BOUND};
 use acdf_core::PlainDir;
@@ -22,32 +23,35 @@ fn bind(alloc: Global) -> Result<Octets, AllocError>
     Ok(Octets::from_vec(octets))
 }
 
-// Two connections open and bind, 1 before 2, and 1 ends. One write takes nothing now.
-fn slow_link(alloc: Global, later: u64) -> Result<ScriptLink, AllocError> {
+// Two connections open and bind, 1 before 2, and 1 ends.
+fn events(alloc: Global) -> Result<Vec<ScriptEvent>, AllocError>
+    ensures once { IfOk result (λ events. OpensOnce events.items) }
+    ensures filled { IfOk result (λ events. AreFilled events.items) }
+{
     let (one, other) = (bind(alloc)?, bind(alloc)?);
-    let mut events = Vec::new(alloc);
-    events.push(ScriptEvent::Opened(2))?;
-    events.push(ScriptEvent::Opened(1))?;
-    events.push(ScriptEvent::Bytes(1, one))?;
-    events.push(ScriptEvent::Bytes(2, other))?;
-    events.push(ScriptEvent::Ended(1))?;
+    Ok(vec![in alloc;
+        ScriptEvent::Opened(2),
+        ScriptEvent::Opened(1),
+        ScriptEvent::Bytes(1, one),
+        ScriptEvent::Bytes(2, other),
+        ScriptEvent::Ended(1),
+    ]?)
+}
+
+// A link of these events, one of whose writes takes nothing now.
+fn slow_link(alloc: Global, later: u64) -> Result<ScriptLink, AllocError> {
     let mut refused = Vec::new(alloc);
     refused.push(later)?;
+    let events = events(alloc)?;
     let link = ScriptLink::new(alloc, events, Vec::new(alloc), refused, Vec::new(alloc));
     Ok(link)
 }
 
-// The same connections. One write finds its connection lost.
+// A link of these events, one of whose writes finds its connection lost.
 fn losing_link(alloc: Global, gone: u64) -> Result<ScriptLink, AllocError> {
-    let (one, other) = (bind(alloc)?, bind(alloc)?);
-    let mut events = Vec::new(alloc);
-    events.push(ScriptEvent::Opened(2))?;
-    events.push(ScriptEvent::Opened(1))?;
-    events.push(ScriptEvent::Bytes(1, one))?;
-    events.push(ScriptEvent::Bytes(2, other))?;
-    events.push(ScriptEvent::Ended(1))?;
     let mut lost = Vec::new(alloc);
     lost.push(gone)?;
+    let events = events(alloc)?;
     let link = ScriptLink::new(alloc, events, Vec::new(alloc), Vec::new(alloc), lost);
     Ok(link)
 }
