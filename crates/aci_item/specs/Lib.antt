@@ -1,0 +1,6 @@
+-- what public clauses cite
+pub mod Levels
+pub mod Permissions
+pub mod Items
+pub mod AciTuples
+pub mod Views
