@@ -1,5 +1,5 @@
 -- The definitions on known cases.
-use Rattle.std.proofs.Common.{◌≡◌, [], ◌∷◌, refl}
+use Rattle.std.proofs.Common.{◌≡◌, [], ◌∷◌, ◌++◌, refl}
 use Rattle.std.specs.Prelude.{codes}
 use Rattle.std.specs.Prelude as std
 use Rattle.gser_tree.specs.declared.marks.Class.TheVariants.{Letter, Other}
@@ -10,7 +10,7 @@ use Rattle.gser_tree.specs.Shapes.{Shape, Word, Braces, Named, Chosen, None, Som
 use Rattle.gser_tree.specs.TextOf.{part_at}
 use Rattle.gser_tree.specs.Growing.{grow, value_of}
 use Rattle.gser_tree.specs.Reading.{is_number, at_most, noted}
-use Rattle.gser_tree.specs.Writing.{braces, component}
+use Rattle.gser_tree.specs.Writing.{text_of, print_word, print_string, print_component, print_choice, print_braces, print_optional, print_flag, print_filled}
 
 a_hyphen : class_of 45 ≡ Letter
 unfolding class_of
@@ -61,8 +61,16 @@ the_first_place : noted (std.Some 3) 7 ≡ std.Some 3
 the_first_place = refl
 
 -- printed forms
-no_members : braces [] ≡ codes "{ }"
+no_members : text_of (print_braces []) ≡ codes "{ }"
 no_members = refl
 
-two_members : braces (component (codes "a") (codes "1") ∷ codes "b" ∷ []) ≡ codes "{ a 1, b }"
+two_members : text_of (print_braces (print_component (codes "a") (print_word (codes "10")) ∷ print_choice (codes "b") (print_string (codes "\"")) ∷ []))
+    ≡ codes "{ a 10, b:\"\"\"\" }"
 two_members = refl
+
+what_is_present : text_of (print_braces (print_optional (codes "a") std.None ++ print_optional (codes "b") (std.Some (print_word (codes "c")))
+    ++ print_flag (codes "d") std.true ++ print_flag (codes "e") std.false)) ≡ codes "{ b c, d NULL }"
+what_is_present = refl
+
+no_set : print_optional (codes "a") (print_filled []) ≡ []
+no_set = refl

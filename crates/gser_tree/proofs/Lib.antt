@@ -12,4 +12,8 @@ pub mod TextLemmas
 pub mod LookingLemmas
 pub mod NumberLemmas
 pub mod WritingLemmas
+pub mod PutsLemmas
+pub mod PrintsLemmas
+pub mod ReadsLemmas
+pub mod OnlyLemmas
 pub mod Theorems

@@ -16,4 +16,4 @@ pub use looking::{component, flag, read_tree};
 pub use part::Part;
 pub use reading::{Bad, Stop, number};
 pub use tree::Tree;
-pub use writing::{put_end, put_separator, put_string};
+pub use writing::{put_end, put_kind, put_name, put_number, put_separator, put_string};

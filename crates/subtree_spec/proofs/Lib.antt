@@ -1,3 +1,4 @@
+pub mod Examples
 pub mod PartsLemmas
 pub mod RefinementLemmas
 pub mod FrontLemmas

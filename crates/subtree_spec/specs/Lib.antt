@@ -2,6 +2,7 @@
 pub mod Subtrees
 pub mod Parts
 pub mod SubtreeText
+pub mod SubtreePrinted
 pub mod Membership
 pub mod Fronts
 -- for the inside of the crate alone
