@@ -4,3 +4,7 @@ pub mod Permissions
 pub mod Items
 pub mod AciTuples
 pub mod Views
+pub mod ItemPrinted
+pub mod Sets
+pub mod ItemParts
+pub mod AciText

@@ -49,17 +49,30 @@ is_same one other = place_of one == place_of other
 abbrev pub is_bit : Bit → Bit → Bool
 is_bit one other = bit_place one == bit_place other
 
+-- the bit is among bits
+abbrev pub is_among : List Bit → Bit → Bool
+is_among bits bit = list_any (is_bit bit) bits
+
+-- the same for a permission
+abbrev pub has_bit : Permission → Bool → List Bit → Bool
+has_bit permission grants bits = is_among bits (record { permission = permission; grants = grants })
+
 -- bits as a set: in rising order, each once
 abbrev pub in_order : List Bit → List Bit
-in_order bits = filter (λ bit. list_any (is_bit bit) bits) all_bits
+in_order bits = filter (is_among bits) all_bits
 
--- the bit is among bits
-abbrev pub has_bit : Permission → Bool → List Bit → Bool
-has_bit permission grants bits = list_any (is_bit (record { permission = permission; grants = grants })) bits
+-- bits with one more
+abbrev pub put_bit : Bit → List Bit → List Bit
+put_bit bit bits = in_order (bit ∷ bits)
 
 -- the permissions that bits grant, or those that they deny
 abbrev pub permissions_of : Bool → List Bit → List Permission
 permissions_of grants bits = filter (λ permission. has_bit permission grants bits) permissions
+
+-- there are some
+abbrev pub has_some : List Permission → Bool
+has_some [] = false
+has_some (permission ∷ permissions) = true
 
 -- the bits of a number, in rising order
 abbrev pub bits_of : ℕ → List Bit

@@ -1,8 +1,9 @@
 //! Access control items.
 
+use crate::bits::Bits;
 use crate::classes::UserClasses;
 use crate::level::Level;
-use crate::permission::Bits;
+
 use crate::protected::ProtectedItems;
 use std::rc::Rc;
 

@@ -1,16 +1,17 @@
 //! Items split into tuples.
 
-ghost use Rattle.std.specs.Prelude.{◌≡◌, ◌++◌, IfOk, OnOk, map, filter};
+ghost use Rattle.std.specs.Prelude.{◌≡◌, [], ◌∷◌, ◌++◌, IfOk, OnOk, map};
 ghost use Rattle.std.specs.List.{list_any};
-ghost use Rattle.std.specs.Option.{unwrap_or};
 ghost use Rattle.aci_item.specs.Permissions.{is_same};
-ghost use Rattle.aci_item.specs.AciTuples.{has_some, kept, split, tuples_of_item};
-ghost use Rattle.aci_item.specs.Views.{classes_of, items_of, item_permission_of, item_of_code, tuple_of, user_permission_of};
+ghost use Rattle.aci_item.specs.AciTuples.{kept, split, split_first, tuples_of_item};
+ghost use Rattle.aci_item.specs.Items.{ItemFirst, UserFirst};
+ghost use Rattle.aci_item.specs.Views.{classes_of, items_of, item_permission_of, user_permission_of, item_of_code, tuple_of};
 
+use crate::bits::Bits;
 use crate::classes::UserClasses;
 use crate::item::{AciItem, First, ItemPermission, UserPermission};
 use crate::level::Level;
-use crate::permission::{Bits, Permission};
+use crate::permission::Permission;
 use crate::protected::ProtectedItems;
 use std::alloc::{AllocError, Global};
 use std::rc::Rc;
@@ -37,8 +38,97 @@ impl AciTuple {
     }
 }
 
+// Puts a tuple at the end, where it has a permission.
+fn put_tuple(tuples: &mut Vec<AciTuple>, tuple: AciTuple) -> Result<(), AllocError>
+    ensures ok { OnOk result (map tuple_of tuples.new.items ≡ map tuple_of tuples.old.items ++ kept (tuple_of tuple ∷ [])) }
+{
+    if tuple.bits.has_some(tuple.grants) {
+        tuples.push(tuple)?;
+    }
+    Ok(())
+}
+
+// Puts what the bits of a tuple grant, and then what they deny.
+fn put_split(tuples: &mut Vec<AciTuple>, tuple: AciTuple) -> Result<(), AllocError>
+    ensures ok { OnOk result (map tuple_of tuples.new.items ≡ map tuple_of tuples.old.items
+        ++ kept (split tuple.level tuple.precedence (classes_of tuple.classes.value) (items_of tuple.items.value) tuple.bits)) }
+{
+    let denying = AciTuple {
+        classes: tuple.classes.clone()?,
+        level: tuple.level,
+        items: tuple.items.clone()?,
+        bits: tuple.bits.copy(),
+        grants: false,
+        precedence: tuple.precedence,
+    };
+    let granting = AciTuple {
+        grants: true,
+        ..tuple
+    };
+    put_tuple(tuples, granting)?;
+    put_tuple(tuples, denying)?;
+    Ok(())
+}
+
+// The tuples of permissions to protected items.
+fn item_tuples(
+    alloc: Global,
+    item: &AciItem,
+    items: &Rc<ProtectedItems>,
+    permissions: &[ItemPermission],
+) -> Result<Vec<AciTuple>, AllocError>
+    ensures ok { IfOk result (λ tuples. map tuple_of tuples.items ≡ kept (split_first item.now.level item.now.precedence
+        (ItemFirst (items_of items.now.value) (map item_permission_of permissions.now)))) }
+{
+    let mut tuples = Vec::new(alloc);
+    for permission in permissions {
+        let tuple = AciTuple {
+            classes: permission.classes.clone()?,
+            level: item.level,
+            items: items.clone()?,
+            bits: permission.bits.copy(),
+            grants: true,
+            precedence: permission.precedence.unwrap_or(item.precedence),
+        };
+        put_split(&mut tuples, tuple)?;
+    }
+    Ok(tuples)
+}
+
+// The tuples of permissions of users.
+fn user_tuples(
+    alloc: Global,
+    item: &AciItem,
+    classes: &Rc<UserClasses>,
+    permissions: &[UserPermission],
+) -> Result<Vec<AciTuple>, AllocError>
+    ensures ok { IfOk result (λ tuples. map tuple_of tuples.items ≡ kept (split_first item.now.level item.now.precedence
+        (UserFirst (classes_of classes.now.value) (map user_permission_of permissions.now)))) }
+{
+    let mut tuples = Vec::new(alloc);
+    for permission in permissions {
+        let tuple = AciTuple {
+            classes: classes.clone()?,
+            level: item.level,
+            items: permission.items.clone()?,
+            bits: permission.bits.copy(),
+            grants: true,
+            precedence: permission.precedence.unwrap_or(item.precedence),
+        };
+        put_split(&mut tuples, tuple)?;
+    }
+    Ok(tuples)
+}
+
+/// The tuples of an item: each permission, in their order, is split into what it grants and then what it denies, and
+/// those with a permission stay. A permission's own precedence stands in place of the item's. The error comes where
+/// memory is refused.
+#[tactic(auto, unfolding(crate::specs::AciTuples::tuples_of_item))]
 pub fn tuples(alloc: Global, item: &AciItem) -> Result<Vec<AciTuple>, AllocError>
     ensures ok { IfOk result (λ tuples. map tuple_of tuples.items ≡ tuples_of_item (item_of_code item.now)) }
 {
-    Ok(Vec::new(alloc))
+    match &item.first {
+        First::ItemFirst(items, permissions) => item_tuples(alloc, item, items, permissions),
+        First::UserFirst(classes, permissions) => user_tuples(alloc, item, classes, permissions),
+    }
 }
