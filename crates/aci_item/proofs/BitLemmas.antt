@@ -1,11 +1,11 @@
 -- Bits of a number, and the permissions that are among them.
-use Rattle.std.proofs.Common.{◌≡◌, ◌≢◌, ℕ, ◌<◌, ◌+◌, ◌*◌, ◌^◌, ◌%◌, Bool, true, false, cond, eqb, List, [], ◌∷◌, ◌∙◌, refl, sym, ap, eq-eqb, eqb-true, arith, inl, inr, w32}
+use Rattle.std.proofs.Common.{◌≡◌, ◌≢◌, ℕ, ◌<◌, ◌+◌, ◌*◌, ◌^◌, ◌%◌, Bool, true, false, cond, eqb, List, [], ◌∷◌, ◌∙◌, refl, sym, ap, eq-eqb, eqb-true, zero-mul, one-mul, arith, inl, inr, w32}
 use Rattle.std.specs.Prelude.{◌==◌, ◌&&◌, ◌||◌, not, filter, bit_and, bit_or, if◌then◌else◌}
 use Rattle.std.specs.Int.{bit_at}
 use Rattle.std.specs.List.{list_any}
-use Rattle.std.proofs.lemmas.Bool.{cases_eq}
+use Rattle.std.proofs.lemmas.Bool.{cases_eq, ne_eqb}
 use Rattle.std.proofs.lemmas.Map.Views.{any-filter_same}
-use Rattle.std.proofs.lemmas.Nat.{one_shl}
+use Rattle.std.proofs.lemmas.Nat.{one_shl, pow_pos}
 use Rattle.std.proofs.lemmas.Nat.Bits.{bit_at_set_same, bit_at_set_other, and_pow, bit_at-lt}
 use Rattle.aci_item.specs.declared.permission.Permission.{Permission}
 use Rattle.aci_item.specs.declared.permission.Permission.TheVariants.{Add, DiscloseOnError, Read, Remove, Browse, Export, Import, Modify, Rename, ReturnDn, Compare, FilterMatch, Invoke}
@@ -89,7 +89,14 @@ mask_test number place within =
     ∙ inner (bit_at number place) (bit_at-lt number place)
   where
     inner : (b : ℕ) → b < 2 → not (eqb (b * 2 ^ place) 0) ≡ (b == 1)
-    inner b small = ?
+    inner b small = elim (cases_eq b 0) [
+      | inl absent ↦
+        ap not (eq-eqb (b * 2 ^ place) 0 (ap (λ x. x * 2 ^ place) absent ∙ zero-mul (2 ^ place))) ∙ sym (ne_eqb b 1 (λ e. omega arith))
+      | inr apart ↦
+        let one : b ≡ 1 = omega arith in
+        let power : b * 2 ^ place ≡ 2 ^ place = ap (λ x. x * 2 ^ place) one ∙ one-mul (2 ^ place) in
+        ap not (ne_eqb (b * 2 ^ place) 0 (λ e. omega (arith, power, pow_pos place, e))) ∙ sym (eq-eqb b 1 one)
+    ]
 
 -- a bit more
 pub mask_set : (number : ℕ) (bit : Bit) → bit_place bit < 32
@@ -105,12 +112,11 @@ mask_set number bit within = filtered (λ b. bit_at (bit_or number (1 * 2 ^ bit_
       | inr apart ↦
         ap (λ n. n == 1) (bit_at_set_other w32 number (bit_place bit) within (bit_place b) apart)
         ∙ sym (among_filtered (λ place. bit_at number place == 1) b)
-        ∙ sym (ap (λ t. t || is_among (bits_of number) b) (differ (bit_place b) (bit_place bit) apart))
+        ∙ sym (ap (λ t. t || is_among (bits_of number) b) (ne_eqb (bit_place b) (bit_place bit) apart))
     ]
 
     filtered : (one other : Bit → Bool) → ((b : Bit) → one b ≡ other b) → (bits : List Bit) → filter one bits ≡ filter other bits
     filtered one other same [] = refl
-    filtered one other same (b ∷ bits) = ?
-
-    differ : (one other : ℕ) → one ≢ other → (one == other) ≡ false
-    differ one other apart = ?
+    filtered one other same (b ∷ bits) =
+        ap (λ t. cond t (b ∷ filter one bits) (filter one bits)) (same b)
+        ∙ ap (λ rest. cond (other b) (b ∷ rest) rest) (filtered one other same bits)

@@ -9,6 +9,7 @@ use Rattle.gser_tree.specs.TextOf.{IsTextOf}
 use Rattle.gser_tree.specs.Growing.{tree_of}
 use Rattle.gser_tree.specs.Looking.{members_in, string_in, chosen_in}
 use Rattle.gser_tree.specs.Reading.{Found, Read, give, ◌>>=◌, expect, optional, required, nothing_left, number}
+use Rattle.gser_tree.specs.Writing.{text_of}
 use Rattle.subtree_spec.specs.declared.error.BadText.{BadText}
 use Rattle.subtree_spec.specs.Parts.{set_of}
 use Rattle.subtree_spec.specs.SubtreePrinted.{print_subtree}
@@ -20,7 +21,7 @@ use Rattle.aci_item.specs.Sets.{sorted}
 
 -- SET OF: the members in the order of their printed texts, of equal ones the first
 abbrev pub sorted_set : {A : Type 0} → (A → List Lexeme) → (Shape → Read A) → Shape → Read (List A)
-sorted_set print reader shape = set_of reader shape >>= λ values. give (sorted print values)
+sorted_set print reader shape = set_of reader shape >>= λ values. give (sorted (λ value. text_of (print value)) values)
 
 -- UserClasses
 unfoldable pub classes : Shape → Read UserClasses

@@ -12,13 +12,9 @@ use Rattle.subtree_spec.specs.Parts.{name, oid, set_of}
 use Rattle.subtree_spec.specs.Subtrees.{Choice, Subtree}
 use Rattle.subtree_spec.specs.SubtreeText.{subtree}
 use Rattle.aci_item.specs.declared.level.Level.{Level}
-use Rattle.aci_item.specs.declared.level.Level.TheVariants.{Anyone, Simple, Strong}
+use Rattle.aci_item.specs.Levels.{levels}
 use Rattle.aci_item.specs.Permissions.{Bit, all_bits, in_order}
 use Rattle.aci_item.specs.ItemPrinted.{level_name, bit_name}
-
--- each level
-abbrev pub levels : List Level
-levels = Anyone ∷ Simple ∷ Strong ∷ []
 
 -- ENUMERATED { none (0), simple (1), strong (2) }
 unfoldable pub level_word : Shape → Read Level

@@ -8,3 +8,6 @@ pub mod ItemPrinted
 pub mod Sets
 pub mod ItemParts
 pub mod AciText
+-- for the inside of the crate alone
+pub mod Rows
+pub mod Gathering

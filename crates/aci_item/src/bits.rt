@@ -1,9 +1,16 @@
 //! Sets of grants and denials.
 
 ghost use Rattle.std.specs.Prelude.{◌≡◌, ◌<◌, [], ◌∷◌, map, filter, length};
-ghost use Rattle.aci_item.specs.Permissions.{bit_place, has_bit, put_bit, permissions_of, has_some};
+ghost use Rattle.std.specs.Prelude.{◌++◌, OnOk, find, option_map, string_bytes};
+ghost use Rattle.std.specs.Str.{bytes_eq};
+ghost use Rattle.gser_tree.specs.Writing.{text_of};
+ghost use Rattle.aci_item.specs.Permissions.{bit_place, all_bits, has_bit, put_bit, permissions_of, has_some};
+ghost use Rattle.aci_item.specs.ItemPrinted.{bit_name, print_bits};
+ghost use Rattle.aci_item.specs.Rows.{bit_of, named_bit, row_of};
 
 use crate::permission::Permission;
+use gser_tree::{put_end, put_separator};
+use std::alloc::AllocError;
 use std::marker::Model;
 
 /// A set of grants and denials (X.501 18.4.2.4). Contracts see its members in rising order.
@@ -64,11 +71,90 @@ impl Bits {
     pub fn has_some(&self, grants: bool) -> bool
         ensures exact { result ≡ has_some (permissions_of grants self.now) }
     {
-        for permission in Permission::all() {
-            if self.has(*permission, grants) {
-                return true;
-            }
-        }
-        false
+        Permission::all()
+            .iter()
+            .any(|permission| self.has(*permission, grants))
     }
+}
+
+// The name of a bit.
+struct Row {
+    name: &'static str,
+    permission: Permission,
+    grants: bool,
+}
+
+// A row of the table.
+macro_rules! row {
+    ($name:literal, $permission:ident, $grants:literal) => {
+        Row {
+            name: $name,
+            permission: Permission::$permission,
+            grants: $grants,
+        }
+    };
+}
+
+// Each bit in rising order.
+#[rattlefmt::skip]
+static ROWS: [Row; 26] = [
+    row!("grantAdd", Add, true),
+    row!("denyAdd", Add, false),
+    row!("grantDiscloseOnError", DiscloseOnError, true),
+    row!("denyDiscloseOnError", DiscloseOnError, false),
+    row!("grantRead", Read, true),
+    row!("denyRead", Read, false),
+    row!("grantRemove", Remove, true),
+    row!("denyRemove", Remove, false),
+    row!("grantBrowse", Browse, true),
+    row!("denyBrowse", Browse, false),
+    row!("grantExport", Export, true),
+    row!("denyExport", Export, false),
+    row!("grantImport", Import, true),
+    row!("denyImport", Import, false),
+    row!("grantModify", Modify, true),
+    row!("denyModify", Modify, false),
+    row!("grantRename", Rename, true),
+    row!("denyRename", Rename, false),
+    row!("grantReturnDN", ReturnDn, true),
+    row!("denyReturnDN", ReturnDn, false),
+    row!("grantCompare", Compare, true),
+    row!("denyCompare", Compare, false),
+    row!("grantFilterMatch", FilterMatch, true),
+    row!("denyFilterMatch", FilterMatch, false),
+    row!("grantInvoke", Invoke, true),
+    row!("denyInvoke", Invoke, false),
+];
+
+// The whole table.
+fn rows() -> &'static [Row]
+    ensures exact { map row_of result.now ≡ map named_bit all_bits }
+{
+    &ROWS
+}
+
+/// The permission that a bit of this name grants, or denies.
+pub(crate) fn bit_named(text: &str) -> Option<(Permission, bool)>
+    ensures exact { option_map bit_of result ≡ find (λ bit. bytes_eq text.now (bit_name bit)) all_bits }
+{
+    match rows().iter().find(|row| text == row.name) {
+        Some(row) => Some((row.permission, row.grants)),
+        None => None,
+    }
+}
+
+/// Writes the names of bits in braces.
+pub(crate) fn put_bits(out: &mut String, bits: &Bits) -> Result<(), AllocError>
+    ensures ok { OnOk result (string_bytes out.new ≡ string_bytes out.old ++ text_of (print_bits bits.now)) }
+{
+    let mut first = true;
+    for row in rows() {
+        if bits.has(row.permission, row.grants) {
+            put_separator(out, first)?;
+            out.push_str(row.name)?;
+            first = false;
+        }
+    }
+    put_end(out, first)?;
+    Ok(())
 }

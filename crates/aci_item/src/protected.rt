@@ -1,10 +1,12 @@
 //! Protected items.
 
-ghost use Rattle.std.specs.Prelude.{◌≡◌};
+ghost use Rattle.std.specs.Prelude.{◌≡◌, true};
+ghost use Rattle.std.specs.Str.{is_utf8};
 
 use dn_names::Value;
 use schema_core::AttrId;
 use std::marker::Model;
+use std::str;
 
 /// A type with a value, which is UTF-8.
 #[derive(Debug, Drop)]
@@ -26,6 +28,14 @@ impl Model for AttributeTypeAndValue {
 }
 
 impl AttributeTypeAndValue {
+    /// A type with a value.
+    pub(crate) fn new(kind: AttrId, value: Value) -> AttributeTypeAndValue
+        requires { is_utf8 value.octets ≡ true }
+        ensures exact { result ≡ record { kind = kind.0; value = value } }
+    {
+        AttributeTypeAndValue { kind, value }
+    }
+
     /// The type.
     pub fn kind(&self) -> AttrId
         ensures exact { result.0 ≡ self.now.kind }
@@ -39,6 +49,20 @@ impl AttributeTypeAndValue {
     {
         &self.value
     }
+
+    /// The octets of the value as text.
+    pub(crate) fn text(&self) -> &str
+        ensures exact { result.now ≡ self.now.value.octets }
+    {
+        as_text(self.value.octets())
+    }
+}
+
+fn as_text(octets: &[u8]) -> &str
+    requires { is_utf8 octets.now ≡ true }
+    ensures { result.now ≡ octets.now }
+{
+    str::from_utf8(octets).unwrap()
 }
 
 /// Protected items (X.501 18.4.2.4). Each set stands in the order of its members' printed texts, and no two texts are
