@@ -3,7 +3,7 @@ use Rattle.std.proofs.Common.{◌≡◌, ℕ, Bool, true, false, List, [], ◌�
 use Rattle.std.proofs.lemmas.List.{append-nil}
 use Rattle.std.proofs.lemmas.Grind.{flat_map-append}
 use Rattle.gser_tree.specs.Lexemes.{Lexeme, show}
-use Rattle.gser_tree.specs.Writing.{text_of, separator, ending, print_members, print_braces, listed, is_first, PutsMembers}
+use Rattle.gser_tree.specs.Writing.{text_of, separator, ending, print_choice, print_component, print_members, print_braces, listed, is_first, PutsMembers}
 
 -- the octets of lexemes behind lexemes
 pub text_of-append : (one other : List Lexeme) → text_of (one ++ other) ≡ text_of one ++ text_of other
@@ -29,6 +29,17 @@ PutsMembers-one old middle new first front value begun rest = (
       ∙ ap (λ l. old ++ text_of l) (append_assoc (separator first) front value ∙ ap (λ v. separator first ++ v) (sym (append-nil (front ++ value)))),
   refl,
 )
+
+-- a component, of which the name came first
+pub PutsMembers-component : (old middle new : List ℕ) (first : Bool) (name : List ℕ) (value : List Lexeme)
+    → middle ≡ old ++ text_of (separator first ++ print_component name []) → new ≡ middle ++ text_of value
+    → PutsMembers old new first false (print_component name value ∷ [])
+PutsMembers-component old middle new first name value begun rest = PutsMembers-one old middle new first (print_component name []) value begun rest
+
+-- a choice, of which the kind came first
+pub put_choice : (old middle new kind : List ℕ) (value : List Lexeme) → middle ≡ old ++ text_of (print_choice kind [])
+    → new ≡ middle ++ text_of value → new ≡ old ++ text_of (print_choice kind value)
+put_choice old middle new kind value begun rest = put_both old middle new (print_choice kind []) value begun rest
 
 listed-append : (first : Bool) (one other : List (List Lexeme)) → listed first (one ++ other) ≡ listed first one ++ listed (is_first first one) other
 listed-append first [] other = refl

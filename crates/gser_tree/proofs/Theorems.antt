@@ -1,7 +1,7 @@
 -- What crates above may cite of values and their texts.
 pub use Rattle.gser_tree.proofs.TextLemmas.{tree_of-IsTextOf, IsTextOf-tree_of}
 -- what is written
-pub use Rattle.gser_tree.proofs.PutsLemmas.{text_of-append, put_both, PutsMembers-none, PutsMembers-one, PutsMembers-append, PutsMembers-braces}
+pub use Rattle.gser_tree.proofs.PutsLemmas.{text_of-append, put_both, PutsMembers-none, PutsMembers-one, PutsMembers-component, put_choice, PutsMembers-append, PutsMembers-braces}
 -- what is printed is read
 pub use Rattle.gser_tree.proofs.PrintsLemmas.{Written, IsWritten, AreWritten, word_is_written, string_is_written, choice_is_written, component_is_written, written_weaker, none_are_written, more_are_written, braces_are_written, IsTextOf-written}
 pub use Rattle.gser_tree.proofs.ReadsLemmas.{IsRead, Prints, AreGathered, none_gathered, more_gathered, set_is_written, Skips, skips_end, IsApart, OptionalRead, PrintsOptional, optional_is_written, RequiredRead, required_is_written, FlagRead, flagged, flag_is_written}

@@ -1,9 +1,8 @@
 //! Values as text.
 
-ghost use Rattle.std.specs.Prelude.{◌≡◌, ◌++◌, [], ◌∷◌, OnOk, string_bytes};
-ghost use Rattle.gser_tree.specs.declared.marks.Mark.TheVariants.{Colon};
-ghost use Rattle.gser_tree.specs.Lexemes.{doubled, Marked, Quoted, Space, Word};
-ghost use Rattle.gser_tree.specs.Writing.{text_of, print_number, print_string, separator, ending};
+ghost use Rattle.std.specs.Prelude.{◌≡◌, ◌++◌, [], OnOk, string_bytes};
+ghost use Rattle.gser_tree.specs.Lexemes.{doubled};
+ghost use Rattle.gser_tree.specs.Writing.{text_of, print_choice, print_component, print_number, print_string, separator, ending};
 
 use std::alloc::AllocError;
 
@@ -61,7 +60,7 @@ pub fn put_end(out: &mut String, first: bool) -> Result<(), AllocError>
 /// Writes what stands before the value of a component in braces.
 pub fn put_name(out: &mut String, first: bool, name: &str) -> Result<(), AllocError>
     ensures ok { OnOk result (string_bytes out.new
-        ≡ string_bytes out.old ++ text_of (separator first ++ Word name.now ∷ Space ∷ [])) }
+        ≡ string_bytes out.old ++ text_of (separator first ++ print_component name.now [])) }
 {
     put_separator(out, first)?;
     out.push_str(name)?;
@@ -71,7 +70,7 @@ pub fn put_name(out: &mut String, first: bool, name: &str) -> Result<(), AllocEr
 /// Writes what stands before the value of a choice.
 pub fn put_kind(out: &mut String, kind: &str) -> Result<(), AllocError>
     ensures ok { OnOk result (string_bytes out.new
-        ≡ string_bytes out.old ++ text_of (Word kind.now ∷ Marked Colon ∷ [])) }
+        ≡ string_bytes out.old ++ text_of (print_choice kind.now [])) }
 {
     out.push_str(kind)?;
     out.push_str(":")

@@ -14,18 +14,18 @@ printed_whole : text_of (print_subtree whole) ≡ codes "{ }"
 unfolding whole print_subtree
 printed_whole = refl
 
--- distances and a refinement
+-- exclusions and a refinement
 refined : Subtree
 refined = record {
   base = [];
   before = [];
   after = [] ∷ [];
-  minimum = 1;
-  maximum = std.Some 20;
+  minimum = 0;
+  maximum = std.None;
   filter = std.Some (And (Some (Item (codes "2.5.6.6")) (Some (Not (And None)) None)));
 }
 
 printed_refined : text_of (print_subtree refined) ≡
-    codes "{ specificExclusions { chopAfter:\"\" }, minimum 1, maximum 20, specificationFilter and:{ item:2.5.6.6, not:and:{ } } }"
+    codes "{ specificExclusions { chopAfter:\"\" }, specificationFilter and:{ item:2.5.6.6, not:and:{ } } }"
 unfolding refined print_subtree Rattle.dn_names.specs.Printing.print_name Rattle.dn_names.specs.Printing.print_by
 printed_refined = refl

@@ -4,3 +4,4 @@ pub mod RefinementLemmas
 pub mod FrontLemmas
 pub mod PairOrderLemmas
 pub mod ReadLemmas
+pub mod PrintedLemmas

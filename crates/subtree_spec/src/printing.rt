@@ -2,7 +2,7 @@
 
 ghost use Rattle.std.specs.Prelude.{◌≡◌, ◌++◌, IfOk, OnOk, OnErr, codes, map, option_map, string_bytes};
 ghost use Rattle.gser_tree.specs.Writing.{text_of, print_number, print_choice, print_braces, print_optional, print_filled, PutsMembers};
-ghost use Rattle.subtree_spec.specs.Subtrees.{choice_of, subtree_of};
+ghost use Rattle.subtree_spec.specs.Subtrees.{choice_of, gathered, subtree_of};
 ghost use Rattle.subtree_spec.specs.SubtreePrinted.{print_dn, print_base, print_chops, print_exclusions, print_minimum, print_refinement, print_refinements, print_subtree};
 
 use crate::spec::{Refinement, Spec};
@@ -110,6 +110,7 @@ fn put_maximum(out: &mut String, first: bool, maximum: Option<u32>) -> Result<bo
 }
 
 // Writes a refinement.
+#[tactic(auto, using(crate::proofs::PrintedLemmas::put_kind_value))]
 #[cycle(put_refinement)]
 fn put_refinement(out: &mut String, refinement: &Refinement) -> Result<(), AllocError>
     ensures ok { OnOk result (string_bytes out.new ≡ string_bytes out.old ++ text_of (print_refinement (choice_of refinement.now))) }
@@ -139,7 +140,7 @@ fn put_refinement(out: &mut String, refinement: &Refinement) -> Result<(), Alloc
 #[cycle(put_refinement)]
 fn put_refinements(out: &mut String, members: &[Refinement]) -> Result<(), AllocError>
     ensures ok { OnOk result (string_bytes out.new
-        ≡ string_bytes out.old ++ text_of (print_braces (map (λ member. print_refinement (choice_of member)) members.now))) }
+        ≡ string_bytes out.old ++ text_of (print_braces (print_refinements (gathered (map choice_of members.now))))) }
 {
     let mut first = true;
     for member in members {
