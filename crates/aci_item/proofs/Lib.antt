@@ -1,2 +1,4 @@
 pub mod BitLemmas
 pub mod TupleLemmas
+pub mod SetLemmas
+mod Examples

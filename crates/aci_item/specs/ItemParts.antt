@@ -1,5 +1,5 @@
 -- The parts of access control items: levels, bits, users, attribute types and values, subtrees.
-use Rattle.std.specs.Prelude.{ℕ, Bool, true, false, min, List, [], ◌∷◌, last, find, Option, Some, None, option_map, option_and_then, codes, if◌then◌else◌}
+use Rattle.std.specs.Prelude.{ℕ, Bool, true, false, min, ◌-◌, length, slice_get, List, [], ◌∷◌, find, Option, Some, None, option_map, option_and_then, codes, if◌then◌else◌}
 use Rattle.std.specs.Str.{bytes_eq}
 use Rattle.dn_names.specs.Names.{Keyed, RdnSequence, TypeAndValue}
 use Rattle.dn_names.specs.NameValues.{value_of}
@@ -8,12 +8,13 @@ use Rattle.gser_tree.specs.declared.part.Part.{Part}
 use Rattle.gser_tree.specs.Shapes.{Shape}
 use Rattle.gser_tree.specs.Looking.{Behind, members_in, word_in, string_in, named_in, chosen_in, flag}
 use Rattle.gser_tree.specs.Reading.{Found, Read, give, ◌>>=◌, expect, part, required, nothing_left, number}
-use Rattle.subtree_spec.specs.Parts.{name, oid, set_of}
+use Rattle.subtree_spec.specs.Parts.{name, oid}
 use Rattle.subtree_spec.specs.Subtrees.{Choice, Subtree}
 use Rattle.subtree_spec.specs.SubtreeText.{subtree}
 use Rattle.aci_item.specs.declared.level.Level.{Level}
 use Rattle.aci_item.specs.Levels.{levels}
-use Rattle.aci_item.specs.Permissions.{Bit, all_bits, in_order}
+use Rattle.aci_item.specs.Permissions.{Bit, all_bits, put_bit}
+use Rattle.aci_item.specs.Sets.{gather_into}
 use Rattle.aci_item.specs.ItemPrinted.{level_name, bit_name}
 
 -- ENUMERATED { none (0), simple (1), strong (2) }
@@ -42,12 +43,16 @@ bit shape = expect (word_in shape) >>= λ word. expect (find (λ bit. bytes_eq w
 
 -- GrantsAndDenials
 unfoldable pub bits : Shape → Read (List Bit)
-bits shape = set_of bit shape >>= λ bits. give (in_order bits)
+bits shape = expect (members_in shape) >>= gather_into put_bit bit []
 
--- NameAndOptionalUID ::= SEQUENCE { dn, uid OPTIONAL }, with a name alone; in the short spelling a name
+-- NameAndOptionalUID ::= SEQUENCE { dn, uid OPTIONAL }, with a name alone
+unfoldable pub named_user : List Shape → Read RdnSequence
+named_user components = required (codes "dn") name components >>= λ dn. nothing_left dn.rest dn.value
+
+-- the same, or, in the short spelling, a name
 abbrev pub user_by : Option (List Shape) → Shape → Read RdnSequence
 user_by None shape = name shape
-user_by (Some all) shape = required (codes "dn") name all >>= λ dn. nothing_left dn.rest dn.value
+user_by (Some components) shape = named_user components
 
 unfoldable pub user : Shape → Read RdnSequence
 user shape = user_by (members_in shape) shape
@@ -72,11 +77,15 @@ kind_and_value shape = do
   value ← required (codes "value") (assertion kind.value) kind.rest
   nothing_left value.rest (record { kind = kind.value; value = value.value })
 
+-- the last of members
+abbrev pub last_of : List Shape → Option Shape
+last_of shapes = slice_get shapes (length shapes - 1)
+
 -- the place of a refinement, which is the last component of a subtree specification
 unfoldable pub filter_place : Shape → Option ℕ
 filter_place shape =
     option_map (λ chosen. chosen.0.place)
-    (option_and_then (λ named. chosen_in named.1) (option_and_then named_in (option_and_then last (members_in shape))))
+    (option_and_then (λ named. chosen_in named.1) (option_and_then named_in (option_and_then last_of (members_in shape))))
 
 -- the first of two places
 abbrev pub least : Option ℕ → Option ℕ → Option ℕ

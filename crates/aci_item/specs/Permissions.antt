@@ -72,7 +72,7 @@ permissions_of grants bits = filter (λ permission. has_bit permission grants bi
 -- there are some
 abbrev pub has_some : List Permission → Bool
 has_some [] = false
-has_some (permission ∷ permissions) = true
+has_some (permission ∷ rest) = true
 
 -- the bits of a number, in rising order
 abbrev pub bits_of : ℕ → List Bit

@@ -1,6 +1,6 @@
 //! The parts of items: levels, bits, users, attribute types and values, subtrees.
 
-ghost use Rattle.std.specs.Prelude.{◌≡◌, [], ◌∷◌, codes, IfOk, map, option_map, min, if◌then◌else◌};
+ghost use Rattle.std.specs.Prelude.{◌≡◌, [], ◌∷◌, codes, IfOk, length, map, option_map, ◌==◌, min, if◌then◌else◌};
 ghost use Rattle.schema_core.specs.Attributes.{IsAttrId};
 ghost use Rattle.dn_names.specs.NameValues.{value_of};
 ghost use Rattle.gser_tree.specs.Trees.{shape_of};
@@ -8,7 +8,7 @@ ghost use Rattle.gser_tree.specs.Looking.{flag};
 ghost use Rattle.gser_tree.specs.Reading.{Reads, part, required};
 ghost use Rattle.subtree_spec.specs.Parts.{name};
 ghost use Rattle.subtree_spec.specs.Subtrees.{subtree_of};
-ghost use Rattle.aci_item.specs.ItemParts.{level_word, basic_levels, level_by, level, bit, bits, user_by, user, kind, no_octets, assertion, kind_and_value, filter_place, least, class_subtree, flag_by};
+ghost use Rattle.aci_item.specs.ItemParts.{level_word, basic_levels, level_by, level, bit, bits, named_user, user_by, user, kind, no_octets, assertion, kind_and_value, filter_place, least, class_subtree, flag_by};
 ghost use Rattle.aci_item.specs.Rows.{bit_of};
 ghost use Rattle.aci_item.specs.Gathering.{behind};
 
@@ -99,9 +99,10 @@ pub(crate) fn bits(tree: &Tree, bad: &Bad) -> Result<Bits, Stop>
 }
 
 // The name of a sequence.
+#[tactic(auto, unfolding(crate::specs::ItemParts::named_user))]
 fn named_user(alloc: Global, trees: &[Tree], bad: &mut Bad) -> Result<Dn, Stop>
     ensures read { Reads (λ name. name) result bad.new.first
-        (user_by (Some (map shape_of trees.now)) shape bad.old.first) }
+        (named_user (map shape_of trees.now) bad.old.first) }
 {
     let (value, trees) = component("dn", trees).ok_or(Stop::Misfit)?;
     let user = name(alloc, value, bad)?;

@@ -1,8 +1,8 @@
 //! Items as text.
 
-ghost use Rattle.std.specs.Prelude.{◌≡◌, [], ◌∷◌, ◌++◌, IfOk, OnOk, OnErr, codes, map, option_map, string_bytes};
+ghost use Rattle.std.specs.Prelude.{◌≡◌, [], ◌∷◌, ◌++◌, IfOk, OnOk, OnErr, true, codes, map, option_map, string_bytes};
 ghost use Rattle.schema_core.specs.Attributes.{name_of};
-ghost use Rattle.gser_tree.specs.Writing.{text_of, print_word, print_component, print_flag, print_number, print_optional, PutsMembers};
+ghost use Rattle.gser_tree.specs.Writing.{text_of, print_braces, print_word, print_component, print_flag, print_number, print_optional, PutsMembers};
 ghost use Rattle.subtree_spec.specs.Subtrees.{subtree_of};
 ghost use Rattle.subtree_spec.specs.SubtreePrinted.{print_subtree};
 ghost use Rattle.aci_item.specs.ItemPrinted.{print_bits, print_classes, print_first, print_item, print_item_permission, print_items, print_kind, print_level, print_precedence, print_set, print_user, print_user_permission, print_value};

@@ -7,7 +7,7 @@ ghost use Rattle.gser_tree.specs.TextOf.{IsTextOf};
 ghost use Rattle.gser_tree.specs.Trees.{shape_of};
 ghost use Rattle.gser_tree.specs.Reading.{Reads, optional};
 ghost use Rattle.gser_tree.specs.Writing.{text_of};
-ghost use Rattle.subtree_spec.specs.declared.error.BadText.TheVariants.{Text};
+ghost use Rattle.subtree_spec.specs.declared.error.BadText.TheVariants as fault;
 ghost use Rattle.subtree_spec.specs.SubtreeText.{there, judged, fault_of};
 ghost use Rattle.aci_item.specs.ItemPrinted.{print_item_permission, print_user_permission};
 ghost use Rattle.aci_item.specs.AciText.{sorted_set, classes, items, precedence, item_permission, user_permission, item_first, user_first, first, tag, aci_item, AciText, read_item};
@@ -305,7 +305,7 @@ pub fn read(alloc: Global, text: &[u8]) -> Result<AciItem, BadText>
     ensures only { (shape : Shape) → IsTextOf shape text.now → nest shape ≤ 100
         → Answers item_of_code fault_of result (judged (aci_item shape None)) }
     ensures outside { ((shape : Shape) → IsTextOf shape text.now → ⊥)
-        → Answers item_of_code fault_of result (Err Text) }
+        → Answers item_of_code fault_of result (Err fault.Text) }
     ensures exact { Answers item_of_code fault_of result (read_item text.now) }
 {
     read_all(alloc, text)
