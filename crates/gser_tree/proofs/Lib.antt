@@ -16,4 +16,5 @@ pub mod PutsLemmas
 pub mod PrintsLemmas
 pub mod ReadsLemmas
 pub mod OnlyLemmas
+pub mod DecimalLemmas
 pub mod Theorems

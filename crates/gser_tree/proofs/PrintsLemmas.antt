@@ -212,3 +212,9 @@ IsTextOf-written most P lexemes written =
       whole.nested,
       whole.has,
     )
+
+-- a looser bound
+pub written_within : (most other : ℕ) (P : Shape → Type 0) (lexemes : List Lexeme) → most ≤ other → IsWritten most P lexemes → IsWritten other P lexemes
+written_within most other P lexemes within written = λ place.
+    let inner = written place in
+    record { shape = inner.shape; proper = inner.proper; placed = inner.placed; nested = omega (arith, within, inner.nested); has = inner.has }

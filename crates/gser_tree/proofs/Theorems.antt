@@ -3,7 +3,9 @@ pub use Rattle.gser_tree.proofs.TextLemmas.{tree_of-IsTextOf, IsTextOf-tree_of}
 -- what is written
 pub use Rattle.gser_tree.proofs.PutsLemmas.{text_of-append, put_both, PutsMembers-none, PutsMembers-one, PutsMembers-component, put_choice, PutsMembers-append, PutsMembers-braces}
 -- what is printed is read
-pub use Rattle.gser_tree.proofs.PrintsLemmas.{Written, IsWritten, AreWritten, word_is_written, string_is_written, choice_is_written, component_is_written, written_weaker, none_are_written, more_are_written, braces_are_written, IsTextOf-written}
+pub use Rattle.gser_tree.proofs.PrintsLemmas.{Written, IsWritten, AreWritten, word_is_written, string_is_written, choice_is_written, component_is_written, written_weaker, none_are_written, more_are_written, braces_are_written, written_within, IsTextOf-written}
 pub use Rattle.gser_tree.proofs.ReadsLemmas.{IsRead, Prints, AreGathered, none_gathered, more_gathered, set_is_written, Skips, skips_end, IsApart, OptionalRead, PrintsOptional, optional_is_written, RequiredRead, required_is_written, FlagRead, flagged, flag_is_written}
 -- what is read is good
 pub use Rattle.gser_tree.proofs.OnlyLemmas.{Gives, Only, gives_value, gives_nothing, gives_weaker, gives_both, gives_choice, gives_expected, gives_part, gives_optional, gives_required, gives_end, gives_gathered}
+-- numbers
+pub use Rattle.gser_tree.proofs.DecimalLemmas.{is_number-decimal, is_word-decimal, number_prints, number_is_at_most}

@@ -1,14 +1,16 @@
 -- Printed refinements and exclusions, and what the calls of the program wrote of them.
-use Rattle.std.proofs.Common.{◌≡◌, ℕ, ◌<◌, ◌+◌, Bool, true, false, List, [], ◌∷◌, ◌++◌, length, take, get_or, refl, sym, ap, subst, ◌∙◌, add-one}
+use Rattle.std.proofs.Common.{◌≡◌, ℕ, ◌<◌, ◌≤◌, ◌+◌, Bool, true, false, List, [], ◌∷◌, ◌++◌, length, take, get_or, refl, sym, ap, subst, ◌∙◌, add-one}
 use Rattle.std.proofs.Math.Seq.{take-suc}
-use Rattle.std.proofs.lemmas.List.{append-nil, map-append}
-use Rattle.std.specs.Prelude.{map, Vec}
-use Rattle.std.specs.declared.alloc.Global.{Global}
+use Rattle.std.proofs.lemmas.List.{append-nil, map-append, take_all}
+use Rattle.std.proofs.lemmas.Simd.{map-map}
+use Rattle.std.specs.Prelude.{map, Some, None, ◌==◌, if◌then◌else◌}
+use Rattle.dn_names.specs.Names.{RdnSequence}
 use Rattle.gser_tree.specs.Lexemes.{Lexeme}
-use Rattle.gser_tree.specs.Writing.{text_of, print_choice, separator, listed, is_first, PutsMembers}
-use Rattle.gser_tree.proofs.Theorems.{put_choice, PutsMembers-one, PutsMembers-append}
-use Rattle.subtree_spec.specs.Subtrees.{Choice, gathered}
-use Rattle.subtree_spec.specs.SubtreePrinted.{print_refinement, print_refinements}
+use Rattle.gser_tree.specs.Writing.{text_of, print_choice, print_braces, print_filled, separator, ending, PutsMembers}
+use Rattle.gser_tree.proofs.Theorems.{put_choice, PutsMembers-one, PutsMembers-append, PutsMembers-braces}
+use Rattle.subtree_spec.specs.declared.spec.Refinement.{Refinement}
+use Rattle.subtree_spec.specs.Subtrees.{Choice, gathered, choice_of}
+use Rattle.subtree_spec.specs.SubtreePrinted.{print_exclusions, print_refinement, print_refinements}
 
 -- a kind and its value
 pub put_kind_value : (old middle new kind : List ℕ) (value : List Lexeme) → middle ≡ old ++ text_of (print_choice kind [])
@@ -39,3 +41,20 @@ put_next print old before middle new first next values index value within is mem
     PutsMembers-one before middle new next [] (print value) (begun ∙ ap (λ l. before ++ text_of l) (sym (append-nil (separator next)))) rest in
     subst (λ (items : List (List Lexeme)). PutsMembers old new first false items) (sym (map-take-next print values index value within is))
     (PutsMembers-append old before new first next false (map print (take index values)) (print value ∷ []) members one)
+
+-- all members of a set of refinements, and the end of the braces
+pub put_all : (old middle new : List ℕ) (next : Bool) (members : List Refinement) (count : ℕ) → length members ≤ count
+    → PutsMembers old middle true next (map (λ member. print_refinement (choice_of member)) (take count members)) → new ≡ middle ++ text_of (ending next)
+    → new ≡ old ++ text_of (print_braces (print_refinements (gathered (map choice_of members))))
+put_all old middle new next members count all begun end =
+    let same : map (λ (member : Refinement). print_refinement (choice_of member)) (take count members) ≡ print_refinements (gathered (map choice_of members)) =
+    ap (map (λ (member : Refinement). print_refinement (choice_of member))) (take_all count members all)
+    ∙ sym (map-map print_refinement choice_of members) ∙ sym (print_refinements-gathered (map choice_of members)) in
+    PutsMembers-braces old middle new next (print_refinements (gathered (map choice_of members)))
+    (subst (λ (items : List (List Lexeme)). PutsMembers old middle true next items) same begun) end
+
+-- a set that has members of the first kind has a printed form
+pub filled_before : (before after : List RdnSequence) (none : Bool) (count : ℕ) → length before ≡ count → none ≡ (count == 0) → none ≡ false
+    → print_filled (print_exclusions before after) ≡ (if none then None else Some (print_braces (print_exclusions before after)))
+filled_before [] after none count same is h = absurd (let zero : (count == 0) ≡ true = ap (λ n. n == 0) (sym same) in cc)
+filled_before (name ∷ before) after none count same is h = rw h refl

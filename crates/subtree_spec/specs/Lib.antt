@@ -3,6 +3,7 @@ pub mod Subtrees
 pub mod Parts
 pub mod SubtreeText
 pub mod SubtreePrinted
+pub mod GoodSubtrees
 pub mod Membership
 pub mod Fronts
 -- for the inside of the crate alone

@@ -1,6 +1,6 @@
 //! Subtree specifications as text.
 
-ghost use Rattle.std.specs.Prelude.{◌≡◌, ◌++◌, IfOk, OnOk, OnErr, codes, map, option_map, string_bytes};
+ghost use Rattle.std.specs.Prelude.{◌≡◌, ◌++◌, None, Some, if◌then◌else◌, IfOk, OnOk, OnErr, codes, map, option_map, string_bytes};
 ghost use Rattle.gser_tree.specs.Writing.{text_of, print_number, print_choice, print_braces, print_optional, print_filled, PutsMembers};
 ghost use Rattle.subtree_spec.specs.Subtrees.{choice_of, gathered, subtree_of};
 ghost use Rattle.subtree_spec.specs.SubtreePrinted.{print_dn, print_base, print_chops, print_exclusions, print_minimum, print_refinement, print_refinements, print_subtree};
@@ -61,8 +61,27 @@ fn put_chops(
     Ok(first)
 }
 
+// Whether there are no exclusions.
+fn has_none(spec: &Spec) -> bool
+    ensures exact { print_filled (print_exclusions spec.now.before.items spec.now.after.items)
+        ≡ (if result then None else Some (print_braces (print_exclusions spec.now.before.items spec.now.after.items))) }
+{
+    spec.before.is_empty() && spec.after.is_empty()
+}
+
+// Writes the exclusions as a set.
+fn put_exclusions(alloc: Global, out: &mut String, spec: &Spec) -> Result<(), AllocError>
+    ensures ok { OnOk result (string_bytes out.new
+        ≡ string_bytes out.old ++ text_of (print_braces (print_exclusions spec.now.before.items spec.now.after.items))) }
+{
+    let first = put_chops(alloc, out, true, "chopBefore", &spec.before)?;
+    let first = put_chops(alloc, out, first, "chopAfter", &spec.after)?;
+    put_end(out, first)?;
+    Ok(())
+}
+
 // Writes the exclusions, where there are some.
-fn put_exclusions(
+fn put_exclusions_of(
     alloc: Global,
     out: &mut String,
     first: bool,
@@ -71,13 +90,11 @@ fn put_exclusions(
     ensures ok { IfOk result (λ next. PutsMembers (string_bytes out.old) (string_bytes out.new) first next
         (print_optional (codes "specificExclusions") (print_filled (print_exclusions spec.now.before.items spec.now.after.items)))) }
 {
-    if spec.before.is_empty() && spec.after.is_empty() {
+    if has_none(spec) {
         return Ok(first);
     }
     put_name(out, first, "specificExclusions")?;
-    let none = put_chops(alloc, out, true, "chopBefore", &spec.before)?;
-    let none = put_chops(alloc, out, none, "chopAfter", &spec.after)?;
-    put_end(out, none)?;
+    put_exclusions(alloc, out, spec)?;
     Ok(false)
 }
 
@@ -159,7 +176,7 @@ fn put_filter(
     filter: &Option<Refinement>,
 ) -> Result<bool, AllocError>
     ensures ok { IfOk result (λ next. PutsMembers (string_bytes out.old) (string_bytes out.new) first next
-        (print_optional (codes "specificationFilter") (option_map (λ filter. print_refinement (choice_of filter)) filter.now))) }
+        (print_optional (codes "specificationFilter") (option_map print_refinement (option_map choice_of filter.now)))) }
 {
     match filter {
         None => Ok(first),
@@ -172,12 +189,11 @@ fn put_filter(
 }
 
 // Writes a specification.
-#[tactic(auto, unfolding(crate::specs::SubtreePrinted::print_subtree))]
 fn put_spec(alloc: Global, out: &mut String, spec: &Spec) -> Result<(), AllocError>
     ensures ok { OnOk result (string_bytes out.new ≡ string_bytes out.old ++ text_of (print_subtree (subtree_of spec.now))) }
 {
     let first = put_base(alloc, out, true, &spec.base)?;
-    let first = put_exclusions(alloc, out, first, spec)?;
+    let first = put_exclusions_of(alloc, out, first, spec)?;
     let first = put_minimum(out, first, spec.minimum)?;
     let first = put_maximum(out, first, spec.maximum)?;
     let first = put_filter(out, first, &spec.filter)?;
