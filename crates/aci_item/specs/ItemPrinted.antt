@@ -109,14 +109,22 @@ print_user_permission permission = print_braces (print_precedence permission.pre
     ++ (print_component (codes "protectedItems") (print_items permission.items)
     ∷ print_component (codes "grantsAndDenials") (print_bits permission.bits) ∷ []))
 
--- itemOrUserFirst
-unfoldable pub print_first : First → List Lexeme
-print_first (ItemFirst items permissions) = print_choice (codes "itemFirst") (print_braces (
+-- the components of itemFirst
+abbrev pub print_item_first : ProtectedItems → List ItemPermission → List Lexeme
+print_item_first items permissions = print_choice (codes "itemFirst") (print_braces (
     print_component (codes "protectedItems") (print_items items)
     ∷ print_component (codes "itemPermissions") (print_braces (map print_item_permission permissions)) ∷ []))
-print_first (UserFirst classes permissions) = print_choice (codes "userFirst") (print_braces (
+
+-- the components of userFirst
+abbrev pub print_user_first : UserClasses → List UserPermission → List Lexeme
+print_user_first classes permissions = print_choice (codes "userFirst") (print_braces (
     print_component (codes "userClasses") (print_classes classes)
     ∷ print_component (codes "userPermissions") (print_braces (map print_user_permission permissions)) ∷ []))
+
+-- itemOrUserFirst
+unfoldable pub print_first : First → List Lexeme
+print_first (ItemFirst items permissions) = print_item_first items permissions
+print_first (UserFirst classes permissions) = print_user_first classes permissions
 
 -- AuthenticationLevel
 abbrev pub print_level : Level → List Lexeme

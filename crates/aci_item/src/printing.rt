@@ -2,10 +2,10 @@
 
 ghost use Rattle.std.specs.Prelude.{◌≡◌, [], ◌∷◌, ◌++◌, IfOk, OnOk, OnErr, true, codes, map, option_map, string_bytes};
 ghost use Rattle.schema_core.specs.Attributes.{name_of};
-ghost use Rattle.gser_tree.specs.Writing.{text_of, print_braces, print_word, print_component, print_flag, print_number, print_optional, PutsMembers};
+ghost use Rattle.gser_tree.specs.Writing.{text_of, print_braces, print_word, print_component, print_filled, print_flag, print_number, print_optional, PutsMembers};
 ghost use Rattle.subtree_spec.specs.Subtrees.{subtree_of};
 ghost use Rattle.subtree_spec.specs.SubtreePrinted.{print_subtree};
-ghost use Rattle.aci_item.specs.ItemPrinted.{print_bits, print_classes, print_first, print_item, print_item_permission, print_items, print_kind, print_level, print_precedence, print_set, print_user, print_user_permission, print_value};
+ghost use Rattle.aci_item.specs.ItemPrinted.{print_bits, print_classes, print_first, print_item, print_item_first, print_item_permission, print_items, print_kind, print_level, print_precedence, print_set, print_user, print_user_first, print_user_permission, print_value};
 ghost use Rattle.aci_item.specs.Views.{classes_of, first_of, item_of_code, item_permission_of, items_of, user_permission_of};
 
 use crate::bits::{Bits, put_bits};
@@ -43,41 +43,57 @@ pub(crate) fn put_user(alloc: Global, out: &mut String, name: &Dn) -> Result<(),
     Ok(())
 }
 
-// Writes a set of users, where there are some.
+// Writes users in braces.
+fn put_user_set(alloc: Global, out: &mut String, users: &[Dn]) -> Result<(), AllocError>
+    ensures ok { OnOk result (string_bytes out.new ≡ string_bytes out.old ++ text_of (print_braces (map print_user users.now))) }
+{
+    let mut first = true;
+    for user in users {
+        put_separator(out, first)?;
+        put_user(alloc, out, user)?;
+        first = false;
+    }
+    put_end(out, first)?;
+    Ok(())
+}
+
+// Writes a component of users, where there are some.
 fn put_users(alloc: Global, out: &mut String, first: bool, name: &str, users: &[Dn]) -> Result<bool, AllocError>
     ensures ok { IfOk result (λ next. PutsMembers (string_bytes out.old) (string_bytes out.new) first next
-        (print_set name.now print_user users.now)) }
+        (print_optional name.now (print_filled (map print_user users.now)))) }
 {
     if users.is_empty() {
         return Ok(first);
     }
     put_name(out, first, name)?;
-    let mut none = true;
-    for user in users {
-        put_separator(out, none)?;
-        put_user(alloc, out, user)?;
-        none = false;
-    }
-    put_end(out, none)?;
+    put_user_set(alloc, out, users)?;
     Ok(false)
 }
 
-// Writes a set of subtrees, where there are some.
+// Writes subtrees in braces.
+fn put_subtree_set(alloc: Global, out: &mut String, subtrees: &[Spec]) -> Result<(), AllocError>
+    ensures ok { OnOk result (string_bytes out.new ≡ string_bytes out.old ++ text_of (print_braces (map print_subtree (map subtree_of subtrees.now)))) }
+{
+    let mut first = true;
+    for spec in subtrees {
+        put_separator(out, first)?;
+        subtree_spec::print(alloc, spec, out)?;
+        first = false;
+    }
+    put_end(out, first)?;
+    Ok(())
+}
+
+// Writes a component of subtrees, where there are some.
 fn put_subtrees(alloc: Global, out: &mut String, first: bool, subtrees: &[Spec]) -> Result<bool, AllocError>
     ensures ok { IfOk result (λ next. PutsMembers (string_bytes out.old) (string_bytes out.new) first next
-        (print_set (codes "subtree") print_subtree (map subtree_of subtrees.now))) }
+        (print_optional (codes "subtree") (print_filled (map print_subtree (map subtree_of subtrees.now))))) }
 {
     if subtrees.is_empty() {
         return Ok(first);
     }
     put_name(out, first, "subtree")?;
-    let mut none = true;
-    for spec in subtrees {
-        put_separator(out, none)?;
-        subtree_spec::print(alloc, spec, out)?;
-        none = false;
-    }
-    put_end(out, none)?;
+    put_subtree_set(alloc, out, subtrees)?;
     Ok(false)
 }
 
@@ -106,22 +122,30 @@ pub(crate) fn put_attribute(out: &mut String, kind: AttrId) -> Result<(), AllocE
     Ok(())
 }
 
-// Writes a set of attribute types, where there are some.
+// Writes attribute types in braces.
+fn put_kind_set(out: &mut String, kinds: &[AttrId]) -> Result<(), AllocError>
+    ensures ok { OnOk result (string_bytes out.new ≡ string_bytes out.old ++ text_of (print_braces (map print_kind (map (λ kind. kind.0) kinds.now)))) }
+{
+    let mut first = true;
+    for kind in kinds {
+        put_separator(out, first)?;
+        put_attribute(out, *kind)?;
+        first = false;
+    }
+    put_end(out, first)?;
+    Ok(())
+}
+
+// Writes a component of attribute types, where there are some.
 fn put_kinds(out: &mut String, first: bool, name: &str, kinds: &[AttrId]) -> Result<bool, AllocError>
     ensures ok { IfOk result (λ next. PutsMembers (string_bytes out.old) (string_bytes out.new) first next
-        (print_set name.now print_kind (map (λ kind. kind.0) kinds.now))) }
+        (print_optional name.now (print_filled (map print_kind (map (λ kind. kind.0) kinds.now))))) }
 {
     if kinds.is_empty() {
         return Ok(first);
     }
     put_name(out, first, name)?;
-    let mut none = true;
-    for kind in kinds {
-        put_separator(out, none)?;
-        put_attribute(out, *kind)?;
-        none = false;
-    }
-    put_end(out, none)?;
+    put_kind_set(out, kinds)?;
     Ok(false)
 }
 
@@ -137,22 +161,30 @@ pub(crate) fn put_value(out: &mut String, pair: &AttributeTypeAndValue) -> Resul
     Ok(())
 }
 
-// Writes a set of types with values, where there are some.
+// Writes types with values in braces.
+fn put_value_set(out: &mut String, values: &[AttributeTypeAndValue]) -> Result<(), AllocError>
+    ensures ok { OnOk result (string_bytes out.new ≡ string_bytes out.old ++ text_of (print_braces (map print_value values.now))) }
+{
+    let mut first = true;
+    for pair in values {
+        put_separator(out, first)?;
+        put_value(out, pair)?;
+        first = false;
+    }
+    put_end(out, first)?;
+    Ok(())
+}
+
+// Writes a component of types with values, where there are some.
 fn put_values(out: &mut String, first: bool, values: &[AttributeTypeAndValue]) -> Result<bool, AllocError>
     ensures ok { IfOk result (λ next. PutsMembers (string_bytes out.old) (string_bytes out.new) first next
-        (print_set (codes "attributeValue") print_value values.now)) }
+        (print_optional (codes "attributeValue") (print_filled (map print_value values.now)))) }
 {
     if values.is_empty() {
         return Ok(first);
     }
     put_name(out, first, "attributeValue")?;
-    let mut none = true;
-    for pair in values {
-        put_separator(out, none)?;
-        put_value(out, pair)?;
-        none = false;
-    }
-    put_end(out, none)?;
+    put_value_set(out, values)?;
     Ok(false)
 }
 
@@ -216,9 +248,8 @@ pub(crate) fn put_user_permission(out: &mut String, permission: &UserPermission)
 }
 
 // Writes item permissions in braces.
-fn put_item_permissions(alloc: Global, out: &mut String, permissions: &[ItemPermission]) -> Result<(), AllocError>
-    ensures ok { OnOk result (string_bytes out.new
-        ≡ string_bytes out.old ++ text_of (print_braces (map print_item_permission (map item_permission_of permissions.now)))) }
+fn put_item_permission_set(alloc: Global, out: &mut String, permissions: &[ItemPermission]) -> Result<(), AllocError>
+    ensures ok { OnOk result (string_bytes out.new ≡ string_bytes out.old ++ text_of (print_braces (map print_item_permission (map item_permission_of permissions.now)))) }
 {
     let mut first = true;
     for permission in permissions {
@@ -231,9 +262,8 @@ fn put_item_permissions(alloc: Global, out: &mut String, permissions: &[ItemPerm
 }
 
 // Writes user permissions in braces.
-fn put_user_permissions(out: &mut String, permissions: &[UserPermission]) -> Result<(), AllocError>
-    ensures ok { OnOk result (string_bytes out.new
-        ≡ string_bytes out.old ++ text_of (print_braces (map print_user_permission (map user_permission_of permissions.now)))) }
+fn put_user_permission_set(out: &mut String, permissions: &[UserPermission]) -> Result<(), AllocError>
+    ensures ok { OnOk result (string_bytes out.new ≡ string_bytes out.old ++ text_of (print_braces (map print_user_permission (map user_permission_of permissions.now)))) }
 {
     let mut first = true;
     for permission in permissions {
@@ -245,28 +275,53 @@ fn put_user_permissions(out: &mut String, permissions: &[UserPermission]) -> Res
     Ok(())
 }
 
+// Writes protected items and the permissions to them.
+fn put_item_first(
+    alloc: Global,
+    out: &mut String,
+    items: &ProtectedItems,
+    permissions: &[ItemPermission],
+) -> Result<(), AllocError>
+    ensures ok { OnOk result (string_bytes out.new ≡ string_bytes out.old
+        ++ text_of (print_item_first (items_of items.now) (map item_permission_of permissions.now))) }
+{
+    put_kind(out, "itemFirst")?;
+    put_name(out, true, "protectedItems")?;
+    put_items(out, items)?;
+    put_name(out, false, "itemPermissions")?;
+    put_item_permission_set(alloc, out, permissions)?;
+    put_end(out, false)?;
+    Ok(())
+}
+
+// Writes users and their permissions.
+fn put_user_first(
+    alloc: Global,
+    out: &mut String,
+    classes: &UserClasses,
+    permissions: &[UserPermission],
+) -> Result<(), AllocError>
+    ensures ok { OnOk result (string_bytes out.new ≡ string_bytes out.old
+        ++ text_of (print_user_first (classes_of classes.now) (map user_permission_of permissions.now))) }
+{
+    put_kind(out, "userFirst")?;
+    put_name(out, true, "userClasses")?;
+    put_classes(alloc, out, classes)?;
+    put_name(out, false, "userPermissions")?;
+    put_user_permission_set(out, permissions)?;
+    put_end(out, false)?;
+    Ok(())
+}
+
 // Writes what an item begins with.
 #[tactic(auto, unfolding(crate::specs::ItemPrinted::print_first))]
 fn put_first(alloc: Global, out: &mut String, first: &First) -> Result<(), AllocError>
     ensures ok { OnOk result (string_bytes out.new ≡ string_bytes out.old ++ text_of (print_first (first_of first.now))) }
 {
     match first {
-        First::ItemFirst(items, permissions) => {
-            put_kind(out, "itemFirst")?;
-            put_name(out, true, "protectedItems")?;
-            put_items(out, items)?;
-            put_name(out, false, "itemPermissions")?;
-            put_item_permissions(alloc, out, permissions)?;
-        }
-        First::UserFirst(classes, permissions) => {
-            put_kind(out, "userFirst")?;
-            put_name(out, true, "userClasses")?;
-            put_classes(alloc, out, classes)?;
-            put_name(out, false, "userPermissions")?;
-            put_user_permissions(out, permissions)?;
-        }
+        First::ItemFirst(items, permissions) => put_item_first(alloc, out, items, permissions)?,
+        First::UserFirst(classes, permissions) => put_user_first(alloc, out, classes, permissions)?,
     }
-    put_end(out, false)?;
     Ok(())
 }
 

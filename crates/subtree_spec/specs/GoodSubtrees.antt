@@ -1,5 +1,5 @@
 -- Subtree specifications as the rules allow them: what reading gives, and what is read again from its printed form.
-use Rattle.std.specs.Prelude.{◌≡◌, ℕ, ◌≤◌, suc, true, Option, Some, None}
+use Rattle.std.specs.Prelude.{◌≡◌, ℕ, ◌≤◌, suc, true, List, Option, Some, None}
 use Prim.Native.Nat.{zero}
 use Rattle.std.specs.List.{AllByRecursion}
 use Rattle.std.specs.List.Sorted.{IsStrictlySortedBy}
