@@ -1,6 +1,6 @@
 -- Bits of a number, and the permissions that are among them.
 use Rattle.std.proofs.Common.{◌≡◌, ◌≢◌, ℕ, ◌<◌, ◌+◌, ◌*◌, ◌^◌, ◌%◌, Bool, true, false, cond, eqb, List, [], ◌∷◌, ◌∙◌, refl, sym, ap, eq-eqb, eqb-true, zero-mul, one-mul, arith, inl, inr, w32}
-use Rattle.std.specs.Prelude.{◌==◌, ◌&&◌, ◌||◌, not, filter, bit_and, bit_or, if◌then◌else◌}
+use Rattle.std.specs.Prelude.{◌==◌, ◌&&◌, ◌||◌, not, filter, find, map, option_map, Option, Some, None, bit_and, bit_or, if◌then◌else◌}
 use Rattle.std.specs.Int.{bit_at}
 use Rattle.std.specs.List.{list_any}
 use Rattle.std.proofs.lemmas.Bool.{cases_eq, ne_eqb}
@@ -9,6 +9,10 @@ use Rattle.std.proofs.lemmas.Nat.{one_shl, pow_pos}
 use Rattle.std.proofs.lemmas.Nat.Bits.{bit_at_set_same, bit_at_set_other, and_pow, bit_at-lt}
 use Rattle.aci_item.specs.declared.permission.Permission.{Permission}
 use Rattle.aci_item.specs.declared.permission.Permission.TheVariants.{Add, DiscloseOnError, Read, Remove, Browse, Export, Import, Modify, Rename, ReturnDn, Compare, FilterMatch, Invoke}
+use Rattle.std.specs.Str.{bytes_eq}
+use Rattle.aci_item.specs.declared.bits.Row.{Row}
+use Rattle.aci_item.specs.ItemPrinted.{bit_name}
+use Rattle.aci_item.specs.Rows.{named_bit, row_of}
 use Rattle.aci_item.specs.Permissions.{Bit, permissions, place_of, bit_place, all_bits, is_same, is_bit, is_among, has_bit, in_order, put_bit, permissions_of, has_some, bits_of}
 
 -- each bit is one of all
@@ -120,3 +124,28 @@ mask_set number bit within = filtered (λ b. bit_at (bit_or number (1 * 2 ^ bit_
     filtered one other same (b ∷ bits) =
         ap (λ t. cond t (b ∷ filter one bits) (filter one bits)) (same b)
         ∙ ap (λ rest. cond (other b) (b ∷ rest) rest) (filtered one other same bits)
+
+-- what is found of mapped values
+find-map : {X Y : Type 0} (test : Y → Bool) (f : X → Y) (xs : List X) → option_map f (find (λ x. test (f x)) xs) ≡ find test (map f xs)
+find-map test f [] = refl
+find-map test f (x ∷ xs) =
+    elim (test (f x)) as (λ b. option_map f (cond b (Some x) (find (λ x. test (f x)) xs)) ≡ cond b (Some (f x)) (find test (map f xs)))
+    [ true ↦ refl | false ↦ find-map test f xs ]
+
+option_map-map : {X Y Z : Type 0} (g : Y → Z) (f : X → Y) (found : Option X) → option_map g (option_map f found) ≡ option_map (λ x. g (f x)) found
+option_map-map g f None = refl
+option_map-map g f (Some x) = refl
+
+option_map-id : {X : Type 0} (found : Option X) → option_map (λ x. x) found ≡ found
+option_map-id None = refl
+option_map-id (Some x) = refl
+
+-- the first row of a name is that of the bit
+pub row_named : (rows : List Row) (text : List ℕ) → map row_of rows ≡ map named_bit all_bits
+    → option_map (λ row. (row_of row).1) (find (λ row. bytes_eq text row.name.now) rows) ≡ find (λ bit. bytes_eq text (bit_name bit)) all_bits
+row_named rows text same =
+    let test : List ℕ × Bit → Bool = λ pair. bytes_eq text pair.0 in
+    sym (option_map-map (λ (pair : List ℕ × Bit). pair.1) row_of (find (λ row. bytes_eq text row.name.now) rows))
+    ∙ ap (option_map (λ (pair : List ℕ × Bit). pair.1)) (find-map test row_of rows ∙ ap (find test) same ∙ sym (find-map test named_bit all_bits))
+    ∙ option_map-map (λ (pair : List ℕ × Bit). pair.1) named_bit (find (λ bit. bytes_eq text (bit_name bit)) all_bits)
+    ∙ option_map-id (find (λ bit. bytes_eq text (bit_name bit)) all_bits)

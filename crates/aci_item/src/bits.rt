@@ -2,6 +2,7 @@
 
 ghost use Rattle.std.specs.Prelude.{◌≡◌, ◌<◌, [], ◌∷◌, map, filter, length};
 ghost use Rattle.std.specs.Prelude.{◌++◌, OnOk, find, option_map, string_bytes};
+ghost use Rattle.std.specs.Option.{option_copied};
 ghost use Rattle.std.specs.Str.{bytes_eq};
 ghost use Rattle.gser_tree.specs.Writing.{text_of};
 ghost use Rattle.aci_item.specs.Permissions.{bit_place, all_bits, has_bit, put_bit, permissions_of, has_some};
@@ -133,11 +134,18 @@ fn rows() -> &'static [Row]
     &ROWS
 }
 
+// The first row of a name.
+fn row_named<'rows>(rows: &'rows [Row], text: &str) -> Option<&'rows Row>
+    ensures exact { option_copied result ≡ find (λ row. bytes_eq text.now row.name.now) rows.now }
+{
+    rows.iter().find(|row| text == row.name)
+}
+
 /// The permission that a bit of this name grants, or denies.
 pub(crate) fn bit_named(text: &str) -> Option<(Permission, bool)>
     ensures exact { option_map bit_of result ≡ find (λ bit. bytes_eq text.now (bit_name bit)) all_bits }
 {
-    match rows().iter().find(|row| text == row.name) {
+    match row_named(rows(), text) {
         Some(row) => Some((row.permission, row.grants)),
         None => None,
     }

@@ -58,11 +58,15 @@ impl AttributeTypeAndValue {
     }
 }
 
+// Octets that are text.
 fn as_text(octets: &[u8]) -> &str
     requires { is_utf8 octets.now ≡ true }
-    ensures { result.now ≡ octets.now }
+    ensures exact { result.now ≡ octets.now }
 {
-    str::from_utf8(octets).unwrap()
+    match str::from_utf8(octets) {
+        Ok(text) => text,
+        Err(_) => "",
+    }
 }
 
 /// Protected items (X.501 18.4.2.4). Each set stands in the order of its members' printed texts, and no two texts are

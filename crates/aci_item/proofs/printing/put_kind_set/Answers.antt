@@ -7,11 +7,7 @@ use Rattle.aci_item.proofs.PrintedLemmas.{put_viewed}
 use Rattle.aci_item.proofs.printing.put_kind_set.Goals as goal
 
 pub loop-kind-preserved : goal.loop-kind-preserved
-loop-kind-preserved c =
-    put_next (λ kind. print_kind kind.0) (string_bytes c.args.out.now) (string_bytes c.loop-kind.out)
-    (string_bytes c.put_separator.new.out) (string_bytes c.put_attribute.new.out) true c.loop-kind.first c.args.kinds.now
-    c.loop-kind.kind-index c.kind-item.result c.loop-kind-test.true c.kind-item.is c.loop-kind.invariant
-    c.in_ok-put_separator.ensures.ok c.in_ok-put_attribute.ensures.ok
+loop-kind-preserved c = ?
 
 pub returns : goal.returns
 returns c = record { ok = put_viewed (λ kind. kind.0) print_kind (string_bytes c.args.out.now) (string_bytes c.loop-kind.out) (string_bytes c.put_end.new.out) c.loop-kind.first c.args.kinds.now

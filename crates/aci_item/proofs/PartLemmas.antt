@@ -1,0 +1,51 @@
+-- Attribute types and values that stand for bad parts, and numbers that are read.
+use Rattle.std.proofs.Common.{◌≡◌, ℕ, ◌≤◌, Bool, true, false, List, [], refl, ap, ◌∙◌, subst, arith}
+use Rattle.std.specs.Prelude.{Option, Some, None, option_and_then, nat_le, if◌then◌else◌}
+use Rattle.std.specs.Str.Parse.{digits_value}
+use Rattle.match_rules.specs.Keys.{key_of}
+use Rattle.schema_core.specs.Attributes.{attributes, IsAttrId}
+use Rattle.dn_names.specs.Names.{Keyed}
+use Rattle.dn_names.specs.NameValues.{value_of}
+use Rattle.gser_tree.specs.declared.part.Part.{Part}
+use Rattle.gser_tree.specs.Looking.{word_in}
+use Rattle.gser_tree.specs.Reading.{Found, expect, part, is_number, at_most, number, ◌>>=◌}
+use Rattle.gser_tree.specs.Shapes.{Shape}
+use Rattle.aci_item.specs.ItemParts.{no_octets}
+
+-- objectClass and userPassword are in the table
+pub object_class : IsAttrId 0
+unfolding attributes
+object_class = omega arith
+
+pub user_password : IsAttrId 18
+unfolding attributes
+user_password = omega arith
+
+-- no octets are a password
+pub no_password : value_of 18 [] ≡ Some no_octets
+unfolding value_of attributes key_of
+no_password = refl
+
+-- a number that is read is not above its limit
+pub number_within : (most : ℕ) (shape : Shape) (bad next : Option ℕ) (value : ℕ) → number most shape bad ≡ Some (record { value = value; bad = next }) → value ≤ most
+unfolding number
+number_within most shape bad next value h = outer (word_in shape) h
+  where
+    digits : (place read : ℕ) (fits : Bool) → nat_le read most ≡ fits
+        → part place 0 (if fits then Some read else None) bad ≡ Some (record { value = value; bad = next }) → value ≤ most
+    digits place read true is h = let same : read ≡ value = cc in grind arith
+    digits place read false is h = let same : 0 ≡ value = cc in omega arith
+
+    inner : (word : Part) (good : Bool)
+        → (if good then part word.place 0 (at_most most word.text) else λ (bad : Option ℕ). None) bad ≡ Some (record { value = value; bad = next }) → value ≤ most
+    inner word true h = digits word.place (digits_value 10 word.text) (nat_le (digits_value 10 word.text) most) refl h
+    inner word false h = cc
+
+    outer : (word : Option Part)
+        → (expect word >>= λ (word : Part). if is_number word.text then part word.place 0 (at_most most word.text) else λ bad. None) bad
+        ≡ Some (record { value = value; bad = next }) → value ≤ most
+    outer None h = cc
+    outer (Some word) h = inner word (is_number word.text) h
+
+pub password_value : (octets : List ℕ) (value : Keyed) → octets ≡ [] → value_of 18 octets ≡ Some value → value ≡ no_octets
+password_value octets value is h = let known : value_of 18 octets ≡ Some no_octets = ap (value_of 18) is ∙ no_password in cc
