@@ -3,12 +3,13 @@ use Rattle.std.proofs.Common.{◌≡◌, ℕ, ◌≤◌, Bool, true, false, List
 use Rattle.std.specs.Prelude.{Option, Some, None, option_and_then, nat_le, if◌then◌else◌}
 use Rattle.std.specs.Str.Parse.{digits_value}
 use Rattle.match_rules.specs.Keys.{key_of}
+use Rattle.match_rules.specs.Syntaxes.{is_of}
 use Rattle.schema_core.specs.Attributes.{attributes, IsAttrId}
 use Rattle.dn_names.specs.Names.{Keyed}
 use Rattle.dn_names.specs.NameValues.{value_of}
 use Rattle.gser_tree.specs.declared.part.Part.{Part}
 use Rattle.gser_tree.specs.Looking.{word_in}
-use Rattle.gser_tree.specs.Reading.{Found, expect, part, is_number, at_most, number, ◌>>=◌}
+use Rattle.gser_tree.specs.Reading.{Found, expect, part, noted, is_number, at_most, number, ◌>>=◌}
 use Rattle.gser_tree.specs.Shapes.{Shape}
 use Rattle.aci_item.specs.ItemParts.{no_octets}
 
@@ -23,8 +24,11 @@ user_password = omega arith
 
 -- no octets are a password
 pub no_password : value_of 18 [] ≡ Some no_octets
-unfolding value_of attributes key_of
+unfolding value_of attributes key_of is_of
 no_password = refl
+
+same_value : (one other : Found ℕ) → Some one ≡ Some other → one.value ≡ other.value
+same_value one other h = let same : one ≡ other = cc in ap (λ (f : Found ℕ). f.value) same
 
 -- a number that is read is not above its limit
 pub number_within : (most : ℕ) (shape : Shape) (bad next : Option ℕ) (value : ℕ) → number most shape bad ≡ Some (record { value = value; bad = next }) → value ≤ most
@@ -33,8 +37,12 @@ number_within most shape bad next value h = outer (word_in shape) h
   where
     digits : (place read : ℕ) (fits : Bool) → nat_le read most ≡ fits
         → part place 0 (if fits then Some read else None) bad ≡ Some (record { value = value; bad = next }) → value ≤ most
-    digits place read true is h = let same : read ≡ value = cc in grind arith
-    digits place read false is h = let same : 0 ≡ value = cc in omega arith
+    digits place read true is h =
+        let same : read ≡ value = same_value (record { value = read; bad = bad }) (record { value = value; bad = next }) h in
+        grind arith
+    digits place read false is h =
+        let same : 0 ≡ value = same_value (record { value = 0; bad = noted bad place }) (record { value = value; bad = next }) h in
+        omega arith
 
     inner : (word : Part) (good : Bool)
         → (if good then part word.place 0 (at_most most word.text) else λ (bad : Option ℕ). None) bad ≡ Some (record { value = value; bad = next }) → value ≤ most

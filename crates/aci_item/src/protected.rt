@@ -1,7 +1,7 @@
 //! Protected items.
 
 ghost use Rattle.std.specs.Prelude.{◌≡◌, true};
-ghost use Rattle.std.specs.Str.{is_utf8};
+ghost use Rattle.std.specs.Str.{IsUtf8, is_utf8};
 
 use dn_names::Value;
 use schema_core::AttrId;
@@ -60,13 +60,10 @@ impl AttributeTypeAndValue {
 
 // Octets that are text.
 fn as_text(octets: &[u8]) -> &str
-    requires { is_utf8 octets.now ≡ true }
+    requires { IsUtf8 octets.now }
     ensures exact { result.now ≡ octets.now }
 {
-    match str::from_utf8(octets) {
-        Ok(text) => text,
-        Err(_) => "",
-    }
+    str::from_utf8(octets).unwrap()
 }
 
 /// Protected items (X.501 18.4.2.4). Each set stands in the order of its members' printed texts, and no two texts are

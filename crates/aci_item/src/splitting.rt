@@ -107,13 +107,14 @@ fn user_tuples(
 {
     let mut tuples = Vec::new(alloc);
     for permission in permissions {
+        let precedence = permission.precedence.unwrap_or(item.precedence);
         let tuple = AciTuple {
             classes: classes.clone()?,
             level: item.level,
             items: permission.items.clone()?,
             bits: permission.bits.copy(),
             grants: true,
-            precedence: permission.precedence.unwrap_or(item.precedence),
+            precedence,
         };
         put_split(&mut tuples, tuple)?;
     }

@@ -7,4 +7,4 @@ pub make_value-requires : goal.make_value-requires
 make_value-requires c = user_password
 
 pub returns-in-Ok : goal.returns-in-Ok
-returns-in-Ok c = record { ok = password_value c.new.result.items c.in-Ok.value c.new.ensures c.in-Ok.ensures.ok }
+returns-in-Ok c = record { ok = password_value c.new.result.items c.in-Ok.value c.new.ensures.items c.in-Ok.ensures.ok }
