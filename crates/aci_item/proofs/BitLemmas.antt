@@ -149,3 +149,10 @@ row_named rows text same =
     ∙ ap (option_map (λ (pair : List ℕ × Bit). pair.1)) (find-map test row_of rows ∙ ap (find test) same ∙ sym (find-map test named_bit all_bits))
     ∙ option_map-map (λ (pair : List ℕ × Bit). pair.1) named_bit (find (λ bit. bytes_eq text (bit_name bit)) all_bits)
     ∙ option_map-id (find (λ bit. bytes_eq text (bit_name bit)) all_bits)
+
+-- there are some permissions that pass a test where one passes it
+pub some_filtered : (test : Permission → Bool) (some : List Permission) → has_some (filter test some) ≡ list_any test some
+some_filtered test [] = refl
+some_filtered test (permission ∷ rest) =
+    elim (test permission) as (λ b. has_some (cond b (permission ∷ filter test rest) (filter test rest)) ≡ (b || list_any test rest))
+    [ true ↦ refl | false ↦ some_filtered test rest ]

@@ -6,9 +6,9 @@ use Rattle.aci_item.specs.declared.level.Level.TheVariants.{Simple}
 use Rattle.aci_item.specs.declared.permission.Permission.{Permission}
 use Rattle.aci_item.specs.declared.permission.Permission.TheVariants as permission
 use Rattle.aci_item.specs.Permissions.{Bit, bits_of, in_order}
-use Rattle.aci_item.specs.Items.{UserClasses, ProtectedItems, ItemPermission, Item, ItemFirst}
+use Rattle.aci_item.specs.Items.{UserClasses, ProtectedItems, ItemPermission, First, Item, ItemFirst}
 use Rattle.aci_item.specs.AciTuples.{AciTuple, tuples_of_item}
-use Rattle.aci_item.specs.ItemPrinted.{bit_name, print_classes, print_items, print_item_permission, print_first, print_item}
+use Rattle.aci_item.specs.ItemPrinted.{bit_name, print_classes, print_items, print_item_permission, print_first}
 use Rattle.aci_item.specs.Sets.{sorted}
 
 granted : Permission → Bit
@@ -60,6 +60,9 @@ its_tuples : tuples_of_item an_item ≡
 unfolding tuples_of_item an_item granted denied
 its_tuples = refl
 
-its_text : text_of (print_item an_item) ≡ codes "{ identificationTag \"t\", precedence 10, authenticationLevel basicLevels:{ level simple }, itemOrUserFirst itemFirst:{ protectedItems { entry NULL }, itemPermissions { { precedence 20, userClasses { allUsers NULL }, grantsAndDenials { denyAdd, grantRead } }, { userClasses { allUsers NULL }, grantsAndDenials { denyRead } } } } }"
-unfolding an_item everyone entries granted denied print_item print_first print_items print_classes print_item_permission
+an_item_without_numbers : First
+an_item_without_numbers = ItemFirst entries (record { precedence = None; classes = everyone; bits = denied permission.Read ∷ [] } ∷ [])
+
+its_text : text_of (print_first an_item_without_numbers) ≡ codes "itemFirst:{ protectedItems { entry NULL }, itemPermissions { { userClasses { allUsers NULL }, grantsAndDenials { denyRead } } } }"
+unfolding an_item_without_numbers everyone entries denied print_first print_items print_classes print_item_permission
 its_text = refl

@@ -3,4 +3,6 @@ pub mod TupleLemmas
 pub mod SetLemmas
 pub mod PrintedLemmas
 pub mod PartLemmas
+pub mod SortedLemmas
+pub mod ReadLemmas
 mod Examples

@@ -57,14 +57,16 @@ module _ {A : Type 0} (text : A → List ℕ) where
     where
       same_value : (one other : Found (List A)) → Some one ≡ Some other → one.value ≡ other.value
       same_value one other h = let same : one ≡ other = cc in ap (λ (f : Found (List A)). f.value) same
-  gathered_sorted reader (shape ∷ shapes) seen values bad next sorted h = inner (reader shape bad) h
+  gathered_sorted reader (shape ∷ shapes) seen values bad next sorted h =
+      inner (reader shape bad) (λ found. gathered_sorted reader shapes (put_member text found.value seen) values found.bad next (put_member-sorted found.value seen sorted)) h
     where
       inner : (found : Option (Found A))
+          → ((found : Found A) → gather_into (put_member text) reader (put_member text found.value seen) shapes found.bad ≡ Some (record { value = values; bad = next })
+          → IsStrictlySortedBy (by_text text) values)
           → option_and_then (λ (f : Found A). gather_into (put_member text) reader (put_member text f.value seen) shapes f.bad) found
           ≡ Some (record { value = values; bad = next }) → IsStrictlySortedBy (by_text text) values
-      inner None h = cc
-      inner (Some found) h =
-          gathered_sorted reader shapes (put_member text found.value seen) values found.bad next (put_member-sorted found.value seen sorted) h
+      inner None rest h = cc
+      inner (Some found) rest h = rest found h
 
 none_sorted : {A : Type 0} (text : A → List ℕ) → IsStrictlySortedBy (by_text text) []
 unfolding IsStrictlySortedBy

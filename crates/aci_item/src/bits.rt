@@ -2,6 +2,7 @@
 
 ghost use Rattle.std.specs.Prelude.{◌≡◌, ◌<◌, [], ◌∷◌, map, filter, length};
 ghost use Rattle.std.specs.Prelude.{◌++◌, OnOk, find, option_map, string_bytes};
+ghost use Rattle.std.specs.List.{list_any};
 ghost use Rattle.std.specs.Option.{option_copied};
 ghost use Rattle.std.specs.Str.{bytes_eq};
 ghost use Rattle.gser_tree.specs.Writing.{text_of};
@@ -72,7 +73,14 @@ impl Bits {
     pub fn has_some(&self, grants: bool) -> bool
         ensures exact { result ≡ has_some (permissions_of grants self.now) }
     {
-        Permission::all()
+        self.has_any(Permission::all(), grants)
+    }
+
+    // Whether any of the permissions is granted, or denied.
+    fn has_any(&self, permissions: &[Permission], grants: bool) -> bool
+        ensures exact { result ≡ list_any (λ permission. has_bit permission grants self.now) permissions.now }
+    {
+        permissions
             .iter()
             .any(|permission| self.has(*permission, grants))
     }

@@ -4,6 +4,7 @@
 mod bits;
 mod classes;
 mod item;
+mod laws;
 mod level;
 mod members;
 mod parts;
@@ -17,6 +18,7 @@ mod splitting;
 pub use bits::Bits;
 pub use classes::UserClasses;
 pub use item::{AciItem, First, ItemPermission, UserPermission};
+pub use laws::{sets_are_in_order, sets_are_their_members_sorted};
 pub use level::Level;
 pub use permission::Permission;
 pub use printing::print;
