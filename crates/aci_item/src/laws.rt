@@ -2,18 +2,16 @@
 
 ghost use Rattle.std.specs.Prelude.{◌≡◌, ℕ, List, Option, Some};
 ghost use Rattle.std.specs.List.Sorted.{IsStrictlySortedBy};
-ghost use Rattle.gser_tree.specs.Reading.{give, ◌>>=◌};
 ghost use Rattle.gser_tree.specs.Shapes.{Shape};
 ghost use Rattle.gser_tree.specs.Writing.{text_of};
 ghost use Rattle.dn_names.specs.Names.{RdnSequence, TypeAndValue};
-ghost use Rattle.subtree_spec.specs.Parts.{set_of};
 ghost use Rattle.subtree_spec.specs.Subtrees.{Subtree};
 ghost use Rattle.subtree_spec.specs.SubtreePrinted.{print_subtree};
 ghost use Rattle.aci_item.specs.Items.{ItemPermission, UserPermission};
 ghost use Rattle.aci_item.specs.ItemParts.{user, kind, kind_and_value, class_subtree};
 ghost use Rattle.aci_item.specs.ItemPrinted.{print_user, print_kind, print_value, print_item_permission, print_user_permission};
-ghost use Rattle.aci_item.specs.AciText.{sorted_set, item_permission, user_permission};
-ghost use Rattle.aci_item.specs.Sets.{by_text, sorted};
+ghost use Rattle.aci_item.specs.AciText.{sorted_set, members_sorted, item_permission, user_permission};
+ghost use Rattle.aci_item.specs.Sets.{by_text};
 
 /// A set that is read stands in the order of its members' printed texts, and no two texts are equal.
 pub fn sets_are_in_order()
@@ -39,10 +37,9 @@ pub fn sets_are_in_order()
 
 /// A set is its members in the order of the text, sorted by their printed texts: of equal texts the first stays.
 pub fn sets_are_their_members_sorted()
-    ensures users { (shape : Shape) (bad : Option ℕ) → sorted_set print_user user shape bad
-        ≡ (set_of user shape >>= λ names. give (sorted (λ name. text_of (print_user name)) names)) bad }
+    ensures users { (shape : Shape) (bad : Option ℕ) → sorted_set print_user user shape bad ≡ members_sorted print_user user shape bad }
     ensures item_permissions { (shape : Shape) (bad : Option ℕ) → sorted_set print_item_permission item_permission shape bad
-        ≡ (set_of item_permission shape >>= λ permissions. give (sorted (λ p. text_of (print_item_permission p)) permissions)) bad }
+        ≡ members_sorted print_item_permission item_permission shape bad }
     ensures user_permissions { (shape : Shape) (bad : Option ℕ) → sorted_set print_user_permission user_permission shape bad
-        ≡ (set_of user_permission shape >>= λ permissions. give (sorted (λ p. text_of (print_user_permission p)) permissions)) bad }
+        ≡ members_sorted print_user_permission user_permission shape bad }
 {}

@@ -1,9 +1,9 @@
 //! Items split into tuples.
 
-ghost use Rattle.std.specs.Prelude.{◌≡◌, [], ◌∷◌, ◌++◌, IfOk, OnOk, map};
+ghost use Rattle.std.specs.Prelude.{◌≡◌, true, false, [], ◌∷◌, ◌++◌, IfOk, OnOk, map};
 ghost use Rattle.std.specs.List.{list_any};
 ghost use Rattle.aci_item.specs.Permissions.{is_same};
-ghost use Rattle.aci_item.specs.AciTuples.{kept, split, split_first, tuples_of_item};
+ghost use Rattle.aci_item.specs.AciTuples.{kept, split, split_first, tuple_with, tuples_of_item};
 ghost use Rattle.aci_item.specs.Items.{ItemFirst, UserFirst};
 ghost use Rattle.aci_item.specs.Views.{classes_of, items_of, item_permission_of, user_permission_of, item_of_code, tuple_of};
 
@@ -48,24 +48,43 @@ fn put_tuple(tuples: &mut Vec<AciTuple>, tuple: AciTuple) -> Result<(), AllocErr
     Ok(())
 }
 
-// Puts what the bits of a tuple grant, and then what they deny.
-fn put_split(tuples: &mut Vec<AciTuple>, tuple: AciTuple) -> Result<(), AllocError>
-    ensures ok { OnOk result (map tuple_of tuples.new.items ≡ map tuple_of tuples.old.items
-        ++ kept (split tuple.level tuple.precedence (classes_of tuple.classes.value) (items_of tuple.items.value) tuple.bits)) }
+// What bits grant, or what they deny.
+fn make_tuple(
+    level: Level,
+    precedence: u8,
+    classes: &Rc<UserClasses>,
+    items: &Rc<ProtectedItems>,
+    bits: &Bits,
+    grants: bool,
+) -> Result<AciTuple, AllocError>
+    ensures ok { IfOk result (λ tuple. tuple_of tuple
+        ≡ tuple_with level precedence (classes_of classes.now.value) (items_of items.now.value) bits.now grants) }
 {
-    let denying = AciTuple {
-        classes: tuple.classes.clone()?,
-        level: tuple.level,
-        items: tuple.items.clone()?,
-        bits: tuple.bits.copy(),
-        grants: false,
-        precedence: tuple.precedence,
-    };
-    let granting = AciTuple {
-        grants: true,
-        ..tuple
-    };
+    Ok(AciTuple {
+        classes: classes.clone()?,
+        level,
+        items: items.clone()?,
+        bits: bits.copy(),
+        grants,
+        precedence,
+    })
+}
+
+// Puts what bits grant, and then what they deny.
+fn put_split(
+    tuples: &mut Vec<AciTuple>,
+    level: Level,
+    precedence: u8,
+    classes: &Rc<UserClasses>,
+    items: &Rc<ProtectedItems>,
+    bits: &Bits,
+) -> Result<(), AllocError>
+    ensures ok { OnOk result (map tuple_of tuples.new.items ≡ map tuple_of tuples.old.items
+        ++ kept (split level precedence (classes_of classes.now.value) (items_of items.now.value) bits.now)) }
+{
+    let granting = make_tuple(level, precedence, classes, items, bits, true)?;
     put_tuple(tuples, granting)?;
+    let denying = make_tuple(level, precedence, classes, items, bits, false)?;
     put_tuple(tuples, denying)?;
     Ok(())
 }
@@ -82,15 +101,8 @@ fn item_tuples(
 {
     let mut tuples = Vec::new(alloc);
     for permission in permissions {
-        let tuple = AciTuple {
-            classes: permission.classes.clone()?,
-            level: item.level,
-            items: items.clone()?,
-            bits: permission.bits.copy(),
-            grants: true,
-            precedence: permission.precedence.unwrap_or(item.precedence),
-        };
-        put_split(&mut tuples, tuple)?;
+        let precedence = permission.precedence.unwrap_or(item.precedence);
+        put_split(&mut tuples, item.level, precedence, &permission.classes, items, &permission.bits)?;
     }
     Ok(tuples)
 }
@@ -107,16 +119,8 @@ fn user_tuples(
 {
     let mut tuples = Vec::new(alloc);
     for permission in permissions {
-        let precedence = permission.precedence.unwrap_or(item.precedence);
-        let tuple = AciTuple {
-            classes: classes.clone()?,
-            level: item.level,
-            items: permission.items.clone()?,
-            bits: permission.bits.copy(),
-            grants: true,
-            precedence,
-        };
-        put_split(&mut tuples, tuple)?;
+        let own = permission.precedence.unwrap_or(item.precedence);
+        put_split(&mut tuples, item.level, own, classes, &permission.items, &permission.bits)?;
     }
     Ok(tuples)
 }
