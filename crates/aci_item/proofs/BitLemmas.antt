@@ -95,11 +95,11 @@ mask_test number place within =
     inner : (b : ℕ) → b < 2 → not (eqb (b * 2 ^ place) 0) ≡ (b == 1)
     inner b small = elim (cases_eq b 0) [
       | inl absent ↦
-        ap not (eq-eqb (b * 2 ^ place) 0 (ap (λ x. x * 2 ^ place) absent ∙ zero-mul (2 ^ place))) ∙ sym (ne_eqb b 1 (λ e. omega arith))
+          ap not (eq-eqb (b * 2 ^ place) 0 (ap (λ x. x * 2 ^ place) absent ∙ zero-mul (2 ^ place))) ∙ sym (ne_eqb b 1 (λ e. omega arith))
       | inr apart ↦
-        let one : b ≡ 1 = omega arith in
-        let power : b * 2 ^ place ≡ 2 ^ place = ap (λ x. x * 2 ^ place) one ∙ one-mul (2 ^ place) in
-        ap not (ne_eqb (b * 2 ^ place) 0 (λ e. omega (arith, power, pow_pos place, e))) ∙ sym (eq-eqb b 1 one)
+          let one : b ≡ 1 = omega arith in
+          let power : b * 2 ^ place ≡ 2 ^ place = ap (λ x. x * 2 ^ place) one ∙ one-mul (2 ^ place) in
+          ap not (ne_eqb (b * 2 ^ place) 0 (λ e. omega (arith, power, pow_pos place, e))) ∙ sym (eq-eqb b 1 one)
     ]
 
 -- a bit more
@@ -110,13 +110,13 @@ mask_set number bit within = filtered (λ b. bit_at (bit_or number (1 * 2 ^ bit_
     each : (b : Bit) → (bit_at (bit_or number (1 * 2 ^ bit_place bit % 2 ^ 32)) (bit_place b) == 1) ≡ is_among (bit ∷ bits_of number) b
     each b = elim (cases_eq (bit_place b) (bit_place bit)) [
       | inl same ↦
-        ap (λ p. bit_at (bit_or number (1 * 2 ^ bit_place bit % 2 ^ 32)) p == 1) same
-        ∙ ap (λ n. n == 1) (bit_at_set_same w32 number (bit_place bit) within)
-        ∙ sym (ap (λ t. t || is_among (bits_of number) b) (eq-eqb (bit_place b) (bit_place bit) same))
+          ap (λ p. bit_at (bit_or number (1 * 2 ^ bit_place bit % 2 ^ 32)) p == 1) same
+          ∙ ap (λ n. n == 1) (bit_at_set_same w32 number (bit_place bit) within)
+          ∙ sym (ap (λ t. t || is_among (bits_of number) b) (eq-eqb (bit_place b) (bit_place bit) same))
       | inr apart ↦
-        ap (λ n. n == 1) (bit_at_set_other w32 number (bit_place bit) within (bit_place b) apart)
-        ∙ sym (among_filtered (λ place. bit_at number place == 1) b)
-        ∙ sym (ap (λ t. t || is_among (bits_of number) b) (ne_eqb (bit_place b) (bit_place bit) apart))
+          ap (λ n. n == 1) (bit_at_set_other w32 number (bit_place bit) within (bit_place b) apart)
+          ∙ sym (among_filtered (λ place. bit_at number place == 1) b)
+          ∙ sym (ap (λ t. t || is_among (bits_of number) b) (ne_eqb (bit_place b) (bit_place bit) apart))
     ]
 
     filtered : (one other : Bit → Bool) → ((b : Bit) → one b ≡ other b) → (bits : List Bit) → filter one bits ≡ filter other bits

@@ -48,8 +48,8 @@ an_item = record {
   precedence = 10;
   level = Simple;
   first = ItemFirst entries (
-    record { precedence = Some 20; classes = everyone; bits = denied permission.Add ∷ granted permission.Read ∷ [] }
-    ∷ record { precedence = None; classes = everyone; bits = denied permission.Read ∷ [] } ∷ []);
+      record { precedence = Some 20; classes = everyone; bits = denied permission.Add ∷ granted permission.Read ∷ [] }
+      ∷ record { precedence = None; classes = everyone; bits = denied permission.Read ∷ [] } ∷ []);
 }
 
 -- the grants of a permission come first; a tuple without permissions is none

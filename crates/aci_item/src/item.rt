@@ -3,7 +3,6 @@
 use crate::bits::Bits;
 use crate::classes::UserClasses;
 use crate::level::Level;
-
 use crate::protected::ProtectedItems;
 use std::rc::Rc;
 

@@ -180,7 +180,11 @@ fn assertion(alloc: Global, kind: AttrId, tree: &Tree, bad: &mut Bad) -> Result<
 
 /// A type with a value.
 #[tactic(auto, unfolding(crate::specs::ItemParts::kind_and_value))]
-pub(crate) fn kind_and_value(alloc: Global, tree: &Tree, bad: &mut Bad) -> Result<AttributeTypeAndValue, Stop>
+pub(crate) fn kind_and_value(
+    alloc: Global,
+    tree: &Tree,
+    bad: &mut Bad,
+) -> Result<AttributeTypeAndValue, Stop>
     ensures read { Reads (λ pair. pair) result bad.new.first (kind_and_value (shape_of tree.now) bad.old.first) }
 {
     let trees = tree.members().ok_or(Stop::Misfit)?;

@@ -58,7 +58,13 @@ fn put_user_set(alloc: Global, out: &mut String, users: &[Dn]) -> Result<(), All
 }
 
 // Writes a component of users, where there are some.
-fn put_users(alloc: Global, out: &mut String, first: bool, name: &str, users: &[Dn]) -> Result<bool, AllocError>
+fn put_users(
+    alloc: Global,
+    out: &mut String,
+    first: bool,
+    name: &str,
+    users: &[Dn],
+) -> Result<bool, AllocError>
     ensures ok { IfOk result (λ next. PutsMembers (string_bytes out.old) (string_bytes out.new) first next
         (print_optional name.now (print_filled (map print_user users.now)))) }
 {
@@ -85,7 +91,12 @@ fn put_subtree_set(alloc: Global, out: &mut String, subtrees: &[Spec]) -> Result
 }
 
 // Writes a component of subtrees, where there are some.
-fn put_subtrees(alloc: Global, out: &mut String, first: bool, subtrees: &[Spec]) -> Result<bool, AllocError>
+fn put_subtrees(
+    alloc: Global,
+    out: &mut String,
+    first: bool,
+    subtrees: &[Spec],
+) -> Result<bool, AllocError>
     ensures ok { IfOk result (λ next. PutsMembers (string_bytes out.old) (string_bytes out.new) first next
         (print_optional (codes "subtree") (print_filled (map print_subtree (map subtree_of subtrees.now))))) }
 {
@@ -137,7 +148,12 @@ fn put_kind_set(out: &mut String, kinds: &[AttrId]) -> Result<(), AllocError>
 }
 
 // Writes a component of attribute types, where there are some.
-fn put_kinds(out: &mut String, first: bool, name: &str, kinds: &[AttrId]) -> Result<bool, AllocError>
+fn put_kinds(
+    out: &mut String,
+    first: bool,
+    name: &str,
+    kinds: &[AttrId],
+) -> Result<bool, AllocError>
     ensures ok { IfOk result (λ next. PutsMembers (string_bytes out.old) (string_bytes out.new) first next
         (print_optional name.now (print_filled (map print_kind (map (λ kind. kind.0) kinds.now))))) }
 {
@@ -176,7 +192,11 @@ fn put_value_set(out: &mut String, values: &[AttributeTypeAndValue]) -> Result<(
 }
 
 // Writes a component of types with values, where there are some.
-fn put_values(out: &mut String, first: bool, values: &[AttributeTypeAndValue]) -> Result<bool, AllocError>
+fn put_values(
+    out: &mut String,
+    first: bool,
+    values: &[AttributeTypeAndValue],
+) -> Result<bool, AllocError>
     ensures ok { IfOk result (λ next. PutsMembers (string_bytes out.old) (string_bytes out.new) first next
         (print_optional (codes "attributeValue") (print_filled (map print_value values.now)))) }
 {
@@ -197,7 +217,12 @@ fn put_items(out: &mut String, items: &ProtectedItems) -> Result<(), AllocError>
     let first = put_flag(out, first, "allUserAttributeTypes", items.all_kinds)?;
     let first = put_kinds(out, first, "attributeType", &items.kinds)?;
     let first = put_kinds(out, first, "allAttributeValues", &items.all_values)?;
-    let first = put_flag(out, first, "allUserAttributeTypesAndValues", items.all_kinds_and_values)?;
+    let first = put_flag(
+        out,
+        first,
+        "allUserAttributeTypesAndValues",
+        items.all_kinds_and_values,
+    )?;
     let first = put_values(out, first, &items.values)?;
     let first = put_kinds(out, first, "selfValue", &items.self_values)?;
     put_end(out, first)?;
@@ -221,7 +246,11 @@ fn put_precedence(out: &mut String, precedence: Option<u8>) -> Result<bool, Allo
 
 /// Writes an item permission.
 #[tactic(auto, unfolding(crate::specs::ItemPrinted::print_item_permission))]
-pub(crate) fn put_item_permission(alloc: Global, out: &mut String, permission: &ItemPermission) -> Result<(), AllocError>
+pub(crate) fn put_item_permission(
+    alloc: Global,
+    out: &mut String,
+    permission: &ItemPermission,
+) -> Result<(), AllocError>
     ensures ok { OnOk result (string_bytes out.new ≡ string_bytes out.old ++ text_of (print_item_permission (item_permission_of permission.now))) }
 {
     let first = put_precedence(out, permission.precedence)?;
@@ -235,7 +264,10 @@ pub(crate) fn put_item_permission(alloc: Global, out: &mut String, permission: &
 
 /// Writes a user permission.
 #[tactic(auto, unfolding(crate::specs::ItemPrinted::print_user_permission))]
-pub(crate) fn put_user_permission(out: &mut String, permission: &UserPermission) -> Result<(), AllocError>
+pub(crate) fn put_user_permission(
+    out: &mut String,
+    permission: &UserPermission,
+) -> Result<(), AllocError>
     ensures ok { OnOk result (string_bytes out.new ≡ string_bytes out.old ++ text_of (print_user_permission (user_permission_of permission.now))) }
 {
     let first = put_precedence(out, permission.precedence)?;
@@ -248,7 +280,11 @@ pub(crate) fn put_user_permission(out: &mut String, permission: &UserPermission)
 }
 
 // Writes item permissions in braces.
-fn put_item_permission_set(alloc: Global, out: &mut String, permissions: &[ItemPermission]) -> Result<(), AllocError>
+fn put_item_permission_set(
+    alloc: Global,
+    out: &mut String,
+    permissions: &[ItemPermission],
+) -> Result<(), AllocError>
     ensures ok { OnOk result (string_bytes out.new ≡ string_bytes out.old ++ text_of (print_braces (map print_item_permission (map item_permission_of permissions.now)))) }
 {
     let mut first = true;
@@ -262,7 +298,10 @@ fn put_item_permission_set(alloc: Global, out: &mut String, permissions: &[ItemP
 }
 
 // Writes user permissions in braces.
-fn put_user_permission_set(out: &mut String, permissions: &[UserPermission]) -> Result<(), AllocError>
+fn put_user_permission_set(
+    out: &mut String,
+    permissions: &[UserPermission],
+) -> Result<(), AllocError>
     ensures ok { OnOk result (string_bytes out.new ≡ string_bytes out.old ++ text_of (print_braces (map print_user_permission (map user_permission_of permissions.now)))) }
 {
     let mut first = true;

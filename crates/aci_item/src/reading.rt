@@ -161,11 +161,7 @@ fn printed_item_permission(
 }
 
 // The item permissions of a set.
-fn item_permissions(
-    alloc: Global,
-    tree: &Tree,
-    bad: &mut Bad,
-) -> Result<Vec<ItemPermission>, Stop>
+fn item_permissions(alloc: Global, tree: &Tree, bad: &mut Bad) -> Result<Vec<ItemPermission>, Stop>
     ensures read { Reads (λ permissions. map item_permission_of permissions.items) result bad.new.first
         (sorted_set print_item_permission item_permission (shape_of tree.now) bad.old.first) }
 {
@@ -194,11 +190,7 @@ fn printed_user_permission(
 }
 
 // The user permissions of a set.
-fn user_permissions(
-    alloc: Global,
-    tree: &Tree,
-    bad: &mut Bad,
-) -> Result<Vec<UserPermission>, Stop>
+fn user_permissions(alloc: Global, tree: &Tree, bad: &mut Bad) -> Result<Vec<UserPermission>, Stop>
     ensures read { Reads (λ permissions. map user_permission_of permissions.items) result bad.new.first
         (sorted_set print_user_permission user_permission (shape_of tree.now) bad.old.first) }
 {

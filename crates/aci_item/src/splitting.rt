@@ -102,7 +102,14 @@ fn item_tuples(
     let mut tuples = Vec::new(alloc);
     for permission in permissions {
         let precedence = permission.precedence.unwrap_or(item.precedence);
-        put_split(&mut tuples, item.level, precedence, &permission.classes, items, &permission.bits)?;
+        put_split(
+            &mut tuples,
+            item.level,
+            precedence,
+            &permission.classes,
+            items,
+            &permission.bits,
+        )?;
     }
     Ok(tuples)
 }
@@ -120,7 +127,14 @@ fn user_tuples(
     let mut tuples = Vec::new(alloc);
     for permission in permissions {
         let own = permission.precedence.unwrap_or(item.precedence);
-        put_split(&mut tuples, item.level, own, classes, &permission.items, &permission.bits)?;
+        put_split(
+            &mut tuples,
+            item.level,
+            own,
+            classes,
+            &permission.items,
+            &permission.bits,
+        )?;
     }
     Ok(tuples)
 }

@@ -122,14 +122,8 @@ static REFUSALS: [(&str, &str); 33] = [
         "{identificationTag \"t\",precedence 10,authenticationLevel none,itemOrUserFirst userFirst:{userClasses{allUsers},userPermissions{}}}",
         "Text",
     ),
-    (
-        "",
-        "Text",
-    ),
-    (
-        "{ }",
-        "Text",
-    ),
+    ("", "Text"),
+    ("{ }", "Text"),
     (
         "{ identificationTag t, precedence 10, authenticationLevel basicLevels:{ level none }, itemOrUserFirst userFirst:{ userClasses { allUsers NULL }, userPermissions { } } }",
         "Text",
@@ -276,7 +270,10 @@ fn permissions_are_split_into_grants_and_denials(rt: HostRuntime) -> Result<(), 
     )?;
     let mut found = String::new(rt.alloc());
     put_tuples(rt.alloc(), &item, &mut found)?;
-    assert_eq!(rt; found.as_str(), "deny 20 0 false;grant 10 1 true;deny 10 1 true;");
+    assert_eq!(rt;
+        found.as_str(),
+        "deny 20 0 false;grant 10 1 true;deny 10 1 true;"
+    );
     Ok(())
 }
 

@@ -15,5 +15,7 @@ loop-permission-preserved c =
     c.in_ok-put_separator.ensures.ok c.in_ok-put_item_permission.ensures.ok
 
 pub returns : goal.returns
-returns c = record { ok = put_viewed item_permission_of print_item_permission (string_bytes c.args.out.now) (string_bytes c.loop-permission.out) (string_bytes c.put_end.new.out) c.loop-permission.first c.args.permissions.now
-    c.loop-permission.permission-index c.loop-permission-test.false c.loop-permission.invariant c.in_ok-put_end.ensures.ok }
+returns c = record {
+  ok = put_viewed item_permission_of print_item_permission (string_bytes c.args.out.now) (string_bytes c.loop-permission.out) (string_bytes c.put_end.new.out) c.loop-permission.first c.args.permissions.now
+      c.loop-permission.permission-index c.loop-permission-test.false c.loop-permission.invariant c.in_ok-put_end.ensures.ok;
+}

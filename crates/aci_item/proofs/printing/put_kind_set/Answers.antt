@@ -19,5 +19,7 @@ loop-kind-preserved c =
     c.in_ok-put_separator.ensures.ok c.in_ok-put_attribute.ensures.ok
 
 pub returns : goal.returns
-returns c = record { ok = put_viewed (λ kind. kind.0) print_kind (string_bytes c.args.out.now) (string_bytes c.loop-kind.out) (string_bytes c.put_end.new.out) c.loop-kind.first c.args.kinds.now
-    c.loop-kind.kind-index c.loop-kind-test.false c.loop-kind.invariant c.in_ok-put_end.ensures.ok }
+returns c = record {
+  ok = put_viewed (λ kind. kind.0) print_kind (string_bytes c.args.out.now) (string_bytes c.loop-kind.out) (string_bytes c.put_end.new.out) c.loop-kind.first c.args.kinds.now
+      c.loop-kind.kind-index c.loop-kind-test.false c.loop-kind.invariant c.in_ok-put_end.ensures.ok;
+}

@@ -15,5 +15,7 @@ loop-spec-preserved c =
     c.in_ok-put_separator.ensures.ok c.in_ok-print.ensures.ok
 
 pub returns : goal.returns
-returns c = record { ok = put_viewed subtree_of print_subtree (string_bytes c.args.out.now) (string_bytes c.loop-spec.out) (string_bytes c.put_end.new.out) c.loop-spec.first c.args.subtrees.now
-    c.loop-spec.spec-index c.loop-spec-test.false c.loop-spec.invariant c.in_ok-put_end.ensures.ok }
+returns c = record {
+  ok = put_viewed subtree_of print_subtree (string_bytes c.args.out.now) (string_bytes c.loop-spec.out) (string_bytes c.put_end.new.out) c.loop-spec.first c.args.subtrees.now
+      c.loop-spec.spec-index c.loop-spec-test.false c.loop-spec.invariant c.in_ok-put_end.ensures.ok;
+}

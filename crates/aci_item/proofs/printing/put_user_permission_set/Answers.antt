@@ -15,5 +15,7 @@ loop-permission-preserved c =
     c.in_ok-put_separator.ensures.ok c.in_ok-put_user_permission.ensures.ok
 
 pub returns : goal.returns
-returns c = record { ok = put_viewed user_permission_of print_user_permission (string_bytes c.args.out.now) (string_bytes c.loop-permission.out) (string_bytes c.put_end.new.out) c.loop-permission.first c.args.permissions.now
-    c.loop-permission.permission-index c.loop-permission-test.false c.loop-permission.invariant c.in_ok-put_end.ensures.ok }
+returns c = record {
+  ok = put_viewed user_permission_of print_user_permission (string_bytes c.args.out.now) (string_bytes c.loop-permission.out) (string_bytes c.put_end.new.out) c.loop-permission.first c.args.permissions.now
+      c.loop-permission.permission-index c.loop-permission-test.false c.loop-permission.invariant c.in_ok-put_end.ensures.ok;
+}

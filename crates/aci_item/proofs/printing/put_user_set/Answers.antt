@@ -14,5 +14,7 @@ loop-user-preserved c =
     c.in_ok-put_separator.ensures.ok c.in_ok-put_user.ensures.ok
 
 pub returns : goal.returns
-returns c = record { ok = put_members print_user (string_bytes c.args.out.now) (string_bytes c.loop-user.out) (string_bytes c.put_end.new.out) c.loop-user.first c.args.users.now
-    c.loop-user.user-index c.loop-user-test.false c.loop-user.invariant c.in_ok-put_end.ensures.ok }
+returns c = record {
+  ok = put_members print_user (string_bytes c.args.out.now) (string_bytes c.loop-user.out) (string_bytes c.put_end.new.out) c.loop-user.first c.args.users.now
+      c.loop-user.user-index c.loop-user-test.false c.loop-user.invariant c.in_ok-put_end.ensures.ok;
+}

@@ -14,5 +14,7 @@ loop-pair-preserved c =
     c.in_ok-put_separator.ensures.ok c.in_ok-put_value.ensures.ok
 
 pub returns : goal.returns
-returns c = record { ok = put_members print_value (string_bytes c.args.out.now) (string_bytes c.loop-pair.out) (string_bytes c.put_end.new.out) c.loop-pair.first c.args.values.now
-    c.loop-pair.pair-index c.loop-pair-test.false c.loop-pair.invariant c.in_ok-put_end.ensures.ok }
+returns c = record {
+  ok = put_members print_value (string_bytes c.args.out.now) (string_bytes c.loop-pair.out) (string_bytes c.put_end.new.out) c.loop-pair.first c.args.values.now
+      c.loop-pair.pair-index c.loop-pair-test.false c.loop-pair.invariant c.in_ok-put_end.ensures.ok;
+}
