@@ -1,15 +1,13 @@
 -- Numbers in decimal are read as they were.
-use Rattle.std.proofs.Common.{◌≡◌, ℕ, ◌<◌, ◌≤◌, ◌^◌, Bool, true, false, ◌&&◌, ◌||◌, List, [], ◌∷◌, length, get_or, Some, None, refl, ap, sym, ◌∙◌, arith}
-use Rattle.std.specs.Prelude.{◌==◌, not, nat_le, decimal, if◌then◌else◌}
+use Rattle.std.proofs.Common.{◌≡◌, ℕ, ◌<◌, ◌≤◌, ◌^◌, Bool, true, false, List, [], ◌∷◌, length, get_or, Some, None, refl, ap, ◌∙◌, arith}
+use Rattle.std.specs.Prelude.{◌==◌, nat_le, decimal, if◌then◌else◌}
 use Rattle.std.proofs.lemmas.Bool.Decides.{nat_tests}
 use Rattle.std.proofs.lemmas.Fmt.{digits_decimal, digits_value-decimal, decimal_digit, decimal_nonempty, first_decimal}
-use Rattle.std.specs.Char.{is_ascii_digit}
+use Rattle.std.specs.Char.{is_ascii_digit, is_ascii_alphanumeric}
 use Rattle.std.specs.List.{list_all}
 use Rattle.std.specs.Str.Parse.{digits_value}
 use Rattle.gser_tree.specs.declared.marks.Class.TheVariants.{Letter}
 use Rattle.gser_tree.specs.Lexemes.{class_of, is_letter, is_word}
-use Rattle.gser_tree.specs.TextOf.{part_at}
-use Rattle.gser_tree.specs.Shapes as shapes
 use Rattle.gser_tree.specs.Looking.{word_in}
 use Rattle.gser_tree.specs.Reading.{is_number, at_most, number, part, expect}
 use Rattle.gser_tree.specs.Writing.{print_number}
@@ -17,11 +15,30 @@ use Rattle.gser_tree.proofs.ClassLemmas.{and_parts, and_both, are_letters}
 use Rattle.gser_tree.proofs.NumberLemmas.{own}
 use Rattle.gser_tree.proofs.PrintsLemmas.{word_is_written}
 use Rattle.gser_tree.proofs.ReadsLemmas.{IsRead, Prints}
-use Rattle.gser_tree.proofs.OnlyLemmas.{Only, Gives, gives_both, gives_choice, gives_expected, gives_part, gives_nothing}
+use Rattle.gser_tree.proofs.OnlyLemmas.{Only, gives_both, gives_choice, gives_expected, gives_part, gives_nothing}
 
 digit_letter : (x : ℕ) → is_ascii_digit x ≡ true → class_of x ≡ Letter
 unfolding class_of
 digit_letter x h = grind (arith, nat_tests)
+
+-- octets of words
+pub is_letter-digit : (x : ℕ) → is_ascii_digit x ≡ true → is_letter (class_of x) ≡ true
+is_letter-digit x h = ap is_letter (digit_letter x h)
+
+alphanumeric_letter : (x : ℕ) → is_ascii_alphanumeric x ≡ true → class_of x ≡ Letter
+unfolding class_of
+alphanumeric_letter x h = grind (arith, nat_tests)
+
+pub is_letter-alphanumeric : (x : ℕ) → is_ascii_alphanumeric x ≡ true → is_letter (class_of x) ≡ true
+is_letter-alphanumeric x h = ap is_letter (alphanumeric_letter x h)
+
+pub is_letter-hyphen : is_letter (class_of 45) ≡ true
+unfolding class_of
+is_letter-hyphen = refl
+
+pub is_letter-dot : is_letter (class_of 46) ≡ true
+unfolding class_of
+is_letter-dot = refl
 
 digits_letters : (text : List ℕ) → list_all is_ascii_digit text ≡ true → are_letters text ≡ true
 digits_letters [] h = refl

@@ -17,4 +17,5 @@ pub mod PrintsLemmas
 pub mod ReadsLemmas
 pub mod OnlyLemmas
 pub mod DecimalLemmas
+pub mod NestedLemmas
 pub mod Theorems

@@ -7,5 +7,8 @@ pub use Rattle.gser_tree.proofs.PrintsLemmas.{Written, IsWritten, AreWritten, wo
 pub use Rattle.gser_tree.proofs.ReadsLemmas.{IsRead, Prints, AreGathered, none_gathered, more_gathered, set_is_written, Skips, skips_end, IsApart, OptionalRead, PrintsOptional, optional_is_written, RequiredRead, required_is_written, FlagRead, flagged, flag_is_written}
 -- what is read is good
 pub use Rattle.gser_tree.proofs.OnlyLemmas.{Gives, Only, gives_value, gives_nothing, gives_weaker, gives_both, gives_choice, gives_expected, gives_part, gives_optional, gives_required, gives_end, gives_gathered}
+pub use Rattle.gser_tree.proofs.LookingLemmas.{listed_gathered}
 -- numbers
-pub use Rattle.gser_tree.proofs.DecimalLemmas.{is_number-decimal, is_word-decimal, number_prints, number_is_at_most}
+pub use Rattle.gser_tree.proofs.DecimalLemmas.{is_letter-digit, is_letter-alphanumeric, is_letter-hyphen, is_letter-dot, is_number-decimal, is_word-decimal, number_prints, number_is_at_most}
+-- how deep what is read is
+pub use Rattle.gser_tree.proofs.NestedLemmas.{Shallow, both_read, was_there, word_nest, string_nest, chosen_nest, members_nest, optional_nest, gather_nest, left_nothing, number_is_shallow}

@@ -5,3 +5,9 @@ pub mod FrontLemmas
 pub mod PairOrderLemmas
 pub mod ReadLemmas
 pub mod PrintedLemmas
+pub mod PartPrints
+pub mod ChopLemmas
+pub mod SubtreePrints
+pub mod SubtreeOnly
+pub mod RoundTrip
+pub mod SubtreeNested

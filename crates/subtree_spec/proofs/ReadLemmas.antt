@@ -41,7 +41,7 @@ read_text text (Ok spec) h = reads_as text (subtree_of spec) h
 read_text text (Err fault) h = tt
 
 -- the value that a text is written for decides
-reads_shape : (text : List ℕ) (shape : Shape) → IsTextOf shape text → nest shape ≤ 100 → read_subtree text ≡ judged (subtree shape None)
+pub reads_shape : (text : List ℕ) (shape : Shape) → IsTextOf shape text → nest shape ≤ 100 → read_subtree text ≡ judged (subtree shape None)
 unfolding read_subtree
 reads_shape text shape written deep =
     ap (λ found. judged (option_and_then (λ shape. subtree shape None) found)) (IsTextOf-tree_of text shape written deep)

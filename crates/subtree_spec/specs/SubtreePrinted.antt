@@ -4,7 +4,7 @@ use Rattle.std.specs.Prelude.{ℕ, List, [], ◌∷◌, ◌++◌, ◌==◌, map,
 use Rattle.dn_names.specs.Names.{RdnSequence}
 use Rattle.dn_names.specs.Printing.{print_name}
 use Rattle.gser_tree.specs.Lexemes.{Lexeme}
-use Rattle.gser_tree.specs.Writing.{text_of, print_word, print_number, print_string, print_choice, print_braces, print_optional, print_filled}
+use Rattle.gser_tree.specs.Writing.{print_word, print_number, print_string, print_choice, print_braces, print_optional, print_filled}
 use Rattle.subtree_spec.specs.Subtrees as subtrees
 use Rattle.subtree_spec.specs.Subtrees.{Choice, Choices, Item, And, Or, Not, Subtree}
 

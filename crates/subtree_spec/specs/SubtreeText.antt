@@ -36,11 +36,14 @@ chop seen kind value =
     else if bytes_eq kind (codes "chopAfter") then (name value >>= λ name. give (record { before = seen.before; after = put_name name seen.after }))
     else λ bad. None
 
+-- a member of specificExclusions, put among those that were seen
+abbrev pub chop_member : Chops → Shape → Read Chops
+chop_member seen shape = expect (chosen_in shape) >>= λ chosen. chop seen chosen.0.text chosen.1
+
 -- SET SIZE (1..MAX) OF these, or the empty set
 abbrev pub chops : Chops → List Shape → Read Chops
 chops seen [] = give seen
-chops seen (shape ∷ shapes) =
-    expect (chosen_in shape) >>= λ chosen. chop seen chosen.0.text chosen.1 >>= λ next. chops next shapes
+chops seen (shape ∷ shapes) = chop_member seen shape >>= λ next. chops next shapes
 
 -- specificExclusions [1]
 unfoldable pub exclusions : Shape → Read Chops

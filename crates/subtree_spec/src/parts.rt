@@ -1,16 +1,13 @@
 //! The parts of texts: names and object identifiers.
 
-ghost use Rattle.std.specs.Prelude.{◌≡◌, [], ◌==◌, ◌||◌, IfOk};
-ghost use Rattle.std.specs.Char.{is_ascii_alphanumeric};
-ghost use Rattle.std.specs.List.{list_all};
-ghost use Rattle.schema_core.specs.Naming.{is_keystring};
+ghost use Rattle.std.specs.Prelude.{◌≡◌, [], IfOk};
 ghost use Rattle.gser_tree.specs.Trees.{shape_of};
 ghost use Rattle.gser_tree.specs.Reading.{Reads};
 ghost use Rattle.subtree_spec.specs.Parts.{name, name_of, is_oid, oid};
 
 use dn_names::{BadName, Dn, parse};
 use gser_tree::{Bad, Part, Stop, Tree};
-use schema_core::is_dotted_oid;
+use schema_core::{is_dotted_oid, is_keystring};
 use std::alloc::{AllocError, Global};
 
 /// The name of no RDN.
@@ -52,29 +49,11 @@ pub fn name(alloc: Global, tree: &Tree, bad: &mut Bad) -> Result<Dn, Stop>
     }
 }
 
-fn are_key_octets(octets: &[u8]) -> bool
-    ensures exact { result ≡ list_all (λ octet. is_ascii_alphanumeric octet || octet == 45) octets.now }
-{
-    octets
-        .iter()
-        .all(|octet| octet.is_ascii_alphanumeric() || *octet == b'-')
-}
-
-// Whether a text is a descriptor: a letter, and then letters, digits and hyphens.
-fn is_keystring(text: &str) -> bool
-    ensures exact { result ≡ is_keystring text.now }
-{
-    match text.as_bytes() {
-        [] => false,
-        [first, rest @ ..] => first.is_ascii_alphabetic() && are_key_octets(rest),
-    }
-}
-
 /// Whether a text is a descriptor or a dotted object identifier.
 pub fn is_oid(text: &str) -> bool
     ensures exact { result ≡ is_oid text.now }
 {
-    is_dotted_oid(text.as_bytes()) || is_keystring(text)
+    is_dotted_oid(text.as_bytes()) || is_keystring(text.as_bytes())
 }
 
 /// A word that is a descriptor or a dotted object identifier.

@@ -1,6 +1,6 @@
 //! Subtree specifications from their texts.
 
-ghost use Rattle.std.specs.Prelude.{◌≡◌, ◌≤◌, None, Err, [], codes, map, option_map, IfOk};
+ghost use Rattle.std.specs.Prelude.{◌≡◌, ◌≤◌, None, Ok, Err, [], codes, map, option_map, IfOk};
 ghost use Rattle.gser_tree.specs.Shapes.{Shape, nest};
 ghost use Rattle.gser_tree.specs.TextOf.{IsTextOf};
 ghost use Rattle.subtree_spec.specs.declared.error.BadText.TheVariants.{Text};
@@ -10,7 +10,7 @@ ghost use Rattle.subtree_spec.specs.Parts.{name};
 ghost use Rattle.subtree_spec.specs.SubtreeText.{no_chops, exclusions, distance, there, refinement, components, subtree, SubText, read_subtree, judged, fault_of};
 ghost use Rattle.subtree_spec.specs.Excluding.{chops_of, behind};
 ghost use Rattle.plain_values.specs.Answers.{Answers};
-ghost use Rattle.subtree_spec.specs.Subtrees.{choice_of, subtree_of};
+ghost use Rattle.subtree_spec.specs.Subtrees.{Subtree, choice_of, subtree_of};
 
 use crate::error::BadText;
 use crate::exclusions::{Chopped, exclusions};
@@ -124,6 +124,7 @@ pub fn subtree(alloc: Global, tree: &Tree, bad: &mut Bad) -> Result<Spec, Stop>
 /// is none, a number above 2,147,483,647, an object identifier of no class. `NoMemory` may come in place of any answer.
 pub fn read(alloc: Global, text: &[u8]) -> Result<Spec, BadText>
     ensures ok { IfOk result (λ spec. SubText (subtree_of spec) text.now) }
+    ensures given { (spec : Subtree) → SubText spec text.now → Answers subtree_of fault_of result (Ok spec) }
     ensures only { (shape : Shape) → IsTextOf shape text.now → nest shape ≤ 100
         → Answers subtree_of fault_of result (judged (subtree shape None)) }
     ensures outside { ((shape : Shape) → IsTextOf shape text.now → ⊥)

@@ -3,7 +3,7 @@ use dn_names::{Dn, parse};
 use std::alloc::Global;
 use std::process::Abort;
 use std::test::Fail;
-use subtree_spec::{BadText, Refinement, Spec, holds_below, holds_name, read};
+use subtree_spec::{BadText, Refinement, Spec, holds_below, holds_name, print, read};
 
 // Appends a name as it is printed.
 fn put_name(alloc: Global, name: &Dn, out: &mut String) -> Result<(), Fail> {
@@ -186,6 +186,135 @@ static REFUSALS: [(&str, &str); 43] = [
 #[test]
 fn a_text_is_refused_at_its_first_bad_part(rt: HostRuntime) -> Result<(), Fail> {
     check_texts(&rt, rt.alloc(), &REFUSALS)
+}
+
+// A text, and the printed form of what it says: what has its usual value is left out, the names of chopBefore come
+// first and names stand in their order, object identifiers are dotted.
+static PRINTED: [(&str, &str); 14] = [
+    ("{}", "{ }"),
+    ("{ base \"\", specificExclusions { }, minimum 0 }", "{ }"),
+    ("{base \"OU = b , DC=c\"}", "{ base \"ou=b,dc=c\" }"),
+    ("{ base \"cn=a\\\"\"b\" }", "{ base \"cn=a\\\"\"b\" }"),
+    ("{ maximum 0 }", "{ maximum 0 }"),
+    (
+        "{minimum 1,maximum 2147483647}",
+        "{ minimum 1, maximum 2147483647 }",
+    ),
+    (
+        "{ specificExclusions { chopAfter:\"ou=c\", chopBefore : \"ou=b\", chopBefore:\"ou=a\" } }",
+        "{ specificExclusions { chopBefore:\"ou=a\", chopBefore:\"ou=b\", chopAfter:\"ou=c\" } }",
+    ),
+    (
+        "{ specificExclusions { chopBefore:\"ou=B\" , chopBefore:\"ou=b\" } }",
+        "{ specificExclusions { chopBefore:\"ou=B\" } }",
+    ),
+    (
+        "{ specificExclusions { chopAfter:\"\" } }",
+        "{ specificExclusions { chopAfter:\"\" } }",
+    ),
+    (
+        "{ specificationFilter item:PERSON }",
+        "{ specificationFilter item:2.5.6.6 }",
+    ),
+    (
+        "{ specificationFilter item : 1.2.3 }",
+        "{ specificationFilter item:1.2.3 }",
+    ),
+    (
+        "{specificationFilter and:{item:top,or:{},not:item:person}}",
+        "{ specificationFilter and:{ item:2.5.6.0, or:{ }, not:item:2.5.6.6 } }",
+    ),
+    (
+        "{ specificationFilter not:and:{} }",
+        "{ specificationFilter not:and:{ } }",
+    ),
+    (
+        "{base \"ou=b\",specificExclusions {chopAfter:\"ou=c\"},minimum 1,maximum 2,specificationFilter item:top}",
+        "{ base \"ou=b\", specificExclusions { chopAfter:\"ou=c\" }, minimum 1, maximum 2, specificationFilter item:2.5.6.0 }",
+    ),
+];
+
+// A printed form is read again, and printed as it was.
+#[test]
+fn a_specification_has_one_printed_form(rt: HostRuntime) -> Result<(), Fail> {
+    for (text, want) in &PRINTED {
+        let mut found = String::new(rt.alloc());
+        print(rt.alloc(), &read(rt.alloc(), text.as_bytes())?, &mut found)?;
+        assert_eq!(rt; found.as_str(), *want, "{text}");
+        let mut again = String::new(rt.alloc());
+        print(rt.alloc(), &read(rt.alloc(), want.as_bytes())?, &mut again)?;
+        assert_eq!(rt; again.as_str(), *want, "{text}");
+    }
+    Ok(())
+}
+
+// The printed form stands behind what stood there.
+#[test]
+fn a_printed_specification_is_appended(rt: HostRuntime) -> Result<(), Fail> {
+    let mut out = String::from_str(rt.alloc(), "subtree ")?;
+    print(rt.alloc(), &read(rt.alloc(), b"{minimum 1}")?, &mut out)?;
+    assert_eq!(rt; out.as_str(), "subtree { minimum 1 }");
+    Ok(())
+}
+
+// Appends so many refinements, each but the last the one of `not`.
+fn put_deep(depth: usize, out: &mut String) -> Result<(), Fail> {
+    out.push_str("{ specificationFilter ")?;
+    for _ in 1..depth {
+        out.push_str("not:")?;
+    }
+    out.push_str("item:2.5.6.6 }")?;
+    Ok(())
+}
+
+#[test]
+fn refinements_are_at_most_64_deep(rt: HostRuntime) -> Result<(), Fail> {
+    let mut deepest = String::new(rt.alloc());
+    put_deep(64, &mut deepest)?;
+    let mut found = String::new(rt.alloc());
+    print(
+        rt.alloc(),
+        &read(rt.alloc(), deepest.as_bytes())?,
+        &mut found,
+    )?;
+    assert_eq!(rt; found.as_str(), deepest.as_str());
+    let mut deeper = String::new(rt.alloc());
+    put_deep(65, &mut deeper)?;
+    let mut refused = String::new(rt.alloc());
+    put_read(rt.alloc(), deeper.as_bytes(), &mut refused)?;
+    assert_eq!(rt; refused.as_str(), "Text");
+    Ok(())
+}
+
+// Appends a specification with so many exclusions, in the order of names or against it.
+fn put_many(count: usize, falling: bool, out: &mut String) -> Result<(), Fail> {
+    out.push_str("{ specificExclusions { ")?;
+    for index in 0..count {
+        if index > 0 {
+            out.push_str(", ")?;
+        }
+        let number = if falling { count - 1 - index } else { index };
+        write!(out, "chopAfter:\"ou={:04}\"", number)?;
+    }
+    out.push_str(" } }")?;
+    Ok(())
+}
+
+// Exclusions are read in any order, and printed in one.
+#[test]
+fn many_exclusions_are_printed_in_their_order(rt: HostRuntime) -> Result<(), Fail> {
+    let mut rising = String::new(rt.alloc());
+    put_many(2_000, false, &mut rising)?;
+    let mut falling = String::new(rt.alloc());
+    put_many(2_000, true, &mut falling)?;
+    let mut found = String::new(rt.alloc());
+    print(
+        rt.alloc(),
+        &read(rt.alloc(), falling.as_bytes())?,
+        &mut found,
+    )?;
+    assert!(rt; found.as_str() == rising.as_str());
+    Ok(())
 }
 
 // Octets that are no UTF-8 are in no text.

@@ -1,0 +1,4 @@
+-- what public clauses cite
+pub mod Productions
+pub mod Cursors
+pub mod Counts

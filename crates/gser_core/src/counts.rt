@@ -1,0 +1,73 @@
+//! How many octets at the front of others are a production.
+
+ghost use Rattle.std.specs.Prelude.{◌≡◌, ◌≤◌, length};
+ghost use Rattle.std.specs.Char.{is_ascii_digit};
+ghost use Rattle.std.specs.List.{prefix_len};
+ghost use Rattle.gser_core.specs.Productions.{is_blank, is_key};
+ghost use Rattle.gser_core.specs.Counts.{identifier_len, numeral_len};
+
+fn is_key(octet: u8) -> bool
+    ensures exact { result ≡ is_key octet }
+{
+    octet.is_ascii_alphanumeric() || octet == b'-'
+}
+
+// How many octets at the front are letters, digits and hyphens.
+fn keys(octets: &[u8]) -> usize
+    ensures exact { result ≡ prefix_len is_key octets.now }
+    ensures within { result ≤ length octets.now }
+{
+    for (index, octet) in octets.iter().enumerate() {
+        if !is_key(*octet) {
+            return index;
+        }
+    }
+    octets.len()
+}
+
+// How many octets at the front are digits.
+fn digits(octets: &[u8]) -> usize
+    ensures exact { result ≡ prefix_len is_ascii_digit octets.now }
+    ensures within { result ≤ length octets.now }
+{
+    for (index, octet) in octets.iter().enumerate() {
+        if !octet.is_ascii_digit() {
+            return index;
+        }
+    }
+    octets.len()
+}
+
+/// How many octets at the front are an identifier; 0 where none are.
+pub(crate) fn identifier_len(octets: &[u8]) -> usize
+    ensures exact { result ≡ identifier_len octets.now }
+{
+    match octets {
+        [first, rest @ ..] if first.is_ascii_lowercase() => 1 + keys(rest),
+        _ => 0,
+    }
+}
+
+/// How many octets at the front are a number; 0 where none are.
+pub(crate) fn numeral_len(octets: &[u8]) -> usize
+    ensures exact { result ≡ numeral_len octets.now }
+{
+    match octets {
+        [b'0', ..] => 1,
+        [first, rest @ ..] if first.is_ascii_digit() => 1 + digits(rest),
+        _ => 0,
+    }
+}
+
+/// How many octets at the front are spaces.
+pub(crate) fn blanks(octets: &[u8]) -> usize
+    ensures exact { result ≡ prefix_len is_blank octets.now }
+    ensures within { result ≤ length octets.now }
+{
+    for (index, octet) in octets.iter().enumerate() {
+        if *octet != b' ' {
+            return index;
+        }
+    }
+    octets.len()
+}

@@ -1,0 +1,154 @@
+//! The cursor.
+
+ghost use Rattle.std.specs.Prelude.{◌≡◌, ◌+◌, ◌-◌, ◌≤◌, ◌<◌, length, take, drop, [], ◌∷◌, IfOk, OnOk, get_or};
+ghost use Rattle.std.specs.Result.{IfErr};
+ghost use Rattle.gser_core.specs.declared.error.TextFault.TheVariants.{Expected};
+ghost use Rattle.gser_core.specs.Productions.{is_blank, IsIdentifier, IsMark, IsNumeral, IsSpaces};
+ghost use Rattle.std.specs.List.{prefix_len};
+ghost use Rattle.gser_core.specs.Counts.{begins};
+ghost use Rattle.gser_core.specs.Cursors.{Standing, rest_of, moved, Takes, Lacks};
+
+use crate::counts::{blanks, identifier_len, numeral_len};
+use crate::error::TextFault;
+use std::marker::Model;
+
+/// A place in a text. Contracts see the text and the place.
+#[derive(Drop)]
+pub struct Cursor<'a> {
+    text: &'a str,
+    place: usize,
+}
+
+impl<'a> Model for Cursor<'a> {
+    ghost use Rattle.gser_core.specs.Cursors.{Standing};
+    ghost use Rattle.std.specs.Prelude.{IsUtf8};
+    ghost use Rattle.std.specs.Str.{IsCharBoundary};
+
+    ghost Value = { Standing };
+
+    ghost view = { λ cursor. record { text = cursor.text.now; place = cursor.place } };
+
+    ghost invariant = { λ cursor. IsUtf8 cursor.text.now × IsCharBoundary cursor.text.now cursor.place };
+}
+
+impl<'a> Cursor<'a> {
+    /// At the front of a text.
+    pub fn new(text: &'a str) -> Cursor<'a>
+        ensures exact { result ≡ record { text = text.now; place = 0 } }
+    {
+        Cursor { text, place: 0 }
+    }
+
+    /// How many octets of the text stand before the cursor.
+    pub fn place(&self) -> usize
+        ensures exact { result ≡ self.now.place }
+    {
+        self.place
+    }
+
+    // The octets that are left.
+    fn rest(&self) -> &'a [u8]
+        ensures exact { result.now ≡ rest_of self.now }
+    {
+        &self.text.as_bytes()[self.place..]
+    }
+
+    // Takes so many octets, the last of which is ASCII.
+    fn take(&mut self, count: usize) -> &'a str
+        requires some { 0 < count }
+        requires within { count ≤ length (rest_of self.old) }
+        requires ascii { get_or (rest_of self.old) (count - 1) 0 < 128 }
+        ensures front { result.now ≡ take count (rest_of self.old) }
+        ensures moved { self.new ≡ moved self.old count }
+    {
+        let end = self.place + count;
+        let front = &self.text[self.place..end];
+        self.place = end;
+        front
+    }
+
+    /// Reads an identifier: a lower-case letter, and the letters, digits and hyphens behind it.
+    pub fn name(&mut self) -> Result<&'a str, TextFault>
+        ensures ok { IfOk result (λ front. Takes IsIdentifier self.old front.now self.new) }
+        ensures err { IfErr result (λ fault. Lacks IsIdentifier self.old fault self.new) }
+    {
+        let count = identifier_len(self.rest());
+        if count == 0 {
+            return Err(TextFault::Expected { place: self.place });
+        }
+        Ok(self.take(count))
+    }
+
+    /// Reads a number: `0`, or digits of which the first is not 0.
+    pub fn number(&mut self) -> Result<&'a str, TextFault>
+        ensures ok { IfOk result (λ front. Takes IsNumeral self.old front.now self.new) }
+        ensures err { IfErr result (λ fault. Lacks IsNumeral self.old fault self.new) }
+    {
+        let count = numeral_len(self.rest());
+        if count == 0 {
+            return Err(TextFault::Expected { place: self.place });
+        }
+        Ok(self.take(count))
+    }
+
+    /// Whether the text ends at the cursor; where it does not, the cursor's place is given.
+    pub fn end(&self) -> Result<(), TextFault>
+        ensures ok { OnOk result (length self.now.text ≤ self.now.place) }
+        ensures err { IfErr result (λ fault. (fault ≡ Expected self.now.place) × (self.now.place < length self.now.text)) }
+    {
+        if self.place < self.text.len() {
+            Err(TextFault::Expected { place: self.place })
+        } else {
+            Ok(())
+        }
+    }
+
+    /// Whether the octet at the cursor is the mark.
+    pub fn at_mark(&self, mark: u8) -> bool
+        ensures exact { result ≡ begins mark (rest_of self.now) }
+    {
+        match self.rest() {
+            [first, ..] => *first == mark,
+            [] => false,
+        }
+    }
+
+    /// Reads a mark, which is ASCII.
+    pub fn mark(&mut self, mark: u8) -> Result<(), TextFault>
+        requires { mark < 128 }
+        ensures ok { OnOk result (Takes (IsMark mark) self.old (mark ∷ []) self.new) }
+        ensures err { IfErr result (λ fault. Lacks (IsMark mark) self.old fault self.new) }
+    {
+        if !self.at_mark(mark) {
+            return Err(TextFault::Expected { place: self.place });
+        }
+        self.take(1);
+        Ok(())
+    }
+
+    // Goes behind so many octets, the last of which is ASCII.
+    fn skip(&mut self, count: usize)
+        requires within { count ≤ length (rest_of self.old) }
+        requires ascii { 0 < count → get_or (rest_of self.old) (count - 1) 0 < 128 }
+        ensures moved { self.new ≡ moved self.old count }
+    {
+        if count > 0 {
+            self.take(count);
+        }
+    }
+
+    /// Reads all spaces at the cursor, which are to be at least so many.
+    pub fn spaces(&mut self, least: usize) -> Result<(), TextFault>
+        ensures ok { OnOk result (Takes (IsSpaces least) self.old (take (prefix_len is_blank (rest_of self.old)) (rest_of self.old)) self.new) }
+        ensures err { IfErr result (λ fault. Lacks (IsSpaces least) self.old fault self.new) }
+    {
+        let count = blanks(self.rest());
+        if count < least {
+            return Err(TextFault::Expected {
+                place: self.place + count,
+            });
+        }
+        self.skip(count);
+        Ok(())
+    }
+}
