@@ -1,6 +1,7 @@
 //! The parts of items: levels, bits, users, attribute types and values, subtrees.
 
-ghost use Rattle.std.specs.Prelude.{◌≡◌, [], ◌∷◌, codes, IfOk, length, map, option_map, ◌==◌, min, if◌then◌else◌};
+ghost use Rattle.std.specs.Prelude.{◌≡◌, [], ◌∷◌, codes, IfOk, IfSome, true, length, map, option_map, ◌==◌, min, if◌then◌else◌};
+ghost use Rattle.std.specs.Str.{is_utf8};
 ghost use Rattle.schema_core.specs.Attributes.{IsAttrId};
 ghost use Rattle.dn_names.specs.NameValues.{value_of};
 ghost use Rattle.gser_tree.specs.Trees.{shape_of};
@@ -153,6 +154,7 @@ fn no_value(alloc: Global) -> Result<Value, AllocError>
 fn value_of(alloc: Global, kind: AttrId, text: &str) -> Result<Option<Value>, AllocError>
     requires { IsAttrId kind.0 }
     ensures ok { IfOk result (λ found. found ≡ value_of kind.0 text.now) }
+    ensures text { IfOk result (λ found. IfSome found (λ value. is_utf8 value.octets ≡ true)) }
 {
     let octets = String::from_str(alloc, text)?.into_bytes();
     match make_value(alloc, kind, octets) {
@@ -167,6 +169,7 @@ fn value_of(alloc: Global, kind: AttrId, text: &str) -> Result<Option<Value>, Al
 fn assertion(alloc: Global, kind: AttrId, tree: &Tree, bad: &mut Bad) -> Result<Value, Stop>
     requires { IsAttrId kind.0 }
     ensures read { Reads (λ value. value) result bad.new.first (assertion kind.0 (shape_of tree.now) bad.old.first) }
+    ensures text { IfOk result (λ value. is_utf8 value.octets ≡ true) }
 {
     let string = tree.string().ok_or(Stop::Misfit)?;
     match value_of(alloc, kind, string.text.as_str())? {
@@ -179,7 +182,7 @@ fn assertion(alloc: Global, kind: AttrId, tree: &Tree, bad: &mut Bad) -> Result<
 }
 
 /// A type with a value.
-#[tactic(auto, unfolding(crate::specs::ItemParts::kind_and_value))]
+#[tactic(auto, using(crate::proofs::PartLemmas::left_misfits), unfolding(crate::specs::ItemParts::kind_and_value))]
 pub(crate) fn kind_and_value(
     alloc: Global,
     tree: &Tree,
@@ -192,10 +195,10 @@ pub(crate) fn kind_and_value(
     let kind = kind(value, bad)?;
     let (value, trees) = component("value", trees).ok_or(Stop::Misfit)?;
     let value = assertion(alloc, kind, value, bad)?;
-    match trees {
-        [] => Ok(AttributeTypeAndValue::new(kind, value)),
-        [_, ..] => Err(Stop::Misfit),
+    if !is_end(trees) {
+        return Err(Stop::Misfit);
     }
+    Ok(AttributeTypeAndValue::new(kind, value))
 }
 
 // The place of the refinement of a subtree specification.

@@ -18,7 +18,7 @@ use crate::bits::Bits;
 use crate::classes::UserClasses;
 use crate::item::{AciItem, First, ItemPermission, UserPermission};
 use crate::members::{kinds, subtrees, users, values};
-use crate::parts::{bits, flagged, level};
+use crate::parts::{bits, flagged, is_end, level};
 use crate::printing::{put_item_permission, put_user_permission};
 use crate::protected::ProtectedItems;
 use crate::sets::{Printed, into_values, put};
@@ -31,7 +31,7 @@ use subtree_spec::BadText;
 const MOST: u32 = 255;
 
 // User classes.
-#[tactic(auto, unfolding(crate::specs::AciText::classes))]
+#[tactic(auto, using(crate::proofs::PartLemmas::left_misfits), unfolding(crate::specs::AciText::classes))]
 fn classes(alloc: Global, tree: &Tree, bad: &mut Bad) -> Result<UserClasses, Stop>
     ensures read { Reads classes_of result bad.new.first (classes (shape_of tree.now) bad.old.first) }
 {
@@ -48,14 +48,14 @@ fn classes(alloc: Global, tree: &Tree, bad: &mut Bad) -> Result<UserClasses, Sto
         groups,
         subtrees,
     };
-    match trees {
-        [] => Ok(classes),
-        [_, ..] => Err(Stop::Misfit),
+    if !is_end(trees) {
+        return Err(Stop::Misfit);
     }
+    Ok(classes)
 }
 
 // Protected items.
-#[tactic(auto, unfolding(crate::specs::AciText::items))]
+#[tactic(auto, using(crate::proofs::PartLemmas::left_misfits), unfolding(crate::specs::AciText::items))]
 fn items(alloc: Global, tree: &Tree, bad: &mut Bad) -> Result<ProtectedItems, Stop>
     ensures read { Reads items_of result bad.new.first (items (shape_of tree.now) bad.old.first) }
 {
@@ -76,10 +76,10 @@ fn items(alloc: Global, tree: &Tree, bad: &mut Bad) -> Result<ProtectedItems, St
         values,
         self_values,
     };
-    match trees {
-        [] => Ok(items),
-        [_, ..] => Err(Stop::Misfit),
+    if !is_end(trees) {
+        return Err(Stop::Misfit);
     }
+    Ok(items)
 }
 
 // A precedence.
@@ -102,7 +102,7 @@ fn own_precedence<'a>(trees: &'a [Tree], bad: &mut Bad) -> Result<(Option<u8>, &
 }
 
 // An item permission.
-#[tactic(auto, unfolding(crate::specs::AciText::item_permission))]
+#[tactic(auto, using(crate::proofs::PartLemmas::left_misfits), unfolding(crate::specs::AciText::item_permission))]
 fn item_permission(alloc: Global, tree: &Tree, bad: &mut Bad) -> Result<ItemPermission, Stop>
     ensures read { Reads item_permission_of result bad.new.first (item_permission (shape_of tree.now) bad.old.first) }
 {
@@ -117,14 +117,14 @@ fn item_permission(alloc: Global, tree: &Tree, bad: &mut Bad) -> Result<ItemPerm
         classes: Rc::new(alloc, users)?,
         bits,
     };
-    match trees {
-        [] => Ok(permission),
-        [_, ..] => Err(Stop::Misfit),
+    if !is_end(trees) {
+        return Err(Stop::Misfit);
     }
+    Ok(permission)
 }
 
 // A user permission.
-#[tactic(auto, unfolding(crate::specs::AciText::user_permission))]
+#[tactic(auto, using(crate::proofs::PartLemmas::left_misfits), unfolding(crate::specs::AciText::user_permission))]
 fn user_permission(alloc: Global, tree: &Tree, bad: &mut Bad) -> Result<UserPermission, Stop>
     ensures read { Reads user_permission_of result bad.new.first (user_permission (shape_of tree.now) bad.old.first) }
 {
@@ -139,10 +139,10 @@ fn user_permission(alloc: Global, tree: &Tree, bad: &mut Bad) -> Result<UserPerm
         items: Rc::new(alloc, protected)?,
         bits,
     };
-    match trees {
-        [] => Ok(permission),
-        [_, ..] => Err(Stop::Misfit),
+    if !is_end(trees) {
+        return Err(Stop::Misfit);
     }
+    Ok(permission)
 }
 
 // An item permission with its printed text.
@@ -204,7 +204,7 @@ fn user_permissions(alloc: Global, tree: &Tree, bad: &mut Bad) -> Result<Vec<Use
 }
 
 // The alternative itemFirst.
-#[tactic(auto, unfolding(crate::specs::AciText::item_first))]
+#[tactic(auto, using(crate::proofs::PartLemmas::left_misfits), unfolding(crate::specs::AciText::item_first))]
 fn item_first(alloc: Global, tree: &Tree, bad: &mut Bad) -> Result<First, Stop>
     ensures read { Reads first_of result bad.new.first (item_first (shape_of tree.now) bad.old.first) }
 {
@@ -214,14 +214,14 @@ fn item_first(alloc: Global, tree: &Tree, bad: &mut Bad) -> Result<First, Stop>
     let (value, trees) = component("itemPermissions", trees).ok_or(Stop::Misfit)?;
     let permissions = item_permissions(alloc, value, bad)?;
     let first = First::ItemFirst(Rc::new(alloc, protected)?, permissions);
-    match trees {
-        [] => Ok(first),
-        [_, ..] => Err(Stop::Misfit),
+    if !is_end(trees) {
+        return Err(Stop::Misfit);
     }
+    Ok(first)
 }
 
 // The alternative userFirst.
-#[tactic(auto, unfolding(crate::specs::AciText::user_first))]
+#[tactic(auto, using(crate::proofs::PartLemmas::left_misfits), unfolding(crate::specs::AciText::user_first))]
 fn user_first(alloc: Global, tree: &Tree, bad: &mut Bad) -> Result<First, Stop>
     ensures read { Reads first_of result bad.new.first (user_first (shape_of tree.now) bad.old.first) }
 {
@@ -231,10 +231,10 @@ fn user_first(alloc: Global, tree: &Tree, bad: &mut Bad) -> Result<First, Stop>
     let (value, trees) = component("userPermissions", trees).ok_or(Stop::Misfit)?;
     let permissions = user_permissions(alloc, value, bad)?;
     let first = First::UserFirst(Rc::new(alloc, users)?, permissions);
-    match trees {
-        [] => Ok(first),
-        [_, ..] => Err(Stop::Misfit),
+    if !is_end(trees) {
+        return Err(Stop::Misfit);
     }
+    Ok(first)
 }
 
 // What an item begins with.
@@ -261,7 +261,7 @@ fn tag(alloc: Global, tree: &Tree, bad: &Bad) -> Result<String, Stop>
 }
 
 // The item that a value is.
-#[tactic(auto, unfolding(crate::specs::AciText::aci_item))]
+#[tactic(auto, using(crate::proofs::PartLemmas::left_misfits), unfolding(crate::specs::AciText::aci_item))]
 fn item(alloc: Global, tree: &Tree, bad: &mut Bad) -> Result<AciItem, Stop>
     ensures read { Reads item_of_code result bad.new.first (aci_item (shape_of tree.now) bad.old.first) }
 {
@@ -280,10 +280,10 @@ fn item(alloc: Global, tree: &Tree, bad: &mut Bad) -> Result<AciItem, Stop>
         level,
         first,
     };
-    match trees {
-        [] => Ok(item),
-        [_, ..] => Err(Stop::Misfit),
+    if !is_end(trees) {
+        return Err(Stop::Misfit);
     }
+    Ok(item)
 }
 
 /// Reads an access control item (X.501 18.4.2, RFC 3641), in the full spelling or the short one: components without a
