@@ -102,6 +102,19 @@ mask_test number place within =
           ap not (ne_eqb (b * 2 ^ place) 0 (λ e. omega (arith, power, pow_pos place, e))) ∙ sym (eq-eqb b 1 one)
     ]
 
+-- two tests that agree leave the same bits
+filtered : (one other : Bit → Bool) → ((b : Bit) → one b ≡ other b) → (bits : List Bit) → filter one bits ≡ filter other bits
+filtered one other same [] = refl
+filtered one other same (b ∷ bits) =
+    ap (λ t. cond t (b ∷ filter one bits) (filter one bits)) (same b)
+    ∙ ap (λ rest. cond (other b) (b ∷ rest) rest) (filtered one other same bits)
+
+-- the bits of a number stand in order
+pub bits_in_order : (number : ℕ) → in_order (bits_of number) ≡ bits_of number
+bits_in_order number =
+    filtered (is_among (bits_of number)) (λ bit. bit_at number (bit_place bit) == 1) (λ bit. among_filtered (λ place. bit_at number place == 1) bit)
+    all_bits
+
 -- a bit more
 pub mask_set : (number : ℕ) (bit : Bit) → bit_place bit < 32
     → bits_of (bit_or number (1 * 2 ^ bit_place bit % 2 ^ 32)) ≡ put_bit bit (bits_of number)
@@ -118,12 +131,6 @@ mask_set number bit within = filtered (λ b. bit_at (bit_or number (1 * 2 ^ bit_
           ∙ sym (among_filtered (λ place. bit_at number place == 1) b)
           ∙ sym (ap (λ t. t || is_among (bits_of number) b) (ne_eqb (bit_place b) (bit_place bit) apart))
     ]
-
-    filtered : (one other : Bit → Bool) → ((b : Bit) → one b ≡ other b) → (bits : List Bit) → filter one bits ≡ filter other bits
-    filtered one other same [] = refl
-    filtered one other same (b ∷ bits) =
-        ap (λ t. cond t (b ∷ filter one bits) (filter one bits)) (same b)
-        ∙ ap (λ rest. cond (other b) (b ∷ rest) rest) (filtered one other same bits)
 
 -- what is found of mapped values
 find-map : {X Y : Type 0} (test : Y → Bool) (f : X → Y) (xs : List X) → option_map f (find (λ x. test (f x)) xs) ≡ find test (map f xs)

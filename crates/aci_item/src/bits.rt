@@ -1,12 +1,12 @@
 //! Sets of grants and denials.
 
 ghost use Rattle.std.specs.Prelude.{◌≡◌, ◌<◌, [], ◌∷◌, map, filter, length};
-ghost use Rattle.std.specs.Prelude.{◌++◌, OnOk, find, option_map, string_bytes};
+ghost use Rattle.std.specs.Prelude.{◌++◌, if◌then◌else◌, IfOk, OnOk, find, option_map, string_bytes};
 ghost use Rattle.std.specs.List.{list_any};
 ghost use Rattle.std.specs.Option.{option_copied};
 ghost use Rattle.std.specs.Str.{bytes_eq};
-ghost use Rattle.gser_tree.specs.Writing.{text_of};
-ghost use Rattle.aci_item.specs.Permissions.{bit_place, all_bits, has_bit, put_bit, permissions_of, has_some};
+ghost use Rattle.gser_tree.specs.Writing.{text_of, print_word, PutsMembers};
+ghost use Rattle.aci_item.specs.Permissions.{bit_place, all_bits, has_bit, in_order, put_bit, permissions_of, has_some};
 ghost use Rattle.aci_item.specs.ItemPrinted.{bit_name, print_bits};
 ghost use Rattle.aci_item.specs.Rows.{bit_of, named_bit, row_of};
 
@@ -74,6 +74,13 @@ impl Bits {
         ensures exact { result ≡ has_some (permissions_of grants self.now) }
     {
         self.has_any(Permission::all(), grants)
+    }
+
+    // The members stand in rising order, each once.
+    fn stand_in_order(&self)
+        ensures ordered { in_order self.now ≡ self.now }
+    {
+        let _ = &self.0;
     }
 
     // Whether any of the permissions is granted, or denied.
@@ -159,17 +166,27 @@ pub(crate) fn bit_named(text: &str) -> Option<(Permission, bool)>
     }
 }
 
+// Writes a word as a member, where it is there.
+fn put_word(out: &mut String, first: bool, word: &str, here: bool) -> Result<bool, AllocError>
+    ensures ok { IfOk result (λ next. PutsMembers (string_bytes out.old) (string_bytes out.new) first next
+        (if here then print_word word.now ∷ [] else [])) }
+{
+    if !here {
+        return Ok(first);
+    }
+    put_separator(out, first)?;
+    out.push_str(word)?;
+    Ok(false)
+}
+
 /// Writes the names of bits in braces.
 pub(crate) fn put_bits(out: &mut String, bits: &Bits) -> Result<(), AllocError>
     ensures ok { OnOk result (string_bytes out.new ≡ string_bytes out.old ++ text_of (print_bits bits.now)) }
 {
+    bits.stand_in_order();
     let mut first = true;
     for row in rows() {
-        if bits.has(row.permission, row.grants) {
-            put_separator(out, first)?;
-            out.push_str(row.name)?;
-            first = false;
-        }
+        first = put_word(out, first, row.name, bits.has(row.permission, row.grants))?;
     }
     put_end(out, first)?;
     Ok(())
