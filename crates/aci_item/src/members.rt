@@ -36,7 +36,8 @@ fn printed_user(alloc: Global, value: Dn) -> Result<Printed<Dn>, AllocError>
 
 // The users of a set.
 fn users_of(alloc: Global, tree: &Tree, bad: &mut Bad) -> Result<Vec<Dn>, Stop>
-    ensures read { Reads (λ names. names.items) result bad.new.first (sorted_set print_user user (shape_of tree.now) bad.old.first) }
+    ensures read { Reads (λ names. names.items) result bad.new.first
+        (sorted_set print_user user (shape_of tree.now) bad.old.first) }
 {
     let trees = tree.members().ok_or(Stop::Misfit)?;
     let mut seen = Vec::new(alloc);
@@ -65,7 +66,8 @@ pub(crate) fn users<'a>(
 
 // A subtree with its printed text.
 fn printed_subtree(alloc: Global, value: Spec) -> Result<Printed<Spec>, AllocError>
-    ensures ok { IfOk result (λ m. (m.value ≡ value) × (m.text ≡ text_of (print_subtree (subtree_of value)))) }
+    ensures ok { IfOk result
+        (λ m. (m.value ≡ value) × (m.text ≡ text_of (print_subtree (subtree_of value)))) }
 {
     let mut text = String::new(alloc);
     subtree_spec::print(alloc, &value, &mut text)?;
@@ -96,7 +98,8 @@ pub(crate) fn subtrees<'a>(
     bad: &mut Bad,
 ) -> Result<(Vec<Spec>, &'a [Tree]), Stop>
     ensures read { Reads (behind (λ subtrees. map subtree_of subtrees.items)) result bad.new.first
-        (optional (codes "subtree") [] (sorted_set print_subtree class_subtree) (map shape_of trees.now) bad.old.first) }
+        (optional (codes "subtree") [] (sorted_set print_subtree class_subtree)
+        (map shape_of trees.now) bad.old.first) }
 {
     match component("subtree", trees) {
         Some((value, rest)) => Ok((subtrees_of(alloc, value, bad)?, rest)),
@@ -118,7 +121,8 @@ fn printed_kind(alloc: Global, value: AttrId) -> Result<Printed<AttrId>, AllocEr
 
 // The attribute types of a set.
 fn kinds_of(alloc: Global, tree: &Tree, bad: &mut Bad) -> Result<Vec<AttrId>, Stop>
-    ensures read { Reads (λ kinds. map (λ kind. kind.0) kinds.items) result bad.new.first (kinds (shape_of tree.now) bad.old.first) }
+    ensures read { Reads (λ kinds. map (λ kind. kind.0) kinds.items) result bad.new.first
+        (kinds (shape_of tree.now) bad.old.first) }
 {
     let trees = tree.members().ok_or(Stop::Misfit)?;
     let mut seen = Vec::new(alloc);
@@ -181,7 +185,8 @@ pub(crate) fn values<'a>(
     bad: &mut Bad,
 ) -> Result<(Vec<AttributeTypeAndValue>, &'a [Tree]), Stop>
     ensures read { Reads (behind (λ values. values.items)) result bad.new.first
-        (optional (codes "attributeValue") [] (sorted_set print_value kind_and_value) (map shape_of trees.now) bad.old.first) }
+        (optional (codes "attributeValue") [] (sorted_set print_value kind_and_value)
+        (map shape_of trees.now) bad.old.first) }
 {
     match component("attributeValue", trees) {
         Some((value, rest)) => Ok((values_of(alloc, value, bad)?, rest)),

@@ -33,7 +33,8 @@ pub(crate) fn is_end(trees: &[Tree]) -> bool
 
 /// A component without a value of its own, and the members behind it.
 pub(crate) fn flagged<'a>(name: &str, trees: &'a [Tree]) -> (bool, &'a [Tree])
-    ensures exact { behind (λ here. here) result ≡ flag_by (map shape_of trees.now) (flag name.now (map shape_of trees.now)) }
+    ensures exact { behind (λ here. here) result
+        ≡ flag_by (map shape_of trees.now) (flag name.now (map shape_of trees.now)) }
 {
     match flag(name, trees) {
         Some(rest) => (true, rest),
@@ -44,7 +45,8 @@ pub(crate) fn flagged<'a>(name: &str, trees: &'a [Tree]) -> (bool, &'a [Tree])
 // The word of a level.
 #[tactic(auto, unfolding(crate::specs::ItemParts::level_word))]
 fn level_word(tree: &Tree, bad: &Bad) -> Result<Level, Stop>
-    ensures read { Reads (λ level. level) result bad.now.first (level_word (shape_of tree.now) bad.now.first) }
+    ensures read { Reads (λ level. level) result bad.now.first
+        (level_word (shape_of tree.now) bad.now.first) }
 {
     let word = tree.word().ok_or(Stop::Misfit)?;
     level_named(word.text.as_str()).ok_or(Stop::Misfit)
@@ -53,7 +55,8 @@ fn level_word(tree: &Tree, bad: &Bad) -> Result<Level, Stop>
 // The level of basicLevels.
 #[tactic(auto, unfolding(crate::specs::ItemParts::basic_levels))]
 fn basic_levels(tree: &Tree, bad: &Bad) -> Result<Level, Stop>
-    ensures read { Reads (λ level. level) result bad.now.first (basic_levels (shape_of tree.now) bad.now.first) }
+    ensures read { Reads (λ level. level) result bad.now.first
+        (basic_levels (shape_of tree.now) bad.now.first) }
 {
     let trees = tree.members().ok_or(Stop::Misfit)?;
     let (value, trees) = component("level", trees).ok_or(Stop::Misfit)?;
@@ -168,7 +171,8 @@ fn value_of(alloc: Global, kind: AttrId, text: &str) -> Result<Option<Value>, Al
 #[tactic(auto, unfolding(crate::specs::ItemParts::assertion))]
 fn assertion(alloc: Global, kind: AttrId, tree: &Tree, bad: &mut Bad) -> Result<Value, Stop>
     requires { IsAttrId kind.0 }
-    ensures read { Reads (λ value. value) result bad.new.first (assertion kind.0 (shape_of tree.now) bad.old.first) }
+    ensures read { Reads (λ value. value) result bad.new.first
+        (assertion kind.0 (shape_of tree.now) bad.old.first) }
     ensures text { IfOk result (λ value. is_utf8 value.octets ≡ true) }
 {
     let string = tree.string().ok_or(Stop::Misfit)?;
@@ -188,7 +192,8 @@ pub(crate) fn kind_and_value(
     tree: &Tree,
     bad: &mut Bad,
 ) -> Result<AttributeTypeAndValue, Stop>
-    ensures read { Reads (λ pair. pair) result bad.new.first (kind_and_value (shape_of tree.now) bad.old.first) }
+    ensures read { Reads (λ pair. pair) result bad.new.first
+        (kind_and_value (shape_of tree.now) bad.old.first) }
 {
     let trees = tree.members().ok_or(Stop::Misfit)?;
     let (value, trees) = component("type", trees).ok_or(Stop::Misfit)?;

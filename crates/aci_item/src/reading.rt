@@ -84,7 +84,8 @@ fn items(alloc: Global, tree: &Tree, bad: &mut Bad) -> Result<ProtectedItems, St
 
 // A precedence.
 fn precedence(tree: &Tree, bad: &mut Bad) -> Result<u8, Stop>
-    ensures read { Reads (λ value. value) result bad.new.first (precedence (shape_of tree.now) bad.old.first) }
+    ensures read { Reads (λ value. value) result bad.new.first
+        (precedence (shape_of tree.now) bad.old.first) }
 {
     let value = number(tree, MOST, bad)?;
     Ok(value as u8)
@@ -104,7 +105,8 @@ fn own_precedence<'a>(trees: &'a [Tree], bad: &mut Bad) -> Result<(Option<u8>, &
 // An item permission.
 #[tactic(auto, using(crate::proofs::PartLemmas::left_misfits), unfolding(crate::specs::AciText::item_permission))]
 fn item_permission(alloc: Global, tree: &Tree, bad: &mut Bad) -> Result<ItemPermission, Stop>
-    ensures read { Reads item_permission_of result bad.new.first (item_permission (shape_of tree.now) bad.old.first) }
+    ensures read { Reads item_permission_of result bad.new.first
+        (item_permission (shape_of tree.now) bad.old.first) }
 {
     let trees = tree.members().ok_or(Stop::Misfit)?;
     let (precedence, trees) = own_precedence(trees, bad)?;
@@ -126,7 +128,8 @@ fn item_permission(alloc: Global, tree: &Tree, bad: &mut Bad) -> Result<ItemPerm
 // A user permission.
 #[tactic(auto, using(crate::proofs::PartLemmas::left_misfits), unfolding(crate::specs::AciText::user_permission))]
 fn user_permission(alloc: Global, tree: &Tree, bad: &mut Bad) -> Result<UserPermission, Stop>
-    ensures read { Reads user_permission_of result bad.new.first (user_permission (shape_of tree.now) bad.old.first) }
+    ensures read { Reads user_permission_of result bad.new.first
+        (user_permission (shape_of tree.now) bad.old.first) }
 {
     let trees = tree.members().ok_or(Stop::Misfit)?;
     let (precedence, trees) = own_precedence(trees, bad)?;
@@ -150,7 +153,8 @@ fn printed_item_permission(
     alloc: Global,
     value: ItemPermission,
 ) -> Result<Printed<ItemPermission>, AllocError>
-    ensures ok { IfOk result (λ m. (m.value ≡ value) × (m.text ≡ text_of (print_item_permission (item_permission_of value)))) }
+    ensures ok { IfOk result
+        (λ m. (m.value ≡ value) × (m.text ≡ text_of (print_item_permission (item_permission_of value)))) }
 {
     let mut text = String::new(alloc);
     put_item_permission(alloc, &mut text, &value)?;
@@ -179,7 +183,8 @@ fn printed_user_permission(
     alloc: Global,
     value: UserPermission,
 ) -> Result<Printed<UserPermission>, AllocError>
-    ensures ok { IfOk result (λ m. (m.value ≡ value) × (m.text ≡ text_of (print_user_permission (user_permission_of value)))) }
+    ensures ok { IfOk result
+        (λ m. (m.value ≡ value) × (m.text ≡ text_of (print_user_permission (user_permission_of value)))) }
 {
     let mut text = String::new(alloc);
     put_user_permission(&mut text, &value)?;
@@ -254,7 +259,8 @@ fn first(alloc: Global, tree: &Tree, bad: &mut Bad) -> Result<First, Stop>
 
 // The tag of an item.
 fn tag(alloc: Global, tree: &Tree, bad: &Bad) -> Result<String, Stop>
-    ensures read { Reads (λ tag. string_bytes tag) result bad.now.first (tag (shape_of tree.now) bad.now.first) }
+    ensures read { Reads (λ tag. string_bytes tag) result bad.now.first
+        (tag (shape_of tree.now) bad.now.first) }
 {
     let string = tree.string().ok_or(Stop::Misfit)?;
     Ok(String::from_str(alloc, string.text.as_str())?)

@@ -1,5 +1,4 @@
 -- No octets are a password, whose key is none.
-use Rattle.std.proofs.Common.{refl}
 use Rattle.aci_item.proofs.PartLemmas.{user_password, password_value}
 use Rattle.aci_item.proofs.parts.no_value.Goals as goal
 
