@@ -1,0 +1,15 @@
+-- The members so far, each beside its printed text, and those that are left, are those of the set.
+use Rattle.std.proofs.Common.{◌≡◌, [], drop, map}
+use Rattle.gser_tree.specs.Trees.{shape_of}
+use Rattle.gser_tree.specs.Writing.{text_of}
+use Rattle.aci_item.specs.ItemParts.{kind}
+use Rattle.aci_item.specs.ItemPrinted.{print_kind}
+use Rattle.aci_item.specs.Sets.{put_member, gather_into}
+use Rattle.aci_item.specs.Gathering.{ArePrinted, values_of}
+use Rattle.aci_item.proofs.members.kinds_of.Given as goal
+
+abbrev pub invariant-loop-tree : goal.invariant-loop-tree
+invariant-loop-tree l =
+    ArePrinted (λ kind. kind.0) print_kind l.seen.items
+    × (gather_into (put_member (λ value. text_of (print_kind value))) kind (values_of (λ kind. kind.0) l.seen.items) (map shape_of (drop l.tree-index l.trees)) l.bad.first
+    ≡ gather_into (put_member (λ value. text_of (print_kind value))) kind [] (map shape_of l.trees) l.initial.bad.first)

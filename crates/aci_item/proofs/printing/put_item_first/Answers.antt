@@ -1,0 +1,28 @@
+-- The kind, the two components and the end of the braces.
+use Rattle.std.proofs.Common.{true, false, [], ◌∷◌, map}
+use Rattle.std.specs.Prelude.{codes, string_bytes}
+use Rattle.gser_tree.specs.Writing.{print_braces, print_component}
+use Rattle.gser_tree.proofs.Theorems.{put_choice, PutsMembers-braces}
+use Rattle.aci_item.specs.ItemPrinted.{print_items, print_item_permission}
+use Rattle.aci_item.specs.Views.{items_of, item_permission_of}
+use Rattle.aci_item.proofs.PrintedLemmas.{put_pair}
+use Rattle.aci_item.proofs.printing.put_item_first.Goals as goal
+
+pub returns : goal.returns
+returns c =
+    let one = print_items (items_of c.args.items.now) in
+    let two = print_braces (map print_item_permission (map item_permission_of c.args.permissions.now)) in
+    let items = print_component (codes "protectedItems") one ∷ print_component (codes "itemPermissions") two ∷ [] in
+    let text0 = string_bytes c.args.out.now in
+    let text1 = string_bytes c.put_kind.new.out in
+    let text2 = string_bytes c.put_name.new.out in
+    let text3 = string_bytes c.put_items.new.out in
+    let text4 = string_bytes c.put_name-2.new.out in
+    let text5 = string_bytes c.put_item_permission_set.new.out in
+    let text6 = string_bytes c.put_end.new.out in
+    record {
+      ok = put_choice text0 text1 text6 (codes "itemFirst") (print_braces items) c.in_ok-put_kind.ensures.ok
+          (PutsMembers-braces text1 text5 text6 false items
+          (put_pair text1 text2 text3 text4 text5 true (codes "protectedItems") (codes "itemPermissions") one two c.in_ok-put_name.ensures.ok
+          c.in_ok-put_items.ensures.ok c.in_ok-put_name-2.ensures.ok c.in_ok-put_item_permission_set.ensures.ok) c.in_ok-put_end.ensures.ok);
+    }

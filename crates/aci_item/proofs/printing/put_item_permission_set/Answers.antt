@@ -1,0 +1,21 @@
+-- One more member is written, and then the end of the set.
+use Rattle.std.proofs.Common.{true}
+use Rattle.std.specs.Prelude.{string_bytes}
+use Rattle.subtree_spec.proofs.PrintedLemmas.{put_next}
+use Rattle.aci_item.specs.ItemPrinted.{print_item_permission}
+use Rattle.aci_item.specs.Views.{item_permission_of}
+use Rattle.aci_item.proofs.PrintedLemmas.{put_viewed}
+use Rattle.aci_item.proofs.printing.put_item_permission_set.Goals as goal
+
+pub loop-permission-preserved : goal.loop-permission-preserved
+loop-permission-preserved c =
+    put_next (λ p. print_item_permission (item_permission_of p)) (string_bytes c.args.out.now) (string_bytes c.loop-permission.out)
+    (string_bytes c.put_separator.new.out) (string_bytes c.put_item_permission.new.out) true c.loop-permission.first c.args.permissions.now
+    c.loop-permission.permission-index c.permission-item.result c.loop-permission-test.true c.permission-item.is c.loop-permission.invariant
+    c.in_ok-put_separator.ensures.ok c.in_ok-put_item_permission.ensures.ok
+
+pub returns : goal.returns
+returns c = record {
+  ok = put_viewed item_permission_of print_item_permission (string_bytes c.args.out.now) (string_bytes c.loop-permission.out) (string_bytes c.put_end.new.out) c.loop-permission.first c.args.permissions.now
+      c.loop-permission.permission-index c.loop-permission-test.false c.loop-permission.invariant c.in_ok-put_end.ensures.ok;
+}

@@ -1,0 +1,24 @@
+-- A set that is empty is left out.
+use Rattle.std.proofs.Common.{ap, sym, ◌∙◌}
+use Rattle.std.proofs.lemmas.List.{length-map}
+use Rattle.std.specs.Prelude.{◌==◌, codes, map, string_bytes}
+use Rattle.aci_item.specs.ItemPrinted.{print_user}
+use Rattle.aci_item.proofs.PrintedLemmas.{put_nothing, put_filled}
+use Rattle.aci_item.proofs.printing.put_users.Goals as goal
+
+pub returns-then-is_empty : goal.returns-then-is_empty
+returns-then-is_empty c =
+    let count = length-map c.args.users.now print_user in
+    record {
+      ok = put_nothing (string_bytes c.args.out.now) c.args.first c.args.name.now (map print_user c.args.users.now) c.is_empty.result
+          (c.is_empty.ensures ∙ ap (λ n. n == 0) (sym count)) c.if-is_empty.true;
+    }
+
+pub returns : goal.returns
+returns c =
+    let count = length-map c.args.users.now print_user in
+    record {
+      ok = put_filled (string_bytes c.args.out.now) (string_bytes c.put_name.new.out) (string_bytes c.put_user_set.new.out) c.args.first c.args.name.now
+          (map print_user c.args.users.now) c.is_empty.result (c.is_empty.ensures ∙ ap (λ n. n == 0) (sym count)) c.if-is_empty.false
+          c.in_ok-put_name.ensures.ok c.in_ok-put_user_set.ensures.ok;
+    }

@@ -1,0 +1,12 @@
+-- The value that the text is written for decides.
+use Rattle.aci_item.proofs.ReadLemmas.{read_text, read_shape, read_nothing}
+use Rattle.aci_item.proofs.reading.read.Goals as goal
+
+pub returns-clause-ok : goal.returns-clause-ok
+returns-clause-ok c = read_text c.args.text.now c.read_all.result c.read_all.ensures.exact
+
+pub returns-clause-only : goal.returns-clause-only
+returns-clause-only c = read_shape c.args.text.now c.read_all.result c.read_all.ensures.exact
+
+pub returns-clause-outside : goal.returns-clause-outside
+returns-clause-outside c = read_nothing c.args.text.now c.read_all.result c.read_all.ensures.exact
