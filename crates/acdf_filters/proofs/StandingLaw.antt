@@ -46,7 +46,7 @@ like-one : {A : Type 0} (keys : Keys A) (x : A) (p r : ℕ) (b : Bool) (xs : Lis
 like-one keys x p r b xs =
     let filled = is_filled-append xs x in
     let all : list_all keys.grants (xs ++ x ∷ []) ≡ (list_all keys.grants xs && keys.grants x) =
-        list_all-append keys.grants xs (x ∷ []) ∙ ap (λ d. list_all keys.grants xs && d) (and-true (keys.grants x)) in
+    list_all-append keys.grants xs (x ∷ []) ∙ ap (λ d. list_all keys.grants xs && d) (and-true (keys.grants x)) in
     rw (filled, all) refl
 
 -- one tuple
@@ -183,12 +183,12 @@ weighed-one : {A : Type 0} (keys : Keys A) (passes : A → Bool) (front : List A
     → weighed keys passes (standing keys (filter passes front)) x ≡ standing keys (filter passes (front ++ x ∷ []))
 weighed-one keys passes front x within = elim (cases_Bool (passes x)) [
   | inl e ↦
-    cond-true (passes x) (with_one (alone keys x) (standing keys (filter passes front))) (standing keys (filter passes front)) e
-    ∙ with_one-standing keys x (filter passes front) within
-    ∙ ap (standing keys) (sym (filter-append passes front (x ∷ []) ∙ ap (λ ys. filter passes front ++ ys) (cond-true (passes x) (x ∷ []) [] e)))
+      cond-true (passes x) (with_one (alone keys x) (standing keys (filter passes front))) (standing keys (filter passes front)) e
+      ∙ with_one-standing keys x (filter passes front) within
+      ∙ ap (standing keys) (sym (filter-append passes front (x ∷ []) ∙ ap (λ ys. filter passes front ++ ys) (cond-true (passes x) (x ∷ []) [] e)))
   | inr e ↦
-    cond-false (passes x) (with_one (alone keys x) (standing keys (filter passes front))) (standing keys (filter passes front)) e
-    ∙ ap (standing keys) (sym (filter-append passes front (x ∷ []) ∙ ap (λ ys. filter passes front ++ ys) (cond-false (passes x) (x ∷ []) [] e) ∙ append-nil (filter passes front)))
+      cond-false (passes x) (with_one (alone keys x) (standing keys (filter passes front))) (standing keys (filter passes front)) e
+      ∙ ap (standing keys) (sym (filter-append passes front (x ∷ []) ∙ ap (λ ys. filter passes front ++ ys) (cond-false (passes x) (x ∷ []) [] e) ∙ append-nil (filter passes front)))
 ]
 
 -- all of them

@@ -1,5 +1,5 @@
 -- The running state of the decision: what of the tuples weighed so far decides. Each tuple is weighed once.
-use Rattle.std.specs.Prelude.{ℕ, nat_lt, Bool, true, false, ◌&&◌, List, fold, map, if◌then◌else◌}
+use Rattle.std.specs.Prelude.{nat_lt, Bool, true, false, ◌&&◌, List, map, if◌then◌else◌}
 use Rattle.std.specs.List.{list_any, list_all}
 use Rattle.acdf_filters.specs.Choices.{greatest, least, is_filled}
 use Rattle.acdf_filters.specs.LastFilters.{Keys, of_highest_precedence, of_most_specific_class, of_most_specific_item}
