@@ -7,7 +7,8 @@ pub mod Choices
 pub mod Filters
 pub mod Granted
 pub mod Unseen
+pub mod Weighing
+pub mod Memberships
 -- for the inside of the crate alone
 pub mod LastFilters
 pub mod Standings
-pub mod Weighing

@@ -1,5 +1,5 @@
 -- A tuple weighed for a question: the keys that the last three filters ask, and the first three filters as one test.
-use Rattle.std.specs.Prelude.{◌≡◌, ℕ, Bool, true, false, not, ◌&&◌, ◌||◌, List, string_bytes, find, map, Option, Some, None, if◌then◌else◌}
+use Rattle.std.specs.Prelude.{◌≡◌, ℕ, Bool, true, false, not, ◌&&◌, ◌||◌, List, [], ◌∷◌, string_bytes, find, map, Option, Some, None, if◌then◌else◌}
 use Rattle.std.specs.List.{AllByRecursion}
 use Rattle.std.specs.Option.{option_map}
 use Rattle.dn_names.specs.Names.{RdnSequence}
@@ -125,3 +125,8 @@ tagged_of item = record { tag = string_bytes item.tag; tuples = map tuple_of ite
 -- access is granted in the state
 abbrev pub is_granted : Standing → Bool
 is_granted seen = seen.filled && seen.grants
+
+-- the item, if there is one
+abbrev pub listed_option : Option tuples.TaggedTuples → List tuples.TaggedTuples
+listed_option None = []
+listed_option (Some item) = item ∷ []
