@@ -130,7 +130,7 @@ pub fn weigh_tuples(question: &Question<'_>, tuples: &[AciTuple], seen: Standing
 /// The state with the tuples of items weighed one after the other. No memory is taken.
 pub fn weigh_items(question: &Question<'_>, items: &[TaggedTuples], seen: Standing) -> Standing
     requires { KnowsGroups question.now }
-    ensures exact { result ≡ fold (weighed_for question.now) seen (flat_map (λ item. (tagged_of item).tuples) items.now) }
+    ensures exact { result ≡ fold (weighed_for question.now) seen (flat_map (λ item. item.tuples) (map tagged_of items.now)) }
 {
     let mut now = seen;
     for item in items {
