@@ -1,0 +1,8 @@
+//! What a directory keeps of its entries for the access control decision (X.501 18.8), and the decision by it.
+#![tactic(auto)]
+
+mod decision;
+mod kept;
+
+pub use decision::decide;
+pub use kept::Kept;
