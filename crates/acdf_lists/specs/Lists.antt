@@ -1,5 +1,5 @@
 -- What a directory keeps of each entry, so that a decision reads no text and takes no memory.
-use Rattle.std.specs.Prelude.{◌≡◌, ℕ, List, [], ◌++◌, map, flat_map, Option, Some, None, IsSome, slice_index_or, if◌then◌else◌}
+use Rattle.std.specs.Prelude.{◌≡◌, ℕ, ◌<◌, length, List, [], ◌++◌, map, flat_map, Option, Some, None, IsSome, slice_index_or, if◌then◌else◌}
 use Rattle.std.specs.List.{AllByRecursion}
 use Rattle.dir_tree.specs.Entries.{EntryInformation}
 use Rattle.dir_tree.specs.Numbered.{Numbered, entry_of, entries_of, entries_at, superior_of}
@@ -45,6 +45,11 @@ pub record AreOf (rows : List Numbered) (entry : EntryInformation) (lists : List
 -- of each number that is in use its entry's lists are kept
 abbrev pub IsKept : List Kept → List Numbered → Type 0
 IsKept kept rows = (id : ℕ) (entry : EntryInformation) → entry_of id rows ≡ Some entry → AreOf rows entry (lists_at kept id)
+
+-- the same of the numbers of which anything is kept
+abbrev pub IsKeptBelow : List Kept → List Numbered → Type 0
+IsKeptBelow kept rows =
+    (id : ℕ) (entry : EntryInformation) → id < length kept → entry_of id rows ≡ Some entry → AreOf rows entry (lists_at kept id)
 
 -- the tuples of items
 abbrev pub tuples_in : List TaggedTuples → List AciTuple

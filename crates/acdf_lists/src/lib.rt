@@ -3,6 +3,8 @@
 
 mod decision;
 mod kept;
+mod making;
 
 pub use decision::decide;
 pub use kept::Kept;
+pub use making::make_all;
