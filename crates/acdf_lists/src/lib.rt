@@ -4,7 +4,9 @@
 mod decision;
 mod kept;
 mod making;
+mod plain_dir;
 
 pub use decision::decide;
 pub use kept::Kept;
 pub use making::make_all;
+pub use plain_dir::PlainDir;
