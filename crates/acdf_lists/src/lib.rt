@@ -2,11 +2,13 @@
 #![tactic(auto)]
 
 mod decision;
+mod dir;
 mod kept;
 mod making;
 mod plain_dir;
 
 pub use decision::decide;
+pub use dir::Dir;
 pub use kept::Kept;
 pub use making::make_all;
 pub use plain_dir::PlainDir;

@@ -1,14 +1,14 @@
 //! A directory that keeps what decisions need.
 
-ghost use Rattle.std.specs.Prelude.{◌≡◌, Some, None, false, IfOk, map};
-ghost use Rattle.std.specs.Option.{option_map_or};
+ghost use Rattle.std.specs.Prelude.{◌≡◌, Some, IfOk};
 ghost use Rattle.dir_tree.specs.Numbered.{entry_of, entries_of};
 ghost use Rattle.acdf_filters.specs.Asking.{protected_of};
 ghost use Rattle.acdf_filters.specs.Granted.{granted};
 ghost use Rattle.acdf_filters.specs.Weighing.{AreMemberships};
 
 use crate::decision::decide;
-use crate::kept::Kept;
+use crate::dir::Dir;
+use crate::kept::{Kept, in_force_at};
 use crate::making::make_all;
 use acdf_filters::{Item, Membership, Question, Requester};
 use aci_item::Permission;
@@ -44,35 +44,7 @@ impl PlainDir {
         Ok(PlainDir { tree, kept })
     }
 
-    /// The tree.
-    pub fn tree(&self) -> &Tree
-        ensures exact { result.now ≡ self.now }
-    {
-        &self.tree
-    }
-
-    /// Whether the requester has the permission for the item of the entry of the number (X.501 18.8); false where the
-    /// number is not in use. The groups that are known are not asked for. No memory is taken.
-    pub fn decide(
-        &self,
-        who: &Requester,
-        known: &[Membership],
-        number: EntryNo,
-        item: Item<'_>,
-        permission: Permission,
-    ) -> bool
-        requires known { AreMemberships (entries_of self.now) who.now.name known.now }
-        ensures exact { result ≡ option_map_or
-            (λ entry. granted (entries_of self.now) who.now entry (protected_of item.entry) permission)
-            (entry_of number.0 self.now) false }
-    {
-        match self.tree.at(number) {
-            Some(entry) => self.decide_entry(who, known, number, entry, item, permission),
-            None => false,
-        }
-    }
-
-    // The same of a number that is in use.
+    // Whether the requester has the permission for the item of an entry, which has the number.
     fn decide_entry(
         &self,
         who: &Requester,
@@ -95,5 +67,31 @@ impl PlainDir {
             known,
         };
         decide(&question, &self.kept, number)
+    }
+}
+
+impl Dir for PlainDir {
+    ghost rows = { λ dir. dir };
+
+    fn tree(&self) -> &Tree {
+        &self.tree
+    }
+
+    fn decide(
+        &self,
+        who: &Requester,
+        known: &[Membership],
+        number: EntryNo,
+        item: Item<'_>,
+        permission: Permission,
+    ) -> bool {
+        match self.tree.at(number) {
+            Some(entry) => self.decide_entry(who, known, number, entry, item, permission),
+            None => false,
+        }
+    }
+
+    fn in_force(&self, number: EntryNo) -> &[EntryNo] {
+        in_force_at(&self.kept, number)
     }
 }
