@@ -12,7 +12,7 @@ use Rattle.ldif_core.specs.declared.types.LineCause.TheVariants.{Syntax, Changet
 use Rattle.ldif_core.specs.WrittenFile.{written_file}
 use Rattle.op_write.specs.declared.fault.LoadCause.{LoadCause}
 use Rattle.op_write.specs.declared.fault.LoadCause.TheVariants.{Name, Kind, Value, Twice, Order, Rule, Limit}
-use Rattle.op_write.specs.DataFile.{FileCause, OfLine, OfRecord, OfMemory}
+use Rattle.op_write.specs.DataFile.{FileCause, OfLine, OfRecord}
 use Rattle.acl_program.specs.declared.status.Status.{Status}
 use Rattle.acl_program.specs.declared.status.Status.TheVariants.{Done, Usage, BadData, ShelfFault, SinkFault, LinkFault, TurnsSpent, NoMemory, BadScript}
 use Rattle.acl_program.specs.Lines.{replay_text, entries_after}
@@ -46,11 +46,10 @@ record_cause_text Order = codes "order"
 record_cause_text (Rule code) = codes "rule " ++ decimal code
 record_cause_text Limit = codes "limit"
 
--- what is wrong with a file: want of memory is no fault of it
+-- what is wrong with a file
 abbrev pub cause_text : FileCause → List ℕ
 cause_text (OfLine cause) = line_cause_text cause
 cause_text (OfRecord cause) = record_cause_text cause
-cause_text OfMemory = []
 
 -- the tree as a data file, where it is asked for
 abbrev pub dump_text : Bool → List EntryInformation → List ℕ

@@ -9,6 +9,7 @@ use Rattle.ldif_core.specs.declared.types.Position.{Position}
 use Rattle.ldif_core.specs.declared.types.Record.{Record}
 use Rattle.ldif_core.specs.declared.types.BadLine.{BadLine}
 use Rattle.ldif_core.specs.declared.types.BadLine.TheVariants as reading
+use Rattle.ldif_core.specs.Faults.{LineFault}
 use Rattle.ldif_core.specs.Places.{records_from, IsNext, IsBadAt}
 use Rattle.op_write.specs.Loading.{◌>>=◌, loaded_entry, IsLoaded}
 use Rattle.op_write.specs.DataFile.{FileFault, in_file, record_entry, loads_after, loads_records, loads, file_start}
@@ -18,7 +19,7 @@ use Rattle.data_file.specs.Files.{IsDataFault, cause_of}
 use Rattle.data_file.specs.Steps.{of_line, IsRefused, IsStep}
 
 -- loading goes on after a record
-loads_after-record : (old new : List Numbered) (given : Record) (rest : List (Result Record BadLine)) → IsLoaded old given new
+loads_after-record : (old new : List Numbered) (given : Record) (rest : List (Result Record LineFault)) → IsLoaded old given new
     → loads_after (entries_of old) (Ok given ∷ rest) ≡ loads_after (entries_of new) rest
 unfolding loads_after
 loads_after-record old new given rest is =
@@ -66,7 +67,7 @@ put_in-filled entry (first ∷ rest) = by (is_before first.name entry.name)
     by false = λ none. cc
 
 -- where loading gives no entries, there were none before, and no record
-given_none : (entries : List EntryInformation) (records : List (Result Record BadLine)) → loads_after entries records ≡ Ok [] → (entries ≡ []) × (records ≡ [])
+given_none : (entries : List EntryInformation) (records : List (Result Record LineFault)) → loads_after entries records ≡ Ok [] → (entries ≡ []) × (records ≡ [])
 unfolding loads_after
 given_none entries [] is = (cc, refl)
 given_none entries (first ∷ rest) is =
@@ -76,7 +77,7 @@ given_none entries (first ∷ rest) is =
     ] is
 
 -- a file whose records give entries is loaded, and one whose records give none is refused at its first line
-loads_records-some : (records : List (Result Record BadLine)) (entries : List EntryInformation) → entries ≢ [] → loads_after [] records ≡ Ok entries → loads_records records ≡ Ok entries
+loads_records-some : (records : List (Result Record LineFault)) (entries : List EntryInformation) → entries ≢ [] → loads_after [] records ≡ Ok entries → loads_records records ≡ Ok entries
 unfolding loads_after
 loads_records-some [] entries some is = absurd (some cc)
 loads_records-some (first ∷ rest) entries some is = is
@@ -97,6 +98,6 @@ unfolding loads loads_after
 IsDataFault-loads NoMemory text is = tt
 IsDataFault-loads (Bad line cause) text is = by (records_from text file_start) is
   where
-    by : (records : List (Result Record BadLine)) → loads_after [] records ≡ Err (record { line = line; cause = cause_of cause }) → loads_records records ≡ Err (record { line = line; cause = cause_of cause })
+    by : (records : List (Result Record LineFault)) → loads_after [] records ≡ Err (record { line = line; cause = cause_of cause }) → loads_records records ≡ Err (record { line = line; cause = cause_of cause })
     by [] e = absurd cc
     by (first ∷ rest) e = e

@@ -82,3 +82,68 @@ fn a_file_without_subentries_has_none_for_access_control(rt: HostRuntime) -> Res
     assert!(rt; tree.access_subentries().is_empty());
     Ok(())
 }
+
+// A file with a subentry, below the suffix, which is an autonomous area.
+const WITH_SUBENTRY: &str =
+    "dn: dc=u\nobjectClass: domain\ndc: u\nadministrativeRole: autonomousArea\n\ndn: ou=b,dc=u\nobjectClass: organizationalUnit\n\ndn: cn=s,dc=u\nobjectClass: subentry\nobjectClass: accessControlSubentry\ncn: s\nsubtreeSpecification: { base \"ou=b\" }\n";
+
+#[test]
+fn a_file_with_a_subentry_is_loaded_and_written(rt: HostRuntime) -> Result<(), Fail> {
+    let tree = load(rt.alloc(), WITH_SUBENTRY.as_bytes())?;
+    assert_eq!(rt; tree.len(), 3);
+    assert_eq!(rt; tree.access_subentries().len(), 1);
+    let (put, out) = put_again(rt.alloc(), WITH_SUBENTRY, &[])?;
+    assert_eq!(rt; put, Ok(()));
+    let tree = load(rt.alloc(), out.bytes())?;
+    assert_eq!(rt; tree.access_subentries().len(), 1);
+    Ok(())
+}
+
+// Files with a subentry that has no place or no subtree, and the line and the rule of each.
+static WRONG_SUBENTRIES: [(&str, u64, u8); 6] = [
+    // its base names an attribute that there is not
+    (
+        "dn: dc=u\nobjectClass: domain\nadministrativeRole: autonomousArea\n\ndn: cn=s,dc=u\nobjectClass: subentry\ncn: s\nsubtreeSpecification: { base \"zz=b\" }\n",
+        5,
+        21,
+    ),
+    (
+        "dn: dc=u\nobjectClass: domain\nadministrativeRole: autonomousArea\n\ndn: cn=s,dc=u\nobjectClass: subentry\ncn: s\nsubtreeSpecification: { base \"ou=b\"\n",
+        5,
+        21,
+    ),
+    // below no administrative point
+    (
+        "dn: dc=u\nobjectClass: domain\n\ndn: cn=s,dc=u\nobjectClass: subentry\ncn: s\nsubtreeSpecification: { }\n",
+        4,
+        64,
+    ),
+    // two levels below the point
+    (
+        "dn: dc=u\nobjectClass: domain\nadministrativeRole: autonomousArea\n\ndn: ou=b,dc=u\nobjectClass: organizationalUnit\n\ndn: cn=s,ou=b,dc=u\nobjectClass: subentry\ncn: s\nsubtreeSpecification: { }\n",
+        8,
+        64,
+    ),
+    // below a subentry
+    (
+        "dn: dc=u\nobjectClass: domain\nadministrativeRole: autonomousArea\n\ndn: cn=s,dc=u\nobjectClass: subentry\ncn: s\nsubtreeSpecification: { }\n\ndn: ou=b,cn=s,dc=u\nobjectClass: organizationalUnit\n",
+        10,
+        64,
+    ),
+    // as the suffix
+    (
+        "dn: cn=s\nobjectClass: subentry\ncn: s\nsubtreeSpecification: { }\n",
+        1,
+        64,
+    ),
+];
+
+#[test]
+fn a_subentry_has_a_subtree_and_a_point_above_it(rt: HostRuntime) -> Result<(), Fail> {
+    for (text, line, rule) in &WRONG_SUBENTRIES {
+        let found = load(rt.alloc(), text.as_bytes()).err();
+        let (line, cause) = (*line, DataCause::Record(LoadCause::Rule(*rule)));
+        assert_eq!(rt; found, Some(DataFault::Bad { line, cause }), "{text:?}");
+    }
+    Ok(())
+}

@@ -78,7 +78,7 @@ fn check_rows(rt: &impl Abort, alloc: Global, rows: &'static [Row]) -> Result<()
     let tree = tree(alloc)?;
     for (name, attributes, want) in rows {
         let entry = entry(alloc, name, attributes)?;
-        let found = check_entry(&tree, None, &entry);
+        let found = check_entry(alloc, &tree, None, &entry);
         assert_eq!(rt; found, answer(*want), "{name} {attributes:?}");
     }
     Ok(())
@@ -305,7 +305,7 @@ fn the_classes_of_an_entry_require_and_allow_its_attributes(rt: HostRuntime) -> 
     check_rows(&rt, rt.alloc(), &CONTENTS)
 }
 
-static UNREAD: [Row; 4] = [
+static UNREAD: [Row; 6] = [
     (
         "cn=ann,dc=example",
         &[
@@ -333,6 +333,25 @@ static UNREAD: [Row; 4] = [
             ("cn", "local"),
             ("subtreeSpecification", "{ }"),
         ],
+        None,
+    ),
+    // no grammar has the text, and no attribute has the name
+    (
+        "cn=local,ou=area,dc=example",
+        &[
+            ("objectClass", "subentry"),
+            ("cn", "local"),
+            ("subtreeSpecification", "{ base }"),
+        ],
+        Some(21),
+    ),
+    (
+        "cn=local,ou=area,dc=example",
+        &[
+            ("objectClass", "subentry"),
+            ("cn", "local"),
+            ("subtreeSpecification", "{ base \"zz=b\" }"),
+        ],
         Some(21),
     ),
     // before the rule of single values
@@ -351,7 +370,7 @@ static UNREAD: [Row; 4] = [
 ];
 
 #[test]
-fn values_of_two_syntaxes_are_not_read(rt: HostRuntime) -> Result<(), Fail> {
+fn a_subtree_value_is_read_and_an_access_control_item_is_not(rt: HostRuntime) -> Result<(), Fail> {
     check_rows(&rt, rt.alloc(), &UNREAD)
 }
 
@@ -447,7 +466,7 @@ fn the_values_of_an_entry_have_at_most_67108864_octets(rt: HostRuntime) -> Resul
         let mut entry = entry(rt.alloc(), "cn=ann,dc=example", &attributes)?;
         let password = vec![in rt.alloc(); 0u8; octets]?;
         put(rt.alloc(), &mut entry, "userPassword", password)?;
-        let found = check_entry(&tree, None, &entry);
+        let found = check_entry(rt.alloc(), &tree, None, &entry);
         assert_eq!(rt; found, answer(want), "{octets}");
     }
     Ok(())
@@ -457,8 +476,9 @@ fn the_values_of_an_entry_have_at_most_67108864_octets(rt: HostRuntime) -> Resul
 fn a_suffix_is_checked_in_a_tree_without_entries(rt: HostRuntime) -> Result<(), Fail> {
     let tree = Tree::new(rt.alloc());
     let suffix = entry(rt.alloc(), "dc=example", &DOMAIN)?;
-    assert_eq!(rt; check_entry(&tree, None, &suffix), Ok(()));
+    assert_eq!(rt; check_entry(rt.alloc(), &tree, None, &suffix), Ok(()));
     let subentry = entry(rt.alloc(), "cn=policy", &POLICY)?;
-    assert_eq!(rt; check_entry(&tree, None, &subentry), answer(Some(21)));
+    let found = check_entry(rt.alloc(), &tree, None, &subentry);
+    assert_eq!(rt; found, answer(Some(64)));
     Ok(())
 }

@@ -3,8 +3,7 @@ use Rattle.std.proofs.Common.{◌≡◌, ℕ, [], ◌∷◌, ◌++◌, List, Res
 use Rattle.std.specs.Prelude.{codes, flat_map}
 use Rattle.ldif_core.specs.declared.types.Record.{Record}
 use Rattle.ldif_core.specs.declared.types.RecordLine.{RecordLine}
-use Rattle.ldif_core.specs.declared.types.BadLine.{BadLine}
-use Rattle.ldif_core.specs.declared.types.BadLine.TheVariants.{Bad}
+use Rattle.ldif_core.specs.Faults.{LineFault, Bad}
 use Rattle.ldif_core.specs.declared.types.LineCause.TheVariants.{Syntax, Changetype, Base64}
 use Rattle.ldif_core.specs.Places.{file_start, records_from}
 use Rattle.ldif_core.specs.Written.{written_line}
@@ -14,7 +13,7 @@ use Rattle.ldif_core.proofs.OnLiterals.{ldif_on_literals}
 abbrev ended : List (List ℕ) → List ℕ
 ended lines = flat_map (λ line. line ++ 10 ∷ []) lines
 
-abbrev records_in : List ℕ → List (Result Record BadLine)
+abbrev records_in : List ℕ → List (Result Record LineFault)
 records_in text = records_from text file_start
 
 abbrev line : ℕ → List ℕ → List ℕ → RecordLine

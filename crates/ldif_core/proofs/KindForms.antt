@@ -10,8 +10,7 @@ use Rattle.schema_core.specs.Oid.{is_number, parts, is_dotted_oid}
 use Rattle.ldif_core.specs.declared.types.Position.{Position}
 use Rattle.ldif_core.specs.declared.types.Record.{Record}
 use Rattle.ldif_core.specs.declared.types.RecordLine.{RecordLine}
-use Rattle.ldif_core.specs.declared.types.BadLine.{BadLine}
-use Rattle.ldif_core.specs.declared.types.BadLine.TheVariants.{Bad}
+use Rattle.ldif_core.specs.Faults.{LineFault, Bad}
 use Rattle.ldif_core.specs.declared.types.LineCause.TheVariants.{Changetype}
 use Rattle.ldif_core.specs.Lines.{Line, begins_with}
 use Rattle.ldif_core.specs.Fields.{Field, is_colon, is_kind, is_changetype, field_after, field_of, value_of, with_value, attribute_of, attribute_line, name_line}
@@ -58,7 +57,7 @@ line-kind : (line : Line) (read : RecordLine) → attribute_line line ≡ Ok rea
 line-kind line read is = attribute-kind line.number (field_of line.octets) read (field_of-kind line.octets) is
 
 -- and so have the lines of a record
-bind-ok : {A B : Type 0} (reading : Result A BadLine) (next : A → Result B BadLine) (read : B) → (reading >>= next) ≡ Ok read → (first : A) × (reading ≡ Ok first) × (next first ≡ Ok read)
+bind-ok : {A B : Type 0} (reading : Result A LineFault) (next : A → Result B LineFault) (read : B) → (reading >>= next) ≡ Ok read → (first : A) × (reading ≡ Ok first) × (next first ≡ Ok read)
 bind-ok (Ok first) next read is = (first, refl, is)
 bind-ok (Err bad) next read is = cc is
 
@@ -79,13 +78,13 @@ record-kinds first rest read is =
     let same : record { line = first.number; name = name.0; lines = lines.0 } ≡ read = cc lines.2 in
     subst (λ (found : Record). AllByRecursion HasKind found.lines) same (lines-kinds rest lines.0 lines.1)
 
-first-kinds : (parts : List (List Line)) (read : Record) (rest : List (Result Record BadLine)) → filter_map record_between parts ≡ Ok read ∷ rest → AllByRecursion HasKind read.lines
+first-kinds : (parts : List (List Line)) (read : Record) (rest : List (Result Record LineFault)) → filter_map record_between parts ≡ Ok read ∷ rest → AllByRecursion HasKind read.lines
 first-kinds [] read rest is = cc is
 first-kinds ([] ∷ parts) read rest is = first-kinds parts read rest is
 first-kinds ((line ∷ lines) ∷ parts) read rest is =
     let same : record_of line lines ≡ Ok read = cc is in record-kinds line lines read same
 
-records-kinds : (lines : List Line) (read : Record) (rest : List (Result Record BadLine)) → records lines ≡ Ok read ∷ rest → AllByRecursion HasKind read.lines
+records-kinds : (lines : List Line) (read : Record) (rest : List (Result Record LineFault)) → records lines ≡ Ok read ∷ rest → AllByRecursion HasKind read.lines
 unfolding records
 records-kinds lines read rest is = first-kinds (slice_split is_blank lines) read rest is
 

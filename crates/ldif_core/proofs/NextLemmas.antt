@@ -4,7 +4,7 @@ use Rattle.std.specs.Prelude.{IfNone, IfSome, IfErr}
 use Rattle.ldif_core.specs.declared.types.Position.{Position}
 use Rattle.ldif_core.specs.declared.types.Record.{Record}
 use Rattle.ldif_core.specs.declared.types.BadLine.{BadLine}
-use Rattle.ldif_core.specs.declared.types.BadLine.TheVariants.{Bad, NoMemory}
+use Rattle.ldif_core.specs.declared.types.BadLine.TheVariants as bad_line
 use Rattle.ldif_core.specs.Lines.{Line}
 use Rattle.ldif_core.specs.Records.{record_of, records}
 use Rattle.ldif_core.specs.Places.{IsPlace, IsLinesAfter, IsNext, IsBadAt, content_from, records_from}
@@ -47,9 +47,9 @@ IsNext-read text from at to line first found start is filled good rest later pla
 -- it is bad
 pub IsBadAt-read : (text : List ℕ) (from at : Position) (line : Option Line) (first : Line) (bad : BadLine) → records_from text from ≡ records (ahead line (content_from text at)) → line ≡ Some first → is_blank_ahead line ≡ false
     → IsFault bad (record_of first (before_blank (content_from text at))) → IsBadAt text from bad
-IsBadAt-read text from at line first (Bad number cause) start is filled fault =
+IsBadAt-read text from at line first (bad_line.Bad number cause) start is filled fault =
     (records (after_blank (content_from text at)), records-start text from at line first start is filled ∙ ap (λ front. front ∷ records (after_blank (content_from text at))) fault)
-IsBadAt-read text from at line first NoMemory start is filled fault = tt
+IsBadAt-read text from at line first bad_line.NoMemory start is filled fault = tt
 
 -- the same of an answer
 pub bad-same : {A : Type 0} (text : List ℕ) (from : Position) (result : Result A BadLine) (found given : BadLine) → result ≡ Err found → found ≡ given → IsBadAt text from given → IfErr result (λ bad. IsBadAt text from bad)

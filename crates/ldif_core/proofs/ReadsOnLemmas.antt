@@ -3,7 +3,7 @@ use Rattle.std.proofs.Common.{◌≡◌, ℕ, ◌≤◌, false, List, [], ◌∷
 use Rattle.std.specs.Prelude.{IfNone}
 use Rattle.ldif_core.specs.declared.types.Position.{Position}
 use Rattle.ldif_core.specs.declared.types.RecordLine.{RecordLine}
-use Rattle.ldif_core.specs.declared.types.BadLine.{BadLine}
+use Rattle.ldif_core.specs.Faults.{LineFault}
 use Rattle.ldif_core.specs.Lines.{Line}
 use Rattle.ldif_core.specs.Fields.{attribute_line}
 use Rattle.ldif_core.specs.Records.{is_blank, attribute_lines}
@@ -22,7 +22,7 @@ pub record ReadsOn (text : List ℕ) (first : Option Line) (from : Position) (fo
   pub passed : IsLinesAfter text from at
 
 -- none was read yet
-after_none_of_these : (reading : Result (List RecordLine) BadLine) → after_these [] reading ≡ reading
+after_none_of_these : (reading : Result (List RecordLine) LineFault) → after_these [] reading ≡ reading
 after_none_of_these (Ok lines) = refl
 after_none_of_these (Err bad) = refl
 

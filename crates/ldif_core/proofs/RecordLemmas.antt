@@ -7,7 +7,8 @@ use Rattle.std.proofs.lemmas.List.{append-nil, append_assoc}
 use Rattle.std.proofs.lemmas.List.Splits.{slice_split-cons_yes, slice_split-cons_no}
 use Rattle.ldif_core.specs.declared.types.RecordLine.{RecordLine}
 use Rattle.ldif_core.specs.declared.types.BadLine.{BadLine}
-use Rattle.ldif_core.specs.declared.types.BadLine.TheVariants.{Bad, NoMemory}
+use Rattle.ldif_core.specs.declared.types.BadLine.TheVariants as bad_line
+use Rattle.ldif_core.specs.Faults.{LineFault, Bad}
 use Rattle.ldif_core.specs.Lines.{Line}
 use Rattle.ldif_core.specs.Fields.{attribute_line, name_line}
 use Rattle.ldif_core.specs.Records.{◌>>=◌, is_blank, attribute_lines, record_of, record_between, records}
@@ -69,7 +70,7 @@ pub lines-done : (found : List RecordLine) (lines : List Line) → lines ≡ [] 
 lines-done found lines none = ap (λ rest. after_these found (attribute_lines rest)) none ∙ ap (after_these found) lines-nil ∙ ap Ok (append-nil found)
 
 -- a good line
-then-these : (found : List RecordLine) (first : RecordLine) (reading : Result (List RecordLine) BadLine)
+then-these : (found : List RecordLine) (first : RecordLine) (reading : Result (List RecordLine) LineFault)
     → after_these (found ++ first ∷ []) reading ≡ after_these found (reading >>= λ others. Ok (first ∷ others))
 then-these found first (Ok others) = ap Ok (append_assoc found (first ∷ []) others)
 then-these found first (Err bad) = refl
@@ -83,21 +84,21 @@ pub lines-good : (found : List RecordLine) (line : Line) (rest : List Line) (fir
 lines-good found line rest first good = then-these found first (attribute_lines rest) ∙ ap (after_these found) (sym (lines-cons line rest first good))
 
 -- a bad one
-lines-bad : (line : Line) (rest : List Line) (bad : BadLine) → attribute_line line ≡ Err bad → attribute_lines (line ∷ rest) ≡ Err bad
+lines-bad : (line : Line) (rest : List Line) (bad : LineFault) → attribute_line line ≡ Err bad → attribute_lines (line ∷ rest) ≡ Err bad
 unfolding attribute_lines
 lines-bad line rest bad is = ap (λ reading. reading >>= λ found. attribute_lines rest >>= λ others. Ok (found ∷ others)) is
 
 pub lines-fault : (found : List RecordLine) (line : Line) (rest : List Line) (bad : BadLine) → IsFault bad (attribute_line line) → IsFault bad (after_these found (attribute_lines (line ∷ rest)))
-lines-fault found line rest (Bad number cause) is = ap (after_these found) (lines-bad line rest (Bad number cause) is)
-lines-fault found line rest NoMemory is = tt
+lines-fault found line rest (bad_line.Bad number cause) is = ap (after_these found) (lines-bad line rest (Bad number cause) is)
+lines-fault found line rest bad_line.NoMemory is = tt
 
 -- a fault of what a call answered
-pub fault-same : {A B : Type 0} (result : Result A BadLine) (found given : BadLine) (reading : Result B BadLine) → result ≡ Err found → found ≡ given → IsFault given reading → IfErr result (λ bad. IsFault bad reading)
+pub fault-same : {A B : Type 0} (result : Result A BadLine) (found given : BadLine) (reading : Result B LineFault) → result ≡ Err found → found ≡ given → IsFault given reading → IfErr result (λ bad. IsFault bad reading)
 fault-same result found given reading answered same is = rw (answered, same) is
 
-pub fault-of : {A : Type 0} (bad : BadLine) (reading whole : Result A BadLine) → whole ≡ reading → IsFault bad reading → IsFault bad whole
-fault-of (Bad number cause) reading whole same is = same ∙ is
-fault-of NoMemory reading whole same is = tt
+pub fault-of : {A : Type 0} (bad : BadLine) (reading whole : Result A LineFault) → whole ≡ reading → IsFault bad reading → IsFault bad whole
+fault-of (bad_line.Bad number cause) reading whole same is = same ∙ is
+fault-of bad_line.NoMemory reading whole same is = tt
 
 -- a record by its first line and its others
 record-name : (first : Line) (rest : List Line) (alone : Bool) (name : List ℕ) → (length rest == 0) ≡ alone → name_line alone first ≡ Ok name
@@ -114,16 +115,16 @@ record-good first rest alone name lines is good others =
 
 pub record-fault_name : (first : Line) (rest : List Line) (alone : Bool) (bad : BadLine) → (length rest == 0) ≡ alone → IsFault bad (name_line alone first) → IsFault bad (record_of first rest)
 unfolding record_of
-record-fault_name first rest alone (Bad number cause) is fault =
+record-fault_name first rest alone (bad_line.Bad number cause) is fault =
     ap (λ single. name_line single first >>= λ name. attribute_lines rest >>= λ lines. Ok (record { line = first.number; name = name; lines = lines })) is
     ∙ ap (λ reading. reading >>= λ name. attribute_lines rest >>= λ lines. Ok (record { line = first.number; name = name; lines = lines })) fault
-record-fault_name first rest alone NoMemory is fault = tt
+record-fault_name first rest alone bad_line.NoMemory is fault = tt
 
 pub record-fault_line : (first : Line) (rest : List Line) (alone : Bool) (name : List ℕ) (bad : BadLine) → (length rest == 0) ≡ alone → name_line alone first ≡ Ok name → IsFault bad (attribute_lines rest)
     → IsFault bad (record_of first rest)
-record-fault_line first rest alone name (Bad number cause) is good fault =
+record-fault_line first rest alone name (bad_line.Bad number cause) is good fault =
     record-name first rest alone name is good ∙ ap (λ reading. reading >>= λ lines. Ok (record { line = first.number; name = name; lines = lines })) fault
-record-fault_line first rest alone name NoMemory is good fault = tt
+record-fault_line first rest alone name bad_line.NoMemory is good fault = tt
 
 -- lines are cut at the first empty one
 pub record SplitsOff (lines : List Line) : Type 0 where
@@ -179,7 +180,7 @@ pub after-some : (line : Option Line) (this : Line) (rest : List Line) → line 
 after-some line this rest is says = ap (λ found. after_blank (ahead found rest)) is ∙ after-line this rest says
 
 -- one more good line
-pub lines-step : (found : List RecordLine) (line : Option Line) (this : Line) (rest next : List Line) (first : RecordLine) (whole : Result (List RecordLine) BadLine)
+pub lines-step : (found : List RecordLine) (line : Option Line) (this : Line) (rest next : List Line) (first : RecordLine) (whole : Result (List RecordLine) LineFault)
     → line ≡ Some this → is_blank this ≡ false → rest ≡ next → attribute_line this ≡ Ok first
     → after_these found (attribute_lines (before_blank (ahead line rest))) ≡ whole
     → after_these (found ++ first ∷ []) (attribute_lines (before_blank next)) ≡ whole
@@ -193,7 +194,7 @@ pub rest-step : (line : Option Line) (this : Line) (rest next whole : List Line)
 rest-step line this rest next whole is says same was = was ∙ after-some line this rest is says ∙ ap after_blank same
 
 -- a bad line
-pub lines-stop : (found : List RecordLine) (line : Option Line) (this : Line) (rest : List Line) (bad : BadLine) (whole : Result (List RecordLine) BadLine)
+pub lines-stop : (found : List RecordLine) (line : Option Line) (this : Line) (rest : List Line) (bad : BadLine) (whole : Result (List RecordLine) LineFault)
     → line ≡ Some this → is_blank this ≡ false → IsFault bad (attribute_line this)
     → after_these found (attribute_lines (before_blank (ahead line rest))) ≡ whole
     → IsFault bad whole

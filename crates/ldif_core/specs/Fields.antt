@@ -8,8 +8,7 @@ use Rattle.base64.specs.GeneralPurpose.{decode_of}
 use Rattle.schema_core.specs.Naming.{is_keystring}
 use Rattle.schema_core.specs.Oid.{is_dotted_oid}
 use Rattle.ldif_core.specs.declared.types.RecordLine.{RecordLine}
-use Rattle.ldif_core.specs.declared.types.BadLine.{BadLine}
-use Rattle.ldif_core.specs.declared.types.BadLine.TheVariants.{Bad}
+use Rattle.ldif_core.specs.Faults.{LineFault, Bad}
 use Rattle.ldif_core.specs.declared.types.LineCause.TheVariants.{Syntax, Changetype, Base64}
 use Rattle.ldif_core.specs.Lines.{Line, begins_with}
 
@@ -62,31 +61,31 @@ unfoldable pub is_dn : List ℕ → Bool
 is_dn kind = bytes_eq kind (codes "dn")
 
 -- the line with its value, or the line is bad
-abbrev pub with_value : ℕ → List ℕ → Option (List ℕ) → Result RecordLine BadLine
+abbrev pub with_value : ℕ → List ℕ → Option (List ℕ) → Result RecordLine LineFault
 with_value number kind None = Err (Bad number Base64)
 with_value number kind (Some value) = Ok (record { line = number; kind = kind; value = value })
 
 -- the attribute line of the number and the field; a line of no form is bad
-abbrev pub attribute_of : ℕ → Option Field → Result RecordLine BadLine
+abbrev pub attribute_of : ℕ → Option Field → Result RecordLine LineFault
 attribute_of number None = Err (Bad number Syntax)
 attribute_of number (Some field) =
     if is_changetype field.kind then Err (Bad number Changetype) else with_value number field.kind (value_of field)
 
 -- what an attribute line says, or why it is bad
-abbrev pub attribute_line : Line → Result RecordLine BadLine
+abbrev pub attribute_line : Line → Result RecordLine LineFault
 attribute_line line = attribute_of line.number (field_of line.octets)
 
 -- the name with its octets, or the line is bad
-abbrev pub with_name : ℕ → Option (List ℕ) → Result (List ℕ) BadLine
+abbrev pub with_name : ℕ → Option (List ℕ) → Result (List ℕ) LineFault
 with_name number None = Err (Bad number Base64)
 with_name number (Some name) = Ok name
 
 -- the name that the first line of a record says; the line is bad too where it is the record's only one
-abbrev pub name_of : ℕ → Bool → Option Field → Result (List ℕ) BadLine
+abbrev pub name_of : ℕ → Bool → Option Field → Result (List ℕ) LineFault
 name_of number alone None = Err (Bad number Syntax)
 name_of number alone (Some field) =
     if is_dn field.kind && not alone then with_name number (value_of field) else Err (Bad number Syntax)
 
 -- what the first line of a record says, or why it is bad
-abbrev pub name_line : Bool → Line → Result (List ℕ) BadLine
+abbrev pub name_line : Bool → Line → Result (List ℕ) LineFault
 name_line alone line = name_of line.number alone (field_of line.octets)

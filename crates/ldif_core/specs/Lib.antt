@@ -1,4 +1,5 @@
 -- what public clauses cite
+pub mod Faults
 pub mod Lines
 pub mod Fields
 pub mod Records

@@ -4,7 +4,8 @@ use Rattle.std.specs.Str.Lines.{lines}
 use Rattle.ldif_core.specs.declared.types.Position.{Position}
 use Rattle.ldif_core.specs.declared.types.Record.{Record}
 use Rattle.ldif_core.specs.declared.types.BadLine.{BadLine}
-use Rattle.ldif_core.specs.declared.types.BadLine.TheVariants.{Bad, NoMemory}
+use Rattle.ldif_core.specs.declared.types.BadLine.TheVariants as bad_line
+use Rattle.ldif_core.specs.Faults.{LineFault, Bad}
 use Rattle.ldif_core.specs.Lines.{Line, numbered, logical}
 use Rattle.ldif_core.specs.Records.{without_comments, without_version, records}
 
@@ -41,7 +42,7 @@ body_from text place =
     if place.offset == 0 then without_version (content_from text place) else content_from text place
 
 -- the records
-unfoldable pub records_from : List ℕ → Position → List (Result Record BadLine)
+unfoldable pub records_from : List ℕ → Position → List (Result Record LineFault)
 records_from text place = records (body_from text place)
 
 -- the record is the first from one place on, and the records after it are those from the other place on
@@ -53,6 +54,6 @@ pub record IsNext (text : List ℕ) (from : Position) (first : Record) (to : Pos
 
 -- the first record from the place on is bad for this; want of memory may come anywhere
 abbrev pub IsBadAt : List ℕ → Position → BadLine → Type 0
-IsBadAt text from (Bad line cause) =
-    (rest : List (Result Record BadLine)) × (records_from text from ≡ Err (Bad line cause) ∷ rest)
-IsBadAt text from NoMemory = Unit {0}
+IsBadAt text from (bad_line.Bad line cause) =
+    (rest : List (Result Record LineFault)) × (records_from text from ≡ Err (Bad line cause) ∷ rest)
+IsBadAt text from bad_line.NoMemory = Unit {0}

@@ -5,7 +5,7 @@ use Rattle.std.specs.Str.{bytes_eq}
 pub use Rattle.plain_values.specs.Results.{◌>>=◌}
 use Rattle.ldif_core.specs.declared.types.Record.{Record}
 use Rattle.ldif_core.specs.declared.types.RecordLine.{RecordLine}
-use Rattle.ldif_core.specs.declared.types.BadLine.{BadLine}
+use Rattle.ldif_core.specs.Faults.{LineFault}
 use Rattle.ldif_core.specs.Lines.{Line, begins_with}
 use Rattle.ldif_core.specs.Fields.{attribute_line, name_line}
 
@@ -31,20 +31,20 @@ abbrev pub is_blank : Line → Bool
 is_blank line = length line.octets == 0
 
 -- the attribute lines of a record, or the first bad one
-unfoldable pub attribute_lines : List Line → Result (List RecordLine) BadLine
+unfoldable pub attribute_lines : List Line → Result (List RecordLine) LineFault
 attribute_lines [] = Ok []
 attribute_lines (line ∷ rest) = attribute_line line >>= λ first. attribute_lines rest >>= λ others. Ok (first ∷ others)
 
 -- the record of a first line and the lines after it, or its first bad line
-unfoldable pub record_of : Line → List Line → Result Record BadLine
+unfoldable pub record_of : Line → List Line → Result Record LineFault
 record_of first rest = name_line (length rest == 0) first >>= λ name. attribute_lines rest >>= λ lines.
     Ok (record { line = first.number; name = name; lines = lines })
 
 -- the record of lines between empty ones; no record where there are none
-abbrev pub record_between : List Line → Option (Result Record BadLine)
+abbrev pub record_between : List Line → Option (Result Record LineFault)
 record_between [] = None
 record_between (first ∷ rest) = Some (record_of first rest)
 
 -- the records of lines that are no comments
-unfoldable pub records : List Line → List (Result Record BadLine)
+unfoldable pub records : List Line → List (Result Record LineFault)
 records lines = filter_map record_between (slice_split is_blank lines)

@@ -4,7 +4,8 @@ use Rattle.ldif_core.specs.declared.types.Position.{Position}
 use Rattle.ldif_core.specs.declared.fields.Parts.{Parts}
 use Rattle.ldif_core.specs.declared.types.RecordLine.{RecordLine}
 use Rattle.ldif_core.specs.declared.types.BadLine.{BadLine}
-use Rattle.ldif_core.specs.declared.types.BadLine.TheVariants.{Bad, NoMemory}
+use Rattle.ldif_core.specs.declared.types.BadLine.TheVariants as bad_line
+use Rattle.ldif_core.specs.Faults.{LineFault, Bad}
 use Rattle.ldif_core.specs.Lines.{Line, is_continuation}
 use Rattle.ldif_core.specs.Fields.{Field}
 use Rattle.ldif_core.specs.Records.{is_blank, is_version}
@@ -56,17 +57,17 @@ after_blank [] = []
 after_blank (line ∷ rest) = if is_blank line then rest else after_blank rest
 
 -- lines that were read, and what reading the others gives
-abbrev pub after_these : List RecordLine → Result (List RecordLine) BadLine → Result (List RecordLine) BadLine
+abbrev pub after_these : List RecordLine → Result (List RecordLine) LineFault → Result (List RecordLine) LineFault
 after_these found (Ok others) = Ok (found ++ others)
 after_these found (Err bad) = Err bad
 
 -- the fault is that of reading; want of memory may come anywhere
-abbrev pub IsFault : {A : Type 0} → BadLine → Result A BadLine → Type 0
-IsFault (Bad line cause) reading = reading ≡ Err (Bad line cause)
-IsFault NoMemory reading = Unit {0}
+abbrev pub IsFault : {A : Type 0} → BadLine → Result A LineFault → Type 0
+IsFault (bad_line.Bad line cause) reading = reading ≡ Err (Bad line cause)
+IsFault bad_line.NoMemory reading = Unit {0}
 
 -- what a call answered is what reading gives, unless memory ran out
-abbrev pub Gives : {A : Type 0} → Result A BadLine → Result A BadLine → Type 0
+abbrev pub Gives : {A : Type 0} → Result A BadLine → Result A LineFault → Type 0
 Gives (Ok value) reading = reading ≡ Ok value
 Gives (Err bad) reading = IsFault bad reading
 

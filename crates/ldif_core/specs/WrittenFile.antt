@@ -7,7 +7,7 @@ use Rattle.dn_names.specs.Printing.{print_name}
 use Rattle.dir_tree.specs.Entries.{Attribute, EntryInformation}
 use Rattle.ldif_core.specs.declared.types.Record.{Record}
 use Rattle.ldif_core.specs.declared.types.RecordLine.{RecordLine}
-use Rattle.ldif_core.specs.declared.types.BadLine.{BadLine}
+use Rattle.ldif_core.specs.Faults.{LineFault}
 use Rattle.ldif_core.specs.Written.{AreInTable, written_entry}
 
 -- a type by its name, and the octets of a value
@@ -50,7 +50,7 @@ unfoldable pub written_file : List EntryInformation → List ℕ
 written_file entries = codes "version: 1" ++ (10 ∷ written_records entries)
 
 -- the records of the entries, from the number of the first empty line on
-abbrev pub entry_records : ℕ → List EntryInformation → List (Result Record BadLine)
+abbrev pub entry_records : ℕ → List EntryInformation → List (Result Record LineFault)
 entry_records number [] = []
 entry_records number (entry ∷ rest) =
     Ok (record_from (number + 1) entry) ∷ entry_records (number + 1 + 1 + length (values_in entry.attributes)) rest

@@ -5,11 +5,11 @@ use Rattle.base64.specs.GeneralPurpose.{IsBytes}
 use Rattle.dir_tree.specs.Entries.{EntryInformation}
 use Rattle.dir_tree.specs.Trees.{is_before, has_name, lacks_superior, put_in}
 use Rattle.ldif_core.specs.declared.types.Record.{Record}
-use Rattle.ldif_core.specs.declared.types.BadLine.{BadLine}
+use Rattle.ldif_core.specs.Faults.{LineFault}
 use Rattle.ldif_core.specs.Places.{records_from}
 use Rattle.schema_rules.specs.Rules.{broken_rule, AreGood, IsGoodTree}
 use Rattle.schema_rules.proofs.Theorems.{AreGood-none, AreGood-put_in}
-use Rattle.op_write.specs.declared.fault.LoadFault.{LoadFault}
+use Rattle.op_write.specs.Loading.{RecordFault}
 use Rattle.op_write.specs.Loading.{entry_of_record, ruled, placed, loaded_entry}
 use Rattle.op_write.specs.DataFile.{record_entry, loads_after, loads_records, file_start, loads}
 use Rattle.op_write.proofs.Theorems.{entry_of_record-named}
@@ -24,7 +24,7 @@ record IsFree (entries : List EntryInformation) (entry : EntryInformation) : Typ
   under : lacks_superior entry.name entries ≡ false
   unbroken : broken_rule None entries entry ≡ None
 
-no_fault : (test : Bool) (one other : LoadFault) (made : EntryInformation) (code : ℕ) → (if test then Err one else Err other) ≡ Ok made → Some code ≡ None
+no_fault : (test : Bool) (one other : RecordFault) (made : EntryInformation) (code : ℕ) → (if test then Err one else Err other) ≡ Ok made → Some code ≡ None
 no_fault true one other made code is = absurd cc
 no_fault false one other made code is = absurd cc
 
@@ -33,7 +33,7 @@ ruled-unbroken line entry made None is = refl
 ruled-unbroken line entry made (Some code) is = no_fault (code == 11) _ _ made code is
 
 free_by :
-    (entries : List EntryInformation) (line : ℕ) (entry made : EntryInformation) (there lacks : Bool) (one other : LoadFault)
+    (entries : List EntryInformation) (line : ℕ) (entry made : EntryInformation) (there lacks : Bool) (one other : RecordFault)
     → has_name entry.name entries ≡ there → lacks_superior entry.name entries ≡ lacks
     → (if there then Err one else if lacks then Err other else ruled line entry (broken_rule None entries entry)) ≡ Ok made
     → IsFree entries entry
@@ -64,7 +64,7 @@ good-loaded entries given entry octets good is =
     free.under free.unbroken)
 
 good-record_entry :
-    (entries : List EntryInformation) (read : Result Record BadLine) (entry : EntryInformation) → GivesOctets read
+    (entries : List EntryInformation) (read : Result Record LineFault) (entry : EntryInformation) → GivesOctets read
     → AreGood entries → record_entry entries read ≡ Ok entry → AreGood (put_in entry entries)
 good-record_entry entries (Ok given) entry octets good is =
     good-loaded entries given entry octets good (in_file-given (loaded_entry entries given) entry is)
@@ -72,7 +72,7 @@ good-record_entry entries (Err bad) entry octets good is = absurd cc
 
 -- and with those of all records
 good-loads_after :
-    (records : List (Result Record BadLine)) (entries all : List EntryInformation) → AllByRecursion GivesOctets records
+    (records : List (Result Record LineFault)) (entries all : List EntryInformation) → AllByRecursion GivesOctets records
     → AreGood entries → loads_after entries records ≡ Ok all → AreGood all
 unfolding loads_after
 good-loads_after [] entries all octets good is =
@@ -91,7 +91,7 @@ put_in-some entry [] is = cc
 put_in-some entry (first ∷ rest) is = some_put (is_before first.name entry.name) entry first rest (put_in entry rest) is
 
 some-loads_after :
-    (records : List (Result Record BadLine)) (entries all : List EntryInformation) → entries ≢ []
+    (records : List (Result Record LineFault)) (entries all : List EntryInformation) → entries ≢ []
     → loads_after entries records ≡ Ok all → all ≢ []
 unfolding loads_after
 some-loads_after [] entries all some is = let same : entries ≡ all = cc in subst (λ (found : List EntryInformation). found ≢ []) same some
@@ -100,7 +100,7 @@ some-loads_after (first ∷ rest) entries all some is =
     some-loads_after rest (put_in step.0 entries) all (put_in-some step.0 entries) step.2
 
 some-loads_first :
-    (first : Result Record BadLine) (rest : List (Result Record BadLine)) (all : List EntryInformation)
+    (first : Result Record LineFault) (rest : List (Result Record LineFault)) (all : List EntryInformation)
     → loads_after [] (first ∷ rest) ≡ Ok all → all ≢ []
 unfolding loads_after
 some-loads_first first rest all is =
@@ -108,7 +108,7 @@ some-loads_first first rest all is =
     some-loads_after rest (put_in step.0 []) all (put_in-some step.0 []) step.2
 
 good-loads_records :
-    (records : List (Result Record BadLine)) (all : List EntryInformation) → AllByRecursion GivesOctets records
+    (records : List (Result Record LineFault)) (all : List EntryInformation) → AllByRecursion GivesOctets records
     → loads_records records ≡ Ok all → IsGoodTree all
 good-loads_records [] all octets is = absurd cc
 good-loads_records (first ∷ rest) all octets is =

@@ -5,10 +5,10 @@ use Rattle.base64.specs.GeneralPurpose.{IsBytes}
 use Rattle.dir_tree.specs.Entries.{EntryInformation}
 use Rattle.dir_tree.specs.Trees.{is_before, has_name, lacks_superior, put_in}
 use Rattle.ldif_core.specs.declared.types.Record.{Record}
-use Rattle.ldif_core.specs.declared.types.BadLine.{BadLine}
+use Rattle.ldif_core.specs.Faults.{LineFault}
 use Rattle.ldif_core.specs.Places.{records_from}
 use Rattle.schema_rules.specs.Rules.{broken_rule}
-use Rattle.op_write.specs.declared.fault.LoadFault.{LoadFault}
+use Rattle.op_write.specs.Loading.{RecordFault}
 use Rattle.op_write.specs.Loading.{entry_of_record, ruled, placed, loaded_entry}
 use Rattle.op_write.specs.DataFile.{in_file, record_entry, loads_after, loads_records, file_start, loads}
 use Rattle.load_laws.specs.Loadable.{IsLoadable}
@@ -18,7 +18,7 @@ use Rattle.load_laws.proofs.LoadableLemmas.{both_given, IsLoadable-entry_of_reco
 
 -- an entry that is placed is as it was
 unless_fault :
-    (test : Bool) (one other : LoadFault) (entry made : EntryInformation)
+    (test : Bool) (one other : RecordFault) (entry made : EntryInformation)
     → (if test then Err one else Err other) ≡ Ok made → entry ≡ made
 unless_fault true one other entry made is = absurd cc
 unless_fault false one other entry made is = absurd cc
@@ -28,7 +28,7 @@ ruled-same line entry made None is = cc
 ruled-same line entry made (Some code) is = unless_fault (code == 11) _ _ entry made is
 
 unless_refused :
-    (there lacks : Bool) (one other : LoadFault) (entry made : EntryInformation) (last : Result EntryInformation LoadFault)
+    (there lacks : Bool) (one other : RecordFault) (entry made : EntryInformation) (last : Result EntryInformation RecordFault)
     → (last ≡ Ok made → entry ≡ made) → (if there then Err one else if lacks then Err other else last) ≡ Ok made
     → entry ≡ made
 unless_refused true lacks one other entry made last same is = absurd cc
@@ -53,12 +53,12 @@ IsLoadable-loaded entries given entry octets is =
     subst IsLoadable (placed-same entries given.line made.0 entry made.2) (IsLoadable-entry_of_record given made.0 octets made.1)
 
 pub in_file-given :
-    (found : Result EntryInformation LoadFault) (entry : EntryInformation) → in_file found ≡ Ok entry → found ≡ Ok entry
+    (found : Result EntryInformation RecordFault) (entry : EntryInformation) → in_file found ≡ Ok entry → found ≡ Ok entry
 in_file-given (Ok made) entry is = cc
 in_file-given (Err fault) entry is = absurd cc
 
 IsLoadable-record_entry :
-    (entries : List EntryInformation) (read : Result Record BadLine) (entry : EntryInformation) → GivesOctets read
+    (entries : List EntryInformation) (read : Result Record LineFault) (entry : EntryInformation) → GivesOctets read
     → record_entry entries read ≡ Ok entry → IsLoadable entry
 IsLoadable-record_entry entries (Ok given) entry octets is =
     IsLoadable-loaded entries given entry octets (in_file-given (loaded_entry entries given) entry is)
@@ -82,7 +82,7 @@ loadable-put_in entry (first ∷ rest) is all =
 
 -- so all entries are
 loadable-loads_after :
-    (records : List (Result Record BadLine)) (entries all : List EntryInformation) → AllByRecursion GivesOctets records
+    (records : List (Result Record LineFault)) (entries all : List EntryInformation) → AllByRecursion GivesOctets records
     → AllByRecursion IsLoadable entries → loads_after entries records ≡ Ok all → AllByRecursion IsLoadable all
 unfolding loads_after
 loadable-loads_after [] entries all octets before is =
@@ -93,7 +93,7 @@ loadable-loads_after (first ∷ rest) entries all octets before is =
     (loadable-put_in step.0 entries (IsLoadable-record_entry entries first step.0 octets.0 step.1) before) step.2
 
 loadable-loads_records :
-    (records : List (Result Record BadLine)) (all : List EntryInformation) → AllByRecursion GivesOctets records
+    (records : List (Result Record LineFault)) (all : List EntryInformation) → AllByRecursion GivesOctets records
     → loads_records records ≡ Ok all → AllByRecursion IsLoadable all
 loadable-loads_records [] all octets is = absurd cc
 loadable-loads_records (first ∷ rest) all octets is = loadable-loads_after (first ∷ rest) [] all octets tt is

@@ -13,5 +13,6 @@ mod ReadLemmas
 mod ValueLemmas
 mod LoadableLemmas
 mod JoinLemmas
+mod CountLemmas
 mod GoodLemmas
 mod TypeLemmas

@@ -16,7 +16,7 @@ use Rattle.dir_tree.specs.Entries.{Attribute, EntryInformation, kinds_of, values
 use Rattle.dir_tree.specs.Changes.{put_value}
 use Rattle.ldif_core.specs.declared.types.RecordLine.{RecordLine}
 use Rattle.ldif_core.specs.WrittenFile.{TypeAndOctets, values_in, lines_from}
-use Rattle.op_write.specs.declared.fault.LoadFault.{LoadFault}
+use Rattle.op_write.specs.Loading.{RecordFault}
 use Rattle.op_write.specs.Loading.{◌>>=◌, loaded_value, with_new_value, with_new_kind, with_line, with_lines}
 use Rattle.load_laws.specs.Loadable.{IsLoadableValue}
 
@@ -130,7 +130,7 @@ of_kind kind values = map (λ value. record { kind = name_of kind; value = value
 -- further values of the last attribute
 with_lines-more :
     (name : RdnSequence) (done : List Attribute) (kind number : ℕ) (mine left : List Keyed) (later : List TypeAndOctets)
-    (answer : Result EntryInformation LoadFault) → IsAttrId kind → IsApart kind done → IsDistinct is_match (mine ++ left)
+    (answer : Result EntryInformation RecordFault) → IsAttrId kind → IsApart kind done → IsDistinct is_match (mine ++ left)
     → AllByRecursion (IsLoadableValue kind) left
     → ((next : ℕ) → with_lines (so_far name done kind (mine ++ left)) (lines_from next later) ≡ answer)
     → with_lines (so_far name done kind mine) (lines_from number (of_kind kind left ++ later)) ≡ answer
@@ -153,7 +153,7 @@ with_lines-more name done kind number mine (value ∷ left) later answer known a
 -- all values of a new attribute
 with_lines-attribute :
     (name : RdnSequence) (done : List Attribute) (kind number : ℕ) (values : List Keyed) (later : List TypeAndOctets)
-    (answer : Result EntryInformation LoadFault) → IsApart kind done → values ≢ [] → IsDistinct is_match values
+    (answer : Result EntryInformation RecordFault) → IsApart kind done → values ≢ [] → IsDistinct is_match values
     → AllByRecursion (IsLoadableValue kind) values
     → ((next : ℕ) → with_lines (so_far name done kind values) (lines_from next later) ≡ answer)
     → with_lines (record { name = name; attributes = done }) (lines_from number (of_kind kind values ++ later)) ≡ answer

@@ -8,7 +8,7 @@ use Rattle.ldif_core.specs.WrittenFile.{values_in, IsWritable, record_from, entr
 use Rattle.ldif_core.proofs.Theorems.{file-reread}
 use Rattle.schema_rules.specs.Rules.{broken_rule, MeetsRules, IsGoodTree}
 use Rattle.schema_rules.proofs.Theorems.{Meets-from_broken_rule}
-use Rattle.op_write.specs.declared.fault.LoadFault.{LoadFault}
+use Rattle.op_write.specs.Loading.{RecordFault}
 use Rattle.op_write.specs.Loading.{◌>>=◌, placed, loaded_entry}
 use Rattle.op_write.specs.DataFile.{in_file, loads_after, loads_records, loads}
 use Rattle.load_laws.specs.Loadable.{IsLoadable}
@@ -25,7 +25,7 @@ loaded_entry-front :
 unfolding loaded_entry
 loaded_entry-front front back number entry sorted rooted filled loadable unbroken =
     let meets = Meets-from_broken_rule None (front ++ back) entry unbroken in
-    ap (λ (found : Result EntryInformation LoadFault). found >>= placed front number)
+    ap (λ (found : Result EntryInformation RecordFault). found >>= placed front number)
     (entry_of_record-record_from number entry loadable filled meets.own_values)
     ∙ placed-front front back number entry sorted rooted filled unbroken
 
@@ -40,7 +40,7 @@ loads_after-front all front [] number is sorted rooted meets named loadable =
 loads_after-front all front (entry ∷ back) number is sorted rooted meets named loadable =
     let place : IsInOrder (front ++ entry ∷ back) = subst IsInOrder is sorted in
     let next = number + 1 + 1 + length (values_in entry.attributes) in
-    ap (λ (found : Result EntryInformation LoadFault). in_file found >>= λ entry. loads_after (put_in entry front) (entry_records next back))
+    ap (λ (found : Result EntryInformation RecordFault). in_file found >>= λ entry. loads_after (put_in entry front) (entry_records next back))
     (loaded_entry-front front back (number + 1) entry place (subst IsRooted is rooted) named.0 loadable.0 (meets front back entry is))
     ∙ ap (λ entries. loads_after entries (entry_records next back)) (put_in-last entry front (before_place front back entry place))
     ∙ loads_after-front all (front ++ entry ∷ []) back next (is ∙ sym (append_assoc front (entry ∷ []) back)) sorted rooted meets named.1 loadable.1

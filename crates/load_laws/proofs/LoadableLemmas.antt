@@ -13,7 +13,7 @@ use Rattle.dir_tree.specs.Changes.{put_value, with_value}
 use Rattle.dir_tree.proofs.Theorems.{good-with_value}
 use Rattle.ldif_core.specs.declared.types.Record.{Record}
 use Rattle.ldif_core.specs.declared.types.RecordLine.{RecordLine}
-use Rattle.op_write.specs.declared.fault.LoadFault.{LoadFault}
+use Rattle.op_write.specs.Loading.{RecordFault}
 use Rattle.op_write.specs.Loading.{◌>>=◌, named, loaded_value, with_new_value, with_new_kind, with_line, with_lines, with_pairs, with_own_values, entry_of_record}
 use Rattle.load_laws.specs.Loadable.{IsLoadableValue, IsLoadable}
 use Rattle.load_laws.proofs.OctetLemmas.{IsBytes-from_AreBelow}
@@ -75,7 +75,7 @@ IsLoadable-new_value entry more line kind None values was is = absurd cc
 IsLoadable-new_value entry more line kind (Some value) values was is = by (has_key value.key (values_of kind entry.attributes)) _ is
   where
     by :
-        (there : Bool) (fault : LoadFault) → (if there then Err fault else Ok (with_value kind value entry)) ≡ Ok more
+        (there : Bool) (fault : RecordFault) → (if there then Err fault else Ok (with_value kind value entry)) ≡ Ok more
         → IsLoadable more
     by true fault made = absurd cc
     by false fault made = (

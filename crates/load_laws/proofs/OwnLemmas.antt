@@ -9,7 +9,7 @@ use Rattle.dn_names.proofs.Theorems.{read_name-print_name}
 use Rattle.dir_tree.specs.Entries.{EntryInformation, values_of, has_key}
 use Rattle.ldif_core.specs.WrittenFile.{values_in, lines_from, record_from}
 use Rattle.schema_rules.specs.Rules.{lacks_own_value}
-use Rattle.op_write.specs.declared.fault.LoadFault.{LoadFault}
+use Rattle.op_write.specs.Loading.{RecordFault}
 use Rattle.op_write.specs.Loading.{◌>>=◌, named, with_lines, with_pairs, with_own_values, entry_of_record}
 use Rattle.load_laws.specs.Loadable.{IsLoadable}
 use Rattle.load_laws.proofs.LineLemmas.{with_lines-values_in}
@@ -46,7 +46,7 @@ entry_of_record-record_from number entry loadable filled own =
     let lines = lines_from (number + 1) (values_in entry.attributes) in
     let name : named number (read_name (print_name entry.name)) ≡ Ok entry.name =
     ap (named number) (read_name-print_name entry.name loadable.name) ∙ named-filled number entry.name filled in
-    ap (λ (found : Result RdnSequence LoadFault). found >>= λ name. with_lines (record { name = name; attributes = [] }) lines >>= λ entry. Ok (with_own_values entry)) name
-    ∙ ap (λ (found : Result EntryInformation LoadFault). found >>= λ entry. Ok (with_own_values entry))
+    ap (λ (found : Result RdnSequence RecordFault). found >>= λ name. with_lines (record { name = name; attributes = [] }) lines >>= λ entry. Ok (with_own_values entry)) name
+    ∙ ap (λ (found : Result EntryInformation RecordFault). found >>= λ entry. Ok (with_own_values entry))
     (with_lines-values_in entry.name [] entry.attributes (number + 1) loadable.good.good loadable.good.distinct loadable.values)
     ∙ ap (λ (entry : EntryInformation). Ok entry) (with_own_values-own entry own)

@@ -4,8 +4,7 @@ use Rattle.std.specs.List.{AllByRecursion, filter_map, slice_split, list_any, be
 use Rattle.ldif_core.specs.declared.types.Position.{Position}
 use Rattle.ldif_core.specs.declared.types.Record.{Record}
 use Rattle.ldif_core.specs.declared.types.RecordLine.{RecordLine}
-use Rattle.ldif_core.specs.declared.types.BadLine.{BadLine}
-use Rattle.ldif_core.specs.declared.types.BadLine.TheVariants.{Bad}
+use Rattle.ldif_core.specs.Faults.{LineFault, Bad}
 use Rattle.ldif_core.specs.declared.types.LineCause.TheVariants.{Changetype}
 use Rattle.ldif_core.specs.Lines.{Line, begins_with}
 use Rattle.ldif_core.specs.Fields.{Field, is_kind, is_colon, after_spaces, field_after, field_of, value_of, is_changetype, with_value, attribute_of, attribute_line, name_line}
@@ -21,7 +20,7 @@ abbrev pub HasOctets : RecordLine → Type 0
 HasOctets line = AreBelow line.value
 
 -- and so are all of a record, where there is one
-abbrev pub GivesOctets : Result Record BadLine → Type 0
+abbrev pub GivesOctets : Result Record LineFault → Type 0
 GivesOctets (Ok given) = AllByRecursion HasOctets given.lines
 GivesOctets (Err bad) = Unit {0}
 
@@ -96,7 +95,7 @@ HasOctets-attribute_line line read below is =
 
 -- the lines of a record
 both_read :
-    {A B : Type 0} (reading : Result A BadLine) (next : A → Result B BadLine) (read : B) → (reading >>= next) ≡ Ok read
+    {A B : Type 0} (reading : Result A LineFault) (next : A → Result B LineFault) (read : B) → (reading >>= next) ≡ Ok read
     → (first : A) × (reading ≡ Ok first) × (next first ≡ Ok read)
 both_read (Ok first) next read is = (first, refl, is)
 both_read (Err bad) next read is = absurd cc
@@ -124,7 +123,7 @@ HasOctets-record_of first rest given all is =
     subst (λ (found : Record). AllByRecursion HasOctets found.lines) same (HasOctets-attribute_lines rest lines.0 all lines.1)
 
 GivesOctets-from :
-    (read : Result Record BadLine) → ((given : Record) → read ≡ Ok given → AllByRecursion HasOctets given.lines)
+    (read : Result Record LineFault) → ((given : Record) → read ≡ Ok given → AllByRecursion HasOctets given.lines)
     → GivesOctets read
 GivesOctets-from (Ok given) each = each given refl
 GivesOctets-from (Err bad) each = tt

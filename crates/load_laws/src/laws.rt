@@ -1,13 +1,13 @@
 //! The laws of loading: each function computes nothing, and what it ensures is a law.
 
-ghost use Rattle.std.specs.Prelude.{◌≡◌, ℕ, List, Ok};
+ghost use Rattle.std.specs.Prelude.{◌≡◌, ◌≤◌, ℕ, List, Ok, Err};
 ghost use Rattle.std.specs.List.{AllByRecursion};
 ghost use Rattle.base64.specs.GeneralPurpose.{IsBytes};
 ghost use Rattle.dir_tree.specs.Entries.{EntryInformation};
 ghost use Rattle.ldif_core.specs.Written.{AreInTable};
 ghost use Rattle.ldif_core.specs.WrittenFile.{written_file};
 ghost use Rattle.schema_rules.specs.Rules.{AreGood, IsGoodTree};
-ghost use Rattle.op_write.specs.DataFile.{loads};
+ghost use Rattle.op_write.specs.DataFile.{FileFault, loads};
 ghost use Rattle.load_laws.specs.Loadable.{IsLoadable};
 
 /// What a data file of octets loads is a good tree (RFC 2849).
@@ -33,4 +33,9 @@ pub fn what_is_loaded_is_loadable()
 pub fn the_types_of_good_entries_are_in_the_table()
     ensures exact { (entries : List EntryInformation) → AreGood entries
         → AllByRecursion (λ (entry : EntryInformation). AreInTable entry.attributes) entries }
+{}
+
+/// The line of a refused data file is one of its lines, which are counted from 1.
+pub fn a_bad_line_is_counted_from_one()
+    ensures exact { (text : List ℕ) (fault : FileFault) → loads text ≡ Err fault → 1 ≤ fault.line }
 {}

@@ -4,6 +4,6 @@
 mod laws;
 
 pub use laws::{
-    the_types_of_good_entries_are_in_the_table, what_is_loaded_is_good, what_is_loaded_is_loadable,
-    what_is_written_loads_again,
+    a_bad_line_is_counted_from_one, the_types_of_good_entries_are_in_the_table,
+    what_is_loaded_is_good, what_is_loaded_is_loadable, what_is_written_loads_again,
 };

@@ -28,9 +28,8 @@ use Rattle.ldif_core.specs.Places.{physical_from, logical_from, content_from, bo
 use Rattle.ldif_core.specs.declared.types.LineCause.TheVariants.{Syntax}
 use Rattle.ldif_core.specs.WrittenFile.{written_file}
 use Rattle.dir_tree.specs.Trees.{lacks_superior, put_in}
-use Rattle.op_write.specs.declared.fault.LoadFault.TheVariants.{Bad}
 use Rattle.op_write.specs.declared.fault.LoadCause.TheVariants.{Name, Kind, Value, Twice, Order, Rule, Limit}
-use Rattle.op_write.specs.Loading.{named, entry_of_record, with_lines, with_pairs, with_own_values, ruled, placed}
+use Rattle.op_write.specs.Loading.{Bad, named, entry_of_record, with_lines, with_pairs, with_own_values, ruled, placed}
 use Rattle.op_write.specs.DataFile.{OfLine, loads}
 
 -- a line of a record

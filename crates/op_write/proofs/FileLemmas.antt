@@ -6,8 +6,8 @@ use Rattle.dir_tree.specs.Trees.{put_in}
 use Rattle.dir_tree.specs.Numbered.{Numbered, entries_of}
 use Rattle.dir_tree.proofs.TreeTheorems.{entries_of-put_row}
 use Rattle.ldif_core.specs.declared.types.Record.{Record}
-use Rattle.ldif_core.specs.declared.types.BadLine.{BadLine}
-use Rattle.ldif_core.specs.declared.types.BadLine.TheVariants as reading
+use Rattle.ldif_core.specs.Faults.{LineFault}
+use Rattle.ldif_core.specs.Faults as reading
 use Rattle.ldif_core.specs.Places.{records_from}
 use Rattle.op_write.specs.Loading.{◌>>=◌}
 use Rattle.op_write.specs.DataFile.{in_file, record_entry, loads_after, loads_records, file_start, loads}
@@ -18,7 +18,7 @@ pub puts_its_entry_in : PutsItsEntryIn
 puts_its_entry_in old new given step = ap entries_of step.added ∙ entries_of-put_row (record { id = step.id; entry = step.entry }) old
 
 -- of the records that are left the first decides
-after_first : (entries : List EntryInformation) (given : List (Result Record BadLine)) (first : Result Record BadLine) (rest : List (Result Record BadLine)) → given ≡ first ∷ rest
+after_first : (entries : List EntryInformation) (given : List (Result Record LineFault)) (first : Result Record LineFault) (rest : List (Result Record LineFault)) → given ≡ first ∷ rest
     → loads_after entries given ≡ (record_entry entries first >>= λ entry. loads_after (put_in entry entries) rest)
 unfolding loads_after
 after_first entries given first rest are = ap (loads_after entries) are
@@ -45,7 +45,7 @@ unfolding loads_after
 ends_with_its_entries entries text from none = ap (loads_after entries) none
 
 -- the first record of a file
-from_start : (given : List (Result Record BadLine)) → given ≢ [] → loads_records given ≡ loads_after [] given
+from_start : (given : List (Result Record LineFault)) → given ≢ [] → loads_records given ≡ loads_after [] given
 from_start [] some = absurd (some refl)
 from_start (first ∷ rest) some = refl
 

@@ -5,6 +5,5 @@ mod OwnLemmas
 mod PlaceLemmas
 mod NameLemmas
 mod FileLemmas
-mod FreeLemmas
 mod RecordLemmas
 pub mod Theorems

@@ -9,18 +9,16 @@ use Rattle.dir_tree.specs.Entries.{EntryInformation, values_of, has_key}
 use Rattle.dir_tree.specs.Changes.{with_value, put_value}
 use Rattle.ldif_core.specs.declared.types.Record.{Record}
 use Rattle.ldif_core.specs.declared.types.RecordLine.{RecordLine}
-use Rattle.op_write.specs.declared.fault.LoadFault.{LoadFault}
-use Rattle.op_write.specs.declared.fault.LoadFault.TheVariants.{Bad}
 use Rattle.op_write.specs.declared.fault.LoadCause.TheVariants.{Twice}
-use Rattle.op_write.specs.Loading.{◌>>=◌, named, loaded_value, with_new_value, with_new_kind, with_line, with_lines, with_pairs, with_own_values, entry_of_record}
+use Rattle.op_write.specs.Loading.{◌>>=◌, RecordFault, Bad, named, loaded_value, with_new_value, with_new_kind, with_line, with_lines, with_pairs, with_own_values, entry_of_record}
 
 -- the first step gave something, and the second gave this of it
-pub record BothGive {A B : Type 0} (first : Result A LoadFault) (next : A → Result B LoadFault) (value : B) : Type 0 where
+pub record BothGive {A B : Type 0} (first : Result A RecordFault) (next : A → Result B RecordFault) (value : B) : Type 0 where
   pub between : A
   pub before : first ≡ Ok between
   pub after : next between ≡ Ok value
 
-pub both-give : {A B : Type 0} (first : Result A LoadFault) (next : A → Result B LoadFault) (value : B) → (first >>= next) ≡ Ok value → BothGive first next value
+pub both-give : {A B : Type 0} (first : Result A RecordFault) (next : A → Result B RecordFault) (value : B) → (first >>= next) ≡ Ok value → BothGive first next value
 both-give (Ok between) next value gives = record { between = between; before = refl; after = gives }
 both-give (Err fault) next value gives = absurd cc
 

@@ -1,9 +1,12 @@
 -- The values of an entry's own RDN.
-use Rattle.std.proofs.Common.{◌≡◌, ℕ, suc, ◌+◌, ◌<◌, List, [], ◌∷◌, length, drop, get_or, sym, ap, ◌∙◌, add-one}
+use Rattle.std.proofs.Common.{◌≡◌, ℕ, suc, ◌+◌, ◌<◌, List, [], ◌∷◌, length, drop, get_or, true, refl, sym, ap, ◌∙◌, add-one}
 use Rattle.std.proofs.Math.Seq.{drop-cons}
 use Rattle.dn_names.specs.Names.{TypeAndValue}
-use Rattle.dir_tree.specs.Entries.{EntryInformation}
-use Rattle.dir_tree.specs.Changes.{with_value}
+use Rattle.std.specs.Prelude.{if◌then◌else◌}
+use Rattle.std.specs.List.{list_all}
+use Rattle.std.proofs.lemmas.Bool.{and_parts}
+use Rattle.dir_tree.specs.Entries.{EntryInformation, has_key, values_of}
+use Rattle.dir_tree.specs.Changes.{with_value, put_value}
 use Rattle.op_write.specs.Loading.{with_pairs}
 
 -- one pair more
@@ -16,3 +19,13 @@ pairs-step entry pairs index pair within is =
 pub pairs-done : (entry : EntryInformation) (pairs : List TypeAndValue) → pairs ≡ [] → with_pairs entry pairs ≡ entry
 unfolding with_pairs
 pairs-done entry pairs none = ap (with_pairs entry) none
+
+-- nothing is added where all are there
+pub pairs-there : (entry : EntryInformation) (pairs : List TypeAndValue) → list_all (λ pair. has_key pair.value.key (values_of pair.kind entry.attributes)) pairs ≡ true
+    → with_pairs entry pairs ≡ entry
+unfolding with_pairs
+pairs-there entry [] all = refl
+pairs-there entry (pair ∷ pairs) all =
+    let parts = and_parts _ _ all in
+    ap (λ there. with_pairs (if there then entry else record entry { attributes = put_value pair.kind pair.value entry.attributes }) pairs) parts.0
+    ∙ pairs-there entry pairs parts.1

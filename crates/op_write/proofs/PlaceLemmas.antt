@@ -1,70 +1,112 @@
 -- The entries of a tree without their numbers, and what may join them.
-use Rattle.std.proofs.Common.{◌≡◌, ℕ, ◌-◌, ◌<◌, Bool, true, false, not, List, [], ◌∷◌, length, take, Option, Some, None, is_some, Result, Ok, Err, refl, sym, ap, ◌∙◌, arith}
-use Rattle.std.specs.Prelude.{◌||◌, nat_le, find, if◌then◌else◌, IfOk, IfErr}
-use Rattle.std.specs.Option.{option_map}
-use Rattle.std.specs.List.{list_any}
+use Rattle.std.proofs.Common.{◌≡◌, ℕ, Bool, true, false, List, length, Option, Some, None, Ok, Err, refl, sym, ap, ◌∙◌, true≢false}
+use Rattle.std.specs.Prelude.{◌==◌, ◌≤◌, nat_le, if◌then◌else◌}
+use Rattle.std.proofs.Common.{arith}
+use Rattle.std.proofs.lemmas.Bool.{or_parts}
 use Rattle.std.proofs.lemmas.Bool.Decides.{nat_tests}
-use Rattle.dn_names.specs.Names.{RdnSequence}
-use Rattle.dn_names.specs.NameOrder.{is_same}
 use Rattle.dir_tree.specs.Entries.{EntryInformation}
-use Rattle.dir_tree.specs.Trees.{has_name, lacks_superior, superior_name}
-use Rattle.dir_tree.specs.Numbered.{Numbered, entries_of, find_name, find_front}
-use Rattle.dir_tree.proofs.TreeTheorems.{has_name-found}
-use Rattle.schema_rules.specs.Rules.{broken_rule}
+use Rattle.dir_tree.specs.Trees.{most_entries, has_name, lacks_superior}
+use Rattle.dir_tree.specs.Refusals.{insert_refusal}
+use Rattle.dir_tree.specs.declared.refusals.InsertRefusal.{InsertRefusal}
+use Rattle.dir_tree.specs.declared.refusals.InsertRefusal.TheVariants as inserting
+use Rattle.schema_rules.specs.Rules.{broken_rule, is_past_limits}
+use Rattle.schema_rules.proofs.Theorems.{Meets-from_broken_rule}
 use Rattle.op_write.specs.declared.fault.LoadFault.{LoadFault}
-use Rattle.op_write.specs.declared.fault.LoadFault.TheVariants.{Bad, NoMemory}
+use Rattle.op_write.specs.declared.fault.LoadFault.TheVariants as load_fault
 use Rattle.op_write.specs.declared.fault.LoadCause.TheVariants.{Twice, Order}
-use Rattle.op_write.specs.Loading.{ruled, placed, IsLoadFault}
+use Rattle.op_write.specs.Loading.{RecordFault, Bad, ruled, placed, IsLoadFault}
 
-flip : (one other : Bool) → other ≡ not one → one ≡ not other
-flip true other e = sym (ap not e)
-flip false other e = sym (ap not e)
+-- an entry may join the entries but for the rules
+pub record MayJoin (entries : List EntryInformation) (entry : EntryInformation) : Type 0 where
+  pub fresh : has_name entry.name entries ≡ false
+  pub stands : lacks_superior entry.name entries ≡ false
 
-front_name : (name : RdnSequence) (rows : List Numbered) → find_front (length name - 1) name rows ≡ find_name (superior_name name) rows
-front_name name rows =
-    let within : nat_le (length name - 1) (length name) ≡ true = grind (arith, nat_tests) in
-    ap (λ b. if b then find_name (take (length name - 1) name) rows else None) within
+-- why a tree refuses, by its three tests
+refusal_by : Bool → Bool → Bool → Option InsertRefusal
+refusal_by there lacks full =
+    if there then Some inserting.NameTaken else if lacks then Some inserting.NoSuperior else if full then Some inserting.Full else None
 
--- the superior is looked up where there are entries
-pub lacks-found : {A : Type 0} (f : A → ℕ) (found : Option A) (none : Bool) (name : RdnSequence) (rows : List Numbered) → 0 < length rows → option_map f found ≡ find_front (length name - 1) name rows → is_some found ≡ not none
-    → none ≡ lacks_superior name (entries_of rows)
-lacks-found f found none name [] some e is = absurd (omega arith)
-lacks-found f found none name (row ∷ rows) some e is =
-    flip none (is_some found) is ∙ ap not (has_name-found f found (superior_name name) (row ∷ rows) (e ∙ front_name name (row ∷ rows)))
+if_taken : (there lacks full : Bool) → refusal_by there lacks full ≡ Some inserting.NameTaken → there ≡ true
+unfolding refusal_by
+if_taken true lacks full is = refl
+if_taken false true full is = absurd cc
+if_taken false false true is = absurd cc
+if_taken false false false is = absurd cc
 
--- the three ways of placing an entry
-pub placed-twice : (rows : List Numbered) (line : ℕ) (entry : EntryInformation) → has_name entry.name (entries_of rows) ≡ true → placed (entries_of rows) line entry ≡ Err (Bad line Twice)
+if_alone : (there lacks full : Bool) → refusal_by there lacks full ≡ Some inserting.NoSuperior → (there ≡ false) × (lacks ≡ true)
+unfolding refusal_by
+if_alone true lacks full is = absurd cc
+if_alone false true full is = (refl, refl)
+if_alone false false true is = absurd cc
+if_alone false false false is = absurd cc
+
+if_full : (there lacks full : Bool) → refusal_by there lacks full ≡ Some inserting.Full → (there ≡ false) × (lacks ≡ false) × (full ≡ true)
+unfolding refusal_by
+if_full true lacks full is = absurd cc
+if_full false true full is = absurd cc
+if_full false false true is = (refl, refl, refl)
+if_full false false false is = absurd cc
+
+if_free : (there lacks full : Bool) → refusal_by there lacks full ≡ None → (there ≡ false) × (lacks ≡ false)
+unfolding refusal_by
+if_free true lacks full is = absurd cc
+if_free false true full is = absurd cc
+if_free false false true is = absurd cc
+if_free false false false is = (refl, refl)
+
+-- the refusal of a tree is that of loading
+pub placed-taken : (entries : List EntryInformation) (line : ℕ) (entry : EntryInformation) → insert_refusal entry.name entries ≡ Some inserting.NameTaken
+    → placed entries line entry ≡ Err (Bad line Twice)
+unfolding placed refusal_by
+placed-taken entries line entry is =
+    rw (if_taken (has_name entry.name entries) (lacks_superior entry.name entries) (length entries == most_entries) is) refl
+
+pub placed-alone : (entries : List EntryInformation) (line : ℕ) (entry : EntryInformation) → insert_refusal entry.name entries ≡ Some inserting.NoSuperior
+    → placed entries line entry ≡ Err (Bad line Order)
+unfolding placed refusal_by
+placed-alone entries line entry is =
+    let tests = if_alone (has_name entry.name entries) (lacks_superior entry.name entries) (length entries == most_entries) is in
+    rw (tests.0, tests.1) refl
+
+-- in a full tree the rules come first
+pub MayJoin-full : (entries : List EntryInformation) (entry : EntryInformation) → insert_refusal entry.name entries ≡ Some inserting.Full → MayJoin entries entry
+unfolding refusal_by
+MayJoin-full entries entry is =
+    let tests = if_full (has_name entry.name entries) (lacks_superior entry.name entries) (length entries == most_entries) is in
+    record { fresh = tests.0; stands = tests.1 }
+
+at_least : (n : ℕ) → (n == 200000) ≡ true → nat_le 200000 n ≡ true
+at_least n is = grind (arith, nat_tests)
+
+pub is_full : (entries : List EntryInformation) (entry : EntryInformation) → insert_refusal entry.name entries ≡ Some inserting.Full → nat_le most_entries (length entries) ≡ true
+unfolding refusal_by
+is_full entries entry is =
+    at_least (length entries) ((if_full (has_name entry.name entries) (lacks_superior entry.name entries) (length entries == most_entries) is).2)
+
+pub MayJoin-free : (entries : List EntryInformation) (entry : EntryInformation) → insert_refusal entry.name entries ≡ None → MayJoin entries entry
+unfolding refusal_by
+MayJoin-free entries entry is =
+    let tests = if_free (has_name entry.name entries) (lacks_superior entry.name entries) (length entries == most_entries) is in
+    record { fresh = tests.0; stands = tests.1 }
+
+-- an entry that may join breaks the first rule, or none
+placed-ruled : (entries : List EntryInformation) (line : ℕ) (entry : EntryInformation) → MayJoin entries entry
+    → placed entries line entry ≡ ruled line entry (broken_rule None entries entry)
 unfolding placed
-placed-twice rows line entry there = rw there refl
+placed-ruled entries line entry may = rw (may.fresh, may.stands) refl
 
-pub placed-order : (rows : List Numbered) (line : ℕ) (entry : EntryInformation) → has_name entry.name (entries_of rows) ≡ false → lacks_superior entry.name (entries_of rows) ≡ true → placed (entries_of rows) line entry ≡ Err (Bad line Order)
-unfolding placed
-placed-order rows line entry fresh lacks = rw (fresh, lacks) refl
+pub placed-good : (entries : List EntryInformation) (line : ℕ) (entry : EntryInformation) → MayJoin entries entry → broken_rule None entries entry ≡ None
+    → placed entries line entry ≡ Ok entry
+placed-good entries line entry may good = placed-ruled entries line entry may ∙ ap (ruled line entry) good
 
-pub placed-ruled : (rows : List Numbered) (line : ℕ) (entry : EntryInformation) → has_name entry.name (entries_of rows) ≡ false → lacks_superior entry.name (entries_of rows) ≡ false
-    → placed (entries_of rows) line entry ≡ ruled line entry (broken_rule None (entries_of rows) entry)
-unfolding placed
-placed-ruled rows line entry fresh stands = rw (fresh, stands) refl
+pub placed-fault : (entries : List EntryInformation) (line : ℕ) (entry : EntryInformation) (fault : LoadFault) → MayJoin entries entry
+    → IsLoadFault fault (ruled line entry (broken_rule None entries entry)) → IsLoadFault fault (placed entries line entry)
+placed-fault entries line entry load_fault.NoMemory may is = tt
+placed-fault entries line entry (load_fault.Bad number cause) may is = placed-ruled entries line entry may ∙ is
 
-pub placed-good : (rows : List Numbered) (line : ℕ) (entry : EntryInformation) → has_name entry.name (entries_of rows) ≡ false → lacks_superior entry.name (entries_of rows) ≡ false → broken_rule None (entries_of rows) entry ≡ None
-    → placed (entries_of rows) line entry ≡ Ok entry
-placed-good rows line entry fresh stands good = placed-ruled rows line entry fresh stands ∙ ap (ruled line entry) good
-
-pub placed-fault : (rows : List Numbered) (line : ℕ) (entry : EntryInformation) (fault : LoadFault) → has_name entry.name (entries_of rows) ≡ false → lacks_superior entry.name (entries_of rows) ≡ false
-    → IsLoadFault fault (ruled line entry (broken_rule None (entries_of rows) entry)) → IsLoadFault fault (placed (entries_of rows) line entry)
-placed-fault rows line entry NoMemory fresh stands is = tt
-placed-fault rows line entry (Bad number cause) fresh stands is = placed-ruled rows line entry fresh stands ∙ is
-
-pub placed-ok : {A : Type 0} (result : Result A LoadFault) (rows : List Numbered) (line : ℕ) (entry : EntryInformation) → has_name entry.name (entries_of rows) ≡ false → lacks_superior entry.name (entries_of rows) ≡ false
-    → IfOk result (λ _. broken_rule None (entries_of rows) entry ≡ None) → IfOk result (λ _. placed (entries_of rows) line entry ≡ Ok entry)
-placed-ok (Ok done) rows line entry fresh stands good = placed-good rows line entry fresh stands good
-placed-ok (Err fault) rows line entry fresh stands good = good
-
-pub placed-bad : {A : Type 0} (result : Result A LoadFault) (rows : List Numbered) (line : ℕ) (entry : EntryInformation) → has_name entry.name (entries_of rows) ≡ false → lacks_superior entry.name (entries_of rows) ≡ false
-    → IfErr result (λ fault. IsLoadFault fault (ruled line entry (broken_rule None (entries_of rows) entry))) → IfErr result (λ fault. IsLoadFault fault (placed (entries_of rows) line entry))
-placed-bad (Ok done) rows line entry fresh stands bad = bad
-placed-bad (Err fault) rows line entry fresh stands bad = placed-fault rows line entry fault fresh stands bad
-
--- what a test of a name answered is what it says of an equal name
-pub answers : {A : Type 0} {B : Type 0} (says : A → B) (asked name : A) (answer value : B) → asked ≡ name → answer ≡ says asked → answer ≡ value → says name ≡ value
-answers says asked name answer value same is are = sym (ap says same) ∙ sym is ∙ are
+-- an entry of a full tree breaks a rule
+pub full_breaks : (entries : List EntryInformation) (entry : EntryInformation) → nat_le most_entries (length entries) ≡ true → broken_rule None entries entry ≡ None → ⊥
+unfolding is_past_limits
+full_breaks entries entry full none =
+    let parts = or_parts _ _ ((Meets-from_broken_rule None entries entry none).limits) in
+    true≢false (sym full ∙ (or_parts _ _ parts.0).0)

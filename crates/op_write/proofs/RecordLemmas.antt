@@ -7,8 +7,8 @@ use Rattle.dir_tree.specs.Entries.{EntryInformation}
 use Rattle.ldif_core.specs.declared.types.Record.{Record}
 use Rattle.ldif_core.specs.declared.types.RecordLine.{RecordLine}
 use Rattle.op_write.specs.declared.fault.LoadFault.{LoadFault}
-use Rattle.op_write.specs.declared.fault.LoadFault.TheVariants.{Bad, NoMemory}
-use Rattle.op_write.specs.Loading.{◌>>=◌, named, with_lines, with_own_values, entry_of_record, placed, loaded_entry, IsLoadFault}
+use Rattle.op_write.specs.declared.fault.LoadFault.TheVariants as load_fault
+use Rattle.op_write.specs.Loading.{◌>>=◌, RecordFault, named, with_lines, with_own_values, entry_of_record, placed, loaded_entry, IsLoadFault}
 use Rattle.op_write.specs.Steps.{IsFault}
 
 -- what is fetched of an answer that was Ok
@@ -16,9 +16,9 @@ pub same-ok : {A E : Type 0} (one other : A) → ◌≡◌ {A = Result A E} (Ok 
 same-ok one other same = cc
 
 -- the first step is bad
-first-bad : {A B : Type 0} (fault : LoadFault) (first : Result A LoadFault) (next : A → Result B LoadFault) → IsFault fault first → IsFault fault (first >>= next)
-first-bad (Bad line cause) first next is = ap (λ found. found >>= next) is
-first-bad NoMemory first next is = tt
+first-bad : {A B : Type 0} (fault : LoadFault) (first : Result A RecordFault) (next : A → Result B RecordFault) → IsFault fault first → IsFault fault (first >>= next)
+first-bad (load_fault.Bad line cause) first next is = ap (λ found. found >>= next) is
+first-bad load_fault.NoMemory first next is = tt
 
 -- the name is bad
 pub record-name : (fault : LoadFault) (given : Record) (octets : List ℕ) → octets ≡ given.name → IsFault fault (named given.line (read_name octets)) → IsFault fault (entry_of_record given)
@@ -37,9 +37,9 @@ lines_of : (name : RdnSequence) (entry : EntryInformation) (lines found : List R
     → with_lines (record { name = name; attributes = [] }) found ≡ with_lines entry lines
 lines_of name entry lines found new same = rw (new, same) refl
 
-by_fault : {A : Type 0} (fault : LoadFault) (one other : Result A LoadFault) → one ≡ other → IsFault fault other → IsFault fault one
-by_fault (Bad line cause) one other same is = same ∙ is
-by_fault NoMemory one other same is = tt
+by_fault : {A : Type 0} (fault : LoadFault) (one other : Result A RecordFault) → one ≡ other → IsFault fault other → IsFault fault one
+by_fault (load_fault.Bad line cause) one other same is = same ∙ is
+by_fault load_fault.NoMemory one other same is = tt
 
 -- a line is bad
 pub record-line : (fault : LoadFault) (given : Record) (octets : List ℕ) (name : RdnSequence) (entry : EntryInformation) (lines : List RecordLine)
@@ -60,8 +60,8 @@ record-good given octets name entry more lines same good new held lined =
 -- the record has no entry
 pub loaded-record : (fault : LoadFault) (entries : List EntryInformation) (given : Record) → IsFault fault (entry_of_record given) → IsLoadFault fault (loaded_entry entries given)
 unfolding loaded_entry
-loaded-record (Bad line cause) entries given is = ap (λ found. found >>= placed entries given.line) is
-loaded-record NoMemory entries given is = tt
+loaded-record (load_fault.Bad line cause) entries given is = ap (λ found. found >>= placed entries given.line) is
+loaded-record load_fault.NoMemory entries given is = tt
 
 -- its entry has no place
 pub loaded-placed : (entries : List EntryInformation) (given : Record) (entry : EntryInformation) → entry_of_record given ≡ Ok entry → loaded_entry entries given ≡ placed entries given.line entry
@@ -70,8 +70,8 @@ loaded-placed entries given entry is = ap (λ found. found >>= placed entries gi
 
 pub loaded-place : (fault : LoadFault) (entries : List EntryInformation) (given : Record) (entry : EntryInformation) → entry_of_record given ≡ Ok entry → IsLoadFault fault (placed entries given.line entry)
     → IsLoadFault fault (loaded_entry entries given)
-loaded-place (Bad line cause) entries given entry is bad = loaded-placed entries given entry is ∙ bad
-loaded-place NoMemory entries given entry is bad = tt
+loaded-place (load_fault.Bad line cause) entries given entry is bad = loaded-placed entries given entry is ∙ bad
+loaded-place load_fault.NoMemory entries given entry is bad = tt
 
 -- a call that fails by `?` gives the fault of what it called
 pub load_fault-gives : {A : Type 0} (result : Result A LoadFault) (fault other : LoadFault) (P : LoadFault → Type 0) → result ≡ Err fault → fault ≡ other → P other

@@ -3,22 +3,20 @@ use Rattle.std.specs.Prelude.{ℕ, List, [], ◌∷◌, Result, Ok, Err}
 use Rattle.dir_tree.specs.Entries.{EntryInformation}
 use Rattle.dir_tree.specs.Trees.{put_in}
 use Rattle.ldif_core.specs.declared.types.Record.{Record}
-use Rattle.ldif_core.specs.declared.types.BadLine.{BadLine}
-use Rattle.ldif_core.specs.declared.types.BadLine.TheVariants as reading
+use Rattle.ldif_core.specs.Faults.{LineFault}
+use Rattle.ldif_core.specs.Faults as reading
 use Rattle.ldif_core.specs.declared.types.LineCause.{LineCause}
 use Rattle.ldif_core.specs.declared.types.LineCause.TheVariants.{Syntax}
 use Rattle.ldif_core.specs.Places.{records_from}
 pub use Rattle.ldif_core.specs.Places.{file_start}
 use Rattle.op_write.specs.declared.fault.LoadCause.{LoadCause}
-use Rattle.op_write.specs.declared.fault.LoadFault.{LoadFault}
-use Rattle.op_write.specs.declared.fault.LoadFault.TheVariants as loading
-use Rattle.op_write.specs.Loading.{◌>>=◌, loaded_entry}
+use Rattle.op_write.specs.Loading.{◌>>=◌, RecordFault, loaded_entry}
+use Rattle.op_write.specs.Loading as loading
 
 -- why a file is refused: a line of no good form, or a record that isn't loaded
 pub data FileCause : Type 0 where
   OfLine : LineCause → FileCause
   OfRecord : LoadCause → FileCause
-  OfMemory : FileCause
 
 -- a refused file: its first bad line, and the cause
 pub record FileFault : Type 0 where
@@ -26,32 +24,30 @@ pub record FileFault : Type 0 where
   pub cause : FileCause
 
 -- the fault of the file, by that of a line
-abbrev pub line_fault : BadLine → FileFault
+abbrev pub line_fault : LineFault → FileFault
 line_fault (reading.Bad line cause) = record { line = line; cause = OfLine cause }
-line_fault reading.NoMemory = record { line = 0; cause = OfMemory }
 
 -- the fault of the file, by that of loading a record
-abbrev pub record_fault : LoadFault → FileFault
+abbrev pub record_fault : RecordFault → FileFault
 record_fault (loading.Bad line cause) = record { line = line; cause = OfRecord cause }
-record_fault loading.NoMemory = record { line = 0; cause = OfMemory }
 
 -- the same, of what loading a record gives
-abbrev pub in_file : Result EntryInformation LoadFault → Result EntryInformation FileFault
+abbrev pub in_file : Result EntryInformation RecordFault → Result EntryInformation FileFault
 in_file (Ok entry) = Ok entry
 in_file (Err fault) = Err (record_fault fault)
 
 -- the entry that a record of the file adds to the entries
-abbrev pub record_entry : List EntryInformation → Result Record BadLine → Result EntryInformation FileFault
+abbrev pub record_entry : List EntryInformation → Result Record LineFault → Result EntryInformation FileFault
 record_entry entries (Ok given) = in_file (loaded_entry entries given)
 record_entry entries (Err bad) = Err (line_fault bad)
 
 -- the entries with those of further records, or the first fault
-unfoldable pub loads_after : List EntryInformation → List (Result Record BadLine) → Result (List EntryInformation) FileFault
+unfoldable pub loads_after : List EntryInformation → List (Result Record LineFault) → Result (List EntryInformation) FileFault
 loads_after entries [] = Ok entries
 loads_after entries (first ∷ rest) = record_entry entries first >>= λ entry. loads_after (put_in entry entries) rest
 
 -- the entries of all records; a file without one is bad at its first line
-abbrev pub loads_records : List (Result Record BadLine) → Result (List EntryInformation) FileFault
+abbrev pub loads_records : List (Result Record LineFault) → Result (List EntryInformation) FileFault
 loads_records [] = Err (record { line = 1; cause = OfLine Syntax })
 loads_records (first ∷ rest) = loads_after [] (first ∷ rest)
 

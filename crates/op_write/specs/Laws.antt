@@ -5,12 +5,12 @@ use Rattle.dir_tree.specs.Trees.{put_in}
 use Rattle.dir_tree.specs.Numbered.{Numbered, entries_of}
 use Rattle.ldif_core.specs.declared.types.Position.{Position}
 use Rattle.ldif_core.specs.declared.types.Record.{Record}
-use Rattle.ldif_core.specs.declared.types.BadLine.TheVariants as reading
+use Rattle.ldif_core.specs.declared.types.BadLine.TheVariants as bad_line
+use Rattle.ldif_core.specs.Faults as reading
 use Rattle.ldif_core.specs.declared.types.LineCause.{LineCause}
 use Rattle.ldif_core.specs.declared.types.LineCause.TheVariants.{Syntax}
 use Rattle.ldif_core.specs.Places.{IsNext, IsBadAt, records_from}
-use Rattle.op_write.specs.declared.fault.LoadFault.{LoadFault}
-use Rattle.op_write.specs.Loading.{◌>>=◌, loaded_entry, IsLoaded}
+use Rattle.op_write.specs.Loading.{◌>>=◌, RecordFault, loaded_entry, IsLoaded}
 use Rattle.op_write.specs.DataFile.{OfLine, record_fault, line_fault, record_entry, loads_after, file_start, loads}
 
 -- a record that is loaded puts its entry in
@@ -33,13 +33,13 @@ GoesOnWhereLoaded =
 -- the fault of a record is that of the file
 abbrev pub EndsAtABadRecord : Type 0
 EndsAtABadRecord =
-    (entries : List EntryInformation) (text : List ℕ) (from to : Position) (given : Record) (fault : LoadFault) → IsNext text from given to
+    (entries : List EntryInformation) (text : List ℕ) (from to : Position) (given : Record) (fault : RecordFault) → IsNext text from given to
     → loaded_entry entries given ≡ Err fault → loads_after entries (records_from text from) ≡ Err (record_fault fault)
 
 -- the fault of a line is that of the file
 abbrev pub EndsAtABadLine : Type 0
 EndsAtABadLine =
-    (entries : List EntryInformation) (text : List ℕ) (from : Position) (line : ℕ) (cause : LineCause) → IsBadAt text from (reading.Bad line cause)
+    (entries : List EntryInformation) (text : List ℕ) (from : Position) (line : ℕ) (cause : LineCause) → IsBadAt text from (bad_line.Bad line cause)
     → loads_after entries (records_from text from) ≡ Err (line_fault (reading.Bad line cause))
 
 -- where no record is left, the entries are those of the file

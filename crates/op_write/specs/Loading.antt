@@ -14,12 +14,17 @@ use Rattle.dir_tree.specs.Numbered.{Numbered, entries_of, entry_of, put_entry}
 use Rattle.ldif_core.specs.declared.types.Record.{Record}
 use Rattle.ldif_core.specs.declared.types.RecordLine.{RecordLine}
 use Rattle.schema_rules.specs.Rules.{broken_rule}
+use Rattle.op_write.specs.declared.fault.LoadCause.{LoadCause}
 use Rattle.op_write.specs.declared.fault.LoadCause.TheVariants.{Name, Kind, Value, Twice, Order, Rule, Limit}
 use Rattle.op_write.specs.declared.fault.LoadFault.{LoadFault}
-use Rattle.op_write.specs.declared.fault.LoadFault.TheVariants.{Bad, NoMemory}
+use Rattle.op_write.specs.declared.fault.LoadFault.TheVariants as load_fault
+
+-- the record is bad at this line, for this
+pub data RecordFault : Type 0 where
+  Bad : (line : ℕ) (cause : LoadCause) → RecordFault
 
 -- the name, where reading gave one that isn't empty
-abbrev pub named : ℕ → Result RdnSequence BadName → Result RdnSequence LoadFault
+abbrev pub named : ℕ → Result RdnSequence BadName → Result RdnSequence RecordFault
 named line (Ok []) = Err (Bad line Name)
 named line (Ok (rdn ∷ rdns)) = Ok (rdn ∷ rdns)
 named line (Err bad) = Err (Bad line Name)
@@ -29,22 +34,22 @@ abbrev pub loaded_value : ℕ → List ℕ → Option Keyed
 loaded_value kind octets = if nat_le (length octets) 65536 then value_of kind octets else None
 
 -- the entry with the value of the line
-abbrev pub with_new_value : EntryInformation → ℕ → ℕ → Option Keyed → Result EntryInformation LoadFault
+abbrev pub with_new_value : EntryInformation → ℕ → ℕ → Option Keyed → Result EntryInformation RecordFault
 with_new_value entry line kind None = Err (Bad line Value)
 with_new_value entry line kind (Some value) =
     if has_key value.key (values_of kind entry.attributes) then Err (Bad line Twice) else Ok (with_value kind value entry)
 
 -- the same, where the type is known
-abbrev pub with_new_kind : EntryInformation → RecordLine → Option ℕ → Result EntryInformation LoadFault
+abbrev pub with_new_kind : EntryInformation → RecordLine → Option ℕ → Result EntryInformation RecordFault
 with_new_kind entry line None = Err (Bad line.line Kind)
 with_new_kind entry line (Some kind) = with_new_value entry line.line kind (loaded_value kind line.value)
 
 -- the entry with an attribute line
-abbrev pub with_line : EntryInformation → RecordLine → Result EntryInformation LoadFault
+abbrev pub with_line : EntryInformation → RecordLine → Result EntryInformation RecordFault
 with_line entry line = with_new_kind entry line (attr_of line.kind)
 
 -- the entry with attribute lines, or the first bad one
-unfoldable pub with_lines : EntryInformation → List RecordLine → Result EntryInformation LoadFault
+unfoldable pub with_lines : EntryInformation → List RecordLine → Result EntryInformation RecordFault
 with_lines entry [] = Ok entry
 with_lines entry (line ∷ lines) = with_line entry line >>= λ more. with_lines more lines
 
@@ -58,24 +63,24 @@ abbrev pub with_own_values : EntryInformation → EntryInformation
 with_own_values entry = with_pairs entry (last_rdn entry.name)
 
 -- the entry of a record, wherever it will stand
-unfoldable pub entry_of_record : Record → Result EntryInformation LoadFault
+unfoldable pub entry_of_record : Record → Result EntryInformation RecordFault
 entry_of_record given = named given.line (read_name given.name) >>= λ name. with_lines (record { name = name; attributes = [] }) given.lines >>= λ entry.
     Ok (with_own_values entry)
 
 -- the entry, where it breaks no rule: what goes past a limit is told apart
-abbrev pub ruled : ℕ → EntryInformation → Option ℕ → Result EntryInformation LoadFault
+abbrev pub ruled : ℕ → EntryInformation → Option ℕ → Result EntryInformation RecordFault
 ruled line entry None = Ok entry
 ruled line entry (Some code) = if code == 11 then Err (Bad line Limit) else Err (Bad line (Rule code))
 
 -- the entry, where it may join the entries
-unfoldable pub placed : List EntryInformation → ℕ → EntryInformation → Result EntryInformation LoadFault
+unfoldable pub placed : List EntryInformation → ℕ → EntryInformation → Result EntryInformation RecordFault
 placed entries line entry =
     if has_name entry.name entries then Err (Bad line Twice)
     else if lacks_superior entry.name entries then Err (Bad line Order)
     else ruled line entry (broken_rule None entries entry)
 
 -- the entry that a record adds to the entries, or why it adds none
-unfoldable pub loaded_entry : List EntryInformation → Record → Result EntryInformation LoadFault
+unfoldable pub loaded_entry : List EntryInformation → Record → Result EntryInformation RecordFault
 loaded_entry entries given = entry_of_record given >>= placed entries given.line
 
 -- the record adds the entry to the tree, under a number that was free
@@ -87,6 +92,6 @@ pub record IsLoaded (old : List Numbered) (given : Record) (new : List Numbered)
   pub added : new ≡ put_entry id entry old
 
 -- the fault is that of loading; want of memory may come anywhere
-abbrev pub IsLoadFault : LoadFault → Result EntryInformation LoadFault → Type 0
-IsLoadFault (Bad line cause) loading = loading ≡ Err (Bad line cause)
-IsLoadFault NoMemory loading = Unit {0}
+abbrev pub IsLoadFault : LoadFault → Result EntryInformation RecordFault → Type 0
+IsLoadFault (load_fault.Bad line cause) loading = loading ≡ Err (Bad line cause)
+IsLoadFault load_fault.NoMemory loading = Unit {0}

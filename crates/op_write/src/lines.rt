@@ -1,10 +1,10 @@
 //! The lines of a record, each put in an entry.
 
-ghost use Rattle.std.specs.Prelude.{◌≡◌, Some};
+ghost use Rattle.std.specs.Prelude.{◌≡◌, Some, Ok, IfErr, OnOk};
 ghost use Rattle.schema_core.specs.Attributes.{IsAttrId};
 ghost use Rattle.dn_names.specs.NameText.{read_name};
 ghost use Rattle.op_write.specs.Loading.{named, loaded_value, with_new_kind, with_new_value, with_line, with_lines};
-ghost use Rattle.op_write.specs.Steps.{Gives, value_or_fault};
+ghost use Rattle.op_write.specs.Steps.{IsFault, Gives, value_or_fault};
 
 use crate::fault::{LoadCause, LoadFault, bad_at};
 use dir_tree::Entry;
@@ -54,53 +54,58 @@ fn value_of(alloc: Global, kind: AttrId, line: &RecordLine) -> Result<Value, Loa
     }
 }
 
-// The entry with the value. `Twice` comes exactly where it has an equal one of the type.
-fn with_value(entry: Entry, line: u64, kind: AttrId, value: Value) -> Result<Entry, LoadFault>
-    ensures exact { Gives result (with_new_value entry line kind.0 (Some value)) }
+// Adds the value. `Twice` comes exactly where the entry has an equal one of the type.
+fn add_value(entry: &mut Entry, line: u64, kind: AttrId, value: Value) -> Result<(), LoadFault>
+    ensures ok { OnOk result (with_new_value entry.old line kind.0 (Some value) ≡ Ok entry.new) }
+    ensures bad { IfErr result (λ fault.
+        IsFault fault (with_new_value entry.old line kind.0 (Some value))) }
 {
-    let mut entry = entry;
     if entry.push(kind, value)? {
-        Ok(entry)
+        Ok(())
     } else {
         Err(bad_at(line, LoadCause::Twice))
     }
 }
 
-// The entry with the value of the line, of the type.
-fn with_kind(
+// Adds the value of the line, of the type.
+fn add_of_kind(
     alloc: Global,
-    entry: Entry,
+    entry: &mut Entry,
     line: &RecordLine,
     kind: AttrId,
-) -> Result<Entry, LoadFault>
+) -> Result<(), LoadFault>
     requires { IsAttrId kind.0 }
-    ensures exact { Gives result (with_new_kind entry line.now (Some kind.0)) }
+    ensures ok { OnOk result (with_new_kind entry.old line.now (Some kind.0) ≡ Ok entry.new) }
+    ensures bad { IfErr result (λ fault.
+        IsFault fault (with_new_kind entry.old line.now (Some kind.0))) }
 {
     let value = value_of(alloc, kind, line)?;
-    with_value(entry, line.line, kind, value)
+    add_value(entry, line.line, kind, value)
 }
 
-// The entry with an attribute line.
-fn with_line(alloc: Global, entry: Entry, line: &RecordLine) -> Result<Entry, LoadFault>
-    ensures exact { Gives result (with_line entry line.now) }
+// Adds what an attribute line says.
+fn add_line(alloc: Global, entry: &mut Entry, line: &RecordLine) -> Result<(), LoadFault>
+    ensures ok { OnOk result (with_line entry.old line.now ≡ Ok entry.new) }
+    ensures bad { IfErr result (λ fault. IsFault fault (with_line entry.old line.now)) }
 {
     match attr_named(line.kind.as_slice()) {
-        Some(kind) => with_kind(alloc, entry, line, kind),
+        Some(kind) => add_of_kind(alloc, entry, line, kind),
         None => Err(bad_at(line.line, LoadCause::Kind)),
     }
 }
 
-/// The entry with attribute lines, in order. The first bad one decides: `Kind`, `Value` and `Twice` are tried in it.
-pub(crate) fn with_lines(
+/// Adds what attribute lines say, in order. The first bad one decides: `Kind`, `Value` and `Twice` are tried in it.
+/// After a fault the entry has the lines before it.
+pub(crate) fn add_lines(
     alloc: Global,
-    entry: Entry,
+    entry: &mut Entry,
     lines: &[RecordLine],
-) -> Result<Entry, LoadFault>
-    ensures exact { Gives result (with_lines entry lines.now) }
+) -> Result<(), LoadFault>
+    ensures ok { OnOk result (with_lines entry.old lines.now ≡ Ok entry.new) }
+    ensures bad { IfErr result (λ fault. IsFault fault (with_lines entry.old lines.now)) }
 {
-    let mut entry = entry;
     for line in lines {
-        entry = with_line(alloc, entry, line)?;
+        add_line(alloc, entry, line)?;
     }
-    Ok(entry)
+    Ok(())
 }

@@ -1,87 +1,111 @@
 //! Records of a data file, loaded.
 
-ghost use Rattle.std.specs.Prelude.{◌≡◌, ◌≢◌, [], None, IfOk, OnOk, OnErr, IfErr, false};
-ghost use Rattle.dir_tree.specs.Trees.{has_name, lacks_superior};
-ghost use Rattle.dir_tree.specs.Numbered.{entries_of, entry_of, put_entry};
+ghost use Rattle.std.specs.Prelude.{◌≡◌, ℕ, Option, Some, None, IfOk, OnOk, OnErr, IfErr, nat_le, length, true, false};
+ghost use Rattle.std.specs.Option.{option_map};
+ghost use Rattle.dir_tree.specs.Entries.{EntryInformation};
+ghost use Rattle.dir_tree.specs.Trees.{most_entries, has_name, lacks_superior, superior_name};
+ghost use Rattle.dir_tree.specs.Numbered.{entries_of, find_name};
 ghost use Rattle.dir_tree.specs.Refusals.{insert_refusal};
+ghost use Rattle.dir_tree.specs.Vacancies.{IsVacancy};
+ghost use Rattle.schema_rules.specs.Checking.{IsFor};
 ghost use Rattle.schema_rules.specs.Rules.{broken_rule};
 ghost use Rattle.op_write.specs.Loading.{entry_of_record, ruled, placed, loaded_entry, IsLoaded, IsLoadFault};
 ghost use Rattle.op_write.specs.Steps.{Gives};
 
-use crate::fault::{LoadCause, LoadFault, NoMemory, bad_at};
-use crate::lines::{named, with_lines};
-use crate::own::with_own_values;
-use dir_tree::{Entry, EntryNo, Tree};
-use dn_names::Dn;
+use crate::fault::{LoadCause, LoadFault, bad_at};
+use crate::lines::{add_lines, named};
+use crate::own::add_own_values;
+use dir_tree::{Entry, EntryNo, InsertRefusal, Tree, Vacancy};
 use ldif_core::Record;
-use schema_rules::{Broken, check_entry};
-use std::alloc::{AllocError, Global};
+use schema_rules::{Broken, check_entry, check_entry_below};
+use std::alloc::Global;
 
 // The entry of a record, wherever it will stand.
 fn entry_of_record(alloc: Global, given: &Record) -> Result<Entry, LoadFault>
     ensures exact { Gives result (entry_of_record given.now) }
 {
     let name = named(alloc, given.line, given.name.as_slice())?;
-    let entry = with_lines(alloc, Entry::new(alloc, name)?, given.lines.as_slice())?;
-    Ok(with_own_values(alloc, entry)?)
+    let mut entry = Entry::new(alloc, name)?;
+    add_lines(alloc, &mut entry, given.lines.as_slice())?;
+    add_own_values(alloc, &mut entry)?;
+    Ok(entry)
 }
 
-// Whether an entry has the name.
-fn has_name(tree: &Tree, name: &Dn) -> bool
-    ensures exact { result ≡ has_name name.now (entries_of tree.now) }
+// The fault of an entry that breaks a rule: what goes past a limit is told apart.
+fn fault_of(line: u64, broken: Broken) -> LoadFault
+    ensures exact { (entry : EntryInformation) (code : Option ℕ) → IsFor broken code
+        → IsLoadFault result (ruled line entry code) }
 {
-    tree.find(name).is_some()
+    match broken {
+        Broken::Rule(11) => bad_at(line, LoadCause::Limit),
+        Broken::Rule(code) => bad_at(line, LoadCause::Rule(code)),
+        Broken::NoMemory => LoadFault::NoMemory,
+    }
 }
 
-// Whether the tree has entries, and the superior of the name is none of them.
-fn lacks_superior(tree: &Tree, name: &Dn) -> bool
-    requires { name.now ≢ [] }
-    ensures exact { result ≡ lacks_superior name.now (entries_of tree.now) }
-{
-    tree.len() > 0 && tree.find_prefix(name, name.len() - 1).is_none()
-}
-
-// Whether the entry breaks a rule: what goes past a limit is told apart.
-fn ruled(tree: &Tree, line: u64, entry: &Entry) -> Result<(), LoadFault>
-    ensures ok { IfOk result (λ _. broken_rule None (entries_of tree.now) entry.now ≡ None) }
+// Whether the entry breaks a rule, the number of whose superior is known.
+fn ruled(
+    alloc: Global,
+    tree: &Tree,
+    line: u64,
+    superior: Option<EntryNo>,
+    entry: &Entry,
+) -> Result<(), LoadFault>
+    requires { option_map (λ no. no.0) superior ≡ find_name (superior_name entry.now.name) tree.now }
+    ensures ok { OnOk result (broken_rule None (entries_of tree.now) entry.now ≡ None) }
     ensures bad { IfErr result (λ fault.
         IsLoadFault fault (ruled line entry.now (broken_rule None (entries_of tree.now) entry.now))) }
 {
-    match check_entry(tree, None, entry) {
+    match check_entry_below(alloc, tree, superior, entry) {
         Ok(()) => Ok(()),
-        Err(Broken::Rule(11)) => Err(bad_at(line, LoadCause::Limit)),
-        Err(Broken::Rule(code)) => Err(bad_at(line, LoadCause::Rule(code))),
-        Err(Broken::NoMemory) => Err(LoadFault::NoMemory),
+        Err(broken) => Err(fault_of(line, broken)),
     }
 }
 
-// Whether the entry may join those of the tree: `Twice`, `Order`, `Rule` and `Limit` are tried in this order.
-fn placed(tree: &Tree, line: u64, entry: &Entry) -> Result<(), LoadFault>
-    requires { entry.now.name ≢ [] }
-    ensures ok { IfOk result (λ _. placed (entries_of tree.now) line entry.now ≡ Ok entry.now) }
+// The fault of an entry that a full tree would take otherwise: the limit, where it breaks no other rule.
+fn crowded_out(alloc: Global, tree: &Tree, line: u64, entry: &Entry) -> LoadFault
+    requires { nat_le most_entries (length (entries_of tree.now)) ≡ true }
+    ensures bad { IsLoadFault result
+        (ruled line entry.now (broken_rule None (entries_of tree.now) entry.now)) }
+{
+    match check_entry(alloc, tree, None, entry) {
+        Ok(()) => bad_at(line, LoadCause::Limit),
+        Err(broken) => fault_of(line, broken),
+    }
+}
+
+// The fault of an entry that the tree refuses.
+fn refused(
+    alloc: Global,
+    tree: &Tree,
+    line: u64,
+    entry: &Entry,
+    refusal: InsertRefusal,
+) -> LoadFault
+    requires { insert_refusal entry.now.name (entries_of tree.now) ≡ Some refusal }
+    ensures exact { IsLoadFault result (placed (entries_of tree.now) line entry.now) }
+{
+    match refusal {
+        InsertRefusal::NameTaken => bad_at(line, LoadCause::Twice),
+        InsertRefusal::NoSuperior => bad_at(line, LoadCause::Order),
+        InsertRefusal::Full => crowded_out(alloc, tree, line, entry),
+        InsertRefusal::NoMemory => LoadFault::NoMemory,
+    }
+}
+
+// Where the entry may join those of the tree: `Twice`, `Order`, `Rule` and `Limit` are tried in this order.
+fn placed(alloc: Global, tree: &Tree, line: u64, entry: &Entry) -> Result<Vacancy, LoadFault>
+    ensures vacant { IfOk result (λ vacancy. IsVacancy vacancy entry.now.name tree.now) }
+    ensures ok { OnOk result (placed (entries_of tree.now) line entry.now ≡ Ok entry.now) }
     ensures bad { IfErr result (λ fault.
         IsLoadFault fault (placed (entries_of tree.now) line entry.now)) }
 {
-    if has_name(tree, entry.name()) {
-        return Err(bad_at(line, LoadCause::Twice));
-    }
-    if lacks_superior(tree, entry.name()) {
-        return Err(bad_at(line, LoadCause::Order));
-    }
-    ruled(tree, line, entry)
-}
-
-// Puts the entry in, which the tree doesn't refuse.
-fn put_in(tree: &mut Tree, entry: Entry) -> Result<EntryNo, NoMemory>
-    requires named { entry.name ≢ [] }
-    requires allowed { insert_refusal entry.name (entries_of tree.old) ≡ None }
-    ensures ok { IfOk result (λ no. tree.new ≡ put_entry no.0 entry tree.old) }
-    ensures free { IfOk result (λ no. entry_of no.0 tree.old ≡ None) }
-    ensures err { OnErr result (tree.new ≡ tree.old) }
-{
-    match tree.insert(entry) {
-        Ok(no) => Ok(no),
-        Err(_) => Err(AllocError),
+    match tree.vacancy(entry.name()) {
+        Ok(vacancy) => match ruled(alloc, tree, line, vacancy.superior(), entry) {
+            Ok(()) => Ok(vacancy),
+            Err(fault) => Err(fault),
+        },
+        Err(refusal) => Err(refused(alloc, tree, line, entry, refusal)),
     }
 }
 
@@ -96,7 +120,7 @@ pub fn load_record(alloc: Global, tree: &mut Tree, given: &Record) -> Result<(),
     ensures err { OnErr result (tree.new ≡ tree.old) }
 {
     let entry = entry_of_record(alloc, given)?;
-    placed(tree, given.line, &entry)?;
-    put_in(tree, entry)?;
+    let vacancy = placed(alloc, tree, given.line, &entry)?;
+    tree.insert_at(vacancy, entry)?;
     Ok(())
 }

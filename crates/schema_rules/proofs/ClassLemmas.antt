@@ -1,69 +1,16 @@
 -- A class and its superclasses: the class first, and then those from its superior on.
-use Rattle.std.proofs.Common.{◌≡◌, ℕ, ◌==◌, Bool, true, false, not, ◌&&◌, ◌||◌, zero, suc, ◌<◌, ◌≤◌, List, [], ◌∷◌, length, Option, Some, None, refl, ap, sym, ◌∙◌, arith}
+use Rattle.std.proofs.Common.{◌≡◌, ℕ, ◌==◌, Bool, true, false, not, ◌&&◌, ◌||◌, List, [], ◌∷◌, length, Option, Some, None, refl, ap, sym, ◌∙◌}
 use Rattle.std.specs.List.{list_any, flat_map, cons_option}
 use Rattle.std.specs.Option.{option_map_or}
 use Rattle.schema_core.specs.Classes.{class_with, superior_of}
-use Rattle.schema_core.proofs.Theorems.{superior_of_below}
+use Rattle.schema_core.specs.Superclasses.{with_superclasses}
+use Rattle.schema_core.proofs.Theorems.{with_superclasses-first}
 use Rattle.std.proofs.lemmas.Grind.{flat_map-append}
 use Rattle.std.proofs.lemmas.List.Folds.{list_any-append}
 use Rattle.dn_names.specs.Names.{Keyed}
-use Rattle.schema_rules.specs.Listed.{classes_up, with_superclasses, is_structural, are_in_line}
+use Rattle.schema_rules.specs.Listed.{is_structural, are_in_line}
 use Rattle.schema_rules.specs.Classes.{classes_in, structural_in, is_apart, is_apart_from}
 use Rattle.schema_rules.proofs.ListLemmas.{list_any-filter, list_any-filter_map, list_any-same, none_passes}
-
--- a class of number 0 has no superior
-none_above :
-    (number : ℕ) (found : Option ℕ) (up : ℕ → List ℕ) → superior_of number ≡ found → number ≤ 0
-    → option_map_or up found [] ≡ []
-none_above number None up is within = refl
-none_above number (Some superior) up is within =
-    let below = superior_of_below number superior is in
-    absurd (omega arith)
-
-no_more :
-    (number : ℕ) (up : ℕ → List ℕ) → number ≤ 0
-    → number ∷ option_map_or up (superior_of number) [] ≡ number ∷ []
-no_more number up within =
-    ap (λ above. number ∷ above) (none_above number (superior_of number) up refl within)
-
--- from a superior on, where the two bounds serve each number below
-same_above :
-    (number bound : ℕ) (found : Option ℕ) (one other : ℕ → List ℕ) → superior_of number ≡ found
-    → number ≤ suc bound → ((superior : ℕ) → superior ≤ bound → superior < number → one superior ≡ other superior)
-    → option_map_or one found [] ≡ option_map_or other found []
-same_above number bound None one other is within same = refl
-same_above number bound (Some superior) one other is within same =
-    let below = superior_of_below number superior is in
-    same superior (omega arith) below
-
--- the bound says nothing where it is at least the number
-classes_up-enough :
-    (most more number : ℕ) → number ≤ most → number ≤ more → classes_up most number ≡ classes_up more number
-classes_up-enough zero zero number within also = refl
-classes_up-enough zero (suc more) number within also =
-    sym (no_more number (classes_up more) within)
-classes_up-enough (suc most) zero number within also =
-    no_more number (classes_up most) also
-classes_up-enough (suc most) (suc more) number within also =
-    ap (λ above. number ∷ above)
-    (same_above number most (superior_of number) (classes_up most) (classes_up more) refl within
-    (λ superior fits below. classes_up-enough most more superior fits (omega arith)))
-
--- so the class comes first, and then its superior with those above
-pub with_superclasses-first :
-    (number : ℕ) → with_superclasses number ≡ number ∷ option_map_or with_superclasses (superior_of number) []
-with_superclasses-first zero = sym (no_more zero with_superclasses (omega arith))
-with_superclasses-first (suc number) =
-    ap (λ above. suc number ∷ above)
-    (same_above (suc number) number (superior_of (suc number)) (classes_up number) with_superclasses refl
-    (omega arith) (λ superior fits below. classes_up-enough number superior superior fits (omega arith)))
-
--- and where it doesn't, the superclasses are
-pub list_any-above :
-    (test : ℕ → Bool) (number : ℕ) (found : Option ℕ) → test number ≡ false → found ≡ superior_of number
-    → list_any test (with_superclasses number) ≡ list_any test (option_map_or with_superclasses found [])
-list_any-above test number found not_own is =
-    ap (list_any test) (with_superclasses-first number) ∙ rw (not_own, is) refl
 
 -- the same of a list that each class gives
 pub flat_map-first :

@@ -1,6 +1,6 @@
 -- Entries that keep the rules or break one: the first that is broken answers.
 use Rattle.std.proofs.Common.{◌≡◌, ℕ, true, false, [], ◌∷◌, Some, None, refl}
-use Rattle.std.specs.Prelude.{List, codes}
+use Rattle.std.specs.Prelude.{List, codes, is_err}
 use Prim.Native.String.{String}
 use Rattle.schema_core.specs.Attributes.{attributes}
 use Rattle.schema_core.specs.Classes.{classes}
@@ -9,8 +9,11 @@ use Rattle.dn_names.specs.NameOrder.{name_cmp, is_same, is_prefix_of}
 use Rattle.dir_tree.specs.Entries.{Attribute, EntryInformation}
 use Rattle.dir_tree.specs.EntryClasses.{has_class}
 use Rattle.dir_tree.specs.Points.{is_point, is_subentry, is_access_subentry}
-use Rattle.schema_rules.specs.Listed.{with_superclasses, are_in_line}
-use Rattle.schema_rules.specs.Rules.{broken_rule, lacks_own_value, has_other_structural, breaks_classes, has_unread, has_two_values, is_misplaced, is_past_limits, stands_wrong, octets_in}
+use Rattle.schema_core.specs.Superclasses.{with_superclasses}
+use Rattle.schema_core.specs.declared.kinds.Syntax.TheVariants.{Subtree}
+use Rattle.subtree_spec.specs.SubtreeText.{read_subtree}
+use Rattle.schema_rules.specs.Listed.{are_in_line}
+use Rattle.schema_rules.specs.Rules.{broken_rule, lacks_own_value, has_other_structural, breaks_classes, is_unread, has_unread, has_two_values, is_misplaced, is_past_limits, stands_wrong, octets_in}
 
 -- a value of its key, which stands for its octets too
 abbrev value : String → Keyed
@@ -139,10 +142,9 @@ a_role_in_a_subentry : broken_rule None (area ∷ []) (entry ann (one 0 "2.5.17.
 unfolding breaking
 a_role_in_a_subentry = refl
 
--- invalidAttributeSyntax: these two syntaxes are not read yet
-a_subtree : broken_rule None (area ∷ []) (subentry ann) ≡ Some 21
-unfolding breaking
-a_subtree = refl
+-- invalidAttributeSyntax: a text that is no subtree specification; access control items are not read yet
+a_subtree_is_read : (octets : List ℕ) → is_unread Subtree octets ≡ is_err (read_subtree octets)
+a_subtree_is_read octets = refl
 
 an_item : broken_rule None (suffix ∷ []) (with_more (one 33 "{ }" ∷ [])) ≡ Some 21
 unfolding breaking

@@ -1,29 +1,24 @@
 -- The first entry of a name is the one that the number of the name finds.
-use Rattle.std.proofs.Common.{◌≡◌, ℕ, suc, ◌-◌, nat_le, true, if◌then◌else◌, List, [], ◌∷◌, length, take, map, Option, Some, None, refl, sym, ap, ◌∙◌, inl, inr, arith}
+use Rattle.std.proofs.Common.{◌≡◌, ℕ, suc, ◌-◌, nat_le, true, if◌then◌else◌, List, [], ◌∷◌, length, take, map, Option, None, refl, sym, ap, ◌∙◌, inl, inr, arith}
 use Rattle.std.proofs.lemmas.Bool.{cases_Bool}
 use Rattle.std.proofs.lemmas.List.{length-map}
 use Rattle.std.specs.Option.{option_and_then}
 use Rattle.std.proofs.lemmas.Bool.Decides.{nat_tests}
 use Rattle.dn_names.specs.Names.{RdnSequence}
+use Rattle.dir_tree.specs.Entries.{EntryInformation}
 use Rattle.dir_tree.specs.Trees.{superior_name, named_in}
 use Rattle.dir_tree.specs.Numbered.{Numbered, ids_of, entries_of, subentry_rows, AreDistinct, find_name, find_front, entry_of}
 use Rattle.dir_tree.specs.Points.{is_access_subentry, access_subentries}
 use Rattle.dir_tree.specs.declared.number.EntryNo.{EntryNo}
 use Rattle.dir_tree.proofs.TreeTheorems.{entry_of-found}
+use Rattle.schema_rules.specs.Checking.{IsSuperior}
 
--- the number finds the entry
-pub by_number :
-    (name : RdnSequence) (rows : List Numbered) (id : ℕ) → AreDistinct rows → find_name name rows ≡ Some id
-    → entry_of id rows ≡ named_in name (entries_of rows)
-by_number name rows id apart found =
-    ap (option_and_then (λ id. entry_of id rows)) (sym found) ∙ entry_of-found name rows apart
-
--- without a number there is no entry of the name
-pub no_number :
-    (name : RdnSequence) (rows : List Numbered) → AreDistinct rows → find_name name rows ≡ None
-    → named_in name (entries_of rows) ≡ None
-no_number name rows apart found =
-    sym (entry_of-found name rows apart) ∙ ap (option_and_then (λ id. entry_of id rows)) found
+-- the entry of the superior's number is the superior
+pub superior-found :
+    (number : Option ℕ) (entry : EntryInformation) (rows : List Numbered) → AreDistinct rows → IsSuperior number entry rows
+    → option_and_then (λ id. entry_of id rows) number ≡ named_in (superior_name entry.name) (entries_of rows)
+superior-found number entry rows apart is =
+    ap (option_and_then (λ id. entry_of id rows)) is ∙ entry_of-found (superior_name entry.name) rows apart
 
 -- the front that lacks one RDN is the superior's name
 pub front_of_superior :

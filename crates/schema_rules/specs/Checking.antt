@@ -1,9 +1,21 @@
--- What checking an entry answers.
-use Rattle.std.specs.Prelude.{ℕ, Option, Some, None}
+-- What checking an entry takes, and what it answers.
+use Rattle.std.specs.Prelude.{◌≡◌, ℕ, List, Option, Some, None}
+use Rattle.dir_tree.specs.Entries.{EntryInformation}
+use Rattle.dir_tree.specs.Trees.{superior_name}
+use Rattle.dir_tree.specs.Numbered.{Numbered, find_name}
 use Rattle.schema_rules.specs.declared.broken.Broken.{Broken}
 use Rattle.schema_rules.specs.declared.broken.Broken.TheVariants.{Rule, NoMemory}
+
+-- the number is that of the superior of the entry; none, where the tree has no entry of that name
+abbrev pub IsSuperior : Option ℕ → EntryInformation → List Numbered → Type 0
+IsSuperior number entry rows = number ≡ find_name (superior_name entry.name) rows
 
 -- the cause of a refusal, the rule that is broken; want of memory has none
 abbrev pub code_of : Broken → Option ℕ
 code_of (Rule code) = Some code
 code_of NoMemory = None
+
+-- the refusal is for the rule that is broken; want of memory may come in place of any answer
+abbrev pub IsFor : Broken → Option ℕ → Type 0
+IsFor (Rule code) expected = expected ≡ Some code
+IsFor NoMemory expected = Unit {0}

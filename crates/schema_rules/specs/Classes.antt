@@ -1,11 +1,12 @@
 -- The classes of a list of values, as the functions inside this crate see them.
-use Rattle.std.specs.Prelude.{ℕ, Bool, false, not, ◌&&◌, List, filter}
+use Rattle.std.specs.Prelude.{◌≡◌, ℕ, Bool, false, not, ◌&&◌, ◌||◌, List, filter, get_or}
 use Rattle.std.specs.List.{filter_map, list_any}
 use Rattle.std.specs.Option.{option_map_or}
 use Rattle.dn_names.specs.Names.{Keyed}
 use Rattle.dir_tree.specs.Entries.{Attribute, has_kind}
 use Rattle.schema_core.specs.Classes.{class_with}
-use Rattle.schema_rules.specs.Listed.{is_structural, are_in_line, with_superclasses, is_among, required_by, permitted_by}
+use Rattle.schema_core.specs.Superclasses.{with_superclasses}
+use Rattle.schema_rules.specs.Listed.{all_classes, is_structural, are_in_line, is_among, required_by, permitted_by}
 
 -- the classes of the table that have the keys
 abbrev pub classes_in : List Keyed → List ℕ
@@ -22,6 +23,15 @@ class_lacks attributes class = list_any (λ kind. not (has_kind kind attributes)
 -- the class or a superclass of it requires or allows the type
 abbrev pub class_permits : ℕ → ℕ → Bool
 class_permits kind class = is_among kind (permitted_by (with_superclasses class))
+
+-- besides the numbers that were marked, those that pass the test are
+abbrev pub MarksAlso : List Bool → (ℕ → Bool) → List Bool → Type 0
+MarksAlso old passes new = (number : ℕ) → get_or new number false ≡ (get_or old number false || passes number)
+
+-- what the classes of the attributes require or allow is marked
+abbrev pub AreOfClasses : List Bool → List Attribute → Type 0
+AreOfClasses marks attributes =
+    (number : ℕ) → get_or marks number false ≡ is_among number (permitted_by (all_classes attributes))
 
 -- the key is that of a structural class that is not in line with the class
 abbrev pub is_apart : ℕ → List ℕ → Bool

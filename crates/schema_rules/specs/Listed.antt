@@ -1,26 +1,18 @@
 -- The classes that an entry lists, by their numbers in the table, and what they require and allow (X.501 13.3 and 13.4).
-use Rattle.std.specs.Prelude.{ℕ, zero, suc, Bool, true, false, ◌||◌, List, [], ◌∷◌, ◌++◌, filter}
+use Rattle.std.specs.Prelude.{ℕ, Bool, true, false, ◌||◌, List, ◌++◌, filter}
 use Rattle.std.specs.List.{filter_map, flat_map}
 use Rattle.std.specs.Option.{option_map_or}
 pub use Rattle.plain_values.specs.Numbers.{has as is_among}
 use Rattle.schema_core.specs.declared.kinds.ClassKind.{ClassKind}
 use Rattle.schema_core.specs.declared.kinds.ClassKind.TheVariants.{Abstract, Structural, Auxiliary}
-use Rattle.schema_core.specs.Classes.{class_with, kind_of, superior_of, required_of, allowed_of}
+use Rattle.schema_core.specs.Classes.{class_with, kind_of, required_of, allowed_of}
+use Rattle.schema_core.specs.Superclasses.{with_superclasses}
 use Rattle.dir_tree.specs.Entries.{Attribute, values_of}
 use Rattle.dir_tree.specs.EntryClasses.{object_class}
 
 -- the numbers of the listed classes that are in the table, in order
 abbrev pub listed_classes : List Attribute → List ℕ
 listed_classes attributes = filter_map (λ value. class_with value.key) (values_of object_class attributes)
-
--- the class, and at most so many superclasses
-abbrev pub classes_up : ℕ → ℕ → List ℕ
-classes_up zero number = number ∷ []
-classes_up (suc most) number = number ∷ option_map_or (classes_up most) (superior_of number) []
-
--- the class and all its superclasses: each superior has a smaller number
-abbrev pub with_superclasses : ℕ → List ℕ
-with_superclasses number = classes_up number number
 
 -- the classes that are listed, and their superclasses
 abbrev pub all_classes : List Attribute → List ℕ

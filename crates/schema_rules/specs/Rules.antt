@@ -1,19 +1,20 @@
 -- When an entry may not stand in a tree: the rules in the order in which they are tried, each with its result code
 -- (RFC 4511 appendix A). X.501 and X.511 leave the order open; it is this profile's.
-use Rattle.std.specs.Prelude.{◌≡◌, ◌≢◌, ℕ, nat_lt, nat_le, ◌==◌, Bool, true, false, not, ◌&&◌, ◌||◌, List, [], ◌∷◌, ◌++◌, length, find, sum_by, codes, Option, Some, None, is_none}
+use Rattle.std.specs.Prelude.{◌≡◌, ◌≢◌, ℕ, nat_lt, nat_le, ◌==◌, Bool, true, false, not, ◌&&◌, ◌||◌, List, [], ◌∷◌, ◌++◌, length, find, sum_by, codes, Option, Some, None, is_none, is_err}
 use Rattle.std.specs.List.{AllByRecursion, list_any, list_all}
 use Rattle.std.specs.Option.{option_map, option_map_or}
 use Rattle.schema_core.specs.declared.kinds.Syntax.{Syntax}
 use Rattle.schema_core.specs.declared.kinds.Syntax.TheVariants.{Text, Ascii, Phone, Country, Octets, Oid, Name, Subtree, Aci}
 use Rattle.schema_core.specs.Attributes.{is_single, syntax_of}
 use Rattle.schema_core.specs.Classes.{class_with}
-use Rattle.dn_names.specs.Names.{RdnSequence, last_rdn}
+use Rattle.dn_names.specs.Names.{Keyed, last_rdn}
 use Rattle.dn_names.specs.GoodNames.{IsGoodName}
-use Rattle.dir_tree.specs.Entries.{EntryInformation, kinds_of, values_of, has_kind, has_key, IsGoodAttributes}
+use Rattle.dir_tree.specs.Entries.{Attribute, EntryInformation, kinds_of, values_of, has_kind, has_key, IsGoodAttributes}
 use Rattle.dir_tree.specs.EntryClasses.{object_class, has_class}
 use Rattle.dir_tree.specs.Points.{is_point, is_subentry, is_access_subentry, access_subentries}
 use Rattle.dir_tree.specs.Trees.{most_entries, superior_name, named_in, IsTree}
 use Rattle.dir_tree.specs.Scopes.{is_child}
+use Rattle.subtree_spec.specs.SubtreeText.{read_subtree}
 use Rattle.schema_rules.specs.Listed.{all_classes, structural_classes, are_in_line, is_among, required_by, permitted_by}
 
 -- notAllowedOnRDN (67): a value of the last RDN is none of the entry's
@@ -78,21 +79,32 @@ breaks_classes entry =
     lists_none entry || lists_unknown entry || lists_no_structural entry || lists_two_lines entry
     || lacks_required entry || has_unpermitted entry || lists_access_alone entry
 
--- invalidAttributeSyntax (21): no value of these two syntaxes is read yet, so each is refused
-abbrev pub is_unread : Syntax → Bool
-is_unread Text = false
-is_unread Ascii = false
-is_unread Phone = false
-is_unread Country = false
-is_unread Octets = false
-is_unread Oid = false
-is_unread Name = false
-is_unread Subtree = true
-is_unread Aci = true
+-- invalidAttributeSyntax (21): a value is not in the grammar of its syntax. The syntaxes of text are read before an entry is
+-- checked; access control items are not read yet, so each is refused
 
--- an attribute is there whose syntax is one of the two
+-- the octets are no value of the syntax
+abbrev pub is_unread : Syntax → List ℕ → Bool
+is_unread Text octets = false
+is_unread Ascii octets = false
+is_unread Phone octets = false
+is_unread Country octets = false
+is_unread Octets octets = false
+is_unread Oid octets = false
+is_unread Name octets = false
+is_unread Subtree octets = is_err (read_subtree octets)
+is_unread Aci octets = true
+
+-- one of the values is none of the syntax
+abbrev pub has_unread_of : List Keyed → Syntax → Bool
+has_unread_of values syntax = list_any (λ value. is_unread syntax value.octets) values
+
+-- one of the values of the attribute is none of its type's syntax
+abbrev pub has_unread_value : Attribute → Bool
+has_unread_value attribute = option_map_or (has_unread_of attribute.values) (syntax_of attribute.kind) false
+
+-- an attribute has such a value
 unfoldable pub has_unread : EntryInformation → Bool
-has_unread entry = list_any (λ kind. option_map_or is_unread (syntax_of kind) false) (kinds_of entry.attributes)
+has_unread entry = list_any has_unread_value entry.attributes
 
 -- constraintViolation (19): a single-valued attribute has two values
 unfoldable pub has_two_values : EntryInformation → Bool

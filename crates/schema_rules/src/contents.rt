@@ -1,17 +1,18 @@
 //! Which attributes the classes of an entry require and allow (X.501 13.3.3 and 13.4).
 
-ghost use Rattle.std.specs.Prelude.{◌≡◌, ◌==◌, not, false, ◌||◌, ◌++◌, slice_get};
+ghost use Rattle.std.specs.Prelude.{◌≡◌, not, false, ◌||◌, slice_get};
 ghost use Rattle.std.specs.List.{list_any};
 ghost use Rattle.std.specs.Option.{option_map_or};
 ghost use Rattle.dir_tree.specs.Entries.{has_kind, kinds_of};
-ghost use Rattle.schema_core.specs.Classes.{class_with, required_of, allowed_of};
-ghost use Rattle.schema_rules.specs.Classes.{class_lacks, class_permits};
+ghost use Rattle.schema_core.specs.Classes.{class_with};
+ghost use Rattle.schema_rules.specs.Classes.{class_lacks, AreOfClasses};
 ghost use Rattle.schema_rules.specs.Listed.{all_classes, is_among, permitted_by};
 ghost use Rattle.schema_rules.specs.Rules.{lacks_required, has_unpermitted, is_permitted_besides};
 
+use crate::marks::{is_marked, permitted_by};
 use dir_tree::Entry;
 use dn_names::Value;
-use schema_core::{AttrId, ClassId, allowed, class_with, required, superior};
+use schema_core::{AttrId, ClassId, class_with, required, superior};
 
 /// Whether an attribute that a class requires is absent.
 pub(crate) fn lacks_required(entry: &Entry) -> bool
@@ -74,8 +75,9 @@ fn has_kind(entry: &Entry, kind: AttrId) -> bool
 pub(crate) fn has_unpermitted(entry: &Entry) -> bool
     ensures exact { result ≡ has_unpermitted entry.now }
 {
+    let permitted = permitted_by(entry.values(AttrId::OBJECT_CLASS));
     for index in 0..entry.kinds() {
-        if is_unpermitted_at(entry, index) {
+        if is_unpermitted_at(entry, &permitted, index) {
             return true;
         }
     }
@@ -83,7 +85,8 @@ pub(crate) fn has_unpermitted(entry: &Entry) -> bool
 }
 
 // Whether there is an attribute at the place, and nothing allows it.
-fn is_unpermitted_at(entry: &Entry, index: usize) -> bool
+fn is_unpermitted_at(entry: &Entry, permitted: &[bool; 256], index: usize) -> bool
+    requires { AreOfClasses permitted.now entry.now.attributes }
     ensures exact { result
         ≡ option_map_or
         (λ kind. not (is_among kind (permitted_by (all_classes entry.now.attributes))
@@ -91,18 +94,19 @@ fn is_unpermitted_at(entry: &Entry, index: usize) -> bool
         (slice_get (kinds_of entry.now.attributes) index) false }
 {
     match entry.kind_at(index) {
-        Some(kind) => !is_permitted(entry, kind),
+        Some(kind) => !is_permitted(entry, permitted, kind),
         None => false,
     }
 }
 
 // Whether a class or a rule for operational attributes allows an attribute of the type.
-fn is_permitted(entry: &Entry, kind: AttrId) -> bool
+fn is_permitted(entry: &Entry, permitted: &[bool; 256], kind: AttrId) -> bool
+    requires { AreOfClasses permitted.now entry.now.attributes }
     ensures exact { result
         ≡ (is_among kind.0 (permitted_by (all_classes entry.now.attributes))
         || is_permitted_besides kind.0 entry.now) }
 {
-    is_permitted_by(entry.values(AttrId::OBJECT_CLASS), kind) || is_permitted_besides(entry, kind)
+    is_marked(permitted, kind) || is_permitted_besides(entry, kind)
 }
 
 // Whether the attribute is an operational one that the entry may have whatever its classes.
@@ -114,50 +118,4 @@ fn is_permitted_besides(entry: &Entry, kind: AttrId) -> bool
         AttrId(29 | 31 | 34) => !entry.is_subentry(),
         _ => false,
     }
-}
-
-// Whether one of the listed classes or a superclass of one requires or allows the type.
-fn is_permitted_by(listed: &[Value], kind: AttrId) -> bool
-    ensures exact { result
-        ≡ list_any (λ value. option_map_or (class_permits kind.0) (class_with value.key) false)
-        listed.now }
-{
-    listed.iter().any(|value| permits_listed(value.key(), kind))
-}
-
-// Whether the listed class or a superclass of it requires or allows the type.
-fn permits_listed(oid: &[u8], kind: AttrId) -> bool
-    ensures exact { result ≡ option_map_or (class_permits kind.0) (class_with oid.now) false }
-{
-    match class_with(oid) {
-        Some(class) => permits(class, kind),
-        None => false,
-    }
-}
-
-// Whether the class or a superclass of it requires or allows the type.
-fn permits(class: ClassId, kind: AttrId) -> bool
-    ensures exact { result ≡ class_permits kind.0 class.0 }
-{
-    if permits_itself(class, kind) {
-        return true;
-    }
-    match superior(class) {
-        Some(above) => permits(above, kind),
-        None => false,
-    }
-}
-
-// Whether the class's own row has the type.
-fn permits_itself(class: ClassId, kind: AttrId) -> bool
-    ensures exact { result ≡ is_among kind.0 (required_of class.0 ++ allowed_of class.0) }
-{
-    is_in(kind, required(class)) || is_in(kind, allowed(class))
-}
-
-// Whether the type is among the types.
-fn is_in(kind: AttrId, kinds: &[AttrId]) -> bool
-    ensures exact { result ≡ list_any (λ other. kind.0 == other.0) kinds.now }
-{
-    kinds.iter().any(|other| kind == *other)
 }

@@ -35,7 +35,14 @@ fn is_subentry_too_many(tree: &Tree, entry: &Entry) -> bool
     ensures exact { result
         ≡ (is_access_subentry entry.now && nat_le 256 (access_subentries (entries_of tree.now))) }
 {
-    entry.is_access_subentry() && tree.access_subentries().len() >= MOST_SUBENTRIES
+    is_full_of_subentries(tree) && entry.is_access_subentry()
+}
+
+// Whether the tree has as many access control subentries as it may.
+fn is_full_of_subentries(tree: &Tree) -> bool
+    ensures exact { result ≡ nat_le 256 (access_subentries (entries_of tree.now)) }
+{
+    tree.access_subentries().len() >= MOST_SUBENTRIES
 }
 
 // Whether the entry's values have more octets than they may.

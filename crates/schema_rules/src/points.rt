@@ -1,20 +1,23 @@
 //! Where administrative points and subentries stand (X.501 14.3, RFC 3672 section 2).
 
 ghost use Rattle.std.specs.Prelude.{◌≡◌, ◌&&◌, ◌||◌, not, None};
-ghost use Rattle.std.specs.Option.{option_map};
+ghost use Rattle.std.specs.Option.{option_map, option_and_then};
 ghost use Rattle.dir_tree.specs.Points.{is_point, is_subentry};
-ghost use Rattle.dir_tree.specs.Trees.{superior_name, named_in};
-ghost use Rattle.dir_tree.specs.Numbered.{entries_of};
-ghost use Rattle.schema_rules.specs.Rules.{stands_wrong, is_misplaced};
+ghost use Rattle.dir_tree.specs.Trees.{superior_name};
+ghost use Rattle.dir_tree.specs.Numbered.{AreDistinct, entries_of, entry_of, find_name};
+ghost use Rattle.schema_rules.specs.Checking.{IsSuperior};
+ghost use Rattle.schema_rules.specs.Rules.{is_misplaced};
 
-use dir_tree::{Entry, Tree};
+use dir_tree::{Entry, EntryNo, Tree};
 use dn_names::Dn;
 
-/// Whether the entry stands below a subentry, or is a subentry and stands below no administrative point.
-pub(crate) fn is_misplaced(tree: &Tree, entry: &Entry) -> bool
+/// Whether the entry stands below a subentry, or is a subentry and stands below no administrative point. The number is
+/// that of its superior.
+pub(crate) fn is_misplaced(tree: &Tree, superior: Option<EntryNo>, entry: &Entry) -> bool
+    requires { IsSuperior (option_map (λ no. no.0) superior) entry.now tree.now }
     ensures exact { result ≡ is_misplaced None (entries_of tree.now) entry.now }
 {
-    match superior_in(tree, entry.name()) {
+    match entry_in(tree, superior) {
         Some(superior) => stands_wrong_below(superior, entry),
         None => entry.is_subentry(),
     }
@@ -28,14 +31,22 @@ fn stands_wrong_below(superior: &Entry, entry: &Entry) -> bool
     superior.is_subentry() || entry.is_subentry() && !superior.is_point()
 }
 
-// The entry whose name is the name without its last RDN; None exactly where there is none.
-fn superior_in<'tree>(tree: &'tree Tree, name: &Dn) -> Option<&'tree Entry>
+// The entry of the number, if there is one.
+fn entry_in(tree: &Tree, number: Option<EntryNo>) -> Option<&Entry>
     ensures exact { option_map (λ entry. entry.now) result
-        ≡ named_in (superior_name name.now) (entries_of tree.now) }
+        ≡ option_and_then (λ id. entry_of id tree.now) (option_map (λ no. no.0) number) }
+    ensures tree { AreDistinct tree.now }
 {
     tree.entries_form_a_tree();
-    match tree.find_prefix(name, name.len().saturating_sub(1)) {
+    match number {
         Some(no) => tree.at(no),
         None => None,
     }
+}
+
+/// The number of the superior of an entry of the name, if it has one in the tree.
+pub(crate) fn number_above(tree: &Tree, name: &Dn) -> Option<EntryNo>
+    ensures exact { option_map (λ no. no.0) result ≡ find_name (superior_name name.now) tree.now }
+{
+    tree.find_prefix(name, name.len().saturating_sub(1))
 }

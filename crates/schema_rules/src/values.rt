@@ -1,57 +1,85 @@
 //! What the values of an attribute have to keep, whatever the classes of the entry.
 
-ghost use Rattle.std.specs.Prelude.{◌≡◌, ◌≤◌, ◌+◌, ◌&&◌, [], false, length, min, nat_lt, slice_get, sum_by};
+ghost use Rattle.std.specs.Prelude.{◌≡◌, ◌≤◌, ◌+◌, ◌&&◌, [], false, length, min, nat_lt, slice_get, sum_by, is_err, IfOk};
 ghost use Rattle.std.specs.Option.{option_map_or};
 ghost use Rattle.schema_core.specs.Attributes.{is_single, syntax_of};
-ghost use Rattle.dir_tree.specs.Entries.{kinds_of};
-ghost use Rattle.schema_rules.specs.Rules.{is_unread, has_unread, has_two_values, octets_in};
+ghost use Rattle.subtree_spec.specs.SubtreeText.{read_subtree};
+ghost use Rattle.schema_rules.specs.Rules.{is_unread, has_unread_of, has_unread_value, has_unread, has_two_values, octets_in};
 
+use crate::broken::NoMemory;
 use dir_tree::Entry;
 use dn_names::Value;
 use schema_core::{AttrId, Syntax, row};
+use std::alloc::{AllocError, Global};
+use subtree_spec::BadText;
 
-/// Whether there is a value of a syntax that isn't read yet.
-pub(crate) fn has_unread(entry: &Entry) -> bool
-    ensures exact { result ≡ has_unread entry.now }
+/// Whether there is a value that is none of its syntax.
+pub(crate) fn has_unread(alloc: Global, entry: &Entry) -> Result<bool, NoMemory>
+    ensures exact { IfOk result (λ found. found ≡ has_unread entry.now) }
 {
     for index in 0..entry.kinds() {
-        if is_unread_at(entry, index) {
-            return true;
+        let unread = has_unread_at(alloc, entry, index)?;
+        if unread {
+            return Ok(true);
         }
     }
-    false
+    Ok(false)
 }
 
-// Whether there is an attribute at the place, and values of its type are not read yet.
-fn is_unread_at(entry: &Entry, index: usize) -> bool
-    ensures exact { result
-        ≡ option_map_or (λ kind. option_map_or is_unread (syntax_of kind) false)
-        (slice_get (kinds_of entry.now.attributes) index) false }
+// Whether there is an attribute at the place, and one of its values is none of its syntax.
+fn has_unread_at(alloc: Global, entry: &Entry, index: usize) -> Result<bool, NoMemory>
+    ensures exact { IfOk result (λ found.
+        found ≡ option_map_or has_unread_value (slice_get entry.now.attributes index) false) }
 {
     match entry.kind_at(index) {
-        Some(kind) => is_unread(kind),
-        None => false,
+        Some(kind) => has_unread_value(alloc, kind, values_at(entry, index)),
+        None => Ok(false),
     }
 }
 
-// Whether values of the type are not read yet.
-fn is_unread(kind: AttrId) -> bool
-    ensures exact { result ≡ option_map_or is_unread (syntax_of kind.0) false }
+// Whether one of the values is none of the type's syntax.
+fn has_unread_value(alloc: Global, kind: AttrId, values: &[Value]) -> Result<bool, NoMemory>
+    ensures exact { IfOk result (λ found.
+        found ≡ option_map_or (has_unread_of values.now) (syntax_of kind.0) false) }
 {
     match row(kind) {
-        Some(row) => is_syntax_unread(row.syntax),
-        None => false,
+        Some(row) => has_unread_of(alloc, values, row.syntax),
+        None => Ok(false),
     }
 }
 
-// Whether values of the syntax are not read yet.
-fn is_syntax_unread(syntax: Syntax) -> bool
-    ensures exact { result ≡ is_unread syntax }
+// Whether one of the values is none of the syntax.
+fn has_unread_of(alloc: Global, values: &[Value], syntax: Syntax) -> Result<bool, NoMemory>
+    ensures exact { IfOk result (λ found. found ≡ has_unread_of values.now syntax) }
+{
+    for value in values {
+        if is_unread(alloc, syntax, value.octets())? {
+            return Ok(true);
+        }
+    }
+    Ok(false)
+}
+
+// Whether the octets are no value of the syntax.
+fn is_unread(alloc: Global, syntax: Syntax, octets: &[u8]) -> Result<bool, NoMemory>
+    ensures exact { IfOk result (λ found. found ≡ is_unread syntax octets.now) }
 {
     match syntax {
-        Syntax::Subtree => true,
-        Syntax::Aci => true,
-        _ => false,
+        Syntax::Subtree => is_no_subtree(alloc, octets),
+        Syntax::Aci => Ok(true),
+        _ => Ok(false),
+    }
+}
+
+// Whether the octets are no subtree specification.
+fn is_no_subtree(alloc: Global, octets: &[u8]) -> Result<bool, NoMemory>
+    ensures exact { IfOk result (λ found. found ≡ is_err (read_subtree octets.now)) }
+{
+    match subtree_spec::read(alloc, octets) {
+        Ok(_) => Ok(false),
+        Err(BadText::NoMemory) => Err(AllocError),
+        Err(BadText::Text) => Ok(true),
+        Err(BadText::Part { .. }) => Ok(true),
     }
 }
 

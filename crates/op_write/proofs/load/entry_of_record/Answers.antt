@@ -14,19 +14,19 @@ returns-in_err-name c =
     }
 
 -- a line is bad
-pub returns-in_err-entry : goal.returns-in_err-entry
-returns-in_err-entry c =
-    let fault = err_from_is_err_and c.from_residual-in_err-entry.result c.from_residual-in_err-entry.ensures.1 in
+pub returns-in_err-add_lines : goal.returns-in_err-add_lines
+returns-in_err-add_lines c =
+    let fault = err_from_is_err_and c.from_residual-in_err-add_lines.result c.from_residual-in_err-add_lines.ensures.1 in
     record {
-      exact = fault-gives c.from_residual-in_err-entry.result fault.0 c.in_err-entry.field-0.0 _ fault.1 fault.2
-          (record-line c.in_err-entry.field-0.0 c.args.given.now c.as_slice.result.now c.in_ok-name.name c.in_ok-new.field-0 c.as_slice-2.result.now
-          c.as_slice.ensures.exact c.in_ok-name.ensures.exact (same-ok _ _ c.in_ok-new.ensures.exact) c.as_slice-2.ensures.exact c.in_err-entry.ensures.exact);
+      exact = fault-gives c.from_residual-in_err-add_lines.result fault.0 c.in_err-add_lines.field-0.0 _ fault.1 fault.2
+          (record-line c.in_err-add_lines.field-0.0 c.args.given.now c.as_slice.result.now c.in_ok-name.name c.in_ok-entry.entry c.as_slice-2.result.now
+          c.as_slice.ensures.exact c.in_ok-name.ensures.exact (same-ok _ _ c.in_ok-entry.ensures.exact) c.as_slice-2.ensures.exact c.in_err-add_lines.ensures.bad);
     }
 
 -- all is good
 pub returns : goal.returns
 returns c = record {
-  exact = record-good c.args.given.now c.as_slice.result.now c.in_ok-name.name c.in_ok-new.field-0 c.in_ok-entry.entry c.as_slice-2.result.now
-      c.as_slice.ensures.exact c.in_ok-name.ensures.exact (same-ok _ _ c.in_ok-new.ensures.exact) c.as_slice-2.ensures.exact c.in_ok-entry.ensures.exact
-      ∙ ap Ok (sym c.in_ok-with_own_values.ensures.ok);
+  exact = record-good c.args.given.now c.as_slice.result.now c.in_ok-name.name c.in_ok-entry.entry c.add_lines.new.entry c.as_slice-2.result.now
+      c.as_slice.ensures.exact c.in_ok-name.ensures.exact (same-ok _ _ c.in_ok-entry.ensures.exact) c.as_slice-2.ensures.exact c.in_ok-add_lines.ensures.ok
+      ∙ ap Ok (sym c.in_ok-add_own_values.ensures.ok);
 }

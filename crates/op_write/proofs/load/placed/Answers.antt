@@ -1,32 +1,27 @@
+use Rattle.std.proofs.Common.{sym, ◌∙◌, ap}
 use Rattle.dn_names.specs.Names.{RdnSequence}
-use Rattle.dir_tree.specs.Trees.{has_name, lacks_superior}
-use Rattle.dir_tree.specs.Numbered.{entries_of}
-use Rattle.op_write.proofs.PlaceLemmas.{placed-twice, placed-order, placed-ok, placed-bad, answers}
+use Rattle.dir_tree.specs.Trees.{superior_name}
+use Rattle.dir_tree.specs.Numbered.{entries_of, find_name}
+use Rattle.dir_tree.specs.Refusals.{insert_refusal}
+use Rattle.op_write.proofs.PlaceLemmas.{MayJoin-free, placed-good, placed-fault}
 use Rattle.op_write.proofs.load.placed.Goals as goal
 
-pub returns-then-has_name-clause-bad : goal.returns-then-has_name-clause-bad
-returns-then-has_name-clause-bad c =
-    rw c.bad_at.ensures.exact
-    (placed-twice c.args.tree.now c.args.line c.args.entry.now
-    (answers (λ (name : RdnSequence). has_name name (entries_of c.args.tree.now)) _ _ _ _ c.name.ensures.exact c.has_name.ensures.exact c.if-has_name.true))
+-- the vacancy has the superior's number
+pub ruled-requires : goal.ruled-requires
+ruled-requires c =
+    c.superior.ensures.exact ∙ c.in-Ok.ensures.ok.under
+    ∙ ap (λ (name : RdnSequence). find_name (superior_name name) c.args.tree.now) c.name.ensures.exact
 
-pub returns-then-lacks_superior-clause-bad : goal.returns-then-lacks_superior-clause-bad
-returns-then-lacks_superior-clause-bad c =
-    rw c.bad_at-then-lacks_superior.ensures.exact
-    (placed-order c.args.tree.now c.args.line c.args.entry.now
-    (answers (λ (name : RdnSequence). has_name name (entries_of c.args.tree.now)) _ _ _ _ c.name.ensures.exact c.has_name.ensures.exact c.if-has_name.false)
-    (answers (λ (name : RdnSequence). lacks_superior name (entries_of c.args.tree.now)) _ _ _ _ c.name-2.ensures.exact c.lacks_superior.ensures.exact c.if-lacks_superior.true))
+-- no rule is broken
+pub returns-in-Ok-ruled-clause-ok : goal.returns-in-Ok-ruled-clause-ok
+returns-in-Ok-ruled-clause-ok c =
+    let free = ap (λ (name : RdnSequence). insert_refusal name (entries_of c.args.tree.now)) (sym c.name.ensures.exact) ∙ c.in-Ok.ensures.exact in
+    placed-good (entries_of c.args.tree.now) c.args.line c.args.entry.now
+    (MayJoin-free (entries_of c.args.tree.now) c.args.entry.now free) c.in-Ok-ruled.ensures.ok
 
-pub returns-clause-ok : goal.returns-clause-ok
-returns-clause-ok c =
-    placed-ok c.ruled.result c.args.tree.now c.args.line c.args.entry.now
-    (answers (λ (name : RdnSequence). has_name name (entries_of c.args.tree.now)) _ _ _ _ c.name.ensures.exact c.has_name.ensures.exact c.if-has_name.false)
-    (answers (λ (name : RdnSequence). lacks_superior name (entries_of c.args.tree.now)) _ _ _ _ c.name-2.ensures.exact c.lacks_superior.ensures.exact c.if-lacks_superior.false)
-    c.ruled.ensures.ok
-
-pub returns-clause-bad : goal.returns-clause-bad
-returns-clause-bad c =
-    placed-bad c.ruled.result c.args.tree.now c.args.line c.args.entry.now
-    (answers (λ (name : RdnSequence). has_name name (entries_of c.args.tree.now)) _ _ _ _ c.name.ensures.exact c.has_name.ensures.exact c.if-has_name.false)
-    (answers (λ (name : RdnSequence). lacks_superior name (entries_of c.args.tree.now)) _ _ _ _ c.name-2.ensures.exact c.lacks_superior.ensures.exact c.if-lacks_superior.false)
-    c.ruled.ensures.bad
+-- one is broken
+pub returns-in-Err-ruled-clause-bad : goal.returns-in-Err-ruled-clause-bad
+returns-in-Err-ruled-clause-bad c =
+    let free = ap (λ (name : RdnSequence). insert_refusal name (entries_of c.args.tree.now)) (sym c.name.ensures.exact) ∙ c.in-Ok.ensures.exact in
+    placed-fault (entries_of c.args.tree.now) c.args.line c.args.entry.now c.in-Err-ruled.fault
+    (MayJoin-free (entries_of c.args.tree.now) c.args.entry.now free) c.in-Err-ruled.ensures.bad

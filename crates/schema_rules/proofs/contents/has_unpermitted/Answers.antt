@@ -1,8 +1,20 @@
 -- One of the attributes, or none.
-use Rattle.std.proofs.Common.{sym, ◌∙◌, arith}
+use Rattle.std.proofs.Common.{◌==◌, ◌++◌, false, sym, ap, ◌∙◌, arith}
+use Rattle.std.specs.List.{list_any}
+use Rattle.std.specs.Option.{option_map_or}
+use Rattle.schema_core.specs.Classes.{class_with, required_of, allowed_of}
+use Rattle.schema_rules.specs.Classes.{class_permits}
+use Rattle.schema_rules.proofs.ClassLemmas.{flat_map-all_classes}
 use Rattle.std.proofs.lemmas.List.{length-map}
 use Rattle.schema_rules.proofs.ListLemmas.{any_here, none_more, none_at_all}
 use Rattle.schema_rules.proofs.contents.has_unpermitted.Goals as goal
+
+-- the marks are those of the listed classes
+pub is_unpermitted_at-requires : goal.is_unpermitted_at-requires
+is_unpermitted_at-requires c number =
+    c.permitted_by-permitted.ensures.exact number
+    ∙ ap (λ listed. list_any (λ value. option_map_or (class_permits number) (class_with value.key) false) listed) c.values.ensures.exact
+    ∙ sym (flat_map-all_classes (λ other. number == other) (λ class. required_of class ++ allowed_of class) _)
 
 pub returns-then-is_unpermitted_at : goal.returns-then-is_unpermitted_at
 returns-then-is_unpermitted_at c = record {

@@ -1,11 +1,23 @@
--- The tree keeps the number of each access control subentry.
-use Rattle.std.proofs.Common.{sym, ap, ◌∙◌, nat_le}
-use Rattle.schema_rules.proofs.TreeLemmas.{count-numbers}
+-- The two tests in the other order: nearly every tree has room.
+use Rattle.std.proofs.Common.{◌≡◌, Bool, true, false, ◌&&◌, refl, sym, ◌∙◌}
+use Rattle.dir_tree.specs.Points.{is_access_subentry}
 use Rattle.schema_rules.proofs.limits.is_subentry_too_many.Goals as goal
 
-pub returns-then-is_access_subentry : goal.returns-then-is_access_subentry
-returns-then-is_access_subentry c =
-    let mine = sym c.is_access_subentry.ensures.exact ∙ c.if-is_access_subentry.true in
-    record {
-      exact = rw mine (ap (nat_le 256) (count-numbers c.access_subentries.result.now c.args.tree.now c.access_subentries.ensures.exact));
-    }
+with_true : (one other : Bool) → other ≡ true → one ≡ (one && other)
+with_true true other is = sym is
+with_true false other is = refl
+
+with_false : (one other : Bool) → other ≡ false → false ≡ (one && other)
+with_false true other is = sym is
+with_false false other is = refl
+
+pub returns-then-is_full_of_subentries : goal.returns-then-is_full_of_subentries
+returns-then-is_full_of_subentries c = record {
+  exact = c.is_access_subentry.ensures.exact ∙ with_true _ _ (sym c.is_full_of_subentries.ensures.exact ∙ c.if-is_full_of_subentries.true);
+}
+
+pub returns-else-is_full_of_subentries : goal.returns-else-is_full_of_subentries
+returns-else-is_full_of_subentries c = record {
+  exact = c.if-is_full_of_subentries.false
+      ∙ with_false (is_access_subentry c.args.entry.now) _ (sym c.is_full_of_subentries.ensures.exact ∙ c.if-is_full_of_subentries.false);
+}

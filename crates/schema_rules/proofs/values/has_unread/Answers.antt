@@ -1,23 +1,21 @@
 -- One of the attributes, or none.
 use Rattle.std.proofs.Common.{sym, ◌∙◌, arith}
 use Rattle.schema_rules.specs.Rules.{has_unread}
-use Rattle.std.proofs.lemmas.List.{length-map}
 use Rattle.schema_rules.proofs.ListLemmas.{any_here, none_more, none_at_all}
 use Rattle.schema_rules.proofs.values.has_unread.Goals as goal
 
-pub returns-then-is_unread_at : goal.returns-then-is_unread_at
+pub returns-then-unread : goal.returns-then-unread
 unfolding has_unread
-returns-then-is_unread_at c = record {
-  exact = sym (any_here _ _ c.loop-index.index (sym c.is_unread_at.ensures.exact ∙ c.if-is_unread_at.true));
+returns-then-unread c = record {
+  exact = sym (any_here _ _ c.loop-index.index (sym c.in_ok-unread.ensures.exact ∙ c.if-unread.true));
 }
 
 pub loop-index-preserved : goal.loop-index-preserved
 loop-index-preserved c =
-    none_more _ _ c.loop-index.index c.loop-index.invariant (sym c.is_unread_at.ensures.exact ∙ c.if-is_unread_at.false)
+    none_more _ _ c.loop-index.index c.loop-index.invariant (sym c.in_ok-unread.ensures.exact ∙ c.if-unread.false)
 
 pub returns : goal.returns
 unfolding has_unread
 returns c =
     let past = c.kinds-index-end.ensures.exact in
-    let count = length-map c.args.entry.now.attributes (λ attribute. attribute.kind) in
     record { exact = sym (none_at_all _ _ c.loop-index.index c.loop-index.invariant (omega arith)) }

@@ -1,0 +1,9 @@
+mod Examples
+pub mod ListLemmas
+pub mod PrefixLemmas
+pub mod FrontLemmas
+pub mod LineLemmas
+pub mod WithoutLemmas
+pub mod WalkLemmas
+pub mod FindLemmas
+pub mod Theorems

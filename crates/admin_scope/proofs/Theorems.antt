@@ -1,0 +1,3 @@
+-- What crates above may cite of areas and of subentries in force.
+pub use Rattle.admin_scope.proofs.PrefixLemmas.{prefix_chain}
+pub use Rattle.admin_scope.proofs.WithoutLemmas.{areas-without, in_force-without}

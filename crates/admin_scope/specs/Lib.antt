@@ -1,0 +1,7 @@
+-- what public clauses cite
+pub mod Refinements
+pub mod Areas
+pub mod InForce
+-- for the inside of the crate alone
+pub mod Walking
+pub mod Finding

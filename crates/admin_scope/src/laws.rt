@@ -1,0 +1,19 @@
+//! The laws of areas: each function computes nothing, and what it ensures is a law.
+
+ghost use Rattle.std.specs.Prelude.{◌≡◌, true, false, List};
+ghost use Rattle.dn_names.specs.Names.{RdnSequence};
+ghost use Rattle.dir_tree.specs.Entries.{EntryInformation};
+ghost use Rattle.dir_tree.specs.Points.{is_access_subentry};
+ghost use Rattle.dir_tree.specs.Scopes.{is_within};
+ghost use Rattle.admin_scope.specs.Areas.{areas, without_subtree, has_within};
+ghost use Rattle.admin_scope.specs.InForce.{in_force};
+
+/// Leaving out all entries at or below a name changes no area of an entry that is not among them; and no list of
+/// subentries in force, where no access control subentry is among them.
+pub fn a_subtree_without_subentries_changes_no_area()
+    ensures areas { (top : RdnSequence) (entries : List EntryInformation) (entry : EntryInformation)
+        → is_within top entry ≡ false → areas (without_subtree top entries) entry ≡ areas entries entry }
+    ensures in_force { (top : RdnSequence) (entries : List EntryInformation) (entry : EntryInformation)
+        → is_within top entry ≡ false → has_within is_access_subentry top entries ≡ false
+        → in_force (without_subtree top entries) entry ≡ in_force entries entry }
+{}

@@ -1,0 +1,16 @@
+//! Administrative areas (X.501 14.3 and 18.3), and the access control subentries that are in force for an entry.
+#![tactic(auto)]
+
+mod laws;
+mod membership;
+mod point_list;
+mod refinements;
+mod roles;
+mod subentries;
+mod upwards;
+
+pub use laws::a_subtree_without_subentries_changes_no_area;
+pub use membership::holds;
+pub use point_list::areas;
+pub use subentries::{applies, in_force, in_force_for, subtree};
+pub use upwards::{PointWalk, points};

@@ -1,0 +1,10 @@
+-- The front that lacks one RDN.
+use Rattle.std.proofs.Common.{ℕ, ◌-◌, ap, ◌∙◌}
+use Rattle.schema_rules.proofs.TreeLemmas.{front_of_superior}
+use Rattle.schema_rules.proofs.points.number_above.Goals as goal
+
+pub returns : goal.returns
+returns c = record {
+  exact = c.find_prefix.ensures.exact
+      ∙ front_of_superior _ _ _ (c.saturating_sub.ensures ∙ ap (λ (len : ℕ). len - 1) c.len.ensures.exact);
+}
