@@ -14,8 +14,7 @@ use Rattle.dir_tree.specs.Points.{is_subentry, is_access_subentry}
 use Rattle.dir_tree.specs.Scopes.{is_within}
 use Rattle.admin_scope.specs.Areas.{areas, without_subtree, has_within}
 use Rattle.admin_scope.specs.InForce.{reaches, in_force_at, in_force}
-use Rattle.admin_scope.proofs.PrefixLemmas.{prefix_chain}
-use Rattle.admin_scope.proofs.WithoutLemmas.{in_force-without}
+use Rattle.admin_scope.proofs.Theorems.{prefix_chain, in_force-without}
 use Rattle.aci_item.specs.Items.{UserClasses}
 use Rattle.aci_item.specs.declared.permission.Permission.{Permission}
 use Rattle.acdf_filters.specs.declared.asking.Requester.{Requester}
