@@ -1,0 +1,3 @@
+-- What crates above may cite of the decision.
+pub use Rattle.acdf_filters.proofs.DecisionLaw.{decided-fold}
+pub use Rattle.acdf_filters.proofs.UnseenLaw.{granted-without, granted_new-without}

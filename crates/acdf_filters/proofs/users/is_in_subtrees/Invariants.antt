@@ -1,0 +1,9 @@
+-- The subtrees so far hold the name no, so those that are left decide.
+use Rattle.std.proofs.Common.{◌≡◌, map, drop}
+use Rattle.subtree_spec.specs.Subtrees.{subtree_of}
+use Rattle.acdf_filters.specs.Users.{is_held}
+use Rattle.acdf_filters.proofs.users.is_in_subtrees.Given as goal
+
+abbrev pub invariant-loop-subtree : goal.invariant-loop-subtree
+invariant-loop-subtree l =
+    is_held l.name (map subtree_of (drop l.subtree-index l.subtrees)) ≡ is_held l.name (map subtree_of l.subtrees)

@@ -1,0 +1,14 @@
+//! What a directory keeps of its entries for the access control decision (X.501 18.8), and the decision by it.
+#![tactic(auto)]
+
+mod decision;
+mod dir;
+mod kept;
+mod making;
+mod plain_dir;
+
+pub use decision::decide;
+pub use dir::Dir;
+pub use kept::Kept;
+pub use making::make_all;
+pub use plain_dir::PlainDir;
