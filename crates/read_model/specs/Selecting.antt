@@ -1,0 +1,44 @@
+-- Which entries a search selects (RFC 4511 4.5.1, X.511 10.2).
+use Rattle.std.specs.Prelude.{ℕ, ◌==◌, Bool, not, ◌&&◌, ◌||◌, filter, Option, Some, None, if◌then◌else◌}
+use Rattle.dn_names.specs.Names.{RdnSequence}
+use Rattle.dir_tree.specs.Entries.{EntryInformation}
+use Rattle.dir_tree.specs.Trees.{is_named}
+use Rattle.dir_tree.specs.Points.{is_subentry}
+use Rattle.dir_tree.specs.Scopes.{is_child, is_within}
+use Rattle.aci_item.specs.declared.permission.Permission.TheVariants.{Browse, ReturnDn, FilterMatch}
+use Rattle.acdf_filters.specs.Asking.{Entry, Kind, Value}
+use Rattle.ldap_msg.specs.declared.kinds.SearchRequest.{SearchRequest}
+use Rattle.filter_core.specs.Truths.{Permits, truth, is_true}
+use Rattle.read_model.specs.Views.{Row, View}
+
+-- the scope takes the entry in: baseObject 0, singleLevel 1, wholeSubtree 2
+abbrev pub takes_in : ℕ → RdnSequence → EntryInformation → Bool
+takes_in scope base entry =
+    if scope == 0 then is_named base entry else if scope == 1 then is_child base entry else is_within base entry
+
+-- whether a boolean is another
+abbrev pub is_same : Bool → Bool → Bool
+is_same one other = if one then other else not other
+
+-- without the control of subentries (RFC 3672 3) they are seen by a search of the base alone; with it either they alone
+-- are, or the other entries alone
+abbrev pub is_seen : ℕ → Option Bool → EntryInformation → Bool
+is_seen scope None entry = (scope == 0) || not (is_subentry entry)
+is_seen scope (Some wanted) entry = is_same wanted (is_subentry entry)
+
+-- what a filter may match on the entry
+abbrev pub permits_of : Row → Permits
+permits_of row = record { kind = λ kind. row.allows (Kind kind) FilterMatch; value = λ kind value. row.allows (Value kind value) FilterMatch }
+
+-- the entry is in the scope and seen, may be browsed, matches the filter, and its name may be returned
+unfoldable pub is_selected : SearchRequest → Option Bool → RdnSequence → Row → Bool
+is_selected request subentries base row =
+    takes_in request.scope base row.entry
+    && is_seen request.scope subentries row.entry
+    && row.allows Entry Browse
+    && is_true (truth (permits_of row) row.entry request.filter)
+    && row.allows Entry ReturnDn
+
+-- the entries that a search selects, in their order
+unfoldable pub selected : View → SearchRequest → Option Bool → RdnSequence → View
+selected view request subentries base = filter (is_selected request subentries base) view
