@@ -305,7 +305,7 @@ fn the_classes_of_an_entry_require_and_allow_its_attributes(rt: HostRuntime) -> 
     check_rows(&rt, rt.alloc(), &CONTENTS)
 }
 
-static UNREAD: [Row; 6] = [
+static UNREAD: [Row; 7] = [
     (
         "cn=ann,dc=example",
         &[
@@ -325,6 +325,19 @@ static UNREAD: [Row; 6] = [
             ("subentryACI", "{ }"),
         ],
         Some(21),
+    ),
+    (
+        "cn=ann,dc=example",
+        &[
+            ("objectClass", "person"),
+            ("cn", "Ann"),
+            ("sn", "Lee"),
+            (
+                "entryACI",
+                "{ identificationTag \"own\", precedence 1, authenticationLevel none, itemOrUserFirst userFirst: { userClasses { thisEntry }, userPermissions { { protectedItems { entry }, grantsAndDenials { grantRead } } } } }",
+            ),
+        ],
+        None,
     ),
     (
         "cn=local,ou=area,dc=example",
@@ -370,7 +383,7 @@ static UNREAD: [Row; 6] = [
 ];
 
 #[test]
-fn a_subtree_value_is_read_and_an_access_control_item_is_not(rt: HostRuntime) -> Result<(), Fail> {
+fn subtree_specifications_and_access_control_items_are_read(rt: HostRuntime) -> Result<(), Fail> {
     check_rows(&rt, rt.alloc(), &UNREAD)
 }
 

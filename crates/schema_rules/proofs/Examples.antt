@@ -10,8 +10,9 @@ use Rattle.dir_tree.specs.Entries.{Attribute, EntryInformation}
 use Rattle.dir_tree.specs.EntryClasses.{has_class}
 use Rattle.dir_tree.specs.Points.{is_point, is_subentry, is_access_subentry}
 use Rattle.schema_core.specs.Superclasses.{with_superclasses}
-use Rattle.schema_core.specs.declared.kinds.Syntax.TheVariants.{Subtree}
+use Rattle.schema_core.specs.declared.kinds.Syntax.TheVariants.{Subtree, Aci}
 use Rattle.subtree_spec.specs.SubtreeText.{read_subtree}
+use Rattle.aci_item.specs.AciText.{read_item}
 use Rattle.schema_rules.specs.Listed.{are_in_line}
 use Rattle.schema_rules.specs.Rules.{broken_rule, lacks_own_value, has_other_structural, breaks_classes, is_unread, has_unread, has_two_values, is_misplaced, is_past_limits, stands_wrong, octets_in}
 
@@ -142,17 +143,12 @@ a_role_in_a_subentry : broken_rule None (area ∷ []) (entry ann (one 0 "2.5.17.
 unfolding breaking
 a_role_in_a_subentry = refl
 
--- invalidAttributeSyntax: a text that is no subtree specification; access control items are not read yet
+-- invalidAttributeSyntax: a text that is no subtree specification or no access control item
 a_subtree_is_read : (octets : List ℕ) → is_unread Subtree octets ≡ is_err (read_subtree octets)
 a_subtree_is_read octets = refl
 
-an_item : broken_rule None (suffix ∷ []) (with_more (one 33 "{ }" ∷ [])) ≡ Some 21
-unfolding breaking
-an_item = refl
-
-an_item_and_two_schemes : broken_rule None (suffix ∷ []) (with_more (two 31 "2.5.28.1" "2.5.28.2" ∷ one 33 "{ }" ∷ [])) ≡ Some 21
-unfolding breaking
-an_item_and_two_schemes = refl
+an_item_is_read : (octets : List ℕ) → is_unread Aci octets ≡ is_err (read_item octets)
+an_item_is_read octets = refl
 
 -- constraintViolation
 two_schemes : broken_rule None (suffix ∷ []) (with_more (two 31 "2.5.28.1" "2.5.28.2" ∷ [])) ≡ Some 19

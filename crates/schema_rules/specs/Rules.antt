@@ -7,6 +7,7 @@ use Rattle.schema_core.specs.declared.kinds.Syntax.{Syntax}
 use Rattle.schema_core.specs.declared.kinds.Syntax.TheVariants.{Text, Ascii, Phone, Country, Octets, Oid, Name, Subtree, Aci}
 use Rattle.schema_core.specs.Attributes.{is_single, syntax_of}
 use Rattle.schema_core.specs.Classes.{class_with}
+use Rattle.aci_item.specs.AciText.{read_item}
 use Rattle.dn_names.specs.Names.{Keyed, last_rdn}
 use Rattle.dn_names.specs.GoodNames.{IsGoodName}
 use Rattle.dir_tree.specs.Entries.{Attribute, EntryInformation, kinds_of, values_of, has_kind, has_key, IsGoodAttributes}
@@ -80,7 +81,7 @@ breaks_classes entry =
     || lacks_required entry || has_unpermitted entry || lists_access_alone entry
 
 -- invalidAttributeSyntax (21): a value is not in the grammar of its syntax. The syntaxes of text are read before an entry is
--- checked; access control items are not read yet, so each is refused
+-- checked
 
 -- the octets are no value of the syntax
 abbrev pub is_unread : Syntax → List ℕ → Bool
@@ -92,7 +93,7 @@ is_unread Octets octets = false
 is_unread Oid octets = false
 is_unread Name octets = false
 is_unread Subtree octets = is_err (read_subtree octets)
-is_unread Aci octets = true
+is_unread Aci octets = is_err (read_item octets)
 
 -- one of the values is none of the syntax
 abbrev pub has_unread_of : List Keyed → Syntax → Bool

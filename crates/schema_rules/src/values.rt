@@ -3,6 +3,7 @@
 ghost use Rattle.std.specs.Prelude.{◌≡◌, ◌≤◌, ◌+◌, ◌&&◌, [], false, length, min, nat_lt, slice_get, sum_by, is_err, IfOk};
 ghost use Rattle.std.specs.Option.{option_map_or};
 ghost use Rattle.schema_core.specs.Attributes.{is_single, syntax_of};
+ghost use Rattle.aci_item.specs.AciText.{read_item};
 ghost use Rattle.subtree_spec.specs.SubtreeText.{read_subtree};
 ghost use Rattle.schema_rules.specs.Rules.{is_unread, has_unread_of, has_unread_value, has_unread, has_two_values, octets_in};
 
@@ -66,7 +67,7 @@ fn is_unread(alloc: Global, syntax: Syntax, octets: &[u8]) -> Result<bool, NoMem
 {
     match syntax {
         Syntax::Subtree => is_no_subtree(alloc, octets),
-        Syntax::Aci => Ok(true),
+        Syntax::Aci => is_no_item(alloc, octets),
         _ => Ok(false),
     }
 }
@@ -80,6 +81,17 @@ fn is_no_subtree(alloc: Global, octets: &[u8]) -> Result<bool, NoMemory>
         Err(BadText::NoMemory) => Err(AllocError),
         Err(BadText::Text) => Ok(true),
         Err(BadText::Part { .. }) => Ok(true),
+    }
+}
+
+// Whether the octets are no access control item.
+fn is_no_item(alloc: Global, octets: &[u8]) -> Result<bool, NoMemory>
+    ensures exact { IfOk result (λ found. found ≡ is_err (read_item octets.now)) }
+{
+    match aci_item::read(alloc, octets) {
+        Ok(_) => Ok(false),
+        Err(BadText::NoMemory) => Err(AllocError),
+        Err(BadText::Part { .. } | BadText::Text) => Ok(true),
     }
 }
 

@@ -25,33 +25,42 @@ fn assert_refused(
     Ok(())
 }
 
-const RULE_21_AT_9: &str = "bad data line 9: rule 21\n";
-
 /// A data file, what its check prints, and what it shows.
-static TREES: [(&str, &str, &str); 3] = [
-    (ORGANISATION, RULE_21_AT_9, "an organisation"),
-    (POINT, "bad data line 1: rule 21\n", "a point"),
-    (
-        TWO_SUBENTRIES,
-        "bad data line 6: rule 21\n",
-        "two subentries",
-    ),
+static TREES: [(&str, &str, &str); 5] = [
+    (TWO_ENTRIES, "ok 2 0\n", "two entries"),
+    (ONE_SUBENTRY, "ok 3 1\n", "one subentry"),
+    (ORGANISATION, "ok 17 4\n", "an organisation"),
+    (POINT, "ok 2 1\n", "a point"),
+    (TWO_SUBENTRIES, "ok 4 2\n", "two subentries"),
 ];
 
 #[test]
-fn a_tree_is_counted_unless_an_entry_has_an_item(rt: HostRuntime) -> Result<(), Fail> {
-    let counted = run_data(rt.alloc(), "check d", TWO_ENTRIES.as_bytes())?;
-    assert_ran(&rt, &counted, "ok 2 0\n", Status::Done, "two entries");
-    let counted = run_data(rt.alloc(), "check d", ONE_SUBENTRY.as_bytes())?;
-    assert_ran(&rt, &counted, "ok 3 1\n", Status::Done, "one subentry");
+fn the_entries_and_the_access_control_subentries_of_a_tree_are_counted(
+    rt: HostRuntime,
+) -> Result<(), Fail> {
     for (data, put, what) in &TREES {
-        assert_refused(&rt, rt.alloc(), data.as_bytes(), put, what)?;
+        let counted = run_data(rt.alloc(), "check d", data.as_bytes())?;
+        assert_ran(&rt, &counted, put, Status::Done, what);
     }
     Ok(())
 }
 
+/// An organisation with an item that no grammar has is refused at the entry that has it.
 #[test]
-fn an_ordinary_site_is_refused_at_its_first_subentry(rt: HostRuntime) -> Result<(), Fail> {
+fn an_item_of_no_grammar_is_refused(rt: HostRuntime) -> Result<(), Fail> {
+    let data = "dn: dc=u\nobjectClass: domain\nentryACI: { identificationTag \"s\" }\n";
+    assert_refused(
+        &rt,
+        rt.alloc(),
+        data.as_bytes(),
+        "bad data line 1: rule 21\n",
+        "half an item",
+    )?;
+    Ok(())
+}
+
+#[test]
+fn an_ordinary_site_is_loaded(rt: HostRuntime) -> Result<(), Fail> {
     let alloc = rt.alloc();
     let mut data = String::from_str(alloc, ORGANISATION)?;
     for number in 1..41u32 {
@@ -59,13 +68,14 @@ fn an_ordinary_site_is_refused_at_its_first_subentry(rt: HostRuntime) -> Result<
             "\ndn: uid=p{number:02},ou=people,dc=example\nobjectClass: inetOrgPerson\nuid: p{number:02}\ncn: P {number:02}\nsn: P\nmail: p{number:02}@example.com\ntelephoneNumber: +1 555 10{number:02}\nuserPassword: pw{number:02}\n"
         )?.as_str())?;
     }
-    assert_refused(
+    let counted = run_data(alloc, "check d", data.as_bytes())?;
+    assert_ran(
         &rt,
-        alloc,
-        data.as_bytes(),
-        RULE_21_AT_9,
+        &counted,
+        "ok 57 4\n",
+        Status::Done,
         "forty people more",
-    )?;
+    );
     Ok(())
 }
 
