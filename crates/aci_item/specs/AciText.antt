@@ -8,7 +8,7 @@ use Rattle.gser_tree.specs.Shapes.{Shape}
 use Rattle.gser_tree.specs.TextOf.{IsTextOf}
 use Rattle.gser_tree.specs.Growing.{tree_of}
 use Rattle.gser_tree.specs.Looking.{members_in, string_in, chosen_in}
-use Rattle.gser_tree.specs.Reading.{Found, Read, give, ◌>>=◌, expect, optional, required, nothing_left, number}
+use Rattle.gser_tree.specs.Reading.{Read, give, ◌>>=◌, expect, optional, required, nothing_left, number}
 use Rattle.gser_tree.specs.Writing.{text_of}
 use Rattle.subtree_spec.specs.declared.error.BadText.{BadText}
 use Rattle.subtree_spec.specs.Parts.{set_of}

@@ -1,5 +1,5 @@
 -- The parts of access control items: levels, bits, users, attribute types and values, subtrees.
-use Rattle.std.specs.Prelude.{ℕ, Bool, true, false, min, ◌-◌, length, slice_get, List, [], ◌∷◌, find, Option, Some, None, option_map, option_and_then, codes, if◌then◌else◌}
+use Rattle.std.specs.Prelude.{ℕ, Bool, true, false, min, ◌-◌, length, slice_get, List, [], find, Option, Some, None, option_map, option_and_then, codes, if◌then◌else◌}
 use Rattle.std.specs.Str.{bytes_eq}
 use Rattle.dn_names.specs.Names.{Keyed, RdnSequence, TypeAndValue}
 use Rattle.dn_names.specs.NameValues.{value_of}
@@ -7,7 +7,7 @@ use Rattle.schema_core.specs.Attributes.{attr_of}
 use Rattle.gser_tree.specs.declared.part.Part.{Part}
 use Rattle.gser_tree.specs.Shapes.{Shape}
 use Rattle.gser_tree.specs.Looking.{Behind, members_in, word_in, string_in, named_in, chosen_in, flag}
-use Rattle.gser_tree.specs.Reading.{Found, Read, give, ◌>>=◌, expect, part, required, nothing_left, number}
+use Rattle.gser_tree.specs.Reading.{Read, give, ◌>>=◌, expect, part, required, nothing_left}
 use Rattle.subtree_spec.specs.Parts.{name, oid}
 use Rattle.subtree_spec.specs.Subtrees.{Choice, Subtree}
 use Rattle.subtree_spec.specs.SubtreeText.{subtree}

@@ -1,5 +1,5 @@
 -- The items and tuples that the program holds, as plain values.
-use Rattle.std.specs.Prelude.{List, map, string_bytes}
+use Rattle.std.specs.Prelude.{map, string_bytes}
 use Rattle.subtree_spec.specs.Subtrees.{subtree_of}
 use Rattle.aci_item.specs.declared.classes.UserClasses as classes
 use Rattle.aci_item.specs.declared.protected.ProtectedItems as protected
