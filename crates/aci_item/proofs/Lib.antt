@@ -12,5 +12,11 @@ pub mod FlagPrints
 pub mod ClassPrints
 pub mod ProtectedPrints
 pub mod ItemPrints
+pub mod StringLemmas
+pub mod WrittenTexts
+pub mod OnlyLemmas
+pub mod PartOnly
+pub mod SubtreeOnly
+pub mod ItemOnly
 pub mod RoundTrip
 mod Examples

@@ -45,8 +45,9 @@ pub fn sets_are_their_members_sorted()
         ≡ members_sorted print_user_permission user_permission shape bad }
 {}
 
-/// An item that is good is printed as a text that gives it, and that text is read as it.
+/// An item that some text gives is good, its printed form is a text that gives it, and is read as it.
 pub fn a_printed_item_is_read_again()
+    ensures good { (item : Item) (text : List ℕ) → AciText item text → IsGoodItem item }
     ensures printed { (item : Item) → IsGoodItem item → AciText item (text_of (print_item item)) }
     ensures exact { (item : Item) → IsGoodItem item → read_item (text_of (print_item item)) ≡ Ok item }
 {}
