@@ -1,5 +1,5 @@
 -- Bits of a number, and the permissions that are among them.
-use Rattle.std.proofs.Common.{◌≡◌, ◌≢◌, ℕ, ◌<◌, ◌+◌, ◌*◌, ◌^◌, ◌%◌, Bool, true, false, cond, eqb, List, [], ◌∷◌, ◌∙◌, refl, sym, ap, eq-eqb, eqb-true, zero-mul, one-mul, arith, inl, inr, w32}
+use Rattle.std.proofs.Common.{◌≡◌, ℕ, ◌<◌, ◌+◌, ◌*◌, ◌^◌, ◌%◌, Bool, true, false, cond, eqb, List, [], ◌∷◌, ◌∙◌, refl, sym, ap, eq-eqb, eqb-true, zero-mul, one-mul, arith, inl, inr, w32}
 use Rattle.std.specs.Prelude.{◌==◌, ◌&&◌, ◌||◌, not, filter, find, map, option_map, Option, Some, None, bit_and, bit_or, if◌then◌else◌}
 use Rattle.std.specs.Int.{bit_at}
 use Rattle.std.specs.List.{list_any}
@@ -103,7 +103,7 @@ mask_test number place within =
     ]
 
 -- two tests that agree leave the same bits
-filtered : (one other : Bit → Bool) → ((b : Bit) → one b ≡ other b) → (bits : List Bit) → filter one bits ≡ filter other bits
+pub filtered : (one other : Bit → Bool) → ((b : Bit) → one b ≡ other b) → (bits : List Bit) → filter one bits ≡ filter other bits
 filtered one other same [] = refl
 filtered one other same (b ∷ bits) =
     ap (λ t. cond t (b ∷ filter one bits) (filter one bits)) (same b)

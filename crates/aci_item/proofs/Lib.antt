@@ -5,4 +5,18 @@ pub mod PrintedLemmas
 pub mod PartLemmas
 pub mod SortedLemmas
 pub mod ReadLemmas
+pub mod SetPrints
+pub mod BitPrints
+pub mod PartPrints
+pub mod FlagPrints
+pub mod ClassPrints
+pub mod ProtectedPrints
+pub mod ItemPrints
+pub mod StringLemmas
+pub mod WrittenTexts
+pub mod OnlyLemmas
+pub mod PartOnly
+pub mod SubtreeOnly
+pub mod ItemOnly
+pub mod RoundTrip
 mod Examples

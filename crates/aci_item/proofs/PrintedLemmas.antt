@@ -4,7 +4,7 @@ use Rattle.std.proofs.Math.Seq.{take-suc}
 use Rattle.std.proofs.lemmas.List.{map-append, take_all}
 use Rattle.std.proofs.lemmas.List.Elements.{filter-append}
 use Rattle.std.proofs.lemmas.Simd.{map-map}
-use Rattle.std.specs.Prelude.{filter, map, Some, ◌==◌, if◌then◌else◌}
+use Rattle.std.specs.Prelude.{filter, map, ◌==◌, if◌then◌else◌}
 use Rattle.gser_tree.specs.Lexemes.{Lexeme}
 use Rattle.gser_tree.specs.Writing.{text_of, print_braces, print_component, print_filled, print_optional, print_word, separator, ending, PutsMembers}
 use Rattle.gser_tree.proofs.Theorems.{PutsMembers-none, PutsMembers-component, PutsMembers-append, PutsMembers-braces}

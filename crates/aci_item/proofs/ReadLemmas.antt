@@ -43,7 +43,7 @@ read_text text (Ok item) h = reads_as text (item_of_code item) h
 read_text text (Err fault) h = tt
 
 -- the value that a text is written for decides
-reads_shape : (text : List ℕ) (shape : Shape) → IsTextOf shape text → nest shape ≤ 100 → read_item text ≡ judged (aci_item shape None)
+pub reads_shape : (text : List ℕ) (shape : Shape) → IsTextOf shape text → nest shape ≤ 100 → read_item text ≡ judged (aci_item shape None)
 unfolding read_item
 reads_shape text shape written deep =
     ap (λ found. judged (option_and_then (λ shape. aci_item shape None) found)) (IsTextOf-tree_of text shape written deep)

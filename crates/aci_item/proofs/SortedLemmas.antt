@@ -20,7 +20,7 @@ module _ {A : Type 0} (text : A → List ℕ) where
   after one other h = nat_list_cmp_total.antisymm (text other) (text one) ∙ ap ordering_reverse h
 
   -- what holds of a member and of others holds of all
-  put_member-all : (P : A → Type 0) (value : A) (values : List A) → P value → AllByRecursion P values → AllByRecursion P (put_member text value values)
+  pub put_member-all : (P : A → Type 0) (value : A) (values : List A) → P value → AllByRecursion P values → AllByRecursion P (put_member text value values)
   put_member-all P value [] has all = (has, tt)
   put_member-all P value (first ∷ values) has all = inner (by_text text value first) (put_member-all P value values has all.1)
     where
@@ -68,7 +68,7 @@ module _ {A : Type 0} (text : A → List ℕ) where
       inner None rest h = cc
       inner (Some found) rest h = rest found h
 
-none_sorted : {A : Type 0} (text : A → List ℕ) → IsStrictlySortedBy (by_text text) []
+pub none_sorted : {A : Type 0} (text : A → List ℕ) → IsStrictlySortedBy (by_text text) []
 unfolding IsStrictlySortedBy
 none_sorted text = tt
 

@@ -8,6 +8,7 @@ pub mod ItemPrinted
 pub mod Sets
 pub mod ItemParts
 pub mod AciText
+pub mod GoodItems
 -- for the inside of the crate alone
 pub mod Rows
 pub mod Gathering

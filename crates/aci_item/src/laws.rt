@@ -1,16 +1,17 @@
 //! The laws of access control items: each function computes nothing, and what it ensures is a law.
 
-ghost use Rattle.std.specs.Prelude.{◌≡◌, ℕ, List, Option, Some};
+ghost use Rattle.std.specs.Prelude.{◌≡◌, ℕ, List, Ok, Option, Some};
 ghost use Rattle.std.specs.List.Sorted.{IsStrictlySortedBy};
 ghost use Rattle.gser_tree.specs.Shapes.{Shape};
 ghost use Rattle.gser_tree.specs.Writing.{text_of};
 ghost use Rattle.dn_names.specs.Names.{RdnSequence, TypeAndValue};
 ghost use Rattle.subtree_spec.specs.Subtrees.{Subtree};
 ghost use Rattle.subtree_spec.specs.SubtreePrinted.{print_subtree};
-ghost use Rattle.aci_item.specs.Items.{ItemPermission, UserPermission};
+ghost use Rattle.aci_item.specs.Items.{Item, ItemPermission, UserPermission};
 ghost use Rattle.aci_item.specs.ItemParts.{user, kind, kind_and_value, class_subtree};
-ghost use Rattle.aci_item.specs.ItemPrinted.{print_user, print_kind, print_value, print_item_permission, print_user_permission};
-ghost use Rattle.aci_item.specs.AciText.{sorted_set, members_sorted, item_permission, user_permission};
+ghost use Rattle.aci_item.specs.ItemPrinted.{print_user, print_kind, print_value, print_item, print_item_permission, print_user_permission};
+ghost use Rattle.aci_item.specs.AciText.{AciText, read_item, sorted_set, members_sorted, item_permission, user_permission};
+ghost use Rattle.aci_item.specs.GoodItems.{IsGoodItem};
 ghost use Rattle.aci_item.specs.Sets.{by_text};
 
 /// A set that is read stands in the order of its members' printed texts, and no two texts are equal.
@@ -42,4 +43,11 @@ pub fn sets_are_their_members_sorted()
         ≡ members_sorted print_item_permission item_permission shape bad }
     ensures user_permissions { (shape : Shape) (bad : Option ℕ) → sorted_set print_user_permission user_permission shape bad
         ≡ members_sorted print_user_permission user_permission shape bad }
+{}
+
+/// An item that some text gives is good, its printed form is a text that gives it, and is read as it.
+pub fn a_printed_item_is_read_again()
+    ensures good { (item : Item) (text : List ℕ) → AciText item text → IsGoodItem item }
+    ensures printed { (item : Item) → IsGoodItem item → AciText item (text_of (print_item item)) }
+    ensures exact { (item : Item) → IsGoodItem item → read_item (text_of (print_item item)) ≡ Ok item }
 {}

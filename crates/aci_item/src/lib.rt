@@ -18,7 +18,7 @@ mod splitting;
 pub use bits::Bits;
 pub use classes::UserClasses;
 pub use item::{AciItem, First, ItemPermission, UserPermission};
-pub use laws::{sets_are_in_order, sets_are_their_members_sorted};
+pub use laws::{a_printed_item_is_read_again, sets_are_in_order, sets_are_their_members_sorted};
 pub use level::Level;
 pub use permission::Permission;
 pub use printing::print;

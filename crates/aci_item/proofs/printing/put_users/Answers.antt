@@ -1,7 +1,7 @@
 -- A set that is empty is left out.
 use Rattle.std.proofs.Common.{ap, sym, ◌∙◌}
 use Rattle.std.proofs.lemmas.List.{length-map}
-use Rattle.std.specs.Prelude.{◌==◌, codes, map, string_bytes}
+use Rattle.std.specs.Prelude.{◌==◌, map, string_bytes}
 use Rattle.aci_item.specs.ItemPrinted.{print_user}
 use Rattle.aci_item.proofs.PrintedLemmas.{put_nothing, put_filled}
 use Rattle.aci_item.proofs.printing.put_users.Goals as goal
