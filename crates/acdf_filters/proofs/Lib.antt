@@ -6,4 +6,5 @@ pub mod WeighLemmas
 pub mod DecisionLaw
 pub mod UnseenLaw
 pub mod Theorems
+pub mod FoldLemmas
 mod Examples

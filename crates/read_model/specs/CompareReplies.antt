@@ -25,7 +25,7 @@ unfoldable pub compared : ℕ → Keyed → Row → LdapResult
 compared kind asserted row =
     -- the type may not be compared
     if not (row.allows (Kind kind) Compare) then
-        (if row.allows (Kind kind) DiscloseOnError then result_of code.InsufficientAccessRights else result_of code.NoSuchAttribute)
+    (if row.allows (Kind kind) DiscloseOnError then result_of code.InsufficientAccessRights else result_of code.NoSuchAttribute)
     -- the entry has no such attribute
     else if not (has_kind kind row.entry.attributes) then result_of code.NoSuchAttribute
     -- it has an equal value or not
