@@ -9,7 +9,11 @@ mod cuts;
 #[cfg(test)]
 mod data;
 #[cfg(test)]
+mod explains;
+#[cfg(test)]
 mod messages;
+#[cfg(test)]
+mod reads;
 #[cfg(test)]
 mod replays;
 #[cfg(test)]

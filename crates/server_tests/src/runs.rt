@@ -103,6 +103,15 @@ pub fn run_line(alloc: Global, line: &str, script: &[u8]) -> Result<Ran, AllocEr
     run_failing(alloc, line, script, &[], &[])
 }
 
+/// Runs the program over a data file and a script.
+fn run_both(alloc: Global, line: &str, data: &str, script: &str) -> Result<Ran, AllocError> {
+    let failing = Failing {
+        shelf: &[],
+        sink: &[],
+    };
+    run_over(alloc, line, data.as_bytes(), script.as_bytes(), failing)
+}
+
 /// Runs the program over a data file, and a script that only opens a connection.
 pub fn run_data(alloc: Global, line: &str, data: &[u8]) -> Result<Ran, AllocError> {
     let failing = Failing {
@@ -127,6 +136,18 @@ pub fn assert_replay(
     replay: &Replay<'_>,
 ) -> Result<(), AllocError> {
     let ran = run_line(alloc, "replay d s", replay.script.as_bytes())?;
+    assert_ran(rt, &ran, replay.put, Status::Done, replay.what);
+    Ok(())
+}
+
+/// The replay of the script over the data file prints that, and comes to its end.
+pub fn assert_replay_over(
+    rt: &impl Abort,
+    alloc: Global,
+    data: &str,
+    replay: &Replay<'_>,
+) -> Result<(), AllocError> {
+    let ran = run_both(alloc, "replay d s", data, replay.script)?;
     assert_ran(rt, &ran, replay.put, Status::Done, replay.what);
     Ok(())
 }

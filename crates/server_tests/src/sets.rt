@@ -1,8 +1,4 @@
 //! Data files: trees of people, groups and devices, with the access control items that rule them.
-//!
-//! No subtree specification and no access control item is read yet: a file is refused at the first entry that has one,
-//! whatever stands behind it. So one file of each kind stands here, and its comment says what others of its kind would
-//! add once items are read.
 
 /// Two entries.
 pub const TWO_ENTRIES: &str = "\
@@ -15,10 +11,6 @@ pub const TWO_ENTRIES: &str = "\
     ou:: YQ==\n";
 
 /// An organisation with an open part, a hidden part, administrators and a laboratory.
-///
-/// Others would add: no hidden part (without `ou=secret` and what is below it); at most two telephone numbers a person
-/// (`maxValueCount { { type telephoneNumber, maxCount 2 } }` in the item of `cn=self`); administrators who may move
-/// entries (`grantExport`, `grantImport` in the item of `cn=admins`).
 pub const ORGANISATION: &str = "\
     version: 1\n\
     \n\
@@ -152,8 +144,6 @@ pub const ONE_SUBENTRY: &str = "\
     subtreeSpecification: { base \"ou=b\" }\n";
 
 /// A suffix with an item for subentries, and one subentry.
-///
-/// Another would add a second item in the subentry, which denies by a user's name.
 pub const POINT: &str = "\
     dn: dc=t\n\
     objectClass: domain\n\
@@ -174,9 +164,6 @@ pub const POINT: &str = "\
     grantFilterMatch, grantDiscloseOnError } } } } }\n";
 
 /// A point with two subentries, one of which has a filter.
-///
-/// Another would add a group, and owners that are taken from an entry's members alone
-/// (`restrictedBy { { type owner, valuesIn member } }`).
 pub const TWO_SUBENTRIES: &str = "\
     dn: dc=v\n\
     objectClass: domain\n\
