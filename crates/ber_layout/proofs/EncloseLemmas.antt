@@ -1,8 +1,8 @@
 -- A header that was put behind a content and then moved before it.
-use Rattle.std.proofs.Common.{◌≡◌, ℕ, ◌-◌, ◌≤◌, List, [], ◌++◌, length, take, drop, refl, ap, subst, ◌∙◌, arith, append_assoc, length-append, length-drop}
+use Rattle.std.proofs.Common.{◌≡◌, ℕ, ◌+◌, ◌-◌, ◌≤◌, List, [], ◌++◌, length, take, drop, refl, ap, subst, ◌∙◌, arith, append_assoc, length-append, length-drop}
 use Rattle.std.proofs.lemmas.List.{take-append-drop, take_at, drop_at, length-take-le, nil_from_length}
 use Rattle.std.specs.List.{slice_rotate_right}
-use Rattle.ber_core.specs.Spelling.{header_octets}
+use Rattle.ber_core.specs.Spelling.{length_octets, header_octets}
 use Rattle.ber_layout.specs.Spellings.{element_octets}
 
 -- the octets before, the content and the header, with the header moved to the content's front
@@ -17,7 +17,7 @@ moved before content header =
     rw (front, back, last, first) refl
 
 -- the same, of octets that are known by their number
-pub enclosed : (old new : List ℕ) (tag start by : ℕ) → start ≤ length old → new ≡ old ++ header_octets tag (length old - start) → by ≡ length new - length old
+pub enclosed : (old new : List ℕ) (tag start by : ℕ) → start ≤ length old → new ≡ old ++ header_octets tag (length old - start) → by ≡ 1 + length (length_octets (length old - start))
     → take start new ++ slice_rotate_right (drop start new) by ≡ take start old ++ element_octets tag (drop start old)
 unfolding element_octets
 enclosed old new tag start by within is count =
@@ -27,7 +27,7 @@ enclosed old new tag start by within is count =
     let size : length before ≡ start = length-take-le start old within in
     let left : length content ≡ length old - start = length-drop start old in
     let whole : new ≡ (before ++ content) ++ header = is ∙ rw (take-append-drop start old, left) refl in
-    let many : by ≡ length header = omega (arith, count, ap length is, length-append old (header_octets tag (length old - start)), ap (λ (k : ℕ). length (header_octets tag k)) left) in
+    let many : by ≡ length header = omega (arith, count, ap (λ (k : ℕ). length (length_octets k)) left) in
     let at_start : take start ((before ++ content) ++ header) ++ slice_rotate_right (drop start ((before ++ content) ++ header)) (length header) ≡ before ++ (header ++ content) =
     subst (λ (k : ℕ). take k ((before ++ content) ++ header) ++ slice_rotate_right (drop k ((before ++ content) ++ header)) (length header) ≡ before ++ (header ++ content)) size (moved before content header) in
     ap (λ (s : List ℕ). take start s ++ slice_rotate_right (drop start s) by) whole

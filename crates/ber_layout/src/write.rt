@@ -11,7 +11,7 @@ ghost use Rattle.ber_layout.specs.Spellings.{Extends, element_octets, optional_o
 
 use crate::kinds::NoMemory;
 use crate::laid::Laid;
-use ber_core::{int_len, put_header, put_int};
+use ber_core::{header_len, int_len, put_header, put_int};
 use plain_values::Octets;
 use std::alloc::AllocError;
 
@@ -19,10 +19,24 @@ use std::alloc::AllocError;
 fn move_back(octets: &mut [u8], start: usize, by: usize)
     requires start { start ≤ length octets.old }
     requires by { start + by ≤ length octets.old }
+    requires few { by ≤ 6 }
     ensures { octets.new ≡ take start octets.old ++ slice_rotate_right (drop start octets.old) by }
 {
     let (_, behind) = octets.split_at_mut(start);
-    behind.rotate_right(by);
+    to_front(behind, by);
+}
+
+// Moves the last octets, `by` of them, before all others.
+fn to_front(octets: &mut [u8], by: usize)
+    requires by { by ≤ length octets.old }
+    requires few { by ≤ 6 }
+    ensures { octets.new ≡ slice_rotate_right octets.old by }
+{
+    let rest = octets.len() - by;
+    let mut last = [0; 6];
+    last[..by].copy_from_slice(&octets[rest..]);
+    octets.copy_within(..rest, by);
+    octets[..by].copy_from_slice(&last[..by]);
 }
 
 /// Makes the octets from `start` on the content of an element: puts its header before them. The
@@ -39,8 +53,7 @@ pub fn enclose(out: &mut Vec<u8>, tag: u8, start: usize) -> Result<(), NoMemory>
         return Err(AllocError);
     }
     put_header(out, tag, len)?;
-    let header = out.len() - whole;
-    move_back(out.as_mut_slice(), start, header);
+    move_back(out.as_mut_slice(), start, header_len(len));
     Ok(())
 }
 

@@ -260,11 +260,11 @@ fn all(alloc: Global, deep: u8, content: &[u8]) -> Result<Vec<Filter>, ReadFault
 fn only(alloc: Global, deep: u8, content: &[u8]) -> Result<Filter, ReadFault>
     ensures { Gives (λ member. member) result (only_of (filter_within deep) content.now) }
 {
-    let found = any(content)?;
-    if !found.rest.is_empty() {
+    let member = any(content)?;
+    if !member.rest.is_empty() {
         return Err(ReadFault::BadMessage);
     }
-    filter_at(alloc, deep, found.tag, found.content)
+    filter_at(alloc, deep, member.tag, member.content)
 }
 
 /// The filter that the tag and the content of an element say. `BadMessage` comes exactly where they
