@@ -1,0 +1,2 @@
+mod PasswordLemmas
+mod Examples

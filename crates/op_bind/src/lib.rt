@@ -1,0 +1,9 @@
+//! Binds (RFC 4511 4.2): which stored passwords accept a password, and what a bind comes to over a tree.
+#![tactic(auto)]
+
+mod binds;
+mod entry;
+mod passwords;
+
+pub use binds::{Bound, NoMemory, bind};
+pub use passwords::accepts;
