@@ -4,7 +4,7 @@ ghost use Rattle.std.specs.Prelude.{◌≡◌, ◌≢◌, [], IfOk};
 ghost use Rattle.std.specs.Option.{option_map};
 ghost use Rattle.dn_names.specs.NameText.{read_name};
 ghost use Rattle.dir_tree.specs.Numbered.{entries_of};
-ghost use Rattle.op_bind.specs.Binds.{ended, bound_name, bound_password, bound_entry, bound_nobody, bound_named, bound_text, bind_answer};
+ghost use Rattle.op_bind.specs.Binds.{ended, bound_name, bound_password, bound_entry, bound_nobody, bound_named, bound_text, bound_auth, bind_answer};
 
 use crate::entry::{entry_named, has_password};
 use acdf_filters::Requester;
@@ -110,22 +110,29 @@ fn bind_simple(alloc: Global, tree: &Tree, name: &[u8], password: &[u8]) -> Resu
     }
 }
 
+// A bind with a name's text, by a password or by another method.
+fn bind_by(alloc: Global, tree: &Tree, name: &[u8], auth: &Auth) -> Result<Bound, NoMemory>
+    ensures ok { IfOk result (λ bound. bound ≡ bound_auth (entries_of tree.now) name.now auth.now) }
+{
+    match auth {
+        Auth::Other(_) => Ok(ended(ResultCode::AuthMethodNotSupported)),
+        Auth::Simple(password) => bind_simple(alloc, tree, name, password.as_slice()),
+    }
+}
+
 /// What a bind comes to over the tree (RFC 4511 4.2.2), by the first that applies: protocolError for a version other than
 /// 3, authMethodNotSupported for authentication other than simple, invalidDNSyntax for a name that is none, success for no
 /// name and no password, invalidCredentials for a password alone, unwillingToPerform for a name alone (RFC 4513 5.1.2),
 /// invalidCredentials where no entry has the name or none of its passwords accepts the password, and otherwise success.
 /// After the last the requester has the entry's name, as the tree spells it, and is authenticated simply; after any other
 /// it is anonymous. A bind asks for no permission. The error comes for want of memory alone.
+#[tactic(auto, unfolding(crate::specs::Binds::bind_answer))]
 pub fn bind(alloc: Global, tree: &Tree, request: &BindRequest) -> Result<Bound, NoMemory>
     ensures ok { IfOk result (λ bound. bound ≡ bind_answer (entries_of tree.now) request.now) }
 {
-    if request.version != 3 {
-        return Ok(ended(ResultCode::ProtocolError));
-    }
-    match &request.auth {
-        Auth::Other(_) => Ok(ended(ResultCode::AuthMethodNotSupported)),
-        Auth::Simple(password) => {
-            bind_simple(alloc, tree, request.name.as_slice(), password.as_slice())
-        }
+    if request.version == 3 {
+        bind_by(alloc, tree, request.name.as_slice(), &request.auth)
+    } else {
+        Ok(ended(ResultCode::ProtocolError))
     }
 }

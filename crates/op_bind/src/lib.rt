@@ -3,7 +3,9 @@
 
 mod binds;
 mod entry;
+mod laws;
 mod passwords;
 
 pub use binds::{Bound, NoMemory, bind};
+pub use laws::an_unseen_subtree_changes_no_bind;
 pub use passwords::accepts;
