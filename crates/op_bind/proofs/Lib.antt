@@ -1,0 +1,4 @@
+mod PasswordLemmas
+pub mod UnseenLaw
+pub mod Theorems
+mod Examples

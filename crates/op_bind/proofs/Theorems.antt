@@ -1,0 +1,2 @@
+-- What crates above may cite of binds.
+pub use Rattle.op_bind.proofs.UnseenLaw.{bind_answer-without}
