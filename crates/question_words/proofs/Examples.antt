@@ -1,5 +1,5 @@
 -- The words of a question on known cases.
-use Rattle.std.proofs.Common.{◌≡◌, [], ◌∷◌, Some, None, refl}
+use Rattle.std.proofs.Common.{◌≡◌, [], Some, None, refl}
 use Rattle.std.specs.Prelude.{codes}
 use Rattle.schema_core.specs.Attributes.{attributes}
 use Rattle.match_rules.specs.Keys.{key_of}
