@@ -1,8 +1,9 @@
 -- The words of a question on known cases.
-use Rattle.std.proofs.Common.{◌≡◌, [], ◌∷◌, Some, None, refl}
+use Rattle.std.proofs.Common.{◌≡◌, [], Some, None, refl}
 use Rattle.std.specs.Prelude.{codes}
 use Rattle.schema_core.specs.Attributes.{attributes}
 use Rattle.match_rules.specs.Keys.{key_of}
+use Rattle.match_rules.specs.Syntaxes.{is_of}
 use Rattle.dn_names.specs.Classes.{class_of}
 use Rattle.dn_names.specs.Modes.{text_fault}
 use Rattle.dn_names.specs.NameText.{read_name}
@@ -52,7 +53,7 @@ unknown_type = refl
 
 -- a value with another `=`
 a_value : item_of (codes "value:userPassword=a=b") ≡ Some (Value 18 (record { octets = codes "a=b"; key = codes "a=b" }))
-unfolding item_of value_item value_of key_of attributes
+unfolding item_of value_item value_of key_of is_of attributes
 a_value = refl
 
 no_value : item_of (codes "value:userPassword") ≡ None

@@ -1,5 +1,5 @@
 -- The word that says on what of the entry: `entry`, `type:NAME` or `value:NAME=TEXT`.
-use Rattle.std.specs.Prelude.{ℕ, List, Option, Some, None, option_map, option_and_then, codes, if◌then◌else◌}
+use Rattle.std.specs.Prelude.{ℕ, List, Option, Some, None, option_map, codes, if◌then◌else◌}
 use Rattle.std.specs.Str.{bytes_eq}
 use Rattle.plain_values.specs.Options.{◌>>=◌}
 use Rattle.schema_core.specs.Attributes.{attr_of}
