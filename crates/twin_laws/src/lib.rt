@@ -1,0 +1,6 @@
+//! The laws of twins: two trees that differ in a subtree alone that a requester does not see are read alike by it.
+#![tactic(auto)]
+
+mod laws;
+
+pub use laws::{twins_are_seen_alike, twins_differ_below_one_suffix, twins_get_equal_replies};
