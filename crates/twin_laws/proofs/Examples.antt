@@ -2,7 +2,7 @@
 use Rattle.std.proofs.Common.{◌≡◌, List, [], ◌∷◌, Bool, true, false, Some, None, Option, refl}
 use Rattle.std.specs.Prelude.{codes}
 use Prim.Native.String.{String}
-use Rattle.dn_names.specs.Names.{Keyed, TypeAndValue, RdnSequence}
+use Rattle.dn_names.specs.Names.{TypeAndValue, RdnSequence}
 use Rattle.dn_names.specs.NameOrder.{name_cmp, is_same, is_prefix_of}
 use Rattle.dir_tree.specs.Entries.{Attribute, EntryInformation}
 use Rattle.dir_tree.specs.EntryClasses.{has_class}
@@ -10,8 +10,7 @@ use Rattle.dir_tree.specs.Points.{is_point, is_specific_point, is_inner_point, i
 use Rattle.admin_scope.specs.Areas.{areas, has_within}
 use Rattle.admin_scope.specs.InForce.{in_force}
 use Rattle.aci_item.specs.declared.level.Level.TheVariants.{Anyone}
-use Rattle.aci_item.specs.declared.permission.Permission.{Permission}
-use Rattle.aci_item.specs.declared.permission.Permission.TheVariants.{Browse, ReturnDn}
+use Rattle.aci_item.specs.declared.permission.Permission.TheVariants.{Browse}
 use Rattle.aci_item.specs.Permissions.{is_same as is_same_permission}
 use Rattle.acdf_filters.specs.declared.asking.Requester.{Requester}
 use Rattle.acdf_filters.specs.Tuples.{items_in, inherited, tuples_of}
@@ -22,7 +21,7 @@ use Rattle.ldap_msg.specs.declared.operations.ResultCode.TheVariants as code
 use Rattle.ldap_msg.specs.declared.kinds.SearchRequest.{SearchRequest}
 use Rattle.ldap_msg.specs.declared.kinds.Reply.{Reply}
 use Rattle.ldap_msg.specs.declared.kinds.Reply.TheVariants as reply
-use Rattle.read_model.specs.Views.{Row, View, view_of, matched_name, hidden, result_of, result_with}
+use Rattle.read_model.specs.Views.{Row, view_of, matched_name, hidden, result_of, result_with}
 use Rattle.read_model.specs.Selecting.{is_selected, selected}
 use Rattle.read_model.specs.SearchReplies.{found_replies, replies_at, search_replies}
 use Rattle.twin_laws.specs.Twins.{is_below_suffix, shows_within, IsUnseen, AreTwins}

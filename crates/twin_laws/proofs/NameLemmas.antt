@@ -38,11 +38,11 @@ below_within top base name e outside =
     false_from_ne_true (is_prefix_of base name) (λ f. both_ways (is_prefix_of top name) outside (prefix_chain top base name e f))
 
 -- a front is no longer
-prefix_length : (front name : RdnSequence) → is_prefix_of front name ≡ true → length front ≤ length name
+pub prefix_length : (front name : RdnSequence) → is_prefix_of front name ≡ true → length front ≤ length name
 prefix_length front name e =
     let begins = (is_prefix_of-types_and_keys front name).0 e in
     let size : length name ≡ length front + length begins.0 =
-        sym (length-map name (map type_and_key)) ∙ ap length begins.1 ∙ length-append (types_and_keys front) begins.0 ∙ ap (λ n. n + length begins.0) (length-map front (map type_and_key)) in
+    sym (length-map name (map type_and_key)) ∙ ap length begins.1 ∙ length-append (types_and_keys front) begins.0 ∙ ap (λ n. n + length begins.0) (length-map front (map type_and_key)) in
     omega (arith, size)
 
 -- what is above a name is not below it

@@ -1,6 +1,6 @@
 -- What is answered over a view without rows that show nothing: what is answered over the view. Nothing is said here of
 -- trees and of decisions.
-use Rattle.std.proofs.Common.{◌≡◌, inl, inr, ℕ, ◌==◌, Bool, true, false, not, ◌&&◌, ◌||◌, List, [], ◌∷◌, Option, Some, None, Result, Ok, Err, refl, sym, ap, ◌∙◌, filter, find, reverse, cond}
+use Rattle.std.proofs.Common.{◌≡◌, inl, inr, ℕ, ◌==◌, Bool, true, false, not, ◌&&◌, ◌||◌, List, [], ◌∷◌, Option, Some, None, Result, Ok, Err, refl, sym, ap, ◌∙◌, filter, find, reverse, if◌then◌else◌}
 use Rattle.std.specs.List.{AllByRecursion, list_any}
 use Rattle.std.specs.Option.{option_map_or}
 use Rattle.std.proofs.lemmas.Bool.{cases_Bool, and_cases, and_left, and_right, or_parts, not-false, both_ways}
@@ -11,8 +11,8 @@ use Rattle.dn_names.specs.NameText.{read_name}
 use Rattle.dn_names.specs.NameValues.{value_of}
 use Rattle.dn_names.proofs.Theorems.{all_reverse}
 use Rattle.schema_core.specs.Attributes.{attr_of}
-use Rattle.dir_tree.specs.Trees.{is_named, is_below}
-use Rattle.dir_tree.specs.Scopes.{is_within, is_child}
+use Rattle.dir_tree.specs.Trees.{is_below}
+use Rattle.dir_tree.specs.Scopes.{is_within}
 use Rattle.aci_item.specs.declared.permission.Permission.TheVariants.{Browse, Read, ReturnDn, DiscloseOnError}
 use Rattle.acdf_filters.specs.Asking.{Entry}
 use Rattle.filter_core.specs.Truths.{truth, is_true}
@@ -148,12 +148,11 @@ takes_in_none top base scope row e outside =
 -- so nothing is selected
 selected_none : (top : RdnSequence) (view : View) → AreHidden top view → (request : SearchRequest) (subentries : Option Bool) (base : RdnSequence) → is_prefix_of top base ≡ true
     → selected view request subentries base ≡ []
-unfolding selected
+unfolding selected is_selected
 selected_none top view h request subentries base e =
     filter-none (is_selected request subentries base) view (all_from (IsHiddenWithin top) (λ row. is_selected request subentries base row ≡ false) fails view h)
   where
     untaken : (row : Row) → takes_in request.scope base row.entry ≡ false → is_selected request subentries base row ≡ false
-    unfolding is_selected
     untaken row f =
         and_left _ (row.allows Entry ReturnDn) (and_left _ (is_true (truth (permits_of row) row.entry request.filter)) (and_left _ (row.allows Entry Browse) (and_left (takes_in request.scope base row.entry) (is_seen request.scope subentries row.entry) f)))
 
@@ -198,6 +197,7 @@ replies_where there found refusal = if there then found else reply.Done refusal 
 
 replies_at-outside : (top : RdnSequence) (view : View) → AreHidden top view → (request : SearchRequest) (subentries : Option Bool) (base : RdnSequence)
     → replies_at (rows_outside top view) request subentries base ≡ replies_at view request subentries base
+unfolding replies_at
 replies_at-outside top view h request subentries base = elim (cases_Bool (is_prefix_of top base)) [
   | inl e ↦ replies_at-within top (rows_outside top view) (left_hidden top view h) request subentries base e
       ∙ ap (λ name. reply.Done (result_with code.NoSuchObject name) ∷ []) (matched_name-outside top view h base)
@@ -212,7 +212,6 @@ replies_at-outside top view h request subentries base = elim (cases_Bool (is_pre
         (λ row hides f. same_outside top base row.entry.name e (not-false (is_within top row.entry) f)) view h)
 
     elsewhere : is_prefix_of top base ≡ false → replies_at (rows_outside top view) request subentries base ≡ replies_at view request subentries base
-    unfolding replies_at
     elsewhere e =
         ap (λ b. replies_where b (found_replies (rows_outside top view) request base (selected (rows_outside top view) request subentries base)) (hidden (rows_outside top view) base)) (there e)
         ∙ ap (λ rows. replies_where (list_any (has_name base) view) (found_replies (rows_outside top view) request base rows) (hidden (rows_outside top view) base)) (selected-outside top view h request subentries base)

@@ -1,5 +1,5 @@
 -- Twins are read alike: each is read as what is left of it without the subtree, and that is the same of both.
-use Rattle.std.proofs.Common.{◌≡◌, ◌<◌, Bool, true, false, not, List, [], ◌∷◌, Option, refl, sym, ap, ◌∙◌, subst, length, nat_lt, inl, inr, arith}
+use Rattle.std.proofs.Common.{◌≡◌, Bool, true, false, not, List, [], ◌∷◌, Option, sym, ap, ◌∙◌, subst, length, nat_lt, inl, inr, arith}
 use Rattle.std.specs.List.{AllByRecursion}
 use Rattle.std.specs.Ordering.{ordering_reverse}
 use Rattle.std.specs.declared.cmp.Ordering.TheVariants.{Less, Greater}

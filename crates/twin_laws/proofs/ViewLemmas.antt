@@ -1,6 +1,6 @@
 -- What a requester sees of a tree without a subtree of which it sees nothing: what it sees of the tree, but for that.
-use Rattle.std.proofs.Common.{◌≡◌, inl, inr, Bool, true, false, not, ◌&&◌, ◌||◌, List, refl, ap, ◌∙◌, map, filter}
-use Rattle.std.specs.List.{AllByRecursion, list_any}
+use Rattle.std.proofs.Common.{◌≡◌, inl, inr, Bool, true, false, not, ◌&&◌, List, ap, ◌∙◌}
+use Rattle.std.specs.List.{list_any}
 use Rattle.std.proofs.lemmas.Bool.{and_cases, and_left, and_right, not-true}
 use std.Path.{fun_ext}
 use Rattle.dn_names.specs.Names.{RdnSequence}
@@ -14,7 +14,7 @@ use Rattle.acdf_filters.specs.Asking.{Protected}
 use Rattle.acdf_filters.specs.Granted.{granted}
 use Rattle.acdf_filters.specs.Unseen.{IsApart, has_group}
 use Rattle.acdf_filters.proofs.Theorems.{granted-without}
-use Rattle.read_model.specs.Views.{Row, View, view_of}
+use Rattle.read_model.specs.Views.{Row, view_of}
 use Rattle.twin_laws.specs.Groups.{lists_group}
 use Rattle.twin_laws.specs.Twins.{rows_outside, IsUnseen}
 use Rattle.twin_laws.proofs.ListLemmas.{all_from, list_any-from, all_left, map-agree, filter-map}
@@ -22,11 +22,11 @@ use Rattle.twin_laws.proofs.GroupLemmas.{lists_group-none}
 
 -- no access control subentry, where there is no subentry
 pub access_none : (top : RdnSequence) (entries : List EntryInformation) → has_within is_subentry top entries ≡ false → has_within is_access_subentry top entries ≡ false
+unfolding is_access_subentry
 access_none top entries e =
     list_any-from (λ entry. is_within top entry && is_subentry entry) (λ entry. is_within top entry && is_access_subentry entry) fewer entries e
   where
     fewer : (entry : EntryInformation) → (is_within top entry && is_subentry entry) ≡ false → (is_within top entry && is_access_subentry entry) ≡ false
-    unfolding is_access_subentry
     fewer entry e = elim (and_cases (is_within top entry) (is_subentry entry) e) [
       | inl f ↦ and_left (is_within top entry) (is_access_subentry entry) f
       | inr f ↦ and_right (is_within top entry) (is_access_subentry entry) (and_left (is_subentry entry) _ f)
