@@ -51,7 +51,8 @@ abbrev without_secret : List EntryInformation
 without_secret = entry suffix [] ∷ []
 
 unseen_there : IsUnseen anonymous secret with_secret
-unfolding name_cmp is_same is_prefix_of has_class is_subentry is_point is_specific_point is_inner_point areas in_force items_in inherited tuples_of decided granted
+unfolding name_cmp is_same is_prefix_of has_class is_subentry is_point is_specific_point is_inner_point areas in_force
+    items_in inherited tuples_of decided granted
 unseen_there = record { below = refl; subentries = refl; points = refl; shown = refl; groups = refl }
 
 unseen_where_absent : IsUnseen anonymous secret without_secret
@@ -64,8 +65,11 @@ unfolding name_cmp is_same is_prefix_of
 are_twins = record { same = refl; first = unseen_there; second = unseen_where_absent }
 
 -- so each search is answered alike
-are_searched_alike : (request : SearchRequest) (subentries : Option Bool) → search_replies (view_of with_secret anonymous) request subentries ≡ search_replies (view_of without_secret anonymous) request subentries
-are_searched_alike request subentries = search_replies-twins anonymous with_secret without_secret secret are_twins request subentries
+are_searched_alike : (request : SearchRequest) (subentries : Option Bool)
+    → search_replies (view_of with_secret anonymous) request subentries
+    ≡ search_replies (view_of without_secret anonymous) request subentries
+are_searched_alike request subentries =
+    search_replies-twins anonymous with_secret without_secret secret are_twins request subentries
 
 -- the suffix is not below itself, nor is any name below that of an empty tree
 the_suffix_is_seen : is_below_suffix suffix with_secret ≡ false
@@ -76,8 +80,11 @@ there_is_no_suffix : is_below_suffix secret [] ≡ false
 there_is_no_suffix = refl
 
 -- an entry with a role is no ordinary one
+abbrev role : Attribute
+role = record { kind = 29; values = record { octets = codes "r"; key = codes "r" } ∷ [] }
+
 abbrev with_role : List EntryInformation
-with_role = entry suffix [] ∷ entry secret (record { kind = 29; values = record { octets = codes "r"; key = codes "r" } ∷ [] } ∷ []) ∷ []
+with_role = entry suffix [] ∷ entry secret (role ∷ []) ∷ []
 
 a_role_is_a_point : has_within is_point secret with_role ≡ true
 unfolding name_cmp is_same is_prefix_of is_point
@@ -117,6 +124,7 @@ unfolding name_cmp is_same is_prefix_of matched_name hidden is_selected selected
 an_absent_base = refl
 
 -- a base that may be known of is told from an absent one: twins show none
-a_shown_base : replies_at (allowed suffix ∷ allowed secret ∷ []) asked (Some true) secret ≡ reply.Done (result_of code.Success) ∷ []
+a_shown_base : replies_at (allowed suffix ∷ allowed secret ∷ []) asked (Some true) secret
+    ≡ reply.Done (result_of code.Success) ∷ []
 unfolding name_cmp is_same is_prefix_of matched_name hidden is_selected selected found_replies replies_at has_class is_subentry
 a_shown_base = refl

@@ -2,7 +2,9 @@ pub mod ListLemmas
 pub mod NameLemmas
 pub mod GroupLemmas
 pub mod ViewLemmas
-pub mod ReplyLemmas
+pub mod SeenLemmas
+pub mod SearchLemmas
+pub mod CompareLemmas
 pub mod TwinLaws
 pub mod Theorems
 mod Examples

@@ -34,7 +34,8 @@ list_any-none p [] h = refl
 list_any-none p (x ∷ xs) h = or_from (p x) (list_any p xs) h.0 (list_any-none p xs h.1)
 
 -- a test that none passes, from one that none passes
-pub list_any-from : {A : Type 0} (p q : A → Bool) → ((x : A) → p x ≡ false → q x ≡ false) → (xs : List A) → list_any p xs ≡ false → list_any q xs ≡ false
+pub list_any-from : {A : Type 0} (p q : A → Bool) → ((x : A) → p x ≡ false → q x ≡ false) → (xs : List A)
+    → list_any p xs ≡ false → list_any q xs ≡ false
 list_any-from p q f xs e = list_any-none q xs (all_from (λ x. p x ≡ false) (λ x. q x ≡ false) f xs (none_passes p xs e))
 
 -- a filter that nothing passes leaves nothing
@@ -43,21 +44,24 @@ filter-none p [] h = refl
 filter-none p (x ∷ xs) h = rw h.0 (filter-none p xs h.1)
 
 -- what is found where nothing that passes was left out
-pub filter-left : {A : Type 0} (p q : A → Bool) (xs : List A) → AllByRecursion (λ x. q x ≡ false → p x ≡ false) xs → filter p (filter q xs) ≡ filter p xs
+pub filter-left : {A : Type 0} (p q : A → Bool) (xs : List A) → AllByRecursion (λ x. q x ≡ false → p x ≡ false) xs
+    → filter p (filter q xs) ≡ filter p xs
 filter-left p q [] h = refl
 filter-left p q (x ∷ xs) h = elim (cases_Bool (q x)) [
   | inl e ↦ rw (e, filter-left p q xs h.1) refl
   | inr e ↦ (let out = h.0 e in rw (e, out) (filter-left p q xs h.1))
 ]
 
-pub list_any-left : {A : Type 0} (p q : A → Bool) (xs : List A) → AllByRecursion (λ x. q x ≡ false → p x ≡ false) xs → list_any p (filter q xs) ≡ list_any p xs
+pub list_any-left : {A : Type 0} (p q : A → Bool) (xs : List A) → AllByRecursion (λ x. q x ≡ false → p x ≡ false) xs
+    → list_any p (filter q xs) ≡ list_any p xs
 list_any-left p q [] h = refl
 list_any-left p q (x ∷ xs) h = elim (cases_Bool (q x)) [
   | inl e ↦ rw (e, list_any-left p q xs h.1) refl
   | inr e ↦ (let out = h.0 e in rw (e, out) (list_any-left p q xs h.1))
 ]
 
-pub find-left : {A : Type 0} (p q : A → Bool) (xs : List A) → AllByRecursion (λ x. q x ≡ false → p x ≡ false) xs → find p (filter q xs) ≡ find p xs
+pub find-left : {A : Type 0} (p q : A → Bool) (xs : List A) → AllByRecursion (λ x. q x ≡ false → p x ≡ false) xs
+    → find p (filter q xs) ≡ find p xs
 find-left p q [] h = refl
 find-left p q (x ∷ xs) h = elim (cases_Bool (q x)) [
   | inl e ↦ rw (e, find-left p q xs h.1) refl
@@ -65,7 +69,8 @@ find-left p q (x ∷ xs) h = elim (cases_Bool (q x)) [
 ]
 
 -- each element that is left passes the filter, and fails a test that none passes that does
-pub all_left : {A : Type 0} (q g : A → Bool) (xs : List A) → list_any (λ x. q x && g x) xs ≡ false → AllByRecursion (λ x. (q x ≡ true) × (g x ≡ false)) (filter q xs)
+pub all_left : {A : Type 0} (q g : A → Bool) (xs : List A) → list_any (λ x. q x && g x) xs ≡ false
+    → AllByRecursion (λ x. (q x ≡ true) × (g x ≡ false)) (filter q xs)
 all_left q g [] h = tt
 all_left q g (x ∷ xs) h =
     let parts = or_parts (q x && g x) (list_any (λ x. q x && g x) xs) h in
@@ -82,9 +87,11 @@ all_left q g (x ∷ xs) h =
 pub reverse-filter : {A : Type 0} (q : A → Bool) (xs : List A) → reverse (filter q xs) ≡ filter q (reverse xs)
 reverse-filter q [] = refl
 reverse-filter q (x ∷ xs) =
-    by (cases_Bool (q x)) (reverse-filter q xs) ∙ sym (ap (filter q) (reverse_onto xs x []) ∙ filter-append q (reverse xs) (x ∷ []))
+    by (cases_Bool (q x)) (reverse-filter q xs)
+    ∙ sym (ap (filter q) (reverse_onto xs x []) ∙ filter-append q (reverse xs) (x ∷ []))
   where
-    by : ((q x ≡ true) ⊎ (q x ≡ false)) → reverse (filter q xs) ≡ filter q (reverse xs) → reverse (filter q (x ∷ xs)) ≡ filter q (reverse xs) ++ filter q (x ∷ [])
+    by : ((q x ≡ true) ⊎ (q x ≡ false)) → reverse (filter q xs) ≡ filter q (reverse xs)
+        → reverse (filter q (x ∷ xs)) ≡ filter q (reverse xs) ++ filter q (x ∷ [])
     by (inl e) same = rw e (reverse_onto (filter q xs) x [] ∙ ap (λ front. front ++ x ∷ []) same)
     by (inr e) same = rw e (same ∙ sym (append-nil (filter q (reverse xs))))
 

@@ -17,8 +17,8 @@ ghost use Rattle.read_model.specs.SearchReplies.{search_replies};
 ghost use Rattle.read_model.specs.CompareReplies.{compare_result};
 ghost use Rattle.twin_laws.specs.Twins.{is_below_suffix, rows_outside, IsUnseen, AreTwins};
 
-/// A requester gets of twins the same replies to every search, and the same result of every compare (X.511 9 and 10),
-/// with the same matched names.
+/// A requester gets of twins the same replies to every search, and the same result of every compare (X.511 9
+/// and 10), with the same matched names.
 pub fn twins_get_equal_replies()
     ensures search { (who : Requester) (one other : List EntryInformation) (top : RdnSequence)
         → AreTwins who one other top → (request : SearchRequest) (subentries : Option Bool)
@@ -29,9 +29,9 @@ pub fn twins_get_equal_replies()
         → compare_result (view_of one who) request ≡ compare_result (view_of other who) request }
 {}
 
-/// What of twins is the same to a requester: the entries outside the subtree with all that is allowed on them, the
-/// subentries in force for these, the entry of a name outside, the entries that a search selects, and what is said of
-/// an entry that may not be known of.
+/// What of twins is the same to a requester: the entries outside the subtree with all that is allowed on
+/// them, the subentries in force for these, the entry of a name outside, the entries that a search selects,
+/// the name of the nearest entry above a name that may be known of, and what is said of a hidden name.
 pub fn twins_are_seen_alike()
     ensures view { (who : Requester) (one other : List EntryInformation) (top : RdnSequence)
         → AreTwins who one other top
@@ -55,8 +55,8 @@ pub fn twins_are_seen_alike()
         → hidden (view_of one who) name ≡ hidden (view_of other who) name }
 {}
 
-/// Of two trees that are the same but for the subtree of a name, the name is below the suffix of both where it is below
-/// that of one.
+/// Of two trees that are the same but for the subtree of a name, the name is below the suffix of both where
+/// it is below that of one.
 pub fn twins_differ_below_one_suffix()
     ensures { (one other : List EntryInformation) (top : RdnSequence) → IsTree other
         → without_subtree top one ≡ without_subtree top other

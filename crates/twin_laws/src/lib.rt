@@ -1,4 +1,5 @@
-//! The laws of twins: two trees that differ in a subtree alone that a requester does not see are read alike by it.
+//! The laws of twins: two trees that differ alone in a subtree that a requester does not see are read alike
+//! by it.
 #![tactic(auto)]
 
 mod laws;
