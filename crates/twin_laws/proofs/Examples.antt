@@ -12,6 +12,7 @@ use Rattle.admin_scope.specs.InForce.{in_force}
 use Rattle.aci_item.specs.declared.level.Level.TheVariants.{Anyone}
 use Rattle.aci_item.specs.declared.permission.Permission.TheVariants.{Browse}
 use Rattle.aci_item.specs.Permissions.{is_same as is_same_permission}
+use Rattle.aci_item.specs.Items.{UserClasses, ProtectedItems, ItemFirst, UserFirst}
 use Rattle.acdf_filters.specs.declared.asking.Requester.{Requester}
 use Rattle.acdf_filters.specs.Tuples.{items_in, inherited, tuples_of}
 use Rattle.acdf_filters.specs.Filters.{decided}
@@ -24,6 +25,7 @@ use Rattle.ldap_msg.specs.declared.kinds.Reply.TheVariants as reply
 use Rattle.read_model.specs.Views.{Row, view_of, matched_name, hidden, result_of, result_with}
 use Rattle.read_model.specs.Selecting.{is_selected, selected}
 use Rattle.read_model.specs.SearchReplies.{found_replies, replies_at, search_replies}
+use Rattle.twin_laws.specs.Groups.{groups_of}
 use Rattle.twin_laws.specs.Twins.{is_below_suffix, shows_within, IsUnseen, AreTwins}
 use Rattle.twin_laws.proofs.Theorems.{search_replies-twins}
 
@@ -70,6 +72,27 @@ are_searched_alike : (request : SearchRequest) (subentries : Option Bool)
     ≡ search_replies (view_of without_secret anonymous) request subentries
 are_searched_alike request subentries =
     search_replies-twins anonymous with_secret without_secret secret are_twins request subentries
+
+-- the groups of an item, also of one that has no permissions
+abbrev of_group : UserClasses
+of_group = record { all = false; this_entry = false; names = []; groups = secret ∷ []; subtrees = [] }
+
+abbrev whole : ProtectedItems
+whole = record {
+  entry = true;
+  all_kinds = false;
+  kinds = [];
+  all_values = [];
+  all_kinds_and_values = false;
+  values = [];
+  self_values = [];
+}
+
+users_first : groups_of (UserFirst of_group []) ≡ secret ∷ []
+users_first = refl
+
+items_first : groups_of (ItemFirst whole (record { precedence = None; classes = of_group; bits = [] } ∷ [])) ≡ secret ∷ []
+items_first = refl
 
 -- the suffix is not below itself, nor is any name below that of an empty tree
 the_suffix_is_seen : is_below_suffix suffix with_secret ≡ false

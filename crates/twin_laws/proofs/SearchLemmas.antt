@@ -109,17 +109,22 @@ discloses_none top view h base e =
       | inr outside ↦ and_left (has_name base row) (is_disclosed row) (same_within top base row.entry.name e outside)
     ]
 
+pub hidden-within : (top : RdnSequence) (view : View) → AreHidden top view → (name : RdnSequence) → is_prefix_of top name ≡ true
+    → hidden view name ≡ no_such_object view name
+unfolding hidden
+hidden-within top view h name e = ap (λ known. refused known (matched_name view name)) (discloses_none top view h name e)
+
 -- so the answer is the same, whether there is an entry of this name or not
-replies_at-within : (top : RdnSequence) (view : View) → AreHidden top view
+pub replies_at-within : (top : RdnSequence) (view : View) → AreHidden top view
     → (request : SearchRequest) (subentries : Option Bool) (base : RdnSequence) → is_prefix_of top base ≡ true
     → replies_at view request subentries base ≡ reply.Done (no_such_object view base) ∷ []
-unfolding replies_at found_replies hidden
+unfolding replies_at found_replies
 replies_at-within top view h request subentries base e =
     let undisclosed = discloses_none top view h base e in
     both (list_any (has_name base) view) _ _ _
     (ap (found_replies view request base) (selected_none top view h request subentries base e)
     ∙ ap (λ known. reply.Done (nothing known (matched_name view base)) ∷ []) undisclosed)
-    (ap (λ known. reply.Done (refused known (matched_name view base)) ∷ []) undisclosed)
+    (ap (λ result. reply.Done result ∷ []) (hidden-within top view h base e))
   where
     both : (b : Bool) (x y z : List Reply) → x ≡ z → y ≡ z → (if b then x else y) ≡ z
     both true x y z e f = e

@@ -15,17 +15,18 @@ use Rattle.admin_scope.specs.Areas.{without_subtree}
 use Rattle.admin_scope.specs.InForce.{in_force}
 use Rattle.acdf_filters.specs.declared.asking.Requester.{Requester}
 use Rattle.ldap_msg.specs.declared.kinds.SearchRequest.{SearchRequest}
+use Rattle.ldap_msg.specs.declared.kinds.Reply.TheVariants as reply
 use Rattle.ldap_msg.specs.declared.kinds.CompareRequest.{CompareRequest}
-use Rattle.read_model.specs.Views.{View, view_of, matched_name, hidden}
+use Rattle.read_model.specs.Views.{View, view_of, matched_name, no_such_object, hidden}
 use Rattle.read_model.specs.Selecting.{selected}
-use Rattle.read_model.specs.SearchReplies.{search_replies}
+use Rattle.read_model.specs.SearchReplies.{replies_at, search_replies}
 use Rattle.read_model.specs.CompareReplies.{compare_result}
 use Rattle.twin_laws.specs.Twins.{is_below_suffix, rows_outside, IsUnseen, AreTwins}
 use Rattle.twin_laws.proofs.ListLemmas.{all_filter, all_any, find-left}
 use Rattle.twin_laws.proofs.NameLemmas.{same_outside, above_outside, prefix_length}
 use Rattle.twin_laws.proofs.ViewLemmas.{access_none, view_of-without}
 use Rattle.twin_laws.proofs.SeenLemmas.{AreHidden, AreHidden-from_shows_within, matched_name-outside, hidden-outside}
-use Rattle.twin_laws.proofs.SearchLemmas.{FirstIsLeft, selected-outside, search_replies-outside}
+use Rattle.twin_laws.proofs.SearchLemmas.{FirstIsLeft, hidden-within, replies_at-within, selected-outside, search_replies-outside}
 use Rattle.twin_laws.proofs.CompareLemmas.{compare_result-outside}
 
 -- what is seen of a tree with an unseen subtree
@@ -97,6 +98,18 @@ pub hidden-twins : (who : Requester) (one other : List EntryInformation) (top : 
 hidden-twins who one other top h name =
     alike who top (λ view. hidden view name) one other h
     (λ entries unseen. hidden-outside top (view_of entries who) (are_hidden who top entries unseen) name)
+
+-- what is said of a name in an unseen subtree
+pub replies_at-unseen : (who : Requester) (top : RdnSequence) (entries : List EntryInformation) → IsUnseen who top entries
+    → (request : SearchRequest) (subentries : Option Bool) (base : RdnSequence) → is_prefix_of top base ≡ true
+    → replies_at (view_of entries who) request subentries base ≡ reply.Done (no_such_object (view_of entries who) base) ∷ []
+replies_at-unseen who top entries h request subentries base e =
+    replies_at-within top (view_of entries who) (are_hidden who top entries h) request subentries base e
+
+pub hidden-unseen : (who : Requester) (top : RdnSequence) (entries : List EntryInformation) → IsUnseen who top entries
+    → (name : RdnSequence) → is_prefix_of top name ≡ true
+    → hidden (view_of entries who) name ≡ no_such_object (view_of entries who) name
+hidden-unseen who top entries h name e = hidden-within top (view_of entries who) (are_hidden who top entries h) name e
 
 -- the subentries in force for an entry outside
 pub in_force-twins : (who : Requester) (one other : List EntryInformation) (top : RdnSequence) → AreTwins who one other top

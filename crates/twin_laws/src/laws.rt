@@ -1,6 +1,6 @@
 //! The laws of twins: each function computes nothing, and what it ensures is a law.
 
-ghost use Rattle.std.specs.Prelude.{◌≡◌, Bool, true, false, List, Option};
+ghost use Rattle.std.specs.Prelude.{◌≡◌, Bool, true, false, List, [], ◌∷◌, Option};
 ghost use Rattle.dn_names.specs.Names.{RdnSequence};
 ghost use Rattle.dn_names.specs.NameOrder.{is_prefix_of};
 ghost use Rattle.dir_tree.specs.Entries.{EntryInformation};
@@ -11,9 +11,10 @@ ghost use Rattle.admin_scope.specs.InForce.{in_force};
 ghost use Rattle.acdf_filters.specs.declared.asking.Requester.{Requester};
 ghost use Rattle.ldap_msg.specs.declared.kinds.SearchRequest.{SearchRequest};
 ghost use Rattle.ldap_msg.specs.declared.kinds.CompareRequest.{CompareRequest};
-ghost use Rattle.read_model.specs.Views.{view_of, matched_name, hidden};
+ghost use Rattle.ldap_msg.specs.declared.kinds.Reply.TheVariants as reply;
+ghost use Rattle.read_model.specs.Views.{view_of, matched_name, hidden, no_such_object};
 ghost use Rattle.read_model.specs.Selecting.{selected};
-ghost use Rattle.read_model.specs.SearchReplies.{search_replies};
+ghost use Rattle.read_model.specs.SearchReplies.{replies_at, search_replies};
 ghost use Rattle.read_model.specs.CompareReplies.{compare_result};
 ghost use Rattle.twin_laws.specs.Twins.{is_below_suffix, rows_outside, IsUnseen, AreTwins};
 
@@ -53,6 +54,18 @@ pub fn twins_are_seen_alike()
     ensures hidden { (who : Requester) (one other : List EntryInformation) (top : RdnSequence)
         → AreTwins who one other top → (name : RdnSequence)
         → hidden (view_of one who) name ≡ hidden (view_of other who) name }
+{}
+
+/// A name in a subtree of which a requester sees nothing is answered as one that no entry has, whether an entry
+/// has it or not: there is no such object, and the nearest entry above that may be known of is named.
+pub fn an_unseen_name_is_answered_as_an_absent_one()
+    ensures search { (who : Requester) (top : RdnSequence) (entries : List EntryInformation)
+        → IsUnseen who top entries → (request : SearchRequest) (subentries : Option Bool) (base : RdnSequence)
+        → is_prefix_of top base ≡ true → replies_at (view_of entries who) request subentries base
+        ≡ reply.Done (no_such_object (view_of entries who) base) ∷ [] }
+    ensures hidden { (who : Requester) (top : RdnSequence) (entries : List EntryInformation)
+        → IsUnseen who top entries → (name : RdnSequence) → is_prefix_of top name ≡ true
+        → hidden (view_of entries who) name ≡ no_such_object (view_of entries who) name }
 {}
 
 /// Of two trees that are the same but for the subtree of a name, the name is below the suffix of both where

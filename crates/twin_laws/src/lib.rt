@@ -4,4 +4,7 @@
 
 mod laws;
 
-pub use laws::{twins_are_seen_alike, twins_differ_below_one_suffix, twins_get_equal_replies};
+pub use laws::{
+    an_unseen_name_is_answered_as_an_absent_one, twins_are_seen_alike,
+    twins_differ_below_one_suffix, twins_get_equal_replies,
+};
