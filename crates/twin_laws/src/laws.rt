@@ -56,8 +56,8 @@ pub fn twins_are_seen_alike()
         → hidden (view_of one who) name ≡ hidden (view_of other who) name }
 {}
 
-/// A name in a subtree of which a requester sees nothing is answered as one that no entry has, whether an entry
-/// has it or not: there is no such object, and the nearest entry above that may be known of is named.
+/// A name in a subtree of which a requester sees nothing is answered as one that no entry has, whether an
+/// entry has it or not: there is no such object, and the nearest entry above that may be known of is named.
 pub fn an_unseen_name_is_answered_as_an_absent_one()
     ensures search { (who : Requester) (top : RdnSequence) (entries : List EntryInformation)
         → IsUnseen who top entries → (request : SearchRequest) (subentries : Option Bool) (base : RdnSequence)
