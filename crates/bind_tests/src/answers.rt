@@ -94,7 +94,13 @@ static ROWS: [Row; 24] = [
         0,
         "uid=ada,dc=Example simple",
     ),
-    (3, "uid=ada,dc=Example", How::Password("abd"), 49, "anonymous"),
+    (
+        3,
+        "uid=ada,dc=Example",
+        How::Password("abd"),
+        49,
+        "anonymous",
+    ),
     // each of the passwords, and none of another scheme
     (
         3,
@@ -110,7 +116,13 @@ static ROWS: [Row; 24] = [
         0,
         "uid=Bob,dc=Example simple",
     ),
-    (3, "uid=Bob,dc=Example", How::Password("{MD5}x"), 49, "anonymous"),
+    (
+        3,
+        "uid=Bob,dc=Example",
+        How::Password("{MD5}x"),
+        49,
+        "anonymous",
+    ),
     (3, "uid=Bob,dc=Example", How::Password("x"), 49, "anonymous"),
     // the name is the entry's
     (
@@ -120,11 +132,23 @@ static ROWS: [Row; 24] = [
         0,
         "uid=Bob,dc=Example simple",
     ),
-    (3, "dc=example", How::Password("top"), 0, "dc=Example simple"),
+    (
+        3,
+        "dc=example",
+        How::Password("top"),
+        0,
+        "dc=Example simple",
+    ),
     // no password, no entry, and an entry above
     (3, "uid=cy,dc=Example", How::Password("x"), 49, "anonymous"),
     (3, "uid=dan,dc=Example", How::Password("x"), 49, "anonymous"),
-    (3, "uid=dan,dc=Example", How::Password("top"), 49, "anonymous"),
+    (
+        3,
+        "uid=dan,dc=Example",
+        How::Password("top"),
+        49,
+        "anonymous",
+    ),
     (3, "uid=dan,dc=Example", How::Password(""), 53, "anonymous"),
     // a password alone
     (3, "", How::Password("top"), 49, "anonymous"),
@@ -137,7 +161,13 @@ static ROWS: [Row; 24] = [
     (3, "uid=Bob,dc=Example", How::Method(0xA3), 7, "anonymous"),
     (3, "Bob", How::Method(0xA3), 7, "anonymous"),
     // another version, before all else
-    (2, "uid=Bob,dc=Example", How::Password("bob1"), 2, "anonymous"),
+    (
+        2,
+        "uid=Bob,dc=Example",
+        How::Password("bob1"),
+        2,
+        "anonymous",
+    ),
     (4, "", How::Password(""), 2, "anonymous"),
     (1, "Bob", How::Method(0xA3), 2, "anonymous"),
 ];

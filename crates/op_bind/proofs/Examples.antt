@@ -1,5 +1,5 @@
 -- The definitions on small cases.
-use Rattle.std.proofs.Common.{◌≡◌, ℕ, true, false, [], ◌∷◌, List, Some, None, Ok, Err, refl}
+use Rattle.std.proofs.Common.{◌≡◌, ℕ, true, false, [], ◌∷◌, List, Err, refl}
 use Rattle.std.specs.Prelude.{codes}
 use Rattle.sha2.specs.Sha256.{sha256, digest_bytes}
 use Rattle.sha2.proofs.Facts256.{digest_of_abc_256}
@@ -9,7 +9,7 @@ use Rattle.dn_names.specs.declared.error.BadName.TheVariants.{TooMany}
 use Rattle.dn_names.specs.NameOrder.{name_cmp, is_same}
 use Rattle.dir_tree.specs.Entries.{EntryInformation}
 use Rattle.ldap_msg.specs.declared.operations.ResultCode.TheVariants.{Success, ProtocolError, AuthMethodNotSupported, InvalidDnSyntax, InvalidCredentials, UnwillingToPerform}
-use Rattle.ldap_msg.specs.declared.kinds.Auth.TheVariants.{Simple, Other}
+use Rattle.ldap_msg.specs.declared.kinds.Auth.TheVariants.{Other}
 use Rattle.op_bind.specs.Passwords.{accepts, digest_text}
 use Rattle.op_bind.specs.Binds.{ended, bound_name, bound_named, bound_text, bind_answer}
 

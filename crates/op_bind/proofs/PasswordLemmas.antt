@@ -1,5 +1,5 @@
 -- What a stored value accepts, by whether it begins with the scheme of digests.
-use Rattle.std.proofs.Common.{◌≡◌, ◌≢◌, ℕ, Bool, false, not, ◌&&◌, ◌||◌, List, ◌++◌, ap}
+use Rattle.std.proofs.Common.{◌≡◌, ◌≢◌, ℕ, Bool, not, ◌&&◌, ◌||◌, List, ◌++◌, ap}
 use Rattle.std.specs.Str.{bytes_eq}
 use Rattle.std.proofs.Math.Bool.{or-false}
 use Rattle.std.proofs.lemmas.Bool.{false_from_ne_true}
@@ -12,7 +12,8 @@ unfolding accepts
 accepts-digest text password = or-false (bytes_eq text (digest_text password))
 
 -- any other one accepts its own octets, where it is of no scheme
-pub accepts-other : (value password : List ℕ) → ((rest : List ℕ) → value ≢ scheme ++ rest) → accepts value password ≡ (not (is_schemed value) && bytes_eq value password)
+pub accepts-other : (value password : List ℕ) → ((rest : List ℕ) → value ≢ scheme ++ rest)
+    → accepts value password ≡ (not (is_schemed value) && bytes_eq value password)
 unfolding accepts
 accepts-other value password other =
     ap (λ (digest : Bool). digest || (not (is_schemed value) && bytes_eq value password))

@@ -33,32 +33,38 @@ prefix_like top name other e f =
     (is_prefix_of-types_and_keys top name).1 (begins.0, same ∙ begins.1)
 
 -- no entry of the subtree has a name outside it
-apart : (top name : RdnSequence) → is_prefix_of top name ≡ false → (entry : EntryInformation) → not (is_within top entry) ≡ false → is_named name entry ≡ false
+apart : (top name : RdnSequence) → is_prefix_of top name ≡ false → (entry : EntryInformation) → not (is_within top entry) ≡ false
+    → is_named name entry ≡ false
 apart top name outside entry e =
     false_from_ne_true (is_named name entry) (λ f. both_ways (is_prefix_of top name) outside (prefix_like top name entry.name (not-false (is_within top entry) e) f))
 
 -- so the entry of such a name stays
-named-without : (top name : RdnSequence) (entries : List EntryInformation) → is_prefix_of top name ≡ false → named_in name (without_subtree top entries) ≡ named_in name entries
+named-without : (top name : RdnSequence) (entries : List EntryInformation) → is_prefix_of top name ≡ false
+    → named_in name (without_subtree top entries) ≡ named_in name entries
 named-without top name entries outside = find-filter (is_named name) (λ entry. not (is_within top entry)) (apart top name outside) entries
 
-bound_named-without : (top : RdnSequence) (entries : List EntryInformation) (name : RdnSequence) (password : List ℕ) → is_prefix_of top name ≡ false
+bound_named-without : (top : RdnSequence) (entries : List EntryInformation) (name : RdnSequence) (password : List ℕ)
+    → is_prefix_of top name ≡ false
     → bound_named (without_subtree top entries) name password ≡ bound_named entries name password
 bound_named-without top entries [] password outside = refl
 bound_named-without top entries (rdn ∷ rdns) [] outside = refl
 bound_named-without top entries (rdn ∷ rdns) (octet ∷ octets) outside =
     ap (λ (found : Option EntryInformation). bound_found (octet ∷ octets) found) (named-without top (rdn ∷ rdns) entries outside)
 
-bound_text-without : (top : RdnSequence) (entries : List EntryInformation) (name : Result RdnSequence BadName) (password : List ℕ) → IfOk name (λ name. is_prefix_of top name ≡ false)
+bound_text-without : (top : RdnSequence) (entries : List EntryInformation) (name : Result RdnSequence BadName) (password : List ℕ)
+    → IfOk name (λ name. is_prefix_of top name ≡ false)
     → bound_text (without_subtree top entries) name password ≡ bound_text entries name password
 bound_text-without top entries (Err bad) password outside = refl
 bound_text-without top entries (Ok name) password outside = bound_named-without top entries name password outside
 
-bound_auth-without : (top : RdnSequence) (entries : List EntryInformation) (name : List ℕ) (auth : Auth) → IfOk (read_name name) (λ name. is_prefix_of top name ≡ false)
+bound_auth-without : (top : RdnSequence) (entries : List EntryInformation) (name : List ℕ) (auth : Auth)
+    → IfOk (read_name name) (λ name. is_prefix_of top name ≡ false)
     → bound_auth (without_subtree top entries) name auth ≡ bound_auth entries name auth
 bound_auth-without top entries name (Other tag) outside = refl
 bound_auth-without top entries name (Simple password) outside = bound_text-without top entries (read_name name) password outside
 
-pub bind_answer-without : (top : RdnSequence) (entries : List EntryInformation) (request : BindRequest) → IfOk (read_name request.name) (λ name. is_prefix_of top name ≡ false)
+pub bind_answer-without : (top : RdnSequence) (entries : List EntryInformation) (request : BindRequest)
+    → IfOk (read_name request.name) (λ name. is_prefix_of top name ≡ false)
     → bind_answer (without_subtree top entries) request ≡ bind_answer entries request
 unfolding bind_answer
 bind_answer-without top entries request outside =

@@ -1,10 +1,10 @@
 //! What a bind comes to.
 
-ghost use Rattle.std.specs.Prelude.{◌≡◌, ◌≢◌, [], IfOk};
-ghost use Rattle.std.specs.Option.{option_map};
+ghost use Rattle.std.specs.Prelude.{◌≡◌, IfOk};
 ghost use Rattle.dn_names.specs.NameText.{read_name};
 ghost use Rattle.dir_tree.specs.Numbered.{entries_of};
-ghost use Rattle.op_bind.specs.Binds.{ended, bound_name, bound_password, bound_entry, bound_nobody, bound_named, bound_text, bound_auth, bind_answer};
+ghost use Rattle.op_bind.specs.Binds.{ended, bound_name, bound_password, bound_entry, bound_nobody, bound_named};
+ghost use Rattle.op_bind.specs.Binds.{bound_text, bound_auth, bind_answer};
 
 use crate::entry::{entry_named, has_password};
 use acdf_filters::Requester;
@@ -120,12 +120,13 @@ fn bind_by(alloc: Global, tree: &Tree, name: &[u8], auth: &Auth) -> Result<Bound
     }
 }
 
-/// What a bind comes to over the tree (RFC 4511 4.2.2), by the first that applies: protocolError for a version other than
-/// 3, authMethodNotSupported for authentication other than simple, invalidDNSyntax for a name that is none, success for no
-/// name and no password, invalidCredentials for a password alone, unwillingToPerform for a name alone (RFC 4513 5.1.2),
-/// invalidCredentials where no entry has the name or none of its passwords accepts the password, and otherwise success.
-/// After the last the requester has the entry's name, as the tree spells it, and is authenticated simply; after any other
-/// it is anonymous. A bind asks for no permission. The error comes for want of memory alone.
+/// What a bind comes to over the tree (RFC 4511 4.2.2), by the first that applies: protocolError for a
+/// version other than 3, authMethodNotSupported for authentication other than simple, invalidDNSyntax for a
+/// name that is none, success for no name and no password, invalidCredentials for a password alone,
+/// unwillingToPerform for a name alone (RFC 4513 5.1.2), invalidCredentials where no entry has the name or
+/// none of its passwords accepts the password, and otherwise success. After the last the requester has the
+/// entry's name, as the tree spells it, and is authenticated simply; after any other it is anonymous. A
+/// bind asks for no permission. The error comes for want of memory alone.
 #[tactic(auto, unfolding(crate::specs::Binds::bind_answer))]
 pub fn bind(alloc: Global, tree: &Tree, request: &BindRequest) -> Result<Bound, NoMemory>
     ensures ok { IfOk result (λ bound. bound ≡ bind_answer (entries_of tree.now) request.now) }

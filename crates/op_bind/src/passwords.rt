@@ -42,11 +42,11 @@ fn is_in_clear(value: &[u8], password: &[u8]) -> bool
     !is_schemed(value) && value == password
 }
 
-/// Whether a stored value of userPassword accepts the password. A value `{SHA256}` with the padded base64 of 32 octets
-/// behind it (RFC 4648 4) accepts a password whose SHA-256 (FIPS 180-4) is these octets. The text is the canonical one:
-/// one without its padding, of another length, or with bits behind the last octet that are not zero is that of no digest.
-/// Any other value that begins with `{` accepts no password, not even one of equal octets. Any other value accepts equal
-/// octets alone. No memory is taken.
+/// Whether a stored value of userPassword accepts the password. A value `{SHA256}` with the padded base64
+/// of 32 octets behind it (RFC 4648 4) accepts a password whose SHA-256 (FIPS 180-4) is these octets. The
+/// text is the canonical one: one without its padding, of another length, or with bits behind the last
+/// octet that are not zero is that of no digest. Any other value that begins with `{` accepts no password,
+/// not even one of equal octets. Any other value accepts equal octets alone. No memory is taken.
 pub fn accepts(value: &[u8], password: &[u8]) -> bool
     ensures exact { result ≡ accepts value.now password.now }
 {
