@@ -1,0 +1,79 @@
+-- The entries that a search selects, by their numbers.
+use Rattle.std.proofs.Common.{◌≡◌, ◌⊎◌, inl, inr, ℕ, Bool, true, false, ◌&&◌, List, [], ◌∷◌, ◌++◌, Option, Some, None, refl, sym, ap, ◌∙◌, map, filter, find}
+use Rattle.std.specs.Prelude.{◌==◌, flat_map, cond}
+use Rattle.std.specs.Option.{option_map_or}
+use Rattle.std.proofs.lemmas.Bool.{cases_Bool}
+use Rattle.dn_names.specs.Names.{RdnSequence}
+use Rattle.dn_names.specs.NameOrder.{is_same}
+use Rattle.dir_tree.specs.Entries.{EntryInformation}
+use Rattle.dir_tree.specs.Trees.{is_named, named_in}
+use Rattle.dir_tree.specs.Numbered.{Numbered, IsNumberedTree, entries_of, entries_at, entry_of, find_name}
+use Rattle.dir_tree.specs.Scopes.{scoped, in_scope, is_child, is_within}
+use Rattle.dir_tree.specs.declared.scope.Scope.{Scope}
+use Rattle.dir_tree.specs.declared.scope.Scope.TheVariants.{Base, One, Sub}
+use Rattle.dir_tree.proofs.TreeTheorems.{scoped-One-entries, scoped-Sub-entries}
+use Rattle.acdf_filters.specs.declared.asking.Requester.{Requester}
+use Rattle.ldap_msg.specs.declared.kinds.SearchRequest.{SearchRequest}
+use Rattle.read_model.specs.Views.{Row, View}
+use Rattle.read_model.specs.Selecting.{takes_in, is_shown, is_selected, selected}
+use Rattle.op_read.specs.Seeing.{view_in, row_in, one_or_none, scope_of}
+use Rattle.op_read.specs.Sending.{shown_among}
+use Rattle.op_read.proofs.ListLemmas.{filter-two, filter-like, find-passes, among}
+use Rattle.op_read.proofs.NameLemmas.{named-entries, child-like, within-like}
+use Rattle.op_read.proofs.SeenLemmas.{named-found}
+
+-- the entries of a scope are those that it takes in
+base-entries : (id : ℕ) (entry : EntryInformation) (name : RdnSequence) (rows : List Numbered) → IsNumberedTree rows → entry_of id rows ≡ Some entry → named_in name (entries_of rows) ≡ Some entry
+    → entries_at rows (scoped Base id rows) ≡ filter (is_named name) (entries_of rows)
+base-entries id entry name rows tree known named =
+    ap (λ (found : Option EntryInformation). entries_at rows (in_scope Base id found rows)) known
+    ∙ single
+    ∙ sym (named-entries name (entries_of rows) tree.tree.sorted ∙ ap (one_or_none (λ entry. entry)) named)
+  where
+    single : entries_at rows (id ∷ []) ≡ entry ∷ []
+    single = rw known refl
+
+-- the test of a scope is that of its number
+base-test : (scope : ℕ) (name : RdnSequence) → (scope == 0) ≡ true → (entry : EntryInformation) → takes_in scope name entry ≡ is_named name entry
+base-test scope name e entry = rw e refl
+
+one-test : (scope : ℕ) (name : RdnSequence) → (scope == 0) ≡ false → (scope == 1) ≡ true → (entry : EntryInformation) → takes_in scope name entry ≡ is_child name entry
+one-test scope name e f entry = rw (e, f) refl
+
+sub-test : (scope : ℕ) (name : RdnSequence) → (scope == 0) ≡ false → (scope == 1) ≡ false → (entry : EntryInformation) → takes_in scope name entry ≡ is_within name entry
+sub-test scope name e f entry = rw (e, f) refl
+
+scope-entries : (scope id : ℕ) (entry : EntryInformation) (name : RdnSequence) (rows : List Numbered) → IsNumberedTree rows → entry_of id rows ≡ Some entry → named_in name (entries_of rows) ≡ Some entry
+    → entries_at rows (scoped (scope_of scope) id rows) ≡ filter (takes_in scope name) (entries_of rows)
+scope-entries scope id entry name rows tree known named = by (cases_Bool (scope == 0)) (cases_Bool (scope == 1))
+  where
+    same : is_same name entry.name ≡ true
+    same = find-passes (is_named name) (entries_of rows) entry named
+
+    by : (((scope == 0) ≡ true) ⊎ ((scope == 0) ≡ false)) → (((scope == 1) ≡ true) ⊎ ((scope == 1) ≡ false)) → entries_at rows (scoped (scope_of scope) id rows) ≡ filter (takes_in scope name) (entries_of rows)
+    by (inl e) f =
+        let is : scope_of scope ≡ Base = rw e refl in
+        ap (λ (s : Scope). entries_at rows (scoped s id rows)) is
+        ∙ base-entries id entry name rows tree known named
+        ∙ sym (filter-like (takes_in scope name) (is_named name) (base-test scope name e) (entries_of rows))
+    by (inr e) (inl f) =
+        let is : scope_of scope ≡ One = rw (e, f) refl in
+        ap (λ (s : Scope). entries_at rows (scoped s id rows)) is
+        ∙ scoped-One-entries id entry rows tree known
+        ∙ sym (filter-like (takes_in scope name) (is_child entry.name) (λ x. one-test scope name e f x ∙ child-like name entry.name same x) (entries_of rows))
+    by (inr e) (inr f) =
+        let is : scope_of scope ≡ Sub = rw (e, f) refl in
+        ap (λ (s : Scope). entries_at rows (scoped s id rows)) is
+        ∙ scoped-Sub-entries id entry rows tree known
+        ∙ sym (filter-like (takes_in scope name) (is_within entry.name) (λ x. sub-test scope name e f x ∙ within-like name entry.name same x) (entries_of rows))
+
+-- those that are selected
+pub selected-among : (request : SearchRequest) (subentries : Option Bool) (name : RdnSequence) (id : ℕ) (rows : List Numbered) (who : Requester) → IsNumberedTree rows → find_name name rows ≡ Some id
+    → (entry : EntryInformation) → entry_of id rows ≡ Some entry
+    → shown_among (is_shown request subentries) rows who (scoped (scope_of request.scope) id rows) ≡ selected (view_in rows who) request subentries name
+unfolding selected is_selected
+selected-among request subentries name id rows who tree found entry known =
+    among (λ id. entry_of id rows) (row_in rows who) (is_shown request subentries) (scoped (scope_of request.scope) id rows)
+    ∙ ap (λ (entries : List EntryInformation). filter (is_shown request subentries) (map (row_in rows who) entries))
+    (scope-entries request.scope id entry name rows tree known (named-found rows tree name id found ∙ known))
+    ∙ sym (filter-two (row_in rows who) (takes_in request.scope name) (λ row. takes_in request.scope name row.entry) (is_shown request subentries) (λ entry. refl) (entries_of rows))
