@@ -1,9 +1,9 @@
 -- Compares and searches, by the cases of their requests.
 use Rattle.std.proofs.Common.{◌≡◌, ◌≢◌, ℕ, ◌<◌, Bool, true, false, List, [], ◌∷◌, ◌++◌, Option, Some, None, Result, Ok, Err, refl, sym, ap, ◌∙◌, length, filter, append_assoc, arith}
-use Rattle.std.specs.Prelude.{◌==◌, flat_map}
+use Rattle.std.specs.Prelude.{◌==◌, flat_map, if◌then◌else◌}
 use Rattle.std.specs.List.{list_any}
 use Rattle.std.specs.Result.{result_ok}
-use Rattle.std.proofs.lemmas.Bool.{eqb-false}
+use Rattle.std.proofs.lemmas.Bool.{eqb-false, ne_eqb, eq-eqb}
 use Rattle.std.proofs.lemmas.List.{append-nil}
 use Rattle.std.proofs.lemmas.Grind.{flat_map-append}
 use Rattle.dn_names.specs.Names.{Keyed, RdnSequence}
@@ -65,3 +65,19 @@ replies-root view request subentries (rdn ∷ rdns) e = absurd (omega arith)
 pub replies-entry : (view : View) (request : SearchRequest) (subentries : Option Bool) (name : RdnSequence) → length name ≢ 0 → replies_at view request subentries name ≡ replies_by view request subentries (Ok name)
 replies-entry view request subentries [] h = absurd (h refl)
 replies-entry view request subentries (rdn ∷ rdns) h = refl
+
+pub root-elsewhere : (view : View) (request : SearchRequest) (subentries : Option Bool) → request.scope ≢ 0 → reply.Done (result_of code.NoSuchObject) ∷ [] ≡ root_replies view request subentries
+unfolding root_replies
+root-elsewhere view request subentries h = rw (ne_eqb request.scope 0 h) refl
+
+pub root-here : (view : View) (request : SearchRequest) (subentries : Option Bool) → request.scope ≡ 0 → (if finds_root request subentries then root_entry view request ∷ [] else []) ++ reply.Done (result_of code.Success) ∷ [] ≡ root_replies view request subentries
+unfolding root_replies
+root-here view request subentries e = rw (eq-eqb request.scope 0 e) refl
+
+-- replies behind replies
+pub replies-behind : (id : ℕ) (before middle after : List ℕ) (one other all : List Reply) → middle ≡ before ++ replies_octets id one → one ++ other ≡ all → after ≡ middle ++ replies_octets id other → after ≡ before ++ replies_octets id all
+replies-behind id before middle after one other all e f g =
+    g
+    ∙ ap (λ out. out ++ replies_octets id other) e
+    ∙ append_assoc before (replies_octets id one) (replies_octets id other)
+    ∙ ap (λ octets. before ++ octets) (sym (flat_map-append (reply_octets id) one other) ∙ ap (replies_octets id) f)

@@ -1,10 +1,20 @@
 -- What of an entry is sent, text by text, value by value and attribute by attribute.
-use Rattle.std.proofs.Common.{◌≡◌, inl, inr, ℕ, ◌+◌, ◌<◌, Bool, true, false, ◌&&◌, ◌||◌, List, [], ◌∷◌, ◌++◌, refl, sym, ap, ◌∙◌, map, filter, length, take, get_or, append_assoc}
+use Rattle.std.proofs.Common.{◌≡◌, inl, inr, ℕ, ◌+◌, ◌<◌, Bool, true, false, ◌&&◌, ◌||◌, List, [], ◌∷◌, ◌++◌, refl, sym, ap, ◌∙◌, map, filter, length, take, get_or, append_assoc, arith}
 use Rattle.std.specs.Prelude.{flat_map, if◌then◌else◌}
 use Rattle.std.specs.List.{list_any}
 use Rattle.std.proofs.lemmas.Bool.{cases_Bool}
 use Rattle.std.proofs.lemmas.List.{take_more, append-nil, map-append}
 use Rattle.std.proofs.lemmas.List.Folds.{list_any-append}
+use Rattle.dn_names.specs.Printing.{print_name}
+use Rattle.dir_tree.specs.Entries.{Attribute}
+use Rattle.aci_item.specs.declared.permission.Permission.TheVariants.{Read}
+use Rattle.acdf_filters.specs.Asking.{Kind}
+use Rattle.ldap_msg.specs.declared.kinds.KindValues.{KindValues}
+use Rattle.ldap_msg.specs.declared.kinds.Reply.TheVariants as reply
+use Rattle.read_model.specs.Views.{Row}
+use Rattle.read_model.specs.Choosing.{is_chosen_by, is_chosen, sent_attribute, sent_attributes, sent_entry}
+use Rattle.op_read.specs.declared.choosing.Choice.{Choice}
+use Rattle.op_read.specs.Choices.{chooses, sent_of}
 
 or_false : (b : Bool) → (b || false) ≡ b
 or_false true = refl
@@ -70,3 +80,22 @@ found-order true true c = refl
 found-order true false c = refl
 found-order false true c = refl
 found-order false false c = refl
+
+-- a selection that is not empty
+pub chosen-filled : (texts : List (List ℕ)) → 0 < length texts → (kind : ℕ) → list_any (is_chosen_by kind) texts ≡ is_chosen texts kind
+chosen-filled [] h kind = absurd (omega arith)
+chosen-filled (text ∷ texts) h kind = refl
+
+-- the attributes that are sent
+pub sent-attributes : (choices : List Choice) (texts : List (List ℕ)) (kinds_only : Bool) (row : Row) → ((kind : ℕ) → list_any (chooses kind) choices ≡ is_chosen texts kind) → flat_map (sent_of choices kinds_only row) row.entry.attributes ≡ sent_attributes texts kinds_only row
+unfolding sent_attributes
+sent-attributes choices texts kinds_only row same =
+    attributes-one (λ attribute. list_any (chooses attribute.kind) choices) (λ attribute. is_chosen texts attribute.kind) (λ attribute. row.allows (Kind attribute.kind) Read)
+    (sent_attribute kinds_only row) (λ attribute. same attribute.kind) row.entry.attributes
+
+pub sent-entry : (choices : List Choice) (texts : List (List ℕ)) (kinds_only : Bool) (row : Row) (name : List ℕ) (sent : List KindValues) → ((kind : ℕ) → list_any (chooses kind) choices ≡ is_chosen texts kind) → name ≡ print_name row.entry.name → sent ≡ flat_map (sent_of choices kinds_only row) row.entry.attributes
+    → reply.Entry name sent ≡ sent_entry texts kinds_only row
+unfolding sent_entry
+sent-entry choices texts kinds_only row name sent same named whole =
+    ap (λ name. reply.Entry name sent) named
+    ∙ ap (λ (sent : List KindValues). reply.Entry (print_name row.entry.name) sent) (whole ∙ sent-attributes choices texts kinds_only row same)

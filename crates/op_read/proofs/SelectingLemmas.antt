@@ -1,7 +1,7 @@
 -- The entries that a search selects, by their numbers.
 use Rattle.std.proofs.Common.{◌≡◌, ◌⊎◌, inl, inr, ℕ, Bool, true, false, ◌&&◌, List, [], ◌∷◌, ◌++◌, Option, Some, None, refl, sym, ap, ◌∙◌, map, filter, find}
 use Rattle.std.specs.Prelude.{◌==◌, flat_map, cond}
-use Rattle.std.specs.Option.{option_map_or}
+use Rattle.std.specs.Option.{option_map, option_map_or}
 use Rattle.std.proofs.lemmas.Bool.{cases_Bool}
 use Rattle.dn_names.specs.Names.{RdnSequence}
 use Rattle.dn_names.specs.NameOrder.{is_same}
@@ -18,7 +18,7 @@ use Rattle.read_model.specs.Views.{Row, View}
 use Rattle.read_model.specs.Selecting.{takes_in, is_shown, is_selected, selected}
 use Rattle.op_read.specs.Seeing.{view_in, row_in, one_or_none, scope_of}
 use Rattle.op_read.specs.Sending.{shown_among}
-use Rattle.op_read.proofs.ListLemmas.{filter-two, filter-like, find-passes, among}
+use Rattle.op_read.proofs.ListLemmas.{find-map, filter-two, filter-like, find-passes, among}
 use Rattle.op_read.proofs.NameLemmas.{named-entries, child-like, within-like}
 use Rattle.op_read.proofs.SeenLemmas.{named-found}
 
@@ -67,13 +67,24 @@ scope-entries scope id entry name rows tree known named = by (cases_Bool (scope 
         ∙ scoped-Sub-entries id entry rows tree known
         ∙ sym (filter-like (takes_in scope name) (is_within entry.name) (λ x. sub-test scope name e f x ∙ within-like name entry.name same x) (entries_of rows))
 
+-- a number that is found is in use
+in-use : (rows : List Numbered) → IsNumberedTree rows → (name : RdnSequence) (id : ℕ) → find_name name rows ≡ Some id → (entry : EntryInformation) × (entry_of id rows ≡ Some entry)
+in-use rows tree name id e = by (find (λ row. is_named name row.entry) rows) refl
+  where
+    by : (found : Option Numbered) → find (λ row. is_named name row.entry) rows ≡ found → (entry : EntryInformation) × (entry_of id rows ≡ Some entry)
+    by None f = (let lost : None ≡ Some id = sym (ap (option_map (λ (row : Numbered). row.id)) f) ∙ e in absurd cc)
+    by (Some row) f = (
+      row.entry,
+      sym (named-found rows tree name id e) ∙ find-map (λ (row : Numbered). row.entry) (is_named name) rows ∙ ap (option_map (λ (row : Numbered). row.entry)) f,
+    )
+
 -- those that are selected
 pub selected-among : (request : SearchRequest) (subentries : Option Bool) (name : RdnSequence) (id : ℕ) (rows : List Numbered) (who : Requester) → IsNumberedTree rows → find_name name rows ≡ Some id
-    → (entry : EntryInformation) → entry_of id rows ≡ Some entry
     → shown_among (is_shown request subentries) rows who (scoped (scope_of request.scope) id rows) ≡ selected (view_in rows who) request subentries name
 unfolding selected is_selected
-selected-among request subentries name id rows who tree found entry known =
+selected-among request subentries name id rows who tree found =
+    let known = in-use rows tree name id found in
     among (λ id. entry_of id rows) (row_in rows who) (is_shown request subentries) (scoped (scope_of request.scope) id rows)
     ∙ ap (λ (entries : List EntryInformation). filter (is_shown request subentries) (map (row_in rows who) entries))
-    (scope-entries request.scope id entry name rows tree known (named-found rows tree name id found ∙ known))
+    (scope-entries request.scope id known.0 name rows tree known.1 (named-found rows tree name id found ∙ known.1))
     ∙ sym (filter-two (row_in rows who) (takes_in request.scope name) (λ row. takes_in request.scope name row.entry) (is_shown request subentries) (λ entry. refl) (entries_of rows))

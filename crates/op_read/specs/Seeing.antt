@@ -1,5 +1,7 @@
 -- What a requester sees, of the entries of a numbered tree.
 use Rattle.std.specs.Prelude.{◌≡◌, ℕ, ◌==◌, List, [], ◌∷◌, Option, Some, None, if◌then◌else◌}
+use Rattle.std.specs.List.{AllByRecursion-prop}
+use Rattle.std.proofs.Math.Bool.{Bool-set}
 use Rattle.std.specs.Option.{option_and_then, option_map_or}
 use Rattle.dn_names.specs.Names.{RdnSequence}
 use Rattle.dir_tree.specs.Entries.{EntryInformation}
@@ -8,6 +10,8 @@ use Rattle.dir_tree.specs.declared.number.EntryNo.{EntryNo}
 use Rattle.dir_tree.specs.declared.scope.Scope.{Scope}
 use Rattle.dir_tree.specs.declared.scope.Scope.TheVariants.{Base, One, Sub}
 use Rattle.acdf_filters.specs.declared.asking.Requester.{Requester}
+use Rattle.acdf_filters.specs.declared.question.Membership.{Membership}
+use Rattle.acdf_filters.specs.Weighing.{AreMemberships, is_member}
 use Rattle.ldap_msg.specs.declared.operations.ResultCode.TheVariants as code
 use Rattle.ldap_msg.specs.declared.kinds.LdapResult.{LdapResult}
 use Rattle.read_model.specs.Views.{Row, View, row_of, view_of, result_with}
@@ -47,3 +51,9 @@ without_object name = result_with code.NoSuchObject name
 -- the scope of the number: baseObject 0, singleLevel 1, wholeSubtree 2
 abbrev pub scope_of : ℕ → Scope
 scope_of number = if number == 0 then Base else if number == 1 then One else Sub
+
+-- what is known of groups is known in one way
+pub memberships-prop : (entries : List EntryInformation) (name : Option RdnSequence) (known : List Membership) → IsProp (AreMemberships entries name known)
+memberships-prop entries name known =
+    AllByRecursion-prop (λ membership. membership.member ≡ is_member entries name membership.group)
+    (λ membership. Bool-set membership.member (is_member entries name membership.group)) known

@@ -7,7 +7,7 @@ ghost use Rattle.acdf_filters.specs.Asking.{protected_of};
 ghost use Rattle.acdf_filters.specs.Granted.{granted};
 ghost use Rattle.acdf_filters.specs.Weighing.{AreMemberships};
 ghost use Rattle.read_model.specs.Selecting.{permits_of};
-ghost use Rattle.op_read.specs.Seeing.{row_in};
+ghost use Rattle.op_read.specs.Seeing.{row_in, memberships-prop};
 
 use acdf_filters::{Item, Membership, Requester};
 use acdf_lists::Dir;
@@ -24,7 +24,8 @@ pub(crate) struct Asking<'a, D: Dir> {
     pub(crate) dir: &'a D,
     pub(crate) who: &'a Requester,
     pub(crate) known: &'a [Membership],
-    ghost memberships: { AreMemberships (entries_of (D.rows dir.now)) who.now.name known.now },
+    ghost memberships: { AreMemberships (entries_of (D.rows dir.now)) who.now.name known.now }
+        by { memberships-prop (entries_of (D.rows dir.now)) who.now.name known.now },
 }
 
 /// An entry of the directory, as the requester sees it.
@@ -35,7 +36,8 @@ pub(crate) struct Seen<'a, D: Dir> {
     pub(crate) known: &'a [Membership],
     pub(crate) number: EntryNo,
     pub(crate) entry: &'a Entry,
-    ghost memberships: { AreMemberships (entries_of (D.rows dir.now)) who.now.name known.now },
+    ghost memberships: { AreMemberships (entries_of (D.rows dir.now)) who.now.name known.now }
+        by { memberships-prop (entries_of (D.rows dir.now)) who.now.name known.now },
     ghost found: { entry_of number.0 (D.rows dir.now) ≡ Some entry.now },
 }
 

@@ -74,15 +74,16 @@ fn put_from<D: Dir>(
 {
     let filter = prepare_filter(alloc, &asked.request.filter)?;
     let choices = read_choices(alloc, asked.request.selection.as_slice())?;
+    let selection = Selection {
+        choices: &choices,
+        kinds_only: asked.request.kinds_only,
+    };
     let search = Search {
         id: asked.id,
         request: asked.request,
         subentries: asked.subentries,
         filter: &filter,
-        selection: Selection {
-            choices: &choices,
-            kinds_only: asked.request.kinds_only,
-        },
+        selection,
     };
     put_selected(alloc, asking, &search, base, number, out)
 }

@@ -9,6 +9,6 @@ abbrev pub invariant-loop-candidate : goal.invariant-loop-candidate
 invariant-loop-candidate g l =
     Sends l.search.request.now.size (entry_octets l.search.id l.search.request.now)
     (shown_among (is_shown l.search.request.now l.search.subentries) (g.D.Dir.rows l.asking.dir.now) l.asking.who.now
-    (scoped (scope_of l.search.request.now.scope) l.number.0 (g.D.Dir.rows l.asking.dir.now)))
+    (scoped (scope_of l.search.request.now.scope) l.fn.number.0 (g.D.Dir.rows l.asking.dir.now)))
     (shown_among (is_shown l.search.request.now l.search.subentries) (g.D.Dir.rows l.asking.dir.now) l.asking.who.now l.candidate-iterator)
     l.fn.out.items l.sent l.out.items
