@@ -47,3 +47,12 @@ unfolding root_entry
 root-entry rows who request =
     ap (λ (sent : List KindValues). reply.Entry [] sent)
     (roots-one (is_root_chosen request.selection) (sent_root request.kinds_only) (root_attributes (view_in rows who)))
+
+-- four attributes, one behind the other
+pub sent-four : (f : RootAttribute → List KindValues) (s0 s1 s2 s3 s4 : List KindValues) (r1 r2 r3 r4 a b c d : RootAttribute) → s0 ≡ [] → s1 ≡ s0 ++ f r1 → s2 ≡ s1 ++ f r2 → s3 ≡ s2 ++ f r3 → s4 ≡ s3 ++ f r4
+    → r1 ≡ a → r2 ≡ b → r3 ≡ c → r4 ≡ d → s4 ≡ f a ++ (f b ++ (f c ++ (f d ++ [])))
+sent-four f s0 s1 s2 s3 s4 r1 r2 r3 r4 a b c d e0 e1 e2 e3 e4 ea eb ec ed =
+    let first : s1 ≡ [] ++ f a = e1 ∙ ap (λ s. s ++ f r1) e0 ∙ ap (λ r. [] ++ f r) ea in
+    let second : s2 ≡ ([] ++ f a) ++ f b = e2 ∙ ap (λ s. s ++ f r2) first ∙ ap (λ r. ([] ++ f a) ++ f r) eb in
+    let third : s3 ≡ (([] ++ f a) ++ f b) ++ f c = e3 ∙ ap (λ s. s ++ f r3) second ∙ ap (λ r. (([] ++ f a) ++ f b) ++ f r) ec in
+    e4 ∙ ap (λ s. s ++ f r4) third ∙ ap (λ r. ((([] ++ f a) ++ f b) ++ f c) ++ f r) ed ∙ four (f a) (f b) (f c) (f d)

@@ -112,3 +112,8 @@ name-found tree rows e name found number f g = ap (find_name name) (sym e) ∙ s
 
 pub name-none : (tree rows : List Numbered) → tree ≡ rows → (name : RdnSequence) (found : Option EntryNo) → option_map (λ no. no.0) found ≡ find_name name tree → found ≡ None → find_name name rows ≡ None
 name-none tree rows e name found f g = ap (find_name name) (sym e) ∙ sym f ∙ ap (option_map (λ (no : EntryNo). no.0)) g
+
+-- a number that is not in use names nothing
+pub nearest-lost : (rows : List Numbered) (nearest : Option EntryNo) (number : EntryNo) → nearest ≡ Some number → None ≡ entry_of number.0 rows → [] ≡ nearest_name rows nearest
+nearest-lost rows nearest number e f =
+    ap (λ (found : Option EntryInformation). option_map_or (λ entry. entry.name) found []) f ∙ ap (nearest_name rows) (sym e)

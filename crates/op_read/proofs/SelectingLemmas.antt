@@ -1,6 +1,7 @@
 -- The entries that a search selects, by their numbers.
 use Rattle.std.proofs.Common.{◌≡◌, ◌⊎◌, inl, inr, ℕ, Bool, true, false, ◌&&◌, List, [], ◌∷◌, ◌++◌, Option, Some, None, refl, sym, ap, ◌∙◌, map, filter, find}
-use Rattle.std.specs.Prelude.{◌==◌, flat_map, cond}
+use Rattle.std.specs.Prelude.{◌==◌, flat_map, cond, is_some}
+use Rattle.std.specs.List.{list_any}
 use Rattle.std.specs.Option.{option_map, option_map_or}
 use Rattle.std.proofs.lemmas.Bool.{cases_Bool}
 use Rattle.dn_names.specs.Names.{RdnSequence}
@@ -11,14 +12,17 @@ use Rattle.dir_tree.specs.Numbered.{Numbered, IsNumberedTree, entries_of, entrie
 use Rattle.dir_tree.specs.Scopes.{scoped, in_scope, is_child, is_within}
 use Rattle.dir_tree.specs.declared.scope.Scope.{Scope}
 use Rattle.dir_tree.specs.declared.scope.Scope.TheVariants.{Base, One, Sub}
-use Rattle.dir_tree.proofs.TreeTheorems.{scoped-One-entries, scoped-Sub-entries}
+use Rattle.dir_tree.proofs.TreeTheorems.{scoped-One-entries, scoped-Sub-entries, has_name-find}
 use Rattle.acdf_filters.specs.declared.asking.Requester.{Requester}
 use Rattle.ldap_msg.specs.declared.kinds.SearchRequest.{SearchRequest}
-use Rattle.read_model.specs.Views.{Row, View}
+use Rattle.ldap_msg.specs.declared.kinds.Reply.TheVariants as reply
+use Rattle.read_model.specs.Views as views
+use Rattle.read_model.specs.Views.{Row, View, hidden}
+use Rattle.read_model.specs.SearchReplies.{found_replies, replies_at}
 use Rattle.read_model.specs.Selecting.{takes_in, is_shown, is_selected, selected}
 use Rattle.op_read.specs.Seeing.{view_in, row_in, one_or_none, scope_of}
 use Rattle.op_read.specs.Sending.{shown_among}
-use Rattle.op_read.proofs.ListLemmas.{find-map, filter-two, filter-like, find-passes, among}
+use Rattle.op_read.proofs.ListLemmas.{find-map, list_any-map, filter-two, filter-like, find-passes, among}
 use Rattle.op_read.proofs.NameLemmas.{named-entries, child-like, within-like}
 use Rattle.op_read.proofs.SeenLemmas.{named-found}
 
@@ -88,3 +92,18 @@ selected-among request subentries name id rows who tree found =
     ∙ ap (λ (entries : List EntryInformation). filter (is_shown request subentries) (map (row_in rows who) entries))
     (scope-entries request.scope id known.0 name rows tree known.1 (named-found rows tree name id found ∙ known.1))
     ∙ sym (filter-two (row_in rows who) (takes_in request.scope name) (λ row. takes_in request.scope name row.entry) (is_shown request subentries) (λ entry. refl) (entries_of rows))
+
+-- ---- a base that is a name
+
+named-rows : (rows : List Numbered) (who : Requester) (name : RdnSequence) → list_any (views.has_name name) (view_in rows who) ≡ is_some (find_name name rows)
+named-rows rows who name = list_any-map (row_in rows who) (views.has_name name) (entries_of rows) ∙ has_name-find name rows
+
+pub replies-found : (rows : List Numbered) (who : Requester) (request : SearchRequest) (subentries : Option Bool) (name : RdnSequence) (id : ℕ) → find_name name rows ≡ Some id
+    → found_replies (view_in rows who) request name (selected (view_in rows who) request subentries name) ≡ replies_at (view_in rows who) request subentries name
+unfolding replies_at
+replies-found rows who request subentries name id e = rw (named-rows rows who name ∙ ap is_some e) refl
+
+pub replies-none : (rows : List Numbered) (who : Requester) (request : SearchRequest) (subentries : Option Bool) (name : RdnSequence) → find_name name rows ≡ None
+    → reply.Done (hidden (view_in rows who) name) ∷ [] ≡ replies_at (view_in rows who) request subentries name
+unfolding replies_at
+replies-none rows who request subentries name e = rw (named-rows rows who name ∙ ap is_some e) refl

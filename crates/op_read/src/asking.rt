@@ -24,8 +24,7 @@ pub(crate) struct Asking<'a, D: Dir> {
     pub(crate) dir: &'a D,
     pub(crate) who: &'a Requester,
     pub(crate) known: &'a [Membership],
-    ghost memberships: { AreMemberships (entries_of (D.rows dir.now)) who.now.name known.now }
-        by { memberships-prop (entries_of (D.rows dir.now)) who.now.name known.now },
+    ghost memberships: { AreMemberships (entries_of (D.rows dir.now)) who.now.name known.now } by { memberships-prop (entries_of (D.rows dir.now)) who.now.name known.now },
 }
 
 /// An entry of the directory, as the requester sees it.
@@ -36,8 +35,7 @@ pub(crate) struct Seen<'a, D: Dir> {
     pub(crate) known: &'a [Membership],
     pub(crate) number: EntryNo,
     pub(crate) entry: &'a Entry,
-    ghost memberships: { AreMemberships (entries_of (D.rows dir.now)) who.now.name known.now }
-        by { memberships-prop (entries_of (D.rows dir.now)) who.now.name known.now },
+    ghost memberships: { AreMemberships (entries_of (D.rows dir.now)) who.now.name known.now } by { memberships-prop (entries_of (D.rows dir.now)) who.now.name known.now },
     ghost found: { entry_of number.0 (D.rows dir.now) ≡ Some entry.now },
 }
 
