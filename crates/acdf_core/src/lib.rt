@@ -1,8 +1,6 @@
-//! What the access control decision (X.501 18.8) reads: a directory, which is a tree of entries.
+//! What is said of access control decisions (X.501 18.8): the nearest entry above a name of which a requester may know.
 #![tactic(auto)]
 
-mod dir;
-mod plain_dir;
+mod nearest;
 
-pub use dir::Dir;
-pub use plain_dir::PlainDir;
+pub use nearest::matched;
