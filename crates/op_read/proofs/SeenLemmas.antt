@@ -15,11 +15,12 @@ use Rattle.acdf_filters.specs.declared.asking.Requester.{Requester}
 use Rattle.acdf_filters.specs.Asking.{Entry}
 use Rattle.acdf_filters.specs.Granted as decision
 use Rattle.acdf_filters.specs.Granted.{granted}
+use Rattle.acdf_core.specs.Nearest.{IsEntryOf}
 use Rattle.ldap_msg.specs.declared.operations.ResultCode.TheVariants as code
 use Rattle.read_model.specs.Views as views
 use Rattle.read_model.specs.Views.{Row, View, matched_name, discloses, is_disclosed, no_such_object, result_with}
 use Rattle.read_model.specs.CompareReplies.{readable}
-use Rattle.op_read.specs.Seeing.{view_in, row_in, one_or_none, rows_at, IsEntryOf, nearest_name, without_object}
+use Rattle.op_read.specs.Seeing.{view_in, row_in, one_or_none, rows_at, nearest_name, without_object}
 use Rattle.op_read.proofs.ListLemmas.{find-map, reverse-map, list_any-map, any-one, kept-one, dropped-one}
 use Rattle.op_read.proofs.NameLemmas.{only-named, any-named}
 

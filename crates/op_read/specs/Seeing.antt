@@ -33,13 +33,6 @@ one_or_none view (Some entry) = view entry ∷ []
 abbrev pub rows_at : List Numbered → Requester → Option EntryNo → View
 rows_at rows who number = one_or_none (row_in rows who) (option_and_then (λ no. entry_of no.0 rows) number)
 
--- the number is that of the entry that is wanted; there is none exactly where no entry is wanted
-abbrev pub IsEntryOf : List Numbered → Option EntryNo → Option EntryInformation → Type 0
-IsEntryOf rows None None = Unit {0}
-IsEntryOf rows None (Some entry) = ⊥
-IsEntryOf rows (Some number) None = ⊥
-IsEntryOf rows (Some number) (Some entry) = entry_of number.0 rows ≡ Some entry
-
 -- the name of the entry of the number, if that is in use
 abbrev pub nearest_name : List Numbered → Option EntryNo → RdnSequence
 nearest_name rows number = option_map_or (λ entry. entry.name) (option_and_then (λ no. entry_of no.0 rows) number) []

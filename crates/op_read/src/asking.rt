@@ -1,6 +1,6 @@
 //! Who asks, and what is asked.
 
-ghost use Rattle.std.specs.Prelude.{◌≡◌, Some, false, IfOk};
+ghost use Rattle.std.specs.Prelude.{◌≡◌, Some, false};
 ghost use Rattle.std.specs.Option.{option_map_or};
 ghost use Rattle.dir_tree.specs.Numbered.{entry_of, entries_of};
 ghost use Rattle.acdf_filters.specs.Asking.{protected_of};
@@ -12,11 +12,10 @@ ghost use Rattle.op_read.specs.Seeing.{row_in, memberships-prop};
 use acdf_filters::{Item, Membership, Requester};
 use acdf_lists::Dir;
 use aci_item::Permission;
-use dir_tree::{Entry, EntryNo, NoMemory};
+use dir_tree::{Entry, EntryNo};
 use dn_names::Value;
 use filter_core::Allow;
 use schema_core::AttrId;
-use std::alloc::Global;
 
 /// A requester asks a directory; the groups are known in which the requester is.
 #[derive(Drop)]
@@ -37,18 +36,6 @@ pub(crate) struct Seen<'a, D: Dir> {
     pub(crate) entry: &'a Entry,
     ghost memberships: { AreMemberships (entries_of (D.rows dir.now)) who.now.name known.now } by { memberships-prop (entries_of (D.rows dir.now)) who.now.name known.now },
     ghost found: { entry_of number.0 (D.rows dir.now) ≡ Some entry.now },
-}
-
-/// The groups in which the requester is, for all decisions of a request. The error comes where memory is wanted.
-pub(crate) fn memberships<D: Dir>(
-    alloc: Global,
-    _dir: &D,
-    who: &Requester,
-) -> Result<Vec<Membership>, NoMemory>
-    ensures ok { IfOk result (λ known. AreMemberships (entries_of (D.rows _dir.now)) who.now.name known.items) }
-{
-    let _who = who;
-    Ok(Vec::new(alloc))
 }
 
 impl<'a, D: Dir> Asking<'a, D> {

@@ -11,7 +11,7 @@ ghost use Rattle.read_model.specs.Views.{view_of, result_of};
 ghost use Rattle.read_model.specs.CompareReplies.{has_equal, compared, readable, compared_in, compared_value, compared_kind, compare_result};
 ghost use Rattle.op_read.specs.Seeing.{view_in, row_in, rows_at};
 
-use crate::asking::{Asking, Seen, memberships};
+use crate::asking::{Asking, Seen};
 use crate::hiding::hidden;
 use crate::results::result_of;
 use crate::texts::read_named;
@@ -204,7 +204,7 @@ pub fn compare<D: Dir>(
     ensures ok { IfOk result (λ found. found
         ≡ compare_result (view_of (entries_of (D.rows dir.now)) who.now) request.now) }
 {
-    let known = memberships(alloc, dir, who)?;
+    let known = dir.memberships(alloc, who)?;
     let asking = Asking {
         dir,
         who,

@@ -5,8 +5,8 @@ ghost use Rattle.read_model.specs.Views.{discloses, hidden, no_such_object};
 ghost use Rattle.op_read.specs.Seeing.{view_in, without_object, nearest_name};
 
 use crate::asking::Asking;
-use crate::matching::matched;
 use crate::results::{result_of, result_with};
+use acdf_core::matched;
 use acdf_filters::Item;
 use acdf_lists::Dir;
 use aci_item::Permission;

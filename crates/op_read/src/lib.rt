@@ -5,7 +5,6 @@ mod asking;
 mod choosing;
 mod comparing;
 mod hiding;
-mod matching;
 mod results;
 mod root_entry;
 mod searching;

@@ -10,7 +10,7 @@ ghost use Rattle.read_model.specs.RootEntry.{finds_root, root_entry, root_replie
 ghost use Rattle.read_model.specs.SearchReplies.{replies_octets, found_replies, replies_at, replies_by, search_replies};
 ghost use Rattle.op_read.specs.Seeing.{view_in};
 
-use crate::asking::{Asking, memberships};
+use crate::asking::Asking;
 use crate::choosing::{Selection, read_choices};
 use crate::hiding::hidden;
 use crate::results::result_of;
@@ -213,7 +213,7 @@ fn put_replies<D: Dir>(
         (search_replies (view_of (entries_of (D.rows dir.now)) who.now) asked.entry.request.now asked.entry.subentries)) }
     ensures kept { Extends out.old.items out.new.items }
 {
-    let known = memberships(alloc, dir, who)?;
+    let known = dir.memberships(alloc, who)?;
     let asking = Asking {
         dir,
         who,
