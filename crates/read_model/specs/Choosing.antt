@@ -38,11 +38,14 @@ sent_attribute kinds_only row attribute = record {
   values = if kinds_only then [] else map (λ value. value.octets) (readable_values row attribute);
 }
 
--- the attributes that are chosen and whose types may be read, in the order of the entry
+-- the attribute is chosen, and its type may be read
+abbrev pub is_sent : List (List ℕ) → Row → Attribute → Bool
+is_sent selection row attribute = if is_chosen selection attribute.kind then row.allows (Kind attribute.kind) Read else false
+
+-- the attributes that are sent, in the order of the entry
 unfoldable pub sent_attributes : List (List ℕ) → Bool → Row → List KindValues
 sent_attributes selection kinds_only row =
-    map (sent_attribute kinds_only row)
-    (filter (λ attribute. if is_chosen selection attribute.kind then row.allows (Kind attribute.kind) Read else false) row.entry.attributes)
+    map (sent_attribute kinds_only row) (filter (is_sent selection row) row.entry.attributes)
 
 -- an entry as it is sent
 unfoldable pub sent_entry : List (List ℕ) → Bool → Row → Reply

@@ -7,6 +7,7 @@ use Rattle.dir_tree.specs.Points.{is_subentry}
 use Rattle.dir_tree.specs.Scopes.{is_child, is_within}
 use Rattle.aci_item.specs.declared.permission.Permission.TheVariants.{Browse, ReturnDn, FilterMatch}
 use Rattle.acdf_filters.specs.Asking.{Entry, Kind, Value}
+use Rattle.ldap_filter.specs.Filters.{Filter}
 use Rattle.ldap_msg.specs.declared.kinds.SearchRequest.{SearchRequest}
 use Rattle.filter_core.specs.Truths.{Permits, truth, is_true}
 use Rattle.read_model.specs.Views.{Row, View}
@@ -30,14 +31,18 @@ is_seen scope (Some wanted) entry = is_same wanted (is_subentry entry)
 abbrev pub permits_of : Row → Permits
 permits_of row = record { kind = λ kind. row.allows (Kind kind) FilterMatch; value = λ kind value. row.allows (Value kind value) FilterMatch }
 
--- the entry is in the scope and seen, may be browsed, matches the filter, and its name may be returned
+-- the entry may be browsed, matches the filter, and its name may be returned
+abbrev pub is_found : Filter → Row → Bool
+is_found filter row =
+    row.allows Entry Browse && is_true (truth (permits_of row) row.entry filter) && row.allows Entry ReturnDn
+
+-- an entry of the scope that is seen, and is found so
+abbrev pub is_shown : SearchRequest → Option Bool → Row → Bool
+is_shown request subentries row = is_seen request.scope subentries row.entry && is_found request.filter row
+
+-- the entry is in the scope, and is selected of it
 unfoldable pub is_selected : SearchRequest → Option Bool → RdnSequence → Row → Bool
-is_selected request subentries base row =
-    takes_in request.scope base row.entry
-    && is_seen request.scope subentries row.entry
-    && row.allows Entry Browse
-    && is_true (truth (permits_of row) row.entry request.filter)
-    && row.allows Entry ReturnDn
+is_selected request subentries base row = takes_in request.scope base row.entry && is_shown request subentries row
 
 -- the entries that a search selects, in their order
 unfoldable pub selected : View → SearchRequest → Option Bool → RdnSequence → View

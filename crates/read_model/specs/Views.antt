@@ -26,9 +26,13 @@ pub record Row : Type 0 where
 abbrev pub View : Type 0
 View = List Row
 
--- what the requester sees of a tree: each decision is taken over it
+-- what the requester sees of an entry, each decision taken over all entries
+abbrev pub row_of : List EntryInformation → Requester → EntryInformation → Row
+row_of entries who entry = record { entry = entry; allows = granted entries who entry }
+
+-- what the requester sees of a tree
 abbrev pub view_of : List EntryInformation → Requester → View
-view_of entries who = map (λ entry. record { entry = entry; allows = granted entries who entry }) entries
+view_of entries who = map (row_of entries who) entries
 
 -- the row has the name
 abbrev pub has_name : RdnSequence → Row → Bool

@@ -1,0 +1,101 @@
+-- What of an entry is sent, text by text, value by value and attribute by attribute.
+use Rattle.std.proofs.Common.{◌≡◌, inl, inr, ℕ, ◌+◌, ◌<◌, Bool, true, false, ◌&&◌, ◌||◌, List, [], ◌∷◌, ◌++◌, refl, sym, ap, ◌∙◌, map, filter, length, take, get_or, append_assoc, arith}
+use Rattle.std.specs.Prelude.{flat_map, if◌then◌else◌}
+use Rattle.std.specs.List.{list_any}
+use Rattle.std.proofs.lemmas.Bool.{cases_Bool}
+use Rattle.std.proofs.lemmas.List.{take_more, append-nil, map-append}
+use Rattle.std.proofs.lemmas.List.Folds.{list_any-append}
+use Rattle.dn_names.specs.Printing.{print_name}
+use Rattle.dir_tree.specs.Entries.{Attribute}
+use Rattle.aci_item.specs.declared.permission.Permission.TheVariants.{Read}
+use Rattle.acdf_filters.specs.Asking.{Kind}
+use Rattle.ldap_msg.specs.declared.kinds.KindValues.{KindValues}
+use Rattle.ldap_msg.specs.declared.kinds.Reply.TheVariants as reply
+use Rattle.read_model.specs.Views.{Row}
+use Rattle.read_model.specs.Choosing.{is_chosen_by, is_chosen, sent_attribute, sent_attributes, sent_entry}
+use Rattle.op_read.specs.declared.choosing.Choice.{Choice}
+use Rattle.op_read.specs.Choices.{chooses, sent_of}
+
+or_false : (b : Bool) → (b || false) ≡ b
+or_false true = refl
+or_false false = refl
+
+-- one more text was read
+pub any-more : {A B : Type 0} (p : A → Bool) (q : B → Bool) (xs : List A) (x : A) (ys : List B) (index : ℕ) (y : B) → list_any p xs ≡ list_any q (take index ys) → p x ≡ q y → index < length ys → y ≡ get_or ys index y
+    → list_any p (xs ++ x ∷ []) ≡ list_any q (take (index + 1) ys)
+any-more p q xs x ys index y before same within is =
+    list_any-append p xs (x ∷ [])
+    ∙ ap (λ b. b || (p x || false)) before
+    ∙ ap (λ b. list_any q (take index ys) || (b || false)) same
+    ∙ sym (list_any-append q (take index ys) (y ∷ []))
+    ∙ ap (list_any q) (sym (take_more ys index y within ∙ ap (λ last. take index ys ++ last ∷ []) (sym is)))
+
+filter-append : {A : Type 0} (p : A → Bool) (xs ys : List A) → filter p (xs ++ ys) ≡ filter p xs ++ filter p ys
+filter-append p [] ys = refl
+filter-append p (x ∷ xs) ys = elim (cases_Bool (p x)) [
+  | inl e ↦ rw e (ap (λ zs. x ∷ zs) (filter-append p xs ys))
+  | inr e ↦ rw e (filter-append p xs ys)
+]
+
+taken : {A : Type 0} (xs : List A) (index : ℕ) (x : A) → index < length xs → x ≡ get_or xs index x → take (index + 1) xs ≡ take index xs ++ x ∷ []
+taken xs index x within is = take_more xs index x within ∙ ap (λ last. take index xs ++ last ∷ []) (sym is)
+
+-- one more value that passes, or that does not
+pub kept-more : {A B : Type 0} (p : A → Bool) (f : A → B) (xs : List A) (index : ℕ) (x : A) (out : List B) → out ≡ map f (filter p (take index xs)) → p x ≡ true → index < length xs → x ≡ get_or xs index x
+    → out ++ f x ∷ [] ≡ map f (filter p (take (index + 1) xs))
+kept-more p f xs index x out before passes within is =
+    ap (λ ys. ys ++ f x ∷ []) before
+    ∙ sym (map-append f (filter p (take index xs)) (x ∷ []))
+    ∙ ap (map f) (sym (filter-append p (take index xs) (x ∷ []) ∙ ap (λ last. filter p (take index xs) ++ last) (rw passes refl)))
+    ∙ ap (λ ys. map f (filter p ys)) (sym (taken xs index x within is))
+
+pub passed-more : {A B : Type 0} (p : A → Bool) (f : A → B) (xs : List A) (index : ℕ) (x : A) (out : List B) → out ≡ map f (filter p (take index xs)) → p x ≡ false → index < length xs → x ≡ get_or xs index x
+    → out ≡ map f (filter p (take (index + 1) xs))
+passed-more p f xs index x out before fails within is =
+    before
+    ∙ ap (map f) (sym (filter-append p (take index xs) (x ∷ []) ∙ ap (λ last. filter p (take index xs) ++ last) (rw fails refl) ∙ append-nil (filter p (take index xs))))
+    ∙ ap (λ ys. map f (filter p ys)) (sym (taken xs index x within is))
+
+-- attributes one by one
+pub attributes-one : {A B : Type 0} (c d : A → Bool) (b : A → Bool) (f : A → B) → ((x : A) → c x ≡ d x) → (xs : List A) → flat_map (λ x. if c x then (if b x then f x ∷ [] else []) else []) xs ≡ map f (filter (λ x. if d x then b x else false) xs)
+attributes-one c d b f same [] = refl
+attributes-one c d b f same (x ∷ xs) = elim (cases_Bool (d x)) [
+  | inl e ↦ elim (cases_Bool (b x)) [
+    | inl g ↦ rw (same x, e, g) (ap (λ ys. f x ∷ ys) (attributes-one c d b f same xs))
+    | inr g ↦ rw (same x, e, g) (attributes-one c d b f same xs)
+  ]
+  | inr e ↦ rw (same x, e) (attributes-one c d b f same xs)
+]
+
+pub roots-one : {A B : Type 0} (c : A → Bool) (f : A → B) (xs : List A) → flat_map (λ x. if c x then f x ∷ [] else []) xs ≡ map f (filter c xs)
+roots-one c f [] = refl
+roots-one c f (x ∷ xs) = elim (cases_Bool (c x)) [
+  | inl e ↦ rw e (ap (λ ys. f x ∷ ys) (roots-one c f xs))
+  | inr e ↦ rw e (roots-one c f xs)
+]
+
+-- the order of two tests
+pub found-order : (a b c : Bool) → ((a && b) && c) ≡ ((b && a) && c)
+found-order true true c = refl
+found-order true false c = refl
+found-order false true c = refl
+found-order false false c = refl
+
+-- a selection that is not empty
+pub chosen-filled : (texts : List (List ℕ)) → 0 < length texts → (kind : ℕ) → list_any (is_chosen_by kind) texts ≡ is_chosen texts kind
+chosen-filled [] h kind = absurd (omega arith)
+chosen-filled (text ∷ texts) h kind = refl
+
+-- the attributes that are sent
+pub sent-attributes : (choices : List Choice) (texts : List (List ℕ)) (kinds_only : Bool) (row : Row) → ((kind : ℕ) → list_any (chooses kind) choices ≡ is_chosen texts kind) → flat_map (sent_of choices kinds_only row) row.entry.attributes ≡ sent_attributes texts kinds_only row
+unfolding sent_attributes
+sent-attributes choices texts kinds_only row same =
+    attributes-one (λ attribute. list_any (chooses attribute.kind) choices) (λ attribute. is_chosen texts attribute.kind) (λ attribute. row.allows (Kind attribute.kind) Read)
+    (sent_attribute kinds_only row) (λ attribute. same attribute.kind) row.entry.attributes
+
+pub sent-entry : (choices : List Choice) (texts : List (List ℕ)) (kinds_only : Bool) (row : Row) (name : List ℕ) (sent : List KindValues) → ((kind : ℕ) → list_any (chooses kind) choices ≡ is_chosen texts kind) → name ≡ print_name row.entry.name → sent ≡ flat_map (sent_of choices kinds_only row) row.entry.attributes
+    → reply.Entry name sent ≡ sent_entry texts kinds_only row
+unfolding sent_entry
+sent-entry choices texts kinds_only row name sent same named whole =
+    ap (λ name. reply.Entry name sent) named
+    ∙ ap (λ (sent : List KindValues). reply.Entry (print_name row.entry.name) sent) (whole ∙ sent-attributes choices texts kinds_only row same)

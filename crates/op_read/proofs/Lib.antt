@@ -1,0 +1,9 @@
+mod ListLemmas
+mod LimitLemmas
+mod NameLemmas
+mod SeenLemmas
+mod SelectingLemmas
+mod ChoosingLemmas
+mod SendingLemmas
+mod AnsweringLemmas
+mod RootLemmas

@@ -1,0 +1,167 @@
+-- What a search sends, one entry after the other, is what it sends.
+use Rattle.std.proofs.Common.{◌≡◌, ◌≢◌, inl, inr, ℕ, ◌+◌, ◌-◌, ◌<◌, Bool, true, false, List, [], ◌∷◌, ◌++◌, Option, Some, None, refl, sym, ap, subst, ◌∙◌, map, length, append_assoc, length-append, arith}
+use Rattle.std.specs.Prelude.{◌==◌, flat_map, not, Result, Ok, Err, OnOk, OnErr}
+use Rattle.std.specs.List.{list_any}
+use Rattle.std.proofs.lemmas.List.{append-nil}
+use Rattle.std.proofs.lemmas.Grind.{flat_map-append}
+use Rattle.dn_names.specs.Names.{RdnSequence}
+use Rattle.ldap_msg.specs.declared.operations.ResultCode.TheVariants as code
+use Rattle.ldap_msg.specs.declared.kinds.Reply.{Reply}
+use Rattle.ldap_msg.specs.declared.kinds.Reply.TheVariants as reply
+use Rattle.ldap_msg.specs.declared.kinds.SearchRequest.{SearchRequest}
+use Rattle.ber_layout.specs.Spellings.{Extends}
+use Rattle.ldap_msg.specs.Replies.{reply_octets}
+use Rattle.read_model.specs.Views.{Row, View, result_of}
+use Rattle.read_model.specs.Choosing.{sent_entry}
+use Rattle.read_model.specs.SearchReplies.{within_limit, limit_code, found_replies, replies_octets}
+use Rattle.op_read.specs.declared.sending.Sent.{Sent}
+use Rattle.op_read.specs.declared.sending.Found.{Found}
+use Rattle.op_read.specs.declared.sending.Found.TheVariants.{Nothing, Some as FoundSome, TooMany}
+use Rattle.op_read.specs.Sending.{is_filled, entry_octets, Sends, SendsAll, Goes, IsSent, ended_by}
+use Rattle.op_read.proofs.ListLemmas.{flat_map-map}
+use Rattle.op_read.proofs.LimitLemmas.{within-all, code-all, within-more, code-more}
+
+filled-more : (rows : View) (row : Row) → true ≡ is_filled (rows ++ row ∷ [])
+filled-more [] row = refl
+filled-more (first ∷ rows) row = refl
+
+filled-behind : (rows more : View) → is_filled more ≡ true → is_filled (rows ++ more) ≡ true
+filled-behind [] more h = h
+filled-behind (first ∷ rows) more h = refl
+
+filled-before : (rows more : View) → is_filled rows ≡ true → is_filled (rows ++ more) ≡ true
+filled-before [] more h = absurd cc
+filled-before (first ∷ rows) more h = refl
+
+octets-more : (octets : Row → List ℕ) (rows : View) (row : Row) (before : List ℕ) → (before ++ flat_map octets rows) ++ octets row ≡ before ++ flat_map octets (rows ++ row ∷ [])
+octets-more octets rows row before =
+    append_assoc before (flat_map octets rows) (octets row)
+    ∙ ap (λ more. before ++ more) (ap (λ last. flat_map octets rows ++ last) (sym (append-nil (octets row))) ∙ sym (flat_map-append octets rows (row ∷ [])))
+
+-- nothing was sent yet
+pub sends-first : (limit : ℕ) (octets : Row → List ℕ) (all : View) (before : List ℕ) → Sends limit octets all all before (record { some = false; room = limit }) before
+sends-first limit octets all before = record {
+  rows = [];
+  whole = refl;
+  put = sym (append-nil before);
+  some = refl;
+  room = λ h. omega arith;
+}
+
+-- one more was sent, without a limit
+pub sends-free : (limit : ℕ) (octets : Row → List ℕ) (row : Row) (sent new : Sent) (out after : List ℕ) → limit ≡ 0 → new.some ≡ true → after ≡ out ++ octets row
+    → (all left : View) (before : List ℕ) → Sends limit octets all (row ∷ left) before sent out → Sends limit octets all left before new after
+sends-free limit octets row sent new out after free some put all left before h = record {
+  rows = h.rows ++ row ∷ [];
+  whole = h.whole ∙ sym (append_assoc h.rows (row ∷ []) left);
+  put = put ∙ ap (λ sent. sent ++ octets row) h.put ∙ octets-more octets h.rows row before;
+  some = some ∙ filled-more h.rows row;
+  room = λ k. absurd (k free);
+}
+
+-- within a limit
+pub sends-within : (limit : ℕ) (octets : Row → List ℕ) (row : Row) (sent new : Sent) (out after : List ℕ) → limit ≢ 0 → new.some ≡ true → new.room + 1 ≡ sent.room → after ≡ out ++ octets row
+    → (all left : View) (before : List ℕ) → Sends limit octets all (row ∷ left) before sent out → Sends limit octets all left before new after
+sends-within limit octets row sent new out after bound some room put all left before h = record {
+  rows = h.rows ++ row ∷ [];
+  whole = h.whole ∙ sym (append_assoc h.rows (row ∷ []) left);
+  put = put ∙ ap (λ sent. sent ++ octets row) h.put ∙ octets-more octets h.rows row before;
+  some = some ∙ filled-more h.rows row;
+  room = λ k. (let all = h.room k in omega (arith, length-append h.rows (row ∷ [])));
+}
+
+-- all were sent
+pub sent-some : (limit : ℕ) (octets : Row → List ℕ) (all : View) (before : List ℕ) (sent : Sent) (after : List ℕ) → sent.some ≡ true → Sends limit octets all [] before sent after → IsSent limit octets all before after FoundSome
+sent-some limit octets all before sent after some h =
+    let whole : all ≡ h.rows = h.whole ∙ append-nil h.rows in (
+      (ap is_filled whole ∙ sym h.some ∙ some, h.put ∙ ap (λ rows. before ++ flat_map octets rows) (sym (ap (within_limit limit) whole ∙ within-all limit sent.room h.rows h.room))),
+      ap (limit_code limit) whole ∙ code-all limit sent.room h.rows h.room,
+    )
+
+pub sent-none : (limit : ℕ) (octets : Row → List ℕ) (all : View) (before : List ℕ) (sent : Sent) (after : List ℕ) → sent.some ≡ false → Sends limit octets all [] before sent after → IsSent limit octets all before after Nothing
+sent-none limit octets all before sent after some h =
+    let none : h.rows ≡ [] = empty h.rows (sym h.some ∙ some) in
+    (h.whole ∙ append-nil h.rows ∙ none, h.put ∙ ap (λ rows. before ++ flat_map octets rows) none ∙ append-nil before)
+  where
+    empty : (rows : View) → is_filled rows ≡ false → rows ≡ []
+    empty [] e = refl
+    empty (row ∷ rows) e = absurd cc
+
+-- one was found for which there is no room
+pub sent-many : (limit : ℕ) (octets : Row → List ℕ) (all more left : View) (before : List ℕ) (sent : Sent) (out after : List ℕ) → (is_filled more ≡ true) × (limit ≢ 0) × (sent.room ≡ 0) × (after ≡ out)
+    → Sends limit octets all (more ++ left) before sent out → IsSent limit octets all before after TooMany
+sent-many limit octets all more left before sent out after (filled, bound, full, same) h =
+    let count : length h.rows ≡ limit = (let room = h.room bound in omega arith) in
+    let further : is_filled (more ++ left) ≡ true = filled-before more left filled in (
+      (
+        ap is_filled h.whole ∙ filled-behind h.rows (more ++ left) further,
+        same ∙ h.put ∙ ap (λ rows. before ++ flat_map octets rows) (sym (ap (within_limit limit) h.whole ∙ within-more limit h.rows (more ++ left) bound count)),
+      ),
+      ap (limit_code limit) h.whole ∙ code-more limit h.rows (more ++ left) bound count (some_more (more ++ left) further),
+    )
+  where
+    some_more : (rows : View) → is_filled rows ≡ true → 0 < length rows
+    some_more [] e = absurd cc
+    some_more (row ∷ rows) e = omega arith
+
+-- ---- the replies
+
+entries-octets : (id : ℕ) (request : SearchRequest) (rows : View) → replies_octets id (map (sent_entry request.selection request.kinds_only) rows) ≡ flat_map (entry_octets id request) rows
+entries-octets id request rows = flat_map-map (reply_octets id) (sent_entry request.selection request.kinds_only) rows
+
+found-filled : (id : ℕ) (view all : View) (request : SearchRequest) (base : RdnSequence) → is_filled all ≡ true
+    → replies_octets id (found_replies view request base all) ≡ flat_map (entry_octets id request) (within_limit request.size all) ++ replies_octets id (reply.Done (result_of (limit_code request.size all)) ∷ [])
+unfolding found_replies
+found-filled id view [] request base h = absurd cc
+found-filled id view (first ∷ rest) request base h =
+    flat_map-append (reply_octets id) (map (sent_entry request.selection request.kinds_only) (within_limit request.size (first ∷ rest))) (reply.Done (result_of (limit_code request.size (first ∷ rest))) ∷ [])
+    ∙ ap (λ entries. entries ++ replies_octets id (reply.Done (result_of (limit_code request.size (first ∷ rest))) ∷ [])) (entries-octets id request (within_limit request.size (first ∷ rest)))
+
+-- what was sent, and how the search ended
+pub found-replies : (id : ℕ) (view all : View) (request : SearchRequest) (base : RdnSequence) (before middle after : List ℕ) (found : Found)
+    → IsSent request.size (entry_octets id request) all before middle found → after ≡ middle ++ replies_octets id (reply.Done (ended_by view base found) ∷ [])
+    → after ≡ before ++ replies_octets id (found_replies view request base all)
+unfolding found_replies
+found-replies id view all request base before middle after Nothing sent put =
+    put
+    ∙ ap (λ out. out ++ replies_octets id (reply.Done (ended_by view base Nothing) ∷ [])) sent.1
+    ∙ ap (λ (rows : View). before ++ replies_octets id (found_replies view request base rows)) (sym sent.0)
+found-replies id view all request base before middle after FoundSome sent put =
+    put
+    ∙ ap (λ out. out ++ replies_octets id (reply.Done (result_of code.Success) ∷ [])) sent.0.1
+    ∙ append_assoc before (flat_map (entry_octets id request) (within_limit request.size all)) (replies_octets id (reply.Done (result_of code.Success) ∷ []))
+    ∙ ap (λ last. before ++ (flat_map (entry_octets id request) (within_limit request.size all) ++ replies_octets id (reply.Done (result_of last) ∷ []))) (sym sent.1)
+    ∙ ap (λ octets. before ++ octets) (sym (found-filled id view all request base sent.0.0))
+found-replies id view all request base before middle after TooMany sent put =
+    put
+    ∙ ap (λ out. out ++ replies_octets id (reply.Done (result_of code.SizeLimitExceeded) ∷ [])) sent.0.1
+    ∙ append_assoc before (flat_map (entry_octets id request) (within_limit request.size all)) (replies_octets id (reply.Done (result_of code.SizeLimitExceeded) ∷ []))
+    ∙ ap (λ last. before ++ (flat_map (entry_octets id request) (within_limit request.size all) ++ replies_octets id (reply.Done (result_of last) ∷ []))) (sym sent.1)
+    ∙ ap (λ octets. before ++ octets) (sym (found-filled id view all request base sent.0.0))
+
+-- ---- a step
+
+pub goes-on : (limit : ℕ) (octets : Row → List ℕ) (rows : View) (sent new : Sent) (out after : List ℕ) (goes : Bool) → not goes ≡ false → Goes limit octets rows sent out new after goes
+    → (all left : View) (before : List ℕ) → Sends limit octets all (rows ++ left) before sent out → Sends limit octets all left before new after
+goes-on limit octets rows sent new out after true e h all left before k = h all left before k
+goes-on limit octets rows sent new out after false e h all left before k = absurd cc
+
+pub stops : (limit : ℕ) (octets : Row → List ℕ) (rows : View) (sent new : Sent) (out after : List ℕ) (goes : Bool) → not goes ≡ true → Goes limit octets rows sent out new after goes
+    → (all left : View) (before : List ℕ) → Sends limit octets all (rows ++ left) before sent out → IsSent limit octets all before after TooMany
+stops limit octets rows sent new out after true e h all left before k = absurd cc
+stops limit octets rows sent new out after false e h all left before k = sent-many limit octets all rows left before sent out after h k
+
+-- ---- what is there stays
+
+pub extends-either : {T E : Type 0} (result : Result T E) (old new added : List ℕ) → OnOk result (new ≡ old ++ added) → OnErr result (new ≡ old) → Extends old new
+extends-either (Ok x) old new added e f = record { added = added; grows = e }
+extends-either (Err x) old new added e f = record { added = []; grows = f ∙ sym (append-nil old) }
+
+pub extends-same : (old new : List ℕ) → new ≡ old → Extends old new
+extends-same old new e = record { added = []; grows = e ∙ sym (append-nil old) }
+
+pub extends-both : (old middle new : List ℕ) → Extends old middle → Extends middle new → Extends old new
+extends-both old middle new e f = record {
+  added = e.added ++ f.added;
+  grows = f.grows ∙ ap (λ front. front ++ f.added) e.grows ∙ append_assoc old e.added f.added;
+}

@@ -1,0 +1,11 @@
+-- The values so far were copied that may be read.
+use Rattle.std.proofs.Common.{◌≡◌, take, map, filter}
+use Rattle.acdf_filters.specs.Asking.{Value}
+use Rattle.aci_item.specs.declared.permission.Permission.TheVariants.{Read}
+use Rattle.op_read.specs.Seeing.{row_in}
+use Rattle.op_read.proofs.choosing.readable_values.Given as goal
+
+abbrev pub invariant-loop-value : goal.invariant-loop-value
+invariant-loop-value g l =
+    l.copies.items ≡ map (λ value. value.octets)
+    (filter (λ value. (row_in (g.D.Dir.rows l.seen.dir.now) l.seen.who.now l.seen.entry.now).allows (Value l.kind.0 value) Read) (take l.value-index l.values))

@@ -1,0 +1,39 @@
+-- The root DSE alone is found by the empty name.
+use Rattle.std.proofs.Common.{◌∙◌, ◌++◌, ◌∷◌, [], List, ap}
+use Rattle.std.specs.Prelude.{if◌then◌else◌}
+use Rattle.std.proofs.lemmas.Result.{on_ok_weaker}
+use Rattle.ldap_msg.specs.declared.kinds.LdapResult.{LdapResult}
+use Rattle.ldap_msg.specs.declared.kinds.Reply.{Reply}
+use Rattle.ldap_msg.specs.declared.kinds.Reply.TheVariants as reply
+use Rattle.ldap_msg.specs.declared.operations.ResultCode.TheVariants as code
+use Rattle.read_model.specs.Views.{result_of}
+use Rattle.read_model.specs.RootEntry.{finds_root, root_entry, root_replies}
+use Rattle.read_model.specs.SearchReplies.{replies_octets}
+use Rattle.op_read.specs.Seeing.{view_in}
+use Rattle.op_read.proofs.AnsweringLemmas.{root-elsewhere, root-here, replies-behind}
+use Rattle.op_read.proofs.searching.put_root_replies.Goals as goal
+
+-- no entry has the empty name
+pub returns-then-asked-ne0-clause-ok : goal.returns-then-asked-ne0-clause-ok
+returns-then-asked-ne0-clause-ok g c =
+    let view = view_in (g.D.Dir.rows c.args.asking.now.dir.now) c.args.asking.now.who.now in
+    on_ok_weaker c.put_done.result
+    (λ put.
+    put
+    ∙ ap (λ (ended : LdapResult). c.args.out.now.items ++ replies_octets c.args.asked.id (reply.Done ended ∷ [])) c.result_of.ensures.exact
+    ∙ ap (λ (replies : List Reply). c.args.out.now.items ++ replies_octets c.args.asked.id replies) (root-elsewhere view c.args.asked.request.now c.args.asked.subentries c.if-asked-ne0.true))
+    c.put_done.ensures.ok
+
+-- the base alone
+pub returns-clause-ok : goal.returns-clause-ok
+returns-clause-ok g c =
+    let view = view_in (g.D.Dir.rows c.args.asking.now.dir.now) c.args.asking.now.who.now in
+    let request = c.args.asked.request.now in
+    let found : List Reply = if finds_root request c.args.asked.subentries then root_entry view request ∷ [] else [] in
+    on_ok_weaker c.put_done-2.result
+    (λ put.
+    replies-behind c.args.asked.id c.args.out.now.items c.put_root.new.out.items c.put_done-2.new.out.items found (reply.Done (result_of code.Success) ∷ []) (root_replies view request c.args.asked.subentries)
+    c.in_ok-put_root.ensures.ok
+    (root-here view request c.args.asked.subentries c.if-asked-ne0.false)
+    (put ∙ ap (λ (ended : LdapResult). c.put_root.new.out.items ++ replies_octets c.args.asked.id (reply.Done ended ∷ [])) c.result_of-2.ensures.exact))
+    c.put_done-2.ensures.ok

@@ -1,0 +1,18 @@
+-- One more is sent: without a limit, or within it.
+use Rattle.std.proofs.Common.{refl, arith}
+use Rattle.op_read.specs.Seeing.{row_in}
+use Rattle.op_read.specs.Sending.{entry_octets}
+use Rattle.op_read.proofs.SendingLemmas.{sends-free, sends-within}
+use Rattle.op_read.proofs.sending.send.Goals as goal
+
+pub returns-then-search-eq0-clause-ok : goal.returns-then-search-eq0-clause-ok
+returns-then-search-eq0-clause-ok g c =
+    sends-free c.args.search.now.request.now.size (entry_octets c.args.search.now.id c.args.search.now.request.now)
+    (row_in (g.D.Dir.rows c.args.seen.now.dir.now) c.args.seen.now.who.now c.args.seen.now.entry.now)
+    c.args.sent.now _ c.args.out.now.items c.put_entry.new.out.items c.if-search-eq0.true refl c.in_ok-put_entry.ensures.ok
+
+pub returns-clause-ok : goal.returns-clause-ok
+returns-clause-ok g c =
+    sends-within c.args.search.now.request.now.size (entry_octets c.args.search.now.id c.args.search.now.request.now)
+    (row_in (g.D.Dir.rows c.args.seen.now.dir.now) c.args.seen.now.who.now c.args.seen.now.entry.now)
+    c.args.sent.now _ c.args.out.now.items c.put_entry-2.new.out.items c.if-search-eq0.false refl (omega arith) c.in_ok-put_entry-2.ensures.ok

@@ -1,0 +1,5 @@
+-- for the inside of the crate alone
+pub mod Seeing
+pub mod Choices
+pub mod Rooting
+pub mod Sending

@@ -1,0 +1,64 @@
+-- What a search sends, one entry after the other.
+use Rattle.std.specs.Prelude.{◌≡◌, ◌≢◌, ℕ, ◌+◌, Bool, true, false, List, [], ◌∷◌, ◌++◌, length, filter, flat_map}
+use Rattle.dir_tree.specs.Entries.{EntryInformation}
+use Rattle.dir_tree.specs.Numbered.{Numbered, entry_of}
+use Rattle.dn_names.specs.Names.{RdnSequence}
+use Rattle.acdf_filters.specs.declared.asking.Requester.{Requester}
+use Rattle.ldap_msg.specs.declared.operations.ResultCode.TheVariants as code
+use Rattle.ldap_msg.specs.declared.kinds.LdapResult.{LdapResult}
+use Rattle.ldap_msg.specs.declared.kinds.SearchRequest.{SearchRequest}
+use Rattle.ldap_msg.specs.Replies.{reply_octets}
+use Rattle.read_model.specs.Views.{Row, View, result_of}
+use Rattle.read_model.specs.Selecting.{is_shown}
+use Rattle.read_model.specs.Choosing.{sent_entry}
+use Rattle.read_model.specs.SearchReplies.{within_limit, limit_code, nothing_found}
+use Rattle.op_read.specs.declared.sending.Sent.{Sent}
+use Rattle.op_read.specs.declared.sending.Found.{Found}
+use Rattle.op_read.specs.declared.sending.Found.TheVariants.{Nothing, Some as FoundSome, TooMany}
+use Rattle.op_read.specs.Seeing.{row_in, one_or_none}
+
+-- there are some
+abbrev pub is_filled : View → Bool
+is_filled [] = false
+is_filled (row ∷ rows) = true
+
+-- the entry of a number, if it is shown
+abbrev pub shown_at : (Row → Bool) → List Numbered → Requester → ℕ → View
+shown_at test rows who id = filter test (one_or_none (row_in rows who) (entry_of id rows))
+
+-- those of numbers
+abbrev pub shown_among : (Row → Bool) → List Numbered → Requester → List ℕ → View
+shown_among test rows who ids = flat_map (shown_at test rows who) ids
+
+-- the octets of an entry as it is sent
+abbrev pub entry_octets : ℕ → SearchRequest → Row → List ℕ
+entry_octets id request row = reply_octets id (sent_entry request.selection request.kinds_only row)
+
+-- of all that are found some were sent and these are left: how many more may be sent, if there is a limit
+pub record Sends (limit : ℕ) (octets : Row → List ℕ) (all left : View) (before : List ℕ) (sent : Sent) (after : List ℕ) : Type 0 where
+  pub rows : View
+  pub whole : all ≡ rows ++ left
+  pub put : after ≡ before ++ flat_map octets rows
+  pub some : sent.some ≡ is_filled rows
+  pub room : limit ≢ 0 → length rows + sent.room ≡ limit
+
+-- a step of a search: these are sent, or there is one that may not be
+abbrev pub Goes : ℕ → (Row → List ℕ) → View → Sent → List ℕ → Sent → List ℕ → Bool → Type 0
+Goes limit octets rows sent out sent_new out_new true =
+    (all left : View) (before : List ℕ) → Sends limit octets all (rows ++ left) before sent out → Sends limit octets all left before sent_new out_new
+Goes limit octets rows sent out sent_new out_new false = (is_filled rows ≡ true) × (limit ≢ 0) × (sent.room ≡ 0) × (out_new ≡ out)
+
+-- all that are found were sent, as far as the limit allows
+abbrev pub SendsAll : ℕ → (Row → List ℕ) → View → List ℕ → List ℕ → Type 0
+SendsAll limit octets all before after = (is_filled all ≡ true) × (after ≡ before ++ flat_map octets (within_limit limit all))
+
+abbrev pub IsSent : ℕ → (Row → List ℕ) → View → List ℕ → List ℕ → Found → Type 0
+IsSent limit octets all before after Nothing = (all ≡ []) × (after ≡ before)
+IsSent limit octets all before after FoundSome = SendsAll limit octets all before after × (limit_code limit all ≡ code.Success)
+IsSent limit octets all before after TooMany = SendsAll limit octets all before after × (limit_code limit all ≡ code.SizeLimitExceeded)
+
+-- how the search ends then
+abbrev pub ended_by : View → RdnSequence → Found → LdapResult
+ended_by view base Nothing = nothing_found view base
+ended_by view base FoundSome = result_of code.Success
+ended_by view base TooMany = result_of code.SizeLimitExceeded

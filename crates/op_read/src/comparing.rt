@@ -1,0 +1,214 @@
+//! Compares.
+
+ghost use Rattle.std.specs.Prelude.{◌≡◌, ◌&&◌, Some, None, IfOk, filter, []};
+ghost use Rattle.std.specs.Str.{bytes_eq};
+ghost use Rattle.schema_core.specs.Attributes.{IsAttrId, attr_of};
+ghost use Rattle.dn_names.specs.NameValues.{value_of};
+ghost use Rattle.dir_tree.specs.Numbered.{entries_of};
+ghost use Rattle.acdf_filters.specs.Asking as protected;
+ghost use Rattle.aci_item.specs.declared.permission.Permission.TheVariants as permission;
+ghost use Rattle.read_model.specs.Views.{view_of, result_of};
+ghost use Rattle.read_model.specs.CompareReplies.{has_equal, compared, readable, compared_in, compared_value, compared_kind, compare_result};
+ghost use Rattle.op_read.specs.Seeing.{view_in, row_in, rows_at};
+
+use crate::asking::{Asking, Seen};
+use crate::hiding::hidden;
+use crate::results::result_of;
+use crate::texts::read_named;
+use acdf_filters::{Item, Requester};
+use acdf_lists::Dir;
+use aci_item::Permission;
+use dir_tree::{EntryNo, NoMemory};
+use dn_names::{Dn, Value, make_value};
+use ldap_msg::{CompareRequest, LdapResult, ResultCode};
+use match_rules::PrepareFault;
+use schema_core::{AttrId, attr_named};
+use std::alloc::{AllocError, Global};
+
+// Whether the value is the one asserted, and may be compared; the decision is taken last.
+fn is_equal<D: Dir>(seen: &Seen<'_, D>, kind: AttrId, asserted: &Value, value: &Value) -> bool
+    ensures exact { result ≡ (bytes_eq asserted.now.key value.now.key
+        && (row_in (D.rows seen.now.dir.now) seen.now.who.now seen.now.entry.now).allows
+        (protected.Value kind.0 value.now) permission.Compare) }
+{
+    asserted.key() == value.key() && seen.allows(Item::Value(kind, value), Permission::Compare)
+}
+
+// Whether the entry has a value that is the one asserted, and may be compared.
+fn has_equal<D: Dir>(seen: &Seen<'_, D>, kind: AttrId, asserted: &Value) -> bool
+    ensures exact { result ≡ has_equal kind.0 asserted.now
+        (row_in (D.rows seen.now.dir.now) seen.now.who.now seen.now.entry.now) }
+{
+    seen.entry
+        .values(kind)
+        .iter()
+        .any(|value| is_equal(seen, kind, asserted, value))
+}
+
+// How the compare of the entry ends.
+#[tactic(auto, unfolding(read_model::specs::CompareReplies::compared))]
+fn compared<D: Dir>(seen: &Seen<'_, D>, kind: AttrId, asserted: &Value) -> ResultCode
+    ensures exact { result_of result ≡ compared kind.0 asserted.now
+        (row_in (D.rows seen.now.dir.now) seen.now.who.now seen.now.entry.now) }
+{
+    if !seen.allows(Item::Kind(kind), Permission::Compare) {
+        if seen.allows(Item::Kind(kind), Permission::DiscloseOnError) {
+            ResultCode::InsufficientAccessRights
+        } else {
+            ResultCode::NoSuchAttribute
+        }
+    } else if !seen.entry.has_kind(kind) {
+        ResultCode::NoSuchAttribute
+    } else if has_equal(seen, kind, asserted) {
+        ResultCode::CompareTrue
+    } else {
+        ResultCode::CompareFalse
+    }
+}
+
+// The entry of the name, if it may be read.
+fn find_readable<D: Dir>(asking: &Asking<'_, D>, name: &Dn) -> Option<EntryNo>
+    ensures exact { filter (readable name.now) (view_in (D.rows asking.now.dir.now) asking.now.who.now)
+        ≡ rows_at (D.rows asking.now.dir.now) asking.now.who.now result }
+{
+    let tree = asking.dir.tree();
+    tree.entries_form_a_tree();
+    let number = tree.find(name)?;
+    if asking.allows(number, Item::Entry, Permission::Read) {
+        Some(number)
+    } else {
+        None
+    }
+}
+
+// The same of the entry of the number, if there is one: the name is hidden where there is none.
+fn compare_at<D: Dir>(
+    alloc: Global,
+    asking: &Asking<'_, D>,
+    name: &Dn,
+    kind: AttrId,
+    asserted: &Value,
+    number: Option<EntryNo>,
+) -> Result<LdapResult, NoMemory>
+    ensures ok { IfOk result (λ ended. ended ≡ compared_in (view_in (D.rows asking.now.dir.now) asking.now.who.now)
+        name.now kind.0 asserted.now (rows_at (D.rows asking.now.dir.now) asking.now.who.now number)) }
+{
+    let Some(number) = number else {
+        return hidden(alloc, asking, name);
+    };
+    match asking.dir.tree().at(number) {
+        Some(entry) => {
+            let seen = Seen {
+                dir: asking.dir,
+                who: asking.who,
+                known: asking.known,
+                number,
+                entry,
+            };
+            Ok(result_of(alloc, compared(&seen, kind, asserted)))
+        }
+        None => hidden(alloc, asking, name),
+    }
+}
+
+// A compare with a value.
+fn compare_entry<D: Dir>(
+    alloc: Global,
+    asking: &Asking<'_, D>,
+    name: &Dn,
+    kind: AttrId,
+    asserted: &Value,
+) -> Result<LdapResult, NoMemory>
+    ensures ok { IfOk result (λ ended. ended
+        ≡ compared_value (view_in (D.rows asking.now.dir.now) asking.now.who.now) name.now kind.0 (Some asserted.now)) }
+{
+    if name.len() == 0 {
+        return Ok(result_of(alloc, ResultCode::UnwillingToPerform));
+    }
+    let number = find_readable(asking, name);
+    compare_at(alloc, asking, name, kind, asserted, number)
+}
+
+// The value of a type; None where the octets are not of its syntax.
+fn value_asserted(alloc: Global, kind: AttrId, octets: &[u8]) -> Result<Option<Value>, NoMemory>
+    requires { IsAttrId kind.0 }
+    ensures ok { IfOk result (λ value. value ≡ value_of kind.0 octets.now) }
+{
+    let octets = octets.to_vec(alloc)?;
+    match make_value(alloc, kind, octets) {
+        Ok(value) => Ok(Some(value)),
+        Err(PrepareFault::NotOfSyntax) => Ok(None),
+        Err(PrepareFault::NoMemory) => Err(AllocError),
+    }
+}
+
+// A compare with a type.
+fn compare_value<D: Dir>(
+    alloc: Global,
+    asking: &Asking<'_, D>,
+    name: &Dn,
+    kind: AttrId,
+    octets: &[u8],
+) -> Result<LdapResult, NoMemory>
+    requires { IsAttrId kind.0 }
+    ensures ok { IfOk result (λ ended. ended ≡ compared_value (view_in (D.rows asking.now.dir.now) asking.now.who.now)
+        name.now kind.0 (value_of kind.0 octets.now)) }
+{
+    match value_asserted(alloc, kind, octets)? {
+        Some(value) => compare_entry(alloc, asking, name, kind, &value),
+        None => Ok(result_of(alloc, ResultCode::InvalidAttributeSyntax)),
+    }
+}
+
+// A compare with a name.
+fn compare_named<D: Dir>(
+    alloc: Global,
+    asking: &Asking<'_, D>,
+    name: &Dn,
+    request: &CompareRequest,
+) -> Result<LdapResult, NoMemory>
+    ensures ok { IfOk result (λ ended. ended ≡ compared_kind (view_in (D.rows asking.now.dir.now) asking.now.who.now)
+        name.now request.now.value (attr_of request.now.kind)) }
+{
+    match attr_named(request.kind.as_slice()) {
+        Some(kind) => compare_value(alloc, asking, name, kind, request.value.as_slice()),
+        None => Ok(result_of(alloc, ResultCode::UndefinedAttributeType)),
+    }
+}
+
+// A compare, the groups of whose requester are known.
+#[tactic(auto, unfolding(read_model::specs::CompareReplies::compare_result))]
+fn compare_known<D: Dir>(
+    alloc: Global,
+    asking: &Asking<'_, D>,
+    request: &CompareRequest,
+) -> Result<LdapResult, NoMemory>
+    ensures ok { IfOk result (λ ended. ended
+        ≡ compare_result (view_in (D.rows asking.now.dir.now) asking.now.who.now) request.now) }
+{
+    match read_named(alloc, request.name.as_slice())? {
+        Some(name) => compare_named(alloc, asking, &name, request),
+        None => Ok(result_of(alloc, ResultCode::InvalidDnSyntax)),
+    }
+}
+
+/// The result of a compare (RFC 4511 4.10, X.511 9.2): `compareTrue` where the entry has an equal value that the
+/// requester may compare, `compareFalse` where it has none. What the requester may not know is answered as what is not
+/// there. The error comes where memory is wanted.
+pub fn compare<D: Dir>(
+    alloc: Global,
+    dir: &D,
+    who: &Requester,
+    request: &CompareRequest,
+) -> Result<LdapResult, NoMemory>
+    ensures ok { IfOk result (λ found. found
+        ≡ compare_result (view_of (entries_of (D.rows dir.now)) who.now) request.now) }
+{
+    let known = dir.memberships(alloc, who)?;
+    let asking = Asking {
+        dir,
+        who,
+        known: &known,
+    };
+    compare_known(alloc, &asking, request)
+}

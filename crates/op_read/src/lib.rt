@@ -1,0 +1,16 @@
+//! Searches and compares answered (RFC 4511 4.5 and 4.10, X.511 9.2 and 10.2), over any directory that decides.
+#![tactic(auto)]
+
+mod asking;
+mod choosing;
+mod comparing;
+mod hiding;
+mod results;
+mod root_entry;
+mod searching;
+mod selecting;
+mod sending;
+mod texts;
+
+pub use comparing::compare;
+pub use searching::search;

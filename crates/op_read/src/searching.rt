@@ -1,0 +1,255 @@
+//! Searches.
+
+ghost use Rattle.std.specs.Prelude.{◌≡◌, ◌++◌, ◌∷◌, [], Some, Ok, OnOk, OnErr, if◌then◌else◌};
+ghost use Rattle.dir_tree.specs.Numbered.{IsNumberedTree, entries_of, find_name};
+ghost use Rattle.ber_layout.specs.Spellings.{Extends};
+ghost use Rattle.ldap_msg.specs.declared.kinds.Reply.TheVariants as reply;
+ghost use Rattle.read_model.specs.Views.{view_of, hidden};
+ghost use Rattle.read_model.specs.Selecting.{selected};
+ghost use Rattle.read_model.specs.RootEntry.{finds_root, root_entry, root_replies};
+ghost use Rattle.read_model.specs.SearchReplies.{replies_octets, found_replies, replies_at, replies_by, search_replies};
+ghost use Rattle.op_read.specs.Seeing.{view_in};
+
+use crate::asking::Asking;
+use crate::choosing::{Selection, read_choices};
+use crate::hiding::hidden;
+use crate::results::result_of;
+use crate::root_entry::{finds_root, root_entry};
+use crate::sending::{Search, ended_by, put_done, put_found};
+use crate::texts::read_named;
+use acdf_filters::Requester;
+use acdf_lists::Dir;
+use dir_tree::{EntryNo, NoMemory};
+use dn_names::Dn;
+use filter_core::prepare_filter;
+use ldap_msg::{ResultCode, SearchRequest, put_reply};
+use std::alloc::Global;
+
+/// A request to search, with the number of its message and what the control of subentries says (RFC 3672 3).
+#[derive(Clone, Copy)]
+struct Asked<'a> {
+    id: u32,
+    request: &'a SearchRequest,
+    subentries: Option<bool>,
+}
+
+// Appends the replies to a search from the entry of the number on, which has the name.
+fn put_selected<D: Dir>(
+    alloc: Global,
+    asking: &Asking<'_, D>,
+    search: &Search<'_>,
+    base: &Dn,
+    number: EntryNo,
+    out: &mut Vec<u8>,
+) -> Result<(), NoMemory>
+    requires tree { IsNumberedTree (D.rows asking.now.dir.now) }
+    requires found { find_name base.now (D.rows asking.now.dir.now) ≡ Some number.0 }
+    ensures ok { OnOk result (out.new.items ≡ out.old.items ++ replies_octets search.now.id
+        (found_replies (view_in (D.rows asking.now.dir.now) asking.now.who.now) search.now.request.now base.now
+        (selected (view_in (D.rows asking.now.dir.now) asking.now.who.now) search.now.request.now
+        search.now.subentries base.now))) }
+    ensures kept { Extends out.old.items out.new.items }
+{
+    let found = put_found(alloc, asking, search, number, out)?;
+    let ended = ended_by(alloc, asking, base, found)?;
+    put_done(search.id, ended, out)
+}
+
+// The same with what is made of the request.
+fn put_from<D: Dir>(
+    alloc: Global,
+    asking: &Asking<'_, D>,
+    asked: Asked<'_>,
+    base: &Dn,
+    number: EntryNo,
+    out: &mut Vec<u8>,
+) -> Result<(), NoMemory>
+    requires tree { IsNumberedTree (D.rows asking.now.dir.now) }
+    requires found { find_name base.now (D.rows asking.now.dir.now) ≡ Some number.0 }
+    ensures ok { OnOk result (out.new.items ≡ out.old.items ++ replies_octets asked.entry.id
+        (found_replies (view_in (D.rows asking.now.dir.now) asking.now.who.now) asked.entry.request.now base.now
+        (selected (view_in (D.rows asking.now.dir.now) asking.now.who.now) asked.entry.request.now
+        asked.entry.subentries base.now))) }
+    ensures kept { Extends out.old.items out.new.items }
+{
+    let filter = prepare_filter(alloc, &asked.request.filter)?;
+    let choices = read_choices(alloc, asked.request.selection.as_slice())?;
+    let selection = Selection {
+        choices: &choices,
+        kinds_only: asked.request.kinds_only,
+    };
+    let search = Search {
+        id: asked.id,
+        request: asked.request,
+        subentries: asked.subentries,
+        filter: &filter,
+        selection,
+    };
+    put_selected(alloc, asking, &search, base, number, out)
+}
+
+// Appends that the base is hidden.
+fn put_hidden<D: Dir>(
+    alloc: Global,
+    asking: &Asking<'_, D>,
+    asked: Asked<'_>,
+    base: &Dn,
+    out: &mut Vec<u8>,
+) -> Result<(), NoMemory>
+    ensures ok { OnOk result (out.new.items ≡ out.old.items ++ replies_octets asked.entry.id
+        (reply.Done (hidden (view_in (D.rows asking.now.dir.now) asking.now.who.now) base.now) ∷ [])) }
+    ensures kept { Extends out.old.items out.new.items }
+{
+    let ended = hidden(alloc, asking, base)?;
+    put_done(asked.id, ended, out)
+}
+
+// Appends the replies to a search of a name.
+fn put_at<D: Dir>(
+    alloc: Global,
+    asking: &Asking<'_, D>,
+    asked: Asked<'_>,
+    base: &Dn,
+    out: &mut Vec<u8>,
+) -> Result<(), NoMemory>
+    ensures ok { OnOk result (out.new.items ≡ out.old.items ++ replies_octets asked.entry.id
+        (replies_at (view_in (D.rows asking.now.dir.now) asking.now.who.now) asked.entry.request.now
+        asked.entry.subentries base.now)) }
+    ensures kept { Extends out.old.items out.new.items }
+{
+    let tree = asking.dir.tree();
+    tree.entries_form_a_tree();
+    match tree.find(base) {
+        Some(number) => put_from(alloc, asking, asked, base, number, out),
+        None => put_hidden(alloc, asking, asked, base, out),
+    }
+}
+
+// Appends the root DSE, if the search finds it.
+fn put_root<D: Dir>(
+    alloc: Global,
+    asking: &Asking<'_, D>,
+    asked: Asked<'_>,
+    out: &mut Vec<u8>,
+) -> Result<(), NoMemory>
+    ensures ok { OnOk result (out.new.items ≡ out.old.items ++ replies_octets asked.entry.id
+        (if finds_root asked.entry.request.now asked.entry.subentries
+        then root_entry (view_in (D.rows asking.now.dir.now) asking.now.who.now) asked.entry.request.now ∷ [] else [])) }
+    ensures kept { Extends out.old.items out.new.items }
+{
+    if finds_root(asked.request, asked.subentries) {
+        let reply = root_entry(alloc, asking, asked.request)?;
+        return put_reply(out, asked.id, &reply);
+    }
+    Ok(())
+}
+
+// Appends the replies to a search of the empty name.
+fn put_root_replies<D: Dir>(
+    alloc: Global,
+    asking: &Asking<'_, D>,
+    asked: Asked<'_>,
+    out: &mut Vec<u8>,
+) -> Result<(), NoMemory>
+    ensures ok { OnOk result (out.new.items ≡ out.old.items ++ replies_octets asked.entry.id
+        (root_replies (view_in (D.rows asking.now.dir.now) asking.now.who.now) asked.entry.request.now
+        asked.entry.subentries)) }
+    ensures kept { Extends out.old.items out.new.items }
+{
+    if asked.request.scope != 0 {
+        return put_done(asked.id, result_of(alloc, ResultCode::NoSuchObject), out);
+    }
+    put_root(alloc, asking, asked, out)?;
+    put_done(asked.id, result_of(alloc, ResultCode::Success), out)
+}
+
+// Appends the replies to a search whose base is a name.
+fn put_named<D: Dir>(
+    alloc: Global,
+    asking: &Asking<'_, D>,
+    asked: Asked<'_>,
+    base: &Dn,
+    out: &mut Vec<u8>,
+) -> Result<(), NoMemory>
+    ensures ok { OnOk result (out.new.items ≡ out.old.items ++ replies_octets asked.entry.id
+        (replies_by (view_in (D.rows asking.now.dir.now) asking.now.who.now) asked.entry.request.now
+        asked.entry.subentries (Ok base.now))) }
+    ensures kept { Extends out.old.items out.new.items }
+{
+    if base.len() == 0 {
+        return put_root_replies(alloc, asking, asked, out);
+    }
+    put_at(alloc, asking, asked, base, out)
+}
+
+// Appends the replies to a search, the groups of whose requester are known.
+#[tactic(auto, unfolding(read_model::specs::SearchReplies::search_replies))]
+fn put_known<D: Dir>(
+    alloc: Global,
+    asking: &Asking<'_, D>,
+    asked: Asked<'_>,
+    out: &mut Vec<u8>,
+) -> Result<(), NoMemory>
+    ensures ok { OnOk result (out.new.items ≡ out.old.items ++ replies_octets asked.entry.id
+        (search_replies (view_in (D.rows asking.now.dir.now) asking.now.who.now) asked.entry.request.now
+        asked.entry.subentries)) }
+    ensures kept { Extends out.old.items out.new.items }
+{
+    match read_named(alloc, asked.request.base.as_slice())? {
+        Some(base) => put_named(alloc, asking, asked, &base, out),
+        None => put_done(asked.id, result_of(alloc, ResultCode::InvalidDnSyntax), out),
+    }
+}
+
+// Appends the replies to a search. After the error some of them may be there.
+fn put_replies<D: Dir>(
+    alloc: Global,
+    dir: &D,
+    who: &Requester,
+    asked: Asked<'_>,
+    out: &mut Vec<u8>,
+) -> Result<(), NoMemory>
+    ensures ok { OnOk result (out.new.items ≡ out.old.items ++ replies_octets asked.entry.id
+        (search_replies (view_of (entries_of (D.rows dir.now)) who.now) asked.entry.request.now asked.entry.subentries)) }
+    ensures kept { Extends out.old.items out.new.items }
+{
+    let known = dir.memberships(alloc, who)?;
+    let asking = Asking {
+        dir,
+        who,
+        known: &known,
+    };
+    put_known(alloc, &asking, asked, out)
+}
+
+/// Appends the replies to a search (RFC 4511 4.5, X.511 10.2): the entries that are selected, in the order of names and up
+/// to the limit of the request, and how the search ended. What the requester may not know of is answered as what is not
+/// there. `subentries` is what the control of subentries says, where it goes with the request (RFC 3672 3). The error
+/// comes for want of memory alone, and then `out` is as before.
+pub fn search<D: Dir>(
+    alloc: Global,
+    dir: &D,
+    who: &Requester,
+    id: u32,
+    request: &SearchRequest,
+    subentries: Option<bool>,
+    out: &mut Vec<u8>,
+) -> Result<(), NoMemory>
+    ensures ok { OnOk result (out.new.items ≡ out.old.items ++ replies_octets id
+        (search_replies (view_of (entries_of (D.rows dir.now)) who.now) request.now subentries)) }
+    ensures err { OnErr result (out.new.items ≡ out.old.items) }
+{
+    let before = out.len();
+    let asked = Asked {
+        id,
+        request,
+        subentries,
+    };
+    match put_replies(alloc, dir, who, asked, out) {
+        Ok(()) => Ok(()),
+        Err(fault) => {
+            out.truncate(before);
+            Err(fault)
+        }
+    }
+}

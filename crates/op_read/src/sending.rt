@@ -1,0 +1,237 @@
+//! What a search sends.
+
+ghost use Rattle.std.specs.Prelude.{◌≡◌, ◌++◌, ◌∷◌, [], ℕ, IfOk, OnOk, filter};
+ghost use Rattle.std.specs.List.{list_any};
+ghost use Rattle.dir_tree.specs.Scopes.{scoped};
+ghost use Rattle.ber_layout.specs.Spellings.{Extends};
+ghost use Rattle.ldap_msg.specs.declared.kinds.Reply.TheVariants as reply;
+ghost use Rattle.read_model.specs.Selecting.{is_shown};
+ghost use Rattle.read_model.specs.Choosing.{is_chosen};
+ghost use Rattle.read_model.specs.SearchReplies.{replies_octets, nothing_found};
+ghost use Rattle.op_read.specs.Choices.{chooses};
+ghost use Rattle.op_read.specs.Seeing.{row_in, view_in, scope_of};
+ghost use Rattle.op_read.specs.Sending.{shown_at, shown_among, entry_octets, Goes, IsSent, ended_by};
+
+use crate::asking::{Asking, Seen};
+use crate::choosing::{Selection, sent_entry};
+use crate::hiding::{discloses, no_such_object};
+use crate::results::result_of;
+use crate::selecting::{is_found, is_seen, scope_of};
+use acdf_lists::Dir;
+use dir_tree::{EntryNo, NoMemory};
+use dn_names::Dn;
+use filter_core::Prepared;
+use ldap_msg::{LdapResult, Reply, ResultCode, SearchRequest, put_reply};
+use std::alloc::Global;
+
+/// A search, with what is made of its request once for all entries.
+#[derive(Drop)]
+pub(crate) struct Search<'a> {
+    /// The number of the message.
+    pub(crate) id: u32,
+    pub(crate) request: &'a SearchRequest,
+    pub(crate) subentries: Option<bool>,
+    pub(crate) filter: &'a Prepared<'a>,
+    pub(crate) selection: Selection<'a>,
+    ghost filtering: { filter.now ≡ request.now.filter },
+    ghost types: { (kind : ℕ) → list_any (chooses kind) selection.choices.now ≡ is_chosen request.now.selection kind },
+    ghost values: { selection.kinds_only ≡ request.now.kinds_only },
+}
+
+/// What was sent so far.
+#[derive(Clone, Copy)]
+pub(crate) struct Sent {
+    /// Whether there is an entry among it.
+    pub(crate) some: bool,
+    /// How many more entries may be sent, where there is a limit.
+    pub(crate) room: u32,
+}
+
+/// What a search has found.
+#[derive(Clone, Copy)]
+pub(crate) enum Found {
+    /// No entry.
+    Nothing,
+    /// Entries, which all were sent.
+    Some,
+    /// More entries than may be sent.
+    TooMany,
+}
+
+/// Appends how the search ended. After the error, want of memory, `out` is as before.
+pub(crate) fn put_done(id: u32, ended: LdapResult, out: &mut Vec<u8>) -> Result<(), NoMemory>
+    ensures ok { OnOk result (out.new.items ≡ out.old.items ++ replies_octets id (reply.Done ended ∷ [])) }
+    ensures kept { Extends out.old.items out.new.items }
+{
+    put_reply(out, id, &Reply::Done(ended))
+}
+
+// Appends the entry. After the error, want of memory, `out` is as before.
+fn put_entry<D: Dir>(
+    alloc: Global,
+    search: &Search<'_>,
+    seen: &Seen<'_, D>,
+    out: &mut Vec<u8>,
+) -> Result<(), NoMemory>
+    ensures ok { OnOk result (out.new.items ≡ out.old.items ++ entry_octets search.now.id search.now.request.now
+        (row_in (D.rows seen.now.dir.now) seen.now.who.now seen.now.entry.now)) }
+    ensures kept { Extends out.old.items out.new.items }
+{
+    let reply = sent_entry(alloc, seen, search.selection)?;
+    put_reply(out, search.id, &reply)
+}
+
+// Whether the entry is selected, of those in the scope.
+fn is_shown<D: Dir>(search: &Search<'_>, seen: &Seen<'_, D>) -> bool
+    ensures exact { result ≡ is_shown search.now.request.now search.now.subentries
+        (row_in (D.rows seen.now.dir.now) seen.now.who.now seen.now.entry.now) }
+{
+    is_seen(search.request.scope, search.subentries, seen.entry) && is_found(search.filter, seen)
+}
+
+// Sends the entry, which is selected, where there is room for it. Answers whether there was.
+fn send<D: Dir>(
+    alloc: Global,
+    search: &Search<'_>,
+    seen: &Seen<'_, D>,
+    sent: &mut Sent,
+    out: &mut Vec<u8>,
+) -> Result<bool, NoMemory>
+    ensures ok { IfOk result (λ goes_on. Goes search.now.request.now.size
+        (entry_octets search.now.id search.now.request.now)
+        (row_in (D.rows seen.now.dir.now) seen.now.who.now seen.now.entry.now ∷ [])
+        sent.old out.old.items sent.new out.new.items goes_on) }
+    ensures kept { Extends out.old.items out.new.items }
+{
+    if search.request.size == 0 {
+        put_entry(alloc, search, seen, out)?;
+        sent.some = true;
+        return Ok(true);
+    }
+    if sent.room == 0 {
+        return Ok(false);
+    }
+    put_entry(alloc, search, seen, out)?;
+    sent.some = true;
+    sent.room -= 1;
+    Ok(true)
+}
+
+// Sends the entry if it is selected.
+fn offer<D: Dir>(
+    alloc: Global,
+    search: &Search<'_>,
+    seen: &Seen<'_, D>,
+    sent: &mut Sent,
+    out: &mut Vec<u8>,
+) -> Result<bool, NoMemory>
+    ensures ok { IfOk result (λ goes_on. Goes search.now.request.now.size
+        (entry_octets search.now.id search.now.request.now)
+        (filter (is_shown search.now.request.now search.now.subentries)
+        (row_in (D.rows seen.now.dir.now) seen.now.who.now seen.now.entry.now ∷ []))
+        sent.old out.old.items sent.new out.new.items goes_on) }
+    ensures kept { Extends out.old.items out.new.items }
+{
+    if is_shown(search, seen) {
+        send(alloc, search, seen, sent, out)
+    } else {
+        Ok(true)
+    }
+}
+
+// The same of the entry of the number, if there is one.
+fn offer_at<D: Dir>(
+    alloc: Global,
+    asking: &Asking<'_, D>,
+    search: &Search<'_>,
+    number: EntryNo,
+    sent: &mut Sent,
+    out: &mut Vec<u8>,
+) -> Result<bool, NoMemory>
+    ensures ok { IfOk result (λ goes_on. Goes search.now.request.now.size
+        (entry_octets search.now.id search.now.request.now)
+        (shown_at (is_shown search.now.request.now search.now.subentries)
+        (D.rows asking.now.dir.now) asking.now.who.now number.0)
+        sent.old out.old.items sent.new out.new.items goes_on) }
+    ensures kept { Extends out.old.items out.new.items }
+{
+    match asking.dir.tree().at(number) {
+        Some(entry) => {
+            let seen = Seen {
+                dir: asking.dir,
+                who: asking.who,
+                known: asking.known,
+                number,
+                entry,
+            };
+            offer(alloc, search, &seen, sent, out)
+        }
+        None => Ok(true),
+    }
+}
+
+/// Sends the entries of the scope that are selected, from the entry of the number on and in the order of names: no more
+/// than the limit, if there is one. What is not selected is not counted.
+pub(crate) fn put_found<D: Dir>(
+    alloc: Global,
+    asking: &Asking<'_, D>,
+    search: &Search<'_>,
+    number: EntryNo,
+    out: &mut Vec<u8>,
+) -> Result<Found, NoMemory>
+    ensures ok { IfOk result (λ found. IsSent search.now.request.now.size
+        (entry_octets search.now.id search.now.request.now)
+        (shown_among (is_shown search.now.request.now search.now.subentries) (D.rows asking.now.dir.now)
+        asking.now.who.now (scoped (scope_of search.now.request.now.scope) number.0 (D.rows asking.now.dir.now)))
+        out.old.items out.new.items found) }
+    ensures kept { Extends out.old.items out.new.items }
+{
+    let mut sent = Sent {
+        some: false,
+        room: search.request.size,
+    };
+    let scope = scope_of(search.request.scope);
+    for candidate in asking.dir.tree().below(number, scope) {
+        if !offer_at(alloc, asking, search, candidate, &mut sent, out)? {
+            return Ok(Found::TooMany);
+        }
+    }
+    if sent.some {
+        Ok(Found::Some)
+    } else {
+        Ok(Found::Nothing)
+    }
+}
+
+// How the search ends that selects nothing.
+fn nothing_found<D: Dir>(
+    alloc: Global,
+    asking: &Asking<'_, D>,
+    base: &Dn,
+) -> Result<LdapResult, NoMemory>
+    ensures ok { IfOk result (λ ended.
+        ended ≡ nothing_found (view_in (D.rows asking.now.dir.now) asking.now.who.now) base.now) }
+{
+    if discloses(asking, base) {
+        Ok(result_of(alloc, ResultCode::Success))
+    } else {
+        no_such_object(alloc, asking, base)
+    }
+}
+
+/// How the search ends, by what it has found. The error comes where memory is wanted.
+pub(crate) fn ended_by<D: Dir>(
+    alloc: Global,
+    asking: &Asking<'_, D>,
+    base: &Dn,
+    found: Found,
+) -> Result<LdapResult, NoMemory>
+    ensures ok { IfOk result (λ ended.
+        ended ≡ ended_by (view_in (D.rows asking.now.dir.now) asking.now.who.now) base.now found) }
+{
+    match found {
+        Found::Nothing => nothing_found(alloc, asking, base),
+        Found::Some => Ok(result_of(alloc, ResultCode::Success)),
+        Found::TooMany => Ok(result_of(alloc, ResultCode::SizeLimitExceeded)),
+    }
+}
