@@ -1,6 +1,6 @@
 //! The controls of a request (RFC 4511 4.1.11).
 
-ghost use Rattle.std.specs.Prelude.{◌≡◌, option_copied};
+ghost use Rattle.std.specs.Prelude.{◌≡◌, nat_lt, count_by, find, option_copied};
 ghost use Rattle.ber_layout.specs.Reading.{Gives};
 ghost use Rattle.ber_layout.specs.Layouts.{reads};
 ghost use Rattle.session_hub.specs.Controls.{is_subentries, is_search, is_known, is_refused, subentries_layout, flag_in, flag_of, subentries_asked};
@@ -34,7 +34,9 @@ fn is_known(request: &Request, control: &Control) -> bool
 pub fn is_refused(request: &Request, controls: &[Control]) -> bool
     ensures exact { result ≡ is_refused request.now controls.now }
 {
-    controls.iter().any(|control| control.critical && !is_known(request, control))
+    controls
+        .iter()
+        .any(|control| control.critical && !is_known(request, control))
 }
 
 #[tactic(auto, unfolding(ber_layout::specs::Layouts::reads_into))]
@@ -66,15 +68,30 @@ fn flag_of(found: Option<&Control>) -> Result<Option<bool>, ReadFault>
     }
 }
 
+fn has_two(controls: &[Control]) -> bool
+    ensures exact { result ≡ nat_lt 1 (count_by is_subentries controls.now) }
+{
+    controls
+        .iter()
+        .filter(|control| is_subentries(control))
+        .count()
+        > 1
+}
+
+fn first_of(controls: &[Control]) -> Option<&Control>
+    ensures exact { option_copied result ≡ find is_subentries controls.now }
+{
+    controls.iter().find(|control| is_subentries(control))
+}
+
 /// What the controls of subentries of a search ask for: subentries with TRUE, ordinary entries with
 /// FALSE, and neither where there is no such control (RFC 3672 3). `BadMessage` comes where there are
 /// two or more, or where the value is absent or isn't a BOOLEAN alone.
 pub fn subentries_asked(controls: &[Control]) -> Result<Option<bool>, ReadFault>
     ensures exact { Gives (λ asked. asked) result (subentries_asked controls.now) }
 {
-    let count = controls.iter().filter(|control| is_subentries(control)).count();
-    if count > 1 {
+    if has_two(controls) {
         return Err(ReadFault::BadMessage);
     }
-    flag_of(controls.iter().find(|control| is_subentries(control)))
+    flag_of(first_of(controls))
 }

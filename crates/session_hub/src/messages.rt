@@ -106,7 +106,8 @@ fn put_search<D: Dir>(
     out: &mut Vec<u8>,
 ) -> Result<(), AllocError>
     ensures ok { OnOk result (out.new.items ≡ out.old.items ++ replies_octets message.now.id
-        (searched (view_of (entries_of (D.rows dir.now)) who.now) request.now (subentries_asked message.now.controls))) }
+        (searched (view_of (entries_of (D.rows dir.now)) who.now) request.now
+        (subentries_asked message.now.controls))) }
     ensures err { OnErr result (out.new.items ≡ out.old.items) }
 {
     match subentries_asked(message.controls.as_slice()) {
@@ -145,7 +146,8 @@ fn operate<D: Dir>(
     out: &mut Vec<u8>,
 ) -> Result<(), AllocError>
     ensures ok { OnOk result (Sends message.now.id
-        (operated (entries_of (D.rows dir.now)) (asking who.old message.now.request) message.now.controls message.now.request)
+        (operated (entries_of (D.rows dir.now)) (asking who.old message.now.request)
+        message.now.controls message.now.request)
         out.old.items out.new.items who.new) }
     ensures err { OnErr result (out.new.items ≡ out.old.items) }
     ensures kept { OnErr result (who.new ≡ who.old) }
@@ -170,11 +172,17 @@ fn refuse(
     out: &mut Vec<u8>,
 ) -> Result<(), AllocError>
     ensures ok { OnOk result (Sends message.now.id
-        (refused (asking who.old message.now.request) message.now.request) out.old.items out.new.items who.new) }
+        (refused (asking who.old message.now.request) message.now.request)
+        out.old.items out.new.items who.new) }
     ensures err { OnErr result (out.new.items ≡ out.old.items) }
     ensures kept { OnErr result (who.new ≡ who.old) }
 {
-    put_ended(alloc, message, ResultCode::UnavailableCriticalExtension, out)?;
+    put_ended(
+        alloc,
+        message,
+        ResultCode::UnavailableCriticalExtension,
+        out,
+    )?;
     begin_asking(who, &message.request);
     Ok(())
 }
