@@ -1,24 +1,22 @@
 -- The command of a line and of words: the function against the relation.
-use Rattle.std.proofs.Common.{◌≡◌, ℕ, ◌≤◌, Bool, true, false, sym, cond, eqb, leb, List, [], ◌∷◌, length, map, Option, Some, None, option_map, option_and_then, is_some, refl, ap, subst, ◌∙◌, arith}
-use Rattle.std.specs.Prelude.{slice_get, IfSome}
+use Rattle.std.proofs.Common.{◌≡◌, ℕ, ◌≤◌, Bool, true, false, sym, cond, eqb, leb, List, [], ◌∷◌, length, map, Option, Some, None, option_map, option_and_then, refl, ap, subst, ◌∙◌, arith}
+use Rattle.std.specs.Prelude.{IfSome}
 use Rattle.std.specs.List.{AllByRecursion, list_all}
 use Rattle.std.proofs.lemmas.Bool.{eqb-true, eq-eqb, leb-true, le-leb}
-use Rattle.std.proofs.lemmas.Option.{same_Some, cond_some}
+use Rattle.std.proofs.lemmas.Option.{cond_some}
 use Rattle.command_words.specs.declared.table.CommandName.{CommandName}
-use Rattle.command_words.specs.declared.table.CommandName.TheVariants as commands
-use Rattle.command_words.specs.declared.table.OptionName.TheVariants as options
 use Rattle.command_words.specs.declared.table.Place.TheVariants.{BeforeDelimiter}
 use Rattle.command_words.specs.declared.table.Sought.TheVariants.{Operands, Arguments}
 use Rattle.command_words.specs.Table.{Row, row_of, command_named}
 use Rattle.command_words.specs.Line.{Line, IsLine, line_words, texts_of}
-use Rattle.command_words.specs.Number.{number_of, number_said, SaysNumber}
-use Rattle.command_words.specs.Command.{CommandView, Replay, Check, Dump, Says, IsCommand, view, default_turns}
+use Rattle.command_words.specs.Command.{CommandView, IsCommand, view}
 use Rattle.command_words.specs.declared.command.Command.{Command}
-use Rattle.command_words.specs.Reading.{line_from, is_line, line_of, text_in, command_said, command_of, ◌>>=◌}
+use Rattle.command_words.specs.Reading.{line_from, is_line, line_of, text_in, command_said, command_of}
 use Rattle.command_words.specs.Scan.{has_line}
-use Rattle.command_words.proofs.Numbers.{both_pass, passes_both, number_of-sound, number_of-complete}
+use Rattle.command_words.proofs.Numbers.{both_pass, passes_both, and_then-some}
 use Rattle.command_words.proofs.Tables.{command_named-sound, command_named-complete, option_named-complete}
 use Rattle.command_words.proofs.Lines.{IsReadable, line_from-sound, line_from-complete}
+use Rattle.command_words.proofs.Sayings.{command_said-sound, command_said-complete}
 
 -- the test of each element, and the fact
 all_short : {X : Type 0} (size : X → ℕ) (xs : List X) → list_all (λ x. leb (size x) 1) xs ≡ true → AllByRecursion (λ x. size x ≤ 1) xs
@@ -70,78 +68,6 @@ pub line_of-complete : (row : Row) → IsReadable row → (line : Line) → IsLi
 unfolding line_of
 line_of-complete row readable line is =
     rw (line_from-complete row readable line.items line.rest is.items, is_line-complete row line is) refl
-
-and_then-some : {A B : Type 0} (f : A → Option B) (o : Option A) (y : B) → option_and_then f o ≡ Some y → (x : A) × (o ≡ Some x) × (f x ≡ Some y)
-and_then-some f None y given = absurd (cc)
-and_then-some f (Some x) y given = (x, refl, given)
-
--- `replay`: two operands, the turns that are said, and whether the option `--dump` is there
-abbrev SaysReplay : List (List ℕ) → List (List ℕ) → List (List ℕ) → CommandView → Type 0
-SaysReplay operands turns dumps (Replay data_file script number dump) =
-    (operands ≡ data_file ∷ script ∷ []) × SaysNumber default_turns turns number × (dump ≡ eqb (length dumps) 1)
-SaysReplay operands turns dumps (Check data_file) = ⊥
-SaysReplay operands turns dumps (Dump data_file) = ⊥
-
--- the same as it is read
-abbrev replay_said : Option (List ℕ) → Option (List ℕ) → Option (List ℕ) → Bool → Option CommandView
-replay_said first second given dump = do
-  data_file ← first
-  script ← second
-  turns ← number_said default_turns given
-  Some (Replay data_file script turns dump)
-
--- an option that stands at most once is there where it gives a text
-once-is_some : (texts : List (List ℕ)) → length texts ≤ 1 → is_some (slice_get texts 0) ≡ eqb (length texts) 1
-once-is_some [] once = refl
-once-is_some (text ∷ []) once = refl
-once-is_some (text ∷ again ∷ more) once = absurd (omega (arith, once))
-
-replay_said-sound : (operands turns dumps : List (List ℕ)) (asked : CommandView) → length operands ≡ 2 → length turns ≤ 1 → length dumps ≤ 1 → replay_said (slice_get operands 0) (slice_get operands 1) (slice_get turns 0) (is_some (slice_get dumps 0)) ≡ Some asked → SaysReplay operands turns dumps asked
-replay_said-sound [] turns dumps asked two once lone given = absurd (omega (arith, two))
-replay_said-sound (one ∷ []) turns dumps asked two once lone given = absurd (omega (arith, two))
-replay_said-sound (one ∷ other ∷ []) [] dumps asked two once lone given =
-    subst (SaysReplay (one ∷ other ∷ []) [] dumps) (same_Some (Replay one other default_turns (is_some (slice_get dumps 0))) asked given) (refl, refl, once-is_some dumps lone)
-replay_said-sound (one ∷ other ∷ []) (turns ∷ []) dumps asked two once lone given =
-    let said = and_then-some (λ (number : ℕ). Some (Replay one other number (is_some (slice_get dumps 0)))) (number_of turns) asked given in
-    subst (SaysReplay (one ∷ other ∷ []) (turns ∷ []) dumps) (same_Some (Replay one other said.0 (is_some (slice_get dumps 0))) asked said.2) (refl, number_of-sound turns said.0 said.1, once-is_some dumps lone)
-replay_said-sound (one ∷ other ∷ []) (turns ∷ again ∷ more) dumps asked two once lone given = absurd (omega (arith, once))
-replay_said-sound (one ∷ other ∷ third ∷ more) turns dumps asked two once lone given = absurd (omega (arith, two))
-
-replay_said-complete : (operands turns dumps : List (List ℕ)) (asked : CommandView) → length dumps ≤ 1 → SaysReplay operands turns dumps asked → replay_said (slice_get operands 0) (slice_get operands 1) (slice_get turns 0) (is_some (slice_get dumps 0)) ≡ Some asked
-replay_said-complete operands [] dumps (Replay data_file script number dump) lone says = rw (says.0, says.1, says.2, once-is_some dumps lone) refl
-replay_said-complete operands (turns ∷ []) dumps (Replay data_file script number dump) lone says = rw (says.0, number_of-complete turns number says.1, says.2, once-is_some dumps lone) refl
-replay_said-complete operands (turns ∷ again ∷ more) dumps (Replay data_file script number dump) lone says = absurd says.1
-replay_said-complete operands turns dumps (Check data_file) lone says = absurd says
-replay_said-complete operands turns dumps (Dump data_file) lone says = absurd says
-
--- a command of one operand
-alone : (operands : List (List ℕ)) → length operands ≡ 1 → (text : List ℕ) × (operands ≡ text ∷ [])
-alone [] one = absurd (omega (arith, one))
-alone (text ∷ []) one = (text, refl)
-alone (text ∷ other ∷ more) one = absurd (omega (arith, one))
-
--- what a line of a command says: one case a command
-command_said-sound : (name : CommandName) (line : Line) (asked : CommandView) → IsLine (row_of name) line → command_said name (text_in (Some line)) ≡ Some asked → Says name line asked
-unfolding command_said
-command_said-sound commands.Replay line asked is given =
-    replay_said-sound (texts_of Operands line) (texts_of (Arguments options.Turns) line) (texts_of (Arguments options.Dump) line) asked is.operands is.once.1.0 is.once.0 given
-command_said-sound commands.Check line asked is given =
-    let own = alone (texts_of Operands line) is.operands in
-    subst (Says commands.Check line) (same_Some (Check own.0) asked (sym (ap (λ (texts : List (List ℕ)). option_map Check (slice_get texts 0)) own.1) ∙ given)) own.1
-command_said-sound commands.Dump line asked is given =
-    let own = alone (texts_of Operands line) is.operands in
-    subst (Says commands.Dump line) (same_Some (Dump own.0) asked (sym (ap (λ (texts : List (List ℕ)). option_map Dump (slice_get texts 0)) own.1) ∙ given)) own.1
-
-command_said-complete : (name : CommandName) (line : Line) (asked : CommandView) → IsLine (row_of name) line → Says name line asked → command_said name (text_in (Some line)) ≡ Some asked
-unfolding command_said
-command_said-complete commands.Replay line asked is says =
-    replay_said-complete (texts_of Operands line) (texts_of (Arguments options.Turns) line) (texts_of (Arguments options.Dump) line) asked is.once.0 says
-command_said-complete commands.Check line (Check data_file) is says = ap (λ (texts : List (List ℕ)). option_map Check (slice_get texts 0)) says
-command_said-complete commands.Check line (Replay data_file script turns dump) is says = absurd says
-command_said-complete commands.Check line (Dump data_file) is says = absurd says
-command_said-complete commands.Dump line (Dump data_file) is says = ap (λ (texts : List (List ℕ)). option_map Dump (slice_get texts 0)) says
-command_said-complete commands.Dump line (Replay data_file script turns dump) is says = absurd says
-command_said-complete commands.Dump line (Check data_file) is says = absurd says
 
 -- the rows of the table
 pub rows-readable : (name : CommandName) → IsReadable (row_of name)

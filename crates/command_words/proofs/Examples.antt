@@ -1,8 +1,9 @@
 -- The definitions on known command lines.
 use Rattle.std.proofs.Common.{◌≡◌, true, false, [], ◌∷◌, Some, None, refl}
 use Rattle.std.specs.Prelude.{codes}
-use Rattle.command_words.specs.Number.{number_of}
-use Rattle.command_words.specs.Command.{Replay, Check, Dump}
+use Rattle.command_words.specs.Number.{number_of, number_within}
+use Rattle.command_words.specs.Address.{is_address, address_of}
+use Rattle.command_words.specs.Command.{Serve, Replay, Check, Dump, Explain, Sample}
 use Rattle.command_words.specs.Reading.{option_role, dashed_role, role_of, line_from, is_line, line_of, command_said, command_of}
 
 -- `replay d s`
@@ -114,6 +115,65 @@ dump_of_nothing = refl
 dump_turned : command_of (codes "dump" ∷ codes "--turns=1" ∷ codes "d" ∷ []) ≡ None
 unfolding option_role dashed_role role_of line_from is_line line_of command_said command_of
 dump_turned = refl
+
+-- `serve d 127.0.0.1:389 --sessions=3`
+served : command_of (codes "serve" ∷ codes "d" ∷ codes "127.0.0.1:389" ∷ codes "--sessions=3" ∷ []) ≡ Some (Serve (codes "d") (codes "127.0.0.1:389") 3 1000000000000)
+unfolding option_role dashed_role role_of line_from is_line line_of command_said command_of number_of number_within is_address address_of
+served = refl
+
+-- `serve d 127.0.0.1:0`
+served_at_zero : command_of (codes "serve" ∷ codes "d" ∷ codes "127.0.0.1:0" ∷ []) ≡ None
+unfolding option_role dashed_role role_of line_from is_line line_of command_said command_of number_of number_within is_address address_of
+served_at_zero = refl
+
+-- `serve d 127.0.0.1:389 --dump`, whose option is none of the command
+serve_dumped : command_of (codes "serve" ∷ codes "d" ∷ codes "127.0.0.1:389" ∷ codes "--dump" ∷ []) ≡ None
+unfolding option_role dashed_role role_of line_from is_line line_of command_said command_of
+serve_dumped = refl
+
+-- `explain d anonymous dc=t entry Read`
+explained : command_of (codes "explain" ∷ codes "d" ∷ codes "anonymous" ∷ codes "dc=t" ∷ codes "entry" ∷ codes "Read" ∷ []) ≡ Some (Explain (codes "d") (codes "anonymous") (codes "dc=t") (codes "entry") (codes "Read"))
+unfolding option_role dashed_role role_of line_from is_line line_of command_said command_of
+explained = refl
+
+-- `explain d anonymous dc=t entry`
+explain_of_four : command_of (codes "explain" ∷ codes "d" ∷ codes "anonymous" ∷ codes "dc=t" ∷ codes "entry" ∷ []) ≡ None
+unfolding option_role dashed_role role_of line_from is_line line_of command_said command_of
+explain_of_four = refl
+
+-- `sample 20000` and `sample 20001`
+sampled : command_of (codes "sample" ∷ codes "20000" ∷ []) ≡ Some (Sample 20000)
+unfolding option_role dashed_role role_of line_from is_line line_of command_said command_of number_of number_within
+sampled = refl
+
+sample_too_great : command_of (codes "sample" ∷ codes "20001" ∷ []) ≡ None
+unfolding option_role dashed_role role_of line_from is_line line_of command_said command_of number_of number_within
+sample_too_great = refl
+
+-- the least and the greatest port, and what is none
+least_port : is_address (codes "127.0.0.1:00001") ≡ true
+unfolding is_address number_within number_of
+least_port = refl
+
+greatest_port : is_address (codes "127.0.0.1:65535") ≡ true
+unfolding is_address number_within number_of
+greatest_port = refl
+
+port_above : is_address (codes "127.0.0.1:65536") ≡ false
+unfolding is_address number_within number_of
+port_above = refl
+
+six_digits : is_address (codes "127.0.0.1:000389") ≡ false
+unfolding is_address number_within number_of
+six_digits = refl
+
+without_port : is_address (codes "127.0.0.1") ≡ false
+unfolding is_address number_within number_of
+without_port = refl
+
+other_host : is_address (codes "127.0.0.2:389") ≡ false
+unfolding is_address number_within number_of
+other_host = refl
 
 -- the greatest number, and the first above it
 greatest : number_of (codes "18446744073709551615") ≡ Some 18446744073709551615

@@ -1,13 +1,13 @@
 -- Numbers among the words: the function, the relation, and what std's `parse` gives.
-use Rattle.std.proofs.Common.{◌≡◌, ℕ, ◌<◌, ◌≤◌, ◌^◌, Bool, true, false, ltb, leb, ◌&&◌, List, length, Option, Some, None, Result, Ok, Err, sym, refl, subst, rules}
+use Rattle.std.proofs.Common.{◌≡◌, ℕ, ◌<◌, ◌≤◌, ◌^◌, Bool, true, false, ltb, leb, ◌&&◌, List, [], ◌∷◌, length, slice_get, cond, Option, Some, None, Result, Ok, Err, option_and_then, sym, refl, subst, arith, rules}
 use Rattle.std.proofs.lemmas.Bool.{ltb-true, lt-ltb, leb-true, le-leb}
-use Rattle.std.proofs.lemmas.Option.{cond_some}
+use Rattle.std.proofs.lemmas.Option.{same_Some, cond_some}
 use Rattle.std.proofs.lemmas.Str.Parse.{IsNumeralModel, numerals_by_value, parse_digits}
 use Rattle.std.specs.Char.{is_ascii_digit}
 use Rattle.std.specs.List.{list_all}
 use Rattle.std.specs.Result.{result_ok}
 use Rattle.std.specs.Str.Parse.{digits_value, ParsesUnsigned}
-use Rattle.command_words.specs.Number.{IsNumber, has_form, number_of}
+use Rattle.command_words.specs.Number.{IsNumber, IsNumberWithin, SaysNumber, has_form, number_of, number_said, number_within, value_within}
 
 -- two tests that both pass
 pub both_pass : (a b : Bool) → (a && b) ≡ true → (a ≡ true) × (b ≡ true)
@@ -63,3 +63,43 @@ number_of-parsed {E} text (Err fault) has parses =
       | None ↦ λ e. refl
       | Some value ↦ λ e. let is = number_of-sound text value e in absurd (fails (form.some, subst (λ (n : ℕ). n < 2 ^ 64) (sym is.exact) is.small))
     ] refl
+
+-- a step after which something is there
+pub and_then-some : {A B : Type 0} (f : A → Option B) (o : Option A) (y : B) → option_and_then f o ≡ Some y → (x : A) × (o ≡ Some x) × (f x ≡ Some y)
+and_then-some f None y given = absurd (cc)
+and_then-some f (Some x) y given = (x, refl, given)
+
+-- the number that an option's argument says, if it is given at most once
+pub number_said-sound : (absent : ℕ) (texts : List (List ℕ)) (value : ℕ) → length texts ≤ 1 → number_said absent (slice_get texts 0) ≡ Some value → SaysNumber absent texts value
+number_said-sound absent [] value once given = sym (same_Some absent value given)
+number_said-sound absent (text ∷ []) value once given = number_of-sound text value given
+number_said-sound absent (text ∷ again ∷ more) value once given = absurd (omega (arith, once))
+
+pub number_said-complete : (absent : ℕ) (texts : List (List ℕ)) (value : ℕ) → SaysNumber absent texts value → number_said absent (slice_get texts 0) ≡ Some value
+number_said-complete absent [] value says = rw says refl
+number_said-complete absent (text ∷ []) value says = number_of-complete text value says
+number_said-complete absent (text ∷ again ∷ more) value says = absurd says
+
+-- numbers in a range
+pub number_within-sound : (digits least greatest : ℕ) (text : List ℕ) (value : ℕ) → number_within digits least greatest text ≡ Some value → IsNumberWithin digits least greatest text value
+unfolding number_within
+number_within-sound digits least greatest text value given =
+    let fits = some_of (leb (length text) digits) (option_and_then (value_within least greatest) (number_of text)) value given in
+    let read = and_then-some (value_within least greatest) (number_of text) value fits.1 in
+    let tests = cond_some (leb least read.0 && leb read.0 greatest) read.0 value read.2 in
+    let both = both_pass (leb least read.0) (leb read.0 greatest) tests.0 in
+    subst (IsNumberWithin digits least greatest text) tests.1 (record {
+      number = number_of-sound text read.0 read.1;
+      short = leb-true (length text) digits fits.0;
+      reaches = leb-true least read.0 both.0;
+      stays_below = leb-true read.0 greatest both.1;
+    })
+  where
+    some_of : (b : Bool) (found : Option ℕ) (value : ℕ) → cond b found None ≡ Some value → (b ≡ true) × (found ≡ Some value)
+    some_of true found value given = (refl, given)
+    some_of false found value given = absurd (cc)
+
+pub number_within-complete : (digits least greatest : ℕ) (text : List ℕ) (value : ℕ) → IsNumberWithin digits least greatest text value → number_within digits least greatest text ≡ Some value
+unfolding number_within
+number_within-complete digits least greatest text value is =
+    rw (le-leb _ _ is.short, number_of-complete text value is.number, le-leb _ _ is.reaches, le-leb _ _ is.stays_below) refl

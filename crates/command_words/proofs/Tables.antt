@@ -1,5 +1,5 @@
 -- What is found in the tables of commands and options, and that each name is found.
-use Rattle.std.proofs.Common.{◌≡◌, ◌≢◌, ℕ, suc, Bool, true, false, cond, List, [], ◌∷◌, Some, None, refl, subst, arith}
+use Rattle.std.proofs.Common.{◌≡◌, ◌≢◌, ◌<◌, ℕ, zero, suc, Bool, true, false, cond, List, [], ◌∷◌, get_or, Some, None, refl, subst, arith}
 use Rattle.std.specs.Prelude.{Contains, find, bytes_eq}
 use Rattle.std.proofs.lemmas.Option.{same_Some}
 use Rattle.std.proofs.lemmas.Slice.Eq.{bytes_eq-Decides}
@@ -43,23 +43,49 @@ command_named-sound word name given =
 none-contained : {X : Type 0} (x : X) → Contains [] x → ⊥
 none-contained x contained = omega (arith, contained.1)
 
+-- nor is another option of two
+not_of_two : (one other name : OptionName) → one ≢ name → other ≢ name → Contains (one ∷ other ∷ []) name → ⊥
+not_of_two one other name not_one not_other contained = among contained.0 contained.1 contained.2
+  where
+    among : (at : ℕ) → at < 2 → get_or (one ∷ other ∷ []) at name ≡ name → ⊥
+    among zero below is = not_one is
+    among (suc zero) below is = not_other is
+    among (suc (suc at)) below is = omega (arith, below)
+
+not_of_serve : Contains (row_of commands.Serve).options options.Dump → ⊥
+not_of_serve = not_of_two options.Sessions options.Turns options.Dump (λ same. cc) (λ same. cc)
+
+not_of_replay : Contains (row_of commands.Replay).options options.Sessions → ⊥
+not_of_replay = not_of_two options.Dump options.Turns options.Sessions (λ same. cc) (λ same. cc)
+
 -- each option of a command is found by its name
 pub option_named-complete : (command : CommandName) (name : OptionName) → Contains (row_of command).options name → option_named (row_of command) (option_word name) ≡ Some name
+option_named-complete commands.Serve options.Sessions of_row = refl
+option_named-complete commands.Serve options.Turns of_row = refl
+option_named-complete commands.Serve options.Dump of_row = absurd (not_of_serve of_row)
+option_named-complete commands.Replay options.Sessions of_row = absurd (not_of_replay of_row)
 option_named-complete commands.Replay options.Turns of_row = refl
 option_named-complete commands.Replay options.Dump of_row = refl
 option_named-complete commands.Check name of_row = absurd (none-contained name of_row)
 option_named-complete commands.Dump name of_row = absurd (none-contained name of_row)
+option_named-complete commands.Explain name of_row = absurd (none-contained name of_row)
+option_named-complete commands.Sample name of_row = absurd (none-contained name of_row)
 
 pub command_named-complete : (name : CommandName) → command_named (row_of name).name ≡ Some name
+command_named-complete commands.Serve = refl
 command_named-complete commands.Replay = refl
 command_named-complete commands.Check = refl
 command_named-complete commands.Dump = refl
+command_named-complete commands.Explain = refl
+command_named-complete commands.Sample = refl
 
 -- names are not empty and have no `=`
 pub option_word-some : (name : OptionName) → option_word name ≢ []
+option_word-some options.Sessions empty = cc
 option_word-some options.Turns empty = cc
 option_word-some options.Dump empty = cc
 
 pub option_word-no_equals : (name : OptionName) → split_at_equals (option_word name) ≡ None
+option_word-no_equals options.Sessions = refl
 option_word-no_equals options.Turns = refl
 option_word-no_equals options.Dump = refl

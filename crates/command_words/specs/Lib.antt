@@ -2,6 +2,7 @@
 pub mod Table
 pub mod Line
 pub mod Number
+pub mod Address
 pub mod Command
 pub mod Reading
 -- for the inside of the crate alone

@@ -12,8 +12,9 @@ use Rattle.command_words.specs.declared.table.Sought.{Sought}
 use Rattle.command_words.specs.declared.table.Sought.TheVariants.{Operands, Arguments}
 use Rattle.command_words.specs.Table.{Row, row_of, command_named, option_named, takes_argument}
 use Rattle.command_words.specs.Line.{Item, Operand, Flag, Joined, Apart, Line, begins_with_dash, is_operand, texts_of}
-use Rattle.command_words.specs.Number.{number_said}
-use Rattle.command_words.specs.Command.{CommandView, Replay, Check, Dump, default_turns}
+use Rattle.command_words.specs.Number.{number_said, number_within}
+use Rattle.command_words.specs.Address.{address_of}
+use Rattle.command_words.specs.Command.{CommandView, Serve, Replay, Check, Dump, Explain, Sample, default_sessions, default_turns}
 
 -- what one word is: an operand, the delimiter, an option whose argument is the next word, an option without
 -- an argument, or an option's argument
@@ -105,6 +106,13 @@ text_in found sought index = option_and_then (λ line. slice_get (texts_of sough
 
 -- the command that a line says, by its texts: one case a command
 unfoldable pub command_said : CommandName → (Sought → ℕ → Option (List ℕ)) → Option CommandView
+command_said commands.Serve text = do
+  data_file ← text Operands 0
+  said ← text Operands 1
+  address ← address_of said
+  sessions ← number_said default_sessions (text (Arguments options.Sessions) 0)
+  turns ← number_said default_turns (text (Arguments options.Turns) 0)
+  Some (Serve data_file address sessions turns)
 command_said commands.Replay text = do
   data_file ← text Operands 0
   script ← text Operands 1
@@ -112,6 +120,17 @@ command_said commands.Replay text = do
   Some (Replay data_file script turns (is_some (text (Arguments options.Dump) 0)))
 command_said commands.Check text = option_map Check (text Operands 0)
 command_said commands.Dump text = option_map Dump (text Operands 0)
+command_said commands.Explain text = do
+  data_file ← text Operands 0
+  who ← text Operands 1
+  target ← text Operands 2
+  item ← text Operands 3
+  permission ← text Operands 4
+  Some (Explain data_file who target item permission)
+command_said commands.Sample text = do
+  said ← text Operands 0
+  count ← number_within 20 1 20000 said
+  Some (Sample count)
 
 -- the command of these words
 unfoldable pub command_of : List (List ℕ) → Option CommandView

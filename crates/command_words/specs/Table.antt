@@ -14,26 +14,32 @@ pub record Row : Type 0 where
 
 -- the table of commands
 abbrev pub row_of : CommandName → Row
+row_of commands.Serve = record { name = codes "serve"; operands = 2; options = options.Sessions ∷ options.Turns ∷ [] }
 row_of commands.Replay = record { name = codes "replay"; operands = 2; options = options.Dump ∷ options.Turns ∷ [] }
 row_of commands.Check = record { name = codes "check"; operands = 1; options = [] }
 row_of commands.Dump = record { name = codes "dump"; operands = 1; options = [] }
+row_of commands.Explain = record { name = codes "explain"; operands = 5; options = [] }
+row_of commands.Sample = record { name = codes "sample"; operands = 1; options = [] }
 
 -- all commands
 abbrev pub all_commands : List CommandName
-all_commands = commands.Replay ∷ commands.Check ∷ commands.Dump ∷ []
+all_commands = commands.Serve ∷ commands.Replay ∷ commands.Check ∷ commands.Dump ∷ commands.Explain ∷ commands.Sample ∷ []
 
 -- the table of options: what follows the two dashes
 abbrev pub option_word : OptionName → List ℕ
+option_word options.Sessions = codes "sessions"
 option_word options.Turns = codes "turns"
 option_word options.Dump = codes "dump"
 
 -- whether the option has an argument
 abbrev pub takes_argument : OptionName → Bool
+takes_argument options.Sessions = true
 takes_argument options.Turns = true
 takes_argument options.Dump = false
 
 -- the same option
 abbrev pub is_same_option : OptionName → OptionName → Bool
+is_same_option options.Sessions options.Sessions = true
 is_same_option options.Turns options.Turns = true
 is_same_option options.Dump options.Dump = true
 is_same_option one other = false

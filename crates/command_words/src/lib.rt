@@ -1,6 +1,7 @@
 //! The words of the program: which command they ask for, read by hand and without memory.
 #![tactic(auto)]
 
+mod address;
 mod command;
 mod laws;
 mod number;

@@ -3,7 +3,7 @@
 ghost use Rattle.std.specs.Prelude.{◌≡◌, option_copied};
 ghost use Rattle.std.specs.Char.{is_ascii_digit};
 ghost use Rattle.std.specs.List.{list_all};
-ghost use Rattle.command_words.specs.Number.{number_of, number_said, has_form};
+ghost use Rattle.command_words.specs.Number.{number_of, number_said, number_within, value_within, has_form};
 
 fn all_digits(text: &str) -> bool
     ensures { result ≡ list_all is_ascii_digit text.now }
@@ -25,6 +25,28 @@ fn number_of(text: &str) -> Option<u64>
 {
     if has_form(text) {
         text.parse::<u64>().ok()
+    } else {
+        None
+    }
+}
+
+fn value_within(least: u64, greatest: u64, value: u64) -> Option<u64>
+    ensures { result ≡ value_within least greatest value }
+{
+    if least <= value && value <= greatest {
+        Some(value)
+    } else {
+        None
+    }
+}
+
+/// The value of a number of at most so many decimal digits, where it is from the least to the greatest.
+#[tactic(auto, unfolding(crate::specs::Number::number_within))]
+pub fn number_within(digits: usize, least: u64, greatest: u64, text: &str) -> Option<u64>
+    ensures { result ≡ number_within digits least greatest text.now }
+{
+    if text.len() <= digits {
+        value_within(least, greatest, number_of(text)?)
     } else {
         None
     }

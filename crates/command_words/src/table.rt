@@ -6,14 +6,18 @@ ghost use Rattle.command_words.specs.Table.{row_of, all_commands, command_named,
 /// The commands of the program.
 #[derive(Clone, Copy, Debug, Drop)]
 pub enum CommandName {
+    Serve,
     Replay,
     Check,
     Dump,
+    Explain,
+    Sample,
 }
 
 /// The options of the program's commands.
 #[derive(Clone, Copy, Debug, Drop)]
 pub enum OptionName {
+    Sessions,
     Turns,
     Dump,
 }
@@ -38,7 +42,14 @@ impl CommandName {
     pub fn all() -> &'static [CommandName]
         ensures { result.now ≡ all_commands }
     {
-        &[CommandName::Replay, CommandName::Check, CommandName::Dump]
+        &[
+            CommandName::Serve,
+            CommandName::Replay,
+            CommandName::Check,
+            CommandName::Dump,
+            CommandName::Explain,
+            CommandName::Sample,
+        ]
     }
 
     /// The command of this name.
@@ -55,9 +66,12 @@ impl CommandName {
         ensures { result.now ≡ (row_of self).name }
     {
         match self {
+            CommandName::Serve => "serve",
             CommandName::Replay => "replay",
             CommandName::Check => "check",
             CommandName::Dump => "dump",
+            CommandName::Explain => "explain",
+            CommandName::Sample => "sample",
         }
     }
 
@@ -65,9 +79,12 @@ impl CommandName {
         ensures { result ≡ (row_of self).operands }
     {
         match self {
+            CommandName::Serve => 2,
             CommandName::Replay => 2,
             CommandName::Check => 1,
             CommandName::Dump => 1,
+            CommandName::Explain => 5,
+            CommandName::Sample => 1,
         }
     }
 
@@ -75,9 +92,12 @@ impl CommandName {
         ensures { result.now ≡ (row_of self).options }
     {
         match self {
+            CommandName::Serve => &[OptionName::Sessions, OptionName::Turns],
             CommandName::Replay => &[OptionName::Dump, OptionName::Turns],
             CommandName::Check => &[],
             CommandName::Dump => &[],
+            CommandName::Explain => &[],
+            CommandName::Sample => &[],
         }
     }
 
@@ -98,6 +118,7 @@ impl OptionName {
         ensures { result.now ≡ option_word self }
     {
         match self {
+            OptionName::Sessions => "sessions",
             OptionName::Turns => "turns",
             OptionName::Dump => "dump",
         }
@@ -107,6 +128,7 @@ impl OptionName {
         ensures { result ≡ takes_argument self }
     {
         match self {
+            OptionName::Sessions => true,
             OptionName::Turns => true,
             OptionName::Dump => false,
         }
@@ -116,6 +138,7 @@ impl OptionName {
         ensures { result ≡ is_same_option self other }
     {
         match (self, other) {
+            (OptionName::Sessions, OptionName::Sessions) => true,
             (OptionName::Turns, OptionName::Turns) => true,
             (OptionName::Dump, OptionName::Dump) => true,
             _ => false,

@@ -1,5 +1,5 @@
-//! Tests of what stands at the outside: words of the command line, scripts, messages and their pieces, and the forms of
-//! files, sinks and links, with expected values from the public standards.
+//! Tests of what stands at the outside: scripts, messages and their pieces, and the forms of files, sinks and links,
+//! with expected values from the public standards.
 #![tactic(auto)]
 
 #[cfg(test)]
@@ -26,5 +26,3 @@ mod sinks;
 mod sockets;
 #[cfg(test)]
 mod values;
-#[cfg(test)]
-mod words;

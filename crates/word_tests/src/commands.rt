@@ -17,6 +17,14 @@ fn words_of(alloc: Global, line: &str) -> Result<Vec<String>, AllocError> {
 fn answer(alloc: Global, words: &[String]) -> Result<String, AllocError> {
     match read_words(words) {
         Some(
+            Command::Serve {
+                data,
+                address,
+                sessions,
+                turns,
+            },
+        ) => format!(in alloc; "serve [{data}] [{address}] {sessions} {turns}"),
+        Some(
             Command::Replay {
                 data,
                 script,
@@ -29,6 +37,16 @@ fn answer(alloc: Global, words: &[String]) -> Result<String, AllocError> {
         ),
         Some(Command::Check { data }) => format!(in alloc; "check [{data}]"),
         Some(Command::Dump { data }) => format!(in alloc; "dump [{data}]"),
+        Some(
+            Command::Explain {
+                data,
+                who,
+                target,
+                item,
+                permission,
+            },
+        ) => format!(in alloc; "explain [{data}] [{who}] [{target}] [{item}] [{permission}]"),
+        Some(Command::Sample { count }) => format!(in alloc; "sample {count}"),
         None => String::from_str(alloc, "usage"),
     }
 }
@@ -39,7 +57,7 @@ fn asked(alloc: Global, line: &str) -> Result<String, AllocError> {
     answer(alloc, words.as_slice())
 }
 
-static READ: [(&str, &str); 56] = [
+static READ: [(&str, &str); 74] = [
     // a replay
     ("replay d s", "[d] [s] 1000000000000"),
     ("replay d s --turns 5", "[d] [s] 5"),
@@ -111,6 +129,63 @@ static READ: [(&str, &str); 56] = [
     ("dump ", "dump []"),
     ("dump dump", "dump [dump]"),
     ("dump \u{20ac}", "dump [\u{20ac}]"),
+    // a server, with its connections and turns in any place
+    (
+        "serve d 127.0.0.1:389",
+        "serve [d] [127.0.0.1:389] 0 1000000000000",
+    ),
+    (
+        "serve d 127.0.0.1:1",
+        "serve [d] [127.0.0.1:1] 0 1000000000000",
+    ),
+    (
+        "serve d 127.0.0.1:65535",
+        "serve [d] [127.0.0.1:65535] 0 1000000000000",
+    ),
+    (
+        "serve d 127.0.0.1:00389",
+        "serve [d] [127.0.0.1:00389] 0 1000000000000",
+    ),
+    (
+        "serve d 127.0.0.1:389 --sessions=3",
+        "serve [d] [127.0.0.1:389] 3 1000000000000",
+    ),
+    (
+        "serve --sessions 3 d 127.0.0.1:389",
+        "serve [d] [127.0.0.1:389] 3 1000000000000",
+    ),
+    (
+        "serve d --turns 5 127.0.0.1:389",
+        "serve [d] [127.0.0.1:389] 0 5",
+    ),
+    (
+        "serve d 127.0.0.1:389 --turns=5 --sessions=18446744073709551615",
+        "serve [d] [127.0.0.1:389] 18446744073709551615 5",
+    ),
+    (
+        "serve --sessions 0 --turns 0 -- -d 127.0.0.1:389",
+        "serve [-d] [127.0.0.1:389] 0 0",
+    ),
+    // one decision, with its texts as they stand
+    (
+        "explain d anonymous dc=example entry Read",
+        "explain [d] [anonymous] [dc=example] [entry] [Read]",
+    ),
+    (
+        "explain d uid=bob,dc=example dc=example value:description=a=b Compare",
+        "explain [d] [uid=bob,dc=example] [dc=example] [value:description=a=b] [Compare]",
+    ),
+    ("explain d    ", "explain [d] [] [] [] []"),
+    (
+        "explain -- -1 -2 -3 -4 -5",
+        "explain [-1] [-2] [-3] [-4] [-5]",
+    ),
+    // a sample
+    ("sample 4", "sample 4"),
+    ("sample 1", "sample 1"),
+    ("sample 20000", "sample 20000"),
+    ("sample -- 4", "sample 4"),
+    ("sample 00000000000000000004", "sample 4"),
 ];
 
 #[test]
@@ -122,7 +197,7 @@ fn each_way_of_writing_a_command_is_read(rt: HostRuntime) -> Result<(), Fail> {
     Ok(())
 }
 
-static REFUSED: [&str; 110] = [
+static REFUSED: [&str; 176] = [
     // other words
     "",
     "Replay d s",
@@ -134,9 +209,12 @@ static REFUSED: [&str; 110] = [
     "dumps d",
     "--dump d",
     "--check d",
-    "serve d 127.0.0.1:389",
-    "explain d anonymous dc=example entry Read",
-    "sample 4",
+    "Serve d 127.0.0.1:389",
+    "serves d 127.0.0.1:389",
+    "EXPLAIN d anonymous dc=example entry Read",
+    "explains d anonymous dc=example entry Read",
+    "Sample 4",
+    "samples 4",
     "-- replay d s",
     "-- check d",
     "-- dump d",
@@ -163,6 +241,51 @@ static REFUSED: [&str; 110] = [
     "dump d ",
     "dump d -- s",
     "dump -- d --",
+    "serve",
+    "serve d",
+    "serve 127.0.0.1:389",
+    "serve 127.0.0.1:389 d",
+    "serve d 127.0.0.1:389 s",
+    "serve d 127.0.0.1:389 ",
+    "explain",
+    "explain d anonymous dc=example entry",
+    "explain d anonymous dc=example entry Read Read",
+    "explain d anonymous dc=example entry Read ",
+    "sample",
+    "sample 4 4",
+    // what is no address
+    "serve d 127.0.0.1",
+    "serve d 127.0.0.1:",
+    "serve d 127.0.0.1:0",
+    "serve d 127.0.0.1:00000",
+    "serve d 127.0.0.1:65536",
+    "serve d 127.0.0.1:99999",
+    "serve d 127.0.0.1:000389",
+    "serve d 127.0.0.1:100000",
+    "serve d 127.0.0.1:-1",
+    "serve d 127.0.0.1:+1",
+    "serve d 127.0.0.1:1x",
+    "serve d 127.0.0.1::1",
+    "serve d 127.0.0.1:\u{661}",
+    "serve d 127.0.0.2:389",
+    "serve d 0.0.0.0:389",
+    "serve d 127.0.0.01:389",
+    "serve d localhost:389",
+    "serve d [::1]:389",
+    "serve d :389",
+    "serve d 389",
+    "serve d x127.0.0.1:389",
+    // what is no count of a sample
+    "sample 0",
+    "sample 20001",
+    "sample -4",
+    "sample -- -4",
+    "sample +4",
+    "sample 4x",
+    "sample four",
+    "sample ",
+    "sample 000000000000000000004",
+    "sample 18446744073709551620",
     // what is no option of the command
     "replay d s -h",
     "replay d s --help",
@@ -202,6 +325,26 @@ static REFUSED: [&str; 110] = [
     "dump d --turns 5",
     "dump d --turns=5",
     "dump -d",
+    "serve d 127.0.0.1:389 --dump",
+    "serve d 127.0.0.1:389 --help",
+    "serve d 127.0.0.1:389 --session 3",
+    "serve d 127.0.0.1:389 --sessions",
+    "serve d 127.0.0.1:389 --sessions=",
+    "serve d 127.0.0.1:389 --sessions -1",
+    "serve d 127.0.0.1:389 --sessions=x",
+    "serve d 127.0.0.1:389 --sessions=18446744073709551616",
+    "serve d 127.0.0.1:389 --sessions 3 --sessions 3",
+    "serve d 127.0.0.1:389 --turns 5 --turns=5",
+    "serve d 127.0.0.1:389 --sessions --turns",
+    "serve -d 127.0.0.1:389",
+    "check d --sessions 3",
+    "dump d --sessions=3",
+    "explain d anonymous dc=example entry Read --turns 5",
+    "explain d anonymous dc=example entry --dump Read",
+    "explain d -anonymous dc=example entry Read",
+    "sample 4 --turns 5",
+    "sample --sessions=3 4",
+    "sample --count 4",
     // a dump with a value, or given twice
     "replay d s --dump=",
     "replay d s --dump=x",
