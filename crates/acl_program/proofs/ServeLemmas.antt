@@ -133,8 +133,8 @@ module _ (asked : ServeAsked) (before after : Outside) (status : Status) where
   ListensOn-ended put done tells cause opened = (
     LoopEnded opened.how,
     Ends-put (Served asked (LoopEnded opened.how)) before.out after.out (listening_text asked.address ++ ended_text opened.how) opened.answer (loop_status opened.how) status refl refl opened.ends
-    (PutsAll-then before.out.put put.put after.out.put (listening_text asked.address) (ended_text opened.how) done opened.answer tells opened.tells)
-    (PutCause-then before.out.faults put.faults after.out.faults done opened.answer cause opened.cause),
+        (PutsAll-then before.out.put put.put after.out.put (listening_text asked.address) (ended_text opened.how) done opened.answer tells opened.tells)
+        (PutCause-then before.out.faults put.faults after.out.faults done opened.answer cause opened.cause),
     opened.serves,
   )
 

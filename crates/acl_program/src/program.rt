@@ -11,7 +11,7 @@ ghost use Rattle.command_words.specs.Command.{view};
 
 use crate::data::{check, dump};
 use crate::replay::{Asked, replay};
-use crate::serve::{Served, serve};
+use crate::serve::{Serving, serve};
 use crate::status::Status;
 use crate::troubles::print_usage;
 use command_words::{Command, read_words};
@@ -117,7 +117,7 @@ fn perform<H: Shelf, K: Sink, L: Link>(
             turns,
         } => serve(
             alloc,
-            &Served {
+            &Serving {
                 data,
                 address,
                 sessions,

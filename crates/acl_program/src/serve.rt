@@ -21,7 +21,7 @@ use wire_io::{Link, NextFault, PutFault, Shelf, Sink, write_all};
 /// What serving is asked for: its data file, the address, after how many connections the link stops, never with 0, and
 /// how many events are heard at most.
 #[derive(Clone, Copy, Debug)]
-pub(crate) struct Served<'a> {
+pub(crate) struct Serving<'a> {
     pub(crate) data: &'a str,
     pub(crate) address: &'a str,
     pub(crate) sessions: u64,
@@ -32,7 +32,7 @@ pub(crate) struct Served<'a> {
 /// events were heard. Where the link fails, or the turns are spent, a line says so.
 pub(crate) fn serve<H: Shelf, K: Sink, L: Link>(
     alloc: Global,
-    asked: &Served<'_>,
+    asked: &Serving<'_>,
     shelf: &mut H,
     out: &mut K,
     link: &mut L,
@@ -55,7 +55,7 @@ pub(crate) fn serve<H: Shelf, K: Sink, L: Link>(
 fn listen<K: Sink, L: Link>(
     alloc: Global,
     dir: PlainDir,
-    asked: &Served<'_>,
+    asked: &Serving<'_>,
     out: &mut K,
     link: &mut L,
 ) -> Status
@@ -77,7 +77,7 @@ fn listen<K: Sink, L: Link>(
 fn serve_opened<K: Sink, L: Link>(
     alloc: Global,
     dir: PlainDir,
-    asked: &Served<'_>,
+    asked: &Serving<'_>,
     out: &mut K,
     link: &mut L,
 ) -> Status
