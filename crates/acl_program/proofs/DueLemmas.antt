@@ -5,13 +5,18 @@ use Rattle.plain_values.specs.Counts.{Rose}
 use Rattle.script_text.specs.declared.event.ScriptEvent.{ScriptEvent}
 use Rattle.script_text.proofs.Theorems.{IsScript-read, IsFirstBadLine-read}
 use Rattle.wire_io.specs.Files.{Files, file_of, Lacks}
-use Rattle.command_words.specs.Command.{CommandView, Replay, Check, Dump, IsCommand}
+use Rattle.session_hub.specs.declared.ended.Ended.TheVariants as ended
+use Rattle.command_words.specs.Command.{CommandView, Serve, Replay, Check, Dump, Explain, Sample, IsCommand}
 use Rattle.command_words.proofs.Theorems.{IsCommand-unique}
 use Rattle.dir_tree.specs.Entries.{EntryInformation}
 use Rattle.op_write.specs.DataFile.{FileCause}
-use Rattle.acl_program.specs.Outcomes.{Outcome, NoCommand, NoFile, BadDataLine, BadLine, Checked, Dumped, Replayed, OutOfMemory}
+use Rattle.acl_program.specs.Outcomes.{Outcome, NoCommand, NoFile, BadDataLine, BadLine, Checked, Dumped, Replayed, Served, OutOfMemory, status_of}
+use Rattle.acl_program.specs.declared.status.Status.TheVariants.{Done, NoMemory}
+use Rattle.acl_program.specs.Outside.{Linked}
+use Rattle.acl_program.specs.Serving.{ServeAsked, ServeEnd, LoopEnded}
+use Rattle.acl_program.proofs.ServeLemmas.{served_done}
 use Rattle.command_files.specs.Accepting.{IsUnread, IsGoodData, IsBadData, IsGoodScript, IsBadScript, HoldsOf, HoldsIn, IsTold}
-use Rattle.acl_program.specs.Causes.{IsNoCommand, AsksData, data_of, LacksData, RefusesData, AsksReplay, AsksAlone, Comes, IsDue}
+use Rattle.acl_program.specs.Causes.{IsNoCommand, IsPerformed, AsksData, data_of, LacksData, RefusesData, AsksReplay, AsksAlone, AsksServe, Comes, Links, HearsStop, IsDue}
 
 -- a file that is known isn't lacking
 known_there : (files : Option Files) (name : List ℕ) (P : List ℕ → Type 0) → IsTold files name P → Lacks files name → ⊥
@@ -53,181 +58,232 @@ good_not_bad events line content good (inr long) = omega (arith, good.short, lon
 one_events : (events other : List ScriptEvent) (content : List ℕ) → IsGoodScript events content → IsGoodScript other content → events ≡ other
 one_events events other content good good_other = cc (IsScript-read content events good.script, IsScript-read content other good_other.script)
 
--- a command of words that ask for another is that one
-module _ (words : List (List ℕ)) (files : Option Files) (before after : ℕ) (asked : CommandView) (is : IsCommand words asked) (entries : List EntryInformation)
-    (known : IsTold files (data_of asked) (IsGoodData entries)) (still : Rose before after → ⊥) where
+-- which command it is
+kind_of : CommandView → ℕ
+kind_of (Serve data_file address sessions turns) = 0
+kind_of (Replay data_file script turns dump) = 1
+kind_of (Check data_file) = 2
+kind_of (Dump data_file) = 3
+kind_of (Explain data_file who target item permission) = 4
+kind_of (Sample count) = 5
+
+-- words that ask for one kind of command ask for no other
+one_kind : (words : List (List ℕ)) (one other : CommandView) → IsCommand words one → IsCommand words other → (kind_of one ≡ kind_of other → ⊥) → ⊥
+one_kind words one other is is_other differ = differ (ap kind_of (IsCommand-unique words one other is is_other))
+
+-- the words ask for a command whose data file is told and accepted
+module _ (words : List (List ℕ)) (files : Option Files) (before after : ℕ) (asked : CommandView) (is : IsCommand words asked) (name : List ℕ) (names : data_of asked ≡ Some name)
+    (performed : IsPerformed asked) (entries : List EntryInformation) (known : IsTold files name (IsGoodData entries)) (still : Rose before after → ⊥) where
+  -- a command of these words is this one
   same_command : (other : CommandView) → IsCommand words other → other ≡ asked
   same_command other is_other = IsCommand-unique words other asked is_other is
+
+  -- and has its data file
+  same_data : (other : CommandView) (file : List ℕ) → IsCommand words other → data_of other ≡ Some file → file ≡ name
+  same_data other file is_other has =
+      let same : Some file ≡ Some name = sym has ∙ ap (λ command. data_of command) (same_command other is_other) ∙ names in cc
 
   -- the words ask for a command
   asks_something : IsNoCommand words → ⊥
   unfolding IsNoCommand
-  asks_something none = none asked is
+  asks_something none = none asked is performed
 
   -- its data file was read
   has_data : LacksData words files before after → ⊥
   unfolding AsksData
   has_data lacks =
-      let same : lacks.data_file ≡ data_of asked = sym lacks.asked.2 ∙ ap data_of (same_command lacks.asked.0 lacks.asked.1) in
-      known_read files (data_of asked) (IsGoodData entries) before after known still (subst (λ name. IsUnread files name before after) same lacks.unread)
+      let same : lacks.data_file ≡ name = same_data lacks.asked.0 lacks.data_file lacks.asked.1 lacks.asked.2 in
+      known_read files name (IsGoodData entries) before after known still (subst (λ file. IsUnread files file before after) same lacks.unread)
 
   -- and accepted
   accepts_data : (line : ℕ) (cause : FileCause) → RefusesData words files line cause → ⊥
   unfolding AsksData
   accepts_data line cause refuses =
-      let same : refuses.data_file ≡ data_of asked = sym refuses.asked.2 ∙ ap data_of (same_command refuses.asked.0 refuses.asked.1) in
-      let both = both_in files (data_of asked) (IsGoodData entries) (IsBadData line cause) known (subst (λ name. HoldsIn files name (IsBadData line cause)) same refuses.bad) in
+      let same : refuses.data_file ≡ name = same_data refuses.asked.0 refuses.data_file refuses.asked.1 refuses.asked.2 in
+      let both = both_in files name (IsGoodData entries) (IsBadData line cause) known (subst (λ file. HoldsIn files file (IsBadData line cause)) same refuses.bad) in
       good_not_refused entries line cause both.0 both.1 both.2
 
--- which command it is
-is_replay : CommandView → Bool
-is_replay (Replay data_file script turns dump) = true
-is_replay (Check data_file) = false
-is_replay (Dump data_file) = false
+  -- with these entries
+  has_entries : (found : List EntryInformation) (other : CommandView) (file : List ℕ) → IsCommand words other → data_of other ≡ Some file → HoldsIn files file (IsGoodData found) → found ≡ entries
+  has_entries found other file is_other has good =
+      let both = both_in files name (IsGoodData entries) (IsGoodData found) known (subst (λ held. HoldsIn files held (IsGoodData found)) (same_data other file is_other has) good) in
+      one_entries found entries both.0 both.2 both.1
 
-is_check : CommandView → Bool
-is_check (Replay data_file script turns dump) = false
-is_check (Check data_file) = true
-is_check (Dump data_file) = false
+  -- another kind of command isn't asked for
+  not_replay : (script : List ℕ) (turns : ℕ) (dump : Bool) (found : List EntryInformation) → (1 ≡ kind_of asked → ⊥) → AsksReplay words files script turns dump found → ⊥
+  unfolding kind_of
+  not_replay script turns dump found differ replay = one_kind words (Replay replay.data_file script turns dump) asked replay.asked is differ
+
+  not_serve : (asks : ServeAsked) → (0 ≡ kind_of asked → ⊥) → AsksServe words files asks → ⊥
+  unfolding kind_of
+  not_serve asks differ serve = one_kind words (Serve serve.data_file asks.address asks.sessions asks.turns) asked serve.asked is differ
+
+  not_check : (found : List EntryInformation) → (2 ≡ kind_of asked → ⊥) → AsksAlone Check words files found → ⊥
+  unfolding kind_of
+  not_check found differ alone = one_kind words (Check alone.data_file) asked alone.asked is differ
+
+  not_dump : (found : List EntryInformation) → (3 ≡ kind_of asked → ⊥) → AsksAlone Dump words files found → ⊥
+  unfolding kind_of
+  not_dump found differ alone = one_kind words (Dump alone.data_file) asked alone.asked is differ
+
+-- a data file was to be checked
+module _ (words : List (List ℕ)) (files : Option Files) (before after : ℕ) (name : List ℕ) (entries : List EntryInformation)
+    (is : IsCommand words (Check name)) (known : IsTold files name (IsGoodData entries)) (still : Rose before after → ⊥) where
+  check_due : (outcome : Outcome) → Comes words files before after outcome → (outcome ≡ OutOfMemory) ⊎ (outcome ≡ Checked entries)
+  unfolding Comes kind_of
+  check_due NoCommand comes = absurd (asks_something words files before after (Check name) is name refl tt entries known still comes.0)
+  check_due NoFile (inl lacks) = absurd (has_data words files before after (Check name) is name refl tt entries known still lacks)
+  check_due NoFile (inr lacks) =
+      absurd (not_replay words files before after (Check name) is name refl tt entries known still lacks.script lacks.turns lacks.dump lacks.entries (λ e. omega (arith, e)) lacks.asked)
+  check_due (BadDataLine line cause) comes = absurd (accepts_data words files before after (Check name) is name refl tt entries known still line cause comes.0)
+  check_due (BadLine line) comes =
+      absurd (not_replay words files before after (Check name) is name refl tt entries known still comes.0.script comes.0.turns comes.0.dump comes.0.entries (λ e. omega (arith, e)) comes.0.asked)
+  check_due (Checked found) comes =
+      inr (ap Checked (has_entries words files before after (Check name) is name refl tt entries known still found (Check comes.0.data_file) comes.0.data_file comes.0.asked refl comes.0.good))
+  check_due (Dumped found) comes = absurd (not_dump words files before after (Check name) is name refl tt entries known still found (λ e. omega (arith, e)) comes.0)
+  check_due (Replayed events turns dump found) comes =
+      absurd (not_replay words files before after (Check name) is name refl tt entries known still comes.0.script turns dump found (λ e. omega (arith, e)) comes.0.asked)
+  check_due (Served asks end) comes = absurd (not_serve words files before after (Check name) is name refl tt entries known still asks (λ e. omega (arith, e)) comes.0)
+  check_due OutOfMemory comes = inl refl
+
+-- a data file was to be put again
+module _ (words : List (List ℕ)) (files : Option Files) (before after : ℕ) (name : List ℕ) (entries : List EntryInformation)
+    (is : IsCommand words (Dump name)) (known : IsTold files name (IsGoodData entries)) (still : Rose before after → ⊥) where
+  dump_due : (outcome : Outcome) → Comes words files before after outcome → (outcome ≡ OutOfMemory) ⊎ (outcome ≡ Dumped entries)
+  unfolding Comes kind_of
+  dump_due NoCommand comes = absurd (asks_something words files before after (Dump name) is name refl tt entries known still comes.0)
+  dump_due NoFile (inl lacks) = absurd (has_data words files before after (Dump name) is name refl tt entries known still lacks)
+  dump_due NoFile (inr lacks) =
+      absurd (not_replay words files before after (Dump name) is name refl tt entries known still lacks.script lacks.turns lacks.dump lacks.entries (λ e. omega (arith, e)) lacks.asked)
+  dump_due (BadDataLine line cause) comes = absurd (accepts_data words files before after (Dump name) is name refl tt entries known still line cause comes.0)
+  dump_due (BadLine line) comes =
+      absurd (not_replay words files before after (Dump name) is name refl tt entries known still comes.0.script comes.0.turns comes.0.dump comes.0.entries (λ e. omega (arith, e)) comes.0.asked)
+  dump_due (Checked found) comes = absurd (not_check words files before after (Dump name) is name refl tt entries known still found (λ e. omega (arith, e)) comes.0)
+  dump_due (Dumped found) comes =
+      inr (ap Dumped (has_entries words files before after (Dump name) is name refl tt entries known still found (Dump comes.0.data_file) comes.0.data_file comes.0.asked refl comes.0.good))
+  dump_due (Replayed events turns dump found) comes =
+      absurd (not_replay words files before after (Dump name) is name refl tt entries known still comes.0.script turns dump found (λ e. omega (arith, e)) comes.0.asked)
+  dump_due (Served asks end) comes = absurd (not_serve words files before after (Dump name) is name refl tt entries known still asks (λ e. omega (arith, e)) comes.0)
+  dump_due OutOfMemory comes = inl refl
 
 -- the parts of a replay
 script_of : CommandView → List ℕ
+script_of (Serve data_file address sessions turns) = []
 script_of (Replay data_file script turns dump) = script
 script_of (Check data_file) = []
 script_of (Dump data_file) = []
+script_of (Explain data_file who target item permission) = []
+script_of (Sample count) = []
 
 turns_of : CommandView → ℕ
+turns_of (Serve data_file address sessions turns) = 0
 turns_of (Replay data_file script turns dump) = turns
 turns_of (Check data_file) = 0
 turns_of (Dump data_file) = 0
+turns_of (Explain data_file who target item permission) = 0
+turns_of (Sample count) = 0
 
 dump_of : CommandView → Bool
+dump_of (Serve data_file address sessions turns) = false
 dump_of (Replay data_file script turns dump) = dump
 dump_of (Check data_file) = false
 dump_of (Dump data_file) = false
-
--- a data file alone: the entries are those of the file that is known
-alone_same : (command : List ℕ → CommandView) (words : List (List ℕ)) (files : Option Files) (asked : CommandView) (entries found : List EntryInformation)
-    → ((name : List ℕ) → data_of (command name) ≡ name) → IsCommand words asked → IsTold files (data_of asked) (IsGoodData entries) → AsksAlone command words files found → found ≡ entries
-alone_same command words files asked entries found names is known alone =
-    let same : alone.data_file ≡ data_of asked = sym (names alone.data_file) ∙ ap data_of (IsCommand-unique words (command alone.data_file) asked alone.asked is) in
-    let both = both_in files (data_of asked) (IsGoodData entries) (IsGoodData found) known (subst (λ name. HoldsIn files name (IsGoodData found)) same alone.good) in
-    one_entries found entries both.0 both.2 both.1
-
--- words that ask for a replay ask for nothing else
-not_replay : (words : List (List ℕ)) (files : Option Files) (asked : CommandView) (script : List ℕ) (turns : ℕ) (dump : Bool) (entries : List EntryInformation)
-    → IsCommand words asked → is_replay asked ≡ false → AsksReplay words files script turns dump entries → ⊥
-unfolding is_replay
-not_replay words files asked script turns dump entries is other replay =
-    let same : true ≡ is_replay asked = ap is_replay (IsCommand-unique words (Replay replay.data_file script turns dump) asked replay.asked is) in
-    let clash : true ≡ false = same ∙ other in cc
-
-not_alone : (command : List ℕ → CommandView) (test : CommandView → Bool) (words : List (List ℕ)) (files : Option Files) (asked : CommandView) (found : List EntryInformation)
-    → ((name : List ℕ) → test (command name) ≡ true) → IsCommand words asked → test asked ≡ false → AsksAlone command words files found → ⊥
-not_alone command test words files asked found passes is other alone =
-    let same : test (command alone.data_file) ≡ test asked = ap test (IsCommand-unique words (command alone.data_file) asked alone.asked is) in
-    let clash : true ≡ false = sym (passes alone.data_file) ∙ same ∙ other in cc
-
-is_dump : CommandView → Bool
-is_dump (Replay data_file script turns dump) = false
-is_dump (Check data_file) = false
-is_dump (Dump data_file) = true
-
--- a data file was to be checked
-check_due : (words : List (List ℕ)) (files : Option Files) (before after : ℕ) (outcome : Outcome) (name : List ℕ) (entries : List EntryInformation)
-    → IsCommand words (Check name) → IsTold files name (IsGoodData entries) → (Rose before after → ⊥) → Comes words files before after outcome
-    → (outcome ≡ OutOfMemory) ⊎ (outcome ≡ Checked entries)
-unfolding Comes is_replay is_check is_dump
-check_due words files before after NoCommand name entries is known still comes = absurd (asks_something words files before after (Check name) is entries known still comes.0)
-check_due words files before after NoFile name entries is known still (inl lacks) = absurd (has_data words files before after (Check name) is entries known still lacks)
-check_due words files before after NoFile name entries is known still (inr lacks) = absurd (not_replay words files (Check name) lacks.script lacks.turns lacks.dump lacks.entries is refl lacks.asked)
-check_due words files before after (BadDataLine line cause) name entries is known still comes = absurd (accepts_data words files before after (Check name) is entries known still line cause comes.0)
-check_due words files before after (BadLine line) name entries is known still comes = absurd (not_replay words files (Check name) comes.0.script comes.0.turns comes.0.dump comes.0.entries is refl comes.0.asked)
-check_due words files before after (Checked found) name entries is known still comes = inr (ap Checked (alone_same Check words files (Check name) entries found (λ n. refl) is known comes.0))
-check_due words files before after (Dumped found) name entries is known still comes = absurd (not_alone Dump is_dump words files (Check name) found (λ n. refl) is refl comes.0)
-check_due words files before after (Replayed events turns dump found) name entries is known still comes = absurd (not_replay words files (Check name) comes.0.script turns dump found is refl comes.0.asked)
-check_due words files before after OutOfMemory name entries is known still comes = inl refl
-
--- a data file was to be put again
-dump_due : (words : List (List ℕ)) (files : Option Files) (before after : ℕ) (outcome : Outcome) (name : List ℕ) (entries : List EntryInformation)
-    → IsCommand words (Dump name) → IsTold files name (IsGoodData entries) → (Rose before after → ⊥) → Comes words files before after outcome
-    → (outcome ≡ OutOfMemory) ⊎ (outcome ≡ Dumped entries)
-unfolding Comes is_replay is_check is_dump
-dump_due words files before after NoCommand name entries is known still comes = absurd (asks_something words files before after (Dump name) is entries known still comes.0)
-dump_due words files before after NoFile name entries is known still (inl lacks) = absurd (has_data words files before after (Dump name) is entries known still lacks)
-dump_due words files before after NoFile name entries is known still (inr lacks) = absurd (not_replay words files (Dump name) lacks.script lacks.turns lacks.dump lacks.entries is refl lacks.asked)
-dump_due words files before after (BadDataLine line cause) name entries is known still comes = absurd (accepts_data words files before after (Dump name) is entries known still line cause comes.0)
-dump_due words files before after (BadLine line) name entries is known still comes = absurd (not_replay words files (Dump name) comes.0.script comes.0.turns comes.0.dump comes.0.entries is refl comes.0.asked)
-dump_due words files before after (Checked found) name entries is known still comes = absurd (not_alone Check is_check words files (Dump name) found (λ n. refl) is refl comes.0)
-dump_due words files before after (Dumped found) name entries is known still comes = inr (ap Dumped (alone_same Dump words files (Dump name) entries found (λ n. refl) is known comes.0))
-dump_due words files before after (Replayed events turns dump found) name entries is known still comes = absurd (not_replay words files (Dump name) comes.0.script turns dump found is refl comes.0.asked)
-dump_due words files before after OutOfMemory name entries is known still comes = inl refl
-
--- the same replay
-module _ (words : List (List ℕ)) (files : Option Files) (name script : List ℕ) (turns : ℕ) (dump : Bool) (entries : List EntryInformation) (is : IsCommand words (Replay name script turns dump))
-    (known : IsTold files name (IsGoodData entries)) (other : List ℕ) (count : ℕ) (again : Bool) (found : List EntryInformation) (replay : AsksReplay words files other count again found) where
-  same_replay : Replay replay.data_file other count again ≡ Replay name script turns dump
-  same_replay = IsCommand-unique words (Replay replay.data_file other count again) (Replay name script turns dump) replay.asked is
-
-  same_script : other ≡ script
-  unfolding script_of
-  same_script = ap script_of same_replay
-
-  same_turns : count ≡ turns
-  unfolding turns_of
-  same_turns = ap turns_of same_replay
-
-  same_dump : again ≡ dump
-  unfolding dump_of
-  same_dump = ap dump_of same_replay
-
-  same_found : found ≡ entries
-  same_found =
-      let both = both_in files name (IsGoodData entries) (IsGoodData found) known (subst (λ file. HoldsIn files file (IsGoodData found)) (ap data_of same_replay) replay.good) in
-      one_entries found entries both.0 both.2 both.1
+dump_of (Explain data_file who target item permission) = false
+dump_of (Sample count) = false
 
 -- a script was to be replayed
-replay_due : (words : List (List ℕ)) (files : Option Files) (before after : ℕ) (outcome : Outcome) (name script : List ℕ) (turns : ℕ) (dump : Bool) (entries : List EntryInformation) (events : List ScriptEvent)
-    → IsCommand words (Replay name script turns dump) → IsTold files name (IsGoodData entries) → IsTold files script (IsGoodScript events) → (Rose before after → ⊥)
-    → Comes words files before after outcome → (outcome ≡ OutOfMemory) ⊎ (outcome ≡ Replayed events turns dump entries)
-unfolding Comes is_replay is_check is_dump
-replay_due words files before after NoCommand name script turns dump entries events is known scripted still comes =
-    absurd (asks_something words files before after (Replay name script turns dump) is entries known still comes.0)
-replay_due words files before after NoFile name script turns dump entries events is known scripted still (inl lacks) =
-    absurd (has_data words files before after (Replay name script turns dump) is entries known still lacks)
-replay_due words files before after NoFile name script turns dump entries events is known scripted still (inr lacks) =
-    let same = same_script words files name script turns dump entries is known lacks.script lacks.turns lacks.dump lacks.entries lacks.asked in
-    absurd (known_read files script (IsGoodScript events) before after scripted still (subst (λ file. IsUnread files file before after) same lacks.unread))
-replay_due words files before after (BadDataLine line cause) name script turns dump entries events is known scripted still comes =
-    absurd (accepts_data words files before after (Replay name script turns dump) is entries known still line cause comes.0)
-replay_due words files before after (BadLine line) name script turns dump entries events is known scripted still comes =
-    let same = same_script words files name script turns dump entries is known comes.0.script comes.0.turns comes.0.dump comes.0.entries comes.0.asked in
-    let both = both_in files script (IsGoodScript events) (IsBadScript line) scripted (subst (λ file. HoldsIn files file (IsBadScript line)) same comes.0.bad) in
-    absurd (good_not_bad events line both.0 both.1 both.2)
-replay_due words files before after (Checked found) name script turns dump entries events is known scripted still comes =
-    absurd (not_alone Check is_check words files (Replay name script turns dump) found (λ n. refl) is refl comes.0)
-replay_due words files before after (Dumped found) name script turns dump entries events is known scripted still comes =
-    absurd (not_alone Dump is_dump words files (Replay name script turns dump) found (λ n. refl) is refl comes.0)
-replay_due words files before after (Replayed played count again found) name script turns dump entries events is known scripted still comes =
-    let script_is = same_script words files name script turns dump entries is known comes.0.script count again found comes.0.asked in
-    let both = both_in files script (IsGoodScript events) (IsGoodScript played) scripted (subst (λ file. HoldsIn files file (IsGoodScript played)) script_is comes.0.good) in
-    let played_is : played ≡ events = one_events played events both.0 both.2 both.1 in
-    let turns_is : count ≡ turns = same_turns words files name script turns dump entries is known comes.0.script count again found comes.0.asked in
-    let dump_is : again ≡ dump = same_dump words files name script turns dump entries is known comes.0.script count again found comes.0.asked in
-    let found_is : found ≡ entries = same_found words files name script turns dump entries is known comes.0.script count again found comes.0.asked in
-    inr (cc (played_is, turns_is, dump_is, found_is))
-replay_due words files before after OutOfMemory name script turns dump entries events is known scripted still comes = inl refl
+module _ (words : List (List ℕ)) (files : Option Files) (before after : ℕ) (name script : List ℕ) (turns : ℕ) (dump : Bool) (entries : List EntryInformation) (events : List ScriptEvent)
+    (is : IsCommand words (Replay name script turns dump)) (known : IsTold files name (IsGoodData entries)) (scripted : IsTold files script (IsGoodScript events)) (still : Rose before after → ⊥) where
+  -- it is the only one
+  same_replay : (file other : List ℕ) (count : ℕ) (again : Bool) → IsCommand words (Replay file other count again) → Replay file other count again ≡ Replay name script turns dump
+  same_replay file other count again is_other = IsCommand-unique words (Replay file other count again) (Replay name script turns dump) is_other is
+
+  same_script : (other : List ℕ) (count : ℕ) (again : Bool) (found : List EntryInformation) → AsksReplay words files other count again found → other ≡ script
+  unfolding script_of
+  same_script other count again found replay = ap script_of (same_replay replay.data_file other count again replay.asked)
+
+  replay_due : (outcome : Outcome) → Comes words files before after outcome → (outcome ≡ OutOfMemory) ⊎ (outcome ≡ Replayed events turns dump entries)
+  unfolding Comes kind_of turns_of dump_of
+  replay_due NoCommand comes = absurd (asks_something words files before after (Replay name script turns dump) is name refl tt entries known still comes.0)
+  replay_due NoFile (inl lacks) = absurd (has_data words files before after (Replay name script turns dump) is name refl tt entries known still lacks)
+  replay_due NoFile (inr lacks) =
+      let same = same_script lacks.script lacks.turns lacks.dump lacks.entries lacks.asked in
+      absurd (known_read files script (IsGoodScript events) before after scripted still (subst (λ file. IsUnread files file before after) same lacks.unread))
+  replay_due (BadDataLine line cause) comes = absurd (accepts_data words files before after (Replay name script turns dump) is name refl tt entries known still line cause comes.0)
+  replay_due (BadLine line) comes =
+      let same = same_script comes.0.script comes.0.turns comes.0.dump comes.0.entries comes.0.asked in
+      let both = both_in files script (IsGoodScript events) (IsBadScript line) scripted (subst (λ file. HoldsIn files file (IsBadScript line)) same comes.0.bad) in
+      absurd (good_not_bad events line both.0 both.1 both.2)
+  replay_due (Checked found) comes = absurd (not_check words files before after (Replay name script turns dump) is name refl tt entries known still found (λ e. omega (arith, e)) comes.0)
+  replay_due (Dumped found) comes = absurd (not_dump words files before after (Replay name script turns dump) is name refl tt entries known still found (λ e. omega (arith, e)) comes.0)
+  replay_due (Replayed played count again found) comes =
+      let replay = comes.0.asked in
+      let same = same_replay replay.data_file comes.0.script count again replay.asked in
+      let script_is = same_script comes.0.script count again found replay in
+      let both = both_in files script (IsGoodScript events) (IsGoodScript played) scripted (subst (λ file. HoldsIn files file (IsGoodScript played)) script_is comes.0.good) in
+      let played_is : played ≡ events = one_events played events both.0 both.2 both.1 in
+      let turns_is : count ≡ turns = ap turns_of same in
+      let dump_is : again ≡ dump = ap dump_of same in
+      let found_is : found ≡ entries =
+      has_entries words files before after (Replay name script turns dump) is name refl tt entries known still found (Replay replay.data_file comes.0.script count again) replay.data_file replay.asked refl replay.good in
+      inr (cc (played_is, turns_is, dump_is, found_is))
+  replay_due (Served asks end) comes = absurd (not_serve words files before after (Replay name script turns dump) is name refl tt entries known still asks (λ e. omega (arith, e)) comes.0)
+  replay_due OutOfMemory comes = inl refl
+
+-- the status of want of memory, and that of serving
+status_of-memory : status_of OutOfMemory ≡ NoMemory
+unfolding status_of
+status_of-memory = refl
+
+status_of-stopped : (asks : ServeAsked) → status_of (Served asks (LoopEnded ended.Stopped)) ≡ Done
+unfolding status_of
+status_of-stopped asks = refl
+
+-- a data file was to be served, and the link didn't fail and gave Stop
+module _ (words : List (List ℕ)) (files : Option Files) (before after : ℕ) (name : List ℕ) (asks : ServeAsked) (old new : Linked)
+    (is : IsCommand words (Serve name asks.address asks.sessions asks.turns)) (known : IsTold files name (IsGoodData asks.entries)) (still : Rose before after → ⊥)
+    (no_fault : Rose old.faults new.faults → ⊥) (hears : HearsStop old.journal new.journal) where
+  serve_due : (outcome : Outcome) → Comes words files before after outcome → Links outcome old new → (status_of outcome ≡ NoMemory) ⊎ (status_of outcome ≡ Done)
+  unfolding Comes Links kind_of status_of
+  serve_due NoCommand comes links = absurd (asks_something words files before after (Serve name asks.address asks.sessions asks.turns) is name refl tt asks.entries known still comes.0)
+  serve_due NoFile (inl lacks) links = absurd (has_data words files before after (Serve name asks.address asks.sessions asks.turns) is name refl tt asks.entries known still lacks)
+  serve_due NoFile (inr lacks) links =
+      absurd (not_replay words files before after (Serve name asks.address asks.sessions asks.turns) is name refl tt asks.entries known still lacks.script lacks.turns lacks.dump lacks.entries (λ e. omega (arith, e)) lacks.asked)
+  serve_due (BadDataLine line cause) comes links =
+      absurd (accepts_data words files before after (Serve name asks.address asks.sessions asks.turns) is name refl tt asks.entries known still line cause comes.0)
+  serve_due (BadLine line) comes links =
+      absurd (not_replay words files before after (Serve name asks.address asks.sessions asks.turns) is name refl tt asks.entries known still comes.0.script comes.0.turns comes.0.dump comes.0.entries (λ e. omega (arith, e)) comes.0.asked)
+  serve_due (Checked found) comes links =
+      absurd (not_check words files before after (Serve name asks.address asks.sessions asks.turns) is name refl tt asks.entries known still found (λ e. omega (arith, e)) comes.0)
+  serve_due (Dumped found) comes links =
+      absurd (not_dump words files before after (Serve name asks.address asks.sessions asks.turns) is name refl tt asks.entries known still found (λ e. omega (arith, e)) comes.0)
+  serve_due (Replayed events turns dump found) comes links =
+      absurd (not_replay words files before after (Serve name asks.address asks.sessions asks.turns) is name refl tt asks.entries known still comes.0.script turns dump found (λ e. omega (arith, e)) comes.0.asked)
+  serve_due (Served other end) comes links = served_done other end old new no_fault hears links
+  serve_due OutOfMemory comes links = inl refl
+
+-- an outcome that is want of memory, or the one that is due, has its status
+as_status : (outcome due : Outcome) → (outcome ≡ OutOfMemory) ⊎ (outcome ≡ due) → (status_of outcome ≡ NoMemory) ⊎ (status_of outcome ≡ status_of due)
+as_status outcome due (inl none) = inl (ap status_of none ∙ status_of-memory)
+as_status outcome due (inr same) = inr (ap status_of same)
 
 -- the outcome that is due comes, but for want of memory
-pub due_comes : (words : List (List ℕ)) (files : Option Files) (before after : ℕ) (outcome due : Outcome)
-    → IsDue words files due → (Rose before after → ⊥) → Comes words files before after outcome → (outcome ≡ OutOfMemory) ⊎ (outcome ≡ due)
+pub due_comes : (words : List (List ℕ)) (files : Option Files) (before after : ℕ) (old new : Linked) (outcome due : Outcome)
+    → IsDue words files old new due → (Rose before after → ⊥) → Comes words files before after outcome → Links outcome old new
+    → (status_of outcome ≡ NoMemory) ⊎ (status_of outcome ≡ status_of due)
 unfolding IsDue
-due_comes words files before after outcome NoCommand is still comes = absurd is
-due_comes words files before after outcome NoFile is still comes = absurd is
-due_comes words files before after outcome (BadDataLine line cause) is still comes = absurd is
-due_comes words files before after outcome (BadLine line) is still comes = absurd is
-due_comes words files before after outcome (Checked entries) is still comes = check_due words files before after outcome is.0 entries is.1 is.2 still comes
-due_comes words files before after outcome (Dumped entries) is still comes = dump_due words files before after outcome is.0 entries is.1 is.2 still comes
-due_comes words files before after outcome (Replayed events turns dump entries) is still comes =
-    replay_due words files before after outcome is.0 is.1 turns dump entries events is.2 is.3 is.4 still comes
-due_comes words files before after outcome OutOfMemory is still comes = absurd is
+due_comes words files before after old new outcome NoCommand is still comes links = absurd is
+due_comes words files before after old new outcome NoFile is still comes links = absurd is
+due_comes words files before after old new outcome (BadDataLine line cause) is still comes links = absurd is
+due_comes words files before after old new outcome (BadLine line) is still comes links = absurd is
+due_comes words files before after old new outcome (Checked entries) is still comes links =
+    as_status outcome (Checked entries) (check_due words files before after is.0 entries is.1 is.2 still outcome comes)
+due_comes words files before after old new outcome (Dumped entries) is still comes links =
+    as_status outcome (Dumped entries) (dump_due words files before after is.0 entries is.1 is.2 still outcome comes)
+due_comes words files before after old new outcome (Replayed events turns dump entries) is still comes links =
+    as_status outcome (Replayed events turns dump entries) (replay_due words files before after is.0 is.1 turns dump entries events is.2 is.3 is.4 still outcome comes)
+due_comes words files before after old new outcome (Served asks end) is still comes links =
+    let P : ServeEnd → Type 0 = λ how. (status_of outcome ≡ NoMemory) ⊎ (status_of outcome ≡ status_of (Served asks how)) in
+    subst P (sym is.0) (subst (λ wanted. (status_of outcome ≡ NoMemory) ⊎ (status_of outcome ≡ wanted)) (sym (status_of-stopped asks))
+    (serve_due words files before after is.1 asks old new is.2 is.3 still is.4 is.5 outcome comes links))
+due_comes words files before after old new outcome OutOfMemory is still comes links = absurd is

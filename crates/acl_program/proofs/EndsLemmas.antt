@@ -5,18 +5,30 @@ use Rattle.wire_io.specs.declared.answers.PutFault.{PutFault}
 use Rattle.wire_io.specs.declared.answers.PutFault.TheVariants as put
 use Rattle.wire_io.specs.Pieces.{pieces}
 use Rattle.wire_io.specs.Putting.{appended, PutsAll, PutCause}
+use Rattle.session_hub.specs.declared.ended.Ended.{Ended}
+use Rattle.session_hub.specs.declared.ended.Ended.TheVariants as ended
 use Rattle.session_hub.specs.Loops.{buffer_length}
 use Rattle.acl_program.specs.declared.status.Status.{Status}
 use Rattle.acl_program.specs.declared.status.Status.TheVariants.{Done, Usage, BadData, ShelfFault, SinkFault, LinkFault, TurnsSpent, NoMemory, BadScript}
-use Rattle.acl_program.specs.Outcomes.{Outcome, NoCommand, NoFile, BadDataLine, BadLine, Checked, Dumped, Replayed, OutOfMemory, text_of, status_of, settled}
+use Rattle.acl_program.specs.Outcomes.{Outcome, NoCommand, NoFile, BadDataLine, BadLine, Checked, Dumped, Replayed, Served, OutOfMemory, text_of, status_of, settled}
 use Rattle.acl_program.specs.Outside.{Written}
 use Rattle.acl_program.specs.Running.{PutsFront}
+use Rattle.acl_program.specs.Serving.{ServeEnd, NotBegun, NotOpened, NotServed, LoopEnded, serve_status}
 use Rattle.acl_program.specs.Playing.{Ends}
 
 -- no outcome has the status of a sink's fault
 done_or_spent-not_sink : (stopped : Bool) → SinkFault ≡ (if stopped then Done else TurnsSpent) → ⊥
 done_or_spent-not_sink true is = cc
 done_or_spent-not_sink false is = cc
+
+serve-not_sink : (end : ServeEnd) → SinkFault ≡ serve_status end → ⊥
+serve-not_sink NotBegun is = cc
+serve-not_sink NotOpened is = cc
+serve-not_sink NotServed is = cc
+serve-not_sink (LoopEnded ended.Stopped) is = cc
+serve-not_sink (LoopEnded ended.TurnsSpent) is = cc
+serve-not_sink (LoopEnded ended.LinkFault) is = cc
+serve-not_sink (LoopEnded ended.NoMemory) is = cc
 
 status_of-not_sink : (outcome : Outcome) → SinkFault ≡ status_of outcome → ⊥
 unfolding status_of
@@ -27,6 +39,7 @@ status_of-not_sink (BadLine line) is = cc
 status_of-not_sink (Checked entries) is = cc
 status_of-not_sink (Dumped entries) is = cc
 status_of-not_sink (Replayed events turns dump entries) is = done_or_spent-not_sink (nat_lt (length (pieces buffer_length events)) turns) is
+status_of-not_sink (Served asked end) is = serve-not_sink end is
 status_of-not_sink OutOfMemory is = cc
 
 -- the whole text is a front of it

@@ -3,6 +3,7 @@ mod EndsLemmas
 mod PrintLemmas
 mod JournalLemmas
 mod PlayLemmas
+mod ServeLemmas
 mod OutcomeLemmas
 mod DueLemmas
 mod PerformLemmas

@@ -1,6 +1,7 @@
 -- Lemmas on which outcome may come with the words and the shelf, by the status that it has.
-use Rattle.std.proofs.Common.{◌≡◌, ℕ, Bool, true, false, List, length, Option, inl, inr, ◌⊎◌, if◌then◌else◌, nat_lt}
+use Rattle.std.proofs.Common.{◌≡◌, ℕ, Bool, true, false, List, length, Option, ap, inl, inr, ◌⊎◌, if◌then◌else◌, nat_lt}
 use Rattle.script_text.specs.declared.event.ScriptEvent.{ScriptEvent}
+use Rattle.plain_values.specs.Counts.{Rose}
 use Rattle.wire_io.specs.Files.{Files}
 use Rattle.wire_io.specs.Pieces.{pieces}
 use Rattle.session_hub.specs.Loops.{buffer_length}
@@ -8,11 +9,13 @@ use Rattle.dir_tree.specs.Entries.{EntryInformation}
 use Rattle.op_write.specs.DataFile.{FileCause}
 use Rattle.acl_program.specs.declared.status.Status.{Status}
 use Rattle.acl_program.specs.declared.status.Status.TheVariants.{Done, Usage, BadData, ShelfFault, SinkFault, LinkFault, TurnsSpent, NoMemory, BadScript}
-use Rattle.acl_program.specs.Outside.{Shelved, Outside}
-use Rattle.acl_program.specs.Outcomes.{Outcome, NoCommand, NoFile, BadDataLine, BadLine, Checked, Dumped, Replayed, OutOfMemory, status_of}
-use Rattle.acl_program.specs.Causes.{IsNoCommand, LacksData, LacksScript, RefusesData, RefusesScript, Comes}
+use Rattle.acl_program.specs.Outside.{Linked, Outside}
+use Rattle.acl_program.specs.Outcomes.{Outcome, NoCommand, NoFile, BadDataLine, BadLine, Checked, Dumped, Replayed, Served, OutOfMemory, status_of}
+use Rattle.acl_program.specs.Causes.{IsNoCommand, AsksServing, AsksServe, LacksData, LacksScript, RefusesData, RefusesScript, Comes, Links}
 use Rattle.acl_program.specs.Running.{Puts, IsCause, EndsAtFaults}
 use Rattle.acl_program.specs.Playing.{Ends}
+use Rattle.acl_program.specs.Serving.{ServeAsked}
+use Rattle.acl_program.proofs.ServeLemmas.{serve_not, fault_rose, serve_count_stays}
 
 -- a replay's status is one of two
 is_either : (status : Status) (stopped : Bool) → status ≡ (if stopped then Done else TurnsSpent) → (status ≡ Done) ⊎ (status ≡ TurnsSpent)
@@ -40,6 +43,7 @@ usage_comes words files before after (BadLine line) is comes = absurd (cc)
 usage_comes words files before after (Checked entries) is comes = absurd (cc)
 usage_comes words files before after (Dumped entries) is comes = absurd (cc)
 usage_comes words files before after (Replayed events turns dump entries) is comes = absurd (not_replayed Usage events turns dump entries is (λ e. cc) (λ e. cc))
+usage_comes words files before after (Served asked end) is comes = absurd (serve_not Usage end is (λ e. cc) (λ e. cc) (λ e. cc) (λ e. cc))
 usage_comes words files before after OutOfMemory is comes = absurd (cc)
 
 -- what came, by the status of the outcome
@@ -53,6 +57,7 @@ data_cause words files before after (BadLine line) is comes = absurd (cc)
 data_cause words files before after (Checked entries) is comes = absurd (cc)
 data_cause words files before after (Dumped entries) is comes = absurd (cc)
 data_cause words files before after (Replayed events turns dump entries) is comes = absurd (not_replayed BadData events turns dump entries is (λ e. cc) (λ e. cc))
+data_cause words files before after (Served asked end) is comes = absurd (serve_not BadData end is (λ e. cc) (λ e. cc) (λ e. cc) (λ e. cc))
 data_cause words files before after OutOfMemory is comes = absurd (cc)
 
 shelf_cause : (words : List (List ℕ)) (files : Option Files) (before after : ℕ) (outcome : Outcome)
@@ -65,6 +70,7 @@ shelf_cause words files before after (BadLine line) is comes = absurd (cc)
 shelf_cause words files before after (Checked entries) is comes = absurd (cc)
 shelf_cause words files before after (Dumped entries) is comes = absurd (cc)
 shelf_cause words files before after (Replayed events turns dump entries) is comes = absurd (not_replayed ShelfFault events turns dump entries is (λ e. cc) (λ e. cc))
+shelf_cause words files before after (Served asked end) is comes = absurd (serve_not ShelfFault end is (λ e. cc) (λ e. cc) (λ e. cc) (λ e. cc))
 shelf_cause words files before after OutOfMemory is comes = absurd (cc)
 
 script_cause : (words : List (List ℕ)) (files : Option Files) (before after : ℕ) (outcome : Outcome)
@@ -77,33 +83,57 @@ script_cause words files before after (BadLine line) is comes = (line, comes.0)
 script_cause words files before after (Checked entries) is comes = absurd (cc)
 script_cause words files before after (Dumped entries) is comes = absurd (cc)
 script_cause words files before after (Replayed events turns dump entries) is comes = absurd (not_replayed BadScript events turns dump entries is (λ e. cc) (λ e. cc))
+script_cause words files before after (Served asked end) is comes = absurd (serve_not BadScript end is (λ e. cc) (λ e. cc) (λ e. cc) (λ e. cc))
 script_cause words files before after OutOfMemory is comes = absurd (cc)
 
--- no outcome has the status of a fault of the link
-no_link_fault : (outcome : Outcome) → LinkFault ≡ status_of outcome → ⊥
-unfolding status_of
-no_link_fault NoCommand is = cc
-no_link_fault NoFile is = cc
-no_link_fault (BadDataLine line cause) is = cc
-no_link_fault (BadLine line) is = cc
-no_link_fault (Checked entries) is = cc
-no_link_fault (Dumped entries) is = cc
-no_link_fault (Replayed events turns dump entries) is = not_replayed LinkFault events turns dump entries is (λ e. cc) (λ e. cc)
-no_link_fault OutOfMemory is = cc
+-- a data file is to be served
+serving_asked : (words : List (List ℕ)) (files : Option Files) (asked : ServeAsked) → AsksServe words files asked → AsksServing words
+unfolding AsksServing
+serving_asked words files asked asks = (asks.data_file, asked.address, asked.sessions, asked.turns, asks.asked)
+
+-- a fault of the link comes of serving alone, and raised its count
+link_cause : (words : List (List ℕ)) (files : Option Files) (before after : ℕ) (old new : Linked) (outcome : Outcome)
+    → LinkFault ≡ status_of outcome → Comes words files before after outcome → Links outcome old new → AsksServing words × Rose old.faults new.faults
+unfolding status_of Comes Links
+link_cause words files before after old new NoCommand is comes links = absurd (cc)
+link_cause words files before after old new NoFile is comes links = absurd (cc)
+link_cause words files before after old new (BadDataLine line cause) is comes links = absurd (cc)
+link_cause words files before after old new (BadLine line) is comes links = absurd (cc)
+link_cause words files before after old new (Checked entries) is comes links = absurd (cc)
+link_cause words files before after old new (Dumped entries) is comes links = absurd (cc)
+link_cause words files before after old new (Replayed events turns dump entries) is comes links = absurd (not_replayed LinkFault events turns dump entries is (λ e. cc) (λ e. cc))
+link_cause words files before after old new (Served asked end) is comes links = (serving_asked words files asked comes.0, fault_rose asked old new end is links)
+link_cause words files before after old new OutOfMemory is comes links = absurd (cc)
+
+-- words that ask for nothing to be served leave the link as it is
+pub link_stays : (words : List (List ℕ)) (files : Option Files) (before after : ℕ) (old new : Linked) (outcome : Outcome)
+    → (AsksServing words → ⊥) → Comes words files before after outcome → Links outcome old new → new ≡ old
+unfolding Comes Links
+link_stays words files before after old new NoCommand other comes links = links
+link_stays words files before after old new NoFile other comes links = links
+link_stays words files before after old new (BadDataLine line cause) other comes links = links
+link_stays words files before after old new (BadLine line) other comes links = links
+link_stays words files before after old new (Checked entries) other comes links = links
+link_stays words files before after old new (Dumped entries) other comes links = links
+link_stays words files before after old new (Replayed events turns dump entries) other comes links = links
+link_stays words files before after old new (Served asked end) other comes links = absurd (other (serving_asked words files asked comes.0))
+link_stays words files before after old new OutOfMemory other comes links = links
 
 -- the cause of each status
-pub cause_comes : (words : List (List ℕ)) (before after : Shelved) (outcome : Outcome) (old : Option (List ℕ)) (status : Status) (new : Option (List ℕ))
-    → Puts outcome old status new → Comes words before.files before.faults after.faults outcome → IsCause words before after status
+pub cause_comes : (words : List (List ℕ)) (before after : Outside) (outcome : Outcome) (status : Status)
+    → Puts outcome before.out.put status after.out.put → Comes words before.shelf.files before.shelf.faults after.shelf.faults outcome → Links outcome before.link after.link
+    → IsCause words before after status
 unfolding IsCause
-cause_comes words before after outcome old Done new puts comes = tt
-cause_comes words before after outcome old Usage new puts comes = tt
-cause_comes words before after outcome old BadData new puts comes = data_cause words before.files before.faults after.faults outcome puts.0 comes
-cause_comes words before after outcome old ShelfFault new puts comes = shelf_cause words before.files before.faults after.faults outcome puts.0 comes
-cause_comes words before after outcome old SinkFault new puts comes = tt
-cause_comes words before after outcome old LinkFault new puts comes = no_link_fault outcome puts.0
-cause_comes words before after outcome old TurnsSpent new puts comes = tt
-cause_comes words before after outcome old NoMemory new puts comes = tt
-cause_comes words before after outcome old BadScript new puts comes = script_cause words before.files before.faults after.faults outcome puts.0 comes
+cause_comes words before after outcome Done puts comes links = tt
+cause_comes words before after outcome Usage puts comes links = tt
+cause_comes words before after outcome BadData puts comes links = data_cause words before.shelf.files before.shelf.faults after.shelf.faults outcome puts.0 comes
+cause_comes words before after outcome ShelfFault puts comes links = shelf_cause words before.shelf.files before.shelf.faults after.shelf.faults outcome puts.0 comes
+cause_comes words before after outcome SinkFault puts comes links = tt
+cause_comes words before after outcome LinkFault puts comes links =
+    link_cause words before.shelf.files before.shelf.faults after.shelf.faults before.link after.link outcome puts.0 comes links
+cause_comes words before after outcome TurnsSpent puts comes links = tt
+cause_comes words before after outcome NoMemory puts comes links = tt
+cause_comes words before after outcome BadScript puts comes links = script_cause words before.shelf.files before.shelf.faults after.shelf.faults outcome puts.0 comes
 
 -- the shelf's count is as it was where its fault isn't answered
 pub count_stays : (words : List (List ℕ)) (files : Option Files) (before after : ℕ) (outcome : Outcome) (status : Status)
@@ -116,18 +146,44 @@ count_stays words files before after (BadLine line) status is other comes = come
 count_stays words files before after (Checked entries) status is other comes = comes.1
 count_stays words files before after (Dumped entries) status is other comes = comes.1
 count_stays words files before after (Replayed events turns dump entries) status is other comes = comes.1
+count_stays words files before after (Served asked end) status is other comes = comes.1
 count_stays words files before after OutOfMemory status is other comes = comes
 
--- what the two counts say of each status
-pub faults_end : (words : List (List ℕ)) (before after : Outside) (outcome : Outcome) (status : Status)
-    → Comes words before.shelf.files before.shelf.faults after.shelf.faults outcome → Ends outcome before.out status after.out → EndsAtFaults before after status
-unfolding EndsAtFaults
-faults_end words before after outcome Done comes ends = (count_stays words before.shelf.files before.shelf.faults after.shelf.faults outcome Done ends.puts.0 (λ e. cc) comes, ends.cause)
-faults_end words before after outcome Usage comes ends = (count_stays words before.shelf.files before.shelf.faults after.shelf.faults outcome Usage ends.puts.0 (λ e. cc) comes, ends.cause)
-faults_end words before after outcome BadData comes ends = (count_stays words before.shelf.files before.shelf.faults after.shelf.faults outcome BadData ends.puts.0 (λ e. cc) comes, ends.cause)
-faults_end words before after outcome ShelfFault comes ends = ends.cause
-faults_end words before after outcome SinkFault comes ends = ends.cause
-faults_end words before after outcome LinkFault comes ends = (count_stays words before.shelf.files before.shelf.faults after.shelf.faults outcome LinkFault ends.puts.0 (λ e. cc) comes, ends.cause)
-faults_end words before after outcome TurnsSpent comes ends = (count_stays words before.shelf.files before.shelf.faults after.shelf.faults outcome TurnsSpent ends.puts.0 (λ e. cc) comes, ends.cause)
-faults_end words before after outcome NoMemory comes ends = ends.cause
-faults_end words before after outcome BadScript comes ends = (count_stays words before.shelf.files before.shelf.faults after.shelf.faults outcome BadScript ends.puts.0 (λ e. cc) comes, ends.cause)
+-- the link's count is as it was where its fault isn't answered, and memory was there
+link_count_stays : (outcome : Outcome) (old new : Linked) (status : Status)
+    → status ≡ status_of outcome → (status ≡ LinkFault → ⊥) → (status ≡ NoMemory → ⊥) → Links outcome old new → new.faults ≡ old.faults
+unfolding status_of Links
+link_count_stays NoCommand old new status is not_fault not_memory links = ap (λ link. link.faults) links
+link_count_stays NoFile old new status is not_fault not_memory links = ap (λ link. link.faults) links
+link_count_stays (BadDataLine line cause) old new status is not_fault not_memory links = ap (λ link. link.faults) links
+link_count_stays (BadLine line) old new status is not_fault not_memory links = ap (λ link. link.faults) links
+link_count_stays (Checked entries) old new status is not_fault not_memory links = ap (λ link. link.faults) links
+link_count_stays (Dumped entries) old new status is not_fault not_memory links = ap (λ link. link.faults) links
+link_count_stays (Replayed events turns dump entries) old new status is not_fault not_memory links = ap (λ link. link.faults) links
+link_count_stays (Served asked end) old new status is not_fault not_memory links = serve_count_stays asked old new end status is not_fault not_memory links
+link_count_stays OutOfMemory old new status is not_fault not_memory links = ap (λ link. link.faults) links
+
+module _ (words : List (List ℕ)) (before after : Outside) (outcome : Outcome)
+    (comes : Comes words before.shelf.files before.shelf.faults after.shelf.faults outcome) (links : Links outcome before.link after.link) where
+  -- the shelf's count, and the link's
+  shelf_stays : (status : Status) → status ≡ status_of outcome → (status ≡ ShelfFault → ⊥) → after.shelf.faults ≡ before.shelf.faults
+  shelf_stays status is other = count_stays words before.shelf.files before.shelf.faults after.shelf.faults outcome status is other comes
+
+  linked_stays : (status : Status) → status ≡ status_of outcome → (status ≡ LinkFault → ⊥) → (status ≡ NoMemory → ⊥) → after.link.faults ≡ before.link.faults
+  linked_stays status is not_fault not_memory = link_count_stays outcome before.link after.link status is not_fault not_memory links
+
+  -- what the counts say of each status
+  pub faults_end : (status : Status) → Ends outcome before.out status after.out → EndsAtFaults before after status
+  unfolding EndsAtFaults
+  faults_end Done ends = ((shelf_stays Done ends.puts.0 (λ e. cc), ends.cause), linked_stays Done ends.puts.0 (λ e. cc) (λ e. cc))
+  faults_end Usage ends = ((shelf_stays Usage ends.puts.0 (λ e. cc), ends.cause), linked_stays Usage ends.puts.0 (λ e. cc) (λ e. cc))
+  faults_end BadData ends = ((shelf_stays BadData ends.puts.0 (λ e. cc), ends.cause), linked_stays BadData ends.puts.0 (λ e. cc) (λ e. cc))
+  faults_end ShelfFault ends = (ends.cause, linked_stays ShelfFault ends.puts.0 (λ e. cc) (λ e. cc))
+  faults_end SinkFault ends = ends.cause
+  faults_end LinkFault ends = (
+    (shelf_stays LinkFault ends.puts.0 (λ e. cc), ends.cause),
+    (link_cause words before.shelf.files before.shelf.faults after.shelf.faults before.link after.link outcome ends.puts.0 comes links).1,
+  )
+  faults_end TurnsSpent ends = ((shelf_stays TurnsSpent ends.puts.0 (λ e. cc), ends.cause), linked_stays TurnsSpent ends.puts.0 (λ e. cc) (λ e. cc))
+  faults_end NoMemory ends = ends.cause
+  faults_end BadScript ends = ((shelf_stays BadScript ends.puts.0 (λ e. cc), ends.cause), linked_stays BadScript ends.puts.0 (λ e. cc) (λ e. cc))

@@ -11,6 +11,7 @@ use Rattle.wire_io.proofs.Theorems.{appended-none}
 use Rattle.session_hub.specs.declared.ended.Ended.TheVariants as ended
 use Rattle.session_hub.specs.Loops.{buffer_length}
 use Rattle.command_words.specs.Command.{CommandView, IsCommand}
+use Rattle.command_words.proofs.Theorems.{IsCommand-unique}
 use Rattle.dir_tree.specs.Entries.{EntryInformation}
 use Rattle.dir_tree.specs.Numbered.{Numbered}
 use Rattle.dir_tree.specs.Numbered.{entries_of}
@@ -21,7 +22,7 @@ use Rattle.command_files.specs.declared.loading.Trouble.{Trouble}
 use Rattle.command_files.specs.declared.loading.Trouble.TheVariants as trouble
 use Rattle.acl_program.specs.Outcomes.{Outcome, NoCommand, NoFile, BadLine, Replayed, OutOfMemory, dump_text, text_of, status_of}
 use Rattle.acl_program.specs.Lines.{entries_after}
-use Rattle.acl_program.specs.Causes.{IsNoCommand, Comes, IsDue}
+use Rattle.acl_program.specs.Causes.{IsNoCommand, IsPerformed, AsksServing, Comes, Links, IsDue}
 use Rattle.acl_program.specs.Running.{Prints, Puts, EndsAs, IsCause, EndsAtFaults}
 use Rattle.acl_program.specs.Outside.{Written, Outside}
 use Rattle.acl_program.specs.Playing.{IsSinkCount, Plays, Shows, Ends, Performs, Runs, journal_text}
@@ -29,7 +30,7 @@ use Rattle.acl_program.specs.Asked.{ReplayAsked, Replays}
 use Rattle.command_files.specs.Loading.{LoadsScript, LoadsData}
 use Rattle.acl_program.specs.Troubles.{outcome_of}
 use Rattle.acl_program.proofs.EndsLemmas.{Ends-no_memory}
-use Rattle.acl_program.proofs.OutcomeLemmas.{usage_comes, cause_comes, faults_end}
+use Rattle.acl_program.proofs.OutcomeLemmas.{usage_comes, cause_comes, faults_end, link_stays}
 use Rattle.acl_program.proofs.DueLemmas.{due_comes}
 
 -- a replay is done where the script has fewer pieces than turns, and otherwise its turns are spent
@@ -110,20 +111,34 @@ pub Runs-usage :
     (words : List (List ℕ)) (before after : Outside) (status : Status)
     → ((asked : CommandView) → IsCommand words asked → None ≡ Some asked) → Ends NoCommand before.out status after.out
     → after.shelf.faults ≡ before.shelf.faults → after.link ≡ before.link → Runs words before status after
-unfolding Runs Comes IsNoCommand
+unfolding Runs Comes Links IsNoCommand
 Runs-usage words before after status only ends stays same =
-    (NoCommand, ((λ asked is. let none : None ≡ Some asked = only asked is in cc), stays), ends, same)
+    (NoCommand, ((λ asked is performed. let none : None ≡ Some asked = only asked is in cc), stays), ends, same)
+
+-- they ask for a command that isn't done
+pub Performs-undone :
+    (asked : CommandView) (before after : Outside) (status : Status)
+    → (IsPerformed asked → ⊥) → Ends NoCommand before.out status after.out → after.shelf.faults ≡ before.shelf.faults → after.link ≡ before.link → Performs asked before status after
+unfolding Performs Comes Links IsNoCommand
+Performs-undone asked before after status undone ends stays same =
+    let P : CommandView → Type 0 = λ command. IsPerformed command in
+    (NoCommand, (λ words is. ((λ other is_other performed. undone (subst P (IsCommand-unique words other asked is_other is) performed)), stays)), ends, same)
 
 module _ (words : List (List ℕ)) (before after : Outside) (status : Status) where
   -- the text of an outcome that comes
   pub Runs-prints : Runs words before status after → Prints words before status after
   unfolding Runs Prints
-  Runs-prints runs = (runs.0, runs.1, runs.2.puts)
+  Runs-prints runs = (runs.0, runs.1, runs.2.puts, runs.3)
 
   -- a fault ends the program
   pub Runs-faults : Runs words before status after → EndsAtFaults before after status
   unfolding Runs
-  Runs-faults runs = faults_end words before after runs.0 status runs.1 runs.2
+  Runs-faults runs = faults_end words before after runs.0 runs.1 runs.3 status runs.2
+
+  -- only serving uses the link
+  pub Runs-link : Runs words before status after → (AsksServing words → ⊥) → after.link ≡ before.link
+  unfolding Runs
+  Runs-link runs other = link_stays words before.shelf.files before.shelf.faults after.shelf.faults before.link after.link runs.0 other runs.1 runs.3
 
 -- a status that isn't one of a refusal of the sink, or of want of memory, is that of the outcome
 status_is : (outcome : Outcome) (old : Option (List ℕ)) (status : Status) (new : Option (List ℕ)) → Puts outcome old status new
@@ -148,11 +163,6 @@ status_comes outcome old status wanted new puts is not_sink not_memory =
       | inr (inr same) ↦ sym is ∙ same
     ]
 
--- the status of want of memory
-status_of-memory : status_of OutOfMemory ≡ NoMemory
-unfolding status_of
-status_of-memory = refl
-
 module _ (words : List (List ℕ)) (before after : Outside) (status : Status) where
   pub Runs-usage_cause : Runs words before status after → status ≡ Usage → IsNoCommand words
   unfolding Runs
@@ -160,20 +170,20 @@ module _ (words : List (List ℕ)) (before after : Outside) (status : Status) wh
       usage_comes words before.shelf.files before.shelf.faults after.shelf.faults runs.0
       (status_comes runs.0 before.out.put status Usage after.out.put runs.2.puts is (λ e. cc) (λ e. cc)) runs.1
 
-  pub Runs-cause : Runs words before status after → IsCause words before.shelf after.shelf status
+  pub Runs-cause : Runs words before status after → IsCause words before after status
   unfolding Runs
-  Runs-cause runs = cause_comes words before.shelf after.shelf runs.0 before.out.put status after.out.put runs.2.puts runs.1
+  Runs-cause runs = cause_comes words before after runs.0 status runs.2.puts runs.1 runs.3
 
   -- a command whose files are told and accepted is done
   pub Runs-complete : (outcome : Outcome) → Runs words before status after
-      → IsDue words before.shelf.files outcome → (Rose before.shelf.faults after.shelf.faults → ⊥) → (Rose before.out.faults after.out.faults → ⊥) → EndsAs outcome status
+      → IsDue words before.shelf.files before.link after.link outcome → (Rose before.shelf.faults after.shelf.faults → ⊥) → (Rose before.out.faults after.out.faults → ⊥) → EndsAs outcome status
   unfolding Runs
   Runs-complete outcome runs due shelf sink =
       elim (status_is runs.0 before.out.put status after.out.put runs.2.puts) [
         | inl fault ↦ absurd (sink (subst (λ ended. IsSinkCount before.out.faults after.out.faults ended) fault runs.2.cause))
         | inr (inl memory) ↦ inl memory
-        | inr (inr same) ↦ elim (due_comes words before.shelf.files before.shelf.faults after.shelf.faults runs.0 outcome due shelf runs.1) [
-          | inl none ↦ inl (same ∙ ap status_of none ∙ status_of-memory)
-          | inr is ↦ inr (same ∙ ap status_of is)
+        | inr (inr same) ↦ elim (due_comes words before.shelf.files before.shelf.faults after.shelf.faults before.link after.link runs.0 outcome due shelf runs.1 runs.3) [
+          | inl none ↦ inl (same ∙ none)
+          | inr is ↦ inr (same ∙ is)
         ]
       ]

@@ -1,6 +1,7 @@
 -- what public clauses cite
 pub mod Outside
 pub mod Lines
+pub mod Serving
 pub mod Outcomes
 pub mod Causes
 pub mod Running
@@ -8,3 +9,4 @@ pub mod Running
 pub mod Troubles
 pub mod Playing
 pub mod Asked
+pub mod Listening

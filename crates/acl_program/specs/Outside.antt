@@ -1,8 +1,9 @@
 -- What the program stands in, as far as it is told: a shelf of files, a sink for what is printed and a link to connections,
--- each with its count of faults.
+-- each with its count of faults; a link also counts the connections that it found lost.
 use Rattle.std.specs.Prelude.{ℕ, List, Option}
 use Rattle.wire_io.specs.declared.journal.Item.{Item}
 use Rattle.wire_io.specs.Files.{Files}
+use Rattle.wire_io.specs.Plan.{Plan}
 
 -- the files of a shelf
 pub record Shelved : Type 0 where
@@ -14,10 +15,12 @@ pub record Written : Type 0 where
   pub put : Option (List ℕ)
   pub faults : ℕ
 
--- what a link did
+-- what a link did, and what it still has to give
 pub record Linked : Type 0 where
   pub journal : Option (List Item)
+  pub plan : Option Plan
   pub faults : ℕ
+  pub lost : ℕ
 
 -- all three
 pub record Outside : Type 0 where
@@ -33,9 +36,13 @@ shelved files faults = record { files = files; faults = faults }
 abbrev pub written : Option (List ℕ) → ℕ → Written
 written put faults = record { put = put; faults = faults }
 
--- a link, by what it did and its count
-abbrev pub linked : Option (List Item) → ℕ → Linked
-linked journal faults = record { journal = journal; faults = faults }
+-- a link, by what it did, what it has to give, and its counts
+abbrev pub linked : Option (List Item) → Option Plan → ℕ → ℕ → Linked
+linked journal plan faults lost = record { journal = journal; plan = plan; faults = faults; lost = lost }
+
+-- a sink and a link beside a shelf
+abbrev pub beside : Shelved → Written → Linked → Outside
+beside shelf out link = record { shelf = shelf; out = out; link = link }
 
 -- a shelf and a sink, by what they tell and their counts, beside a link
 abbrev pub outside : Option Files → ℕ → Option (List ℕ) → ℕ → Linked → Outside

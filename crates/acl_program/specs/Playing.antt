@@ -19,7 +19,7 @@ use Rattle.acl_program.specs.declared.status.Status.{Status}
 use Rattle.acl_program.specs.declared.status.Status.TheVariants.{Done, Usage, BadData, ShelfFault, SinkFault, LinkFault, TurnsSpent, NoMemory, BadScript}
 use Rattle.acl_program.specs.Lines.{line_of, replay_text, entries_after}
 use Rattle.acl_program.specs.Outcomes.{Outcome, text_of, status_of}
-use Rattle.acl_program.specs.Causes.{Comes}
+use Rattle.acl_program.specs.Causes.{Comes, Links}
 use Rattle.acl_program.specs.Outside.{Written, Outside}
 use Rattle.acl_program.specs.Running.{Puts}
 
@@ -72,17 +72,17 @@ pub record Ends (outcome : Outcome) (before : Written) (status : Status) (after 
 abbrev pub ComesFor : CommandView → Option Files → ℕ → ℕ → Outcome → Type 0
 ComesFor asked files before after outcome = (words : List (List ℕ)) → IsCommand words asked → Comes words files before after outcome
 
--- a command came to an outcome, and did nothing with the link
+-- a command came to an outcome, and did with the link what the outcome says
 unfoldable pub Performs : CommandView → Outside → Status → Outside → Type 0
 Performs asked before status after =
     (outcome : Outcome) × ComesFor asked before.shelf.files before.shelf.faults after.shelf.faults outcome × Ends outcome before.out status after.out
-    × (after.link ≡ before.link)
+    × Links outcome before.link after.link
 
--- the program came to an outcome, and did nothing with the link
+-- the program came to an outcome, and did with the link what the outcome says
 unfoldable pub Runs : List (List ℕ) → Outside → Status → Outside → Type 0
 Runs words before status after =
     (outcome : Outcome) × Comes words before.shelf.files before.shelf.faults after.shelf.faults outcome × Ends outcome before.out status after.out
-    × (after.link ≡ before.link)
+    × Links outcome before.link after.link
 
 -- the lines of a journal and then a tree were to be put, and then the program was to end so: an outcome with this text and
 -- this status

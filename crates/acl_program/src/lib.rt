@@ -6,6 +6,7 @@ mod data;
 mod printing;
 mod program;
 mod replay;
+mod serve;
 mod status;
 mod troubles;
 

@@ -2,15 +2,16 @@
 
 ghost use Rattle.std.specs.Prelude.{◌≡◌, map, string_bytes};
 ghost use Rattle.plain_values.specs.Counts.{Rose};
-ghost use Rattle.acl_program.specs.Causes.{IsNoCommand, IsDue};
+ghost use Rattle.acl_program.specs.Causes.{AsksServing, IsNoCommand, IsDue};
 ghost use Rattle.acl_program.specs.Outcomes.{Outcome};
-ghost use Rattle.acl_program.specs.Outside.{Linked, linked, outside, shelved};
+ghost use Rattle.acl_program.specs.Outside.{linked, outside};
 ghost use Rattle.acl_program.specs.Running.{Prints, EndsAs, IsCause, EndsAtFaults};
 ghost use Rattle.acl_program.specs.Playing.{Runs, Performs};
 ghost use Rattle.command_words.specs.Command.{view};
 
 use crate::data::{check, dump};
 use crate::replay::{Asked, replay};
+use crate::serve::{Serving, serve};
 use crate::status::Status;
 use crate::troubles::print_usage;
 use command_words::{Command, read_words};
@@ -23,7 +24,11 @@ use wire_io::{Link, Shelf, Sink};
 /// `dump DATA` puts the loaded tree as a data file. `replay DATA SCRIPT [--dump] [--turns N]` loads the data file, reads
 /// the script file, serves its events as those of a link's connections, at most N of them, and puts one line for each
 /// connection: its number, what was sent to it, and whether it was hung up; with `--dump` the tree follows as a data
-/// file. The link is left as it is. Other words put a line on how to call the program.
+/// file. These leave the link as it is.
+///
+/// `serve DATA ADDRESS [--sessions N] [--turns N]` loads the data file, opens the link at the address, puts `listening
+/// ADDRESS`, and serves the link's connections until it gives Stop, at most N events. Where the link fails it puts `link
+/// fault`, and where the turns are spent `turns spent`. Other words put a line on how to call the program.
 ///
 /// The data file is read before the script. A file that isn't there, or that the shelf can't read, puts `data fault`; a
 /// file that isn't accepted puts its first bad line.
@@ -34,66 +39,94 @@ pub fn run<H: Shelf, K: Sink, L: Link>(
     out: &mut K,
     link: &mut L,
 ) -> Status
-    // what is put: the text of an outcome that comes, with its status; or a front of it
+    // what is put: the text of an outcome that comes, with its status; or a front of it. And what is done with the link
     ensures text { Prints (map string_bytes words.now)
         (outside (H.files shelf.old) (H.faults shelf.old) (K.put out.old) (K.faults out.old)
-        (linked (L.journal link.old) (L.faults link.old))) result
+        (linked (L.journal link.old) (L.plan link.old) (L.faults link.old) (L.lost link.old))) result
         (outside (H.files shelf.new) (H.faults shelf.new) (K.put out.new) (K.faults out.new)
-        (linked (L.journal link.new) (L.faults link.new))) }
-    // where the files are told and accepted, the command is done
-    ensures complete { (outcome : Outcome) → IsDue (map string_bytes words.now) (H.files shelf.old) outcome
+        (linked (L.journal link.new) (L.plan link.new) (L.faults link.new) (L.lost link.new))) }
+    // where the files are told and accepted, the command is done; serving where the link then gives Stop
+    ensures complete { (outcome : Outcome) → IsDue (map string_bytes words.now) (H.files shelf.old)
+        (linked (L.journal link.old) (L.plan link.old) (L.faults link.old) (L.lost link.old))
+        (linked (L.journal link.new) (L.plan link.new) (L.faults link.new) (L.lost link.new)) outcome
         → (Rose (H.faults shelf.old) (H.faults shelf.new) → ⊥) → (Rose (K.faults out.old) (K.faults out.new) → ⊥)
         → EndsAs outcome result }
     // each refusal
     ensures usage { result ≡ Status.Usage → IsNoCommand (map string_bytes words.now) }
-    ensures refused { IsCause (map string_bytes words.now) (shelved (H.files shelf.old) (H.faults shelf.old))
-        (shelved (H.files shelf.new) (H.faults shelf.new)) result }
+    ensures refused { IsCause (map string_bytes words.now)
+        (outside (H.files shelf.old) (H.faults shelf.old) (K.put out.old) (K.faults out.old)
+        (linked (L.journal link.old) (L.plan link.old) (L.faults link.old) (L.lost link.old)))
+        (outside (H.files shelf.new) (H.faults shelf.new) (K.put out.new) (K.faults out.new)
+        (linked (L.journal link.new) (L.plan link.new) (L.faults link.new) (L.lost link.new))) result }
     ensures faults { EndsAtFaults
         (outside (H.files shelf.old) (H.faults shelf.old) (K.put out.old) (K.faults out.old)
-        (linked (L.journal link.old) (L.faults link.old)))
+        (linked (L.journal link.old) (L.plan link.old) (L.faults link.old) (L.lost link.old)))
         (outside (H.files shelf.new) (H.faults shelf.new) (K.put out.new) (K.faults out.new)
-        (linked (L.journal link.new) (L.faults link.new))) result }
+        (linked (L.journal link.new) (L.plan link.new) (L.faults link.new) (L.lost link.new))) result }
     // what stays
-    ensures link { (L.journal link.new ≡ L.journal link.old) × (L.plan link.new ≡ L.plan link.old)
-        × (L.faults link.new ≡ L.faults link.old) × (L.lost link.new ≡ L.lost link.old) }
+    ensures link { (AsksServing (map string_bytes words.now) → ⊥) →
+        linked (L.journal link.new) (L.plan link.new) (L.faults link.new) (L.lost link.new)
+        ≡ linked (L.journal link.old) (L.plan link.old) (L.faults link.old) (L.lost link.old) }
     ensures shelf { H.files shelf.new ≡ H.files shelf.old }
 {
-    let _link = link;
-    run_words(alloc, words, shelf, out)
+    run_words(alloc, words, shelf, out, link)
 }
 
 /// The same, with all that is known of its outcome.
-fn run_words<H: Shelf, K: Sink>(
+fn run_words<H: Shelf, K: Sink, L: Link>(
     alloc: Global,
     words: &[String],
     shelf: &mut H,
     out: &mut K,
+    link: &mut L,
 ) -> Status
-    ensures runs { (link : Linked) → Runs (map string_bytes words.now)
-        (outside (H.files shelf.old) (H.faults shelf.old) (K.put out.old) (K.faults out.old) link) result
-        (outside (H.files shelf.new) (H.faults shelf.new) (K.put out.new) (K.faults out.new) link) }
+    ensures runs { Runs (map string_bytes words.now)
+        (outside (H.files shelf.old) (H.faults shelf.old) (K.put out.old) (K.faults out.old)
+        (linked (L.journal link.old) (L.plan link.old) (L.faults link.old) (L.lost link.old))) result
+        (outside (H.files shelf.new) (H.faults shelf.new) (K.put out.new) (K.faults out.new)
+        (linked (L.journal link.new) (L.plan link.new) (L.faults link.new) (L.lost link.new))) }
     ensures kept { H.files shelf.new ≡ H.files shelf.old }
 {
     match read_words(words) {
-        Some(command) => perform(alloc, command, shelf, out),
+        Some(command) => perform(alloc, command, shelf, out, link),
         None => print_usage(out),
     }
 }
 
-/// Does what a command asks for.
+/// Does what a command asks for. Explanations and samples aren't done yet.
 #[tactic(auto, unfolding(crate::specs::Playing::Performs))]
-fn perform<H: Shelf, K: Sink>(
+fn perform<H: Shelf, K: Sink, L: Link>(
     alloc: Global,
     command: Command<'_>,
     shelf: &mut H,
     out: &mut K,
+    link: &mut L,
 ) -> Status
-    ensures performs { (link : Linked) → Performs (view command.entry)
-        (outside (H.files shelf.old) (H.faults shelf.old) (K.put out.old) (K.faults out.old) link) result
-        (outside (H.files shelf.new) (H.faults shelf.new) (K.put out.new) (K.faults out.new) link) }
+    ensures performs { Performs (view command.entry)
+        (outside (H.files shelf.old) (H.faults shelf.old) (K.put out.old) (K.faults out.old)
+        (linked (L.journal link.old) (L.plan link.old) (L.faults link.old) (L.lost link.old))) result
+        (outside (H.files shelf.new) (H.faults shelf.new) (K.put out.new) (K.faults out.new)
+        (linked (L.journal link.new) (L.plan link.new) (L.faults link.new) (L.lost link.new))) }
     ensures kept { H.files shelf.new ≡ H.files shelf.old }
 {
     match command {
+        Command::Serve {
+            data,
+            address,
+            sessions,
+            turns,
+        } => serve(
+            alloc,
+            &Serving {
+                data,
+                address,
+                sessions,
+                turns,
+            },
+            shelf,
+            out,
+            link,
+        ),
         Command::Replay {
             data,
             script,
@@ -112,5 +145,7 @@ fn perform<H: Shelf, K: Sink>(
         ),
         Command::Check { data } => check(alloc, data, shelf, out),
         Command::Dump { data } => dump(alloc, data, shelf, out),
+        Command::Explain { .. } => print_usage(out),
+        Command::Sample { .. } => print_usage(out),
     }
 }

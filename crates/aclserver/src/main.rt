@@ -1,28 +1,27 @@
-//! The program: it takes its words, the system's files and the standard output, and ends with the
-//! number of its status. Both the words and the texts are those of `acl_program`.
+//! The program: it takes its words, the system's files, the standard output and the system's sockets,
+//! and ends with the number of its status. Both the words and the texts are those of `acl_program`.
 #![tactic(auto)]
 
 use acl_program::{Status, run};
+use mio_link::MioLink;
 use std::alloc::AllocError;
 use std::env;
 use std::io::ErrorKind;
 use std::process::ExitCode;
-use wire_io::{FileShelf, ScriptLink, StdSink};
+use wire_io::{FileShelf, StdSink};
 
 fn main(rt: HostRuntime) -> ExitCode {
     let status = start(&rt).unwrap_or(Status::NoMemory);
     ExitCode::from(status.number())
 }
 
-/// Runs the program over the system's files and the standard output, with a link that gives nothing.
+/// Runs the program over the system's files, the standard output and the system's sockets.
 fn start(rt: &HostRuntime) -> Result<Status, AllocError> {
     let alloc = rt.alloc();
     let words = words_of(rt)?;
     let mut shelf = FileShelf::new(rt.clone()?);
     let mut out = StdSink::new(rt.clone()?);
-    let Ok(mut link) = ScriptLink::read(alloc, b"") else {
-        return Err(AllocError);
-    };
+    let mut link = MioLink::new(rt.clone()?, alloc)?;
     Ok(run(alloc, words.as_slice(), &mut shelf, &mut out, &mut link))
 }
 

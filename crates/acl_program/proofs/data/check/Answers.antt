@@ -10,4 +10,4 @@ returns-in-Ok-clause-performs g c = λ link. Performs-checked _ (outside _ _ _ _
 
 -- it wasn't
 pub returns-in-Err-clause-performs : goal.returns-in-Err-clause-performs
-returns-in-Err-clause-performs g c = λ link. Performs-refused (Check c.args.name.now) (outside _ _ _ _ link) (outside _ _ _ _ link) _ _ c.in-Err.ensures.exact c.print_trouble.ensures.ends refl
+returns-in-Err-clause-performs g c = λ link. Performs-refused (Check c.args.name.now) c.args.name.now (outside _ _ _ _ link) (outside _ _ _ _ link) _ _ refl c.in-Err.ensures.exact c.print_trouble.ensures.ends refl

@@ -1,11 +1,26 @@
+use Rattle.std.proofs.Common.{refl}
+use Rattle.acl_program.specs.Outside.{outside, linked}
+use Rattle.acl_program.proofs.RunLemmas.{Performs-undone}
 use Rattle.acl_program.proofs.program.perform.Goals as goal
 
 -- each command does what it is asked for
+pub returns-in-Serve-clause-performs : goal.returns-in-Serve-clause-performs
+returns-in-Serve-clause-performs g c = rw c.in-Serve.is c.serve.ensures.performs
+
 pub returns-in-Replay-clause-performs : goal.returns-in-Replay-clause-performs
-returns-in-Replay-clause-performs g c = rw c.in-Replay.is c.replay.ensures.performs
+returns-in-Replay-clause-performs g c = rw c.in-Replay.is (c.replay.ensures.performs (linked _ _ _ _))
 
 pub returns-in-Check-clause-performs : goal.returns-in-Check-clause-performs
-returns-in-Check-clause-performs g c = rw c.in-Check.is c.check.ensures.performs
+returns-in-Check-clause-performs g c = rw c.in-Check.is (c.check.ensures.performs (linked _ _ _ _))
 
 pub returns-in-Dump-clause-performs : goal.returns-in-Dump-clause-performs
-returns-in-Dump-clause-performs g c = rw c.in-Dump.is c.dump.ensures.performs
+returns-in-Dump-clause-performs g c = rw c.in-Dump.is (c.dump.ensures.performs (linked _ _ _ _))
+
+-- two of them aren't done
+pub returns-in-Explain-clause-performs : goal.returns-in-Explain-clause-performs
+returns-in-Explain-clause-performs g c = rw c.in-Explain.is
+    (Performs-undone _ (outside _ _ _ _ (linked _ _ _ _)) (outside _ _ _ _ (linked _ _ _ _)) _ (λ performed. performed) c.print_usage.ensures.ends refl refl)
+
+pub returns-in-Sample-clause-performs : goal.returns-in-Sample-clause-performs
+returns-in-Sample-clause-performs g c = rw c.in-Sample.is
+    (Performs-undone _ (outside _ _ _ _ (linked _ _ _ _)) (outside _ _ _ _ (linked _ _ _ _)) _ (λ performed. performed) c.print_usage-in-Sample.ensures.ends refl refl)

@@ -1,12 +1,12 @@
 use Rattle.std.proofs.Common.{refl}
-use Rattle.acl_program.specs.Outside.{outside}
+use Rattle.acl_program.specs.Outside.{outside, linked}
 use Rattle.acl_program.proofs.RunLemmas.{Runs-performed, Runs-usage}
 use Rattle.acl_program.proofs.program.run_words.Goals as goal
 
 -- the words ask for a command
 pub returns-in-Some-clause-runs : goal.returns-in-Some-clause-runs
-returns-in-Some-clause-runs g c = λ link. Runs-performed _ _ (outside _ _ _ _ link) (outside _ _ _ _ link) _ c.in-Some.ensures.found (c.perform.ensures.performs link)
+returns-in-Some-clause-runs g c = Runs-performed _ _ (outside _ _ _ _ (linked _ _ _ _)) (outside _ _ _ _ (linked _ _ _ _)) _ c.in-Some.ensures.found c.perform.ensures.performs
 
 -- they ask for nothing
 pub returns-in-None-clause-runs : goal.returns-in-None-clause-runs
-returns-in-None-clause-runs g c = λ link. Runs-usage _ (outside _ _ _ _ link) (outside _ _ _ _ link) _ c.in-None.ensures.only c.print_usage.ensures.ends refl refl
+returns-in-None-clause-runs g c = Runs-usage _ (outside _ _ _ _ (linked _ _ _ _)) (outside _ _ _ _ (linked _ _ _ _)) _ c.in-None.ensures.only c.print_usage.ensures.ends refl refl

@@ -1,0 +1,13 @@
+use Rattle.std.proofs.Common.{refl}
+use Rattle.acl_program.specs.Outcomes.{Served, text_of, status_of}
+use Rattle.acl_program.specs.Outside.{written}
+use Rattle.acl_program.specs.Serving.{NotOpened}
+use Rattle.acl_program.proofs.EndsLemmas.{Ends-put}
+use Rattle.acl_program.proofs.serve.print_link_fault.Goals as goal
+
+-- the text was to be put, and how the sink answered
+pub returns : goal.returns
+unfolding text_of status_of
+returns g c = record {
+  ends = λ asked. Ends-put (Served asked NotOpened) (written _ _) (written _ _) _ _ _ _ refl refl c.after.ensures.exact c.write_all-put.ensures.tells c.write_all-put.ensures.cause;
+}

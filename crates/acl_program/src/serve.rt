@@ -1,0 +1,166 @@
+//! The command `serve`: a data file's tree served over the link's connections.
+
+ghost use Rattle.std.specs.Prelude.{◌≡◌, ℕ, List, IfOk, string_bytes};
+ghost use Rattle.command_words.specs.Command.{Serve};
+ghost use Rattle.dir_tree.specs.Numbered.{entries_of};
+ghost use Rattle.wire_io.specs.Putting.{PutsAll, PutCause};
+ghost use Rattle.acl_program.specs.Listening.{Listens, ListensOn, ServesOpened};
+ghost use Rattle.acl_program.specs.Outcomes.{Served};
+ghost use Rattle.acl_program.specs.Outside.{Shelved, beside, linked, outside, written};
+ghost use Rattle.acl_program.specs.Playing.{Ends, Performs};
+ghost use Rattle.acl_program.specs.Serving.{NotOpened, ServeAsked, ended_text, listening_text, loop_status, serve_asked};
+
+use crate::status::Status;
+use crate::troubles::print_trouble;
+use acdf_core::PlainDir;
+use command_files::load_data;
+use session_hub::{Ended, serve_loop};
+use std::alloc::{AllocError, Global};
+use wire_io::{Link, NextFault, PutFault, Shelf, Sink, write_all};
+
+/// What serving is asked for: its data file, the address, after how many connections the link stops, never with 0, and
+/// how many events are heard at most.
+#[derive(Clone, Copy, Debug)]
+pub(crate) struct Serving<'a> {
+    pub(crate) data: &'a str,
+    pub(crate) address: &'a str,
+    pub(crate) sessions: u64,
+    pub(crate) turns: u64,
+}
+
+/// Loads the data file, opens the link, prints that it listens, and serves the tree until the link gives Stop or so many
+/// events were heard. Where the link fails, or the turns are spent, a line says so.
+pub(crate) fn serve<H: Shelf, K: Sink, L: Link>(
+    alloc: Global,
+    asked: &Serving<'_>,
+    shelf: &mut H,
+    out: &mut K,
+    link: &mut L,
+) -> Status
+    ensures performs { Performs
+        (Serve asked.now.data.now asked.now.address.now asked.now.sessions asked.now.turns)
+        (outside (H.files shelf.old) (H.faults shelf.old) (K.put out.old) (K.faults out.old)
+        (linked (L.journal link.old) (L.plan link.old) (L.faults link.old) (L.lost link.old))) result
+        (outside (H.files shelf.new) (H.faults shelf.new) (K.put out.new) (K.faults out.new)
+        (linked (L.journal link.new) (L.plan link.new) (L.faults link.new) (L.lost link.new))) }
+    ensures kept { H.files shelf.new ≡ H.files shelf.old }
+{
+    match load_data(alloc, shelf, asked.data) {
+        Ok(tree) => listen(alloc, PlainDir::new(tree), asked, out, link),
+        Err(trouble) => print_trouble(alloc, trouble, out),
+    }
+}
+
+/// Opens the link and serves the directory over it.
+fn listen<K: Sink, L: Link>(
+    alloc: Global,
+    dir: PlainDir,
+    asked: &Serving<'_>,
+    out: &mut K,
+    link: &mut L,
+) -> Status
+    ensures listens { (shelf : Shelved) → Listens
+        (serve_asked asked.now.address.now asked.now.sessions asked.now.turns (entries_of dir))
+        (beside shelf (written (K.put out.old) (K.faults out.old))
+        (linked (L.journal link.old) (L.plan link.old) (L.faults link.old) (L.lost link.old))) result
+        (beside shelf (written (K.put out.new) (K.faults out.new))
+        (linked (L.journal link.new) (L.plan link.new) (L.faults link.new) (L.lost link.new))) }
+{
+    match link.open(asked.address, asked.sessions) {
+        Ok(()) => serve_opened(alloc, dir, asked, out, link),
+        Err(NextFault::Failed) => print_link_fault(out),
+        Err(NextFault::NoMemory) => Status::NoMemory,
+    }
+}
+
+/// Prints that the link is open, and then serves the directory over it.
+fn serve_opened<K: Sink, L: Link>(
+    alloc: Global,
+    dir: PlainDir,
+    asked: &Serving<'_>,
+    out: &mut K,
+    link: &mut L,
+) -> Status
+    ensures opened { (shelf : Shelved) → ListensOn
+        (serve_asked asked.now.address.now asked.now.sessions asked.now.turns (entries_of dir))
+        (beside shelf (written (K.put out.old) (K.faults out.old))
+        (linked (L.journal link.old) (L.plan link.old) (L.faults link.old) (L.lost link.old))) result
+        (beside shelf (written (K.put out.new) (K.faults out.new))
+        (linked (L.journal link.new) (L.plan link.new) (L.faults link.new) (L.lost link.new))) }
+{
+    match print_listening(alloc, asked.address, out) {
+        Ok(()) => serve_events(alloc, dir, asked.turns, out, link),
+        Err(fault) => Status::NoMemory.after(Err(fault)),
+    }
+}
+
+/// Prints that the link is open at the address.
+fn print_listening<K: Sink>(alloc: Global, address: &str, out: &mut K) -> Result<(), PutFault>
+    ensures tells { PutsAll (K.put out.old) (listening_text address.now) result (K.put out.new) }
+    ensures cause { PutCause (K.faults out.old) (K.faults out.new) result }
+{
+    let Ok(text) = listening(alloc, address) else {
+        return Err(PutFault::NoMemory);
+    };
+    write_all(out, text.as_bytes())
+}
+
+fn listening(alloc: Global, address: &str) -> Result<String, AllocError>
+    ensures { IfOk result (λ text. string_bytes text ≡ listening_text address.now) }
+{
+    format!(in alloc; "listening {address}\n")
+}
+
+/// Serves the directory over the open link, and prints why the loop ended, where a line says that.
+fn serve_events<K: Sink, L: Link>(
+    alloc: Global,
+    dir: PlainDir,
+    turns: u64,
+    out: &mut K,
+    link: &mut L,
+) -> Status
+    ensures serves { (shelf : Shelved) (address : List ℕ) (sessions : ℕ) → ServesOpened
+        (serve_asked address sessions turns (entries_of dir))
+        (beside shelf (written (K.put out.old) (K.faults out.old))
+        (linked (L.journal link.old) (L.plan link.old) (L.faults link.old) (L.lost link.old))) result
+        (beside shelf (written (K.put out.new) (K.faults out.new))
+        (linked (L.journal link.new) (L.plan link.new) (L.faults link.new) (L.lost link.new))) }
+{
+    let mut dir = dir;
+    let ended = serve_loop(alloc, &mut dir, link, turns);
+    let put = write_all(out, ended_text(ended).as_bytes());
+    loop_status(ended).after(put)
+}
+
+/// The line of a loop's end, where it has one.
+fn ended_text(ended: Ended) -> &'static str
+    ensures { result.now ≡ ended_text ended }
+{
+    match ended {
+        Ended::Stopped | Ended::NoMemory => "",
+        Ended::TurnsSpent => "turns spent\n",
+        Ended::LinkFault => "link fault\n",
+    }
+}
+
+/// How the program ends after a loop.
+fn loop_status(ended: Ended) -> Status
+    ensures { result ≡ loop_status ended }
+{
+    match ended {
+        Ended::Stopped => Status::Done,
+        Ended::TurnsSpent => Status::TurnsSpent,
+        Ended::LinkFault => Status::LinkFault,
+        Ended::NoMemory => Status::NoMemory,
+    }
+}
+
+/// Prints that the link failed.
+#[tactic(auto, unfolding(crate::specs::Outcomes::text_of, crate::specs::Outcomes::status_of))]
+fn print_link_fault<K: Sink>(out: &mut K) -> Status
+    ensures ends { (asked : ServeAsked) → Ends (Served asked NotOpened) (written (K.put out.old) (K.faults out.old)) result
+        (written (K.put out.new) (K.faults out.new)) }
+{
+    let put = write_all(out, b"link fault\n");
+    Status::LinkFault.after(put)
+}
