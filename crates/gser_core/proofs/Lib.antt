@@ -1,2 +1,4 @@
 pub mod FrontLemmas
 pub mod MarkLemmas
+pub mod StringLemmas
+pub mod WritingLemmas

@@ -1,7 +1,7 @@
 -- What it means to read a production where a cursor stands.
-use Rattle.std.specs.Prelude.{◌≡◌, ℕ, ◌+◌, ◌≤◌, List, ◌++◌, length, take, drop}
+use Rattle.std.specs.Prelude.{◌≡◌, ℕ, ◌+◌, ◌≤◌, ◌⊎◌, List, ◌++◌, length, take, drop}
 use Rattle.gser_core.specs.declared.error.TextFault.{TextFault}
-use Rattle.gser_core.specs.declared.error.TextFault.TheVariants.{Expected}
+use Rattle.gser_core.specs.declared.error.TextFault.TheVariants.{Expected, NoMemory}
 
 -- a text, and the place in it where reading stands
 pub record Standing : Type 0 where
@@ -38,3 +38,7 @@ Takes P old front new = IsFront P (rest_of old) front × (new ≡ moved old (len
 -- there was no such front, and the cursor stands where it stood
 abbrev pub Lacks : (List ℕ → Type 0) → Standing → TextFault → Standing → Type 0
 Lacks P old fault new = (reach : ℕ) × IsLacking P (rest_of old) reach × (fault ≡ Expected (old.place + reach)) × (new ≡ old)
+
+-- the same, or memory was refused
+abbrev pub LacksOrFails : (List ℕ → Type 0) → Standing → TextFault → Standing → Type 0
+LacksOrFails P old fault new = Lacks P old fault new ⊎ ((fault ≡ NoMemory) × (new ≡ old))

@@ -2,3 +2,5 @@
 pub mod Productions
 pub mod Cursors
 pub mod Counts
+-- what the crate's inside promises itself
+pub mod Strings

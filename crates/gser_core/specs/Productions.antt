@@ -1,5 +1,5 @@
 -- Productions of the generic string encoding rules (RFC 3641 section 3), each as the octets that are one.
-use Rattle.std.specs.Prelude.{◌≡◌, ℕ, ◌≤◌, length, Bool, true, ◌==◌, ◌||◌, List, [], ◌∷◌}
+use Rattle.std.specs.Prelude.{◌≡◌, ℕ, ◌≤◌, length, Bool, true, ◌==◌, ◌||◌, List, [], ◌∷◌, ◌++◌, if◌then◌else◌}
 use Rattle.std.specs.Char.{is_ascii_lowercase, is_ascii_alphanumeric, is_ascii_digit}
 use Rattle.std.specs.List.{list_all}
 
@@ -32,3 +32,16 @@ is_blank octet = octet == 32
 -- at least so many spaces
 abbrev pub IsSpaces : ℕ → List ℕ → Type 0
 IsSpaces least text = (list_all is_blank text ≡ true) × (least ≤ length text)
+
+-- each quotation mark twice
+abbrev pub doubled : List ℕ → List ℕ
+doubled [] = []
+doubled (octet ∷ octets) = if octet == 34 then 34 ∷ 34 ∷ doubled octets else octet ∷ doubled octets
+
+-- a text in quotation marks, each in it twice
+abbrev pub quoted : List ℕ → List ℕ
+quoted text = 34 ∷ doubled text ++ 34 ∷ []
+
+-- StringValue: any text so (section 3.2)
+abbrev pub IsString : List ℕ → Type 0
+IsString text = (inside : List ℕ) × (text ≡ quoted inside)

@@ -4,7 +4,7 @@ ghost use Rattle.std.specs.Prelude.{◌≡◌, ◌≤◌, length};
 ghost use Rattle.std.specs.Char.{is_ascii_digit};
 ghost use Rattle.std.specs.List.{prefix_len};
 ghost use Rattle.gser_core.specs.Productions.{is_blank, is_key};
-ghost use Rattle.gser_core.specs.Counts.{identifier_len, numeral_len};
+ghost use Rattle.gser_core.specs.Counts.{closed_len, identifier_len, numeral_len, string_len};
 
 fn is_key(octet: u8) -> bool
     ensures exact { result ≡ is_key octet }
@@ -70,4 +70,41 @@ pub(crate) fn blanks(octets: &[u8]) -> usize
         }
     }
     octets.len()
+}
+
+/// How many octets are the rest of a string behind its first quotation mark: through its last one,
+/// which the longest has. 0 where there is none.
+#[tactic(auto, using(crate::proofs::StringLemmas::passed_two, crate::proofs::StringLemmas::ended_last, crate::proofs::StringLemmas::ended_before))]
+fn closed_len(octets: &[u8]) -> usize
+    ensures exact { result ≡ closed_len octets.now }
+    ensures within { result ≤ length octets.now }
+{
+    let mut passed = 0;
+    let mut ended = 0;
+    while passed < octets.len() {
+        if octets[passed] != b'"' {
+            passed += 1;
+        } else if passed + 1 == octets.len() {
+            return passed + 1;
+        } else if octets[passed + 1] != b'"' {
+            return passed + 1;
+        } else {
+            ended = passed + 1;
+            passed += 2;
+        }
+    }
+    ended
+}
+
+/// How many octets at the front are a string; 0 where none are.
+pub(crate) fn string_len(octets: &[u8]) -> usize
+    ensures exact { result ≡ string_len octets.now }
+{
+    match octets {
+        [b'"', behind @ ..] => {
+            let count = closed_len(behind);
+            if count == 0 { 0 } else { 1 + count }
+        }
+        _ => 0,
+    }
 }

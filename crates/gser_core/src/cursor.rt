@@ -1,15 +1,17 @@
 //! The cursor.
 
-ghost use Rattle.std.specs.Prelude.{◌≡◌, ◌+◌, ◌-◌, ◌≤◌, ◌<◌, length, take, drop, [], ◌∷◌, IfOk, OnOk, get_or};
+ghost use Rattle.std.specs.Prelude.{◌≡◌, ◌+◌, ◌-◌, ◌≤◌, ◌<◌, length, take, drop, [], ◌∷◌, IfOk, OnOk, get_or, string_bytes};
 ghost use Rattle.std.specs.Result.{IfErr};
 ghost use Rattle.gser_core.specs.declared.error.TextFault.TheVariants.{Expected};
-ghost use Rattle.gser_core.specs.Productions.{is_blank, IsIdentifier, IsMark, IsNumeral, IsSpaces};
+ghost use Rattle.gser_core.specs.Productions.{is_blank, quoted, IsIdentifier, IsMark, IsNumeral, IsSpaces, IsString};
 ghost use Rattle.std.specs.List.{prefix_len};
-ghost use Rattle.gser_core.specs.Counts.{begins};
-ghost use Rattle.gser_core.specs.Cursors.{Standing, rest_of, moved, Takes, Lacks};
+ghost use Rattle.gser_core.specs.Counts.{begins, string_reach};
+ghost use Rattle.gser_core.specs.Cursors.{Standing, rest_of, moved, Takes, Lacks, LacksOrFails};
 
-use crate::counts::{blanks, identifier_len, numeral_len};
+use crate::counts::{blanks, identifier_len, numeral_len, string_len};
 use crate::error::TextFault;
+use crate::strings::unquoted;
+use std::alloc::{AllocError, Global};
 use std::marker::Model;
 
 /// A place in a text. Contracts see the text and the place.
@@ -150,5 +152,48 @@ impl<'a> Cursor<'a> {
         }
         self.skip(count);
         Ok(())
+    }
+
+    // So many octets at the cursor, the last of which is ASCII.
+    fn front(&self, count: usize) -> &'a str
+        requires some { 0 < count }
+        requires within { count ≤ length (rest_of self.now) }
+        requires ascii { get_or (rest_of self.now) (count - 1) 0 < 128 }
+        ensures front { result.now ≡ take count (rest_of self.now) }
+    {
+        let end = self.place + count;
+        &self.text[self.place..end]
+    }
+
+    // How far the text goes on as a string where none is at the cursor.
+    fn string_reach(&self) -> usize
+        ensures exact { result ≡ self.now.place + string_reach (rest_of self.now) }
+    {
+        if self.at_mark(b'"') {
+            self.text.len()
+        } else {
+            self.place
+        }
+    }
+
+    /// Reads a string, and gives its text, without the quotation marks around it and with one for
+    /// each two in it. After want of memory the cursor stands where it stood, too.
+    pub fn string(&mut self, alloc: Global) -> Result<String, TextFault>
+        ensures ok { IfOk result (λ text. Takes IsString self.old (quoted (string_bytes text)) self.new) }
+        ensures err { IfErr result (λ fault. LacksOrFails IsString self.old fault self.new) }
+    {
+        let count = string_len(self.rest());
+        if count == 0 {
+            return Err(TextFault::Expected {
+                place: self.string_reach(),
+            });
+        }
+        match unquoted(alloc, self.front(count)) {
+            Ok(text) => {
+                self.take(count);
+                Ok(text)
+            }
+            Err(AllocError) => Err(TextFault::NoMemory),
+        }
     }
 }

@@ -4,6 +4,8 @@
 mod counts;
 mod cursor;
 mod error;
+mod strings;
 
 pub use cursor::Cursor;
 pub use error::TextFault;
+pub use strings::put_string;

@@ -1,0 +1,55 @@
+//! Strings, which stand in quotation marks with each quotation mark in them twice.
+
+ghost use Rattle.std.specs.Prelude.{◌≡◌, ◌++◌, OnOk, IfOk, string_bytes};
+ghost use Rattle.gser_core.specs.Productions.{doubled, quoted, IsString};
+ghost use Rattle.gser_core.specs.Strings.{IsDoubled};
+
+use std::alloc::{AllocError, Global};
+
+// Writes the octets of a text, each quotation mark twice.
+fn put_doubled(out: &mut String, text: &str) -> Result<(), AllocError>
+    ensures ok { OnOk result (string_bytes out.new ≡ string_bytes out.old ++ doubled text.now) }
+{
+    let mut rest = text;
+    'marks: while let Some((before, after)) = rest.split_once('"') {
+        out.push_str(before)?;
+        out.push_str("\"\"")?;
+        rest = after;
+    }
+    Ok(out.push_str(rest)?)
+}
+
+/// Appends a string of this text. After the error, want of memory, `out` has what it had and may
+/// have more.
+pub fn put_string(out: &mut String, text: &str) -> Result<(), AllocError>
+    ensures ok { OnOk result (string_bytes out.new ≡ string_bytes out.old ++ quoted text.now) }
+{
+    out.push('"')?;
+    put_doubled(out, text)?;
+    Ok(out.push('"')?)
+}
+
+// The text that is written with each quotation mark twice.
+fn undoubled(alloc: Global, written: &str) -> Result<String, AllocError>
+    requires { IsDoubled written.now }
+    ensures ok { IfOk result (λ text. doubled (string_bytes text) ≡ written.now) }
+{
+    let mut text = String::new(alloc);
+    let mut rest = written;
+    'marks: while let Some((before, after)) = rest.split_once('"') {
+        text.push_str(before)?;
+        text.push_str("\"")?;
+        rest = &after[1..];
+    }
+    text.push_str(rest)?;
+    Ok(text)
+}
+
+/// The text of a string.
+pub(crate) fn unquoted(alloc: Global, string: &str) -> Result<String, AllocError>
+    requires { IsString string.now }
+    ensures ok { IfOk result (λ text. quoted (string_bytes text) ≡ string.now) }
+{
+    let end = string.len() - 1;
+    undoubled(alloc, &string[1..end])
+}
