@@ -1,7 +1,6 @@
 //! What a bind comes to.
 
 ghost use Rattle.std.specs.Prelude.{◌≡◌, IfOk};
-<<<<<<< HEAD
 ghost use Rattle.dn_names.specs.NameText.{read_name};
 ghost use Rattle.dir_tree.specs.Numbered.{entries_of};
 ghost use Rattle.op_bind.specs.Binds.{ended, bound_name, bound_password, bound_entry, bound_nobody, bound_named};
@@ -13,14 +12,6 @@ use aci_item::Level;
 use dir_tree::{Entry, Tree};
 use dn_names::{BadName, Dn, parse};
 use ldap_msg::{Auth, BindRequest, ResultCode};
-=======
-ghost use Rattle.dir_tree.specs.Numbered.{entries_of};
-ghost use Rattle.op_bind.specs.Binds.{bind_answer};
-
-use acdf_filters::Requester;
-use dir_tree::Tree;
-use ldap_msg::{BindRequest, ResultCode};
->>>>>>> 6ee23a501f42755d151c769bd6295dc992b68dff
 use std::alloc::{AllocError, Global};
 
 /// The one error: there was no memory.
@@ -33,7 +24,6 @@ pub struct Bound {
     pub who: Requester,
 }
 
-<<<<<<< HEAD
 // A bind that leaves the requester anonymous.
 fn ended(code: ResultCode) -> Bound
     ensures exact { result ≡ ended code }
@@ -146,14 +136,4 @@ pub fn bind(alloc: Global, tree: &Tree, request: &BindRequest) -> Result<Bound, 
     } else {
         Ok(ended(ResultCode::ProtocolError))
     }
-=======
-/// What a bind comes to over the tree (RFC 4511 4.2.2).
-pub fn bind(alloc: Global, tree: &Tree, request: &BindRequest) -> Result<Bound, NoMemory>
-    ensures ok { IfOk result (λ bound. bound ≡ bind_answer (entries_of tree.now) request.now) }
-{
-    let _alloc = alloc;
-    let _tree = tree;
-    let _request = request;
-    Err(AllocError)
->>>>>>> 6ee23a501f42755d151c769bd6295dc992b68dff
 }

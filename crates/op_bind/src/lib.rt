@@ -1,4 +1,3 @@
-<<<<<<< HEAD
 //! Binds (RFC 4511 4.2): which stored passwords accept a password, and what a bind comes to over a tree.
 #![tactic(auto)]
 
@@ -10,11 +9,3 @@ mod passwords;
 pub use binds::{Bound, NoMemory, bind};
 pub use laws::an_unseen_subtree_changes_no_bind;
 pub use passwords::accepts;
-=======
-//! Binds (RFC 4511 4.2).
-#![tactic(auto)]
-
-mod binds;
-
-pub use binds::{Bound, NoMemory, bind};
->>>>>>> 6ee23a501f42755d151c769bd6295dc992b68dff
