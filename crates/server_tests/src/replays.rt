@@ -69,8 +69,8 @@ static REPLAYS: [Replay<'static>; 19] = [
     },
     Replay {
         script: "open 1\nsend 1 3033020102632e040a64633d6578616d706c650a01000a0100020100020100010100870b6f626a656374436c617373300404026463",
-        put: "1 300c02010265070a013504000400\n",
-        what: "a search, which isn't built",
+        put: "1 300c02010265070a012004000400\n",
+        what: "a search of a name that no entry has",
     },
     Replay {
         script: "open 1\nsend 1 300c020101600702010204008000",
@@ -79,8 +79,8 @@ static REPLAYS: [Replay<'static>; 19] = [
     },
     Replay {
         script: "open 1\nsend 1 300d02010160080201030401618000",
-        put: "1 300c02010161070a013504000400\n",
-        what: "a bind with a name",
+        put: "1 300c02010161070a012204000400\n",
+        what: "a bind with a name that is none",
     },
     Replay {
         script: "open 1\nsend 1 3006020102500101",
@@ -161,8 +161,8 @@ static REQUESTS: [Replay<'static>; 10] = [
     },
     Replay {
         script: "open 1\nsend 1 30120201056e0d0402616130070402636e040178",
-        put: "1 300c0201056f070a013504000400\n",
-        what: "a compare",
+        put: "1 300c0201056f070a012204000400\n",
+        what: "a compare of a name that is none",
     },
 ];
 

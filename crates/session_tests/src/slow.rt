@@ -4,7 +4,7 @@ ghost use Rattle.std.specs.Prelude.{◌<◌, length, IfOk};
 ghost use Rattle.script_text.specs.Script.{OpensOnce, AreFilled};
 
 use crate::messages::{BIND, BOUND};
-use acdf_core::PlainDir;
+use acdf_lists::PlainDir;
 use dir_tree::Tree;
 use plain_values::Octets;
 use script_text::ScriptEvent;
@@ -58,7 +58,9 @@ fn losing_link(alloc: Global, gone: u64) -> Result<ScriptLink, AllocError> {
 
 // Serves the link over a directory without entries.
 fn serve(alloc: Global, link: &mut ScriptLink) -> Ended {
-    let mut dir = PlainDir::new(Tree::new(alloc));
+    let Ok(mut dir) = PlainDir::new(alloc, Tree::new(alloc)) else {
+        return Ended::NoMemory;
+    };
     serve_loop(alloc, &mut dir, link, 100)
 }
 
@@ -188,7 +190,7 @@ fn each_of_256_connections_is_answered_where_half_of_them_are_slow(
         taken: 0
     }; 257]?;
     let mut link = HalfSlow { given: 0, writes };
-    let mut dir = PlainDir::new(Tree::new(rt.alloc()));
+    let mut dir = PlainDir::new(rt.alloc(), Tree::new(rt.alloc()))?;
     assert_eq!(rt;
         serve_loop(rt.alloc(), &mut dir, &mut link, 2000),
         Ended::Stopped
