@@ -1,6 +1,6 @@
 -- How this server answers each message (RFC 4511 4.1.1, 4.2 to 4.5, 4.10 to 4.12). The rules of sessions take this, and
 -- nothing else of them knows what is answered.
-use Rattle.std.specs.Prelude.{ℕ, Bool, true, false, List, [], ◌∷◌, Option, Some, None, if◌then◌else◌}
+use Rattle.std.specs.Prelude.{Bool, true, false, List, [], ◌∷◌, Option, Some, None, if◌then◌else◌}
 use Rattle.ldap_msg.specs.declared.kinds.BindRequest.{BindRequest}
 use Rattle.ldap_msg.specs.declared.kinds.SearchRequest.{SearchRequest}
 use Rattle.ldap_msg.specs.declared.kinds.Request.{Request}
