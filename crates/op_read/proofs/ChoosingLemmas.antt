@@ -16,46 +16,6 @@ use Rattle.read_model.specs.Choosing.{is_chosen_by, is_chosen, sent_attribute, s
 use Rattle.op_read.specs.declared.choosing.Choice.{Choice}
 use Rattle.op_read.specs.Choices.{chooses, sent_of}
 
-or_false : (b : Bool) → (b || false) ≡ b
-or_false true = refl
-or_false false = refl
-
--- one more text was read
-pub any-more : {A B : Type 0} (p : A → Bool) (q : B → Bool) (xs : List A) (x : A) (ys : List B) (index : ℕ) (y : B) → list_any p xs ≡ list_any q (take index ys) → p x ≡ q y → index < length ys → y ≡ get_or ys index y
-    → list_any p (xs ++ x ∷ []) ≡ list_any q (take (index + 1) ys)
-any-more p q xs x ys index y before same within is =
-    list_any-append p xs (x ∷ [])
-    ∙ ap (λ b. b || (p x || false)) before
-    ∙ ap (λ b. list_any q (take index ys) || (b || false)) same
-    ∙ sym (list_any-append q (take index ys) (y ∷ []))
-    ∙ ap (list_any q) (sym (take_more ys index y within ∙ ap (λ last. take index ys ++ last ∷ []) (sym is)))
-
-filter-append : {A : Type 0} (p : A → Bool) (xs ys : List A) → filter p (xs ++ ys) ≡ filter p xs ++ filter p ys
-filter-append p [] ys = refl
-filter-append p (x ∷ xs) ys = elim (cases_Bool (p x)) [
-  | inl e ↦ rw e (ap (λ zs. x ∷ zs) (filter-append p xs ys))
-  | inr e ↦ rw e (filter-append p xs ys)
-]
-
-taken : {A : Type 0} (xs : List A) (index : ℕ) (x : A) → index < length xs → x ≡ get_or xs index x → take (index + 1) xs ≡ take index xs ++ x ∷ []
-taken xs index x within is = take_more xs index x within ∙ ap (λ last. take index xs ++ last ∷ []) (sym is)
-
--- one more value that passes, or that does not
-pub kept-more : {A B : Type 0} (p : A → Bool) (f : A → B) (xs : List A) (index : ℕ) (x : A) (out : List B) → out ≡ map f (filter p (take index xs)) → p x ≡ true → index < length xs → x ≡ get_or xs index x
-    → out ++ f x ∷ [] ≡ map f (filter p (take (index + 1) xs))
-kept-more p f xs index x out before passes within is =
-    ap (λ ys. ys ++ f x ∷ []) before
-    ∙ sym (map-append f (filter p (take index xs)) (x ∷ []))
-    ∙ ap (map f) (sym (filter-append p (take index xs) (x ∷ []) ∙ ap (λ last. filter p (take index xs) ++ last) (rw passes refl)))
-    ∙ ap (λ ys. map f (filter p ys)) (sym (taken xs index x within is))
-
-pub passed-more : {A B : Type 0} (p : A → Bool) (f : A → B) (xs : List A) (index : ℕ) (x : A) (out : List B) → out ≡ map f (filter p (take index xs)) → p x ≡ false → index < length xs → x ≡ get_or xs index x
-    → out ≡ map f (filter p (take (index + 1) xs))
-passed-more p f xs index x out before fails within is =
-    before
-    ∙ ap (map f) (sym (filter-append p (take index xs) (x ∷ []) ∙ ap (λ last. filter p (take index xs) ++ last) (rw fails refl) ∙ append-nil (filter p (take index xs))))
-    ∙ ap (λ ys. map f (filter p ys)) (sym (taken xs index x within is))
-
 -- attributes one by one
 pub attributes-one : {A B : Type 0} (c d : A → Bool) (b : A → Bool) (f : A → B) → ((x : A) → c x ≡ d x) → (xs : List A) → flat_map (λ x. if c x then (if b x then f x ∷ [] else []) else []) xs ≡ map f (filter (λ x. if d x then b x else false) xs)
 attributes-one c d b f same [] = refl

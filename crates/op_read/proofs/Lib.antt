@@ -1,5 +1,4 @@
 mod ListLemmas
-mod LimitLemmas
 mod NameLemmas
 mod SeenLemmas
 mod SelectingLemmas

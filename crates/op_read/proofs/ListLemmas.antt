@@ -54,14 +54,6 @@ pub filter-like : {A : Type 0} (p q : A → Bool) → ((x : A) → p x ≡ q x) 
 filter-like p q same [] = refl
 filter-like p q same (x ∷ xs) = rw (same x, filter-like p q same xs) refl
 
--- items one by one
-pub filter-one : {A B : Type 0} (p : A → Bool) (f : A → B) (xs : List A) → flat_map (λ x. map f (filter p (x ∷ []))) xs ≡ map f (filter p xs)
-filter-one p f [] = refl
-filter-one p f (x ∷ xs) = elim (cases_Bool (p x)) [
-  | inl e ↦ rw e (ap (λ ys. f x ∷ ys) (filter-one p f xs))
-  | inr e ↦ rw e (filter-one p f xs)
-]
-
 -- ---- one or none
 
 pub any-one : {A B : Type 0} (p : B → Bool) (f : A → B) (o : Option A) → list_any p (one_or_none f o) ≡ option_map_or (λ x. p (f x)) o false

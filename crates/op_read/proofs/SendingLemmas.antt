@@ -19,34 +19,17 @@ use Rattle.op_read.specs.declared.sending.Found.{Found}
 use Rattle.op_read.specs.declared.sending.Found.TheVariants.{Nothing, Some as FoundSome, TooMany}
 use Rattle.op_read.specs.Sending.{is_filled, entry_octets, Sends, SendsAll, Goes, IsSent, ended_by}
 use Rattle.op_read.proofs.ListLemmas.{flat_map-map}
-use Rattle.op_read.proofs.LimitLemmas.{within-all, code-all, within-more, code-more}
 
+-- with one more there are some
 filled-more : (rows : View) (row : Row) → true ≡ is_filled (rows ++ row ∷ [])
 filled-more [] row = refl
 filled-more (first ∷ rows) row = refl
 
-filled-behind : (rows more : View) → is_filled more ≡ true → is_filled (rows ++ more) ≡ true
-filled-behind [] more h = h
-filled-behind (first ∷ rows) more h = refl
-
-filled-before : (rows more : View) → is_filled rows ≡ true → is_filled (rows ++ more) ≡ true
-filled-before [] more h = absurd cc
-filled-before (first ∷ rows) more h = refl
-
+-- the octets of one more
 octets-more : (octets : Row → List ℕ) (rows : View) (row : Row) (before : List ℕ) → (before ++ flat_map octets rows) ++ octets row ≡ before ++ flat_map octets (rows ++ row ∷ [])
 octets-more octets rows row before =
     append_assoc before (flat_map octets rows) (octets row)
     ∙ ap (λ more. before ++ more) (ap (λ last. flat_map octets rows ++ last) (sym (append-nil (octets row))) ∙ sym (flat_map-append octets rows (row ∷ [])))
-
--- nothing was sent yet
-pub sends-first : (limit : ℕ) (octets : Row → List ℕ) (all : View) (before : List ℕ) → Sends limit octets all all before (record { some = false; room = limit }) before
-sends-first limit octets all before = record {
-  rows = [];
-  whole = refl;
-  put = sym (append-nil before);
-  some = refl;
-  room = λ h. omega arith;
-}
 
 -- one more was sent, without a limit
 pub sends-free : (limit : ℕ) (octets : Row → List ℕ) (row : Row) (sent new : Sent) (out after : List ℕ) → limit ≡ 0 → new.some ≡ true → after ≡ out ++ octets row
@@ -70,42 +53,9 @@ sends-within limit octets row sent new out after bound some room put all left be
   room = λ k. (let all = h.room k in omega (arith, length-append h.rows (row ∷ [])));
 }
 
--- all were sent
-pub sent-some : (limit : ℕ) (octets : Row → List ℕ) (all : View) (before : List ℕ) (sent : Sent) (after : List ℕ) → sent.some ≡ true → Sends limit octets all [] before sent after → IsSent limit octets all before after FoundSome
-sent-some limit octets all before sent after some h =
-    let whole : all ≡ h.rows = h.whole ∙ append-nil h.rows in (
-      (ap is_filled whole ∙ sym h.some ∙ some, h.put ∙ ap (λ rows. before ++ flat_map octets rows) (sym (ap (within_limit limit) whole ∙ within-all limit sent.room h.rows h.room))),
-      ap (limit_code limit) whole ∙ code-all limit sent.room h.rows h.room,
-    )
-
-pub sent-none : (limit : ℕ) (octets : Row → List ℕ) (all : View) (before : List ℕ) (sent : Sent) (after : List ℕ) → sent.some ≡ false → Sends limit octets all [] before sent after → IsSent limit octets all before after Nothing
-sent-none limit octets all before sent after some h =
-    let none : h.rows ≡ [] = empty h.rows (sym h.some ∙ some) in
-    (h.whole ∙ append-nil h.rows ∙ none, h.put ∙ ap (λ rows. before ++ flat_map octets rows) none ∙ append-nil before)
-  where
-    empty : (rows : View) → is_filled rows ≡ false → rows ≡ []
-    empty [] e = refl
-    empty (row ∷ rows) e = absurd cc
-
--- one was found for which there is no room
-pub sent-many : (limit : ℕ) (octets : Row → List ℕ) (all more left : View) (before : List ℕ) (sent : Sent) (out after : List ℕ) → (is_filled more ≡ true) × (limit ≢ 0) × (sent.room ≡ 0) × (after ≡ out)
-    → Sends limit octets all (more ++ left) before sent out → IsSent limit octets all before after TooMany
-sent-many limit octets all more left before sent out after (filled, bound, full, same) h =
-    let count : length h.rows ≡ limit = (let room = h.room bound in omega arith) in
-    let further : is_filled (more ++ left) ≡ true = filled-before more left filled in (
-      (
-        ap is_filled h.whole ∙ filled-behind h.rows (more ++ left) further,
-        same ∙ h.put ∙ ap (λ rows. before ++ flat_map octets rows) (sym (ap (within_limit limit) h.whole ∙ within-more limit h.rows (more ++ left) bound count)),
-      ),
-      ap (limit_code limit) h.whole ∙ code-more limit h.rows (more ++ left) bound count (some_more (more ++ left) further),
-    )
-  where
-    some_more : (rows : View) → is_filled rows ≡ true → 0 < length rows
-    some_more [] e = absurd cc
-    some_more (row ∷ rows) e = omega arith
-
 -- ---- the replies
 
+-- the entries, and how the search ended
 entries-octets : (id : ℕ) (request : SearchRequest) (rows : View) → replies_octets id (map (sent_entry request.selection request.kinds_only) rows) ≡ flat_map (entry_octets id request) rows
 entries-octets id request rows = flat_map-map (reply_octets id) (sent_entry request.selection request.kinds_only) rows
 
@@ -138,30 +88,3 @@ found-replies id view all request base before middle after TooMany sent put =
     ∙ append_assoc before (flat_map (entry_octets id request) (within_limit request.size all)) (replies_octets id (reply.Done (result_of code.SizeLimitExceeded) ∷ []))
     ∙ ap (λ last. before ++ (flat_map (entry_octets id request) (within_limit request.size all) ++ replies_octets id (reply.Done (result_of last) ∷ []))) (sym sent.1)
     ∙ ap (λ octets. before ++ octets) (sym (found-filled id view all request base sent.0.0))
-
--- ---- a step
-
-pub goes-on : (limit : ℕ) (octets : Row → List ℕ) (rows : View) (sent new : Sent) (out after : List ℕ) (goes : Bool) → not goes ≡ false → Goes limit octets rows sent out new after goes
-    → (all left : View) (before : List ℕ) → Sends limit octets all (rows ++ left) before sent out → Sends limit octets all left before new after
-goes-on limit octets rows sent new out after true e h all left before k = h all left before k
-goes-on limit octets rows sent new out after false e h all left before k = absurd cc
-
-pub stops : (limit : ℕ) (octets : Row → List ℕ) (rows : View) (sent new : Sent) (out after : List ℕ) (goes : Bool) → not goes ≡ true → Goes limit octets rows sent out new after goes
-    → (all left : View) (before : List ℕ) → Sends limit octets all (rows ++ left) before sent out → IsSent limit octets all before after TooMany
-stops limit octets rows sent new out after true e h all left before k = absurd cc
-stops limit octets rows sent new out after false e h all left before k = sent-many limit octets all rows left before sent out after h k
-
--- ---- what is there stays
-
-pub extends-either : {T E : Type 0} (result : Result T E) (old new added : List ℕ) → OnOk result (new ≡ old ++ added) → OnErr result (new ≡ old) → Extends old new
-extends-either (Ok x) old new added e f = record { added = added; grows = e }
-extends-either (Err x) old new added e f = record { added = []; grows = f ∙ sym (append-nil old) }
-
-pub extends-same : (old new : List ℕ) → new ≡ old → Extends old new
-extends-same old new e = record { added = []; grows = e ∙ sym (append-nil old) }
-
-pub extends-both : (old middle new : List ℕ) → Extends old middle → Extends middle new → Extends old new
-extends-both old middle new e f = record {
-  added = e.added ++ f.added;
-  grows = f.grows ∙ ap (λ front. front ++ f.added) e.grows ∙ append_assoc old e.added f.added;
-}

@@ -45,8 +45,12 @@ without_object name = result_with code.NoSuchObject name
 abbrev pub scope_of : ℕ → Scope
 scope_of number = if number == 0 then Base else if number == 1 then One else Sub
 
--- what is known of groups is known in one way
-pub memberships-prop : (entries : List EntryInformation) (name : Option RdnSequence) (known : List Membership) → IsProp (AreMemberships entries name known)
-memberships-prop entries name known =
-    AllByRecursion-prop (λ membership. membership.member ≡ is_member entries name membership.group)
-    (λ membership. Bool-set membership.member (is_member entries name membership.group)) known
+-- each membership that is known is what the rows' entries say
+abbrev pub Knows : List Numbered → Requester → List Membership → Type 0
+Knows rows who known = AreMemberships (entries_of rows) who.name known
+
+-- it is so in one way
+pub knows-prop : (rows : List Numbered) (who : Requester) (known : List Membership) → IsProp (Knows rows who known)
+knows-prop rows who known =
+    AllByRecursion-prop (λ membership. membership.member ≡ is_member (entries_of rows) who.name membership.group)
+    (λ membership. Bool-set membership.member (is_member (entries_of rows) who.name membership.group)) known

@@ -45,7 +45,8 @@ pub record Sends (limit : ℕ) (octets : Row → List ℕ) (all left : View) (be
 -- a step of a search: these are sent, or there is one that may not be
 abbrev pub Goes : ℕ → (Row → List ℕ) → View → Sent → List ℕ → Sent → List ℕ → Bool → Type 0
 Goes limit octets rows sent out sent_new out_new true =
-    (all left : View) (before : List ℕ) → Sends limit octets all (rows ++ left) before sent out → Sends limit octets all left before sent_new out_new
+    (all left : View) (before : List ℕ) → Sends limit octets all (rows ++ left) before sent out
+    → Sends limit octets all left before sent_new out_new
 Goes limit octets rows sent out sent_new out_new false = (is_filled rows ≡ true) × (limit ≢ 0) × (sent.room ≡ 0) × (out_new ≡ out)
 
 -- all that are found were sent, as far as the limit allows

@@ -5,9 +5,8 @@ ghost use Rattle.std.specs.Option.{option_map_or};
 ghost use Rattle.dir_tree.specs.Numbered.{entry_of, entries_of};
 ghost use Rattle.acdf_filters.specs.Asking.{protected_of};
 ghost use Rattle.acdf_filters.specs.Granted.{granted};
-ghost use Rattle.acdf_filters.specs.Weighing.{AreMemberships};
 ghost use Rattle.read_model.specs.Selecting.{permits_of};
-ghost use Rattle.op_read.specs.Seeing.{row_in, memberships-prop};
+ghost use Rattle.op_read.specs.Seeing.{Knows, knows-prop, row_in};
 
 use acdf_filters::{Item, Membership, Requester};
 use acdf_lists::Dir;
@@ -23,7 +22,7 @@ pub(crate) struct Asking<'a, D: Dir> {
     pub(crate) dir: &'a D,
     pub(crate) who: &'a Requester,
     pub(crate) known: &'a [Membership],
-    ghost memberships: { AreMemberships (entries_of (D.rows dir.now)) who.now.name known.now } by { memberships-prop (entries_of (D.rows dir.now)) who.now.name known.now },
+    ghost memberships: { Knows (D.rows dir.now) who.now known.now } by { knows-prop (D.rows dir.now) who.now known.now },
 }
 
 /// An entry of the directory, as the requester sees it.
@@ -34,15 +33,17 @@ pub(crate) struct Seen<'a, D: Dir> {
     pub(crate) known: &'a [Membership],
     pub(crate) number: EntryNo,
     pub(crate) entry: &'a Entry,
-    ghost memberships: { AreMemberships (entries_of (D.rows dir.now)) who.now.name known.now } by { memberships-prop (entries_of (D.rows dir.now)) who.now.name known.now },
+    ghost memberships: { Knows (D.rows dir.now) who.now known.now } by { knows-prop (D.rows dir.now) who.now known.now },
     ghost found: { entry_of number.0 (D.rows dir.now) ≡ Some entry.now },
 }
 
 impl<'a, D: Dir> Asking<'a, D> {
-    /// Whether the requester has the permission for the item of the entry of the number; false where that is not in use.
+    /// Whether the requester has the permission for the item of the entry of the number; false where that is not in
+    /// use.
     pub(crate) fn allows(&self, number: EntryNo, item: Item<'_>, permission: Permission) -> bool
         ensures exact { result ≡ option_map_or
-            (λ entry. granted (entries_of (D.rows self.now.dir.now)) self.now.who.now entry (protected_of item.entry) permission)
+            (λ entry. granted (entries_of (D.rows self.now.dir.now)) self.now.who.now entry
+            (protected_of item.entry) permission)
             (entry_of number.0 (D.rows self.now.dir.now)) false }
     {
         self.dir

@@ -71,7 +71,8 @@ fn read_texts(alloc: Global, texts: &[Octets]) -> Result<Vec<Choice>, NoMemory>
 
 // All user attributes.
 fn all_user(alloc: Global) -> Result<Vec<Choice>, NoMemory>
-    ensures ok { IfOk result (λ choices. (kind : ℕ) → list_any (chooses kind) choices.items ≡ is_chosen [] kind) }
+    ensures ok { IfOk result (λ choices.
+        (kind : ℕ) → list_any (chooses kind) choices.items ≡ is_chosen [] kind) }
 {
     let mut choices = Vec::new(alloc);
     choices.push(Choice::User)?;
@@ -208,8 +209,10 @@ fn sent_attributes<D: Dir>(
     seen: &Seen<'_, D>,
     selection: Selection<'_>,
 ) -> Result<Vec<KindValues>, NoMemory>
-    ensures ok { IfOk result (λ sent. sent.items ≡ flat_map (sent_of selection.entry.choices.now selection.entry.kinds_only
-        (row_in (D.rows seen.now.dir.now) seen.now.who.now seen.now.entry.now)) seen.now.entry.now.attributes) }
+    ensures ok { IfOk result (λ sent. sent.items ≡ flat_map
+        (sent_of selection.entry.choices.now selection.entry.kinds_only
+        (row_in (D.rows seen.now.dir.now) seen.now.who.now seen.now.entry.now))
+        seen.now.entry.now.attributes) }
 {
     let mut sent = Vec::new(alloc);
     for (kind, values) in seen.entry.attributes() {
@@ -218,8 +221,8 @@ fn sent_attributes<D: Dir>(
     Ok(sent)
 }
 
-/// The entry as it is sent (RFC 4511 4.5.2): the attributes that the selection chooses and whose types may be read, with
-/// the values that may be read. The error comes where memory is wanted.
+/// The entry as it is sent (RFC 4511 4.5.2): the attributes that the selection chooses and whose types may be read,
+/// with the values that may be read. The error comes where memory is wanted.
 pub(crate) fn sent_entry<D: Dir>(
     alloc: Global,
     seen: &Seen<'_, D>,

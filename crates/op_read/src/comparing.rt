@@ -90,7 +90,8 @@ fn compare_at<D: Dir>(
     asserted: &Value,
     number: Option<EntryNo>,
 ) -> Result<LdapResult, NoMemory>
-    ensures ok { IfOk result (λ ended. ended ≡ compared_in (view_in (D.rows asking.now.dir.now) asking.now.who.now)
+    ensures ok { IfOk result (λ ended. ended
+        ≡ compared_in (view_in (D.rows asking.now.dir.now) asking.now.who.now)
         name.now kind.0 asserted.now (rows_at (D.rows asking.now.dir.now) asking.now.who.now number)) }
 {
     let Some(number) = number else {
@@ -120,7 +121,8 @@ fn compare_entry<D: Dir>(
     asserted: &Value,
 ) -> Result<LdapResult, NoMemory>
     ensures ok { IfOk result (λ ended. ended
-        ≡ compared_value (view_in (D.rows asking.now.dir.now) asking.now.who.now) name.now kind.0 (Some asserted.now)) }
+        ≡ compared_value (view_in (D.rows asking.now.dir.now) asking.now.who.now)
+        name.now kind.0 (Some asserted.now)) }
 {
     if name.len() == 0 {
         return Ok(result_of(alloc, ResultCode::UnwillingToPerform));
@@ -151,7 +153,8 @@ fn compare_value<D: Dir>(
     octets: &[u8],
 ) -> Result<LdapResult, NoMemory>
     requires { IsAttrId kind.0 }
-    ensures ok { IfOk result (λ ended. ended ≡ compared_value (view_in (D.rows asking.now.dir.now) asking.now.who.now)
+    ensures ok { IfOk result (λ ended. ended
+        ≡ compared_value (view_in (D.rows asking.now.dir.now) asking.now.who.now)
         name.now kind.0 (value_of kind.0 octets.now)) }
 {
     match value_asserted(alloc, kind, octets)? {
@@ -167,7 +170,8 @@ fn compare_named<D: Dir>(
     name: &Dn,
     request: &CompareRequest,
 ) -> Result<LdapResult, NoMemory>
-    ensures ok { IfOk result (λ ended. ended ≡ compared_kind (view_in (D.rows asking.now.dir.now) asking.now.who.now)
+    ensures ok { IfOk result (λ ended. ended
+        ≡ compared_kind (view_in (D.rows asking.now.dir.now) asking.now.who.now)
         name.now request.now.value (attr_of request.now.kind)) }
 {
     match attr_named(request.kind.as_slice()) {
@@ -193,8 +197,8 @@ fn compare_known<D: Dir>(
 }
 
 /// The result of a compare (RFC 4511 4.10, X.511 9.2): `compareTrue` where the entry has an equal value that the
-/// requester may compare, `compareFalse` where it has none. What the requester may not know is answered as what is not
-/// there. The error comes where memory is wanted.
+/// requester may compare, `compareFalse` where it has none. What the requester may not know is answered as what is
+/// not there. The error comes where memory is wanted.
 pub fn compare<D: Dir>(
     alloc: Global,
     dir: &D,

@@ -33,7 +33,8 @@ fn no_object<D: Dir>(
     asking: &Asking<'_, D>,
     nearest: Option<EntryNo>,
 ) -> Result<LdapResult, NoMemory>
-    ensures ok { IfOk result (λ ended. ended ≡ without_object (nearest_name (D.rows asking.now.dir.now) nearest)) }
+    ensures ok { IfOk result (λ ended.
+        ended ≡ without_object (nearest_name (D.rows asking.now.dir.now) nearest)) }
 {
     let Some(number) = nearest else {
         return Ok(result_of(alloc, ResultCode::NoSuchObject));
@@ -44,8 +45,8 @@ fn no_object<D: Dir>(
     }
 }
 
-/// noSuchObject, with the name of the nearest entry above of which the requester may know. The error comes where memory
-/// is wanted.
+/// noSuchObject, with the name of the nearest entry above of which the requester may know. The error comes where
+/// memory is wanted.
 pub(crate) fn no_such_object<D: Dir>(
     alloc: Global,
     asking: &Asking<'_, D>,

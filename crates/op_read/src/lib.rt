@@ -1,4 +1,5 @@
-//! Searches and compares answered (RFC 4511 4.5 and 4.10, X.511 9.2 and 10.2), over any directory that decides.
+//! Searches and compares answered (RFC 4511 4.5 and 4.10, X.511 9.2 and 10.2), over any directory that takes
+//! decisions.
 #![tactic(auto)]
 
 mod asking;

@@ -96,7 +96,8 @@ fn put_root(
     attribute: RootAttribute<'_>,
     sent: &mut Vec<KindValues>,
 ) -> Result<(), NoMemory>
-    ensures ok { OnOk result (sent.new.items ≡ sent.old.items ++ root_sent_of request.now (root_of attribute.entry)) }
+    ensures ok { OnOk result (sent.new.items
+        ≡ sent.old.items ++ root_sent_of request.now (root_of attribute.entry)) }
 {
     if is_root_chosen(attribute, request.selection.as_slice()) {
         sent.push(sent_root(alloc, request.kinds_only, attribute)?)?;
@@ -106,7 +107,8 @@ fn put_root(
 
 // The name of the suffix as text; empty where the tree is.
 fn suffix_name<D: Dir>(alloc: Global, asking: &Asking<'_, D>) -> Result<Octets, NoMemory>
-    ensures ok { IfOk result (λ name. name ≡ suffix_name (view_in (D.rows asking.now.dir.now) asking.now.who.now)) }
+    ensures ok { IfOk result (λ name.
+        name ≡ suffix_name (view_in (D.rows asking.now.dir.now) asking.now.who.now)) }
 {
     let tree = asking.dir.tree();
     let Some(number) = tree.suffix() else {
@@ -124,7 +126,8 @@ fn sent_roots(
     request: &SearchRequest,
     suffix: &[u8],
 ) -> Result<Vec<KindValues>, NoMemory>
-    ensures ok { IfOk result (λ sent. sent.items ≡ flat_map (root_sent_of request.now) (roots_with suffix.now)) }
+    ensures ok { IfOk result (λ sent.
+        sent.items ≡ flat_map (root_sent_of request.now) (roots_with suffix.now)) }
 {
     let mut sent = Vec::new(alloc);
     put_root(
@@ -170,8 +173,8 @@ fn operational_attribute<'a>(name: &'static str, value: &'a [u8]) -> RootAttribu
     }
 }
 
-/// The root DSE as it is sent, with the attributes that are chosen. It is under no access control. The error comes where
-/// memory is wanted.
+/// The root DSE as it is sent, with the attributes that are chosen. It is under no access control. The error comes
+/// where memory is wanted.
 pub(crate) fn root_entry<D: Dir>(
     alloc: Global,
     asking: &Asking<'_, D>,
@@ -207,8 +210,8 @@ fn asks_for_root(filter: &Filter) -> bool
     }
 }
 
-/// Whether the search of the empty name finds the root DSE: its filter asks for the presence of objectClass, and not for
-/// subentries alone.
+/// Whether the search of the empty name finds the root DSE: its filter asks for the presence of objectClass, and not
+/// for subentries alone.
 pub(crate) fn finds_root(request: &SearchRequest, subentries: Option<bool>) -> bool
     ensures exact { result ≡ finds_root request.now subentries }
 {

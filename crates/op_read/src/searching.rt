@@ -45,7 +45,8 @@ fn put_selected<D: Dir>(
     requires tree { IsNumberedTree (D.rows asking.now.dir.now) }
     requires found { find_name base.now (D.rows asking.now.dir.now) ≡ Some number.0 }
     ensures ok { OnOk result (out.new.items ≡ out.old.items ++ replies_octets search.now.id
-        (found_replies (view_in (D.rows asking.now.dir.now) asking.now.who.now) search.now.request.now base.now
+        (found_replies (view_in (D.rows asking.now.dir.now) asking.now.who.now)
+        search.now.request.now base.now
         (selected (view_in (D.rows asking.now.dir.now) asking.now.who.now) search.now.request.now
         search.now.subentries base.now))) }
     ensures kept { Extends out.old.items out.new.items }
@@ -67,7 +68,8 @@ fn put_from<D: Dir>(
     requires tree { IsNumberedTree (D.rows asking.now.dir.now) }
     requires found { find_name base.now (D.rows asking.now.dir.now) ≡ Some number.0 }
     ensures ok { OnOk result (out.new.items ≡ out.old.items ++ replies_octets asked.entry.id
-        (found_replies (view_in (D.rows asking.now.dir.now) asking.now.who.now) asked.entry.request.now base.now
+        (found_replies (view_in (D.rows asking.now.dir.now) asking.now.who.now)
+        asked.entry.request.now base.now
         (selected (view_in (D.rows asking.now.dir.now) asking.now.who.now) asked.entry.request.now
         asked.entry.subentries base.now))) }
     ensures kept { Extends out.old.items out.new.items }
@@ -134,7 +136,8 @@ fn put_root<D: Dir>(
 ) -> Result<(), NoMemory>
     ensures ok { OnOk result (out.new.items ≡ out.old.items ++ replies_octets asked.entry.id
         (if finds_root asked.entry.request.now asked.entry.subentries
-        then root_entry (view_in (D.rows asking.now.dir.now) asking.now.who.now) asked.entry.request.now ∷ [] else [])) }
+        then root_entry (view_in (D.rows asking.now.dir.now) asking.now.who.now) asked.entry.request.now ∷ []
+        else [])) }
     ensures kept { Extends out.old.items out.new.items }
 {
     if finds_root(asked.request, asked.subentries) {
@@ -210,7 +213,8 @@ fn put_replies<D: Dir>(
     out: &mut Vec<u8>,
 ) -> Result<(), NoMemory>
     ensures ok { OnOk result (out.new.items ≡ out.old.items ++ replies_octets asked.entry.id
-        (search_replies (view_of (entries_of (D.rows dir.now)) who.now) asked.entry.request.now asked.entry.subentries)) }
+        (search_replies (view_of (entries_of (D.rows dir.now)) who.now) asked.entry.request.now
+        asked.entry.subentries)) }
     ensures kept { Extends out.old.items out.new.items }
 {
     let known = dir.memberships(alloc, who)?;
@@ -222,10 +226,10 @@ fn put_replies<D: Dir>(
     put_known(alloc, &asking, asked, out)
 }
 
-/// Appends the replies to a search (RFC 4511 4.5, X.511 10.2): the entries that are selected, in the order of names and up
-/// to the limit of the request, and how the search ended. What the requester may not know of is answered as what is not
-/// there. `subentries` is what the control of subentries says, where it goes with the request (RFC 3672 3). The error
-/// comes for want of memory alone, and then `out` is as before.
+/// Appends the replies to a search (RFC 4511 4.5, X.511 10.2): the entries that are selected, in the order of names
+/// and up to the limit of the request, and how the search ended. What the requester may not know of is answered as
+/// what is not there. `subentries` is what the control of subentries says, where it goes with the request (RFC 3672
+/// 3). The error comes for want of memory alone, and then `out` is as before.
 pub fn search<D: Dir>(
     alloc: Global,
     dir: &D,

@@ -35,8 +35,8 @@ pub(crate) fn is_seen(scope: u8, subentries: Option<bool>, entry: &Entry) -> boo
     }
 }
 
-/// Whether the entry matches the filter, may be browsed, and its name may be returned. What asks for the fewest decisions
-/// is asked first: of most entries the filter says at once that they don't match.
+/// Whether the entry matches the filter, may be browsed, and its name may be returned. What asks for the fewest
+/// decisions is asked first: of most entries the filter says at once that they don't match.
 pub(crate) fn is_found<D: Dir>(filter: &Prepared<'_>, seen: &Seen<'_, D>) -> bool
     ensures exact { result ≡ is_found filter.now
         (row_in (D.rows seen.now.dir.now) seen.now.who.now seen.now.entry.now) }

@@ -34,7 +34,8 @@ pub(crate) struct Search<'a> {
     pub(crate) filter: &'a Prepared<'a>,
     pub(crate) selection: Selection<'a>,
     ghost filtering: { filter.now ≡ request.now.filter },
-    ghost types: { (kind : ℕ) → list_any (chooses kind) selection.choices.now ≡ is_chosen request.now.selection kind },
+    ghost types: { (kind : ℕ)
+        → list_any (chooses kind) selection.choices.now ≡ is_chosen request.now.selection kind },
     ghost values: { selection.kinds_only ≡ request.now.kinds_only },
 }
 
@@ -73,7 +74,8 @@ fn put_entry<D: Dir>(
     seen: &Seen<'_, D>,
     out: &mut Vec<u8>,
 ) -> Result<(), NoMemory>
-    ensures ok { OnOk result (out.new.items ≡ out.old.items ++ entry_octets search.now.id search.now.request.now
+    ensures ok { OnOk result (out.new.items ≡ out.old.items
+        ++ entry_octets search.now.id search.now.request.now
         (row_in (D.rows seen.now.dir.now) seen.now.who.now seen.now.entry.now)) }
     ensures kept { Extends out.old.items out.new.items }
 {
@@ -170,8 +172,8 @@ fn offer_at<D: Dir>(
     }
 }
 
-/// Sends the entries of the scope that are selected, from the entry of the number on and in the order of names: no more
-/// than the limit, if there is one. What is not selected is not counted.
+/// Sends the entries of the scope that are selected, from the entry of the number on and in the order of names: no
+/// more than the limit, if there is one. What is not selected is not counted.
 pub(crate) fn put_found<D: Dir>(
     alloc: Global,
     asking: &Asking<'_, D>,
@@ -182,7 +184,8 @@ pub(crate) fn put_found<D: Dir>(
     ensures ok { IfOk result (λ found. IsSent search.now.request.now.size
         (entry_octets search.now.id search.now.request.now)
         (shown_among (is_shown search.now.request.now search.now.subentries) (D.rows asking.now.dir.now)
-        asking.now.who.now (scoped (scope_of search.now.request.now.scope) number.0 (D.rows asking.now.dir.now)))
+        asking.now.who.now
+        (scoped (scope_of search.now.request.now.scope) number.0 (D.rows asking.now.dir.now)))
         out.old.items out.new.items found) }
     ensures kept { Extends out.old.items out.new.items }
 {
