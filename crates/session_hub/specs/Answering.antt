@@ -18,8 +18,7 @@ use Rattle.ldap_msg.specs.ResultCodes.{code_number}
 use Rattle.ldap_msg.specs.Messages.{message_of}
 use Rattle.ldap_msg.specs.Replies.{reply_octets, notice_octets}
 use Rattle.session_model.specs.Rules.{Rules, Answered}
-use Rattle.session_hub.specs.Parties.{DirectoryEntries, Requester}
-use Rattle.session_hub.specs.declared.requester.Requester.TheVariants.{Anonymous}
+use Rattle.session_hub.specs.Parties.{DirectoryEntries, Requester, nobody}
 
 -- a result with this code and no matched name
 abbrev pub coded : ResultCode → LdapResult
@@ -93,7 +92,7 @@ is_unbind (request.Extended name value) = false
 
 -- who the requester is after a request: a bind makes it anonymous
 abbrev pub requester_after : Requester → Request → Requester
-requester_after who (request.Bind bind) = Anonymous
+requester_after who (request.Bind bind) = nobody
 requester_after who request.Unbind = who
 requester_after who (request.Search search) = who
 requester_after who (request.Modify modify) = who
@@ -122,4 +121,4 @@ answer_read tree who (Some message) =
 
 -- the rules of this server, over the entries of its directory
 unfoldable pub rules : Rules DirectoryEntries Requester
-rules = record { nobody = Anonymous; answer = λ tree who bytes. answer_read tree who (message_of bytes) }
+rules = record { nobody = nobody; answer = λ tree who bytes. answer_read tree who (message_of bytes) }

@@ -19,5 +19,4 @@ mod waiting;
 pub use ended::Ended;
 pub use event::Event;
 pub use hub::{Hub, MAX_CONNECTIONS};
-pub use requester::Requester;
 pub use serve::{BUFFER_LENGTH, serve_loop};

@@ -1,13 +1,15 @@
 //! The answer to one message.
 
 ghost use Rattle.std.specs.Prelude.{◌≡◌, ◌++◌, length, IfOk, OnOk, OnErr, Some, None};
+ghost use Rattle.dir_tree.specs.Numbered.{entries_of};
 ghost use Rattle.ldap_msg.specs.Streams.{frame_at};
 ghost use Rattle.session_hub.specs.Answering.{rules, reply_to as reply_of, response_to as response_of, bind_code as code_of, auth_code, simple_code, request_code, has_critical, code_with, is_unbind, requester_after, octets_of, answer_read, coded};
 ghost use Rattle.session_hub.specs.Parties.{DirectoryEntries, Requester};
 ghost use Rattle.session_hub.specs.Answers.{Gives};
 
-use crate::Requester;
-use acdf_core::Dir;
+use crate::requester::anonymous;
+use acdf_filters::Requester;
+use acdf_lists::Dir;
 use ldap_msg::{
     Auth, BindRequest, Control, Frame, LdapResult, Message, ReadFault, Reply, Request, ResultCode,
     put_notice, put_reply, read_request,
@@ -106,7 +108,7 @@ fn ask_next(who: &mut Requester, request: &Request)
     ensures { who.new ≡ requester_after who.old request.now }
 {
     if let Request::Bind(_) = request {
-        *who = Requester::Anonymous;
+        *who = anonymous();
     }
 }
 
@@ -167,11 +169,11 @@ pub fn answer<D: Dir>(
     out: &mut Vec<u8>,
 ) -> Result<bool, AllocError>
     requires { frame_at bytes.now ≡ Frame.Whole (length bytes.now) }
-    ensures ok { IfOk result (λ closes. Gives (rules.answer (D.entries dir.old) who.old bytes.now)
-        out.old.items out.new.items (D.entries dir.new) who.new closes) }
+    ensures ok { IfOk result (λ closes. Gives (rules.answer (entries_of (D.rows dir.old)) who.old bytes.now)
+        out.old.items out.new.items (entries_of (D.rows dir.new)) who.new closes) }
     ensures err { OnErr result (out.new.items ≡ out.old.items) }
     ensures asker { OnErr result (who.new ≡ who.old) }
-    ensures entries { OnErr result (D.entries dir.new ≡ D.entries dir.old) }
+    ensures entries { OnErr result (entries_of (D.rows dir.new) ≡ entries_of (D.rows dir.old)) }
 {
     match read_request(alloc, bytes) {
         Ok(message) => answer_message(alloc, who, &message, out),
