@@ -16,6 +16,7 @@ use Rattle.session_hub.specs.declared.ended.Ended.{Ended}
 use Rattle.session_hub.specs.declared.ended.Ended.TheVariants as ended
 use Rattle.session_hub.specs.Loops.{Serves, EndsFor}
 use Rattle.command_words.specs.Command.{Serve}
+use Rattle.dir_tree.specs.Entries.{EntryInformation}
 use Rattle.dir_tree.specs.Numbered.{Numbered, entries_of}
 use Rattle.command_files.specs.Loading.{LoadsData}
 use Rattle.acl_program.specs.declared.status.Status.{Status}
@@ -25,7 +26,7 @@ use Rattle.acl_program.specs.Listening.{FollowsOpen, Listens, ListensOn, ServesO
 use Rattle.acl_program.specs.Outcomes.{Served, text_of, status_of, settled}
 use Rattle.acl_program.specs.Outside.{Shelved, Written, Linked, Outside, beside}
 use Rattle.acl_program.specs.Playing.{Ends, Performs}
-use Rattle.acl_program.specs.Serving.{ServeAsked, ServeEnd, NotBegun, NotOpened, NotServed, LoopEnded, Opens, ServesUntil, LinkServes, listening_text, ended_text, loop_status, serve_status}
+use Rattle.acl_program.specs.Serving.{ServeAsked, ServeEnd, NotBegun, NotOpened, NotServed, LoopEnded, Opens, ServesUntil, LinkServes, listening_text, ended_text, loop_status, serve_asked, serve_status}
 use Rattle.acl_program.proofs.EndsLemmas.{Ends-no_memory, Ends-put}
 
 -- serving has one of four statuses
@@ -150,6 +151,18 @@ pub Listens-no_memory : (asked : ServeAsked) (before after : Outside) → Opens 
 unfolding Listens LinkServes
 Listens-no_memory asked before after opens stays =
     (NotBegun, Ends-no_memory (Served asked NotBegun) before.out after.out 0 (ap (λ out. out.put) stays ∙ appended-none before.out.put) (ap (λ out. out.faults) stays), opens)
+
+-- there was no memory for the directory, and nothing was done
+pub Listens-nothing : (asked : ServeAsked) (before : Outside) → Listens asked before NoMemory before
+unfolding OpenTells LinkCause
+Listens-nothing asked before = Listens-no_memory asked before before (record { tells = refl; cause = refl; plan = refl; lost = record { never_falls = ≤-refl before.link.lost } }) refl
+
+-- the entries that are served are those of the tree
+pub Listens-over :
+    (address : List ℕ) (sessions turns : ℕ) (served entries : List EntryInformation) (before after : Outside) (status : Status)
+    → served ≡ entries → Listens (serve_asked address sessions turns served) before status after → Listens (serve_asked address sessions turns entries) before status after
+Listens-over address sessions turns served entries before after status same listens =
+    subst (λ found. Listens (serve_asked address sessions turns found) before status after) same listens
 
 -- a data file was loaded and served, with the shelf as it then was
 pub Performs-served :
