@@ -109,7 +109,8 @@ impl Connection {
     /// Hears a piece of an open connection: its whole messages are answered, and what is left is
     /// kept unless the connection closes now. Where there is no memory it is cut, which closes it.
     pub fn hear<D: Dir>(&mut self, alloc: Global, dir: &mut D, piece: &[u8])
-        ensures exact { HearsPiece piece.now (entries_of (D.rows dir.old)) self.old (entries_of (D.rows dir.new)) self.new }
+        ensures exact { HearsPiece piece.now
+            (entries_of (D.rows dir.old)) self.old (entries_of (D.rows dir.new)) self.new }
         ensures bounded { length self.new.rest ≤ most_unread }
     {
         if self.rest.is_empty() {
@@ -122,7 +123,8 @@ impl Connection {
     /// Hears a piece where nothing is unread: it is read where it lies.
     fn hear_alone<D: Dir>(&mut self, alloc: Global, dir: &mut D, piece: &[u8])
         requires { self.old.rest ≡ [] }
-        ensures exact { HearsPiece piece.now (entries_of (D.rows dir.old)) self.old (entries_of (D.rows dir.new)) self.new }
+        ensures exact { HearsPiece piece.now
+            (entries_of (D.rows dir.old)) self.old (entries_of (D.rows dir.new)) self.new }
         ensures bounded { length self.new.rest ≤ most_unread }
     {
         let spoken = speak(alloc, dir, &mut self.who, piece, &mut self.out);
@@ -133,7 +135,8 @@ impl Connection {
 
     /// Hears a piece behind what is unread.
     fn hear_behind<D: Dir>(&mut self, alloc: Global, dir: &mut D, piece: &[u8])
-        ensures exact { HearsPiece piece.now (entries_of (D.rows dir.old)) self.old (entries_of (D.rows dir.new)) self.new }
+        ensures exact { HearsPiece piece.now
+            (entries_of (D.rows dir.old)) self.old (entries_of (D.rows dir.new)) self.new }
         ensures bounded { length self.new.rest ≤ most_unread }
     {
         match self.rest.extend_from_slice(piece) {

@@ -111,11 +111,13 @@ impl Hub {
     /// `cut` tells where. `AllocError` comes where a connection is to be held and there is no memory;
     /// all is then as it was.
     pub fn hear<D: Dir>(&mut self, dir: &mut D, event: Event<'_>) -> Result<(), AllocError>
-        ensures exact { OnOk result (Hears event.entry (held (entries_of (D.rows dir.old)) self.old) (held (entries_of (D.rows dir.new)) self.new)) }
+        ensures exact { OnOk result (Hears event.entry
+            (held (entries_of (D.rows dir.old)) self.old) (held (entries_of (D.rows dir.new)) self.new)) }
         ensures run { OnOk result (FollowsStep (step_by event.entry self.old.kept self.new.kept)
             (held (entries_of (D.rows dir.old)) self.old) (held (entries_of (D.rows dir.new)) self.new)) }
         ensures cause { OnErr result (OpensOne event.entry self.old.kept) }
-        ensures kept { OnErr result (held (entries_of (D.rows dir.new)) self.new ≡ held (entries_of (D.rows dir.old)) self.old) }
+        ensures kept { OnErr result
+            (held (entries_of (D.rows dir.new)) self.new ≡ held (entries_of (D.rows dir.old)) self.old) }
         ensures bounded { IsBounded self.new.kept }
     {
         let heard = self.hear_event(dir, event);
@@ -140,9 +142,11 @@ impl Hub {
     }
 
     fn hear_event<D: Dir>(&mut self, dir: &mut D, event: Event<'_>) -> Result<(), AllocError>
-        ensures ok { OnOk result (Hears event.entry (held (entries_of (D.rows dir.old)) self.old) (held (entries_of (D.rows dir.new)) self.new)) }
+        ensures ok { OnOk result (Hears event.entry
+            (held (entries_of (D.rows dir.old)) self.old) (held (entries_of (D.rows dir.new)) self.new)) }
         ensures cause { OnErr result (OpensOne event.entry self.old.kept) }
-        ensures kept { OnErr result (held (entries_of (D.rows dir.new)) self.new ≡ held (entries_of (D.rows dir.old)) self.old) }
+        ensures kept { OnErr result
+            (held (entries_of (D.rows dir.new)) self.new ≡ held (entries_of (D.rows dir.old)) self.old) }
     {
         match event {
             Event::Opened(conn) => self.open(conn),
@@ -180,7 +184,8 @@ impl Hub {
     }
 
     fn hear_piece<D: Dir>(&mut self, dir: &mut D, conn: u32, piece: &[u8])
-        ensures { Hears (Event.Bytes conn piece.entry) (held (entries_of (D.rows dir.old)) self.old) (held (entries_of (D.rows dir.new)) self.new) }
+        ensures { Hears (Event.Bytes conn piece.entry)
+            (held (entries_of (D.rows dir.old)) self.old) (held (entries_of (D.rows dir.new)) self.new) }
     {
         let connections = &mut self.connections;
         let cut = hear_at(self.alloc, dir, connections, &mut self.last, conn, piece);

@@ -3,6 +3,7 @@
 
 mod block;
 mod connection;
+mod controls;
 mod ended;
 mod event;
 mod hub;

@@ -111,7 +111,8 @@ pub fn hear_at<D: Dir>(
     piece: &[u8],
 ) -> bool
     requires { AreDistinct connections.old }
-    ensures exact { HearsAt number piece.now (entries_of (D.rows dir.old)) connections.old (entries_of (D.rows dir.new)) connections.new result }
+    ensures exact { HearsAt number piece.now
+        (entries_of (D.rows dir.old)) connections.old (entries_of (D.rows dir.new)) connections.new result }
     ensures bounded { IsBounded connections.old → IsBounded connections.new }
     ensures distinct { AreDistinct connections.new }
 {

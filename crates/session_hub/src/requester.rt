@@ -3,8 +3,8 @@
 ghost use Rattle.std.specs.Prelude.{◌≡◌};
 ghost use Rattle.session_hub.specs.Parties.{nobody};
 
-use aci_item::Level;
 use acdf_filters::Requester;
+use aci_item::Level;
 
 /// A requester of whom nothing is known (RFC 4511 4.2): it has no name, and the lowest level.
 pub fn anonymous() -> Requester

@@ -52,10 +52,13 @@ fn take_turn<D: Dir, L: Link>(
 ) -> Option<Ended>
     requires long { length buffer.old ≡ buffer_length }
     ensures none { IfNone result (GoesOn
-        (L.journal link.old) (L.plan link.old) (held (entries_of (D.rows dir.old)) hub.old) waiting.old.on_hold.items
-        (L.journal link.new) (L.plan link.new) (held (entries_of (D.rows dir.new)) hub.new) waiting.new.on_hold.items) }
+        (L.journal link.old) (L.plan link.old)
+        (held (entries_of (D.rows dir.old)) hub.old) waiting.old.on_hold.items
+        (L.journal link.new) (L.plan link.new)
+        (held (entries_of (D.rows dir.new)) hub.new) waiting.new.on_hold.items) }
     ensures some { IfSome result (λ ended. EndsWith
-        (L.journal link.old) (L.plan link.old) (held (entries_of (D.rows dir.old)) hub.old) waiting.old.on_hold.items
+        (L.journal link.old) (L.plan link.old)
+        (held (entries_of (D.rows dir.old)) hub.old) waiting.old.on_hold.items
         ended (entries_of (D.rows dir.new)) (L.journal link.new) (L.plan link.new)) }
     ensures faults { IfNone result (L.faults link.new ≡ L.faults link.old) }
     ensures cause { IfSome result (λ ended. EndsFor (L.plan link.old) (L.faults link.old) (L.faults link.new) ended) }
@@ -89,7 +92,8 @@ fn serve_in<D: Dir, L: Link>(
     requires empty { hub ≡ no_hub }
     requires free { waiting.on_hold.items ≡ [] }
     requires long { length buffer.old ≡ buffer_length }
-    ensures served { Serves (entries_of (D.rows dir.old)) (entries_of (D.rows dir.new)) turns (L.journal link.old) result (L.journal link.new) }
+    ensures served { Serves (entries_of (D.rows dir.old)) (entries_of (D.rows dir.new))
+        turns (L.journal link.old) result (L.journal link.new) }
     ensures plays { PlaysOut turns (L.journal link.old) (L.plan link.old) result (L.journal link.new) (L.plan link.new) }
     ensures cause { EndsFor (L.plan link.old) (L.faults link.old) (L.faults link.new) result }
     ensures lost { NeverFalls (L.lost link.old) (L.lost link.new) }
@@ -113,7 +117,8 @@ fn serve_in<D: Dir, L: Link>(
 /// memory, each once, and the last block may be unfinished. `LinkFault` says that the link failed,
 /// which its count of faults shows.
 pub fn serve_loop<D: Dir, L: Link>(alloc: Global, dir: &mut D, link: &mut L, turns: u64) -> Ended
-    ensures served { Serves (entries_of (D.rows dir.old)) (entries_of (D.rows dir.new)) turns (L.journal link.old) result (L.journal link.new) }
+    ensures served { Serves (entries_of (D.rows dir.old)) (entries_of (D.rows dir.new))
+        turns (L.journal link.old) result (L.journal link.new) }
     ensures plays { PlaysOut turns (L.journal link.old) (L.plan link.old) result (L.journal link.new) (L.plan link.new) }
     ensures cause { EndsFor (L.plan link.old) (L.faults link.old) (L.faults link.new) result }
     ensures lost { NeverFalls (L.lost link.old) (L.lost link.new) }

@@ -20,7 +20,8 @@ pub fn speak<D: Dir>(
     stream: &[u8],
     out: &mut Vec<u8>,
 ) -> Spoken
-    ensures { Speaks (entries_of (D.rows dir.old)) who.old stream.now out.old.items out.new.items (entries_of (D.rows dir.new)) who.new result }
+    ensures { Speaks (entries_of (D.rows dir.old)) who.old stream.now
+        out.old.items out.new.items (entries_of (D.rows dir.new)) who.new result }
 {
     let mut read = 0;
     let mut answered = 0;

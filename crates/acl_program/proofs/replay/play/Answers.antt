@@ -9,9 +9,9 @@ use Rattle.acl_program.proofs.replay.play.Goals as goal
 pub play_over-requires : goal.play_over-requires
 play_over-requires g c = record { fresh = c.requires.fresh; good = subst (λ rows. IsGoodTree (entries_of rows)) (sym c.in-Ok.ensures.ok) c.requires.good }
 
-pub returns-in-Ok-clause-ends : goal.returns-in-Ok-clause-ends
-returns-in-Ok-clause-ends g c = Played-over _ _ _ _ _ (written _ _) (written _ _) _ (ap entries_of c.in-Ok.ensures.ok) c.play_over.ensures.ends
+pub returns-in-Ok : goal.returns-in-Ok
+returns-in-Ok g c = record { ends = Played-over _ _ _ _ _ (written _ _) (written _ _) _ (ap entries_of c.in-Ok.ensures.ok) c.play_over.ensures.ends }
 
 -- there was no memory for it
-pub returns-in-Err-clause-ends : goal.returns-in-Err-clause-ends
-returns-in-Err-clause-ends g c = Played-nothing _ _ _ _ (written _ _)
+pub returns-in-Err : goal.returns-in-Err
+returns-in-Err g c = record { ends = Played-nothing _ _ _ _ (written _ _) }

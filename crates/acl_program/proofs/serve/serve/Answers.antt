@@ -8,7 +8,7 @@ use Rattle.acl_program.proofs.serve.serve.Goals as goal
 
 -- the data file was loaded
 pub returns-in-Ok-clause-performs : goal.returns-in-Ok-clause-performs
-returns-in-Ok-clause-performs g c = Performs-served _ (serve_asked _ _ _ _) (shelved _ _) (outside _ _ _ _ (linked _ _ _ _)) (outside _ _ _ _ (linked _ _ _ _)) _ _ refl
+returns-in-Ok-clause-performs g c = Performs-served _ (serve_asked _ _ _ _) (outside _ _ _ _ (linked _ _ _ _)) (outside _ _ _ _ (linked _ _ _ _)) _ _ refl
     c.in-Ok.ensures.exact (c.listen.ensures.listens (shelved _ _))
 
 -- it wasn't

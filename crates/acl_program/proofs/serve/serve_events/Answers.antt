@@ -4,7 +4,7 @@ use Rattle.acl_program.proofs.serve.serve_events.Goals as goal
 
 -- the loop ended, and its line was to be put
 pub returns : goal.returns
-returns c = record {
+returns g c = record {
   serves = λ shelf address sessions. record {
     how = c.serve_loop.result;
     answer = c.write_all-put.result;
