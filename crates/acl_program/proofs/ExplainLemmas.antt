@@ -1,7 +1,12 @@
 -- Lemmas on explanations.
-use Rattle.std.proofs.Common.{◌≡◌, ℕ, List, Option, Some, None, Ok, refl, ◌∙◌, subst}
+use Rattle.std.proofs.Common.{◌≡◌, ℕ, List, Option, Some, None, Ok, refl, ap, ◌∙◌, subst}
 use Rattle.wire_io.proofs.Theorems.{appended-none}
 use Rattle.command_words.specs.Command.{CommandView, Explain}
+use Rattle.dn_names.specs.Names.{RdnSequence}
+use Rattle.aci_item.specs.declared.permission.Permission.{Permission}
+use Rattle.acdf_filters.specs.declared.asking.Requester.{Requester}
+use Rattle.acdf_filters.specs.Asking.{Protected}
+use Rattle.explain_text.specs.Text.{explained_text}
 use Rattle.question_words.specs.Questions.{Question}
 use Rattle.question_words.specs.Reading.{question_of}
 use Rattle.dir_tree.specs.Entries.{EntryInformation}
@@ -28,6 +33,11 @@ pub Performs-no_question :
     → after.shelf.faults ≡ before.shelf.faults → after.link ≡ before.link → Performs (Explain name who target item permission) before status after
 Performs-no_question name who target item permission before after status none ends stays same =
     Performs-undone (Explain name who target item permission) before after status (no_question who target item permission none) ends stays same
+
+-- the item that is asked for, as the decision takes it
+pub same_item : (entries : List EntryInformation) (who : Requester) (target : RdnSequence) (taken asked : Protected) (permission : Permission)
+    → taken ≡ asked → explained_text entries who target taken permission ≡ explained_text entries who target asked permission
+same_item entries who target taken asked permission is = ap (λ item. explained_text entries who target item permission) is
 
 -- there was no memory for the question
 pub Performs-no_memory : (asked : CommandView) (before : Outside) → Performs asked before NoMemory before

@@ -73,12 +73,7 @@ fn explain_over<H: Shelf, K: Sink>(
 }
 
 /// Prints the decision over the tree.
-fn explain_tree<K: Sink>(
-    alloc: Global,
-    tree: Tree,
-    question: &AskedDecision,
-    out: &mut K,
-) -> Status
+fn explain_tree<K: Sink>(alloc: Global, tree: Tree, question: &AskedDecision, out: &mut K) -> Status
     ensures ends { Ends (Explained (text_explained (entries_of tree) (question_view question.now)))
         (written (K.put out.old) (K.faults out.old)) result (written (K.put out.new) (K.faults out.new)) }
 {
