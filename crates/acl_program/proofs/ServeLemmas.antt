@@ -146,6 +146,10 @@ module _ (asked : ServeAsked) (before after : Outside) (status : Status) where
   ListensOn-cut fault tells cause is same =
       (NotServed, Ends-put (Served asked NotServed) before.out after.out (listening_text asked.address) (Err fault) NoMemory status refl refl is tells cause, same)
 
+-- a text that is another
+pub PutsAll-as : (old new : Option (List ℕ)) (text made : List ℕ) (answer : Result (Unit {0}) PutFault) → text ≡ made → PutsAll old text answer new → PutsAll old made answer new
+PutsAll-as old new text made answer is puts = subst (λ printed. PutsAll old printed answer new) is puts
+
 -- there was no memory to open the link
 pub Listens-no_memory : (asked : ServeAsked) (before after : Outside) → Opens asked (Err next.NoMemory) before.link after.link → after.out ≡ before.out → Listens asked before NoMemory after
 unfolding Listens LinkServes
