@@ -1,0 +1,5 @@
+pub mod FrontLemmas
+pub mod NearestLemmas
+pub mod CandidateLemmas
+pub mod MappedLemmas
+pub mod ExplainedLemmas

@@ -1,8 +1,14 @@
-//! What the access control decision (X.501 18.8) reads: a directory, which is a tree of entries.
+//! What is said of access control decisions (X.501 18.8): the nearest entry above a name of which a requester may know,
+//! and how the decision on an item came about.
 #![tactic(auto)]
 
-mod dir;
-mod plain_dir;
+mod candidates;
+mod explaining;
+mod facts;
+mod filters;
+mod nearest;
+mod steps;
 
-pub use dir::Dir;
-pub use plain_dir::PlainDir;
+pub use explaining::explain;
+pub use nearest::matched;
+pub use steps::{Counts, KeptTuple, Steps};

@@ -1,6 +1,6 @@
 //! Directories.
 
-ghost use Rattle.std.specs.Prelude.{◌≡◌, Some, false, map};
+ghost use Rattle.std.specs.Prelude.{◌≡◌, Some, IfOk, false, map};
 ghost use Rattle.std.specs.Option.{option_map_or};
 ghost use Rattle.dir_tree.specs.Entries.{EntryInformation};
 ghost use Rattle.dir_tree.specs.Numbered.{entry_of, entries_of, entries_at};
@@ -11,7 +11,8 @@ ghost use Rattle.acdf_filters.specs.Weighing.{AreMemberships};
 
 use acdf_filters::{Item, Membership, Requester};
 use aci_item::Permission;
-use dir_tree::{EntryNo, Tree};
+use dir_tree::{EntryNo, NoMemory, Tree};
+use std::alloc::Global;
 
 /// A directory. Contracts see its numbered entries.
 pub trait Dir {
@@ -38,6 +39,13 @@ pub trait Dir {
         ensures exact { result ≡ option_map_or
             (λ entry. granted (entries_of (rows self.now)) who.now entry (protected_of item.entry) permission)
             (entry_of number.0 (rows self.now)) false };
+
+    /// Which of the groups that the directory's items name the requester is a member of, asked once for many decisions:
+    /// they hold as long as the directory stays. None for an anonymous requester. Which groups are among them has no
+    /// part in what is decided. The error comes where memory is wanted.
+    fn memberships(&self, alloc: Global, who: &Requester) -> Result<Vec<Membership>, NoMemory>
+        ensures ok { IfOk result (λ known.
+            AreMemberships (entries_of (rows self.now)) who.now.name known.items) };
 
     /// The numbers of the access control subentries that are in force for the entry of the number (X.501 18.3), which the
     /// directory keeps.

@@ -3,6 +3,7 @@
 
 mod decision;
 mod dir;
+mod groups;
 mod kept;
 mod making;
 mod plain_dir;

@@ -8,19 +8,22 @@ ghost use Rattle.acdf_filters.specs.Weighing.{AreMemberships};
 
 use crate::decision::decide;
 use crate::dir::Dir;
+use crate::groups::{memberships_in, named_groups};
 use crate::kept::{Kept, in_force_at};
 use crate::making::make_all;
 use acdf_filters::{Item, Membership, Question, Requester};
 use aci_item::Permission;
 use dir_tree::{Entry, EntryNo, NoMemory, Tree};
+use dn_names::Dn;
 use std::alloc::Global;
 use std::marker::Model;
 
-/// A tree, and what is kept of each entry. Contracts see the numbered entries.
+/// A tree, what is kept of each entry, and the groups that the items kept name. Contracts see the numbered entries.
 #[derive(Drop)]
 pub struct PlainDir {
     tree: Tree,
     kept: Vec<Kept>,
+    groups: Vec<Dn>,
 }
 
 impl Model for PlainDir {
@@ -41,7 +44,8 @@ impl PlainDir {
         ensures ok { IfOk result (λ dir. dir ≡ tree) }
     {
         let kept = make_all(alloc, &tree)?;
-        Ok(PlainDir { tree, kept })
+        let groups = named_groups(alloc, &kept)?;
+        Ok(PlainDir { tree, kept, groups })
     }
 
     // Whether the requester has the permission for the item of an entry, which has the number.
@@ -89,6 +93,10 @@ impl Dir for PlainDir {
             Some(entry) => self.decide_entry(who, known, number, entry, item, permission),
             None => false,
         }
+    }
+
+    fn memberships(&self, alloc: Global, who: &Requester) -> Result<Vec<Membership>, NoMemory> {
+        memberships_in(alloc, &self.tree, who, &self.groups)
     }
 
     fn in_force(&self, number: EntryNo) -> &[EntryNo] {

@@ -1,5 +1,5 @@
 -- What a search is answered (RFC 4511 4.5, X.511 10.2): entries, and how it ended.
-use Rattle.std.specs.Prelude.{ℕ, ◌==◌, nat_lt, Bool, List, [], ◌∷◌, ◌++◌, length, take, map, Option, Result, Ok, Err, if◌then◌else◌}
+use Rattle.std.specs.Prelude.{ℕ, ◌==◌, nat_lt, Bool, List, [], ◌∷◌, ◌++◌, length, take, map, flat_map, Option, Result, Ok, Err, if◌then◌else◌}
 use Rattle.std.specs.List.{list_any}
 use Rattle.dn_names.specs.Names.{RdnSequence}
 use Rattle.dn_names.specs.declared.error.BadName.{BadName}
@@ -10,6 +10,7 @@ use Rattle.ldap_msg.specs.declared.kinds.LdapResult.{LdapResult}
 use Rattle.ldap_msg.specs.declared.kinds.SearchRequest.{SearchRequest}
 use Rattle.ldap_msg.specs.declared.kinds.Reply.{Reply}
 use Rattle.ldap_msg.specs.declared.kinds.Reply.TheVariants as reply
+use Rattle.ldap_msg.specs.Replies.{reply_octets}
 use Rattle.read_model.specs.Views.{View, has_name, discloses, hidden, no_such_object, result_of}
 use Rattle.read_model.specs.Selecting.{selected}
 use Rattle.read_model.specs.Choosing.{sent_entry}
@@ -49,3 +50,7 @@ replies_by view request subentries (Ok (rdn ∷ rdns)) = replies_at view request
 -- the replies to a search, with the control of subentries or without
 unfoldable pub search_replies : View → SearchRequest → Option Bool → List Reply
 search_replies view request subentries = replies_by view request subentries (read_name request.base)
+
+-- the written octets of replies to the message of this number, one behind the other
+abbrev pub replies_octets : ℕ → List Reply → List ℕ
+replies_octets id replies = flat_map (reply_octets id) replies

@@ -1,5 +1,5 @@
 -- The definitions, computed on known messages and streams.
-use Rattle.std.proofs.Common.{◌≡◌, true, false, [], ◌∷◌, Option, Some, None, refl}
+use Rattle.std.proofs.Common.{◌≡◌, ℕ, true, false, List, [], ◌∷◌, codes, Option, Some, None, refl}
 use Rattle.ber_core.specs.Heading.{length_at, header_at}
 use Rattle.ber_core.specs.Integer.{int_at, int_octets}
 use Rattle.ber_core.specs.Spelling.{length_octets}
@@ -14,71 +14,142 @@ use Rattle.ber_layout.specs.Components.{any_of, required_of, optional_of, marked
 use Rattle.ber_layout.specs.Spellings.{element_octets}
 use Rattle.ber_layout.specs.Layouts.{reads_into}
 use Rattle.ldap_msg.specs.Replies.{reply_octets}
+use Rattle.dn_names.specs.NameText.{read_name}
+use Rattle.dn_names.specs.Modes.{text_fault}
+use Rattle.dn_names.specs.Resolving.{resolve}
+use Rattle.dn_names.specs.Reading.{written_of}
+use Rattle.ldap_msg.specs.declared.kinds.Control.{Control}
+use Rattle.ldap_filter.specs.Filters.{Present}
+use Rattle.ldap_msg.specs.declared.kinds.SearchRequest.{SearchRequest}
+use Rattle.aci_item.specs.declared.level.Level.TheVariants as level
+use Rattle.read_model.specs.Views.{result_of}
+use Rattle.op_bind.specs.Binds.{bind_answer}
 use Rattle.session_model.specs.Rules.{talk}
 use Rattle.session_model.specs.Kept.{speech}
-use Rattle.session_hub.specs.declared.requester.Requester.TheVariants.{Anonymous}
-use Rattle.session_hub.specs.Answering.{rules, reply_to, coded}
+use Rattle.session_hub.specs.Parties.{Requester, nobody}
+use Rattle.session_hub.specs.Controls.{subentries_asked}
+use Rattle.session_hub.specs.Answering.{rules, answered}
 use Rattle.session_hub.specs.Answers.{said_to}
 use Rattle.session_hub.specs.Events.{new_cut}
 use Rattle.session_hub.specs.Loops.{ends_with}
 use Rattle.session_hub.specs.declared.ended.Ended.TheVariants.{Stopped, NoMemory}
 
--- the codes of a bind: another version, another method, no name and no password, a name, a password
-version_two : reply_to [] (request.Bind (record { version = 2; name = []; auth = Simple [] })) ≡ Some (reply.Bind (coded code.ProtocolError))
+-- a bind makes anonymous: with another version, with another method, with no name and no password, and also where a
+-- critical control refuses it
+abbrev somebody : Requester
+somebody = record { name = Some []; level = level.Simple }
+
+abbrev other_kind : List ℕ
+other_kind = codes "1.2.3"
+
+version_two : answered [] somebody [] (request.Bind (record { version = 2; name = []; auth = Simple [] }))
+    ≡ record { replies = reply.Bind (result_of code.ProtocolError) ∷ []; who = nobody }
+unfolding bind_answer
 version_two = refl
 
-another_method : reply_to [] (request.Bind (record { version = 3; name = []; auth = Other 3 })) ≡ Some (reply.Bind (coded code.AuthMethodNotSupported))
+another_method : answered [] somebody [] (request.Bind (record { version = 3; name = []; auth = Other 3 }))
+    ≡ record { replies = reply.Bind (result_of code.AuthMethodNotSupported) ∷ []; who = nobody }
+unfolding bind_answer
 another_method = refl
 
-anonymous : reply_to [] (request.Bind (record { version = 3; name = []; auth = Simple [] })) ≡ Some (reply.Bind (coded code.Success))
-anonymous = refl
+critical_bind : answered [] somebody (record { kind = other_kind; critical = true; value = None } ∷ []) (request.Bind (record { version = 3; name = []; auth = Simple [] }))
+    ≡ record { replies = reply.Bind (result_of code.UnavailableCriticalExtension) ∷ []; who = nobody }
+critical_bind = refl
 
-with_name : reply_to [] (request.Bind (record { version = 3; name = 120 ∷ []; auth = Simple [] })) ≡ Some (reply.Bind (coded code.UnwillingToPerform))
-with_name = refl
+-- a control of subentries is known in a search alone
+critical_delete : answered [] somebody (record { kind = codes "1.3.6.1.4.1.4203.1.10.1"; critical = true; value = None } ∷ []) (request.Delete (record { name = [] }))
+    ≡ record { replies = reply.Delete (result_of code.UnavailableCriticalExtension) ∷ []; who = somebody }
+critical_delete = refl
 
-with_password : reply_to [] (request.Bind (record { version = 3; name = []; auth = Simple (120 ∷ []) })) ≡ Some (reply.Bind (coded code.UnwillingToPerform))
-with_password = refl
+uncritical_delete : answered [] somebody (record { kind = other_kind; critical = false; value = None } ∷ []) (request.Delete (record { name = [] }))
+    ≡ record { replies = reply.Delete (result_of code.UnwillingToPerform) ∷ []; who = somebody }
+uncritical_delete = refl
 
--- a critical control before a bind is looked at, and one that isn't critical
-critical : reply_to (record { kind = []; critical = true; value = None } ∷ []) (request.Bind (record { version = 2; name = []; auth = Simple [] })) ≡ Some (reply.Bind (coded code.UnavailableCriticalExtension))
-critical = refl
-
-uncritical : reply_to (record { kind = []; critical = false; value = None } ∷ []) (request.Delete (record { name = [] })) ≡ Some (reply.Delete (coded code.UnwillingToPerform))
-uncritical = refl
-
--- an extended operation is unknown, an abandon is silent
-extended : reply_to [] (request.Extended [] None) ≡ Some (reply.Extended (coded code.ProtocolError) None None)
+-- an extended operation is unknown, an abandon is silent, and nobody looks at its controls
+extended : answered [] somebody [] (request.Extended [] None)
+    ≡ record { replies = reply.Extended (result_of code.ProtocolError) None None ∷ []; who = somebody }
 extended = refl
 
-abandon : reply_to [] (request.Abandon 5) ≡ None
+abandon : answered [] somebody (record { kind = other_kind; critical = true; value = None } ∷ []) (request.Abandon 5) ≡ record { replies = []; who = somebody }
 abandon = refl
 
+-- a control of subentries with this value
+abbrev subentries_with : Option (List ℕ) → Control
+subentries_with value = record { kind = codes "1.3.6.1.4.1.4203.1.10.1"; critical = true; value = value }
+
+-- none; TRUE; any octet but 0 is TRUE; FALSE, with a length that isn't the shortest
+no_control : subentries_asked (record { kind = other_kind; critical = false; value = None } ∷ []) ≡ Some None
+no_control = refl
+
+control_true : subentries_asked (subentries_with (Some (1 ∷ 1 ∷ 255 ∷ [])) ∷ []) ≡ Some (Some true)
+unfolding reads_into required_of tagged_at piece_at piece_of header_at length_at
+control_true = refl
+
+control_one : subentries_asked (subentries_with (Some (1 ∷ 1 ∷ 1 ∷ [])) ∷ []) ≡ Some (Some true)
+unfolding reads_into required_of tagged_at piece_at piece_of header_at length_at
+control_one = refl
+
+control_false : subentries_asked (subentries_with (Some (1 ∷ 0x81 ∷ 1 ∷ 0 ∷ [])) ∷ []) ≡ Some (Some false)
+unfolding reads_into required_of tagged_at piece_at piece_of header_at length_at
+control_false = refl
+
+-- two; no value; another type; two octets; something behind
+control_twice : subentries_asked (subentries_with (Some (1 ∷ 1 ∷ 255 ∷ [])) ∷ subentries_with (Some (1 ∷ 1 ∷ 255 ∷ [])) ∷ []) ≡ None
+control_twice = refl
+
+control_absent : subentries_asked (subentries_with None ∷ []) ≡ None
+control_absent = refl
+
+control_number : subentries_asked (subentries_with (Some (2 ∷ 1 ∷ 1 ∷ [])) ∷ []) ≡ None
+unfolding reads_into required_of tagged_at piece_at piece_of header_at length_at
+control_number = refl
+
+control_long : subentries_asked (subentries_with (Some (1 ∷ 2 ∷ 255 ∷ 255 ∷ [])) ∷ []) ≡ None
+unfolding reads_into required_of tagged_at piece_at piece_of header_at length_at
+control_long = refl
+
+control_followed : subentries_asked (subentries_with (Some (1 ∷ 1 ∷ 255 ∷ 0 ∷ [])) ∷ []) ≡ None
+unfolding reads_into required_of tagged_at piece_at piece_of header_at length_at
+control_followed = refl
+
+-- a search with a critical control that isn't known, and one whose controls can't be read
+abbrev a_search : SearchRequest
+a_search = record { base = []; scope = 0; size = 0; kinds_only = false; filter = Present []; selection = [] }
+
+critical_search : answered [] nobody (record { kind = other_kind; critical = true; value = None } ∷ []) (request.Search a_search)
+    ≡ record { replies = reply.Done (result_of code.UnavailableCriticalExtension) ∷ []; who = nobody }
+critical_search = refl
+
+search_twice : answered [] nobody (subentries_with None ∷ subentries_with None ∷ []) (request.Search a_search)
+    ≡ record { replies = reply.Done (result_of code.ProtocolError) ∷ []; who = nobody }
+search_twice = refl
+
 -- an anonymous bind, as octets, and its reply
-one_bind : (said_to None [] Anonymous (0x30 ∷ 12 ∷ 2 ∷ 1 ∷ 1 ∷ 0x60 ∷ 7 ∷ 2 ∷ 1 ∷ 3 ∷ 4 ∷ 0 ∷ 0x80 ∷ 0 ∷ [])).replies
+one_bind : (said_to None [] nobody (0x30 ∷ 12 ∷ 2 ∷ 1 ∷ 1 ∷ 0x60 ∷ 7 ∷ 2 ∷ 1 ∷ 3 ∷ 4 ∷ 0 ∷ 0x80 ∷ 0 ∷ [])).replies
     ≡ 0x30 ∷ 12 ∷ 2 ∷ 1 ∷ 1 ∷ 0x61 ∷ 7 ∷ 10 ∷ 1 ∷ 0 ∷ 4 ∷ 0 ∷ 4 ∷ 0 ∷ []
-unfolding speech rules talk whole whole_of rest_of rest_behind is_broken frame_at framed message_of message_in reads_into any_of required_of optional_of marked_of each_from each_of tagged_at piece_at piece_of number_in are_pieces pieces_of header_at length_at int_at int_octets length_octets element_octets reply_octets
+unfolding speech rules talk whole whole_of rest_of rest_behind is_broken frame_at framed message_of message_in reads_into any_of required_of optional_of marked_of each_from each_of tagged_at piece_at piece_of number_in are_pieces pieces_of header_at length_at int_at int_octets length_octets element_octets reply_octets bind_answer read_name text_fault resolve written_of
 one_bind = refl
 
 -- an unbind closes in silence, and what follows it is not answered
-one_unbind : (said_to None [] Anonymous (0x30 ∷ 5 ∷ 2 ∷ 1 ∷ 2 ∷ 0x42 ∷ 0 ∷ 0x31 ∷ [])).replies ≡ []
+one_unbind : (said_to None [] nobody (0x30 ∷ 5 ∷ 2 ∷ 1 ∷ 2 ∷ 0x42 ∷ 0 ∷ 0x31 ∷ [])).replies ≡ []
 unfolding speech rules talk whole whole_of rest_of rest_behind is_broken frame_at framed message_of message_in reads_into any_of required_of optional_of marked_of each_from each_of tagged_at piece_at piece_of number_in are_pieces pieces_of header_at length_at int_at
 one_unbind = refl
 
 -- messageID 0 is no message: the notice, and the connection closes
-unreadable : (said_to None [] Anonymous (0x30 ∷ 5 ∷ 2 ∷ 1 ∷ 0 ∷ 0x42 ∷ 0 ∷ [])).closes ≡ true
+unreadable : (said_to None [] nobody (0x30 ∷ 5 ∷ 2 ∷ 1 ∷ 0 ∷ 0x42 ∷ 0 ∷ [])).closes ≡ true
 unfolding speech rules talk whole whole_of rest_of rest_behind is_broken frame_at framed message_of message_in reads_into any_of required_of optional_of marked_of each_from each_of tagged_at piece_at piece_of number_in are_pieces pieces_of header_at length_at int_at
 unreadable = refl
 
 -- a cut says nothing of the messages behind it, and closes
-cut_away : said_to (Some 0) [] Anonymous (0x30 ∷ 5 ∷ 2 ∷ 1 ∷ 2 ∷ 0x42 ∷ 0 ∷ []) ≡ record { replies = []; tree = []; who = Anonymous; closes = true }
+cut_away : said_to (Some 0) [] nobody (0x30 ∷ 5 ∷ 2 ∷ 1 ∷ 2 ∷ 0x42 ∷ 0 ∷ []) ≡ record { replies = []; tree = []; who = nobody; closes = true }
 unfolding speech talk whole whole_of frame_at framed header_at length_at
 cut_away = refl
 
 -- a cut is told of an open connection alone, and a loop in which one was cut ends for want of memory
-cut_of_open : new_cut (Some (record { number = 1; rest = []; who = Anonymous; queue = []; closing = false; cut = None })) (Some 2) ≡ Some 2
+cut_of_open : new_cut (Some (record { number = 1; rest = []; who = nobody; queue = []; closing = false; cut = None })) (Some 2) ≡ Some 2
 cut_of_open = refl
 
-cut_of_closing : new_cut (Some (record { number = 1; rest = []; who = Anonymous; queue = []; closing = true; cut = Some 2 })) (Some 2) ≡ None
+cut_of_closing : new_cut (Some (record { number = 1; rest = []; who = nobody; queue = []; closing = true; cut = Some 2 })) (Some 2) ≡ None
 cut_of_closing = refl
 
 cut_ends : ends_with true Stopped ≡ NoMemory

@@ -45,7 +45,7 @@ has_ended t w stream old new u y spoken rest IsCut speaks keeps =
     ]
 
 -- a connection by its parts
-kept_is : (c : ℕ) (r r' : List ℕ) (w w' : Requester) (q q' : List ℕ) (b b' : Bool) (o : Option ℕ) → r ≡ r' → w ≡ w' → q ≡ q' → b ≡ b' →
+pub kept_is : (c : ℕ) (r r' : List ℕ) (w w' : Requester) (q q' : List ℕ) (b b' : Bool) (o : Option ℕ) → r ≡ r' → w ≡ w' → q ≡ q' → b ≡ b' →
     ◌≡◌ {A = Kept Requester} (record { number = c; rest = r; who = w; queue = q; closing = b; cut = o }) (record { number = c; rest = r'; who = w'; queue = q'; closing = b'; cut = o })
 kept_is c r r' w w' q q' b b' o e f g h = rw (e, f, g, h) refl
 

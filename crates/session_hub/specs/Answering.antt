@@ -1,10 +1,8 @@
--- How this server answers each message (RFC 4511 4.1.1, 4.2 to 4.4, 4.11, 4.12). The rules of sessions take this, and
+-- How this server answers each message (RFC 4511 4.1.1, 4.2 to 4.5, 4.10 to 4.12). The rules of sessions take this, and
 -- nothing else of them knows what is answered.
-use Rattle.std.specs.Prelude.{ℕ, ◌==◌, Bool, true, false, List, [], ◌∷◌, Option, Some, None, if◌then◌else◌}
-use Rattle.std.specs.List.{list_any}
-use Rattle.ldap_msg.specs.declared.kinds.Auth.{Auth}
-use Rattle.ldap_msg.specs.declared.kinds.Auth.TheVariants.{Simple, Other}
+use Rattle.std.specs.Prelude.{Bool, true, false, List, [], ◌∷◌, Option, Some, None, if◌then◌else◌}
 use Rattle.ldap_msg.specs.declared.kinds.BindRequest.{BindRequest}
+use Rattle.ldap_msg.specs.declared.kinds.SearchRequest.{SearchRequest}
 use Rattle.ldap_msg.specs.declared.kinds.Request.{Request}
 use Rattle.ldap_msg.specs.declared.kinds.Request.TheVariants as request
 use Rattle.ldap_msg.specs.declared.kinds.Control.{Control}
@@ -14,46 +12,17 @@ use Rattle.ldap_msg.specs.declared.kinds.Reply.{Reply}
 use Rattle.ldap_msg.specs.declared.kinds.Reply.TheVariants as reply
 use Rattle.ldap_msg.specs.declared.operations.ResultCode.{ResultCode}
 use Rattle.ldap_msg.specs.declared.operations.ResultCode.TheVariants as code
-use Rattle.ldap_msg.specs.ResultCodes.{code_number}
 use Rattle.ldap_msg.specs.Messages.{message_of}
-use Rattle.ldap_msg.specs.Replies.{reply_octets, notice_octets}
+use Rattle.ldap_msg.specs.Replies.{notice_octets}
+use Rattle.read_model.specs.Views.{View, view_of, result_of}
+use Rattle.read_model.specs.SearchReplies.{search_replies, replies_octets}
+use Rattle.read_model.specs.CompareReplies.{compare_result}
+use Rattle.op_bind.specs.Binds.{bind_answer}
 use Rattle.session_model.specs.Rules.{Rules, Answered}
-use Rattle.session_hub.specs.Parties.{DirectoryEntries, Requester}
-use Rattle.session_hub.specs.declared.requester.Requester.TheVariants.{Anonymous}
+use Rattle.session_hub.specs.Parties.{DirectoryEntries, Requester, nobody}
+use Rattle.session_hub.specs.Controls.{is_refused, subentries_asked}
 
--- a result with this code and no matched name
-abbrev pub coded : ResultCode → LdapResult
-coded code = record { code = code_number code; matched = [] }
-
--- success for no name and no password, unwillingToPerform for any other
-abbrev pub simple_code : List ℕ → List ℕ → ResultCode
-simple_code [] [] = code.Success
-simple_code [] (octet ∷ octets) = code.UnwillingToPerform
-simple_code (letter ∷ letters) password = code.UnwillingToPerform
-
--- authMethodNotSupported for another method
-abbrev pub auth_code : List ℕ → Auth → ResultCode
-auth_code name (Other tag) = code.AuthMethodNotSupported
-auth_code name (Simple password) = simple_code name password
-
--- protocolError for a version other than 3
-abbrev pub bind_code : BindRequest → ResultCode
-bind_code bind = if bind.version == 3 then auth_code bind.name bind.auth else code.ProtocolError
-
--- protocolError for an extended operation, unwillingToPerform for any other that isn't built yet
-abbrev pub request_code : Request → ResultCode
-request_code (request.Bind bind) = bind_code bind
-request_code request.Unbind = code.UnwillingToPerform
-request_code (request.Search search) = code.UnwillingToPerform
-request_code (request.Modify modify) = code.UnwillingToPerform
-request_code (request.Add add) = code.UnwillingToPerform
-request_code (request.Delete delete) = code.UnwillingToPerform
-request_code (request.Rename rename) = code.UnwillingToPerform
-request_code (request.Compare compare) = code.UnwillingToPerform
-request_code (request.Abandon id) = code.UnwillingToPerform
-request_code (request.Extended name value) = code.ProtocolError
-
--- the response to a request, with a result; none to an unbind or an abandon
+-- a result as the response to a request; none to an unbind or an abandon
 abbrev pub response_to : Request → LdapResult → Option Reply
 response_to (request.Bind bind) result = Some (reply.Bind result)
 response_to request.Unbind result = None
@@ -66,17 +35,72 @@ response_to (request.Compare compare) result = Some (reply.Compare result)
 response_to (request.Abandon id) result = None
 response_to (request.Extended name value) result = Some (reply.Extended result None None)
 
--- no control is known yet (RFC 4511 4.1.11): a critical one makes an operation unavailable, the others are ignored
-abbrev pub has_critical : List Control → Bool
-has_critical controls = list_any (λ control. control.critical) controls
+-- the replies of a response, if there is one
+abbrev pub replies_in : Option Reply → List Reply
+replies_in None = []
+replies_in (Some response) = response ∷ []
 
--- the code of a request with its controls
-abbrev pub code_with : List Control → Request → ResultCode
-code_with controls asked = if has_critical controls then code.UnavailableCriticalExtension else request_code asked
+-- a request that ends with this code and does nothing
+abbrev pub ended_with : ResultCode → Request → List Reply
+ended_with code asked = replies_in (response_to asked (result_of code))
 
--- the reply to a request with its controls
-abbrev pub reply_to : List Control → Request → Option Reply
-reply_to controls asked = response_to asked (coded (code_with controls asked))
+-- who asks: a bind makes the requester anonymous before anything else (RFC 4513 4)
+abbrev pub asking : Requester → Request → Requester
+asking who (request.Bind bind) = nobody
+asking who request.Unbind = who
+asking who (request.Search search) = who
+asking who (request.Modify modify) = who
+asking who (request.Add add) = who
+asking who (request.Delete delete) = who
+asking who (request.Rename rename) = who
+asking who (request.Compare compare) = who
+asking who (request.Abandon id) = who
+asking who (request.Extended name value) = who
+
+-- a search, by what its controls of subentries ask for: protocolError where they can't be read
+abbrev pub searched : View → SearchRequest → Option (Option Bool) → List Reply
+searched view search None = reply.Done (result_of code.ProtocolError) ∷ []
+searched view search (Some subentries) = search_replies view search subentries
+
+-- what an operation comes to: the replies, and who the requester is from then on
+pub record Operated : Type 0 where
+  pub replies : List Reply
+  pub who : Requester
+
+-- these replies, and the requester stays who it is
+abbrev pub replying : Requester → List Reply → Operated
+replying who replies = record { replies = replies; who = who }
+
+-- a bind over the entries
+abbrev pub bound : DirectoryEntries → BindRequest → Operated
+bound entries bind =
+    record { replies = reply.Bind (result_of (bind_answer entries bind).code) ∷ []; who = (bind_answer entries bind).who }
+
+-- an operation that no control refuses: a search and a compare read what the requester sees of the entries, operations
+-- that change entries aren't done, and no extended operation is known
+abbrev pub operated : DirectoryEntries → Requester → List Control → Request → Operated
+operated entries who controls (request.Bind bind) = bound entries bind
+operated entries who controls request.Unbind = replying who []
+operated entries who controls (request.Search search) =
+    replying who (searched (view_of entries who) search (subentries_asked controls))
+operated entries who controls (request.Modify modify) = replying who (ended_with code.UnwillingToPerform (request.Modify modify))
+operated entries who controls (request.Add add) = replying who (ended_with code.UnwillingToPerform (request.Add add))
+operated entries who controls (request.Delete delete) = replying who (ended_with code.UnwillingToPerform (request.Delete delete))
+operated entries who controls (request.Rename rename) = replying who (ended_with code.UnwillingToPerform (request.Rename rename))
+operated entries who controls (request.Compare compare) =
+    replying who (reply.Compare (compare_result (view_of entries who) compare) ∷ [])
+operated entries who controls (request.Abandon id) = replying who []
+operated entries who controls (request.Extended name value) =
+    replying who (ended_with code.ProtocolError (request.Extended name value))
+
+-- an operation that a control refuses, for this requester
+abbrev pub refused : Requester → Request → Operated
+refused who asked = replying who (ended_with code.UnavailableCriticalExtension asked)
+
+-- a request with its controls
+abbrev pub answered : DirectoryEntries → Requester → List Control → Request → Operated
+answered entries who controls asked =
+    if is_refused asked controls then refused (asking who asked) asked else operated entries (asking who asked) controls asked
 
 -- an unbind closes
 abbrev pub is_unbind : Request → Bool
@@ -91,35 +115,18 @@ is_unbind (request.Compare compare) = false
 is_unbind (request.Abandon id) = false
 is_unbind (request.Extended name value) = false
 
--- who the requester is after a request: a bind makes it anonymous
-abbrev pub requester_after : Requester → Request → Requester
-requester_after who (request.Bind bind) = Anonymous
-requester_after who request.Unbind = who
-requester_after who (request.Search search) = who
-requester_after who (request.Modify modify) = who
-requester_after who (request.Add add) = who
-requester_after who (request.Delete delete) = who
-requester_after who (request.Rename rename) = who
-requester_after who (request.Compare compare) = who
-requester_after who (request.Abandon id) = who
-requester_after who (request.Extended name value) = who
-
--- the octets of a reply, if there is one
-abbrev pub octets_of : ℕ → Option Reply → List ℕ
-octets_of id None = []
-octets_of id (Some response) = reply_octets id response
-
--- the answer to a message, or to octets that are none: those get the notice of disconnection, which closes
-abbrev pub answer_read : {T : Type 0} → T → Requester → Option Message → Answered T Requester
-answer_read tree who None = record { replies = notice_octets; tree = tree; who = who; closes = true }
-answer_read tree who (Some message) =
+-- the answer to a message, or to octets that are none, which get the notice of disconnection and close; the entries stay
+abbrev pub answer_read : DirectoryEntries → Requester → Option Message → Answered DirectoryEntries Requester
+answer_read entries who None = record { replies = notice_octets; tree = entries; who = who; closes = true }
+answer_read entries who (Some message) =
+    let came = answered entries who message.controls message.request in
     record {
-      replies = octets_of message.id (reply_to message.controls message.request);
-      tree = tree;
-      who = requester_after who message.request;
+      replies = replies_octets message.id came.replies;
+      tree = entries;
+      who = came.who;
       closes = is_unbind message.request;
     }
 
 -- the rules of this server, over the entries of its directory
 unfoldable pub rules : Rules DirectoryEntries Requester
-rules = record { nobody = Anonymous; answer = λ tree who bytes. answer_read tree who (message_of bytes) }
+rules = record { nobody = nobody; answer = λ tree who bytes. answer_read tree who (message_of bytes) }

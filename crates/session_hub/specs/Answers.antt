@@ -7,7 +7,8 @@ use Rattle.session_hub.specs.Parties.{DirectoryEntries, Requester}
 use Rattle.session_hub.specs.declared.spoken.Spoken.{Spoken}
 use Rattle.session_hub.specs.declared.spoken.SpeechEnd.{SpeechEnd}
 use Rattle.session_hub.specs.declared.spoken.SpeechEnd.TheVariants.{StaysOpen, Closes, IsCut}
-use Rattle.session_hub.specs.Answering.{rules}
+use Rattle.read_model.specs.SearchReplies.{replies_octets}
+use Rattle.session_hub.specs.Answering.{rules, Operated}
 
 -- the octets sent, the entries and the requester left, and whether the connection closes are those of the answer
 pub record Gives (answered : Answered DirectoryEntries Requester) (old new : List ℕ) (entries : DirectoryEntries) (who : Requester) (closes : Bool) : Type 0 where
@@ -15,6 +16,11 @@ pub record Gives (answered : Answered DirectoryEntries Requester) (old new : Lis
   pub left : entries ≡ answered.tree
   pub asker : who ≡ answered.who
   pub closed : closes ≡ answered.closes
+
+-- what was sent is the replies of an operation to the message of this number, and the requester is who it leaves
+pub record Sends (id : ℕ) (came : Operated) (old new : List ℕ) (who : Requester) : Type 0 where
+  pub said : new ≡ old ++ replies_octets id came.replies
+  pub asker : who ≡ came.who
 
 -- what is said to a stream by this server, up to a cut
 abbrev pub said_to : Option ℕ → DirectoryEntries → Requester → List ℕ → Answered DirectoryEntries Requester

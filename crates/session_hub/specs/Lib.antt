@@ -1,5 +1,6 @@
 -- what public clauses cite
 pub mod Parties
+pub mod Controls
 pub mod Answering
 pub mod Limits
 pub mod Hubs

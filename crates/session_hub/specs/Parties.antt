@@ -1,3 +1,13 @@
 -- What sessions are over in this server: the entries of the directory, and who asks of them.
-pub use Rattle.acdf_core.specs.Entries.{DirectoryEntries}
-pub use Rattle.session_hub.specs.declared.requester.Requester.{Requester}
+use Rattle.std.specs.Prelude.{List, None}
+use Rattle.dir_tree.specs.Entries.{EntryInformation}
+use Rattle.aci_item.specs.declared.level.Level.TheVariants.{Anyone}
+pub use Rattle.acdf_filters.specs.declared.asking.Requester.{Requester}
+
+-- the entries of a directory, in the order of their names and without the numbers by which its tree knows them
+abbrev pub DirectoryEntries : Type 0
+DirectoryEntries = List EntryInformation
+
+-- a requester of whom nothing is known
+abbrev pub nobody : Requester
+nobody = record { name = None; level = Anyone }

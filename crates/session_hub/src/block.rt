@@ -1,6 +1,7 @@
 //! The beginning of a block: an event of a link is heard.
 
 ghost use Rattle.std.specs.Prelude.{List, [], length};
+ghost use Rattle.dir_tree.specs.Numbered.{entries_of};
 ghost use Rattle.wire_io.specs.Answers.{HeardFits};
 ghost use Rattle.wire_io.specs.Telling.{event_of};
 ghost use Rattle.wire_io.specs.declared.journal.Event.TheVariants as event;
@@ -13,7 +14,7 @@ ghost use Rattle.session_hub.specs.Adding.{Adds, OnlyServes, IsServing, IsHeard,
 use crate::serving::settle_all;
 use crate::waiting::Waiting;
 use crate::{Event, Hub, MAX_CONNECTIONS};
-use acdf_core::Dir;
+use acdf_lists::Dir;
 use std::alloc::AllocError;
 use wire_io::{Heard, Link};
 
@@ -26,8 +27,10 @@ fn greet<D: Dir, L: Link>(
     conn: u32,
 ) -> Result<(), AllocError>
     ensures adds { (start : DirectoryEntries) → Adds (L.plan link.old)
-        (IsHeard start (held (D.entries dir.old) hub.old) waiting.old.on_hold.items (event.Opened conn))
-        (After result start (D.entries dir.new) (IsServing start waiting.new.due.items (held (D.entries dir.new) hub.new) waiting.new.on_hold.items))
+        (IsHeard start (held (entries_of (D.rows dir.old)) hub.old) waiting.old.on_hold.items
+        (event.Opened conn))
+        (After result start (entries_of (D.rows dir.new)) (IsServing start waiting.new.due.items
+        (held (entries_of (D.rows dir.new)) hub.new) waiting.new.on_hold.items))
         (L.journal link.old) (L.journal link.new) }
     ensures serves { OnlyServes (L.plan link.old) (L.plan link.new) (L.faults link.old) (L.faults link.new) (L.lost link.old) (L.lost link.new) }
 {
@@ -76,8 +79,10 @@ fn hear_on<D: Dir>(
 ) -> Result<(), AllocError>
     requires { IsOf conn heard }
     ensures leads { (start : DirectoryEntries) (added : List Item) →
-        IsHeard start (held (D.entries dir.old) hub.old) waiting.old.on_hold.items (journal_event_of heard.entry) added →
-        After result start (D.entries dir.new) (IsServing start waiting.new.due.items (held (D.entries dir.new) hub.new) waiting.new.on_hold.items) added }
+        IsHeard start (held (entries_of (D.rows dir.old)) hub.old) waiting.old.on_hold.items
+        (journal_event_of heard.entry) added →
+        After result start (entries_of (D.rows dir.new)) (IsServing start waiting.new.due.items
+        (held (entries_of (D.rows dir.new)) hub.new) waiting.new.on_hold.items) added }
 {
     match hub.hear(dir, heard) {
         Ok(()) => waiting.begin_with(conn),
@@ -96,8 +101,10 @@ fn begin_block<D: Dir, L: Link>(
 ) -> Result<(), AllocError>
     requires { HeardFits (length buffer.now) heard }
     ensures adds { (start : DirectoryEntries) → Adds (L.plan link.old)
-        (IsHeard start (held (D.entries dir.old) hub.old) waiting.old.on_hold.items (event_of buffer.now heard))
-        (After result start (D.entries dir.new) (IsServing start waiting.new.due.items (held (D.entries dir.new) hub.new) waiting.new.on_hold.items))
+        (IsHeard start (held (entries_of (D.rows dir.old)) hub.old) waiting.old.on_hold.items
+        (event_of buffer.now heard))
+        (After result start (entries_of (D.rows dir.new)) (IsServing start waiting.new.due.items
+        (held (entries_of (D.rows dir.new)) hub.new) waiting.new.on_hold.items))
         (L.journal link.old) (L.journal link.new) }
     ensures serves { OnlyServes (L.plan link.old) (L.plan link.new) (L.faults link.old) (L.faults link.new) (L.lost link.old) (L.lost link.new) }
 {
@@ -125,8 +132,10 @@ pub fn serve_event<D: Dir, L: Link>(
 ) -> Result<(), AllocError>
     requires { HeardFits (length buffer.now) heard }
     ensures adds { (start : DirectoryEntries) → Adds (L.plan link.old)
-        (IsHeard start (held (D.entries dir.old) hub.old) waiting.old.on_hold.items (event_of buffer.now heard))
-        (After result start (D.entries dir.new) (IsServing start [] (held (D.entries dir.new) hub.new) waiting.new.on_hold.items))
+        (IsHeard start (held (entries_of (D.rows dir.old)) hub.old) waiting.old.on_hold.items
+        (event_of buffer.now heard))
+        (After result start (entries_of (D.rows dir.new)) (IsServing start []
+        (held (entries_of (D.rows dir.new)) hub.new) waiting.new.on_hold.items))
         (L.journal link.old) (L.journal link.new) }
     ensures serves { OnlyServes (L.plan link.old) (L.plan link.new) (L.faults link.old) (L.faults link.new) (L.lost link.old) (L.lost link.new) }
 {

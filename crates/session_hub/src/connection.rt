@@ -1,16 +1,18 @@
 //! One connection held.
 
 ghost use Rattle.std.specs.Prelude.{◌≡◌, ◌≤◌, [], length, drop, vec_len};
+ghost use Rattle.dir_tree.specs.Numbered.{entries_of};
 ghost use Rattle.session_model.specs.Kept.{closed, without_front, opened_kept};
 ghost use Rattle.session_hub.specs.Answering.{rules};
 ghost use Rattle.session_hub.specs.Answers.{closes_at, cut_at};
 ghost use Rattle.session_hub.specs.Connections.{HearsPiece, KeepsRest};
 ghost use Rattle.session_hub.specs.Limits.{most_unread};
 
-use crate::Requester;
+use crate::requester::anonymous;
 use crate::spoken::{SpeechEnd, Spoken};
 use crate::stream::speak;
-use acdf_core::Dir;
+use acdf_filters::Requester;
+use acdf_lists::Dir;
 use std::alloc::Global;
 use std::marker::Model;
 
@@ -18,7 +20,7 @@ use std::marker::Model;
 const MOST_SPARE: usize = 65_536;
 
 /// A connection: its octets that are part of no whole message yet, and the octets still to be sent.
-#[derive(Debug, Drop)]
+#[derive(Drop)]
 pub struct Connection {
     number: u32,
     rest: Vec<u8>,
@@ -49,7 +51,7 @@ impl Connection {
         Connection {
             number,
             rest: Vec::new(alloc),
-            who: Requester::Anonymous,
+            who: anonymous(),
             out: Vec::new(alloc),
             taken: 0,
             closing: false,
@@ -107,7 +109,8 @@ impl Connection {
     /// Hears a piece of an open connection: its whole messages are answered, and what is left is
     /// kept unless the connection closes now. Where there is no memory it is cut, which closes it.
     pub fn hear<D: Dir>(&mut self, alloc: Global, dir: &mut D, piece: &[u8])
-        ensures exact { HearsPiece piece.now (D.entries dir.old) self.old (D.entries dir.new) self.new }
+        ensures exact { HearsPiece piece.now
+            (entries_of (D.rows dir.old)) self.old (entries_of (D.rows dir.new)) self.new }
         ensures bounded { length self.new.rest ≤ most_unread }
     {
         if self.rest.is_empty() {
@@ -120,7 +123,8 @@ impl Connection {
     /// Hears a piece where nothing is unread: it is read where it lies.
     fn hear_alone<D: Dir>(&mut self, alloc: Global, dir: &mut D, piece: &[u8])
         requires { self.old.rest ≡ [] }
-        ensures exact { HearsPiece piece.now (D.entries dir.old) self.old (D.entries dir.new) self.new }
+        ensures exact { HearsPiece piece.now
+            (entries_of (D.rows dir.old)) self.old (entries_of (D.rows dir.new)) self.new }
         ensures bounded { length self.new.rest ≤ most_unread }
     {
         let spoken = speak(alloc, dir, &mut self.who, piece, &mut self.out);
@@ -131,7 +135,8 @@ impl Connection {
 
     /// Hears a piece behind what is unread.
     fn hear_behind<D: Dir>(&mut self, alloc: Global, dir: &mut D, piece: &[u8])
-        ensures exact { HearsPiece piece.now (D.entries dir.old) self.old (D.entries dir.new) self.new }
+        ensures exact { HearsPiece piece.now
+            (entries_of (D.rows dir.old)) self.old (entries_of (D.rows dir.new)) self.new }
         ensures bounded { length self.new.rest ≤ most_unread }
     {
         match self.rest.extend_from_slice(piece) {

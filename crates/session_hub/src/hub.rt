@@ -1,6 +1,7 @@
 //! The hub of all sessions.
 
 ghost use Rattle.std.specs.Prelude.{◌≡◌, ◌≤◌, length, IfOk, OnOk, OnErr};
+ghost use Rattle.dir_tree.specs.Numbered.{entries_of};
 ghost use Rattle.session_model.specs.Run as run;
 ghost use Rattle.session_model.specs.Kept.{queue_of, closing_of, cut_of, taken_off, forgotten};
 ghost use Rattle.session_hub.specs.Hubs.{held, no_hub, Hears, HearsAnywhere, OpensOne, IsBounded};
@@ -10,7 +11,7 @@ ghost use Rattle.session_hub.specs.Events.{step_by};
 use crate::Event;
 use crate::connection::Connection;
 use crate::places::{closing_at, cut_at, end_at, forget_at, hear_at, is_at, queue_at, take_off};
-use acdf_core::Dir;
+use acdf_lists::Dir;
 use std::alloc::{AllocError, Global};
 use std::marker::Model;
 
@@ -20,7 +21,7 @@ pub const MAX_CONNECTIONS: usize = 256;
 /// All sessions: what of each connection is unread, and what is still to be sent to it. Contracts
 /// see the list of the connections held, in the order in which they opened, and whether any was cut
 /// for want of memory.
-#[derive(Debug, Drop)]
+#[derive(Drop)]
 pub struct Hub {
     alloc: Global,
     connections: Vec<Connection>,
@@ -110,11 +111,13 @@ impl Hub {
     /// `cut` tells where. `AllocError` comes where a connection is to be held and there is no memory;
     /// all is then as it was.
     pub fn hear<D: Dir>(&mut self, dir: &mut D, event: Event<'_>) -> Result<(), AllocError>
-        ensures exact { OnOk result (Hears event.entry (held (D.entries dir.old) self.old) (held (D.entries dir.new) self.new)) }
+        ensures exact { OnOk result (Hears event.entry
+            (held (entries_of (D.rows dir.old)) self.old) (held (entries_of (D.rows dir.new)) self.new)) }
         ensures run { OnOk result (FollowsStep (step_by event.entry self.old.kept self.new.kept)
-            (held (D.entries dir.old) self.old) (held (D.entries dir.new) self.new)) }
+            (held (entries_of (D.rows dir.old)) self.old) (held (entries_of (D.rows dir.new)) self.new)) }
         ensures cause { OnErr result (OpensOne event.entry self.old.kept) }
-        ensures kept { OnErr result (held (D.entries dir.new) self.new ≡ held (D.entries dir.old) self.old) }
+        ensures kept { OnErr result
+            (held (entries_of (D.rows dir.new)) self.new ≡ held (entries_of (D.rows dir.old)) self.old) }
         ensures bounded { IsBounded self.new.kept }
     {
         let heard = self.hear_event(dir, event);
@@ -139,9 +142,11 @@ impl Hub {
     }
 
     fn hear_event<D: Dir>(&mut self, dir: &mut D, event: Event<'_>) -> Result<(), AllocError>
-        ensures ok { OnOk result (Hears event.entry (held (D.entries dir.old) self.old) (held (D.entries dir.new) self.new)) }
+        ensures ok { OnOk result (Hears event.entry
+            (held (entries_of (D.rows dir.old)) self.old) (held (entries_of (D.rows dir.new)) self.new)) }
         ensures cause { OnErr result (OpensOne event.entry self.old.kept) }
-        ensures kept { OnErr result (held (D.entries dir.new) self.new ≡ held (D.entries dir.old) self.old) }
+        ensures kept { OnErr result
+            (held (entries_of (D.rows dir.new)) self.new ≡ held (entries_of (D.rows dir.old)) self.old) }
     {
         match event {
             Event::Opened(conn) => self.open(conn),
@@ -179,7 +184,8 @@ impl Hub {
     }
 
     fn hear_piece<D: Dir>(&mut self, dir: &mut D, conn: u32, piece: &[u8])
-        ensures { Hears (Event.Bytes conn piece.entry) (held (D.entries dir.old) self.old) (held (D.entries dir.new) self.new) }
+        ensures { Hears (Event.Bytes conn piece.entry)
+            (held (entries_of (D.rows dir.old)) self.old) (held (entries_of (D.rows dir.new)) self.new) }
     {
         let connections = &mut self.connections;
         let cut = hear_at(self.alloc, dir, connections, &mut self.last, conn, piece);

@@ -3,6 +3,7 @@
 
 mod block;
 mod connection;
+mod controls;
 mod ended;
 mod event;
 mod hub;
@@ -19,5 +20,4 @@ mod waiting;
 pub use ended::Ended;
 pub use event::Event;
 pub use hub::{Hub, MAX_CONNECTIONS};
-pub use requester::Requester;
 pub use serve::{BUFFER_LENGTH, serve_loop};

@@ -1,80 +1,36 @@
 //! The answer to one message.
 
-ghost use Rattle.std.specs.Prelude.{◌≡◌, ◌++◌, length, IfOk, OnOk, OnErr, Some, None};
+ghost use Rattle.std.specs.Prelude.{◌≡◌, ◌++◌, [], ◌∷◌, length, IfOk, OnOk, OnErr, Some, None};
+ghost use Rattle.dir_tree.specs.Numbered.{entries_of};
 ghost use Rattle.ldap_msg.specs.Streams.{frame_at};
-ghost use Rattle.session_hub.specs.Answering.{rules, reply_to as reply_of, response_to as response_of, bind_code as code_of, auth_code, simple_code, request_code, has_critical, code_with, is_unbind, requester_after, octets_of, answer_read, coded};
+ghost use Rattle.read_model.specs.Views.{view_of, result_of as result_with};
+ghost use Rattle.read_model.specs.SearchReplies.{replies_octets};
+ghost use Rattle.read_model.specs.CompareReplies.{compare_result};
+ghost use Rattle.ldap_msg.specs.declared.kinds.Reply.TheVariants as reply;
 ghost use Rattle.session_hub.specs.Parties.{DirectoryEntries, Requester};
-ghost use Rattle.session_hub.specs.Answers.{Gives};
+ghost use Rattle.session_hub.specs.Controls.{subentries_asked};
+ghost use Rattle.session_hub.specs.Answering.{rules, response_to as response_of, ended_with, asking, searched, bound, operated, refused, answered, is_unbind, answer_read};
+ghost use Rattle.session_hub.specs.Answers.{Gives, Sends};
 
-use crate::Requester;
-use acdf_core::Dir;
+use crate::controls::{is_refused, subentries_asked};
+use crate::requester::anonymous;
+use acdf_filters::Requester;
+use acdf_lists::Dir;
 use ldap_msg::{
-    Auth, BindRequest, Control, Frame, LdapResult, Message, ReadFault, Reply, Request, ResultCode,
-    put_notice, put_reply, read_request,
+    BindRequest, CompareRequest, Frame, LdapResult, Message, ReadFault, Reply, Request, ResultCode,
+    SearchRequest, put_notice, put_reply, read_request,
 };
+use op_bind::bind;
+use op_read::{compare, search};
 use plain_values::Octets;
 use std::alloc::{AllocError, Global};
 
 fn result_of(alloc: Global, code: ResultCode) -> LdapResult
-    ensures { result ≡ coded code }
+    ensures { result ≡ result_with code }
 {
     LdapResult {
         code: code.number(),
         matched: Octets::from_vec(Vec::new(alloc)),
-    }
-}
-
-fn bind_code(request: &BindRequest) -> ResultCode
-    ensures { result ≡ code_of request.now }
-{
-    if request.version == 3 {
-        auth_code(request.name.as_slice(), &request.auth)
-    } else {
-        ResultCode::ProtocolError
-    }
-}
-
-fn auth_code(name: &[u8], auth: &Auth) -> ResultCode
-    ensures { result ≡ auth_code name.now auth.now }
-{
-    match auth {
-        Auth::Other(_) => ResultCode::AuthMethodNotSupported,
-        Auth::Simple(password) => simple_code(name, password.as_slice()),
-    }
-}
-
-fn simple_code(name: &[u8], password: &[u8]) -> ResultCode
-    ensures { result ≡ simple_code name.now password.now }
-{
-    match (name, password) {
-        ([], []) => ResultCode::Success,
-        _ => ResultCode::UnwillingToPerform,
-    }
-}
-
-fn request_code(request: &Request) -> ResultCode
-    ensures { result ≡ request_code request.now }
-{
-    match request {
-        Request::Bind(bind) => bind_code(bind),
-        Request::Extended(_, _) => ResultCode::ProtocolError,
-        _ => ResultCode::UnwillingToPerform,
-    }
-}
-
-fn has_critical(controls: &[Control]) -> bool
-    ensures { result ≡ has_critical controls.now }
-{
-    controls.iter().any(|control| control.critical)
-}
-
-fn code_with(controls: &[Control], request: &Request) -> ResultCode
-    ensures { result ≡ code_with controls.now request.now }
-{
-    if has_critical(controls) {
-        ResultCode::UnavailableCriticalExtension
-    } else {
-        request_code(request)
     }
 }
 
@@ -94,19 +50,161 @@ fn response_to(request: &Request, ended: LdapResult) -> Option<Reply>
     }
 }
 
-fn reply_to(alloc: Global, message: &Message) -> Option<Reply>
-    ensures { result ≡ reply_of message.now.controls message.now.request }
+/// Appends the response of a request that ends with the code and does nothing, if it has one.
+fn put_ended(
+    alloc: Global,
+    message: &Message,
+    code: ResultCode,
+    out: &mut Vec<u8>,
+) -> Result<(), AllocError>
+    ensures ok { OnOk result (out.new.items
+        ≡ out.old.items ++ replies_octets message.now.id (ended_with code message.now.request)) }
+    ensures err { OnErr result (out.new.items ≡ out.old.items) }
 {
-    let code = code_with(message.controls.as_slice(), &message.request);
-    response_to(&message.request, result_of(alloc, code))
+    match response_to(&message.request, result_of(alloc, code)) {
+        None => Ok(()),
+        Some(reply) => put_reply(out, message.id, &reply),
+    }
 }
 
-/// A bind makes the requester anonymous; no other request changes it.
-fn ask_next(who: &mut Requester, request: &Request)
-    ensures { who.new ≡ requester_after who.old request.now }
+/// A bind makes the requester anonymous before anything else; no other request changes it.
+fn begin_asking(who: &mut Requester, request: &Request)
+    ensures { who.new ≡ asking who.old request.now }
 {
     if let Request::Bind(_) = request {
-        *who = Requester::Anonymous;
+        *who = anonymous();
+    }
+}
+
+/// Binds over the directory. After `AllocError` the requester is who it was.
+fn answer_bind<D: Dir>(
+    alloc: Global,
+    dir: &D,
+    who: &mut Requester,
+    id: u32,
+    request: &BindRequest,
+    out: &mut Vec<u8>,
+) -> Result<(), AllocError>
+    ensures ok { OnOk result (Sends id (bound (entries_of (D.rows dir.now)) request.now)
+        out.old.items out.new.items who.new) }
+    ensures err { OnErr result (out.new.items ≡ out.old.items) }
+    ensures kept { OnErr result (who.new ≡ who.old) }
+{
+    let bound = bind(alloc, dir.tree(), request)?;
+    put_reply(out, id, &Reply::Bind(result_of(alloc, bound.code)))?;
+    *who = bound.who;
+    Ok(())
+}
+
+/// Appends the replies to a search, with what its controls of subentries ask for.
+fn put_search<D: Dir>(
+    alloc: Global,
+    dir: &D,
+    who: &Requester,
+    message: &Message,
+    request: &SearchRequest,
+    out: &mut Vec<u8>,
+) -> Result<(), AllocError>
+    ensures ok { OnOk result (out.new.items ≡ out.old.items ++ replies_octets message.now.id
+        (searched (view_of (entries_of (D.rows dir.now)) who.now) request.now
+        (subentries_asked message.now.controls))) }
+    ensures err { OnErr result (out.new.items ≡ out.old.items) }
+{
+    match subentries_asked(message.controls.as_slice()) {
+        Ok(subentries) => search(alloc, dir, who, message.id, request, subentries, out),
+        Err(ReadFault::NoMemory) => Err(AllocError),
+        Err(ReadFault::BadMessage) => {
+            let ended = result_of(alloc, ResultCode::ProtocolError);
+            put_reply(out, message.id, &Reply::Done(ended))
+        }
+    }
+}
+
+/// Appends the reply to a compare.
+fn put_compare<D: Dir>(
+    alloc: Global,
+    dir: &D,
+    who: &Requester,
+    id: u32,
+    request: &CompareRequest,
+    out: &mut Vec<u8>,
+) -> Result<(), AllocError>
+    ensures ok { OnOk result (out.new.items ≡ out.old.items ++ replies_octets id
+        (reply.Compare (compare_result (view_of (entries_of (D.rows dir.now)) who.now) request.now) ∷ [])) }
+    ensures err { OnErr result (out.new.items ≡ out.old.items) }
+{
+    let found = compare(alloc, dir, who, request)?;
+    put_reply(out, id, &Reply::Compare(found))
+}
+
+/// Does what a request asks for that no control refuses.
+fn operate<D: Dir>(
+    alloc: Global,
+    dir: &D,
+    who: &mut Requester,
+    message: &Message,
+    out: &mut Vec<u8>,
+) -> Result<(), AllocError>
+    ensures ok { OnOk result (Sends message.now.id
+        (operated (entries_of (D.rows dir.now)) (asking who.old message.now.request)
+        message.now.controls message.now.request)
+        out.old.items out.new.items who.new) }
+    ensures err { OnErr result (out.new.items ≡ out.old.items) }
+    ensures kept { OnErr result (who.new ≡ who.old) }
+{
+    match &message.request {
+        Request::Bind(bind) => answer_bind(alloc, dir, who, message.id, bind, out),
+        Request::Search(search) => put_search(alloc, dir, who, message, search, out),
+        Request::Compare(compare) => put_compare(alloc, dir, who, message.id, compare, out),
+        Request::Unbind | Request::Abandon(_) => Ok(()),
+        Request::Extended(_, _) => put_ended(alloc, message, ResultCode::ProtocolError, out),
+        Request::Modify(_) | Request::Add(_) | Request::Delete(_) | Request::Rename(_) => {
+            put_ended(alloc, message, ResultCode::UnwillingToPerform, out)
+        }
+    }
+}
+
+/// Refuses a request for a control. After `AllocError` the requester is who it was.
+fn refuse(
+    alloc: Global,
+    who: &mut Requester,
+    message: &Message,
+    out: &mut Vec<u8>,
+) -> Result<(), AllocError>
+    ensures ok { OnOk result (Sends message.now.id
+        (refused (asking who.old message.now.request) message.now.request)
+        out.old.items out.new.items who.new) }
+    ensures err { OnErr result (out.new.items ≡ out.old.items) }
+    ensures kept { OnErr result (who.new ≡ who.old) }
+{
+    put_ended(
+        alloc,
+        message,
+        ResultCode::UnavailableCriticalExtension,
+        out,
+    )?;
+    begin_asking(who, &message.request);
+    Ok(())
+}
+
+/// Answers a request with its controls.
+fn answer_request<D: Dir>(
+    alloc: Global,
+    dir: &D,
+    who: &mut Requester,
+    message: &Message,
+    out: &mut Vec<u8>,
+) -> Result<(), AllocError>
+    ensures ok { OnOk result (Sends message.now.id
+        (answered (entries_of (D.rows dir.now)) who.old message.now.controls message.now.request)
+        out.old.items out.new.items who.new) }
+    ensures err { OnErr result (out.new.items ≡ out.old.items) }
+    ensures kept { OnErr result (who.new ≡ who.old) }
+{
+    if is_refused(&message.request, message.controls.as_slice()) {
+        refuse(alloc, who, message, out)
+    } else {
+        operate(alloc, dir, who, message, out)
     }
 }
 
@@ -116,31 +214,21 @@ fn closes_after(request: &Request) -> bool
     matches!(request, Request::Unbind)
 }
 
-fn put_answer(alloc: Global, message: &Message, out: &mut Vec<u8>) -> Result<(), AllocError>
-    ensures ok { OnOk result (out.new.items ≡ out.old.items
-        ++ octets_of message.now.id (reply_of message.now.controls message.now.request)) }
-    ensures err { OnErr result (out.new.items ≡ out.old.items) }
-{
-    match reply_to(alloc, message) {
-        None => Ok(()),
-        Some(reply) => put_reply(out, message.id, &reply),
-    }
-}
-
 #[tactic(auto, unfolding(crate::specs::Answering::rules))]
-fn answer_message(
+fn answer_message<D: Dir>(
     alloc: Global,
+    dir: &D,
     who: &mut Requester,
     message: &Message,
     out: &mut Vec<u8>,
 ) -> Result<bool, AllocError>
-    ensures ok { IfOk result (λ closes. (entries : DirectoryEntries) →
-        Gives (answer_read entries who.old (Some message.now)) out.old.items out.new.items entries who.new closes) }
+    ensures ok { IfOk result (λ closes.
+        Gives (answer_read (entries_of (D.rows dir.now)) who.old (Some message.now))
+        out.old.items out.new.items (entries_of (D.rows dir.now)) who.new closes) }
     ensures err { OnErr result (out.new.items ≡ out.old.items) }
     ensures kept { OnErr result (who.new ≡ who.old) }
 {
-    put_answer(alloc, message, out)?;
-    ask_next(who, &message.request);
+    answer_request(alloc, dir, who, message, out)?;
     Ok(closes_after(&message.request))
 }
 
@@ -154,10 +242,9 @@ fn refuse_octets(out: &mut Vec<u8>) -> Result<bool, AllocError>
     Ok(true)
 }
 
-/// Answers the octets of one message for the requester, appends the reply, if there is one
-/// (RFC 4511 4.1.1), and says whether the connection closes. Octets that are no message get the
-/// notice of disconnection (4.4.1). `AllocError` comes for want of memory alone, and then all is as
-/// it was.
+/// Answers the octets of one message for the requester, appends the replies (RFC 4511 4.1.1), and
+/// says whether the connection closes. Octets that are no message get the notice of disconnection
+/// (4.4.1). `AllocError` comes for want of memory alone, and then all is as it was.
 #[tactic(auto, unfolding(crate::specs::Answering::rules))]
 pub fn answer<D: Dir>(
     alloc: Global,
@@ -167,14 +254,14 @@ pub fn answer<D: Dir>(
     out: &mut Vec<u8>,
 ) -> Result<bool, AllocError>
     requires { frame_at bytes.now ≡ Frame.Whole (length bytes.now) }
-    ensures ok { IfOk result (λ closes. Gives (rules.answer (D.entries dir.old) who.old bytes.now)
-        out.old.items out.new.items (D.entries dir.new) who.new closes) }
+    ensures ok { IfOk result (λ closes. Gives (rules.answer (entries_of (D.rows dir.old)) who.old bytes.now)
+        out.old.items out.new.items (entries_of (D.rows dir.new)) who.new closes) }
     ensures err { OnErr result (out.new.items ≡ out.old.items) }
     ensures asker { OnErr result (who.new ≡ who.old) }
-    ensures entries { OnErr result (D.entries dir.new ≡ D.entries dir.old) }
+    ensures entries { OnErr result (entries_of (D.rows dir.new) ≡ entries_of (D.rows dir.old)) }
 {
     match read_request(alloc, bytes) {
-        Ok(message) => answer_message(alloc, who, &message, out),
+        Ok(message) => answer_message(alloc, dir, who, &message, out),
         Err(ReadFault::NoMemory) => Err(AllocError),
         Err(ReadFault::BadMessage) => refuse_octets(out),
     }

@@ -1,11 +1,12 @@
 //! Where a connection stands among those held.
 
 ghost use Rattle.std.specs.Prelude.{◌≡◌, ◌≤◌, length, MatchOption, None, true};
+ghost use Rattle.dir_tree.specs.Numbered.{entries_of};
 ghost use Rattle.session_model.specs.Kept.{kept_of, is_kept, queue_of, closing_of, cut_of, forgotten, taken_off, changed, closed};
 ghost use Rattle.session_hub.specs.Hubs.{IsAt, IsBounded, AreDistinct, HearsAt};
 
 use crate::connection::Connection;
-use acdf_core::Dir;
+use acdf_lists::Dir;
 use std::alloc::Global;
 
 /// The place of the connection with the number. The place that is guessed is tried first.
@@ -110,7 +111,8 @@ pub fn hear_at<D: Dir>(
     piece: &[u8],
 ) -> bool
     requires { AreDistinct connections.old }
-    ensures exact { HearsAt number piece.now (D.entries dir.old) connections.old (D.entries dir.new) connections.new result }
+    ensures exact { HearsAt number piece.now
+        (entries_of (D.rows dir.old)) connections.old (entries_of (D.rows dir.new)) connections.new result }
     ensures bounded { IsBounded connections.old → IsBounded connections.new }
     ensures distinct { AreDistinct connections.new }
 {

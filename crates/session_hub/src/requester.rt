@@ -1,8 +1,17 @@
 //! Who asks.
 
-/// Who a connection's requester is (RFC 4511 4.2): until passwords are read, nobody in particular.
-#[derive(Clone, Copy, Debug, PartialEq, Eq)]
-pub enum Requester {
-    /// No name was given.
-    Anonymous,
+ghost use Rattle.std.specs.Prelude.{◌≡◌};
+ghost use Rattle.session_hub.specs.Parties.{nobody};
+
+use acdf_filters::Requester;
+use aci_item::Level;
+
+/// A requester of whom nothing is known (RFC 4511 4.2): it has no name, and the lowest level.
+pub fn anonymous() -> Requester
+    ensures { result ≡ nobody }
+{
+    Requester {
+        name: None,
+        level: Level::Anyone,
+    }
 }

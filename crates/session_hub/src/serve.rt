@@ -1,6 +1,7 @@
 //! The loop over a link.
 
 ghost use Rattle.std.specs.Prelude.{◌≡◌, [], IfOk, IfNone, IfSome, length, vec_len};
+ghost use Rattle.dir_tree.specs.Numbered.{entries_of};
 ghost use Rattle.plain_values.specs.Counts.{NeverFalls};
 ghost use Rattle.session_hub.specs.Hubs.{held, no_hub};
 ghost use Rattle.session_hub.specs.Adding.{stops_with};
@@ -10,7 +11,7 @@ ghost use Rattle.session_hub.specs.Turns.{GoesOn, EndsWith};
 use crate::block::serve_event;
 use crate::waiting::Waiting;
 use crate::{Ended, Hub};
-use acdf_core::Dir;
+use acdf_lists::Dir;
 use std::alloc::{AllocError, Global};
 use wire_io::{Heard, Link, NextFault};
 
@@ -51,11 +52,14 @@ fn take_turn<D: Dir, L: Link>(
 ) -> Option<Ended>
     requires long { length buffer.old ≡ buffer_length }
     ensures none { IfNone result (GoesOn
-        (L.journal link.old) (L.plan link.old) (held (D.entries dir.old) hub.old) waiting.old.on_hold.items
-        (L.journal link.new) (L.plan link.new) (held (D.entries dir.new) hub.new) waiting.new.on_hold.items) }
+        (L.journal link.old) (L.plan link.old)
+        (held (entries_of (D.rows dir.old)) hub.old) waiting.old.on_hold.items
+        (L.journal link.new) (L.plan link.new)
+        (held (entries_of (D.rows dir.new)) hub.new) waiting.new.on_hold.items) }
     ensures some { IfSome result (λ ended. EndsWith
-        (L.journal link.old) (L.plan link.old) (held (D.entries dir.old) hub.old) waiting.old.on_hold.items
-        ended (D.entries dir.new) (L.journal link.new) (L.plan link.new)) }
+        (L.journal link.old) (L.plan link.old)
+        (held (entries_of (D.rows dir.old)) hub.old) waiting.old.on_hold.items
+        ended (entries_of (D.rows dir.new)) (L.journal link.new) (L.plan link.new)) }
     ensures faults { IfNone result (L.faults link.new ≡ L.faults link.old) }
     ensures cause { IfSome result (λ ended. EndsFor (L.plan link.old) (L.faults link.old) (L.faults link.new) ended) }
     ensures lost { NeverFalls (L.lost link.old) (L.lost link.new) }
@@ -88,7 +92,8 @@ fn serve_in<D: Dir, L: Link>(
     requires empty { hub ≡ no_hub }
     requires free { waiting.on_hold.items ≡ [] }
     requires long { length buffer.old ≡ buffer_length }
-    ensures served { Serves (D.entries dir.old) (D.entries dir.new) turns (L.journal link.old) result (L.journal link.new) }
+    ensures served { Serves (entries_of (D.rows dir.old)) (entries_of (D.rows dir.new))
+        turns (L.journal link.old) result (L.journal link.new) }
     ensures plays { PlaysOut turns (L.journal link.old) (L.plan link.old) result (L.journal link.new) (L.plan link.new) }
     ensures cause { EndsFor (L.plan link.old) (L.faults link.old) (L.faults link.new) result }
     ensures lost { NeverFalls (L.lost link.old) (L.lost link.new) }
@@ -112,7 +117,8 @@ fn serve_in<D: Dir, L: Link>(
 /// memory, each once, and the last block may be unfinished. `LinkFault` says that the link failed,
 /// which its count of faults shows.
 pub fn serve_loop<D: Dir, L: Link>(alloc: Global, dir: &mut D, link: &mut L, turns: u64) -> Ended
-    ensures served { Serves (D.entries dir.old) (D.entries dir.new) turns (L.journal link.old) result (L.journal link.new) }
+    ensures served { Serves (entries_of (D.rows dir.old)) (entries_of (D.rows dir.new))
+        turns (L.journal link.old) result (L.journal link.new) }
     ensures plays { PlaysOut turns (L.journal link.old) (L.plan link.old) result (L.journal link.new) (L.plan link.new) }
     ensures cause { EndsFor (L.plan link.old) (L.faults link.old) (L.faults link.new) result }
     ensures lost { NeverFalls (L.lost link.old) (L.lost link.new) }

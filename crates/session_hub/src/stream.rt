@@ -1,11 +1,12 @@
 //! The answers to the messages of a stream.
 
+ghost use Rattle.dir_tree.specs.Numbered.{entries_of};
 ghost use Rattle.session_hub.specs.Answers.{Speaks};
 
-use crate::Requester;
 use crate::messages::answer;
 use crate::spoken::{SpeechEnd, Spoken};
-use acdf_core::Dir;
+use acdf_filters::Requester;
+use acdf_lists::Dir;
 use ldap_msg::{Frame, frame, put_notice};
 use std::alloc::Global;
 
@@ -19,7 +20,8 @@ pub fn speak<D: Dir>(
     stream: &[u8],
     out: &mut Vec<u8>,
 ) -> Spoken
-    ensures { Speaks (D.entries dir.old) who.old stream.now out.old.items out.new.items (D.entries dir.new) who.new result }
+    ensures { Speaks (entries_of (D.rows dir.old)) who.old stream.now
+        out.old.items out.new.items (entries_of (D.rows dir.new)) who.new result }
 {
     let mut read = 0;
     let mut answered = 0;

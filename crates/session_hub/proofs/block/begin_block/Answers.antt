@@ -1,4 +1,5 @@
 use Rattle.std.proofs.Common.{refl, sym, ap, ◌∙◌}
+use Rattle.dir_tree.specs.Numbered.{entries_of}
 use Rattle.wire_io.specs.declared.journal.Event.TheVariants as event
 use Rattle.wire_io.specs.Telling.{event_of}
 use Rattle.session_hub.specs.Hubs.{held}
@@ -27,15 +28,15 @@ returns-in-Ended-clause-adds g c = λ start. as_heard _ start _ _ _ _ _ _ _ (ap 
 pub returns-in-Ready-clause-adds : goal.returns-in-Ready-clause-adds
 unfolding event_of
 returns-in-Ready-clause-adds g c = λ start.
-    idle_goes _ c.begin.result start (event.Ready c.in-Ready.field-0) _ (held (g.D.Dir.entries c.args.dir.now) c.args.hub.now) _ _ _ _ (ap (event_of c.args.buffer.now) c.in-Ready.is) refl (opens_none-ready c.in-Ready.field-0)
+    idle_goes _ c.begin.result start (event.Ready c.in-Ready.field-0) _ (held (entries_of (g.D.Dir.rows c.args.dir.now)) c.args.hub.now) _ _ _ _ (ap (event_of c.args.buffer.now) c.in-Ready.is) refl (opens_none-ready c.in-Ready.field-0)
     c.begin.ensures.on_hold c.begin.ensures.ok
 
 pub returns-in-Idle-clause-adds : goal.returns-in-Idle-clause-adds
 unfolding event_of
 returns-in-Idle-clause-adds g c = λ start.
-    idle_goes _ c.begin-in-Idle.result start event.Idle _ (held (g.D.Dir.entries c.args.dir.now) c.args.hub.now) _ _ _ _ (ap (event_of c.args.buffer.now) c.in-Idle.is) refl opens_none-idle c.begin-in-Idle.ensures.on_hold c.begin-in-Idle.ensures.ok
+    idle_goes _ c.begin-in-Idle.result start event.Idle _ (held (entries_of (g.D.Dir.rows c.args.dir.now)) c.args.hub.now) _ _ _ _ (ap (event_of c.args.buffer.now) c.in-Idle.is) refl opens_none-idle c.begin-in-Idle.ensures.on_hold c.begin-in-Idle.ensures.ok
 
 pub returns-in-Stop-clause-adds : goal.returns-in-Stop-clause-adds
 unfolding event_of
 returns-in-Stop-clause-adds g c = λ start.
-    idle_goes _ c.begin-in-Stop.result start event.Stop _ (held (g.D.Dir.entries c.args.dir.now) c.args.hub.now) _ _ _ _ (ap (event_of c.args.buffer.now) c.in-Stop.is) refl opens_none-stop c.begin-in-Stop.ensures.on_hold c.begin-in-Stop.ensures.ok
+    idle_goes _ c.begin-in-Stop.result start event.Stop _ (held (entries_of (g.D.Dir.rows c.args.dir.now)) c.args.hub.now) _ _ _ _ (ap (event_of c.args.buffer.now) c.in-Stop.is) refl opens_none-stop c.begin-in-Stop.ensures.on_hold c.begin-in-Stop.ensures.ok

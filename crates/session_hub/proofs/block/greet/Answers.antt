@@ -1,4 +1,5 @@
 use Rattle.std.proofs.Common.{◌≡◌, length, refl, arith}
+use Rattle.dir_tree.specs.Numbered.{entries_of}
 use Rattle.session_hub.specs.Hubs.{held}
 use Rattle.session_hub.proofs.AddingLemmas.{adds_nothing, adds_after}
 use Rattle.session_hub.proofs.BlockLemmas.{opened_goes, opened_starved, turns_away}
@@ -12,13 +13,13 @@ returns-in-Err-clause-adds g c = λ start. adds_nothing _ _ _ _ _ refl (λ added
 pub returns-then-has_room-clause-adds : goal.returns-then-has_room-clause-adds
 returns-then-has_room-clause-adds g c = λ start.
     adds_nothing _ _ _ _ _ refl
-    (λ added h. opened_goes c.begin_with.result start c.args.conn (held (g.D.Dir.entries c.args.dir.now) c.args.hub.now) (held (g.D.Dir.entries c.hear.new.dir) c.hear.new.self) _ _ _ added c.in-Ok.ensures.exact
+    (λ added h. opened_goes c.begin_with.result start c.args.conn (held (entries_of (g.D.Dir.rows c.args.dir.now)) c.args.hub.now) (held (entries_of (g.D.Dir.rows c.hear.new.dir)) c.hear.new.self) _ _ _ added c.in-Ok.ensures.exact
     (let all : c.count-has_room.result ≡ length c.args.hub.now.kept = c.count-has_room.ensures.exact in omega arith) c.begin_with.ensures.on_hold c.begin_with.ensures.ok h)
 
 -- it is hung up
 pub returns-else-has_room-clause-adds : goal.returns-else-has_room-clause-adds
 returns-else-has_room-clause-adds g c = λ start.
     adds_after _ _ _ _ _ _ _ _ refl
-    (adds_nothing _ _ _ _ _ refl (λ added h. turns_away start c.args.conn (held (g.D.Dir.entries c.args.dir.now) c.args.hub.now) _ _ added c.in-Ok.ensures.exact
+    (adds_nothing _ _ _ _ _ refl (λ added h. turns_away start c.args.conn (held (entries_of (g.D.Dir.rows c.args.dir.now)) c.args.hub.now) _ _ added c.in-Ok.ensures.exact
     (let all : c.count-has_room.result ≡ length c.args.hub.now.kept = c.count-has_room.ensures.exact in omega arith) h))
-    (c.turn_away.ensures.adds start (g.D.Dir.entries c.hear.new.dir))
+    (c.turn_away.ensures.adds start (entries_of (g.D.Dir.rows c.hear.new.dir)))

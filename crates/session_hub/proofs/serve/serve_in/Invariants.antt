@@ -1,4 +1,5 @@
 use Rattle.std.proofs.Common.{◌≡◌}
+use Rattle.dir_tree.specs.Numbered.{entries_of}
 use Rattle.plain_values.specs.Counts.{NeverFalls}
 use Rattle.session_hub.specs.Hubs.{held}
 use Rattle.session_hub.specs.Turns.{IsUnderWay}
@@ -9,9 +10,8 @@ abbrev pub invariant-loop-turn : goal.invariant-loop-turn
 invariant-loop-turn g l =
     let journal = g.L.Link.journal in
     let plan = g.L.Link.plan in
-    let entries = g.D.Dir.entries in
     record {
-      under_way : IsUnderWay (entries l.fn.dir) l._turn (journal l.fn.link) (journal l.link) (plan l.fn.link) (plan l.link) (held (entries l.dir) l.hub) l.waiting.on_hold.items;
+      under_way : IsUnderWay (entries_of (g.D.Dir.rows l.fn.dir)) l._turn (journal l.fn.link) (journal l.link) (plan l.fn.link) (plan l.link) (held (entries_of (g.D.Dir.rows l.dir)) l.hub) l.waiting.on_hold.items;
       faults : g.L.Link.faults l.link ≡ g.L.Link.faults l.fn.link;
       lost : NeverFalls (g.L.Link.lost l.fn.link) (g.L.Link.lost l.link);
     }

@@ -1,4 +1,5 @@
 use Rattle.std.proofs.Common.{◌≡◌, length, take, drop, sym, ap, ◌∙◌, subst, false, true, refl}
+use Rattle.dir_tree.specs.Numbered.{entries_of}
 use Rattle.ldap_msg.specs.declared.kinds.Frame.TheVariants.{Whole}
 use Rattle.ldap_msg.specs.Streams.{frame_at}
 use Rattle.ldap_msg.proofs.Theorems.{whole_alone}
@@ -41,7 +42,7 @@ returns-in-Ok-true g c =
     let is : frame_at rest ≡ Whole c.in-Whole.length = ap frame_at (sym c.split_at.ensures.back) ∙ sym c.in-Whole.ensures.exact in
     let same : c.split_at-in-Whole.result.0.now ≡ take c.in-Whole.length rest = c.split_at-in-Whole.ensures.front ∙ ap (take c.in-Whole.length) c.split_at.ensures.back in
     so_far_closed _ _ _ _ c.messages.out.items _ _ _ _ _ _ _ c.in-Whole.length c.messages.invariant is
-    (subst (λ bytes. Gives (rules.answer (g.D.Dir.entries c.messages.dir) c.messages.who bytes) c.messages.out.items c.answer.new.out.items (g.D.Dir.entries c.answer.new.dir) c.answer.new.who true) same (rw c.in-Ok-true.field-0-test at c.in-Ok-true.ensures.ok))
+    (subst (λ bytes. Gives (rules.answer (entries_of (g.D.Dir.rows c.messages.dir)) c.messages.who bytes) c.messages.out.items c.answer.new.out.items (entries_of (g.D.Dir.rows c.answer.new.dir)) c.answer.new.who true) same (rw c.in-Ok-true.field-0-test at c.in-Ok-true.ensures.ok))
 
 pub messages-preserved : goal.messages-preserved
 messages-preserved g c =
@@ -49,4 +50,4 @@ messages-preserved g c =
     let is : frame_at rest ≡ Whole c.in-Whole.length = ap frame_at (sym c.split_at.ensures.back) ∙ sym c.in-Whole.ensures.exact in
     let same : c.split_at-in-Whole.result.0.now ≡ take c.in-Whole.length rest = c.split_at-in-Whole.ensures.front ∙ ap (take c.in-Whole.length) c.split_at.ensures.back in
     so_far_whole _ _ _ _ c.messages.out.items _ _ _ _ _ _ _ c.in-Whole.length c.messages.invariant is
-    (subst (λ bytes. Gives (rules.answer (g.D.Dir.entries c.messages.dir) c.messages.who bytes) c.messages.out.items c.answer.new.out.items (g.D.Dir.entries c.answer.new.dir) c.answer.new.who false) same (rw c.in-Ok-false.field-0-test at c.in-Ok-false.ensures.ok))
+    (subst (λ bytes. Gives (rules.answer (entries_of (g.D.Dir.rows c.messages.dir)) c.messages.who bytes) c.messages.out.items c.answer.new.out.items (entries_of (g.D.Dir.rows c.answer.new.dir)) c.answer.new.who false) same (rw c.in-Ok-false.field-0-test at c.in-Ok-false.ensures.ok))

@@ -1,0 +1,12 @@
+-- What is known so far, and the groups that are left.
+use Rattle.std.proofs.Common.{◌≡◌, ◌++◌, Some, drop}
+use Rattle.dir_tree.specs.Numbered.{entries_of}
+use Rattle.acdf_filters.specs.Memberships.{groups_of}
+use Rattle.acdf_filters.specs.Weighing.{AreMemberships}
+use Rattle.acdf_lists.proofs.groups.ask_groups.Given as goal
+
+abbrev pub invariant-loop-group : goal.invariant-loop-group
+invariant-loop-group l = record {
+  ok : AreMemberships (entries_of l.tree) (Some l.name) l.known.items;
+  groups : groups_of l.known.items ++ drop l.group-index l.groups ≡ l.groups;
+}

@@ -1,0 +1,6 @@
+//! Binds (RFC 4511 4.2).
+#![tactic(auto)]
+
+mod binds;
+
+pub use binds::{Bound, NoMemory, bind};
