@@ -1,6 +1,6 @@
 -- Where the words are a command, and its files are known and accepted, its outcome is due: no other comes, but for want of
 -- memory.
-use Rattle.std.proofs.Common.{◌≡◌, ℕ, Bool, false, List, [], Option, Some, None, refl, sym, ap, ◌∙◌, subst, arith, inl, inr, ◌⊎◌}
+use Rattle.std.proofs.Common.{◌≡◌, ℕ, Bool, true, false, List, [], Option, Some, None, refl, sym, ap, ◌∙◌, subst, arith, inl, inr, ◌⊎◌}
 use Rattle.plain_values.specs.Counts.{Rose}
 use Rattle.script_text.specs.declared.event.ScriptEvent.{ScriptEvent}
 use Rattle.script_text.proofs.Theorems.{IsScript-read, IsFirstBadLine-read}

@@ -5,6 +5,7 @@ use Rattle.wire_io.specs.declared.answers.PutFault.{PutFault}
 use Rattle.wire_io.specs.declared.answers.PutFault.TheVariants as put
 use Rattle.wire_io.specs.Pieces.{pieces}
 use Rattle.wire_io.specs.Putting.{appended, PutsAll, PutCause}
+use Rattle.session_hub.specs.declared.ended.Ended.{Ended}
 use Rattle.session_hub.specs.declared.ended.Ended.TheVariants as ended
 use Rattle.session_hub.specs.Loops.{buffer_length}
 use Rattle.acl_program.specs.declared.status.Status.{Status}

@@ -1,7 +1,7 @@
 -- What the parts of a command say together of how it ended.
-use Rattle.std.proofs.Common.{◌≡◌, ℕ, List, Option, Some, Ok, Err, subst, ◌∙◌, inl, inr}
+use Rattle.std.proofs.Common.{◌≡◌, ℕ, List, Option, Some, Ok, Err, refl, subst, ◌∙◌, inl, inr}
 use Rattle.wire_io.specs.Files.{Files}
-use Rattle.command_words.specs.Command.{CommandView, Replay, Check, Dump}
+use Rattle.command_words.specs.Command.{CommandView, IsCommand, Replay, Check, Dump}
 use Rattle.dir_tree.specs.Numbered.{Numbered}
 use Rattle.dir_tree.specs.Numbered.{entries_of}
 use Rattle.acl_program.specs.declared.status.Status.{Status}

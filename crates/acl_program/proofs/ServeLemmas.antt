@@ -1,7 +1,8 @@
 -- Lemmas on serving: what its parts say together, and what each of its ends says of the link's count of faults.
-use Rattle.std.proofs.Common.{◌≡◌, ℕ, Bool, true, false, List, [], ◌∷◌, ◌++◌, Option, Some, Result, Ok, Err, refl, sym, ap, ◌∙◌, subst, arith, inl, inr, ◌⊎◌, append_assoc}
+use Rattle.std.proofs.Common.{◌≡◌, ℕ, Bool, true, false, List, [], ◌∷◌, ◌++◌, Option, Some, None, Result, Ok, Err, refl, sym, ap, ◌∙◌, subst, arith, inl, inr, ◌⊎◌, append_assoc}
 use Rattle.std.proofs.lemmas.List.{append_cancel_left}
 use Rattle.plain_values.specs.Counts.{Rose}
+use Rattle.wire_io.specs.declared.answers.NextFault.{NextFault}
 use Rattle.wire_io.specs.declared.answers.NextFault.TheVariants as next
 use Rattle.wire_io.specs.declared.answers.PutFault.{PutFault}
 use Rattle.wire_io.specs.declared.journal.Item.{Item}
@@ -11,6 +12,7 @@ use Rattle.wire_io.specs.Journal.{stops, was_stopped}
 use Rattle.wire_io.specs.Putting.{PutsAll, PutCause}
 use Rattle.wire_io.specs.Telling.{OpenTells, noted}
 use Rattle.wire_io.proofs.Theorems.{appended-none, PutsAll-then, PutCause-then}
+use Rattle.session_hub.specs.declared.ended.Ended.{Ended}
 use Rattle.session_hub.specs.declared.ended.Ended.TheVariants as ended
 use Rattle.session_hub.specs.Loops.{Serves, EndsFor}
 use Rattle.command_words.specs.Command.{Serve}
@@ -18,7 +20,7 @@ use Rattle.dir_tree.specs.Entries.{EntryInformation}
 use Rattle.dir_tree.specs.Numbered.{Numbered, entries_of}
 use Rattle.command_files.specs.Loading.{LoadsData}
 use Rattle.acl_program.specs.declared.status.Status.{Status}
-use Rattle.acl_program.specs.declared.status.Status.TheVariants.{Done, LinkFault, TurnsSpent, NoMemory}
+use Rattle.acl_program.specs.declared.status.Status.TheVariants.{Done, SinkFault, LinkFault, TurnsSpent, NoMemory}
 use Rattle.acl_program.specs.Causes.{Comes, Links, HearsStop}
 use Rattle.acl_program.specs.Listening.{FollowsOpen, Listens, ListensOn, ServesOpened}
 use Rattle.acl_program.specs.Outcomes.{Served, text_of, status_of, settled}

@@ -1,10 +1,10 @@
 -- What the parts of serving promise each other, for the inside of the crate alone.
-use Rattle.std.specs.Prelude.{◌≡◌, Result}
+use Rattle.std.specs.Prelude.{◌≡◌, ℕ, List, Result}
 use Rattle.wire_io.specs.declared.answers.PutFault.{PutFault}
 use Rattle.wire_io.specs.Putting.{PutsAll, PutCause}
 use Rattle.session_hub.specs.declared.ended.Ended.{Ended}
 use Rattle.acl_program.specs.declared.status.Status.{Status}
-use Rattle.acl_program.specs.Outside.{Linked, Outside}
+use Rattle.acl_program.specs.Outside.{Written, Linked, Outside}
 use Rattle.acl_program.specs.Serving.{ServeAsked, ServeEnd, NotBegun, NotOpened, NotServed, LoopEnded, ServesUntil, LinkServes, ended_text, loop_status}
 use Rattle.acl_program.specs.Outcomes.{Served, settled}
 use Rattle.acl_program.specs.Playing.{Ends}

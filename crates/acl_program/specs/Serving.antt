@@ -1,5 +1,5 @@
 -- Serving over a link (RFC 4511 5.3): it is opened at an address, a line says so, and then the loop serves its connections.
-use Rattle.std.specs.Prelude.{◌≡◌, ℕ, List, [], ◌++◌, Result, Ok, Err, codes}
+use Rattle.std.specs.Prelude.{◌≡◌, ℕ, List, [], ◌++◌, Option, Result, Ok, Err, codes}
 use Rattle.plain_values.specs.Counts.{NeverFalls}
 use Rattle.wire_io.specs.declared.answers.NextFault.{NextFault}
 use Rattle.wire_io.specs.declared.answers.NextFault.TheVariants as next
