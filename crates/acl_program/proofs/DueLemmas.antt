@@ -8,11 +8,14 @@ use Rattle.wire_io.specs.Files.{Files, file_of, Lacks}
 use Rattle.session_hub.specs.declared.ended.Ended.TheVariants as ended
 use Rattle.command_words.specs.Command.{CommandView, Serve, Replay, Check, Dump, Explain, Sample, IsCommand}
 use Rattle.command_words.proofs.Theorems.{IsCommand-unique}
+use Rattle.question_words.specs.Questions.{Question}
+use Rattle.question_words.specs.Reading.{question_of}
 use Rattle.dir_tree.specs.Entries.{EntryInformation}
 use Rattle.op_write.specs.DataFile.{FileCause}
-use Rattle.acl_program.specs.Outcomes.{Outcome, NoCommand, NoFile, BadDataLine, BadLine, Checked, Dumped, Replayed, Served, OutOfMemory, status_of}
+use Rattle.acl_program.specs.Outcomes.{Outcome, NoCommand, NoFile, BadDataLine, BadLine, Checked, Dumped, Replayed, Served, Explained, OutOfMemory, status_of}
 use Rattle.acl_program.specs.declared.status.Status.TheVariants.{Done, NoMemory}
 use Rattle.acl_program.specs.Outside.{Linked}
+use Rattle.acl_program.specs.Explaining.{Explains, text_explained}
 use Rattle.acl_program.specs.Serving.{ServeAsked, ServeEnd, LoopEnded}
 use Rattle.acl_program.proofs.ServeLemmas.{served_done}
 use Rattle.command_files.specs.Accepting.{IsUnread, IsGoodData, IsBadData, IsGoodScript, IsBadScript, HoldsOf, HoldsIn, IsTold}
@@ -126,6 +129,10 @@ module _ (words : List (List ℕ)) (files : Option Files) (before after : ℕ) (
   unfolding kind_of
   not_dump found differ alone = one_kind words (Dump alone.data_file) asked alone.asked is differ
 
+  not_explain : (text : List ℕ) → (4 ≡ kind_of asked → ⊥) → Explains words (HoldsIn files) text → ⊥
+  unfolding kind_of
+  not_explain text differ explains = one_kind words (Explain explains.data_file explains.who explains.target explains.item explains.permission) asked explains.asked is differ
+
 -- a data file was to be checked
 module _ (words : List (List ℕ)) (files : Option Files) (before after : ℕ) (name : List ℕ) (entries : List EntryInformation)
     (is : IsCommand words (Check name)) (known : IsTold files name (IsGoodData entries)) (still : Rose before after → ⊥) where
@@ -144,6 +151,7 @@ module _ (words : List (List ℕ)) (files : Option Files) (before after : ℕ) (
   check_due (Replayed events turns dump found) comes =
       absurd (not_replay words files before after (Check name) is name refl tt entries known still comes.0.script turns dump found (λ e. omega (arith, e)) comes.0.asked)
   check_due (Served asks end) comes = absurd (not_serve words files before after (Check name) is name refl tt entries known still asks (λ e. omega (arith, e)) comes.0)
+  check_due (Explained text) comes = absurd (not_explain words files before after (Check name) is name refl tt entries known still text (λ e. omega (arith, e)) comes.0)
   check_due OutOfMemory comes = inl refl
 
 -- a data file was to be put again
@@ -164,6 +172,7 @@ module _ (words : List (List ℕ)) (files : Option Files) (before after : ℕ) (
   dump_due (Replayed events turns dump found) comes =
       absurd (not_replay words files before after (Dump name) is name refl tt entries known still comes.0.script turns dump found (λ e. omega (arith, e)) comes.0.asked)
   dump_due (Served asks end) comes = absurd (not_serve words files before after (Dump name) is name refl tt entries known still asks (λ e. omega (arith, e)) comes.0)
+  dump_due (Explained text) comes = absurd (not_explain words files before after (Dump name) is name refl tt entries known still text (λ e. omega (arith, e)) comes.0)
   dump_due OutOfMemory comes = inl refl
 
 -- the parts of a replay
@@ -228,6 +237,7 @@ module _ (words : List (List ℕ)) (files : Option Files) (before after : ℕ) (
       has_entries words files before after (Replay name script turns dump) is name refl tt entries known still found (Replay replay.data_file comes.0.script count again) replay.data_file replay.asked refl replay.good in
       inr (cc (played_is, turns_is, dump_is, found_is))
   replay_due (Served asks end) comes = absurd (not_serve words files before after (Replay name script turns dump) is name refl tt entries known still asks (λ e. omega (arith, e)) comes.0)
+  replay_due (Explained text) comes = absurd (not_explain words files before after (Replay name script turns dump) is name refl tt entries known still text (λ e. omega (arith, e)) comes.0)
   replay_due OutOfMemory comes = inl refl
 
 -- the status of want of memory, and that of serving
@@ -260,7 +270,53 @@ module _ (words : List (List ℕ)) (files : Option Files) (before after : ℕ) (
   serve_due (Replayed events turns dump found) comes links =
       absurd (not_replay words files before after (Serve name asks.address asks.sessions asks.turns) is name refl tt asks.entries known still comes.0.script turns dump found (λ e. omega (arith, e)) comes.0.asked)
   serve_due (Served other end) comes links = served_done other end old new no_fault hears links
+  serve_due (Explained text) comes links =
+      absurd (not_explain words files before after (Serve name asks.address asks.sessions asks.turns) is name refl tt asks.entries known still text (λ e. omega (arith, e)) comes.0)
   serve_due OutOfMemory comes links = inl refl
+
+-- one question over the same entries has one text
+same_text : (entries found : List EntryInformation) (asks other : Question) → found ≡ entries → other ≡ asks → text_explained found other ≡ text_explained entries asks
+same_text entries found asks other same is = ap (λ all. text_explained all other) same ∙ ap (λ question. text_explained entries question) is
+
+-- two texts of one command are one
+module _ (words : List (List ℕ)) (files : Option Files) (before after : ℕ) (text : List ℕ) (due : Explains words (IsTold files) text) (still : Rose before after → ⊥) where
+  -- the command
+  explanation : CommandView
+  explanation = Explain due.data_file due.who due.target due.item due.permission
+
+  same_explained : (other : List ℕ) → Explains words (HoldsIn files) other → other ≡ text
+  unfolding explanation
+  same_explained other found =
+      let same : Explain found.data_file found.who found.target found.item found.permission ≡ Explain due.data_file due.who due.target due.item due.permission =
+      IsCommand-unique words (Explain found.data_file found.who found.target found.item found.permission) explanation found.asked due.asked in
+      let asks : question_of found.who found.target found.item found.permission ≡ question_of due.who due.target due.item due.permission = cc (same) in
+      let question : Some found.question ≡ Some due.question = sym found.asks ∙ asks ∙ due.asks in
+      let question_is : found.question ≡ due.question = cc in
+      let entries_are : found.entries ≡ due.entries =
+      has_entries words files before after explanation due.asked due.data_file refl (due.question, due.asks) due.entries due.good still found.entries
+      (Explain found.data_file found.who found.target found.item found.permission) found.data_file found.asked refl found.good in
+      found.is ∙ same_text due.entries found.entries due.question found.question entries_are question_is ∙ sym due.is
+
+  explain_due : (outcome : Outcome) → Comes words files before after outcome → (outcome ≡ OutOfMemory) ⊎ (outcome ≡ Explained text)
+  unfolding Comes kind_of explanation
+  explain_due NoCommand comes = absurd (asks_something words files before after explanation due.asked due.data_file refl (due.question, due.asks) due.entries due.good still comes.0)
+  explain_due NoFile (inl lacks) = absurd (has_data words files before after explanation due.asked due.data_file refl (due.question, due.asks) due.entries due.good still lacks)
+  explain_due NoFile (inr lacks) =
+      absurd (not_replay words files before after explanation due.asked due.data_file refl (due.question, due.asks) due.entries due.good still lacks.script lacks.turns lacks.dump lacks.entries (λ e. omega (arith, e)) lacks.asked)
+  explain_due (BadDataLine line cause) comes =
+      absurd (accepts_data words files before after explanation due.asked due.data_file refl (due.question, due.asks) due.entries due.good still line cause comes.0)
+  explain_due (BadLine line) comes =
+      absurd (not_replay words files before after explanation due.asked due.data_file refl (due.question, due.asks) due.entries due.good still comes.0.script comes.0.turns comes.0.dump comes.0.entries (λ e. omega (arith, e)) comes.0.asked)
+  explain_due (Checked found) comes =
+      absurd (not_check words files before after explanation due.asked due.data_file refl (due.question, due.asks) due.entries due.good still found (λ e. omega (arith, e)) comes.0)
+  explain_due (Dumped found) comes =
+      absurd (not_dump words files before after explanation due.asked due.data_file refl (due.question, due.asks) due.entries due.good still found (λ e. omega (arith, e)) comes.0)
+  explain_due (Replayed events turns dump found) comes =
+      absurd (not_replay words files before after explanation due.asked due.data_file refl (due.question, due.asks) due.entries due.good still comes.0.script turns dump found (λ e. omega (arith, e)) comes.0.asked)
+  explain_due (Served asks end) comes =
+      absurd (not_serve words files before after explanation due.asked due.data_file refl (due.question, due.asks) due.entries due.good still asks (λ e. omega (arith, e)) comes.0)
+  explain_due (Explained other) comes = inr (ap Explained (same_explained other comes.0))
+  explain_due OutOfMemory comes = inl refl
 
 -- an outcome that is want of memory, or the one that is due, has its status
 as_status : (outcome due : Outcome) → (outcome ≡ OutOfMemory) ⊎ (outcome ≡ due) → (status_of outcome ≡ NoMemory) ⊎ (status_of outcome ≡ status_of due)
@@ -286,4 +342,6 @@ due_comes words files before after old new outcome (Served asks end) is still co
     let P : ServeEnd → Type 0 = λ how. (status_of outcome ≡ NoMemory) ⊎ (status_of outcome ≡ status_of (Served asks how)) in
     subst P (sym is.0) (subst (λ wanted. (status_of outcome ≡ NoMemory) ⊎ (status_of outcome ≡ wanted)) (sym (status_of-stopped asks))
     (serve_due words files before after is.1 asks old new is.2 is.3 still is.4 is.5 outcome comes links))
+due_comes words files before after old new outcome (Explained text) is still comes links =
+    as_status outcome (Explained text) (explain_due words files before after text is still outcome comes)
 due_comes words files before after old new outcome OutOfMemory is still comes links = absurd is

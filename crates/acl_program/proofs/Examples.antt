@@ -10,9 +10,11 @@ use Rattle.session_model.specs.Run.{start, step, held_numbers}
 use Rattle.session_model.specs.Journaled.{steps_of_events}
 use Rattle.session_model.specs.Replaying.{replayed_from}
 use Rattle.session_hub.specs.Answering.{rules}
-use Rattle.acl_program.specs.declared.status.Status.TheVariants.{Done, TurnsSpent}
+use Rattle.session_hub.specs.declared.ended.Ended.TheVariants as ended
+use Rattle.acl_program.specs.declared.status.Status.TheVariants.{Done, TurnsSpent, LinkFault}
 use Rattle.acl_program.specs.Lines.{line_of, lines_of, replay_text}
-use Rattle.acl_program.specs.Outcomes.{BadLine, Replayed, text_of, status_of}
+use Rattle.acl_program.specs.Outcomes.{BadLine, Replayed, Served, text_of, status_of}
+use Rattle.acl_program.specs.Serving.{ServeAsked, NotOpened, LoopEnded, serve_asked}
 
 -- a line with octets, with none, and of a connection that was hung up
 some_sent : line_of 258 (0x30 ∷ 0x0c ∷ 0xff ∷ []) false ≡ codes "258 300cff\n"
@@ -53,3 +55,19 @@ four_turns = refl
 three_turns : status_of (Replayed two_events 3 true []) ≡ TurnsSpent
 unfolding two_events status_of pieces pieces_of
 three_turns = refl
+
+-- serving whose turns are spent, and one whose link doesn't open
+local : ServeAsked
+local = serve_asked (codes "127.0.0.1:3890") 2 10 []
+
+spent_serving : text_of (Served local (LoopEnded ended.TurnsSpent)) ≡ codes "listening 127.0.0.1:3890\nturns spent\n"
+unfolding local text_of
+spent_serving = refl
+
+failed_serving : text_of (Served local NotOpened) ≡ codes "link fault\n"
+unfolding local text_of
+failed_serving = refl
+
+failed_status : status_of (Served local NotOpened) ≡ LinkFault
+unfolding local status_of
+failed_status = refl

@@ -10,8 +10,7 @@ use Rattle.wire_io.specs.Rising.{rising}
 use Rattle.session_model.specs.Journaled.{steps_of as journal_steps, steps_of_events}
 use Rattle.session_model.specs.Run.{Sessions, State, Open, Closing, TurnedAway, Away, Unopened, Step, Opened, Bytes, Ended, Gone, HungUp, step, hears, run, run_from, start}
 use Rattle.session_model.specs.Replaying.{is_away, IsReplay}
-use Rattle.session_hub.specs.Parties.{DirectoryEntries}
-use Rattle.session_hub.specs.declared.requester.Requester.{Requester}
+use Rattle.session_hub.specs.Parties.{DirectoryEntries, Requester}
 use Rattle.session_hub.specs.Answering.{rules}
 use Rattle.acl_program.specs.Lines.{line_of, lines_of}
 use Rattle.acl_program.specs.Playing.{journal_text}

@@ -7,5 +7,6 @@ mod ServeLemmas
 mod OutcomeLemmas
 mod DueLemmas
 mod PerformLemmas
+mod ExplainLemmas
 mod RunLemmas
 mod TreeLemmas

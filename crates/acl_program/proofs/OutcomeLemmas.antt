@@ -10,7 +10,7 @@ use Rattle.op_write.specs.DataFile.{FileCause}
 use Rattle.acl_program.specs.declared.status.Status.{Status}
 use Rattle.acl_program.specs.declared.status.Status.TheVariants.{Done, Usage, BadData, ShelfFault, SinkFault, LinkFault, TurnsSpent, NoMemory, BadScript}
 use Rattle.acl_program.specs.Outside.{Linked, Outside}
-use Rattle.acl_program.specs.Outcomes.{Outcome, NoCommand, NoFile, BadDataLine, BadLine, Checked, Dumped, Replayed, Served, OutOfMemory, status_of}
+use Rattle.acl_program.specs.Outcomes.{Outcome, NoCommand, NoFile, BadDataLine, BadLine, Checked, Dumped, Replayed, Served, Explained, OutOfMemory, status_of}
 use Rattle.acl_program.specs.Causes.{IsNoCommand, AsksServing, AsksServe, LacksData, LacksScript, RefusesData, RefusesScript, Comes, Links}
 use Rattle.acl_program.specs.Running.{Puts, IsCause, EndsAtFaults}
 use Rattle.acl_program.specs.Playing.{Ends}
@@ -44,6 +44,7 @@ usage_comes words files before after (Checked entries) is comes = absurd (cc)
 usage_comes words files before after (Dumped entries) is comes = absurd (cc)
 usage_comes words files before after (Replayed events turns dump entries) is comes = absurd (not_replayed Usage events turns dump entries is (λ e. cc) (λ e. cc))
 usage_comes words files before after (Served asked end) is comes = absurd (serve_not Usage end is (λ e. cc) (λ e. cc) (λ e. cc) (λ e. cc))
+usage_comes words files before after (Explained text) is comes = absurd (cc)
 usage_comes words files before after OutOfMemory is comes = absurd (cc)
 
 -- what came, by the status of the outcome
@@ -58,6 +59,7 @@ data_cause words files before after (Checked entries) is comes = absurd (cc)
 data_cause words files before after (Dumped entries) is comes = absurd (cc)
 data_cause words files before after (Replayed events turns dump entries) is comes = absurd (not_replayed BadData events turns dump entries is (λ e. cc) (λ e. cc))
 data_cause words files before after (Served asked end) is comes = absurd (serve_not BadData end is (λ e. cc) (λ e. cc) (λ e. cc) (λ e. cc))
+data_cause words files before after (Explained text) is comes = absurd (cc)
 data_cause words files before after OutOfMemory is comes = absurd (cc)
 
 shelf_cause : (words : List (List ℕ)) (files : Option Files) (before after : ℕ) (outcome : Outcome)
@@ -71,6 +73,7 @@ shelf_cause words files before after (Checked entries) is comes = absurd (cc)
 shelf_cause words files before after (Dumped entries) is comes = absurd (cc)
 shelf_cause words files before after (Replayed events turns dump entries) is comes = absurd (not_replayed ShelfFault events turns dump entries is (λ e. cc) (λ e. cc))
 shelf_cause words files before after (Served asked end) is comes = absurd (serve_not ShelfFault end is (λ e. cc) (λ e. cc) (λ e. cc) (λ e. cc))
+shelf_cause words files before after (Explained text) is comes = absurd (cc)
 shelf_cause words files before after OutOfMemory is comes = absurd (cc)
 
 script_cause : (words : List (List ℕ)) (files : Option Files) (before after : ℕ) (outcome : Outcome)
@@ -84,6 +87,7 @@ script_cause words files before after (Checked entries) is comes = absurd (cc)
 script_cause words files before after (Dumped entries) is comes = absurd (cc)
 script_cause words files before after (Replayed events turns dump entries) is comes = absurd (not_replayed BadScript events turns dump entries is (λ e. cc) (λ e. cc))
 script_cause words files before after (Served asked end) is comes = absurd (serve_not BadScript end is (λ e. cc) (λ e. cc) (λ e. cc) (λ e. cc))
+script_cause words files before after (Explained text) is comes = absurd (cc)
 script_cause words files before after OutOfMemory is comes = absurd (cc)
 
 -- a data file is to be served
@@ -103,6 +107,7 @@ link_cause words files before after old new (Checked entries) is comes links = a
 link_cause words files before after old new (Dumped entries) is comes links = absurd (cc)
 link_cause words files before after old new (Replayed events turns dump entries) is comes links = absurd (not_replayed LinkFault events turns dump entries is (λ e. cc) (λ e. cc))
 link_cause words files before after old new (Served asked end) is comes links = (serving_asked words files asked comes.0, fault_rose asked old new end is links)
+link_cause words files before after old new (Explained text) is comes links = absurd (cc)
 link_cause words files before after old new OutOfMemory is comes links = absurd (cc)
 
 -- words that ask for nothing to be served leave the link as it is
@@ -117,6 +122,7 @@ link_stays words files before after old new (Checked entries) other comes links 
 link_stays words files before after old new (Dumped entries) other comes links = links
 link_stays words files before after old new (Replayed events turns dump entries) other comes links = links
 link_stays words files before after old new (Served asked end) other comes links = absurd (other (serving_asked words files asked comes.0))
+link_stays words files before after old new (Explained text) other comes links = links
 link_stays words files before after old new OutOfMemory other comes links = links
 
 -- the cause of each status
@@ -147,6 +153,7 @@ count_stays words files before after (Checked entries) status is other comes = c
 count_stays words files before after (Dumped entries) status is other comes = comes.1
 count_stays words files before after (Replayed events turns dump entries) status is other comes = comes.1
 count_stays words files before after (Served asked end) status is other comes = comes.1
+count_stays words files before after (Explained text) status is other comes = comes.1
 count_stays words files before after OutOfMemory status is other comes = comes
 
 -- the link's count is as it was where its fault isn't answered, and memory was there
@@ -161,6 +168,7 @@ link_count_stays (Checked entries) old new status is not_fault not_memory links 
 link_count_stays (Dumped entries) old new status is not_fault not_memory links = ap (λ link. link.faults) links
 link_count_stays (Replayed events turns dump entries) old new status is not_fault not_memory links = ap (λ link. link.faults) links
 link_count_stays (Served asked end) old new status is not_fault not_memory links = serve_count_stays asked old new end status is not_fault not_memory links
+link_count_stays (Explained text) old new status is not_fault not_memory links = ap (λ link. link.faults) links
 link_count_stays OutOfMemory old new status is not_fault not_memory links = ap (λ link. link.faults) links
 
 module _ (words : List (List ℕ)) (before after : Outside) (outcome : Outcome)

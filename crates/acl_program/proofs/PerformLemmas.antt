@@ -7,7 +7,7 @@ use Rattle.dir_tree.specs.Numbered.{entries_of}
 use Rattle.acl_program.specs.declared.status.Status.{Status}
 use Rattle.command_files.specs.declared.loading.Trouble.{Trouble}
 use Rattle.command_files.specs.declared.loading.Trouble.TheVariants as trouble
-use Rattle.acl_program.specs.Outcomes.{Outcome, NoCommand, NoFile, BadDataLine, BadLine, Checked, Dumped, Replayed, Served, OutOfMemory}
+use Rattle.acl_program.specs.Outcomes.{Outcome, NoCommand, NoFile, BadDataLine, BadLine, Checked, Dumped, Replayed, Served, Explained, OutOfMemory}
 use Rattle.command_files.specs.Accepting.{IsUnread}
 use Rattle.acl_program.specs.Causes.{AsksData, Comes, Links, data_of}
 use Rattle.acl_program.specs.Outside.{Linked, Outside}
@@ -114,6 +114,7 @@ replay_comes name asked rows files before middle after (Replayed events turns du
       comes.4 ∙ loads.2,
     )
 replay_comes name asked rows files before middle after (Served other end) over loads comes = absurd comes
+replay_comes name asked rows files before middle after (Explained text) over loads comes = absurd comes
 replay_comes name asked rows files before middle after OutOfMemory over loads comes = λ words is. comes ∙ loads.2
 
 -- a replay leaves the link as it is
@@ -127,6 +128,7 @@ links_replay asked files middle after (Checked found) old new comes same = absur
 links_replay asked files middle after (Dumped found) old new comes same = absurd comes
 links_replay asked files middle after (Replayed events turns dumped found) old new comes same = same
 links_replay asked files middle after (Served other end) old new comes same = absurd comes
+links_replay asked files middle after (Explained text) old new comes same = absurd comes
 links_replay asked files middle after OutOfMemory old new comes same = same
 
 -- a replay after its data file was loaded, from the shelf as it then was

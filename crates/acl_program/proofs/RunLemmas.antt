@@ -71,6 +71,11 @@ no_fault entries left events turns journal plays = plays
 pub Played-nothing : (entries : List EntryInformation) (events : List ScriptEvent) (turns : ℕ) (dump : Bool) (before : Written) → Ends (Replayed events turns dump entries) before NoMemory before
 Played-nothing entries events turns dump before = Ends-no_memory (Replayed events turns dump entries) before before 0 (appended-none before.put) refl
 
+-- the entries that were served are those of the tree
+pub Played-over : (served entries : List EntryInformation) (events : List ScriptEvent) (turns : ℕ) (dump : Bool) (before after : Written) (status : Status)
+    → served ≡ entries → Ends (Replayed events turns dump served) before status after → Ends (Replayed events turns dump entries) before status after
+Played-over served entries events turns dump before after status same ends = subst (λ found. Ends (Replayed events turns dump found) before status after) same ends
+
 -- a link that was loaded has done nothing yet
 pub LoadsScript-fresh : (files : Option Files) (name : List ℕ) (before after : ℕ) (link : LinkState) → LoadsScript files name before after (Ok link)
     → link ≡ fresh_link link.plan.to_come [] [] []
@@ -84,11 +89,10 @@ LoadsData-good files name before after rows loads = loads.1
 
 module _ (asked : ReplayAsked) (before after : Outside) (status : Status) where
   -- the script was read and replayed
-  pub Replays-played : (link : LinkState) (found : List EntryInformation) → found ≡ asked.entries → LoadsScript before.shelf.files asked.script before.shelf.faults after.shelf.faults (Ok link)
-      → Ends (Replayed link.plan.to_come asked.turns asked.dump found) before.out status after.out → Replays asked before status after
+  pub Replays-played : (link : LinkState) → LoadsScript before.shelf.files asked.script before.shelf.faults after.shelf.faults (Ok link)
+      → Ends (Replayed link.plan.to_come asked.turns asked.dump asked.entries) before.out status after.out → Replays asked before status after
   unfolding Replays LoadsScript
-  Replays-played link found is loads ends =
-      (Replayed link.plan.to_come asked.turns asked.dump asked.entries, (refl, refl, refl, loads.0, loads.2), subst (λ e. Ends (Replayed link.plan.to_come asked.turns asked.dump e) before.out status after.out) is ends)
+  Replays-played link loads ends = (Replayed link.plan.to_come asked.turns asked.dump asked.entries, (refl, refl, refl, loads.0, loads.2), ends)
 
   -- the script wasn't read
   pub Replays-refused : (why : Trouble) → LoadsScript before.shelf.files asked.script before.shelf.faults after.shelf.faults (Err why)

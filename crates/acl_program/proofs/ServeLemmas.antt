@@ -16,6 +16,7 @@ use Rattle.session_hub.specs.declared.ended.Ended.{Ended}
 use Rattle.session_hub.specs.declared.ended.Ended.TheVariants as ended
 use Rattle.session_hub.specs.Loops.{Serves, EndsFor}
 use Rattle.command_words.specs.Command.{Serve}
+use Rattle.dir_tree.specs.Entries.{EntryInformation}
 use Rattle.dir_tree.specs.Numbered.{Numbered, entries_of}
 use Rattle.command_files.specs.Loading.{LoadsData}
 use Rattle.acl_program.specs.declared.status.Status.{Status}
@@ -23,9 +24,9 @@ use Rattle.acl_program.specs.declared.status.Status.TheVariants.{Done, SinkFault
 use Rattle.acl_program.specs.Causes.{Comes, Links, HearsStop}
 use Rattle.acl_program.specs.Listening.{FollowsOpen, Listens, ListensOn, ServesOpened}
 use Rattle.acl_program.specs.Outcomes.{Served, text_of, status_of, settled}
-use Rattle.acl_program.specs.Outside.{Shelved, Written, Linked, Outside, beside}
+use Rattle.acl_program.specs.Outside.{Written, Linked, Outside, beside}
 use Rattle.acl_program.specs.Playing.{Ends, Performs}
-use Rattle.acl_program.specs.Serving.{ServeAsked, ServeEnd, NotBegun, NotOpened, NotServed, LoopEnded, Opens, ServesUntil, LinkServes, listening_text, ended_text, loop_status, serve_status}
+use Rattle.acl_program.specs.Serving.{ServeAsked, ServeEnd, NotBegun, NotOpened, NotServed, LoopEnded, Opens, ServesUntil, LinkServes, listening_text, ended_text, loop_status, serve_asked, serve_status}
 use Rattle.acl_program.proofs.EndsLemmas.{Ends-no_memory, Ends-put}
 
 -- serving has one of four statuses
@@ -127,7 +128,7 @@ module _ (asked : ServeAsked) (before after : Outside) (status : Status) where
   Listens-failed opens ends = (NotOpened, ends, opens)
 
   -- the line was put, and the loop ended
-  pub ListensOn-ended : (put : Written) (done : Unit {0}) → PutsAll before.out.put (listening_text asked.address) (Ok done) put.put → PutCause before.out.faults put.faults (Ok {B = PutFault} done)
+  pub ListensOn-ended : (put : Written) (done : Unit {0}) → PutsAll before.out.put (listening_text asked.address) (Ok done) put.put → PutCause {T = Unit {0}} before.out.faults put.faults (Ok done)
       → ServesOpened asked (beside before.shelf put before.link) status after → ListensOn asked before status after
   unfolding ListensOn text_of status_of
   ListensOn-ended put done tells cause opened = (
@@ -145,17 +146,33 @@ module _ (asked : ServeAsked) (before after : Outside) (status : Status) where
   ListensOn-cut fault tells cause is same =
       (NotServed, Ends-put (Served asked NotServed) before.out after.out (listening_text asked.address) (Err fault) NoMemory status refl refl is tells cause, same)
 
+-- a text that is another
+pub PutsAll-as : (old new : Option (List ℕ)) (text made : List ℕ) (answer : Result (Unit {0}) PutFault) → text ≡ made → PutsAll old text answer new → PutsAll old made answer new
+PutsAll-as old new text made answer is puts = subst (λ printed. PutsAll old printed answer new) is puts
+
 -- there was no memory to open the link
 pub Listens-no_memory : (asked : ServeAsked) (before after : Outside) → Opens asked (Err next.NoMemory) before.link after.link → after.out ≡ before.out → Listens asked before NoMemory after
 unfolding Listens LinkServes
 Listens-no_memory asked before after opens stays =
     (NotBegun, Ends-no_memory (Served asked NotBegun) before.out after.out 0 (ap (λ out. out.put) stays ∙ appended-none before.out.put) (ap (λ out. out.faults) stays), opens)
 
--- a data file was loaded and served, with the shelf as it then was
+-- there was no memory for the directory, and nothing was done
+pub Listens-nothing : (asked : ServeAsked) (before : Outside) → Listens asked before NoMemory before
+unfolding OpenTells LinkCause
+Listens-nothing asked before = Listens-no_memory asked before before (record { tells = refl; cause = refl; plan = refl; lost = record { never_falls = omega arith } }) refl
+
+-- the entries that are served are those of the tree
+pub Listens-over :
+    (address : List ℕ) (sessions turns : ℕ) (served entries : List EntryInformation) (before after : Outside) (status : Status)
+    → served ≡ entries → Listens (serve_asked address sessions turns served) before status after → Listens (serve_asked address sessions turns entries) before status after
+Listens-over address sessions turns served entries before after status same listens =
+    subst (λ found. Listens (serve_asked address sessions turns found) before status after) same listens
+
+-- a data file was loaded and served
 pub Performs-served :
-    (name : List ℕ) (asked : ServeAsked) (shelf : Shelved) (before after : Outside) (status : Status) (rows : List Numbered)
+    (name : List ℕ) (asked : ServeAsked) (before after : Outside) (status : Status) (rows : List Numbered)
     → asked.entries ≡ entries_of rows → LoadsData before.shelf.files name before.shelf.faults after.shelf.faults (Ok rows)
-    → Listens asked (beside shelf before.out before.link) status (beside shelf after.out after.link) → Performs (Serve name asked.address asked.sessions asked.turns) before status after
+    → Listens asked (beside before.shelf before.out before.link) status (beside before.shelf after.out after.link) → Performs (Serve name asked.address asked.sessions asked.turns) before status after
 unfolding Performs Listens LoadsData Comes Links
-Performs-served name asked shelf before after status rows over loads listens =
+Performs-served name asked before after status rows over loads listens =
     (Served asked listens.0, (λ words is. (record { data_file = name; asked = is; good = rw over loads.0 }, loads.2)), listens.1, listens.2)

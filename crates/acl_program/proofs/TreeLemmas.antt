@@ -5,8 +5,7 @@ use Rattle.ldap_msg.specs.declared.kinds.Message.{Message}
 use Rattle.ldap_msg.specs.Messages.{message_of}
 use Rattle.session_model.specs.Rules.{Answered, talk, after_octets, said, up_to}
 use Rattle.session_model.specs.Run.{Sessions, State, Open, Closing, TurnedAway, Away, Unopened, Step, Opened, Bytes, Ended, Gone, HungUp, step, hears, run, run_from, start, new_messages}
-use Rattle.session_hub.specs.Parties.{DirectoryEntries}
-use Rattle.session_hub.specs.declared.requester.Requester.{Requester}
+use Rattle.session_hub.specs.Parties.{DirectoryEntries, Requester}
 use Rattle.session_hub.specs.Answering.{rules, answer_read}
 
 answer_tree : (t : DirectoryEntries) (w : Requester) (o : Option Message) → (answer_read t w o).tree ≡ t

@@ -8,20 +8,23 @@ use Rattle.wire_io.specs.Files.{Files}
 use Rattle.wire_io.specs.Journal.{was_stopped}
 use Rattle.session_hub.specs.declared.ended.Ended.TheVariants as ended
 use Rattle.command_words.specs.Command.{CommandView, Serve, Replay, Check, Dump, Explain, Sample, IsCommand}
+use Rattle.question_words.specs.Questions.{Question}
+use Rattle.question_words.specs.Reading.{question_of}
 use Rattle.dir_tree.specs.Entries.{EntryInformation}
 use Rattle.op_write.specs.DataFile.{FileCause}
 use Rattle.command_files.specs.Accepting.{IsUnread, HoldsIn, IsTold, IsGoodData, IsBadData, IsGoodScript, IsBadScript}
-use Rattle.acl_program.specs.Outcomes.{Outcome, NoCommand, NoFile, BadDataLine, BadLine, Checked, Dumped, Replayed, Served, OutOfMemory}
+use Rattle.acl_program.specs.Outcomes.{Outcome, NoCommand, NoFile, BadDataLine, BadLine, Checked, Dumped, Replayed, Served, Explained, OutOfMemory}
 use Rattle.acl_program.specs.Outside.{Linked}
+use Rattle.acl_program.specs.Explaining.{Explains}
 use Rattle.acl_program.specs.Serving.{ServeAsked, LoopEnded, LinkServes}
 
--- the command is done; explanations and samples aren't yet
+-- the command is done: an explanation where its words are a question; samples aren't yet
 abbrev pub IsPerformed : CommandView → Type 0
 IsPerformed (Serve data_file address sessions turns) = Unit {0}
 IsPerformed (Replay data_file script turns dump) = Unit {0}
 IsPerformed (Check data_file) = Unit {0}
 IsPerformed (Dump data_file) = Unit {0}
-IsPerformed (Explain data_file who target item permission) = ⊥
+IsPerformed (Explain data_file who target item permission) = (question : Question) × (question_of who target item permission ≡ Some question)
 IsPerformed (Sample count) = ⊥
 
 -- the words ask for nothing that is done
@@ -110,6 +113,7 @@ Comes words files before after (Checked entries) = AsksAlone Check words files e
 Comes words files before after (Dumped entries) = AsksAlone Dump words files entries × (after ≡ before)
 Comes words files before after (Replayed events turns dump entries) = AsksBoth words files events turns dump entries × (after ≡ before)
 Comes words files before after (Served asks end) = AsksServe words files asks × (after ≡ before)
+Comes words files before after (Explained text) = Explains words (HoldsIn files) text × (after ≡ before)
 Comes words files before after OutOfMemory = after ≡ before
 
 -- what each outcome says of the link: all leave it as it was but serving
@@ -122,6 +126,7 @@ Links (Checked entries) before after = after ≡ before
 Links (Dumped entries) before after = after ≡ before
 Links (Replayed events turns dump entries) before after = after ≡ before
 Links (Served asks end) before after = LinkServes asks end before after
+Links (Explained text) before after = after ≡ before
 Links OutOfMemory before after = after ≡ before
 
 -- Stop was heard in this call, where the link tells its journal
@@ -143,4 +148,5 @@ IsDue words files old new (Replayed events turns dump entries) =
 IsDue words files old new (Served asks end) =
     (end ≡ LoopEnded ended.Stopped) × (data_file : List ℕ) × IsCommand words (Serve data_file asks.address asks.sessions asks.turns)
     × IsTold files data_file (IsGoodData asks.entries) × (Rose old.faults new.faults → ⊥) × HearsStop old.journal new.journal
+IsDue words files old new (Explained text) = Explains words (IsTold files) text
 IsDue words files old new OutOfMemory = ⊥

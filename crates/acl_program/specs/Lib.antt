@@ -2,6 +2,7 @@
 pub mod Outside
 pub mod Lines
 pub mod Serving
+pub mod Explaining
 pub mod Outcomes
 pub mod Causes
 pub mod Running

@@ -9,8 +9,7 @@ use Rattle.wire_io.specs.Rising.{rising}
 use Rattle.session_model.specs.Run.{Sessions}
 use Rattle.session_model.specs.Replaying.{replayed, is_away}
 use Rattle.session_model.specs.Journaled.{steps_of_events}
-use Rattle.session_hub.specs.Parties.{DirectoryEntries}
-use Rattle.session_hub.specs.declared.requester.Requester.{Requester}
+use Rattle.session_hub.specs.Parties.{DirectoryEntries, Requester}
 use Rattle.session_hub.specs.Answering.{rules}
 use Rattle.session_hub.specs.Loops.{buffer_length}
 

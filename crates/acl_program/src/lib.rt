@@ -3,6 +3,7 @@
 #![tactic(auto)]
 
 mod data;
+mod explain;
 mod printing;
 mod program;
 mod replay;

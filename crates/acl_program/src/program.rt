@@ -10,6 +10,7 @@ ghost use Rattle.acl_program.specs.Playing.{Runs, Performs};
 ghost use Rattle.command_words.specs.Command.{view};
 
 use crate::data::{check, dump};
+use crate::explain::{Explaining, explain};
 use crate::replay::{Asked, replay};
 use crate::serve::{Serving, serve};
 use crate::status::Status;
@@ -24,7 +25,8 @@ use wire_io::{Link, Shelf, Sink};
 /// `dump DATA` puts the loaded tree as a data file. `replay DATA SCRIPT [--dump] [--turns N]` loads the data file, reads
 /// the script file, serves its events as those of a link's connections, at most N of them, and puts one line for each
 /// connection: its number, what was sent to it, and whether it was hung up; with `--dump` the tree follows as a data
-/// file. These leave the link as it is.
+/// file. `explain DATA WHO TARGET ITEM PERMISSION` loads the data file and puts one access control decision over it, filter
+/// by filter. These leave the link as it is.
 ///
 /// `serve DATA ADDRESS [--sessions N] [--turns N]` loads the data file, opens the link at the address, puts `listening
 /// ADDRESS`, and serves the link's connections until it gives Stop, at most N events. Where the link fails it puts `link
@@ -93,7 +95,7 @@ fn run_words<H: Shelf, K: Sink, L: Link>(
     }
 }
 
-/// Does what a command asks for. Explanations and samples aren't done yet.
+/// Does what a command asks for. Samples aren't done yet.
 #[tactic(auto, unfolding(crate::specs::Playing::Performs))]
 fn perform<H: Shelf, K: Sink, L: Link>(
     alloc: Global,
@@ -145,7 +147,24 @@ fn perform<H: Shelf, K: Sink, L: Link>(
         ),
         Command::Check { data } => check(alloc, data, shelf, out),
         Command::Dump { data } => dump(alloc, data, shelf, out),
-        Command::Explain { .. } => print_usage(out),
+        Command::Explain {
+            data,
+            who,
+            target,
+            item,
+            permission,
+        } => explain(
+            alloc,
+            &Explaining {
+                data,
+                who,
+                target,
+                item,
+                permission,
+            },
+            shelf,
+            out,
+        ),
         Command::Sample { .. } => print_usage(out),
     }
 }

@@ -14,7 +14,7 @@ ghost use Rattle.acl_program.specs.Playing.{Performs, Plays, Shows, Ends, dumped
 use crate::printing::print_replay;
 use crate::status::Status;
 use crate::troubles::print_trouble;
-use acdf_core::{Dir, PlainDir};
+use acdf_lists::{Dir, PlainDir};
 use command_files::{load_data, load_script};
 use dir_tree::Tree;
 use session_hub::{Ended, serve_loop};
@@ -66,15 +66,29 @@ fn replay_over<H: Shelf, K: Sink>(
     ensures kept { H.files shelf.new ≡ H.files shelf.old }
 {
     match load_script(alloc, shelf, asked.script) {
-        Ok(link) => play(
-            alloc,
-            PlainDir::new(tree),
-            link,
-            asked.turns,
-            asked.dump,
-            out,
-        ),
+        Ok(link) => play(alloc, tree, link, asked.turns, asked.dump, out),
         Err(fault) => print_trouble(alloc, fault, out),
+    }
+}
+
+/// The same with the link of the script file.
+fn play<K: Sink>(
+    alloc: Global,
+    tree: Tree,
+    link: ScriptLink,
+    turns: u64,
+    dump: bool,
+    out: &mut K,
+) -> Status
+    requires fresh { link ≡ fresh_link link.plan.to_come [] [] [] }
+    requires good { IsGoodTree (entries_of tree) }
+    ensures ends { Ends (Replayed link.plan.to_come turns dump (entries_of tree))
+        (written (K.put out.old) (K.faults out.old)) result
+        (written (K.put out.new) (K.faults out.new)) }
+{
+    match PlainDir::new(alloc, tree) {
+        Ok(dir) => play_over(alloc, dir, link, turns, dump, out),
+        Err(_) => Status::NoMemory,
     }
 }
 
@@ -89,7 +103,7 @@ fn dumped(tree: &Tree, dump: bool) -> Option<&Tree>
 
 /// Serves the link's events over the directory, at most so many, and prints the lines of its connections, and then the
 /// tree that is left.
-fn play<K: Sink>(
+fn play_over<K: Sink>(
     alloc: Global,
     dir: PlainDir,
     link: ScriptLink,

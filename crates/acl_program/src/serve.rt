@@ -12,8 +12,9 @@ ghost use Rattle.acl_program.specs.Serving.{NotOpened, ServeAsked, ended_text, l
 
 use crate::status::Status;
 use crate::troubles::print_trouble;
-use acdf_core::PlainDir;
+use acdf_lists::PlainDir;
 use command_files::load_data;
+use dir_tree::Tree;
 use session_hub::{Ended, serve_loop};
 use std::alloc::{AllocError, Global};
 use wire_io::{Link, NextFault, PutFault, Shelf, Sink, write_all};
@@ -46,13 +47,34 @@ pub(crate) fn serve<H: Shelf, K: Sink, L: Link>(
     ensures kept { H.files shelf.new ≡ H.files shelf.old }
 {
     match load_data(alloc, shelf, asked.data) {
-        Ok(tree) => listen(alloc, PlainDir::new(tree), asked, out, link),
+        Ok(tree) => listen(alloc, tree, asked, out, link),
         Err(trouble) => print_trouble(alloc, trouble, out),
     }
 }
 
-/// Opens the link and serves the directory over it.
+/// Opens the link and serves the tree over it.
 fn listen<K: Sink, L: Link>(
+    alloc: Global,
+    tree: Tree,
+    asked: &Serving<'_>,
+    out: &mut K,
+    link: &mut L,
+) -> Status
+    ensures listens { (shelf : Shelved) → Listens
+        (serve_asked asked.now.address.now asked.now.sessions asked.now.turns (entries_of tree))
+        (beside shelf (written (K.put out.old) (K.faults out.old))
+        (linked (L.journal link.old) (L.plan link.old) (L.faults link.old) (L.lost link.old))) result
+        (beside shelf (written (K.put out.new) (K.faults out.new))
+        (linked (L.journal link.new) (L.plan link.new) (L.faults link.new) (L.lost link.new))) }
+{
+    match PlainDir::new(alloc, tree) {
+        Ok(dir) => listen_on(alloc, dir, asked, out, link),
+        Err(_) => Status::NoMemory,
+    }
+}
+
+/// Opens the link and serves the directory over it.
+fn listen_on<K: Sink, L: Link>(
     alloc: Global,
     dir: PlainDir,
     asked: &Serving<'_>,

@@ -6,3 +6,4 @@ mod ChoosingLemmas
 mod SendingLemmas
 mod AnsweringLemmas
 mod RootLemmas
+mod AlikeLemmas

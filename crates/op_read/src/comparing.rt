@@ -9,6 +9,7 @@ ghost use Rattle.acdf_filters.specs.Asking as protected;
 ghost use Rattle.aci_item.specs.declared.permission.Permission.TheVariants as permission;
 ghost use Rattle.read_model.specs.Views.{view_of, result_of};
 ghost use Rattle.read_model.specs.CompareReplies.{has_equal, compared, readable, compared_in, compared_value, compared_kind, compare_result};
+ghost use Rattle.op_read.specs.Alike.{ComparesAlike};
 ghost use Rattle.op_read.specs.Seeing.{view_in, row_in, rows_at};
 
 use crate::asking::{Asking, Seen};
@@ -196,10 +197,8 @@ fn compare_known<D: Dir>(
     }
 }
 
-/// The result of a compare (RFC 4511 4.10, X.511 9.2): `compareTrue` where the entry has an equal value that the
-/// requester may compare, `compareFalse` where it has none. What the requester may not know is answered as what is
-/// not there. The error comes where memory is wanted.
-pub fn compare<D: Dir>(
+// The result of a compare.
+fn compare_over<D: Dir>(
     alloc: Global,
     dir: &D,
     who: &Requester,
@@ -215,4 +214,21 @@ pub fn compare<D: Dir>(
         known: &known,
     };
     compare_known(alloc, &asking, request)
+}
+
+/// The result of a compare (RFC 4511 4.10, X.511 9.2): `compareTrue` where the entry has an equal value that the
+/// requester may compare, `compareFalse` where it has none. What the requester may not know is answered as what is not
+/// there: over two trees that differ only in a subtree of which it sees nothing, the result is the same. The error
+/// comes where memory is wanted.
+pub fn compare<D: Dir>(
+    alloc: Global,
+    dir: &D,
+    who: &Requester,
+    request: &CompareRequest,
+) -> Result<LdapResult, NoMemory>
+    ensures ok { IfOk result (λ found. found
+        ≡ compare_result (view_of (entries_of (D.rows dir.now)) who.now) request.now) }
+    ensures twins { IfOk result (λ found. ComparesAlike who.now (entries_of (D.rows dir.now)) request.now found) }
+{
+    compare_over(alloc, dir, who, request)
 }

@@ -8,6 +8,7 @@ ghost use Rattle.read_model.specs.Views.{view_of, hidden};
 ghost use Rattle.read_model.specs.Selecting.{selected};
 ghost use Rattle.read_model.specs.RootEntry.{finds_root, root_entry, root_replies};
 ghost use Rattle.read_model.specs.SearchReplies.{replies_octets, found_replies, replies_at, replies_by, search_replies};
+ghost use Rattle.op_read.specs.Alike.{SendsAlike};
 ghost use Rattle.op_read.specs.Seeing.{view_in};
 
 use crate::asking::Asking;
@@ -226,10 +227,34 @@ fn put_replies<D: Dir>(
     put_known(alloc, &asking, asked, out)
 }
 
+// Appends the replies to a search; after the error `out` is as before.
+fn append_replies<D: Dir>(
+    alloc: Global,
+    dir: &D,
+    who: &Requester,
+    asked: Asked<'_>,
+    out: &mut Vec<u8>,
+) -> Result<(), NoMemory>
+    ensures ok { OnOk result (out.new.items ≡ out.old.items ++ replies_octets asked.entry.id
+        (search_replies (view_of (entries_of (D.rows dir.now)) who.now) asked.entry.request.now
+        asked.entry.subentries)) }
+    ensures err { OnErr result (out.new.items ≡ out.old.items) }
+{
+    let before = out.len();
+    match put_replies(alloc, dir, who, asked, out) {
+        Ok(()) => Ok(()),
+        Err(fault) => {
+            out.truncate(before);
+            Err(fault)
+        }
+    }
+}
+
 /// Appends the replies to a search (RFC 4511 4.5, X.511 10.2): the entries that are selected, in the order of names
 /// and up to the limit of the request, and how the search ended. What the requester may not know of is answered as
-/// what is not there. `subentries` is what the control of subentries says, where it goes with the request (RFC 3672
-/// 3). The error comes for want of memory alone, and then `out` is as before.
+/// what is not there: over two trees that differ only in a subtree of which it sees nothing, the same octets are
+/// appended. `subentries` is what the control of subentries says, where it goes with the request (RFC 3672 3). The
+/// error comes for want of memory alone, and then `out` is as before.
 pub fn search<D: Dir>(
     alloc: Global,
     dir: &D,
@@ -242,18 +267,13 @@ pub fn search<D: Dir>(
     ensures ok { OnOk result (out.new.items ≡ out.old.items ++ replies_octets id
         (search_replies (view_of (entries_of (D.rows dir.now)) who.now) request.now subentries)) }
     ensures err { OnErr result (out.new.items ≡ out.old.items) }
+    ensures twins { OnOk result (SendsAlike who.now (entries_of (D.rows dir.now)) id request.now subentries
+        out.old.items out.new.items) }
 {
-    let before = out.len();
     let asked = Asked {
         id,
         request,
         subentries,
     };
-    match put_replies(alloc, dir, who, asked, out) {
-        Ok(()) => Ok(()),
-        Err(fault) => {
-            out.truncate(before);
-            Err(fault)
-        }
-    }
+    append_replies(alloc, dir, who, asked, out)
 }

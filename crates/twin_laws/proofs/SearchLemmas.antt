@@ -16,7 +16,7 @@ use Rattle.ldap_msg.specs.declared.kinds.SearchRequest.{SearchRequest}
 use Rattle.ldap_msg.specs.declared.kinds.Reply.{Reply}
 use Rattle.ldap_msg.specs.declared.kinds.Reply.TheVariants as reply
 use Rattle.read_model.specs.Views.{Row, View, has_name, is_disclosed, matched_name, result_of, result_with, no_such_object, discloses, hidden}
-use Rattle.read_model.specs.Selecting.{takes_in, is_seen, permits_of, is_selected, selected}
+use Rattle.read_model.specs.Selecting.{takes_in, is_seen, permits_of, is_selected, selected, is_shown, is_found}
 use Rattle.read_model.specs.RootEntry.{root_entry, root_replies}
 use Rattle.read_model.specs.SearchReplies.{nothing_found, found_replies, replies_at, replies_by, search_replies}
 use Rattle.twin_laws.specs.Twins.{rows_outside}
@@ -39,10 +39,11 @@ unbrowsed : (request : SearchRequest) (subentries : Option Bool) (base : RdnSequ
     → row.allows Entry Browse ≡ false → is_selected request subentries base row ≡ false
 unfolding is_selected
 unbrowsed request subentries base row e =
-    and_left _ (row.allows Entry ReturnDn) (
-    and_left _ (is_true (truth (permits_of row) row.entry request.filter))
-    (and_right (takes_in request.scope base row.entry && is_seen request.scope subentries row.entry)
-    (row.allows Entry Browse) e)
+    and_right (takes_in request.scope base row.entry) (is_shown request subentries row) (
+    and_right (is_seen request.scope subentries row.entry) (is_found request.filter row) (
+    and_left (row.allows Entry Browse && is_true (truth (permits_of row) row.entry request.filter)) (row.allows Entry ReturnDn)
+    (and_left (row.allows Entry Browse) (is_true (truth (permits_of row) row.entry request.filter)) e)
+    )
     )
 
 pub selected-outside : (top : RdnSequence) (view : View) → AreHidden top view
@@ -83,13 +84,7 @@ selected_none top view h request subentries base e =
     (all_from (IsHiddenWithin top) (λ row. is_selected request subentries base row ≡ false) fails view h)
   where
     untaken : (row : Row) → takes_in request.scope base row.entry ≡ false → is_selected request subentries base row ≡ false
-    untaken row f =
-        and_left _ (row.allows Entry ReturnDn) (
-        and_left _ (is_true (truth (permits_of row) row.entry request.filter)) (
-        and_left _ (row.allows Entry Browse)
-        (and_left (takes_in request.scope base row.entry) (is_seen request.scope subentries row.entry) f)
-        )
-        )
+    untaken row f = and_left (takes_in request.scope base row.entry) (is_shown request subentries row) f
 
     fails : (row : Row) → IsHiddenWithin top row → is_selected request subentries base row ≡ false
     fails row hides = elim (cases_Bool (is_within top row.entry)) [

@@ -16,11 +16,10 @@ returns-in-Check-clause-performs g c = rw c.in-Check.is (c.check.ensures.perform
 pub returns-in-Dump-clause-performs : goal.returns-in-Dump-clause-performs
 returns-in-Dump-clause-performs g c = rw c.in-Dump.is (c.dump.ensures.performs (linked _ _ _ _))
 
--- two of them aren't done
 pub returns-in-Explain-clause-performs : goal.returns-in-Explain-clause-performs
-returns-in-Explain-clause-performs g c = rw c.in-Explain.is
-    (Performs-undone _ (outside _ _ _ _ (linked _ _ _ _)) (outside _ _ _ _ (linked _ _ _ _)) _ (λ performed. performed) c.print_usage.ensures.ends refl refl)
+returns-in-Explain-clause-performs g c = rw c.in-Explain.is (c.explain.ensures.performs (linked _ _ _ _))
 
+-- samples aren't done
 pub returns-in-Sample-clause-performs : goal.returns-in-Sample-clause-performs
 returns-in-Sample-clause-performs g c = rw c.in-Sample.is
-    (Performs-undone _ (outside _ _ _ _ (linked _ _ _ _)) (outside _ _ _ _ (linked _ _ _ _)) _ (λ performed. performed) c.print_usage-in-Sample.ensures.ends refl refl)
+    (Performs-undone _ (outside _ _ _ _ (linked _ _ _ _)) (outside _ _ _ _ (linked _ _ _ _)) _ (λ performed. performed) c.print_usage.ensures.ends refl refl)

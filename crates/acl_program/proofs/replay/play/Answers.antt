@@ -1,30 +1,17 @@
-use Rattle.std.proofs.Common.{sym, ap, ◌∙◌, subst}
+use Rattle.std.proofs.Common.{sym, ap, subst}
+use Rattle.dir_tree.specs.Numbered.{entries_of}
 use Rattle.schema_rules.specs.Rules.{IsGoodTree}
-use Rattle.acl_program.specs.Outcomes.{dump_text}
 use Rattle.acl_program.specs.Outside.{written}
-use Rattle.acl_program.proofs.RunLemmas.{Played-stopped, Played-spent, Played-nothing, no_fault}
+use Rattle.acl_program.proofs.RunLemmas.{Played-nothing, Played-over}
 use Rattle.acl_program.proofs.replay.play.Goals as goal
 
--- Stop was heard
-pub dumped-requires : goal.dumped-requires
-dumped-requires g c = record { good = subst IsGoodTree (sym (c.tree.ensures ∙ c.in-Stopped.ensures.stays)) c.requires.good }
+-- the directory is that of the tree
+pub play_over-requires : goal.play_over-requires
+play_over-requires g c = record { fresh = c.requires.fresh; good = subst (λ rows. IsGoodTree (entries_of rows)) (sym c.in-Ok.ensures.ok) c.requires.good }
 
-pub returns-in-Stopped : goal.returns-in-Stopped
-returns-in-Stopped g c =
-    record { ends = Played-stopped _ _ _ _ c.args.dump _ _ (written _ _) (written _ _) _ c.in-Stopped.ensures.plays (c.dumped.ensures.text ∙ ap (dump_text c.args.dump) c.tree.ensures) c.show.ensures.ends }
+pub returns-in-Ok : goal.returns-in-Ok
+returns-in-Ok g c = record { ends = Played-over _ _ _ _ _ (written _ _) (written _ _) _ (ap entries_of c.in-Ok.ensures.ok) c.play_over.ensures.ends }
 
--- the turns are spent
-pub dumped-requires-in-TurnsSpent : goal.dumped-requires-in-TurnsSpent
-dumped-requires-in-TurnsSpent g c = record { good = subst IsGoodTree (sym (c.tree-in-TurnsSpent.ensures ∙ c.in-TurnsSpent.ensures.stays)) c.requires.good }
-
-pub returns-in-TurnsSpent : goal.returns-in-TurnsSpent
-returns-in-TurnsSpent g c =
-    record { ends = Played-spent _ _ _ _ c.args.dump _ _ (written _ _) (written _ _) _ c.in-TurnsSpent.ensures.plays (c.dumped-in-TurnsSpent.ensures.text ∙ ap (dump_text c.args.dump) c.tree-in-TurnsSpent.ensures) c.show-in-TurnsSpent.ensures.ends }
-
--- the link never fails
-pub returns-in-LinkFault : goal.returns-in-LinkFault
-returns-in-LinkFault g c = absurd (no_fault _ _ _ _ _ c.in-LinkFault.ensures.plays)
-
--- nothing was put
-pub returns : goal.returns
-returns g c = record { ends = Played-nothing _ _ _ _ (written _ _) }
+-- there was no memory for it
+pub returns-in-Err : goal.returns-in-Err
+returns-in-Err g c = record { ends = Played-nothing _ _ _ _ (written _ _) }

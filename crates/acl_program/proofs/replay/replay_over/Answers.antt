@@ -1,6 +1,3 @@
-use Rattle.std.proofs.Common.{sym, ap, subst}
-use Rattle.acdf_core.specs.Entries.{entries_of}
-use Rattle.schema_rules.specs.Rules.{IsGoodTree}
 use Rattle.acl_program.specs.Outside.{outside}
 use Rattle.acl_program.specs.Asked.{replay_asked}
 use Rattle.acl_program.proofs.RunLemmas.{LoadsScript-fresh, Replays-played, Replays-refused}
@@ -8,11 +5,11 @@ use Rattle.acl_program.proofs.replay.replay_over.Goals as goal
 
 -- the link is fresh
 pub play-requires : goal.play-requires
-play-requires g c = record { fresh = LoadsScript-fresh _ _ _ _ _ c.in-Ok.ensures.exact; good = subst (λ rows. IsGoodTree (entries_of rows)) (sym c.new.ensures) c.requires.good }
+play-requires g c = record { fresh = LoadsScript-fresh _ _ _ _ _ c.in-Ok.ensures.exact; good = c.requires.good }
 
 -- the script was read
 pub returns-in-Ok-clause-replays : goal.returns-in-Ok-clause-replays
-returns-in-Ok-clause-replays g c = λ link. Replays-played (replay_asked _ _ _ _) (outside _ _ _ _ link) (outside _ _ _ _ link) _ _ _ (ap entries_of c.new.ensures) c.in-Ok.ensures.exact c.play.ensures.ends
+returns-in-Ok-clause-replays g c = λ link. Replays-played (replay_asked _ _ _ _) (outside _ _ _ _ link) (outside _ _ _ _ link) _ _ c.in-Ok.ensures.exact c.play.ensures.ends
 
 -- it wasn't
 pub returns-in-Err-clause-replays : goal.returns-in-Err-clause-replays

@@ -1,30 +1,17 @@
-use Rattle.std.proofs.Common.{refl}
+use Rattle.std.proofs.Common.{ap}
+use Rattle.dir_tree.specs.Numbered.{entries_of}
 use Rattle.acl_program.specs.Outside.{beside, linked, written}
 use Rattle.acl_program.specs.Serving.{serve_asked}
-use Rattle.acl_program.proofs.ServeLemmas.{Listens-opened, Listens-failed, Listens-no_memory}
+use Rattle.acl_program.proofs.ServeLemmas.{Listens-over, Listens-nothing}
 use Rattle.acl_program.proofs.serve.listen.Goals as goal
 
--- the link opened
-pub returns-in-Ok-clause-listens : goal.returns-in-Ok-clause-listens
-returns-in-Ok-clause-listens g c = λ shelf. Listens-opened (serve_asked _ _ _ _) (beside shelf (written _ _) (linked _ _ _ _)) (beside shelf (written _ _) (linked _ _ _ _)) _ (linked _ _ _ _)
-    (record { tells = c.in-Ok.ensures.tells; cause = c.in-Ok.ensures.cause; plan = c.in-Ok.ensures.plan; lost = c.in-Ok.ensures.lost }) (c.serve_opened.ensures.opened shelf)
+-- the directory is that of the tree
+pub returns-in-Ok : goal.returns-in-Ok
+returns-in-Ok g c = record {
+  listens = λ shelf. Listens-over _ _ _ _ _ (beside shelf (written _ _) (linked _ _ _ _)) (beside shelf (written _ _) (linked _ _ _ _)) _
+      (ap entries_of c.in-Ok.ensures.ok) (c.listen_on.ensures.listens shelf);
+}
 
--- it failed to
-pub returns-in-Err-Failed-clause-listens : goal.returns-in-Err-Failed-clause-listens
-returns-in-Err-Failed-clause-listens g c = λ shelf. Listens-failed (serve_asked _ _ _ _) (beside shelf (written _ _) (linked _ _ _ _)) (beside shelf (written _ _) (linked _ _ _ _)) _
-    (record {
-      tells = rw c.in-Err-Failed.field-0-is at c.in-Err-Failed.ensures.tells;
-      cause = rw c.in-Err-Failed.field-0-is at c.in-Err-Failed.ensures.cause;
-      plan = c.in-Err-Failed.ensures.plan;
-      lost = c.in-Err-Failed.ensures.lost;
-    }) (c.print_link_fault.ensures.ends (serve_asked _ _ _ _))
-
--- there was no memory
-pub returns-in-Err-NoMemory-clause-listens : goal.returns-in-Err-NoMemory-clause-listens
-returns-in-Err-NoMemory-clause-listens g c = λ shelf. Listens-no_memory (serve_asked _ _ _ _) (beside shelf (written _ _) (linked _ _ _ _)) (beside shelf (written _ _) (linked _ _ _ _))
-    (record {
-      tells = rw c.in-Err-NoMemory.field-0-is at c.in-Err-NoMemory.ensures.tells;
-      cause = rw c.in-Err-NoMemory.field-0-is at c.in-Err-NoMemory.ensures.cause;
-      plan = c.in-Err-NoMemory.ensures.plan;
-      lost = c.in-Err-NoMemory.ensures.lost;
-    }) refl
+-- there was no memory for it
+pub returns-in-Err : goal.returns-in-Err
+returns-in-Err g c = record { listens = λ shelf. Listens-nothing (serve_asked _ _ _ _) (beside shelf (written _ _) (linked _ _ _ _)) }

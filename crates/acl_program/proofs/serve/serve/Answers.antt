@@ -1,6 +1,5 @@
-use Rattle.std.proofs.Common.{refl, ap}
+use Rattle.std.proofs.Common.{refl}
 use Rattle.command_words.specs.Command.{Serve}
-use Rattle.acdf_core.specs.Entries.{entries_of}
 use Rattle.acl_program.specs.Outside.{outside, linked, shelved}
 use Rattle.acl_program.specs.Serving.{serve_asked}
 use Rattle.acl_program.proofs.PerformLemmas.{Performs-refused}
@@ -9,7 +8,7 @@ use Rattle.acl_program.proofs.serve.serve.Goals as goal
 
 -- the data file was loaded
 pub returns-in-Ok-clause-performs : goal.returns-in-Ok-clause-performs
-returns-in-Ok-clause-performs g c = Performs-served _ (serve_asked _ _ _ _) (shelved _ _) (outside _ _ _ _ (linked _ _ _ _)) (outside _ _ _ _ (linked _ _ _ _)) _ _ (ap entries_of c.new.ensures)
+returns-in-Ok-clause-performs g c = Performs-served _ (serve_asked _ _ _ _) (outside _ _ _ _ (linked _ _ _ _)) (outside _ _ _ _ (linked _ _ _ _)) _ _ refl
     c.in-Ok.ensures.exact (c.listen.ensures.listens (shelved _ _))
 
 -- it wasn't

@@ -1,22 +1,23 @@
 use Rattle.std.proofs.Common.{ap, ◌∙◌}
-use Rattle.acl_program.specs.Outside.{beside, linked, written}
+use Rattle.acl_program.specs.Outcomes.{settled}
+use Rattle.acl_program.proofs.ServeLemmas.{PutsAll-as}
 use Rattle.acl_program.proofs.serve.serve_events.Goals as goal
 
 -- the loop ended, and its line was to be put
 pub returns : goal.returns
-returns c = record {
+returns g c = record {
   serves = λ shelf address sessions. record {
-    how = c.serve_loop.result;
+    how = c.serve_loop-ended.result;
     answer = c.write_all-put.result;
     serves = record {
       left = _;
-      served = c.serve_loop.ensures.served;
-      plays = c.serve_loop.ensures.plays;
-      cause = c.serve_loop.ensures.cause;
-      lost = c.serve_loop.ensures.lost;
+      served = c.serve_loop-ended.ensures.served;
+      plays = c.serve_loop-ended.ensures.plays;
+      cause = c.serve_loop-ended.ensures.cause;
+      lost = c.serve_loop-ended.ensures.lost;
     };
-    ends = c.after.ensures.exact;
-    tells = c.write_all-put.ensures.tells;
+    ends = c.after.ensures.exact ∙ ap (λ wanted. settled c.write_all-put.result wanted) c.loop_status.ensures;
+    tells = PutsAll-as _ _ _ _ _ (c.as_bytes.ensures.value ∙ c.ended_text.ensures) c.write_all-put.ensures.tells;
     cause = c.write_all-put.ensures.cause;
   };
 }

@@ -1,0 +1,16 @@
+use Rattle.std.proofs.Common.{refl}
+use Rattle.command_words.specs.Command.{Explain}
+use Rattle.acl_program.specs.Outside.{outside}
+use Rattle.acl_program.proofs.ExplainLemmas.{Performs-explained}
+use Rattle.acl_program.proofs.PerformLemmas.{Performs-refused}
+use Rattle.acl_program.proofs.explain.explain_over.Goals as goal
+
+-- the data file was loaded
+pub returns-in-Ok-clause-performs : goal.returns-in-Ok-clause-performs
+returns-in-Ok-clause-performs g c = λ link who target item permission asks.
+    Performs-explained _ who target item permission _ (outside _ _ _ _ link) (outside _ _ _ _ link) _ _ asks c.in-Ok.ensures.exact c.explain_tree.ensures.ends refl
+
+-- it wasn't
+pub returns-in-Err-clause-performs : goal.returns-in-Err-clause-performs
+returns-in-Err-clause-performs g c = λ link who target item permission asks.
+    Performs-refused (Explain c.args.name.now who target item permission) c.args.name.now (outside _ _ _ _ link) (outside _ _ _ _ link) _ _ refl c.in-Err.ensures.exact c.print_trouble.ensures.ends refl

@@ -1,0 +1,31 @@
+use Rattle.std.proofs.Common.{sym, ap, ◌∙◌, subst}
+use Rattle.dir_tree.specs.Numbered.{entries_of}
+use Rattle.schema_rules.specs.Rules.{IsGoodTree}
+use Rattle.acl_program.specs.Outcomes.{dump_text}
+use Rattle.acl_program.specs.Outside.{written}
+use Rattle.acl_program.proofs.RunLemmas.{Played-stopped, Played-spent, Played-nothing, no_fault}
+use Rattle.acl_program.proofs.replay.play_over.Goals as goal
+
+-- Stop was heard
+pub dumped-requires : goal.dumped-requires
+dumped-requires g c = record { good = subst IsGoodTree (sym (ap entries_of c.tree.ensures.exact ∙ c.in-Stopped.ensures.stays)) c.requires.good }
+
+pub returns-in-Stopped : goal.returns-in-Stopped
+returns-in-Stopped g c =
+    record { ends = Played-stopped _ _ _ _ c.args.dump _ _ (written _ _) (written _ _) _ c.in-Stopped.ensures.plays (c.dumped.ensures.text ∙ ap (λ rows. dump_text c.args.dump (entries_of rows)) c.tree.ensures.exact) c.show.ensures.ends }
+
+-- the turns are spent
+pub dumped-requires-in-TurnsSpent : goal.dumped-requires-in-TurnsSpent
+dumped-requires-in-TurnsSpent g c = record { good = subst IsGoodTree (sym (ap entries_of c.tree-in-TurnsSpent.ensures.exact ∙ c.in-TurnsSpent.ensures.stays)) c.requires.good }
+
+pub returns-in-TurnsSpent : goal.returns-in-TurnsSpent
+returns-in-TurnsSpent g c =
+    record { ends = Played-spent _ _ _ _ c.args.dump _ _ (written _ _) (written _ _) _ c.in-TurnsSpent.ensures.plays (c.dumped-in-TurnsSpent.ensures.text ∙ ap (λ rows. dump_text c.args.dump (entries_of rows)) c.tree-in-TurnsSpent.ensures.exact) c.show-in-TurnsSpent.ensures.ends }
+
+-- the link never fails
+pub returns-in-LinkFault : goal.returns-in-LinkFault
+returns-in-LinkFault g c = absurd (no_fault _ _ _ _ _ c.in-LinkFault.ensures.plays)
+
+-- nothing was put
+pub returns : goal.returns
+returns g c = record { ends = Played-nothing _ _ _ _ (written _ _) }
