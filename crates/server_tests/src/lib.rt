@@ -19,4 +19,6 @@ mod replays;
 #[cfg(test)]
 mod runs;
 #[cfg(test)]
+mod serves;
+#[cfg(test)]
 mod sets;

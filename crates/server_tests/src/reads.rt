@@ -182,9 +182,7 @@ static READS: [Replay<'static>; 34] = [
 ];
 
 #[test]
-fn each_request_is_answered_as_the_access_control_items_say(
-    rt: HostRuntime,
-) -> Result<(), Fail> {
+fn each_request_is_answered_as_the_access_control_items_say(rt: HostRuntime) -> Result<(), Fail> {
     for replay in &READS {
         assert_replay_over(&rt, rt.alloc(), ORGANISATION, replay)?;
     }
@@ -210,7 +208,9 @@ fn a_hidden_part_changes_no_octet(rt: HostRuntime) -> Result<(), Fail> {
 /// The same item for all, and one that denies a person by name, at a level above that of who asks.
 fn with_denial(alloc: Global) -> Result<String, AllocError> {
     let mut data = String::from_str(alloc, POINT)?;
-    data.push_str("prescriptiveACI: { identificationTag \"d\", precedence 0, authenticationLevel simple, itemOrUserFirst userFirst: { userClasses { name { \"cn=x,dc=t\" } }, userPermissions { { protectedItems { entry }, grantsAndDenials { denyBrowse } } } } }\n")?;
+    data.push_str(
+        "prescriptiveACI: { identificationTag \"d\", precedence 0, authenticationLevel simple, itemOrUserFirst userFirst: { userClasses { name { \"cn=x,dc=t\" } }, userPermissions { { protectedItems { entry }, grantsAndDenials { denyBrowse } } } } }\n",
+    )?;
     Ok(data)
 }
 

@@ -103,6 +103,16 @@ pub fn run_line(alloc: Global, line: &str, script: &[u8]) -> Result<Ran, AllocEr
     run_failing(alloc, line, script, &[], &[])
 }
 
+/// Runs the program on the words of the line over two entries, with this link.
+pub fn run_serving(alloc: Global, line: &str, link: &mut ScriptLink) -> Result<Ran, AllocError> {
+    let words = words_of(alloc, line)?;
+    let mut shelf = shelf_of(alloc, TWO_ENTRIES.as_bytes(), b"", &[])?;
+    let mut out = MemSink::new(alloc, Vec::new(alloc));
+    let status = run(alloc, words.as_slice(), &mut shelf, &mut out, link);
+    let put = String::from_utf8_lossy(alloc, out.bytes())?;
+    Ok(Ran { status, put })
+}
+
 /// Runs the program over a data file and a script.
 fn run_both(alloc: Global, line: &str, data: &str, script: &str) -> Result<Ran, AllocError> {
     let failing = Failing {
