@@ -153,7 +153,7 @@ def long_message(name, content):
     message = bind(1, b"cn=" + b"a" * (content - around - 3))
     assert len(message) == content + 5, "the lengths have three octets each"
     script = session(octet_sends(message))
-    return Case(name, script, 1, len(message), 0, answer_line(1, bind_reply(1, 53)))
+    return Case(name, script, 1, len(message), 0, answer_line(1, bind_reply(1, 34)))
 
 
 def filled(script):
