@@ -1,11 +1,11 @@
 //! What binds come to over a small tree.
 use aci_item::Level;
 use dir_tree::{Entry, Tree};
-use dn_names::{make_value, parse, print};
+use dn_names::{Value, make_value, parse, print};
 use ldap_msg::{Auth, BindRequest};
 use op_bind::{Bound, bind};
 use plain_values::Octets;
-use schema_core::AttrId;
+use schema_core::{AttrId, attr_named};
 use std::alloc::Global;
 use std::process::Abort;
 use std::test::Fail;
@@ -21,16 +21,21 @@ static ENTRIES: [(&str, &[&str]); 4] = [
     ("uid=cy,dc=Example", &[]),
 ];
 
+fn value(alloc: Global, text: &str) -> Result<Value, Fail> {
+    let Some(kind) = attr_named(b"userPassword") else {
+        return Err(Fail::from("no type"));
+    };
+    let octets = text.as_bytes().to_vec(alloc)?;
+    let value = make_value(alloc, kind, octets)?;
+    Ok(value)
+}
+
 fn tree(alloc: Global) -> Result<Tree, Fail> {
     let mut tree = Tree::new(alloc);
     for (name, passwords) in ENTRIES {
         let mut entry = Entry::new(alloc, parse(alloc, name.as_bytes())?)?;
         for password in passwords {
-            let octets = password.as_bytes().to_vec(alloc)?;
-            let _added = entry.push(
-                AttrId::USER_PASSWORD,
-                make_value(alloc, AttrId::USER_PASSWORD, octets)?,
-            )?;
+            let _added = entry.push(AttrId::USER_PASSWORD, value(alloc, password)?)?;
         }
         insert(&mut tree, entry)?;
     }
