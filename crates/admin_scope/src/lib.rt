@@ -7,6 +7,7 @@ mod point_list;
 mod refinements;
 mod roles;
 mod subentries;
+mod subtrees;
 mod upwards;
 
 pub use laws::{
@@ -14,5 +15,6 @@ pub use laws::{
 };
 pub use membership::holds;
 pub use point_list::areas;
-pub use subentries::{applies, in_force, in_force_for, subtree};
+pub use subentries::{applies, in_force, in_force_by, in_force_for};
+pub use subtrees::{AccessSubentry, access_subtrees, holds_under, subtree};
 pub use upwards::{PointWalk, points};

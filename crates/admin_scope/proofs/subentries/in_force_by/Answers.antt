@@ -6,8 +6,8 @@ use Rattle.dir_tree.specs.declared.number.EntryNo.{EntryNo}
 use Rattle.dir_tree.specs.Numbered.{entries_at, entry_of}
 use Rattle.admin_scope.specs.Walking.{walk_of}
 use Rattle.admin_scope.proofs.ListLemmas.{ok_from}
-use Rattle.admin_scope.proofs.FindLemmas.{in_force-gathered, in_force-subentry, live-found}
-use Rattle.admin_scope.proofs.subentries.in_force_for.Goals as goal
+use Rattle.admin_scope.proofs.FindLemmas.{in_force-gathered, in_force-subentry, live-found, all_numbers_by}
+use Rattle.admin_scope.proofs.subentries.in_force_by.Goals as goal
 
 pub returns-then-is_subentry : goal.returns-then-is_subentry
 returns-then-is_subentry c =
@@ -18,7 +18,11 @@ returns-then-is_subentry c =
     }
 
 pub returns : goal.returns
-returns c = record {
-  exact = ok_from _ _ (λ found h. in_force-gathered c.args.tree.now c.entries_form_a_tree.ensures.exact c.args.entry.now (sym c.is_subentry.ensures.exact ∙ c.if-is_subentry.false) _ h) c.below_points.result c.below_points.ensures.exact;
-  live = ok_from _ _ (λ found h. live-found c.args.tree.now c.args.entry.now _ (walk_of c.args.entry.now.name c.args.tree.now) h) c.below_points.result c.below_points.ensures.exact;
-}
+returns c =
+    let rows = c.args.tree.now in
+    let entry = c.args.entry.now in
+    let same = all_numbers_by rows entry c.args.subtrees.now c.requires.subtrees (walk_of entry.name rows) in
+    record {
+      exact = ok_from _ _ (λ found h. in_force-gathered rows c.entries_form_a_tree.ensures.exact entry (sym c.is_subentry.ensures.exact ∙ c.if-is_subentry.false) _ (h ∙ same)) c.below_points.result c.below_points.ensures.exact;
+      live = ok_from _ _ (λ found h. live-found rows entry _ (walk_of entry.name rows) (h ∙ same)) c.below_points.result c.below_points.ensures.exact;
+    }
