@@ -25,7 +25,7 @@ use Rattle.acdf_lists.specs.declared.kept.Kept.{Kept}
 use Rattle.acdf_lists.specs.Lists.{lists_at, AreOf, IsKept, tuples_in, tuples_at, tuples_below, tuples_inherited, tuples_kept}
 
 -- the tuple alone
-abbrev tuple_in : Listed → AciTuple
+abbrev pub tuple_in : Listed → AciTuple
 tuple_in x = x.tuple
 
 -- the tuples of an item
@@ -42,10 +42,10 @@ tuples-listed source (item ∷ items) =
     ∙ ap (λ (xs : List AciTuple). item.tuples ++ xs) (tuples-listed source items)
 
 -- those of the values of an entry
-abbrev values_tuples : ℕ → EntryInformation → List AciTuple
+abbrev pub values_tuples : ℕ → EntryInformation → List AciTuple
 values_tuples kind entry = tuples_in (items_in kind entry)
 
-tuples-entries : (kind : ℕ) (entries : List EntryInformation) → map tuple_in (flat_map (listed_in kind) entries) ≡ flat_map (values_tuples kind) entries
+pub tuples-entries : (kind : ℕ) (entries : List EntryInformation) → map tuple_in (flat_map (listed_in kind) entries) ≡ flat_map (values_tuples kind) entries
 tuples-entries kind [] = refl
 tuples-entries kind (e ∷ entries) =
     map-append tuple_in (listed_in kind e) (flat_map (listed_in kind) entries)
@@ -53,7 +53,7 @@ tuples-entries kind (e ∷ entries) =
     ∙ ap (λ (xs : List AciTuple). values_tuples kind e ++ xs) (tuples-entries kind entries)
 
 -- the numbers stand for the subentries
-tuples_at-entries : (kept : List Kept) (rows : List Numbered) → IsKept kept rows → (ids : List ℕ) → AllByRecursion (λ id. IsSome (entry_of id rows)) ids
+pub tuples_at-entries : (kept : List Kept) (rows : List Numbered) → IsKept kept rows → (ids : List ℕ) → AllByRecursion (λ id. IsSome (entry_of id rows)) ids
     → tuples_at kept ids ≡ flat_map (values_tuples prescriptive_aci) (entries_at rows ids)
 tuples_at-entries kept rows is [] live = refl
 tuples_at-entries kept rows is (id ∷ ids) live = by (entry_of id rows) refl live.0 (tuples_at-entries kept rows is ids live.1)
@@ -75,7 +75,7 @@ found_both name (x ∷ rows) = elim (cases_Bool (is_named name x.entry)) [
 ]
 
 -- the number above a subentry stands for the entry above it
-tuples_below-entry : (kept : List Kept) (rows : List Numbered) → IsKept kept rows → IsNumberedTree rows → (name : RdnSequence)
+pub tuples_below-entry : (kept : List Kept) (rows : List Numbered) → IsKept kept rows → IsNumberedTree rows → (name : RdnSequence)
     → tuples_below kept (find_name name rows) ≡ map tuple_in (option_map_or (listed_in subentry_aci) (named_in name (entries_of rows)) [])
 tuples_below-entry kept rows is tree name = by (find_name name rows) (entry_of-found name rows tree.distinct) (found_both name rows)
   where

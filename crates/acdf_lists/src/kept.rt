@@ -5,7 +5,10 @@ ghost use Rattle.acdf_filters.specs.Weighing.{tagged_of};
 ghost use Rattle.acdf_lists.specs.Lists.{lists_at};
 
 use acdf_filters::TaggedTuples;
+use admin_scope::AccessSubentry;
 use dir_tree::EntryNo;
+use dn_names::Dn;
+use std::alloc::Global;
 
 /// What is kept of an entry: the subentries that are in force for it, and its own access control items, split into tuples.
 #[derive(Drop)]
@@ -18,6 +21,25 @@ pub struct Kept {
     pub own: Vec<TaggedTuples>,
     /// The items of its subentryACI values.
     pub below: Vec<TaggedTuples>,
+}
+
+/// What is kept beside a tree: its access control subentries with their subtrees, what is kept of each entry, by its
+/// number, and the groups that the items name.
+#[derive(Drop)]
+pub struct Holdings {
+    pub subtrees: Vec<AccessSubentry>,
+    pub lists: Vec<Kept>,
+    pub groups: Vec<Dn>,
+}
+
+/// What is kept where no entry is. Takes no memory.
+pub(crate) fn no_lists(alloc: Global) -> Kept {
+    Kept {
+        in_force: Vec::new(alloc),
+        prescriptive: Vec::new(alloc),
+        own: Vec::new(alloc),
+        below: Vec::new(alloc),
+    }
 }
 
 /// The items of the prescriptiveACI values of the number.

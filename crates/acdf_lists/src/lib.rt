@@ -6,10 +6,11 @@ mod dir;
 mod groups;
 mod kept;
 mod making;
+mod newcomers;
 mod plain_dir;
 
 pub use decision::decide;
 pub use dir::Dir;
 pub use kept::Kept;
-pub use making::make_all;
+pub use newcomers::decide_new;
 pub use plain_dir::PlainDir;

@@ -8,34 +8,33 @@ ghost use Rattle.acdf_filters.specs.Weighing.{AreMemberships};
 
 use crate::decision::decide;
 use crate::dir::Dir;
-use crate::groups::{memberships_in, named_groups};
-use crate::kept::{Kept, in_force_at};
-use crate::making::make_all;
+use crate::groups::memberships_in;
+use crate::kept::{Holdings, in_force_at};
+use crate::making::hold;
+use crate::newcomers::decide_new;
 use acdf_filters::{Item, Membership, Question, Requester};
 use aci_item::Permission;
 use dir_tree::{Entry, EntryNo, NoMemory, Tree};
-use dn_names::Dn;
 use std::alloc::Global;
 use std::marker::Model;
 
-/// A tree, what is kept of each entry, and the groups that the items kept name. Contracts see the numbered entries.
+/// A tree, and what is kept beside it. Contracts see the numbered entries.
 #[derive(Drop)]
 pub struct PlainDir {
     tree: Tree,
-    kept: Vec<Kept>,
-    groups: Vec<Dn>,
+    held: Holdings,
 }
 
 impl Model for PlainDir {
     ghost use Rattle.std.specs.Prelude.{List};
     ghost use Rattle.dir_tree.specs.Numbered.{Numbered};
-    ghost use Rattle.acdf_lists.specs.Lists.{IsKept};
+    ghost use Rattle.acdf_lists.specs.Holdings.{IsHeld};
 
     ghost Value = { List Numbered };
 
     ghost view = { λ dir. dir.tree };
 
-    ghost invariant = { λ dir. IsKept dir.kept.items dir.tree };
+    ghost invariant = { λ dir. IsHeld dir.held dir.tree };
 }
 
 impl PlainDir {
@@ -43,9 +42,8 @@ impl PlainDir {
     pub fn new(alloc: Global, tree: Tree) -> Result<PlainDir, NoMemory>
         ensures ok { IfOk result (λ dir. dir ≡ tree) }
     {
-        let kept = make_all(alloc, &tree)?;
-        let groups = named_groups(alloc, &kept)?;
-        Ok(PlainDir { tree, kept, groups })
+        let held = hold(alloc, &tree)?;
+        Ok(PlainDir { tree, held })
     }
 
     // Whether the requester has the permission for the item of an entry, which has the number.
@@ -70,7 +68,7 @@ impl PlainDir {
             tree: &self.tree,
             known,
         };
-        decide(&question, &self.kept, number)
+        decide(&question, &self.held.lists, number)
     }
 }
 
@@ -95,11 +93,30 @@ impl Dir for PlainDir {
         }
     }
 
+    fn decide_new(
+        &self,
+        who: &Requester,
+        known: &[Membership],
+        entry: &Entry,
+        item: Item<'_>,
+        permission: Permission,
+    ) -> bool {
+        let question = Question {
+            who,
+            entry,
+            item,
+            permission,
+            tree: &self.tree,
+            known,
+        };
+        decide_new(&question, &self.held.lists, &self.held.subtrees)
+    }
+
     fn memberships(&self, alloc: Global, who: &Requester) -> Result<Vec<Membership>, NoMemory> {
-        memberships_in(alloc, &self.tree, who, &self.groups)
+        memberships_in(alloc, &self.tree, who, &self.held.groups)
     }
 
     fn in_force(&self, number: EntryNo) -> &[EntryNo] {
-        in_force_at(&self.kept, number)
+        in_force_at(&self.held.lists, number)
     }
 }
