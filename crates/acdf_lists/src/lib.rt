@@ -1,6 +1,7 @@
 //! What a directory keeps of its entries for the access control decision (X.501 18.8), and the decision by it.
 #![tactic(auto)]
 
+mod changing;
 mod decision;
 mod dir;
 mod groups;

@@ -73,11 +73,7 @@ fn put_next(
 }
 
 // What is kept of each entry of the tree.
-fn make_all(
-    alloc: Global,
-    tree: &Tree,
-    subtrees: &[AccessSubentry],
-) -> Result<Vec<Kept>, NoMemory>
+fn make_all(alloc: Global, tree: &Tree, subtrees: &[AccessSubentry]) -> Result<Vec<Kept>, NoMemory>
     requires subtrees { AreSubtrees subtrees.now tree.now }
     ensures ok { IfOk result (λ kept. IsKept kept.items tree.now) }
 {

@@ -81,7 +81,9 @@ fn above(question: &Question<'_>) -> Option<EntryNo>
         ≡ find_name (superior_name question.now.entry.now.name) question.now.tree.now }
 {
     let name = question.entry.name();
-    question.tree.find_prefix(name, name.len().saturating_sub(1))
+    question
+        .tree
+        .find_prefix(name, name.len().saturating_sub(1))
 }
 
 // The state with the tuples weighed that a subentry has from the entry above its name.

@@ -6,6 +6,7 @@ ghost use Rattle.acdf_filters.specs.Asking.{protected_of};
 ghost use Rattle.acdf_filters.specs.Granted.{granted};
 ghost use Rattle.acdf_filters.specs.Weighing.{AreMemberships};
 
+use crate::changing::{forget, insert_into};
 use crate::decision::decide;
 use crate::dir::Dir;
 use crate::groups::memberships_in;
@@ -14,7 +15,7 @@ use crate::making::hold;
 use crate::newcomers::decide_new;
 use acdf_filters::{Item, Membership, Question, Requester};
 use aci_item::Permission;
-use dir_tree::{Entry, EntryNo, NoMemory, Tree};
+use dir_tree::{Entry, EntryNo, InsertRefusal, NoMemory, RemoveRefusal, Tree};
 use std::alloc::Global;
 use std::marker::Model;
 
@@ -118,5 +119,18 @@ impl Dir for PlainDir {
 
     fn in_force(&self, number: EntryNo) -> &[EntryNo] {
         in_force_at(&self.held.lists, number)
+    }
+
+    fn insert(&mut self, alloc: Global, entry: Entry) -> Result<EntryNo, InsertRefusal> {
+        let inserted = insert_into(alloc, &mut self.tree, entry)?;
+        self.held = inserted.held;
+        Ok(inserted.number)
+    }
+
+    fn remove(&mut self, alloc: Global, no: EntryNo) -> Result<Entry, RemoveRefusal> {
+        self.tree.entries_form_a_tree();
+        let entry = self.tree.remove(no)?;
+        forget(alloc, &mut self.held, no);
+        Ok(entry)
     }
 }

@@ -4,6 +4,7 @@ pub mod PrefixLemmas
 pub mod FrontLemmas
 pub mod LineLemmas
 pub mod WithoutLemmas
+pub mod TakenLemmas
 pub mod WalkLemmas
 pub mod FindLemmas
 pub mod Theorems

@@ -7,6 +7,7 @@ ghost use Rattle.dir_tree.specs.Entries.{EntryInformation};
 ghost use Rattle.dir_tree.specs.Points.{is_subentry, is_access_subentry};
 ghost use Rattle.dir_tree.specs.Numbered.{Numbered, entries_of, entry_of, entries_at, IsNumberedTree};
 ghost use Rattle.dir_tree.specs.Scopes.{is_within};
+ghost use Rattle.dir_tree.specs.Trees.{taken_out};
 ghost use Rattle.admin_scope.specs.Areas.{areas, without_subtree, has_within};
 ghost use Rattle.admin_scope.specs.InForce.{in_force};
 ghost use Rattle.admin_scope.specs.Finding.{numbers_at};
@@ -19,6 +20,16 @@ pub fn a_subtree_without_subentries_changes_no_area()
     ensures in_force { (top : RdnSequence) (entries : List EntryInformation) (entry : EntryInformation)
         → is_within top entry ≡ false → has_within is_access_subentry top entries ≡ false
         → in_force (without_subtree top entries) entry ≡ in_force entries entry }
+{}
+
+/// Taking out an entry changes no area of an entry that is neither at nor below its name; and from the subentries in
+/// force for that entry it takes those of the name alone.
+pub fn an_entry_taken_out_changes_no_area_beside_it()
+    ensures areas { (top : RdnSequence) (entries : List EntryInformation) (entry : EntryInformation)
+        → is_within top entry ≡ false → areas (taken_out top entries) entry ≡ areas entries entry }
+    ensures in_force { (top : RdnSequence) (entries : List EntryInformation) (entry : EntryInformation)
+        → is_within top entry ≡ false
+        → in_force (taken_out top entries) entry ≡ taken_out top (in_force entries entry) }
 {}
 
 /// The subentries in force for an entry that is no subentry are found by numbers: below each of its points those whose

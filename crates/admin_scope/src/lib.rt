@@ -11,7 +11,8 @@ mod subtrees;
 mod upwards;
 
 pub use laws::{
-    a_subtree_without_subentries_changes_no_area, subentries_are_found_below_the_points,
+    a_subtree_without_subentries_changes_no_area, an_entry_taken_out_changes_no_area_beside_it,
+    subentries_are_found_below_the_points,
 };
 pub use membership::holds;
 pub use point_list::areas;

@@ -1,6 +1,6 @@
 //! The access control subentries of a tree, each with its subtree.
 
-ghost use Rattle.std.specs.Prelude.{◌≡◌, ◌==◌, ◌+◌, ◌×◌, length, IfOk, option_map};
+ghost use Rattle.std.specs.Prelude.{◌≡◌, ◌==◌, ◌+◌, length, IfOk, option_map};
 ghost use Rattle.std.specs.Result.{result_ok};
 ghost use Rattle.dir_tree.specs.Scopes.{is_child};
 ghost use Rattle.subtree_spec.specs.Subtrees.{subtree_of};

@@ -1,0 +1,272 @@
+-- What is kept without a number is kept of the entries without its entry.
+use Rattle.std.proofs.Common.{◌≡◌, ◌≢◌, ◌⊎◌, inl, inr, ◌<◌, ◌≤◌, ◌==◌, ℕ, Bool, true, false, not, ◌&&◌, List, [], ◌∷◌, length, map, take, filter, find, Option, Some, None, refl, sym, ap, subst, ◌∙◌, arith, zero, suc, ◌+◌, set, get_or}
+use Rattle.std.specs.Prelude.{nat_lt, IsSome}
+use Rattle.std.specs.List.{AllByRecursion, list_any}
+use Rattle.std.specs.Option.{option_map, option_and_then}
+use Rattle.std.proofs.lemmas.Bool.{cases_Bool, cases_eq, eqb-true, eqb-false, eq-eqb, ne_eqb, cond-true, cond-false, false_from_ne_true, or_parts, ltb-false, not-false}
+use Rattle.std.proofs.lemmas.List.{map-set, get_or-set_other, get_or-set_same, take_all}
+use Rattle.dn_names.specs.Names.{RdnSequence}
+use Rattle.dn_names.specs.NameOrder.{is_same, is_prefix_of}
+use Rattle.dn_names.proofs.Theorems.{is_same-types_and_keys}
+use Rattle.dir_tree.specs.Entries.{EntryInformation}
+use Rattle.dir_tree.specs.Points.{is_access_subentry}
+use Rattle.dir_tree.specs.Trees.{is_named, is_below, has_below, taken_out}
+use Rattle.dir_tree.specs.Scopes.{is_within}
+use Rattle.dir_tree.specs.Numbered.{Numbered, IsNumberedTree, ids_of, entries_of, entry_of, entries_at, subentry_rows, without}
+use Rattle.dir_tree.proofs.TreeTheorems.{entries_of-without}
+use Rattle.dir_tree.specs.declared.number.EntryNo.{EntryNo}
+use Rattle.subtree_spec.specs.Subtrees.{subtree_of}
+use Rattle.admin_scope.specs.InForce.{subtree_of_entry, in_force}
+use Rattle.admin_scope.specs.declared.subtrees.AccessSubentry.{AccessSubentry}
+use Rattle.admin_scope.specs.Finding.{AreSubtrees, subtree_at}
+use Rattle.admin_scope.proofs.Theorems.{in_force-taken, length-front, named-front}
+use Rattle.acdf_lists.specs.declared.kept.Kept.{Kept}
+use Rattle.acdf_lists.specs.declared.kept.Holdings.{Holdings}
+use Rattle.acdf_lists.specs.Lists.{Lists, lists_of, no_lists, lists_at, AreOf, IsKept}
+use Rattle.acdf_lists.specs.Holdings.{IsHeld, without_number, without_subentry, IsForgotten}
+
+-- a filter of numbers, seen through what holds them
+pub numbers-filter : (number : ℕ) (numbers : List EntryNo) → map (λ no. no.0) (filter (λ other. not (other.0 == number)) numbers) ≡ filter (λ id. not (id == number)) (map (λ no. no.0) numbers)
+numbers-filter number [] = refl
+numbers-filter number (n ∷ numbers) = elim (cases_Bool (n.0 == number)) [
+  | inl e ↦ rw e (numbers-filter number numbers)
+  | inr e ↦ rw e (ap (λ (ids : List ℕ). n.0 ∷ ids) (numbers-filter number numbers))
+]
+
+subentries-filter : (number : ℕ) (list : List AccessSubentry) → map (λ one. one.number.0) (without_subentry number list) ≡ filter (λ id. not (id == number)) (map (λ one. one.number.0) list)
+subentries-filter number [] = refl
+subentries-filter number (one ∷ list) = elim (cases_Bool (one.number.0 == number)) [
+  | inl e ↦ rw e (subentries-filter number list)
+  | inr e ↦ rw e (ap (λ (ids : List ℕ). one.number.0 ∷ ids) (subentries-filter number list))
+]
+
+subentry_rows-without : (number : ℕ) (rows : List Numbered) → ids_of (subentry_rows (without number rows)) ≡ filter (λ id. not (id == number)) (ids_of (subentry_rows rows))
+subentry_rows-without number [] = refl
+subentry_rows-without number (x ∷ rows) = elim (cases_Bool (x.id == number)) [
+  | inl e ↦ elim (cases_Bool (is_access_subentry x.entry)) [
+    | inl f ↦ rw (e, f, e) (subentry_rows-without number rows)
+    | inr f ↦ rw (e, f) (subentry_rows-without number rows)
+  ]
+  | inr e ↦ elim (cases_Bool (is_access_subentry x.entry)) [
+    | inl f ↦ rw (e, f, e) (ap (λ (ids : List ℕ). x.id ∷ ids) (subentry_rows-without number rows))
+    | inr f ↦ rw (e, f) (subentry_rows-without number rows)
+  ]
+]
+
+-- the rows of other numbers give the same entries
+further : (id : ℕ) (x : Numbered) (rows : List Numbered) → x.id ≢ id → entry_of id (x ∷ rows) ≡ entry_of id rows
+further id x rows h = ap (option_map (λ (row : Numbered). row.entry)) (cond-false (x.id == id) (Some x) (find (λ row. row.id == id) rows) (ne_eqb x.id id h))
+
+entry_of-other : (id number : ℕ) (rows : List Numbered) → id ≢ number → entry_of id (without number rows) ≡ entry_of id rows
+entry_of-other id number [] h = refl
+entry_of-other id number (x ∷ rows) h = elim (cases_Bool (x.id == number)) [
+  | inl e ↦ (
+      let is = eqb-true x.id number e in
+      let other : x.id ≢ id = λ f. h (sym f ∙ is) in
+      rw e (entry_of-other id number rows h ∙ sym (further id x rows other))
+      )
+  | inr e ↦ elim (cases_Bool (x.id == id)) [
+    | inl f ↦ rw (e, f) refl
+    | inr f ↦ rw (e, f) (entry_of-other id number rows h)
+  ]
+]
+
+entry_of-gone : (number : ℕ) (rows : List Numbered) → entry_of number (without number rows) ≡ None
+entry_of-gone number [] = refl
+entry_of-gone number (x ∷ rows) = elim (cases_Bool (x.id == number)) [
+  | inl e ↦ rw e (entry_of-gone number rows)
+  | inr e ↦ rw (e, e) (entry_of-gone number rows)
+]
+
+-- a number that is left is another
+other_number : (id number : ℕ) (entry : EntryInformation) (rows : List Numbered) → entry_of id (without number rows) ≡ Some entry → id ≢ number
+other_number id number entry rows known is =
+    let gone : entry_of id (without number rows) ≡ None = ap (λ n. entry_of n (without number rows)) is ∙ entry_of-gone number rows in
+    let clash : Some entry ≡ None = sym known ∙ gone in
+    absurd cc
+
+-- what all entries have the entry of a number has
+at_number : (P : EntryInformation → Type 0) (id : ℕ) (entry : EntryInformation) (rows : List Numbered) → AllByRecursion P (entries_of rows) → entry_of id rows ≡ Some entry → P entry
+at_number P id entry [] h known = absurd cc
+at_number P id entry (x ∷ rows) h known = by (cases_Bool (x.id == id)) (at_number P id entry rows h.1)
+  where
+    by : (((x.id == id) ≡ true) ⊎ ((x.id == id) ≡ false)) → (entry_of id rows ≡ Some entry → P entry) → P entry
+    by (inl e) later =
+        let is : Some x.entry ≡ Some entry = sym (ap (option_map (λ (row : Numbered). row.entry)) (cond-true (x.id == id) (Some x) (find (λ row. row.id == id) rows) e)) ∙ known in
+        let same : x.entry ≡ entry = cc in
+        subst P same h.0
+    by (inr e) later = later (sym (ap (option_map (λ (row : Numbered). row.entry)) (cond-false (x.id == id) (Some x) (find (λ row. row.id == id) rows) e)) ∙ known)
+
+-- what is left has other names
+left_out : (name : RdnSequence) (entries : List EntryInformation) → AllByRecursion (λ entry. is_named name entry ≡ false) (taken_out name entries)
+left_out name [] = tt
+left_out name (x ∷ entries) = elim (cases_Bool (is_named name x)) [
+  | inl e ↦ rw e (left_out name entries)
+  | inr e ↦ rw e (e, left_out name entries)
+]
+
+no_longer_below : (name : RdnSequence) (entries : List EntryInformation) → has_below name entries ≡ false → AllByRecursion (λ entry. is_below name entry.name ≡ false) entries
+no_longer_below name [] h = tt
+no_longer_below name (x ∷ entries) h =
+    let parts = or_parts (is_below name x.name) (has_below name entries) h in
+    (parts.0, no_longer_below name entries parts.1)
+
+same_itself : (x : RdnSequence) → is_same x x ≡ true
+same_itself x = (is_same-types_and_keys x x).1 refl
+
+-- a name of which another is a front, and that is not below it, is the same
+second : (a b : Bool) → a ≡ true → (a && b) ≡ false → b ≡ false
+second true b e f = f
+second false b e f = absurd cc
+
+same_at_front : (x y : RdnSequence) → is_prefix_of x y ≡ true → is_below x y ≡ false → is_same x y ≡ true
+same_at_front x y front apart =
+    let short : length y ≤ length x = ltb-false (length x) (length y) (second (is_prefix_of x y) (nat_lt (length x) (length y)) front apart) in
+    let long = length-front x y front in
+    let alike : length x ≡ length y = omega arith in
+    let named = named-front (length y) y x front alike in
+    let back : is_same y x ≡ true = sym (ap (λ n. is_same n x) (take_all (length y) y (omega arith))) ∙ named in
+    (is_same-types_and_keys x y).1 (sym ((is_same-types_and_keys y x).0 back))
+
+module _ (number : ℕ) (old : EntryInformation) (rows : List Numbered) (tree : IsNumberedTree rows) (known : entry_of number rows ≡ Some old) where
+  left_entries : entries_of (without number rows) ≡ taken_out old.name (entries_of rows)
+  left_entries = entries_of-without number old rows tree known
+
+  -- an entry that is left has another name
+  other_name : (id : ℕ) (entry : EntryInformation) → entry_of id (without number rows) ≡ Some entry → is_same old.name entry.name ≡ false
+  other_name id entry there =
+      at_number (λ left. is_named old.name left ≡ false) id entry (without number rows)
+      (subst (λ (entries : List EntryInformation). AllByRecursion (λ left. is_named old.name left ≡ false) entries) (sym left_entries) (left_out old.name (entries_of rows))) there
+
+  -- and where none stood below, it is neither at nor below the name
+  outside : has_below old.name (entries_of rows) ≡ false → (id : ℕ) (entry : EntryInformation) → entry_of id (without number rows) ≡ Some entry → is_within old.name entry ≡ false
+  outside alone id entry there =
+      let was : entry_of id rows ≡ Some entry = sym (entry_of-other id number rows (other_number id number entry rows there)) ∙ there in
+      let apart = at_number (λ left. is_below old.name left.name ≡ false) id entry rows (no_longer_below old.name (entries_of rows) alone) was in
+      let differs = other_name id entry there in
+      false_from_ne_true (is_within old.name entry) (λ front. let clash : true ≡ false = sym (same_at_front old.name entry.name front apart) ∙ differs in absurd cc)
+
+  -- the entries of the numbers that are left
+  entries_at-left : (ids : List ℕ) → entries_at (without number rows) (filter (λ id. not (id == number)) ids) ≡ taken_out old.name (entries_at rows ids)
+  entries_at-left [] = refl
+  entries_at-left (id ∷ ids) = by (cases_Bool (id == number)) (entries_at-left ids)
+    where
+      Later : Type 0
+      Later = entries_at (without number rows) (filter (λ id. not (id == number)) ids) ≡ taken_out old.name (entries_at rows ids)
+
+      Goal : Type 0
+      Goal = entries_at (without number rows) (filter (λ id. not (id == number)) (id ∷ ids)) ≡ taken_out old.name (entries_at rows (id ∷ ids))
+
+      at : (o : Option EntryInformation) → (id == number) ≡ false → entry_of id rows ≡ o → entry_of id (without number rows) ≡ o → Later → Goal
+      at None e was there later = rw (e, there, was) later
+      at (Some entry) e was there later =
+          let differs = other_name id entry there in
+          rw (e, there, was, differs) (ap (λ (xs : List EntryInformation). entry ∷ xs) later)
+
+      by : (((id == number) ≡ true) ⊎ ((id == number) ≡ false)) → Later → Goal
+      by (inl e) later =
+          let was : entry_of id rows ≡ Some old = ap (λ n. entry_of n rows) (eqb-true id number e) ∙ known in
+          let itself = same_itself old.name in
+          rw (e, was, itself) later
+      by (inr e) later = at (entry_of id rows) e refl (entry_of-other id number rows (eqb-false id number e)) later
+
+  live-left : (ids : List ℕ) → AllByRecursion (λ id. IsSome (entry_of id rows)) ids → AllByRecursion (λ id. IsSome (entry_of id (without number rows))) (filter (λ id. not (id == number)) ids)
+  live-left [] h = tt
+  live-left (id ∷ ids) h = by (cases_Bool (id == number)) (live-left ids h.1)
+    where
+      Later : Type 0
+      Later = AllByRecursion (λ id. IsSome (entry_of id (without number rows))) (filter (λ id. not (id == number)) ids)
+
+      by : (((id == number) ≡ true) ⊎ ((id == number) ≡ false)) → Later → AllByRecursion (λ id. IsSome (entry_of id (without number rows))) (filter (λ id. not (id == number)) (id ∷ ids))
+      by (inl e) later = rw e later
+      by (inr e) later = rw e (subst (λ (o : Option EntryInformation). IsSome o) (sym (entry_of-other id number rows (eqb-false id number e))) h.0, later)
+
+  -- the lists of an entry that is left
+  lists-left : has_below old.name (entries_of rows) ≡ false → (id : ℕ) (entry : EntryInformation) (lists : Lists) → entry_of id (without number rows) ≡ Some entry → AreOf rows entry lists → AreOf (without number rows) entry (without_number number lists)
+  lists-left alone id entry lists there are = record {
+    in_force =
+        entries_at-left lists.in_force
+        ∙ ap (taken_out old.name) are.in_force
+        ∙ sym (in_force-taken old.name (entries_of rows) entry (outside alone id entry there))
+        ∙ ap (λ entries. in_force entries entry) (sym left_entries);
+    live = live-left lists.in_force are.live;
+    prescriptive = are.prescriptive;
+    own = are.own;
+    below = are.below;
+  }
+
+  -- the subtrees that are left
+  subtrees-left : (list : List AccessSubentry) → AllByRecursion (λ one. option_map subtree_of one.subtree ≡ subtree_at one.number.0 rows) list → AllByRecursion (λ one. option_map subtree_of one.subtree ≡ subtree_at one.number.0 (without number rows)) (without_subentry number list)
+  subtrees-left [] h = tt
+  subtrees-left (one ∷ list) h = by (cases_Bool (one.number.0 == number)) (subtrees-left list h.1)
+    where
+      Later : Type 0
+      Later = AllByRecursion (λ one. option_map subtree_of one.subtree ≡ subtree_at one.number.0 (without number rows)) (without_subentry number list)
+
+      by : (((one.number.0 == number) ≡ true) ⊎ ((one.number.0 == number) ≡ false)) → Later → AllByRecursion (λ one. option_map subtree_of one.subtree ≡ subtree_at one.number.0 (without number rows)) (without_subentry number (one ∷ list))
+      by (inl e) later = rw e later
+      by (inr e) later = rw e (h.0 ∙ ap (option_and_then subtree_of_entry) (sym (entry_of-other one.number.0 number rows (eqb-false one.number.0 number e))), later)
+
+  -- all that is kept
+  pub held-without : has_below old.name (entries_of rows) ≡ false → (one other : Holdings) → IsHeld one rows → IsForgotten number one other → IsHeld other (without number rows)
+  held-without alone one other held forgotten = record {
+    subtrees =
+        subst (λ (list : List AccessSubentry). AreSubtrees list (without number rows)) (sym forgotten.subtrees) (record {
+          numbers =
+              subentries-filter number one.subtrees.items
+              ∙ ap (filter (λ id. not (id == number))) held.subtrees.numbers
+              ∙ sym (subentry_rows-without number rows);
+          subtrees = subtrees-left one.subtrees.items held.subtrees.subtrees;
+        });
+    lists = λ id entry there.
+        let differs = other_number id number entry rows there in
+        let was : entry_of id rows ≡ Some entry = sym (entry_of-other id number rows differs) ∙ there in
+        subst (AreOf (without number rows) entry) (sym (forgotten.lists id differs))
+        (lists-left alone id entry (lists_at one.lists.items id) there (held.lists id entry was));
+  }
+
+-- one element of what is kept is changed
+length-lists : (kept : List Kept) → length (map lists_of kept) ≡ length kept
+length-lists [] = refl
+length-lists (k ∷ kept) = ap suc (length-lists kept)
+
+pub lists_at-set_other : (kept : List Kept) (at : ℕ) (next : Kept) (id : ℕ) → id ≢ at → lists_at (set kept at next) id ≡ lists_at kept id
+lists_at-set_other kept at next id other =
+    ap (λ (xs : List Lists). get_or xs id no_lists) (map-set lists_of kept at next)
+    ∙ get_or-set_other (map lists_of kept) at id (lists_of next) no_lists other
+
+lists_at-set_same : (kept : List Kept) (at : ℕ) (next : Kept) → at < length kept → lists_at (set kept at next) at ≡ lists_of next
+lists_at-set_same kept at next within =
+    ap (λ (xs : List Lists). get_or xs at no_lists) (map-set lists_of kept at next)
+    ∙ get_or-set_same (map lists_of kept) at (lists_of next) no_lists (subst (λ n. at < n) (sym (length-lists kept)) within)
+
+lists_at-here : (kept : List Kept) (at : ℕ) (one : Kept) → at < length kept → one ≡ get_or kept at one → lists_at kept at ≡ lists_of one
+lists_at-here [] at one within is = absurd (omega arith)
+lists_at-here (k ∷ kept) zero one within is = ap lists_of (sym is)
+lists_at-here (k ∷ kept) (suc at) one within is = lists_at-here kept at one (omega arith) is
+
+pub drop_step : (number at : ℕ) (begun kept : List Kept) (one next : Kept) → at < length kept → one ≡ get_or kept at one
+    → lists_of next ≡ without_number number (lists_of one)
+    → ((id : ℕ) → id < at → lists_at kept id ≡ without_number number (lists_at begun id))
+    → ((id : ℕ) → at ≤ id → lists_at kept id ≡ lists_at begun id)
+    → (id : ℕ) → id < at + 1 → lists_at (set kept at next) id ≡ without_number number (lists_at begun id)
+drop_step number at begun kept one next within is made dropped others id h = by (cases_eq id at)
+  where
+    by : ((id ≡ at) ⊎ (id ≡ at → ⊥)) → lists_at (set kept at next) id ≡ without_number number (lists_at begun id)
+    by (inl e) =
+        ap (lists_at (set kept at next)) e
+        ∙ lists_at-set_same kept at next within
+        ∙ made
+        ∙ ap (without_number number) (sym (lists_at-here kept at one within is) ∙ others at (omega arith) ∙ ap (lists_at begun) (sym e))
+    by (inr e) = lists_at-set_other kept at next id e ∙ dropped id (omega arith)
+
+pub others_step : (at : ℕ) (begun kept : List Kept) (next : Kept)
+    → ((id : ℕ) → at ≤ id → lists_at kept id ≡ lists_at begun id)
+    → (id : ℕ) → at + 1 ≤ id → lists_at (set kept at next) id ≡ lists_at begun id
+others_step at begun kept next others id h = lists_at-set_other kept at next id (λ e. omega arith) ∙ others id (omega arith)
+
+-- past the end nothing is kept
+pub lists_at-past : (kept : List Kept) (id : ℕ) → length kept ≤ id → lists_at kept id ≡ no_lists
+lists_at-past [] id h = refl
+lists_at-past (k ∷ kept) zero h = absurd (omega arith)
+lists_at-past (k ∷ kept) (suc id) h = lists_at-past kept id (omega arith)
