@@ -14,6 +14,7 @@ use Rattle.dir_tree.specs.Scopes.{is_within}
 use Rattle.dir_tree.specs.Numbered.{Numbered, IsNumberedTree, entries_of, entry_of, put_row, put_entry}
 use Rattle.dir_tree.specs.Refusals.{insert_refusal, refusal_below, remove_refusal}
 use Rattle.dir_tree.specs.declared.refusals.InsertRefusal.TheVariants as inserting
+use Rattle.dir_tree.specs.declared.refusals.RemoveRefusal.TheVariants as removing
 use Rattle.dir_tree.proofs.TreeTheorems.{entries_of-put_row, all_under_suffix}
 use Rattle.dir_tree.proofs.NameLemmas.{length-same, same-superior}
 use Rattle.dir_tree.proofs.RootLemmas.{any_put, has_name_like}
@@ -56,7 +57,7 @@ module _ (first : EntryInformation) (rest : List EntryInformation) (tree : IsTre
         second : (a b : Bool) → (a && b) ≡ true → b ≡ true
         second true b e = e
         second false b e = absurd cc
-    not_below (suc n) other short here below = by (cases_lt (length name + 1) (length other))
+    not_below (suc n) other short here below = by (not_below n) (cases_lt (length name + 1) (length other))
       where
         first_of : (a b : Bool) → (a && b) ≡ true → a ≡ true
         first_of true b e = refl
@@ -78,14 +79,14 @@ module _ (first : EntryInformation) (rest : List EntryInformation) (tree : IsTre
         above : has_name (superior_name other) (first ∷ rest) ≡ true
         above = let least = no_shorter (superior_name name) under in let most = superior_long in let more = long in superior_there other here (omega arith)
 
-        by : ((length name + 1 < length other) ⊎ (length other ≤ length name + 1)) → ⊥
-        by (inl deep) =
+        by : ((shorter : RdnSequence) → length shorter ≤ n → has_name shorter (first ∷ rest) ≡ true → is_below name shorter ≡ true → ⊥) → ((length name + 1 < length other) ⊎ (length other ≤ length name + 1)) → ⊥
+        by further (inl deep) =
             let size = length-take-le (length other - 1) other (omega arith) in
             let same : take (length name) (superior_name other) ≡ take (length name) other = take-take (length name) (length other - 1) other (omega arith) in
             let still : is_same (take (length name) (superior_name other)) name ≡ true = ap (λ x. is_same x name) same ∙ front in
             let longer : nat_lt (length name) (length (superior_name other)) ≡ true = lt-ltb (length name) (length (superior_name other)) (omega arith) in
-            not_below n (superior_name other) (omega arith) above (and_from (is_prefix_of name (superior_name other)) (nat_lt (length name) (length (superior_name other))) still longer)
-        by (inr next) =
+            further (superior_name other) (omega arith) above (and_from (is_prefix_of name (superior_name other)) (nat_lt (length name) (length (superior_name other))) still longer)
+        by further (inr next) =
             let more = long in
             let is : length other - 1 ≡ length name = omega arith in
             let same : is_same (superior_name other) name ≡ true = ap (λ k. is_same (take k other) name) is ∙ front in
@@ -159,3 +160,14 @@ new_removable id entry rows tree none allowed =
     and_none : (a b : Bool) → b ≡ false → (a && b) ≡ false
     and_none true b e = e
     and_none false b e = refl
+
+-- and below what is taken out none stood
+pub removed_alone : (id : ℕ) (entry : EntryInformation) (rows : List Numbered) → entry_of id rows ≡ Some entry → remove_refusal id rows ≡ None → has_below entry.name (entries_of rows) ≡ false
+removed_alone id entry rows known allowed = elim (cases_Bool (has_below entry.name (entries_of rows))) [
+  | inl e ↦ (
+    let refused : refusal_below (Some entry) (entries_of rows) ≡ Some removing.HasBelow = rw e refl in
+    let clash = sym refused ∙ sym (ap (λ o. refusal_below o (entries_of rows)) known) ∙ allowed in
+    absurd cc
+  )
+  | inr e ↦ e
+]

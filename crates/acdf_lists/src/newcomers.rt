@@ -66,7 +66,7 @@ fn weigh_points(
 ) -> Standing
     requires { KnowsGroups question.now }
     ensures exact { result ≡ fold (weighed_for question.now) initial (tuples_at kept.now
-        (flat_map (numbers_by question.now.tree.now question.now.entry.now subtrees.now) walk)) }
+        (flat_map (numbers_by question.now.tree.now question.now.entry.now subtrees.now) walk.entry)) }
 {
     let mut now = Standing::new();
     for point in walk {

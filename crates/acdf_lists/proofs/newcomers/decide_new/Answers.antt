@@ -19,8 +19,8 @@ returns-then-is_subentry c = record {
       (sym c.is_subentry.ensures.exact ∙ c.if-is_subentry.true);
 }
 
-pub returns : goal.returns
-returns c = record {
+pub returns-else-is_subentry : goal.returns-else-is_subentry
+returns-else-is_subentry c = record {
   exact =
       let question = c.args.question.now in
       let rows = question.tree.now in
@@ -30,7 +30,7 @@ returns c = record {
       let laws = c.subentries_are_found_below_the_points.ensures in
       let points = c.points-walk.result in
       let found = laws.exact rows entry points c.entries_form_a_tree.ensures.exact ordinary (c.points-walk.ensures.exact entry (sym c.name.ensures.exact)) in
-      c.is_granted-2.ensures.exact
+      c.is_granted-else-is_subentry.ensures.exact
       ∙ ap is_granted (c.weigh_points.ensures.exact
       ∙ ap (λ (ids : List ℕ). fold (weighed_for question) initial (tuples_at kept ids)) (all_numbers_by rows entry c.args.subtrees.now c.requires.subtrees points))
       ∙ granted_new-found question kept (flat_map (numbers_at rows entry) points) c.requires.kept ordinary found (laws.live rows entry points);

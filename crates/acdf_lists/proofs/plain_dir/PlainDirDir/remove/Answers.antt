@@ -1,0 +1,17 @@
+-- What is kept without the number is that of the tree without its entry.
+use Rattle.std.proofs.Common.{List, sym, subst}
+use Rattle.dir_tree.specs.Numbered.{Numbered}
+use Rattle.acdf_lists.specs.Holdings.{IsHeld}
+use Rattle.acdf_lists.proofs.FreeLemmas.{removed_alone}
+use Rattle.acdf_lists.proofs.RemovalLemmas.{held-without}
+use Rattle.acdf_lists.proofs.plain_dir.PlainDirDir.remove.Goals as goal
+
+pub invariant_of-self-2 : goal.invariant_of-self-2
+invariant_of-self-2 c =
+    let number = c.args.no.0 in
+    let rows = c.self.inside.tree in
+    let entry = c.in_ok-entry.entry in
+    let done = c.in_ok-entry.ensures in
+    let alone = removed_alone number entry rows done.found done.exact in
+    subst (λ (left : List Numbered). IsHeld c.forget.new.held left) (sym done.ok)
+    (held-without number entry rows c.entries_form_a_tree.ensures.exact done.found alone c.self.inside.held c.forget.new.held c.self.invariant c.forget.ensures)
