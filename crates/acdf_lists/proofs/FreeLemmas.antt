@@ -1,17 +1,17 @@
 -- An entry that was put in can be taken out: none stands below a name that was free.
-use Rattle.std.proofs.Common.{◌≡◌, ◌≢◌, ◌⊎◌, inl, inr, ◌<◌, ◌≤◌, ◌-◌, ◌+◌, ◌==◌, zero, suc, ℕ, Bool, true, false, not, ◌&&◌, ◌||◌, cond, List, [], ◌∷◌, length, take, find, Option, Some, None, refl, sym, ap, subst, ◌∙◌, arith}
-use Rattle.std.specs.Prelude.{nat_lt, if◌then◌else◌}
-use Rattle.std.specs.List.{AllByRecursion, list_any}
+use Rattle.std.proofs.Common.{◌≡◌, ◌⊎◌, inl, inr, ◌<◌, ◌≤◌, ◌-◌, ◌+◌, ◌==◌, zero, suc, ℕ, Bool, true, false, ◌&&◌, List, [], ◌∷◌, length, take, find, Some, None, refl, sym, ap, ◌∙◌, arith}
+use Rattle.std.specs.Prelude.{nat_lt}
+use Rattle.std.specs.List.{AllByRecursion}
 use Rattle.std.specs.Option.{option_map}
-use Rattle.std.proofs.lemmas.Bool.{cases_Bool, cases_lt, cond-true, cond-false, eq-eqb, eqb-false, false_from_ne_true, and_from, or_cases, or_left, or_right, or_from, le-ltb, lt-ltb, ltb-true, not-false}
+use Rattle.std.proofs.lemmas.Bool.{cases_Bool, cases_lt, cond-true, cond-false, eq-eqb, false_from_ne_true, and_from, or_cases, or_left, or_right, or_from, le-ltb, lt-ltb, ltb-true, not-false}
 use Rattle.std.proofs.lemmas.List.{length-take-le, take-take}
 use Rattle.dn_names.specs.Names.{RdnSequence}
 use Rattle.dn_names.specs.NameOrder.{is_same, is_prefix_of}
 use Rattle.dn_names.proofs.Theorems.{is_same-types_and_keys}
 use Rattle.dir_tree.specs.Entries.{EntryInformation}
-use Rattle.dir_tree.specs.Trees.{most_entries, is_named, is_before, is_below, has_name, has_below, superior_name, lacks_superior, put_in, IsTree, IsRooted}
+use Rattle.dir_tree.specs.Trees.{is_named, is_before, is_below, has_name, has_below, superior_name, lacks_superior, IsTree}
 use Rattle.dir_tree.specs.Scopes.{is_within}
-use Rattle.dir_tree.specs.Numbered.{Numbered, IsNumberedTree, entries_of, entry_of, put_row, put_entry}
+use Rattle.dir_tree.specs.Numbered.{Numbered, IsNumberedTree, entries_of, entry_of, put_entry}
 use Rattle.dir_tree.specs.Refusals.{insert_refusal, refusal_below, remove_refusal}
 use Rattle.dir_tree.specs.declared.refusals.InsertRefusal.TheVariants as inserting
 use Rattle.dir_tree.specs.declared.refusals.RemoveRefusal.TheVariants as removing
@@ -165,9 +165,9 @@ new_removable id entry rows tree none allowed =
 pub removed_alone : (id : ℕ) (entry : EntryInformation) (rows : List Numbered) → entry_of id rows ≡ Some entry → remove_refusal id rows ≡ None → has_below entry.name (entries_of rows) ≡ false
 removed_alone id entry rows known allowed = elim (cases_Bool (has_below entry.name (entries_of rows))) [
   | inl e ↦ (
-    let refused : refusal_below (Some entry) (entries_of rows) ≡ Some removing.HasBelow = rw e refl in
-    let clash = sym refused ∙ sym (ap (λ o. refusal_below o (entries_of rows)) known) ∙ allowed in
-    absurd cc
-  )
+      let refused : refusal_below (Some entry) (entries_of rows) ≡ Some removing.HasBelow = rw e refl in
+      let clash = sym refused ∙ sym (ap (λ o. refusal_below o (entries_of rows)) known) ∙ allowed in
+      absurd cc
+      )
   | inr e ↦ e
 ]

@@ -1,11 +1,10 @@
 -- The tuples that are kept are those that count for the entry.
-use Rattle.std.proofs.Common.{◌≡◌, ◌⊎◌, inl, inr, ℕ, Bool, true, false, List, [], ◌∷◌, ◌++◌, map, Option, Some, None, refl, sym, ap, ◌∙◌}
-use Rattle.std.specs.Prelude.{flat_map, fold, cond, is_some, IsSome, if◌then◌else◌}
-use Rattle.std.specs.List.{AllByRecursion, filter_map}
-use Rattle.std.specs.Option.{option_map, option_map_or, option_and_then}
+use Rattle.std.proofs.Common.{◌≡◌, inl, inr, ℕ, Bool, true, false, List, [], ◌∷◌, ◌++◌, map, Option, Some, None, refl, sym, ap, ◌∙◌}
+use Rattle.std.specs.Prelude.{flat_map, fold, is_some, IsSome, if◌then◌else◌}
+use Rattle.std.specs.List.{AllByRecursion}
+use Rattle.std.specs.Option.{option_map_or, option_and_then}
 use Rattle.std.proofs.lemmas.Bool.{cases_Bool}
 use Rattle.std.proofs.lemmas.List.{map-append}
-use Rattle.std.proofs.lemmas.List.Sums.{fold-append}
 use Rattle.dir_tree.specs.Entries.{EntryInformation}
 use Rattle.dn_names.specs.Names.{RdnSequence}
 use Rattle.dir_tree.specs.Trees.{is_named, superior_name, named_in}
@@ -22,7 +21,7 @@ use Rattle.acdf_filters.specs.Standings.{initial}
 use Rattle.acdf_filters.specs.Weighing.{weighed_for, is_granted}
 use Rattle.acdf_filters.proofs.Theorems.{decided-fold}
 use Rattle.acdf_lists.specs.declared.kept.Kept.{Kept}
-use Rattle.acdf_lists.specs.Lists.{lists_at, AreOf, IsKept, tuples_in, tuples_at, tuples_below, tuples_inherited, tuples_kept}
+use Rattle.acdf_lists.specs.Lists.{lists_at, IsKept, tuples_in, tuples_at, tuples_below, tuples_inherited, tuples_kept}
 
 -- the tuple alone
 abbrev pub tuple_in : Listed → AciTuple

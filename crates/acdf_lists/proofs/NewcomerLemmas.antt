@@ -1,6 +1,6 @@
 -- What is weighed of an entry that is to be added is what counts for it.
-use Rattle.std.proofs.Common.{◌≡◌, ◌<◌, ◌+◌, ℕ, Bool, true, false, List, [], ◌∷◌, ◌++◌, length, map, drop, filter, get_or, suc, refl, sym, ap, ◌∙◌, arith, inl, inr, drop-cons}
-use Rattle.std.specs.Prelude.{flat_map, fold, cond, IsSome}
+use Rattle.std.proofs.Common.{◌≡◌, ◌<◌, ◌+◌, ℕ, true, false, List, [], ◌∷◌, ◌++◌, length, map, drop, get_or, suc, refl, sym, ap, ◌∙◌, arith, inl, inr, drop-cons}
+use Rattle.std.specs.Prelude.{flat_map, fold, IsSome}
 use Rattle.std.specs.List.{AllByRecursion}
 use Rattle.std.specs.Option.{option_map_or}
 use Rattle.std.proofs.lemmas.Bool.{cases_Bool, cond-true, cond-false}

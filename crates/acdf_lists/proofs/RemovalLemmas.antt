@@ -1,9 +1,9 @@
 -- What is kept without a number is kept of the entries without its entry.
-use Rattle.std.proofs.Common.{◌≡◌, ◌≢◌, ◌⊎◌, inl, inr, ◌<◌, ◌≤◌, ◌==◌, ℕ, Bool, true, false, not, ◌&&◌, List, [], ◌∷◌, length, map, take, filter, find, Option, Some, None, refl, sym, ap, subst, ◌∙◌, arith, zero, suc, ◌+◌, set, get_or}
+use Rattle.std.proofs.Common.{◌≡◌, ◌≢◌, ◌⊎◌, inl, inr, ◌<◌, ◌≤◌, ◌==◌, ℕ, Bool, true, false, not, ◌&&◌, List, [], ◌∷◌, length, map, filter, find, Option, Some, None, refl, sym, ap, subst, ◌∙◌, arith, zero, suc, ◌+◌, set, get_or}
 use Rattle.std.specs.Prelude.{nat_lt, IsSome}
-use Rattle.std.specs.List.{AllByRecursion, list_any}
+use Rattle.std.specs.List.{AllByRecursion}
 use Rattle.std.specs.Option.{option_map, option_and_then}
-use Rattle.std.proofs.lemmas.Bool.{cases_Bool, cases_eq, eqb-true, eqb-false, eq-eqb, ne_eqb, cond-true, cond-false, false_from_ne_true, or_parts, ltb-false, not-false}
+use Rattle.std.proofs.lemmas.Bool.{cases_Bool, cases_eq, eqb-true, eqb-false, ne_eqb, cond-true, cond-false, false_from_ne_true, or_parts, ltb-false}
 use Rattle.std.proofs.lemmas.List.{map-set, get_or-set_other, get_or-set_same, take_all}
 use Rattle.dn_names.specs.Names.{RdnSequence}
 use Rattle.dn_names.specs.NameOrder.{is_same, is_prefix_of}
@@ -22,7 +22,7 @@ use Rattle.admin_scope.specs.Finding.{AreSubtrees, subtree_at}
 use Rattle.admin_scope.proofs.Theorems.{in_force-taken, length-front, named-front}
 use Rattle.acdf_lists.specs.declared.kept.Kept.{Kept}
 use Rattle.acdf_lists.specs.declared.kept.Holdings.{Holdings}
-use Rattle.acdf_lists.specs.Lists.{Lists, lists_of, no_lists, lists_at, AreOf, IsKept}
+use Rattle.acdf_lists.specs.Lists.{Lists, lists_of, no_lists, lists_at, AreOf}
 use Rattle.acdf_lists.specs.Holdings.{IsHeld, without_number, without_subentry, IsForgotten}
 
 -- a filter of numbers, seen through what holds them
@@ -264,9 +264,3 @@ pub others_step : (at : ℕ) (begun kept : List Kept) (next : Kept)
     → ((id : ℕ) → at ≤ id → lists_at kept id ≡ lists_at begun id)
     → (id : ℕ) → at + 1 ≤ id → lists_at (set kept at next) id ≡ lists_at begun id
 others_step at begun kept next others id h = lists_at-set_other kept at next id (λ e. omega arith) ∙ others id (omega arith)
-
--- past the end nothing is kept
-pub lists_at-past : (kept : List Kept) (id : ℕ) → length kept ≤ id → lists_at kept id ≡ no_lists
-lists_at-past [] id h = refl
-lists_at-past (k ∷ kept) zero h = absurd (omega arith)
-lists_at-past (k ∷ kept) (suc id) h = lists_at-past kept id (omega arith)

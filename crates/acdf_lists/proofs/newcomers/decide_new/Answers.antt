@@ -1,7 +1,7 @@
 -- The state decides, of a subentry and of another entry.
 use Rattle.std.proofs.Common.{List, ℕ, sym, ap, ◌∙◌}
 use Rattle.std.specs.Prelude.{flat_map, fold}
-use Rattle.admin_scope.specs.Finding.{numbers_at, numbers_by}
+use Rattle.admin_scope.specs.Finding.{numbers_at}
 use Rattle.admin_scope.proofs.Theorems.{all_numbers_by}
 use Rattle.acdf_filters.specs.Standings.{initial}
 use Rattle.acdf_filters.specs.Weighing.{weighed_for, is_granted}
