@@ -3,7 +3,7 @@ use Rattle.std.proofs.Common.{◌≡◌, ◌<◌, length, sym, ap, ◌∙◌, ar
 use Rattle.acdf_lists.specs.declared.kept.Kept.{Kept}
 use Rattle.acdf_lists.specs.Lists.{lists_of}
 use Rattle.acdf_lists.specs.Holdings.{without_number}
-use Rattle.acdf_lists.proofs.RemovalLemmas.{drop_step, others_step}
+use Rattle.acdf_lists.proofs.DropLemmas.{drop_step, others_step}
 use Rattle.acdf_lists.proofs.changing.drop_everywhere.Goals as goal
 
 pub loop-index-preserved : goal.loop-index-preserved

@@ -1,5 +1,5 @@
 -- The lists of other numbers stay.
-use Rattle.acdf_lists.proofs.RemovalLemmas.{lists_at-set_other}
+use Rattle.acdf_lists.proofs.DropLemmas.{lists_at-set_other}
 use Rattle.acdf_lists.proofs.changing.empty_lists.Goals as goal
 
 pub returns-then-index-kept : goal.returns-then-index-kept
