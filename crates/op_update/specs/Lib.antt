@@ -1,0 +1,6 @@
+-- what public clauses cite
+pub mod Refusals
+pub mod Deleting
+pub mod NewEntries
+pub mod Adding
+pub mod Updates

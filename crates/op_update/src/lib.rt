@@ -1,0 +1,3 @@
+//! Changes of a directory that requests ask for (RFC 4511 4.7 and 4.8, X.511 11.1 and 11.2), over any directory that takes
+//! decisions: an entry is deleted, or added.
+#![tactic(auto)]
