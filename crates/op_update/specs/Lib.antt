@@ -4,3 +4,6 @@ pub mod Deleting
 pub mod NewEntries
 pub mod Adding
 pub mod Updates
+-- for the inside of the crate alone
+pub mod Asking
+pub mod Steps
