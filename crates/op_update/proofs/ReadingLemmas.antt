@@ -1,5 +1,5 @@
 -- The attributes of a request, read one after the other.
-use Rattle.std.proofs.Common.{◌≡◌, ◌≢◌, inl, inr, ℕ, suc, ◌+◌, ◌<◌, Bool, true, false, ◌||◌, not, List, [], ◌∷◌, ◌++◌, length, drop, get_or, map, Option, Some, None, Result, Ok, Err, refl, sym, ap, ◌∙◌, add-one, append_assoc, arith}
+use Rattle.std.proofs.Common.{◌≡◌, ◌≢◌, ◌⊎◌, inl, inr, ℕ, suc, ◌+◌, ◌<◌, Bool, true, false, ◌||◌, not, List, [], ◌∷◌, ◌++◌, length, drop, get_or, map, Option, Some, None, Result, Ok, Err, refl, sym, ap, ◌∙◌, add-one, append_assoc, arith}
 use Rattle.std.specs.Prelude.{◌==◌, if◌then◌else◌}
 use Rattle.std.specs.List.{AllByRecursion, IsDistinct, list_any}
 use Rattle.std.proofs.Math.Seq.{drop-cons}
@@ -7,16 +7,19 @@ use Rattle.std.proofs.lemmas.Bool.{cases_Bool, or_parts, eqb-true, eq-eqb}
 use Rattle.std.proofs.lemmas.List.{append-nil, map-append}
 use Rattle.std.proofs.lemmas.List.Folds.{list_any-append}
 use Rattle.plain_values.specs.Results.{◌>>=◌}
+use Rattle.plain_values.specs.Answers.{IsFaultOf}
 use Rattle.schema_core.specs.Attributes.{attr_of}
 use Rattle.dn_names.specs.Names.{Keyed, TypeAndValue, RdnSequence}
 use Rattle.dir_tree.specs.Entries.{Attribute, EntryInformation, kinds_of, has_kind, has_key, values_of, is_match, IsGoodAttribute, IsGoodAttributes}
-use Rattle.dir_tree.specs.Changes.{set_in, with_value}
+use Rattle.dir_tree.specs.Changes.{set_in, with_value, with_values}
 use Rattle.op_write.specs.Loading.{with_pairs, with_own_values}
 use Rattle.ldap_msg.specs.declared.operations.ResultCode.{ResultCode}
 use Rattle.ldap_msg.specs.declared.operations.ResultCode.TheVariants as code
 use Rattle.ldap_msg.specs.declared.kinds.KindValues.{KindValues}
+use Rattle.op_update.specs.declared.fault.Fault.{Fault}
+use Rattle.op_update.specs.declared.fault.Fault.TheVariants as fault
 use Rattle.op_update.specs.NewEntries.{read_value, read_values, read_known, read_attribute, read_each, repeats, has_twice, without_twice, lacks_values}
-use Rattle.op_update.specs.Steps.{finished, entry_from}
+use Rattle.op_update.specs.Steps.{cause_of, finished, entry_from, IsPut}
 
 -- the first of the items that are left
 pub next-item : {A : Type 0} (xs : List A) (index : ℕ) (x : A) → index < length xs → x ≡ get_or xs index x → drop index xs ≡ x ∷ drop (index + 1) xs
@@ -53,6 +56,11 @@ unfolding read_values
 values-stop kind done given index octets code left bad =
     ap (λ given. put_before done (read_values kind given)) left
     ∙ ap (λ first. put_before done (first >>= λ value. read_values kind (drop (index + 1) given) >>= λ values. Ok (value ∷ values))) bad
+
+pub values-fault : (kind : ℕ) (done : List Keyed) (given : List (List ℕ)) (index : ℕ) (octets : List ℕ) (all : Result (List Keyed) ResultCode) (bad : Fault)
+    → drop index given ≡ octets ∷ drop (index + 1) given → all ≡ put_before done (read_values kind (drop index given)) → IsFaultOf (cause_of bad) (read_value kind octets) → IsFaultOf (cause_of bad) all
+values-fault kind done given index octets all fault.NoMemory left is says = tt
+values-fault kind done given index octets all (fault.Refused code) left is says = is ∙ values-stop kind done given index octets code left says
 
 pub values-done : (kind : ℕ) (done : List Keyed) (given : List (List ℕ)) → given ≡ [] → put_before done (read_values kind given) ≡ Ok done
 unfolding read_values
@@ -94,12 +102,12 @@ any-false test [] h = refl
 any-false test (x ∷ xs) h = rw (h.0, any-false test xs h.1) refl
 
 pub distinct-repeats : {A : Type 0} (same : A → A → Bool) (xs : List A) → repeats same xs ≡ false → IsDistinct same xs
-unfolding repeats
+unfolding repeats IsDistinct
 distinct-repeats same [] e = tt
 distinct-repeats same (x ∷ xs) e = (let parts = or_parts (list_any (same x) xs) (repeats same xs) e in (all-false (same x) xs parts.0, distinct-repeats same xs parts.1))
 
 repeats-distinct : {A : Type 0} (same : A → A → Bool) (xs : List A) → IsDistinct same xs → repeats same xs ≡ false
-unfolding repeats
+unfolding repeats IsDistinct
 repeats-distinct same [] h = refl
 repeats-distinct same (x ∷ xs) h = rw (any-false (same x) xs h.0, repeats-distinct same xs h.1) refl
 
@@ -167,6 +175,29 @@ set_in-new kind values (x ∷ xs) e =
 pub finished-new : (done left : List Attribute) (attribute : Attribute) → finished false (done ++ attribute ∷ []) left ≡ finished false done (attribute ∷ left)
 finished-new done left attribute = ap without_twice (append_assoc done (attribute ∷ []) left)
 
+-- an attribute put last, or none
+pub put-nothing : (entry : EntryInformation) (attribute : Attribute) → IsPut true entry attribute true entry
+put-nothing entry attribute = record { name = refl; goes_on = λ left. refl }
+
+pub put-twice : (entry : EntryInformation) (attribute : Attribute) → (has_kind attribute.kind entry.attributes || repeats is_match attribute.values) ≡ true → IsPut false entry attribute true entry
+put-twice entry attribute e = record {
+  name = refl;
+  goes_on = λ left. finished-twice false entry.attributes left attribute (by left (cases_Bool (has_kind attribute.kind entry.attributes)));
+}
+  where
+    by : (left : List Attribute) → ((has_kind attribute.kind entry.attributes ≡ true) ⊎ (has_kind attribute.kind entry.attributes ≡ false)) → has_twice (entry.attributes ++ attribute ∷ left) ≡ true
+    by left (inl f) = twice-kind entry.attributes left attribute f
+    by left (inr f) = twice-values entry.attributes left attribute (sym (ap (λ b. b || repeats is_match attribute.values) f) ∙ e)
+
+pub put-last : (entry new : EntryInformation) (attribute : Attribute) → has_kind attribute.kind entry.attributes ≡ false → new ≡ with_values attribute.kind attribute.values entry → IsPut false entry attribute false new
+put-last entry new attribute e is = record {
+  name = ap (λ (entry : EntryInformation). entry.name) is;
+  goes_on = λ left.
+      ap (λ (entry : EntryInformation). finished false entry.attributes left) is
+      ∙ ap (λ attributes. finished false attributes left) (set_in-new attribute.kind attribute.values entry.attributes e)
+      ∙ finished-new entry.attributes left attribute;
+}
+
 -- ---- attributes, one after the other
 
 -- one attribute more
@@ -190,6 +221,11 @@ unfolding read_each
 each-stop twice done given index item code left bad =
     ap (λ given. read_each given >>= finished twice done) left
     ∙ ap (λ first. (first >>= λ attribute. read_each (drop (index + 1) given) >>= λ attributes. Ok (attribute ∷ attributes)) >>= finished twice done) bad
+
+pub each-fault : (twice : Bool) (done : List Attribute) (given : List KindValues) (index : ℕ) (item : KindValues) (all : Result (List Attribute) ResultCode) (name : RdnSequence) (bad : Fault)
+    → drop index given ≡ item ∷ drop (index + 1) given → all ≡ (read_each (drop index given) >>= finished twice done) → IsFaultOf (cause_of bad) (read_attribute item) → IsFaultOf (cause_of bad) (entry_from name all)
+each-fault twice done given index item all name fault.NoMemory left is says = tt
+each-fault twice done given index item all name (fault.Refused code) left is says = ap (entry_from name) (is ∙ each-stop twice done given index item code left says)
 
 pub each-twice : (done : List Attribute) (given : List KindValues) → given ≡ [] → (read_each given >>= finished true done) ≡ Err code.AttributeOrValueExists
 unfolding read_each

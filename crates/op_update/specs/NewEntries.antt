@@ -58,6 +58,10 @@ has_twice attributes =
 abbrev pub without_twice : List Attribute → Result (List Attribute) ResultCode
 without_twice attributes = if has_twice attributes then Err code.AttributeOrValueExists else Ok attributes
 
+-- the attributes of a request, each of which has values
+abbrev pub read_filled : List KindValues → Result (List Attribute) ResultCode
+read_filled given = read_each given >>= without_twice
+
 -- no value is given
 abbrev pub lacks_values : KindValues → Bool
 lacks_values given = length given.values == 0
@@ -66,7 +70,7 @@ lacks_values given = length given.values == 0
 unfoldable pub read_attributes : List KindValues → Result (List Attribute) ResultCode
 read_attributes given =
     if list_any lacks_values given then Err code.ProtocolError
-    else (read_each given >>= without_twice)
+    else read_filled given
 
 -- the entry of this name with the attributes, and with the values of its own RDN last
 abbrev pub new_entry : RdnSequence → List Attribute → EntryInformation

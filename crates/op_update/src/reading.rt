@@ -1,12 +1,11 @@
 //! The attributes of an add request, read.
 
-ghost use Rattle.std.specs.Prelude.{◌≡◌, ◌≢◌, List, [], Some, Ok, IfOk, IfErr, OnOk, false};
+ghost use Rattle.std.specs.Prelude.{◌≡◌, ◌≢◌, ◌||◌, List, [], Some, Ok, IfOk, IfErr, OnOk, false};
 ghost use Rattle.std.specs.List.{list_any};
 ghost use Rattle.schema_core.specs.Attributes.{IsAttrId};
-ghost use Rattle.dir_tree.specs.Entries.{Attribute, is_match};
+ghost use Rattle.dir_tree.specs.Entries.{Attribute, has_kind, is_match};
 ghost use Rattle.plain_values.specs.Answers.{Answers, IsFaultOf};
-ghost use Rattle.plain_values.specs.Results.{◌>>=◌};
-ghost use Rattle.op_update.specs.NewEntries.{fitting, read_value, read_values, read_attribute, read_each, repeats, without_twice, lacks_values, read_attributes, new_entry};
+ghost use Rattle.op_update.specs.NewEntries.{fitting, read_value, read_values, read_attribute, read_filled, repeats, lacks_values, read_attributes, new_entry};
 ghost use Rattle.op_update.specs.Steps.{cause_of, attribute_of, entry_from, IsPut};
 
 use crate::fault::Fault;
@@ -99,13 +98,24 @@ fn repeats(values: &[Value]) -> bool
     false
 }
 
+// Whether the type of the attribute is the entry's already, or two of the values match.
+fn comes_twice(entry: &Entry, given: &Given) -> bool
+    ensures exact { result
+        ≡ (has_kind given.now.kind.0 entry.now.attributes || repeats is_match given.now.values.items) }
+{
+    entry.has_kind(given.kind) || repeats(&given.values)
+}
+
 // Puts the attribute last, unless a type or a value came twice, and keeps that one did. After the error, want of memory,
 // nothing was put.
 fn put_attribute(entry: &mut Entry, twice: &mut bool, given: Given) -> Result<(), NoMemory>
     requires filled { given.values.items ≢ [] }
     ensures ok { OnOk result (IsPut twice.old entry.old (attribute_of given) twice.new entry.new) }
 {
-    if *twice || entry.has_kind(given.kind) || repeats(&given.values) {
+    if *twice {
+        return Ok(());
+    }
+    if comes_twice(entry, &given) {
         *twice = true;
         return Ok(());
     }
@@ -115,7 +125,7 @@ fn put_attribute(entry: &mut Entry, twice: &mut bool, given: Given) -> Result<()
 // The attributes of a request, each of which has values, in an entry of the name.
 fn read_each(alloc: Global, name: Dn, given: &[KindValues]) -> Result<Entry, Fault>
     requires filled { list_any lacks_values given.now ≡ false }
-    ensures exact { Answers (λ entry. entry) cause_of result (entry_from name (read_each given.now >>= without_twice)) }
+    ensures exact { Answers (λ entry. entry) cause_of result (entry_from name (read_filled given.now)) }
 {
     let mut entry = Entry::new(alloc, name)?;
     let mut twice = false;
@@ -139,12 +149,19 @@ fn lacks_values(given: &KindValues) -> bool
     given.values.is_empty()
 }
 
-/// The entry of the name with the attributes of a request (RFC 4511 4.7), in their order.
+// Whether an attribute has no values.
+fn any_lacks_values(given: &[KindValues]) -> bool
+    ensures exact { result ≡ list_any lacks_values given.now }
+{
+    given.iter().any(|item| lacks_values(item))
+}
+
+// The entry of the name with the attributes of a request, in their order.
 #[tactic(auto, unfolding(crate::specs::NewEntries::read_attributes))]
 fn read_attributes(alloc: Global, name: Dn, given: &[KindValues]) -> Result<Entry, Fault>
     ensures exact { Answers (λ entry. entry) cause_of result (entry_from name (read_attributes given.now)) }
 {
-    if given.iter().any(lacks_values) {
+    if any_lacks_values(given) {
         return Err(Fault::Refused(ResultCode::ProtocolError));
     }
     read_each(alloc, name, given)
