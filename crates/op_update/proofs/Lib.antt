@@ -1,2 +1,3 @@
 mod SeenLemmas
 mod ReadingLemmas
+mod UpdateLemmas

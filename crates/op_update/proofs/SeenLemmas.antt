@@ -1,19 +1,21 @@
 -- What is seen of a numbered tree, by the names of its entries.
-use Rattle.std.proofs.Common.{◌≡◌, inl, inr, ℕ, Bool, true, false, ◌&&◌, ◌||◌, List, [], ◌∷◌, Option, Some, None, refl, sym, ap, subst, ◌∙◌, map, find, Ordering}
-use Rattle.std.specs.Prelude.{reverse}
+use Rattle.std.proofs.Common.{◌≡◌, inl, inr, ℕ, Bool, true, false, ◌&&◌, ◌||◌, List, [], ◌∷◌, Option, Some, None, refl, sym, ap, subst, ◌∙◌, map, find, length, take, ◌-◌, Ordering, arith}
+use Rattle.std.specs.Prelude.{reverse, nat_le, if◌then◌else◌}
 use Rattle.std.specs.List.{AllByRecursion, list_any}
 use Rattle.std.specs.Option.{option_map, option_map_or, option_and_then}
 use Rattle.std.specs.Ordering.{is_eq}
 use Rattle.std.specs.declared.cmp.Ordering.TheVariants.{Less, Equal, Greater}
-use Rattle.std.proofs.lemmas.Bool.{cases_Bool}
+use Rattle.std.proofs.lemmas.Bool.{cases_Bool, eq-eqb}
+use Rattle.std.proofs.lemmas.Bool.Decides.{nat_tests}
 use mathlib.Core.List.{reverse_aux}
 use Rattle.dn_names.specs.Names.{RdnSequence}
 use Rattle.dn_names.specs.NameOrder.{name_cmp, is_same}
 use Rattle.dn_names.specs.Printing.{print_name, print_by}
 use Rattle.dn_names.proofs.Theorems.{name_cmp_total}
 use Rattle.dir_tree.specs.Entries.{EntryInformation}
-use Rattle.dir_tree.specs.Trees.{is_named, is_below, named_in, IsInOrder}
-use Rattle.dir_tree.specs.Numbered.{Numbered, entries_of, entry_of}
+use Rattle.dir_tree.specs.Trees.{is_named, is_below, named_in, superior_name, IsInOrder}
+use Rattle.dir_tree.specs.Numbered.{Numbered, IsNumberedTree, entries_of, entry_of, find_name, find_front, suffix_of}
+use Rattle.dir_tree.proofs.TreeTheorems.{entry_of-found}
 use Rattle.dir_tree.specs.declared.number.EntryNo.{EntryNo}
 use Rattle.aci_item.specs.declared.permission.Permission.TheVariants.{DiscloseOnError}
 use Rattle.acdf_filters.specs.declared.asking.Requester.{Requester}
@@ -23,6 +25,7 @@ use Rattle.acdf_filters.specs.Granted.{granted}
 use Rattle.acdf_core.specs.Nearest.{IsEntryOf}
 use Rattle.ldap_msg.specs.declared.operations.ResultCode.TheVariants as code
 use Rattle.read_model.specs.Views.{Row, View, row_of, view_of, matched_name, discloses, is_disclosed, no_such_object, result_of, result_with}
+use Rattle.op_update.specs.Deleting.{is_suffix}
 use Rattle.op_update.specs.Asking.{view_in, nearest_name, without_object}
 
 -- ---- lists of what is seen of other lists
@@ -81,6 +84,20 @@ discloses-named rows who name h =
     list_any-map (row_of (entries_of rows) who) (λ row. is_named name row.entry && is_disclosed row) (entries_of rows)
     ∙ any-named (λ entry. granted (entries_of rows) who entry Entry DiscloseOnError) name (entries_of rows) h
 
+-- as calls say it
+pub discloses-found : (tree rows : List Numbered) (who : Requester) (name : RdnSequence) (entry : EntryInformation) → tree ≡ rows → IsNumberedTree tree → Some entry ≡ named_in name (entries_of tree)
+    → discloses (view_in rows who) name ≡ granted (entries_of rows) who entry Entry DiscloseOnError
+discloses-found tree rows who name entry e numbered is =
+    let there : IsNumberedTree rows = subst IsNumberedTree e numbered in
+    discloses-named rows who name there.tree.sorted
+    ∙ ap (λ (found : Option EntryInformation). option_map_or (λ entry. granted (entries_of rows) who entry Entry DiscloseOnError) found false) (ap (λ (rows : List Numbered). named_in name (entries_of rows)) (sym e) ∙ sym is)
+
+pub discloses-none : (tree rows : List Numbered) (who : Requester) (name : RdnSequence) → tree ≡ rows → IsNumberedTree tree → None ≡ named_in name (entries_of tree) → discloses (view_in rows who) name ≡ false
+discloses-none tree rows who name e numbered is =
+    let there : IsNumberedTree rows = subst IsNumberedTree e numbered in
+    discloses-named rows who name there.tree.sorted
+    ∙ ap (λ (found : Option EntryInformation). option_map_or (λ entry. granted (entries_of rows) who entry Entry DiscloseOnError) found false) (ap (λ (rows : List Numbered). named_in name (entries_of rows)) (sym e) ∙ sym is)
+
 -- ---- the nearest entry above
 
 matched_name-of : (entries : List EntryInformation) (who : Requester) (name : RdnSequence) → matched_name (view_of entries who) name ≡ option_map_or (λ entry. entry.name) (decision.matched entries who name) []
@@ -116,3 +133,54 @@ print-root = refl
 
 pub result-root : result_of code.NoSuchObject ≡ result_with code.NoSuchObject []
 result-root = ap (λ (text : List ℕ). record { code = 32; matched = text }) (sym print-root)
+
+-- ---- the entry of a name, by its number
+
+named-by : (name : RdnSequence) (rows : List Numbered) → IsNumberedTree rows → (found : Option EntryNo) → option_map (λ no. no.0) found ≡ find_name name rows → named_in name (entries_of rows) ≡ option_and_then (λ (no : EntryNo). entry_of no.0 rows) found
+named-by name rows tree found e =
+    sym (entry_of-found name rows tree.distinct) ∙ ap (λ (found : Option ℕ). option_and_then (λ id. entry_of id rows) found) (sym e) ∙ inner found
+  where
+    inner : (found : Option EntryNo) → option_and_then (λ id. entry_of id rows) (option_map (λ (no : EntryNo). no.0) found) ≡ option_and_then (λ (no : EntryNo). entry_of no.0 rows) found
+    inner None = refl
+    inner (Some number) = refl
+
+pub named-found : (name : RdnSequence) (rows : List Numbered) → IsNumberedTree rows → (found : Option EntryNo) (number : EntryNo) → option_map (λ no. no.0) found ≡ find_name name rows → found ≡ Some number → named_in name (entries_of rows) ≡ entry_of number.0 rows
+named-found name rows tree found number e is = named-by name rows tree found e ∙ ap (λ (found : Option EntryNo). option_and_then (λ (no : EntryNo). entry_of no.0 rows) found) is
+
+pub named-none : (name : RdnSequence) (rows : List Numbered) → IsNumberedTree rows → (found : Option EntryNo) → option_map (λ no. no.0) found ≡ find_name name rows → found ≡ None → named_in name (entries_of rows) ≡ None
+named-none name rows tree found e is = named-by name rows tree found e ∙ ap (λ (found : Option EntryNo). option_and_then (λ (no : EntryNo). entry_of no.0 rows) found) is
+
+-- the superior of a name, by the front that lacks one RDN
+pub front-superior : (name : RdnSequence) (len : ℕ) (rows : List Numbered) → len ≡ length name - 1 → find_front len name rows ≡ find_name (superior_name name) rows
+front-superior name len rows is =
+    let fits : nat_le len (length name) ≡ true = grind (arith, nat_tests) in
+    ap (λ b. if b then find_name (take len name) rows else None) fits
+    ∙ ap (λ len. find_name (take len name) rows) is
+
+-- the suffix is the first entry
+pub suffix-none : (name : RdnSequence) (rows : List Numbered) (found : Option EntryNo) → option_map (λ no. no.0) found ≡ suffix_of rows → found ≡ None → is_suffix name (entries_of rows) ≡ false
+suffix-none name [] found e is = refl
+suffix-none name (row ∷ rows) found e is = (let none : None ≡ Some row.id = sym (ap (option_map (λ (no : EntryNo). no.0)) is) ∙ e in absurd cc)
+
+suffix-at : (name : RdnSequence) (rows : List Numbered) (number : ℕ) (first : EntryInformation) → Some number ≡ suffix_of rows → Some first ≡ entry_of number rows → is_suffix name (entries_of rows) ≡ is_same name first.name
+suffix-at name [] number first e f = absurd cc
+suffix-at name (row ∷ rows) number first e f =
+    let same : number ≡ row.id = cc in
+    let own : entry_of number (row ∷ rows) ≡ Some row.entry = rw (eq-eqb row.id number (sym same)) refl in
+    let is : Some first ≡ Some row.entry = f ∙ own in
+    let entry : row.entry ≡ first = cc in
+    ap (λ (entry : EntryInformation). is_same name entry.name) entry
+
+pub suffix-found : (name : RdnSequence) (rows : List Numbered) (found : Option EntryNo) (number : EntryNo) (first : EntryInformation) → option_map (λ no. no.0) found ≡ suffix_of rows → found ≡ Some number → Some first ≡ entry_of number.0 rows → is_suffix name (entries_of rows) ≡ is_same name first.name
+suffix-found name rows found number first e is f = suffix-at name rows number.0 first (sym (ap (option_map (λ (no : EntryNo). no.0)) is) ∙ e) f
+
+pub suffix-lost : (name : RdnSequence) (rows : List Numbered) (found : Option EntryNo) (number : EntryNo) → option_map (λ no. no.0) found ≡ suffix_of rows → found ≡ Some number → None ≡ entry_of number.0 rows → is_suffix name (entries_of rows) ≡ false
+suffix-lost name rows found number e is f = by rows (sym (ap (option_map (λ (no : EntryNo). no.0)) is) ∙ e) f
+  where
+    by : (rows : List Numbered) → Some number.0 ≡ suffix_of rows → None ≡ entry_of number.0 rows → is_suffix name (entries_of rows) ≡ false
+    by [] e f = refl
+    by (row ∷ rows) e f =
+        let same : number.0 ≡ row.id = cc in
+        let own : entry_of number.0 (row ∷ rows) ≡ Some row.entry = rw (eq-eqb row.id number.0 (sym same)) refl in
+        let none : None ≡ Some row.entry = f ∙ own in
+        absurd cc

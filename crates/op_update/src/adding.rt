@@ -10,7 +10,7 @@ ghost use Rattle.acdf_filters.specs.Asking as protected;
 ghost use Rattle.acdf_filters.specs.Granted.{granted_new};
 ghost use Rattle.op_update.specs.NewEntries.{read_attributes};
 ghost use Rattle.op_update.specs.Adding.{there_already, taken_refusal, refuses_attribute, refuses_entry, rule_refusal, add_refusal};
-ghost use Rattle.op_update.specs.Updates.{IsChanged, unless, added_entry, added};
+ghost use Rattle.op_update.specs.Updates.{IsChanged, unless, added_entry, added_named, added};
 
 use crate::asking::{Asking, Target, find_target};
 use crate::fault::Fault;
@@ -35,7 +35,7 @@ fn there_already<D: Dir>(
     name: &Dn,
     other: Target<'_>,
 ) -> Result<LdapResult, NoMemory>
-    requires found { entry_of other.number.0 (D.rows asking.now.dir.now) ≡ Some other.entry.entry.now }
+    requires found { entry_of other.number.0 (D.rows asking.now.dir.now) ≡ Some other.entry.now }
     ensures ok { IfOk result (λ ended. ended
         ≡ there_already (entries_of (D.rows asking.now.dir.now)) asking.now.who.now name.now other.entry.entry.now) }
 {
@@ -78,6 +78,22 @@ fn refuses_value<D: Dir>(asking: &Asking<'_, D>, entry: &Entry, kind: AttrId, va
     !asking.allows_new(entry, Item::Value(kind, value), Permission::Add)
 }
 
+// Whether one of the values may not be added.
+fn refuses_values<D: Dir>(
+    asking: &Asking<'_, D>,
+    entry: &Entry,
+    kind: AttrId,
+    values: &[Value],
+) -> bool
+    ensures exact { result ≡ list_any
+        (λ value. not (granted_new (entries_of (D.rows asking.now.dir.now)) asking.now.who.now entry.now
+        (protected.Value kind.0 value) permission.Add)) values.now }
+{
+    values
+        .iter()
+        .any(|value| refuses_value(asking, entry, kind, value))
+}
+
 // Whether the attribute may not be added: its type, or one of its values.
 fn refuses_attribute<D: Dir>(
     asking: &Asking<'_, D>,
@@ -90,9 +106,7 @@ fn refuses_attribute<D: Dir>(
         (record { kind = kind.0; values = values.now }) }
 {
     !asking.allows_new(entry, Item::Kind(kind), Permission::Add)
-        || values
-            .iter()
-            .any(|value| refuses_value(asking, entry, kind, value))
+        || refuses_values(asking, entry, kind, values)
 }
 
 // Whether an attribute may not be added.
@@ -233,6 +247,25 @@ fn add_entry<D: Dir>(
     }
 }
 
+// An add of an entry of any name with the attributes.
+fn add_named<D: Dir>(
+    alloc: Global,
+    dir: &mut D,
+    who: &Requester,
+    name: Dn,
+    given: &[KindValues],
+) -> Result<Option<LdapResult>, NoMemory>
+    ensures ok { IfOk result (λ refusal. IsChanged
+        (added_named (entries_of (D.rows dir.old)) who.now given.now (Ok name))
+        refusal (entries_of (D.rows dir.new))) }
+    ensures kept { OnErr result (D.rows dir.new ≡ D.rows dir.old) }
+{
+    if name.len() == 0 {
+        return Ok(Some(result_of(alloc, ResultCode::UnwillingToPerform)));
+    }
+    add_entry(alloc, dir, who, name, given)
+}
+
 /// Adds the entry that the request describes (RFC 4511 4.7, X.511 11.1): with its attributes in their order, and last the
 /// values of its own RDN that they leave out. Its name must be free, its superior an entry, and the requester must be
 /// allowed to add the entry, each of its types and each value; what the entry itself would grant doesn't count. Then it
@@ -249,11 +282,8 @@ pub fn add<D: Dir>(
         refusal (entries_of (D.rows dir.new))) }
     ensures kept { OnErr result (entries_of (D.rows dir.new) ≡ entries_of (D.rows dir.old)) }
 {
-    let Some(name) = read_named(alloc, request.name.as_slice())? else {
-        return Ok(Some(result_of(alloc, ResultCode::InvalidDnSyntax)));
-    };
-    if name.len() == 0 {
-        return Ok(Some(result_of(alloc, ResultCode::UnwillingToPerform)));
+    match read_named(alloc, request.name.as_slice())? {
+        Some(name) => add_named(alloc, dir, who, name, request.attributes.as_slice()),
+        None => Ok(Some(result_of(alloc, ResultCode::InvalidDnSyntax))),
     }
-    add_entry(alloc, dir, who, name, request.attributes.as_slice())
 }

@@ -46,7 +46,7 @@ pub(crate) fn find_target<'a>(tree: &'a Tree, name: &Dn) -> Option<Target<'a>>
 impl<'a, D: Dir> Asking<'a, D> {
     /// Whether the requester has the permission for the item of the entry.
     pub(crate) fn allows(&self, target: Target<'_>, item: Item<'_>, permission: Permission) -> bool
-        requires { entry_of target.number.0 (D.rows self.now.dir.now) ≡ Some target.entry.entry.now }
+        requires { entry_of target.number.0 (D.rows self.now.dir.now) ≡ Some target.entry.now }
         ensures exact { result ≡ granted (entries_of (D.rows self.now.dir.now)) self.now.who.now
             target.entry.entry.now (protected_of item.entry) permission }
     {

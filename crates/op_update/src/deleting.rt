@@ -1,11 +1,11 @@
 //! Deletes.
 
-ghost use Rattle.std.specs.Prelude.{◌≡◌, ◌≢◌, [], Some, None, Ok, IfOk, OnOk, OnErr};
+ghost use Rattle.std.specs.Prelude.{◌≡◌, Some, Ok, IfOk, OnOk, OnErr};
 ghost use Rattle.dir_tree.specs.Entries.{EntryInformation};
 ghost use Rattle.dir_tree.specs.Trees.{taken_out, named_in};
 ghost use Rattle.dir_tree.specs.Numbered.{entry_of, entries_of};
 ghost use Rattle.op_update.specs.Deleting.{is_suffix, not_leaf, delete_refusal};
-ghost use Rattle.op_update.specs.Updates.{IsChanged, deleted_named, deleted};
+ghost use Rattle.op_update.specs.Updates.{IsChanged, deleted_target, deleted_named, deleted};
 ghost use Rattle.op_update.specs.Steps.{IsChecked};
 
 use crate::asking::{Asking, Target, find_target};
@@ -49,7 +49,7 @@ fn not_leaf<D: Dir>(
     name: &Dn,
     target: Target<'_>,
 ) -> Result<LdapResult, NoMemory>
-    requires found { entry_of target.number.0 (D.rows asking.now.dir.now) ≡ Some target.entry.entry.now }
+    requires found { entry_of target.number.0 (D.rows asking.now.dir.now) ≡ Some target.entry.now }
     ensures ok { IfOk result (λ ended. ended
         ≡ not_leaf (entries_of (D.rows asking.now.dir.now)) asking.now.who.now name.now target.entry.entry.now) }
 {
@@ -68,7 +68,7 @@ fn delete_refusal<D: Dir>(
     name: &Dn,
     target: Target<'_>,
 ) -> Result<Option<LdapResult>, NoMemory>
-    requires found { entry_of target.number.0 (D.rows asking.now.dir.now) ≡ Some target.entry.entry.now }
+    requires found { entry_of target.number.0 (D.rows asking.now.dir.now) ≡ Some target.entry.now }
     ensures ok { IfOk result (λ refusal. refusal
         ≡ delete_refusal (entries_of (D.rows asking.now.dir.now)) asking.now.who.now name.now
         target.entry.entry.now) }
@@ -135,16 +135,16 @@ fn remove<D: Dir>(alloc: Global, dir: &mut D, number: EntryNo) -> Result<(), NoM
     }
 }
 
-// A delete of the name.
+// A delete of the entry that has the name, if there is one.
 fn delete_entry<D: Dir>(
     alloc: Global,
     dir: &mut D,
     who: &Requester,
     name: &Dn,
 ) -> Result<Option<LdapResult>, NoMemory>
-    requires named { name.now ≢ [] }
     ensures ok { IfOk result (λ refusal. IsChanged
-        (deleted_named (entries_of (D.rows dir.old)) who.now (Ok name.now))
+        (deleted_target (entries_of (D.rows dir.old)) who.now name.now
+        (named_in name.now (entries_of (D.rows dir.old))))
         refusal (entries_of (D.rows dir.new))) }
     ensures kept { OnErr result (D.rows dir.new ≡ D.rows dir.old) }
 {
@@ -155,6 +155,24 @@ fn delete_entry<D: Dir>(
             Ok(None)
         }
     }
+}
+
+// A delete of any name.
+fn delete_named<D: Dir>(
+    alloc: Global,
+    dir: &mut D,
+    who: &Requester,
+    name: &Dn,
+) -> Result<Option<LdapResult>, NoMemory>
+    ensures ok { IfOk result (λ refusal. IsChanged
+        (deleted_named (entries_of (D.rows dir.old)) who.now (Ok name.now))
+        refusal (entries_of (D.rows dir.new))) }
+    ensures kept { OnErr result (D.rows dir.new ≡ D.rows dir.old) }
+{
+    if name.len() == 0 {
+        return Ok(Some(result_of(alloc, ResultCode::UnwillingToPerform)));
+    }
+    delete_entry(alloc, dir, who, name)
 }
 
 /// Deletes the entry of the name (RFC 4511 4.8, X.511 11.2): one that the requester may remove, that isn't the suffix,
@@ -172,11 +190,8 @@ pub fn delete<D: Dir>(
         refusal (entries_of (D.rows dir.new))) }
     ensures kept { OnErr result (entries_of (D.rows dir.new) ≡ entries_of (D.rows dir.old)) }
 {
-    let Some(name) = read_named(alloc, request.name.as_slice())? else {
-        return Ok(Some(result_of(alloc, ResultCode::InvalidDnSyntax)));
-    };
-    if name.len() == 0 {
-        return Ok(Some(result_of(alloc, ResultCode::UnwillingToPerform)));
+    match read_named(alloc, request.name.as_slice())? {
+        Some(name) => delete_named(alloc, dir, who, &name),
+        None => Ok(Some(result_of(alloc, ResultCode::InvalidDnSyntax))),
     }
-    delete_entry(alloc, dir, who, &name)
 }
