@@ -1,3 +1,4 @@
 mod SeenLemmas
 mod ReadingLemmas
+mod CountLemmas
 mod UpdateLemmas

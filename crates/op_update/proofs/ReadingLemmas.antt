@@ -1,5 +1,5 @@
 -- The attributes of a request, read one after the other.
-use Rattle.std.proofs.Common.{◌≡◌, ◌≢◌, ◌⊎◌, inl, inr, ℕ, suc, ◌+◌, ◌<◌, Bool, true, false, ◌||◌, not, List, [], ◌∷◌, ◌++◌, length, drop, get_or, map, Option, Some, None, Result, Ok, Err, refl, sym, ap, ◌∙◌, add-one, append_assoc, arith}
+use Rattle.std.proofs.Common.{◌≡◌, ◌≢◌, ◌⊎◌, inl, inr, ℕ, suc, ◌+◌, ◌<◌, Bool, true, false, ◌||◌, List, [], ◌∷◌, ◌++◌, length, drop, get_or, Option, Some, None, Result, Ok, Err, refl, sym, ap, ◌∙◌, add-one, append_assoc}
 use Rattle.std.specs.Prelude.{◌==◌, if◌then◌else◌}
 use Rattle.std.specs.List.{AllByRecursion, IsDistinct, list_any}
 use Rattle.std.proofs.Math.Seq.{drop-cons}
@@ -12,7 +12,7 @@ use Rattle.schema_core.specs.Attributes.{attr_of}
 use Rattle.dn_names.specs.Names.{Keyed, TypeAndValue, RdnSequence}
 use Rattle.dir_tree.specs.Entries.{Attribute, EntryInformation, kinds_of, has_kind, has_key, values_of, is_match, IsGoodAttribute, IsGoodAttributes}
 use Rattle.dir_tree.specs.Changes.{set_in, with_value, with_values}
-use Rattle.op_write.specs.Loading.{with_pairs, with_own_values}
+use Rattle.op_write.specs.Loading.{with_pairs}
 use Rattle.ldap_msg.specs.declared.operations.ResultCode.{ResultCode}
 use Rattle.ldap_msg.specs.declared.operations.ResultCode.TheVariants as code
 use Rattle.ldap_msg.specs.declared.kinds.KindValues.{KindValues}
@@ -79,19 +79,6 @@ values-filled kind (octets ∷ rest) values some good = by (read_value kind octe
 
 -- ---- what comes twice
 
--- the items from a place on
-pub repeats-here : {A : Type 0} (same : A → A → Bool) (xs : List A) (index : ℕ) (x : A) → drop index xs ≡ x ∷ drop (index + 1) xs → list_any (same x) (drop (index + 1) xs) ≡ true → repeats same (drop index xs) ≡ true
-unfolding repeats
-repeats-here same xs index x left found = ap (repeats same) left ∙ ap (λ b. b || repeats same (drop (index + 1) xs)) found
-
-pub repeats-step : {A : Type 0} (same : A → A → Bool) (xs : List A) (index : ℕ) (x : A) → drop index xs ≡ x ∷ drop (index + 1) xs → list_any (same x) (drop (index + 1) xs) ≡ false → repeats same (drop index xs) ≡ repeats same (drop (index + 1) xs)
-unfolding repeats
-repeats-step same xs index x left none = ap (repeats same) left ∙ ap (λ b. b || repeats same (drop (index + 1) xs)) none
-
-pub repeats-none : {A : Type 0} (same : A → A → Bool) (xs : List A) → xs ≡ [] → repeats same xs ≡ false
-unfolding repeats
-repeats-none same xs none = ap (repeats same) none
-
 -- distinct items don't repeat, and the other way round
 all-false : {A : Type 0} (test : A → Bool) (xs : List A) → list_any test xs ≡ false → AllByRecursion (λ x. test x ≡ false) xs
 all-false test [] e = tt
@@ -106,7 +93,7 @@ unfolding repeats IsDistinct
 distinct-repeats same [] e = tt
 distinct-repeats same (x ∷ xs) e = (let parts = or_parts (list_any (same x) xs) (repeats same xs) e in (all-false (same x) xs parts.0, distinct-repeats same xs parts.1))
 
-repeats-distinct : {A : Type 0} (same : A → A → Bool) (xs : List A) → IsDistinct same xs → repeats same xs ≡ false
+pub repeats-distinct : {A : Type 0} (same : A → A → Bool) (xs : List A) → IsDistinct same xs → repeats same xs ≡ false
 unfolding repeats IsDistinct
 repeats-distinct same [] h = refl
 repeats-distinct same (x ∷ xs) h = rw (any-false (same x) xs h.0, repeats-distinct same xs h.1) refl

@@ -1,5 +1,5 @@
 -- Who asks, of the entries of a numbered tree.
-use Rattle.std.specs.Prelude.{◌≡◌, List, [], Option, Some, None}
+use Rattle.std.specs.Prelude.{◌≡◌, List, [], Option}
 use Rattle.std.specs.List.{AllByRecursion-prop}
 use Rattle.std.specs.Option.{option_and_then, option_map_or}
 use Rattle.std.proofs.Math.Bool.{Bool-set}

@@ -67,7 +67,8 @@ fn taken_refusal<D: Dir>(
 fn has_superior(tree: &Tree, name: &Dn) -> bool
     ensures exact { result ≡ has_name (superior_name name.now) (entries_of tree.now) }
 {
-    tree.find_prefix(name, name.len().saturating_sub(1)).is_some()
+    tree.find_prefix(name, name.len().saturating_sub(1))
+        .is_some()
 }
 
 // Whether the value may not be added.
@@ -134,11 +135,7 @@ fn refuses_entry<D: Dir>(asking: &Asking<'_, D>, entry: &Entry) -> bool
 }
 
 // The refusal where a rule is broken.
-fn rule_refusal(
-    alloc: Global,
-    tree: &Tree,
-    entry: &Entry,
-) -> Result<Option<LdapResult>, NoMemory>
+fn rule_refusal(alloc: Global, tree: &Tree, entry: &Entry) -> Result<Option<LdapResult>, NoMemory>
     ensures ok { IfOk result (λ refusal. refusal
         ≡ rule_refusal (broken_rule None (entries_of tree.now) entry.now)) }
 {

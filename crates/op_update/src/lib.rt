@@ -10,6 +10,7 @@ mod hiding;
 mod reading;
 mod results;
 mod texts;
+mod twice;
 
 pub use adding::add;
 pub use deleting::delete;

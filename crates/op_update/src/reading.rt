@@ -9,6 +9,7 @@ ghost use Rattle.op_update.specs.NewEntries.{fitting, read_value, read_values, r
 ghost use Rattle.op_update.specs.Steps.{cause_of, attribute_of, entry_from, IsPut};
 
 use crate::fault::Fault;
+use crate::twice::repeats;
 use dir_tree::{Entry, NoMemory};
 use dn_names::{Dn, Value, make_value};
 use ldap_msg::{KindValues, ResultCode};
@@ -79,43 +80,33 @@ fn read_attribute(alloc: Global, given: &KindValues) -> Result<Given, Fault>
     }
 }
 
-// Whether one of the others matches the value.
-fn matches_any(value: &Value, others: &[Value]) -> bool
-    ensures exact { result ≡ list_any (is_match value.now) others.now }
-{
-    others.iter().any(|other| value.key() == other.key())
-}
-
-// Whether two of the values match.
-fn repeats(values: &[Value]) -> bool
-    ensures exact { result ≡ repeats is_match values.now }
-{
-    for (index, first) in values.iter().enumerate() {
-        if matches_any(first, &values[index + 1..]) {
-            return true;
-        }
-    }
-    false
-}
-
 // Whether the type of the attribute is the entry's already, or two of the values match.
-fn comes_twice(entry: &Entry, given: &Given) -> bool
-    ensures exact { result
-        ≡ (has_kind given.now.kind.0 entry.now.attributes || repeats is_match given.now.values.items) }
+fn comes_twice(alloc: Global, entry: &Entry, given: &Given) -> Result<bool, NoMemory>
+    ensures ok { IfOk result (λ found. found
+        ≡ (has_kind given.now.kind.0 entry.now.attributes || repeats is_match given.now.values.items)) }
 {
-    entry.has_kind(given.kind) || repeats(&given.values)
+    if entry.has_kind(given.kind) {
+        return Ok(true);
+    }
+    repeats(alloc, &given.values)
 }
 
 // Puts the attribute last, unless a type or a value came twice, and keeps that one did. After the error, want of memory,
 // nothing was put.
-fn put_attribute(entry: &mut Entry, twice: &mut bool, given: Given) -> Result<(), NoMemory>
+fn put_attribute(
+    alloc: Global,
+    entry: &mut Entry,
+    twice: &mut bool,
+    given: Given,
+) -> Result<(), NoMemory>
     requires filled { given.values.items ≢ [] }
     ensures ok { OnOk result (IsPut twice.old entry.old (attribute_of given) twice.new entry.new) }
 {
     if *twice {
         return Ok(());
     }
-    if comes_twice(entry, &given) {
+    let found = comes_twice(alloc, entry, &given)?;
+    if found {
         *twice = true;
         return Ok(());
     }
@@ -131,7 +122,7 @@ fn read_each(alloc: Global, name: Dn, given: &[KindValues]) -> Result<Entry, Fau
     let mut twice = false;
     for item in given {
         match read_attribute(alloc, item) {
-            Ok(attribute) => put_attribute(&mut entry, &mut twice, attribute)?,
+            Ok(attribute) => put_attribute(alloc, &mut entry, &mut twice, attribute)?,
             Err(fault) => return Err(fault),
         }
     }

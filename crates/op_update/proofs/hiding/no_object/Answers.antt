@@ -1,5 +1,5 @@
 -- Without an entry there is no name.
-use Rattle.std.proofs.Common.{◌≡◌, ◌∙◌, Some, None, ap, sym}
+use Rattle.std.proofs.Common.{◌≡◌, ◌∙◌, None, ap, sym}
 use Rattle.std.specs.Prelude.{Option}
 use Rattle.dir_tree.specs.Numbered.{entry_of}
 use Rattle.dir_tree.specs.declared.number.EntryNo.{EntryNo}
