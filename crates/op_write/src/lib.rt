@@ -12,3 +12,4 @@ pub use laws::{
     a_file_begins_with_a_record, loading_puts_an_entry_in, records_are_loaded_one_by_one,
 };
 pub use load::load_record;
+pub use own::add_own_values;

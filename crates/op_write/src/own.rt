@@ -36,7 +36,7 @@ fn add_pairs(alloc: Global, entry: &mut Entry, pairs: &[Pair]) -> Result<(), NoM
 }
 
 /// Adds those values of its own RDN that the entry lacks, last.
-pub(crate) fn add_own_values(alloc: Global, entry: &mut Entry) -> Result<(), NoMemory>
+pub fn add_own_values(alloc: Global, entry: &mut Entry) -> Result<(), NoMemory>
     ensures ok { OnOk result (entry.new ≡ with_own_values entry.old) }
 {
     // As nearly every record gives them, the name is mostly not copied.

@@ -1,0 +1,4 @@
+mod SeenLemmas
+mod ReadingLemmas
+mod CountLemmas
+mod UpdateLemmas

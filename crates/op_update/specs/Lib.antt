@@ -1,0 +1,9 @@
+-- what public clauses cite
+pub mod Refusals
+pub mod Deleting
+pub mod NewEntries
+pub mod Adding
+pub mod Updates
+-- for the inside of the crate alone
+pub mod Asking
+pub mod Steps

@@ -1,0 +1,55 @@
+-- How an update is taken step by step: what a call answers for each step.
+use Rattle.std.specs.Prelude.{◌≡◌, ℕ, Bool, List, ◌∷◌, ◌++◌, Option, Some, None, Result, Ok, Err, if◌then◌else◌}
+use Rattle.dn_names.specs.Names.{RdnSequence}
+use Rattle.dir_tree.specs.Entries.{Attribute, EntryInformation}
+use Rattle.dir_tree.specs.Trees.{named_in, taken_out}
+use Rattle.dir_tree.specs.Numbered.{Numbered, entries_of, entry_of}
+use Rattle.acdf_filters.specs.declared.asking.Requester.{Requester}
+use Rattle.ldap_msg.specs.declared.operations.ResultCode.{ResultCode}
+use Rattle.ldap_msg.specs.declared.operations.ResultCode.TheVariants as code
+use Rattle.op_update.specs.declared.deleting.Checked.{Checked}
+use Rattle.op_update.specs.declared.deleting.Checked.TheVariants.{Refused, Allowed}
+use Rattle.op_update.specs.declared.fault.Fault.{Fault}
+use Rattle.op_update.specs.declared.fault.Fault.TheVariants as fault
+use Rattle.op_update.specs.declared.reading.Given.{Given}
+use Rattle.op_update.specs.NewEntries.{without_twice}
+use Rattle.op_update.specs.Updates.{refused, unless, deleted_target}
+
+-- ---- deletes
+
+-- the entry of the number may go, and a delete of the name takes it out
+pub record IsAllowed (rows : List Numbered) (who : Requester) (name : RdnSequence) (id : ℕ) : Type 0 where
+  pub target : EntryInformation
+  pub found : entry_of id rows ≡ Some target
+  pub leaves : deleted_target (entries_of rows) who name (named_in name (entries_of rows)) ≡ unless None (entries_of rows) (taken_out target.name (entries_of rows))
+
+-- what came of a delete's table is what a delete of the name comes to
+abbrev pub IsChecked : List Numbered → Requester → RdnSequence → Checked → Type 0
+IsChecked rows who name (Refused refusal) =
+    deleted_target (entries_of rows) who name (named_in name (entries_of rows)) ≡ refused (entries_of rows) refusal
+IsChecked rows who name (Allowed number) = IsAllowed rows who name number.0
+
+-- ---- adds
+
+-- the code of a fault; want of memory has none
+abbrev pub cause_of : Fault → Option ResultCode
+cause_of (fault.Refused code) = Some code
+cause_of fault.NoMemory = None
+
+-- the attribute that a type and values are
+abbrev pub attribute_of : Given → Attribute
+attribute_of given = record { kind = given.kind.0; values = given.values.items }
+
+-- the entry of the name with the attributes
+abbrev pub entry_from : RdnSequence → Result (List Attribute) ResultCode → Result EntryInformation ResultCode
+entry_from name (Ok attributes) = Ok (record { name = name; attributes = attributes })
+entry_from name (Err code) = Err code
+
+-- the attributes so far with those that are left, where none came twice
+abbrev pub finished : Bool → List Attribute → List Attribute → Result (List Attribute) ResultCode
+finished twice done left = if twice then Err code.AttributeOrValueExists else without_twice (done ++ left)
+
+-- the attribute was put last, or it is kept that one came twice
+pub record IsPut (twice : Bool) (old : EntryInformation) (attribute : Attribute) (later : Bool) (new : EntryInformation) : Type 0 where
+  pub name : new.name ≡ old.name
+  pub goes_on : (left : List Attribute) → finished later new.attributes left ≡ finished twice old.attributes (attribute ∷ left)

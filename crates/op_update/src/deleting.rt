@@ -1,0 +1,197 @@
+//! Deletes.
+
+ghost use Rattle.std.specs.Prelude.{◌≡◌, Some, Ok, IfOk, OnOk, OnErr};
+ghost use Rattle.dir_tree.specs.Entries.{EntryInformation};
+ghost use Rattle.dir_tree.specs.Trees.{taken_out, named_in};
+ghost use Rattle.dir_tree.specs.Numbered.{entry_of, entries_of};
+ghost use Rattle.op_update.specs.Deleting.{is_suffix, not_leaf, delete_refusal};
+ghost use Rattle.op_update.specs.Updates.{IsChanged, deleted_target, deleted_named, deleted};
+ghost use Rattle.op_update.specs.Steps.{IsChecked};
+
+use crate::asking::{Asking, Target, find_target};
+use crate::hiding::{hidden, no_such_object};
+use crate::results::result_of;
+use crate::texts::read_named;
+use acdf_filters::{Item, Requester};
+use acdf_lists::Dir;
+use aci_item::Permission;
+use dir_tree::{EntryNo, NoMemory, Tree};
+use dn_names::{Dn, same};
+use ldap_msg::{DeleteRequest, LdapResult, ResultCode};
+use std::alloc::{AllocError, Global};
+
+/// What came of a delete's table.
+#[derive(Drop)]
+pub(crate) enum Checked {
+    /// The delete is refused.
+    Refused(LdapResult),
+    /// The entry of the number may go.
+    Allowed(EntryNo),
+}
+
+// Whether the name is that of the suffix.
+fn is_suffix(tree: &Tree, name: &Dn) -> bool
+    ensures exact { result ≡ is_suffix name.now (entries_of tree.now) }
+{
+    let Some(number) = tree.suffix() else {
+        return false;
+    };
+    match tree.at(number) {
+        Some(first) => same(name, first.name()),
+        None => false,
+    }
+}
+
+// What is answered where entries stand below the target.
+fn not_leaf<D: Dir>(
+    alloc: Global,
+    asking: &Asking<'_, D>,
+    name: &Dn,
+    target: Target<'_>,
+) -> Result<LdapResult, NoMemory>
+    requires found { entry_of target.number.0 (D.rows asking.now.dir.now) ≡ Some target.entry.now }
+    ensures ok { IfOk result (λ ended. ended
+        ≡ not_leaf (entries_of (D.rows asking.now.dir.now)) asking.now.who.now name.now target.entry.entry.now) }
+{
+    if asking.allows(target, Item::Entry, Permission::DiscloseOnError) {
+        Ok(result_of(alloc, ResultCode::NotAllowedOnNonLeaf))
+    } else {
+        no_such_object(alloc, asking, name)
+    }
+}
+
+// Why the target, which has the name, is not deleted.
+#[tactic(auto, unfolding(crate::specs::Deleting::delete_refusal))]
+fn delete_refusal<D: Dir>(
+    alloc: Global,
+    asking: &Asking<'_, D>,
+    name: &Dn,
+    target: Target<'_>,
+) -> Result<Option<LdapResult>, NoMemory>
+    requires found { entry_of target.number.0 (D.rows asking.now.dir.now) ≡ Some target.entry.now }
+    ensures ok { IfOk result (λ refusal. refusal
+        ≡ delete_refusal (entries_of (D.rows asking.now.dir.now)) asking.now.who.now name.now
+        target.entry.entry.now) }
+{
+    let tree = asking.dir.tree();
+    if !asking.allows(target, Item::Entry, Permission::Remove) {
+        return Ok(Some(hidden(alloc, asking, name)?));
+    }
+    if is_suffix(tree, target.entry.name()) {
+        return Ok(Some(result_of(alloc, ResultCode::UnwillingToPerform)));
+    }
+    if tree.has_below(target.number) {
+        return Ok(Some(not_leaf(alloc, asking, name, target)?));
+    }
+    Ok(None)
+}
+
+// What comes of the table, by the target, if there is one.
+fn check_target<D: Dir>(
+    alloc: Global,
+    asking: &Asking<'_, D>,
+    name: &Dn,
+) -> Result<Checked, NoMemory>
+    ensures ok { IfOk result (λ checked.
+        IsChecked (D.rows asking.now.dir.now) asking.now.who.now name.now checked) }
+{
+    let Some(target) = find_target(asking.dir.tree(), name) else {
+        return Ok(Checked::Refused(hidden(alloc, asking, name)?));
+    };
+    match delete_refusal(alloc, asking, name, target)? {
+        Some(refusal) => Ok(Checked::Refused(refusal)),
+        None => Ok(Checked::Allowed(target.number)),
+    }
+}
+
+// The same of a directory that isn't asked yet.
+fn check_delete<D: Dir>(
+    alloc: Global,
+    dir: &D,
+    who: &Requester,
+    name: &Dn,
+) -> Result<Checked, NoMemory>
+    ensures ok { IfOk result (λ checked. IsChecked (D.rows dir.now) who.now name.now checked) }
+{
+    let known = dir.memberships(alloc, who)?;
+    let asking = Asking {
+        dir,
+        who,
+        known: &known,
+    };
+    check_target(alloc, &asking, name)
+}
+
+// Takes the entry of the number out. After the error, want of memory, the directory is as before.
+fn remove<D: Dir>(alloc: Global, dir: &mut D, number: EntryNo) -> Result<(), NoMemory>
+    ensures ok { OnOk result ((target : EntryInformation) → entry_of number.0 (D.rows dir.old) ≡ Some target
+        → entries_of (D.rows dir.new) ≡ taken_out target.name (entries_of (D.rows dir.old))) }
+    ensures kept { OnErr result (D.rows dir.new ≡ D.rows dir.old) }
+{
+    dir.tree().entries_form_a_tree();
+    match dir.remove(alloc, number) {
+        Ok(_entry) => Ok(()),
+        Err(_) => Err(AllocError),
+    }
+}
+
+// A delete of the entry that has the name, if there is one.
+fn delete_entry<D: Dir>(
+    alloc: Global,
+    dir: &mut D,
+    who: &Requester,
+    name: &Dn,
+) -> Result<Option<LdapResult>, NoMemory>
+    ensures ok { IfOk result (λ refusal. IsChanged
+        (deleted_target (entries_of (D.rows dir.old)) who.now name.now
+        (named_in name.now (entries_of (D.rows dir.old))))
+        refusal (entries_of (D.rows dir.new))) }
+    ensures kept { OnErr result (D.rows dir.new ≡ D.rows dir.old) }
+{
+    match check_delete(alloc, dir, who, name)? {
+        Checked::Refused(refusal) => Ok(Some(refusal)),
+        Checked::Allowed(number) => {
+            remove(alloc, dir, number)?;
+            Ok(None)
+        }
+    }
+}
+
+// A delete of any name.
+fn delete_named<D: Dir>(
+    alloc: Global,
+    dir: &mut D,
+    who: &Requester,
+    name: &Dn,
+) -> Result<Option<LdapResult>, NoMemory>
+    ensures ok { IfOk result (λ refusal. IsChanged
+        (deleted_named (entries_of (D.rows dir.old)) who.now (Ok name.now))
+        refusal (entries_of (D.rows dir.new))) }
+    ensures kept { OnErr result (D.rows dir.new ≡ D.rows dir.old) }
+{
+    if name.len() == 0 {
+        return Ok(Some(result_of(alloc, ResultCode::UnwillingToPerform)));
+    }
+    delete_entry(alloc, dir, who, name)
+}
+
+/// Deletes the entry of the name (RFC 4511 4.8, X.511 11.2): one that the requester may remove, that isn't the suffix,
+/// and below which none stands. None where it was done, and otherwise the result that refuses it, with the directory as
+/// it was: what the requester may not know of is answered as what is not there. The error comes where memory is wanted,
+/// and all is then as it was.
+pub fn delete<D: Dir>(
+    alloc: Global,
+    dir: &mut D,
+    who: &Requester,
+    request: &DeleteRequest,
+) -> Result<Option<LdapResult>, NoMemory>
+    ensures ok { IfOk result (λ refusal. IsChanged
+        (deleted (entries_of (D.rows dir.old)) who.now request.now)
+        refusal (entries_of (D.rows dir.new))) }
+    ensures kept { OnErr result (entries_of (D.rows dir.new) ≡ entries_of (D.rows dir.old)) }
+{
+    match read_named(alloc, request.name.as_slice())? {
+        Some(name) => delete_named(alloc, dir, who, &name),
+        None => Ok(Some(result_of(alloc, ResultCode::InvalidDnSyntax))),
+    }
+}
