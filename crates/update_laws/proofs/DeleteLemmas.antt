@@ -170,16 +170,18 @@ may-deleted_target :
 may-deleted_target entries who request name None read some is none = absurd cc
 may-deleted_target entries who request name (Some target) read some is none =
     let may = IsDeletable-unrefused entries who name target
-    (unless-made (delete_refusal entries who name target) entries (taken_out target.name entries) none) in
-    (target, record {
-      name = name;
-      name_read = read;
-      named = some;
-      found = is;
-      allowed = may.allowed;
-      other = may.other;
-      alone = may.alone;
-    })
+    (unless-made (delete_refusal entries who name target) entries (taken_out target.name entries) none) in (
+      target,
+      record {
+        name = name;
+        name_read = read;
+        named = some;
+        found = is;
+        allowed = may.allowed;
+        other = may.other;
+        alone = may.alone;
+      },
+    )
 
 may-deleted_named :
     (entries : List EntryInformation) (who : Requester) (request : DeleteRequest) (found : Result RdnSequence BadName)

@@ -62,19 +62,21 @@ may-added_entry entries who request name (Err fault) name_read some read none = 
 may-added_entry entries who request name (Ok attributes) name_read some read none =
     let entry = new_entry name attributes in
     let may = IsAddable-unrefused entries who name entry
-    (unless-made (add_refusal entries who name entry) entries (put_in entry entries) none) in
-    (entry, record {
-      name = name;
-      name_read = name_read;
-      named = some;
-      attributes = attributes;
-      attributes_read = read;
-      is = refl;
-      free = may.free;
-      under = may.under;
-      allowed = MayAddEach-unrefused (granted_new entries who entry) entry may.allowed;
-      unbroken = may.unbroken;
-    })
+    (unless-made (add_refusal entries who name entry) entries (put_in entry entries) none) in (
+      entry,
+      record {
+        name = name;
+        name_read = name_read;
+        named = some;
+        attributes = attributes;
+        attributes_read = read;
+        is = refl;
+        free = may.free;
+        under = may.under;
+        allowed = MayAddEach-unrefused (granted_new entries who entry) entry may.allowed;
+        unbroken = may.unbroken;
+      },
+    )
 
 may-added_named :
     (entries : List EntryInformation) (who : Requester) (request : AddRequest) (found : Result RdnSequence BadName)

@@ -105,11 +105,12 @@ IsGoodAttributes-read given attributes is =
 
 -- the entry with further values has the same name, and good attributes
 name-with_value : (kind : ℕ) (value : Keyed) (entry : EntryInformation) → (with_value kind value entry).name ≡ entry.name
-name-with_value kind value entry = elim (has_key value.key (values_of kind entry.attributes))
-as (λ there. (if there then entry else record entry { attributes = put_value kind value entry.attributes }).name ≡ entry.name) [
-  | true ↦ refl
-  | false ↦ refl
-]
+name-with_value kind value entry =
+    elim (has_key value.key (values_of kind entry.attributes))
+    as (λ there. (if there then entry else record entry { attributes = put_value kind value entry.attributes }).name ≡ entry.name) [
+      | true ↦ refl
+      | false ↦ refl
+    ]
 
 name-with_pairs : (entry : EntryInformation) (pairs : List TypeAndValue) → (with_pairs entry pairs).name ≡ entry.name
 unfolding with_pairs

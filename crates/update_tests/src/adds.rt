@@ -15,7 +15,11 @@ fn check_refused(rt: &impl Abort, alloc: Global, rows: &'static [Row]) -> Result
     for (who, name, attributes, want) in rows {
         let found = ask_add(alloc, &mut dir, who, name, attributes)?;
         assert_eq!(rt; found.as_str(), *want, "{name} {attributes:?} by {who}");
-        assert_eq!(rt; names(alloc, &dir)?.as_str(), NAMES, "after {name} by {who}");
+        assert_eq!(rt;
+            names(alloc, &dir)?.as_str(),
+            NAMES,
+            "after {name} by {who}"
+        );
     }
     Ok(())
 }
@@ -59,17 +63,32 @@ static UNREAD: [Row; 11] = [
     // no values, before all else of attributes
     (ANN, NEW, &[("cn", &[])], "2"),
     (ANN, NEW, &[("zz", &["x"]), ("cn", &[])], "2"),
-    (ANYONE, "ou=people,dc=school", &[("zz", &[]), ("cn", &["x"])], "2"),
+    (
+        ANYONE,
+        "ou=people,dc=school",
+        &[("zz", &[]), ("cn", &["x"])],
+        "2",
+    ),
     // the first attribute that is none, and in it the first value
     (ANN, NEW, &[("zz", &["x"])], "17"),
     (ANN, NEW, &[("zz", &["x"]), ("c", &["Nether"])], "17"),
     (BEN, NEW, &[("2.5.4.999", &["x"])], "17"),
     (ANN, NEW, &[("c", &["Nether"]), ("zz", &["x"])], "21"),
     (ANN, NEW, &[("c", &["NL", "Nether"])], "21"),
-    (BEN, NEW, &[("objectClass", &["inetOrgPerson", "nobody"])], "21"),
+    (
+        BEN,
+        NEW,
+        &[("objectClass", &["inetOrgPerson", "nobody"])],
+        "21",
+    ),
     (ANYONE, NEW, &[("member", &["ben"])], "21"),
     // before what comes twice
-    (ANN, NEW, &[("cn", &["a", "a"]), ("cn", &["b"]), ("zz", &["x"])], "17"),
+    (
+        ANN,
+        NEW,
+        &[("cn", &["a", "a"]), ("cn", &["b"]), ("zz", &["x"])],
+        "17",
+    ),
 ];
 
 #[test]
@@ -78,13 +97,28 @@ fn the_first_attribute_that_cannot_be_read_decides(rt: HostRuntime) -> Result<()
 }
 
 static TWICE: [Row; 6] = [
-    (ANN, NEW, &[("cn", &["a"]), ("sn", &["a"]), ("CN", &["b"])], "20"),
+    (
+        ANN,
+        NEW,
+        &[("cn", &["a"]), ("sn", &["a"]), ("CN", &["b"])],
+        "20",
+    ),
     (ANN, NEW, &[("cn", &["a"]), ("2.5.4.3", &["b"])], "20"),
     (BEN, NEW, &[("cn", &["Ann Lee", "x", "ANN  LEE"])], "20"),
-    (ANN, NEW, &[("telephoneNumber", &["+1 555", "+1-555"])], "20"),
+    (
+        ANN,
+        NEW,
+        &[("telephoneNumber", &["+1 555", "+1-555"])],
+        "20",
+    ),
     // before what is there
     (ANYONE, "ou=people,dc=school", &[("cn", &["a", "A"])], "20"),
-    (BEN, "ou=cellar,dc=school", &[("cn", &["a"]), ("cn", &["b"])], "20"),
+    (
+        BEN,
+        "ou=cellar,dc=school",
+        &[("cn", &["a"]), ("cn", &["b"])],
+        "20",
+    ),
 ];
 
 #[test]
@@ -119,8 +153,18 @@ static ALONE: [Row; 6] = [
     (ANYONE, "cn=x,ou=none,dc=school", &DEVICE, "32 dc=school"),
     (ANN, "dc=other", &DEVICE, "32"),
     (ANN, "cn=x,dc=other", &DEVICE, "32"),
-    (ANN, "cn=x,cn=y,ou=cellar,dc=school", &DEVICE, "32 ou=cellar,dc=school"),
-    (BEN, "cn=x,cn=y,ou=cellar,dc=school", &DEVICE, "32 dc=school"),
+    (
+        ANN,
+        "cn=x,cn=y,ou=cellar,dc=school",
+        &DEVICE,
+        "32 ou=cellar,dc=school",
+    ),
+    (
+        BEN,
+        "cn=x,cn=y,ou=cellar,dc=school",
+        &DEVICE,
+        "32 dc=school",
+    ),
 ];
 
 #[test]
@@ -138,7 +182,15 @@ static NOT_ADDED: [Row; 8] = [
     // a subentry by the subentryACI of its superior alone
     (BEN, "cn=more,dc=school", &SUBENTRY, "50"),
     (ANN, "cn=more,ou=people,dc=school", &SUBENTRY, "50"),
-    (BEN, "cn=more,dc=school", &[("objectClass", &["subentry"]), ("subtreeSpecification", &["{ x }"])], "50"),
+    (
+        BEN,
+        "cn=more,dc=school",
+        &[
+            ("objectClass", &["subentry"]),
+            ("subtreeSpecification", &["{ x }"]),
+        ],
+        "50",
+    ),
 ];
 
 #[test]
@@ -153,14 +205,24 @@ static NOT_ALL_ADDED: [Row; 5] = [
     (
         BEN,
         GO,
-        &[("objectClass", &["groupOfNames"]), ("member", &["uid=ben,ou=people,dc=school", "uid=ann,ou=people,dc=school"])],
+        &[
+            ("objectClass", &["groupOfNames"]),
+            (
+                "member",
+                &["uid=ben,ou=people,dc=school", "uid=ann,ou=people,dc=school"],
+            ),
+        ],
         "50",
     ),
     // a type
     (
         BEN,
         GO,
-        &[("objectClass", &["groupOfNames"]), ("member", &["uid=ben,ou=people,dc=school"]), ("description", &["d"])],
+        &[
+            ("objectClass", &["groupOfNames"]),
+            ("member", &["uid=ben,ou=people,dc=school"]),
+            ("description", &["d"]),
+        ],
         "50",
     ),
     // those of its own RDN
@@ -202,9 +264,22 @@ fn each_type_and_value_is_to_be_granted(rt: HostRuntime) -> Result<(), Fail> {
 }
 
 static RULED: [Row; 6] = [
-    (ANN, NEW, &[("objectClass", &["inetOrgPerson"]), ("cn", &["N"])], "65"),
+    (
+        ANN,
+        NEW,
+        &[("objectClass", &["inetOrgPerson"]), ("cn", &["N"])],
+        "65",
+    ),
     (ANN, NEW, &NOTHING, "65"),
-    (ANN, "cn=more,dc=school", &[("objectClass", &["subentry"]), ("subtreeSpecification", &["{ x }"])], "21"),
+    (
+        ANN,
+        "cn=more,dc=school",
+        &[
+            ("objectClass", &["subentry"]),
+            ("subtreeSpecification", &["{ x }"]),
+        ],
+        "21",
+    ),
     (
         ANN,
         NEW,
@@ -218,7 +293,12 @@ static RULED: [Row; 6] = [
     ),
     (ANN, "cn=z,cn=open,dc=school", &DEVICE, "64"),
     // granted in the store, where it breaks a rule
-    (BEN, "cn=bat,ou=store,dc=school", &[("objectClass", &["device"]), ("sn", &["N"])], "65"),
+    (
+        BEN,
+        "cn=bat,ou=store,dc=school",
+        &[("objectClass", &["device"]), ("sn", &["N"])],
+        "65",
+    ),
 ];
 
 #[test]
@@ -280,7 +360,11 @@ fn an_entry_that_may_be_added_stands_in_its_place(rt: HostRuntime) -> Result<(),
         let found = ask_add(rt.alloc(), &mut dir, who, name, attributes)?;
         assert_eq!(rt; found.as_str(), "0", "{name} by {who}");
         assert_eq!(rt; count(&dir), COUNT + 1, "{name} by {who}");
-        assert_eq!(rt; shown(rt.alloc(), &dir, name)?.as_str(), *want, "{name} by {who}");
+        assert_eq!(rt;
+            shown(rt.alloc(), &dir, name)?.as_str(),
+            *want,
+            "{name} by {who}"
+        );
     }
     Ok(())
 }

@@ -15,7 +15,11 @@ fn check_refused(rt: &impl Abort, alloc: Global, rows: &'static [Row]) -> Result
     for (who, name, want) in rows {
         let found = ask_delete(alloc, &mut dir, who, name)?;
         assert_eq!(rt; found.as_str(), *want, "{name} by {who}");
-        assert_eq!(rt; names(alloc, &dir)?.as_str(), NAMES, "after {name} by {who}");
+        assert_eq!(rt;
+            names(alloc, &dir)?.as_str(),
+            NAMES,
+            "after {name} by {who}"
+        );
     }
     Ok(())
 }
@@ -91,13 +95,37 @@ fn neither_the_suffix_nor_what_stands_above_others_goes(rt: HostRuntime) -> Resu
 
 // Who asks, the name, and the name of the entry that goes.
 static DONE: [Row; 7] = [
-    (ANN, "uid=ben,ou=people,dc=school", "uid=ben,ou=people,dc=school"),
-    (ANN, "UID=Ben , OU=PEOPLE,dc=school", "uid=ben,ou=people,dc=school"),
-    (ANN, "cn=chest,ou=cellar,dc=school", "cn=chest,ou=cellar,dc=school"),
+    (
+        ANN,
+        "uid=ben,ou=people,dc=school",
+        "uid=ben,ou=people,dc=school",
+    ),
+    (
+        ANN,
+        "UID=Ben , OU=PEOPLE,dc=school",
+        "uid=ben,ou=people,dc=school",
+    ),
+    (
+        ANN,
+        "cn=chest,ou=cellar,dc=school",
+        "cn=chest,ou=cellar,dc=school",
+    ),
     (ANN, "cn=open,dc=school", "cn=open,dc=school"),
-    (ANN, "cn=chess,ou=clubs,dc=school", "cn=chess,ou=clubs,dc=school"),
-    (BEN, "cn=chess,ou=clubs,dc=school", "cn=chess,ou=clubs,dc=school"),
-    (BEN, "cn=ball,ou=store,dc=school", "cn=ball,ou=store,dc=school"),
+    (
+        ANN,
+        "cn=chess,ou=clubs,dc=school",
+        "cn=chess,ou=clubs,dc=school",
+    ),
+    (
+        BEN,
+        "cn=chess,ou=clubs,dc=school",
+        "cn=chess,ou=clubs,dc=school",
+    ),
+    (
+        BEN,
+        "cn=ball,ou=store,dc=school",
+        "cn=ball,ou=store,dc=school",
+    ),
 ];
 
 // The names but for one.

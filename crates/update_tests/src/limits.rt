@@ -23,7 +23,13 @@ fn answer(alloc: Global, len: usize, country: &str) -> Result<(String, usize), F
         ("l", &[country]),
         ("cn", &["N"]),
     ];
-    let found = ask_add(alloc, &mut dir, ANN, "cn=N,ou=people,dc=school", &attributes)?;
+    let found = ask_add(
+        alloc,
+        &mut dir,
+        ANN,
+        "cn=N,ou=people,dc=school",
+        &attributes,
+    )?;
     Ok((found, count(&dir)))
 }
 
@@ -34,21 +40,33 @@ fn a_value_has_up_to_65536_octets(rt: HostRuntime) -> Result<(), Fail> {
     let (found, entries) = answer(rt.alloc(), 65_537, "here")?;
     assert_eq!(rt; (found.as_str(), entries), ("19", COUNT));
     let (found, entries) = answer(rt.alloc(), 65_537, "")?;
-    assert_eq!(rt; (found.as_str(), entries), ("19", COUNT), "the first decides");
+    assert_eq!(rt;
+        (found.as_str(), entries),
+        ("19", COUNT),
+        "the first decides"
+    );
     Ok(())
 }
 
 // Appends a subentry of this number.
 fn put_subentry(out: &mut String, number: usize) -> Result<(), Fail> {
-    write!(out, "\ndn: cn=s{number},dc=crowd\nobjectClass: subentry\nobjectClass: accessControlSubentry\n")?;
-    write!(out, "subtreeSpecification: {{ }}\nprescriptiveACI: {EMPTY_ITEM}\n")?;
+    write!(
+        out,
+        "\ndn: cn=s{number},dc=crowd\nobjectClass: subentry\nobjectClass: accessControlSubentry\n"
+    )?;
+    write!(
+        out,
+        "subtreeSpecification: {{ }}\nprescriptiveACI: {EMPTY_ITEM}\n"
+    )?;
     Ok(())
 }
 
-const EMPTY_ITEM: &str = "{ identificationTag \"e\", precedence 0, authenticationLevel none, itemOrUserFirst userFirst: { \
+const EMPTY_ITEM: &str =
+    "{ identificationTag \"e\", precedence 0, authenticationLevel none, itemOrUserFirst userFirst: { \
     userClasses { }, userPermissions { } } }";
 
-const ALL_MAY_ADD: &str = "{ identificationTag \"a\", precedence 0, authenticationLevel none, itemOrUserFirst userFirst: { \
+const ALL_MAY_ADD: &str =
+    "{ identificationTag \"a\", precedence 0, authenticationLevel none, itemOrUserFirst userFirst: { \
     userClasses { allUsers }, userPermissions { { protectedItems { entry, attributeType { objectClass, cn, \
     subtreeSpecification, prescriptiveACI }, allAttributeValues { objectClass, cn, subtreeSpecification, \
     prescriptiveACI } }, grantsAndDenials { grantAdd } } } } }";
@@ -56,7 +74,10 @@ const ALL_MAY_ADD: &str = "{ identificationTag \"a\", precedence 0, authenticati
 // A suffix with so many access control subentries.
 fn crowd(alloc: Global, number: usize) -> Result<String, Fail> {
     let mut out = String::new(alloc);
-    write!(out, "dn: dc=crowd\nobjectClass: domain\nadministrativeRole: autonomousArea\nsubentryACI: {ALL_MAY_ADD}\n")?;
+    write!(
+        out,
+        "dn: dc=crowd\nobjectClass: domain\nadministrativeRole: autonomousArea\nsubentryACI: {ALL_MAY_ADD}\n"
+    )?;
     for index in 0..number {
         put_subentry(&mut out, index)?;
     }
@@ -83,6 +104,10 @@ fn a_directory_has_up_to_256_access_control_subentries(rt: HostRuntime) -> Resul
     let found = ask_add(rt.alloc(), &mut dir, ANYONE, "cn=two,dc=crowd", &ONE_MORE)?;
     assert_eq!(rt; (found.as_str(), count(&dir)), ("11", 257));
     let found = ask_add(rt.alloc(), &mut dir, ANYONE, "cn=two,dc=crowd", &PLAIN)?;
-    assert_eq!(rt; (found.as_str(), count(&dir)), ("0", 258), "no access control subentry");
+    assert_eq!(rt;
+        (found.as_str(), count(&dir)),
+        ("0", 258),
+        "no access control subentry"
+    );
     Ok(())
 }

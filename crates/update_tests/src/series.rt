@@ -48,10 +48,25 @@ fn what_was_added_can_be_deleted_and_added_again(rt: HostRuntime) -> Result<(), 
 
 static BRANCH: [Step; 5] = [
     (ANN, Change::Delete("ou=cellar,dc=school"), "66", COUNT),
-    (ANN, Change::Delete("cn=chest,ou=cellar,dc=school"), "0", COUNT - 1),
+    (
+        ANN,
+        Change::Delete("cn=chest,ou=cellar,dc=school"),
+        "0",
+        COUNT - 1,
+    ),
     (ANN, Change::Delete("ou=cellar,dc=school"), "0", COUNT - 2),
-    (ANN, Change::Delete("ou=cellar,dc=school"), "32 dc=school", COUNT - 2),
-    (BEN, Change::Delete("ou=cellar,dc=school"), "32 dc=school", COUNT - 2),
+    (
+        ANN,
+        Change::Delete("ou=cellar,dc=school"),
+        "32 dc=school",
+        COUNT - 2,
+    ),
+    (
+        BEN,
+        Change::Delete("ou=cellar,dc=school"),
+        "32 dc=school",
+        COUNT - 2,
+    ),
 ];
 
 #[test]
@@ -73,12 +88,37 @@ static SUBENTRIES: [Step; 7] = [
     // what is no longer open is no longer known of
     (ANYONE, Change::Delete("ou=groups,dc=school"), "50", COUNT),
     (ANN, Change::Delete("cn=open,dc=school"), "0", COUNT - 1),
-    (ANYONE, Change::Delete("ou=groups,dc=school"), "32", COUNT - 1),
+    (
+        ANYONE,
+        Change::Delete("ou=groups,dc=school"),
+        "32",
+        COUNT - 1,
+    ),
     // a new subentry is in force at once
-    (ANYONE, Change::Delete("cn=chest,ou=cellar,dc=school"), "32", COUNT - 1),
-    (ANN, Change::Add("cn=free,dc=school", &FREE_FOR_ALL), "0", COUNT),
-    (ANYONE, Change::Delete("cn=chest,ou=cellar,dc=school"), "0", COUNT - 1),
-    (ANYONE, Change::Delete("ou=cellar,dc=school"), "0", COUNT - 2),
+    (
+        ANYONE,
+        Change::Delete("cn=chest,ou=cellar,dc=school"),
+        "32",
+        COUNT - 1,
+    ),
+    (
+        ANN,
+        Change::Add("cn=free,dc=school", &FREE_FOR_ALL),
+        "0",
+        COUNT,
+    ),
+    (
+        ANYONE,
+        Change::Delete("cn=chest,ou=cellar,dc=school"),
+        "0",
+        COUNT - 1,
+    ),
+    (
+        ANYONE,
+        Change::Delete("ou=cellar,dc=school"),
+        "0",
+        COUNT - 2,
+    ),
 ];
 
 #[test]
@@ -92,10 +132,30 @@ static OFFICE: [(&str, &[&str]); 2] = [
 ];
 
 static GROUPS: [Step; 4] = [
-    (BEN, Change::Delete("cn=chest,ou=cellar,dc=school"), "32 dc=school", COUNT),
-    (ANN, Change::Delete("cn=office,ou=groups,dc=school"), "0", COUNT - 1),
-    (ANN, Change::Delete("uid=ben,ou=people,dc=school"), "50", COUNT - 1),
-    (ANN, Change::Add("cn=office,ou=groups,dc=school", &OFFICE), "50", COUNT - 1),
+    (
+        BEN,
+        Change::Delete("cn=chest,ou=cellar,dc=school"),
+        "32 dc=school",
+        COUNT,
+    ),
+    (
+        ANN,
+        Change::Delete("cn=office,ou=groups,dc=school"),
+        "0",
+        COUNT - 1,
+    ),
+    (
+        ANN,
+        Change::Delete("uid=ben,ou=people,dc=school"),
+        "50",
+        COUNT - 1,
+    ),
+    (
+        ANN,
+        Change::Add("cn=office,ou=groups,dc=school", &OFFICE),
+        "50",
+        COUNT - 1,
+    ),
 ];
 
 #[test]

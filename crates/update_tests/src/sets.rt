@@ -105,7 +105,8 @@ pub const BEN: &str = "uid=ben,ou=people,dc=school";
 pub const ANYONE: &str = "";
 
 /// The names of the entries, in their order.
-pub const NAMES: &str = "dc=school;cn=clubs,dc=school;cn=office,dc=school;cn=open,dc=school;cn=parts,dc=school;\
+pub const NAMES: &str =
+    "dc=school;cn=clubs,dc=school;cn=office,dc=school;cn=open,dc=school;cn=parts,dc=school;\
     cn=store,dc=school;ou=cellar,dc=school;cn=chest,ou=cellar,dc=school;ou=clubs,dc=school;\
     cn=chess,ou=clubs,dc=school;ou=groups,dc=school;cn=office,ou=groups,dc=school;ou=people,dc=school;\
     uid=ann,ou=people,dc=school;uid=ben,ou=people,dc=school;ou=store,dc=school;cn=ball,ou=store,dc=school;";
