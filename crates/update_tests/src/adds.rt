@@ -24,30 +24,30 @@ fn check_refused(rt: &impl Abort, alloc: Global, rows: &'static [Row]) -> Result
     Ok(())
 }
 
-static NOTHING: [(&str, &[&str]); 0] = [];
+const NOTHING: Attributes = &[];
 
-static PERSON: [(&str, &[&str]); 3] = [
+const PERSON: Attributes = &[
     ("objectClass", &["inetOrgPerson"]),
     ("cn", &["N"]),
     ("sn", &["N"]),
 ];
 
-static DEVICE: [(&str, &[&str]); 1] = [("objectClass", &["device"])];
+const DEVICE: Attributes = &[("objectClass", &["device"])];
 
-static SUBENTRY: [(&str, &[&str]); 2] = [
+const SUBENTRY: Attributes = &[
     ("objectClass", &["subentry"]),
     ("subtreeSpecification", &["{ }"]),
 ];
 
-static CLUB: [(&str, &[&str]); 2] = [
+const CLUB: Attributes = &[
     ("objectClass", &["groupOfNames"]),
     ("member", &["uid=ben,ou=people,dc=school"]),
 ];
 
 static NAMELESS: [Row; 5] = [
-    (ANN, "ou", &PERSON, "34"),
+    (ANN, "ou", PERSON, "34"),
     (ANYONE, "=x", &[("cn", &[])], "34"),
-    (ANN, "", &PERSON, "53"),
+    (ANN, "", PERSON, "53"),
     (ANYONE, "", &[("cn", &[])], "53"),
     (BEN, "  ", &[("zz", &["x"])], "53"),
 ];
@@ -128,19 +128,19 @@ fn no_type_and_no_value_comes_twice(rt: HostRuntime) -> Result<(), Fail> {
 
 static TAKEN: [Row; 11] = [
     // may be known of
-    (ANN, "ou=people,dc=school", &PERSON, "68"),
-    (BEN, "OU=People,DC=School", &NOTHING, "68"),
-    (ANYONE, "dc=school", &NOTHING, "68"),
-    (ANN, "ou=cellar,dc=school", &DEVICE, "68"),
+    (ANN, "ou=people,dc=school", PERSON, "68"),
+    (BEN, "OU=People,DC=School", NOTHING, "68"),
+    (ANYONE, "dc=school", NOTHING, "68"),
+    (ANN, "ou=cellar,dc=school", DEVICE, "68"),
     // may be added
-    (BEN, "ou=store,dc=school", &NOTHING, "68"),
-    (BEN, "cn=ball,ou=store,dc=school", &DEVICE, "68"),
-    (ANN, "cn=open,dc=school", &SUBENTRY, "68"),
+    (BEN, "ou=store,dc=school", NOTHING, "68"),
+    (BEN, "cn=ball,ou=store,dc=school", DEVICE, "68"),
+    (ANN, "cn=open,dc=school", SUBENTRY, "68"),
     // neither
-    (BEN, "ou=cellar,dc=school", &DEVICE, "32 dc=school"),
-    (BEN, "cn=chest,ou=cellar,dc=school", &DEVICE, "32 dc=school"),
-    (BEN, "cn=open,dc=school", &SUBENTRY, "32 dc=school"),
-    (ANYONE, "ou=store,dc=school", &NOTHING, "32 dc=school"),
+    (BEN, "ou=cellar,dc=school", DEVICE, "32 dc=school"),
+    (BEN, "cn=chest,ou=cellar,dc=school", DEVICE, "32 dc=school"),
+    (BEN, "cn=open,dc=school", SUBENTRY, "32 dc=school"),
+    (ANYONE, "ou=store,dc=school", NOTHING, "32 dc=school"),
 ];
 
 #[test]
@@ -149,22 +149,17 @@ fn a_name_that_is_taken_is_told_to_who_may_know(rt: HostRuntime) -> Result<(), F
 }
 
 static ALONE: [Row; 6] = [
-    (ANN, "cn=x,ou=none,dc=school", &DEVICE, "32 dc=school"),
-    (ANYONE, "cn=x,ou=none,dc=school", &DEVICE, "32 dc=school"),
-    (ANN, "dc=other", &DEVICE, "32"),
-    (ANN, "cn=x,dc=other", &DEVICE, "32"),
+    (ANN, "cn=x,ou=none,dc=school", DEVICE, "32 dc=school"),
+    (ANYONE, "cn=x,ou=none,dc=school", DEVICE, "32 dc=school"),
+    (ANN, "dc=other", DEVICE, "32"),
+    (ANN, "cn=x,dc=other", DEVICE, "32"),
     (
         ANN,
         "cn=x,cn=y,ou=cellar,dc=school",
-        &DEVICE,
+        DEVICE,
         "32 ou=cellar,dc=school",
     ),
-    (
-        BEN,
-        "cn=x,cn=y,ou=cellar,dc=school",
-        &DEVICE,
-        "32 dc=school",
-    ),
+    (BEN, "cn=x,cn=y,ou=cellar,dc=school", DEVICE, "32 dc=school"),
 ];
 
 #[test]
@@ -174,14 +169,14 @@ fn an_entry_without_a_superior_is_not_added(rt: HostRuntime) -> Result<(), Fail>
 
 static NOT_ADDED: [Row; 8] = [
     // the entry, before its rules
-    (BEN, NEW, &PERSON, "50"),
-    (ANYONE, NEW, &PERSON, "50"),
+    (BEN, NEW, PERSON, "50"),
+    (ANYONE, NEW, PERSON, "50"),
     (BEN, NEW, &[("objectClass", &["inetOrgPerson"])], "50"),
-    (BEN, "cn=bat,ou=cellar,dc=school", &DEVICE, "50"),
-    (ANYONE, "cn=go,ou=clubs,dc=school", &CLUB, "50"),
+    (BEN, "cn=bat,ou=cellar,dc=school", DEVICE, "50"),
+    (ANYONE, "cn=go,ou=clubs,dc=school", CLUB, "50"),
     // a subentry by the subentryACI of its superior alone
-    (BEN, "cn=more,dc=school", &SUBENTRY, "50"),
-    (ANN, "cn=more,ou=people,dc=school", &SUBENTRY, "50"),
+    (BEN, "cn=more,dc=school", SUBENTRY, "50"),
+    (ANN, "cn=more,ou=people,dc=school", SUBENTRY, "50"),
     (
         BEN,
         "cn=more,dc=school",
@@ -226,7 +221,7 @@ static NOT_ALL_ADDED: [Row; 5] = [
         "50",
     ),
     // those of its own RDN
-    (BEN, "cn=go+description=d,ou=clubs,dc=school", &CLUB, "50"),
+    (BEN, "cn=go+description=d,ou=clubs,dc=school", CLUB, "50"),
     // types that are not of users
     (
         ANN,
@@ -270,7 +265,7 @@ static RULED: [Row; 6] = [
         &[("objectClass", &["inetOrgPerson"]), ("cn", &["N"])],
         "65",
     ),
-    (ANN, NEW, &NOTHING, "65"),
+    (ANN, NEW, NOTHING, "65"),
     (
         ANN,
         "cn=more,dc=school",
@@ -291,7 +286,7 @@ static RULED: [Row; 6] = [
         ],
         "19",
     ),
-    (ANN, "cn=z,cn=open,dc=school", &DEVICE, "64"),
+    (ANN, "cn=z,cn=open,dc=school", DEVICE, "64"),
     // granted in the store, where it breaks a rule
     (
         BEN,
@@ -311,7 +306,7 @@ static DONE: [Row; 7] = [
     (
         ANN,
         NEW,
-        &PERSON,
+        PERSON,
         "uid=new,ou=people,dc=school objectClass=inetOrgPerson; cn=N; sn=N; uid=new;",
     ),
     (
@@ -330,25 +325,25 @@ static DONE: [Row; 7] = [
     (
         BEN,
         GO,
-        &CLUB,
+        CLUB,
         "cn=go,ou=clubs,dc=school objectClass=groupOfNames; member=uid=ben,ou=people,dc=school; cn=go;",
     ),
     (
         BEN,
         "cn=bat,ou=store,dc=school",
-        &DEVICE,
+        DEVICE,
         "cn=bat,ou=store,dc=school objectClass=device; cn=bat;",
     ),
     (
         BEN,
         "cn=oil,cn=ball,ou=store,dc=school",
-        &DEVICE,
+        DEVICE,
         "cn=oil,cn=ball,ou=store,dc=school objectClass=device; cn=oil;",
     ),
     (
         ANN,
         "cn=more,dc=school",
-        &SUBENTRY,
+        SUBENTRY,
         "cn=more,dc=school objectClass=subentry; subtreeSpecification={ }; cn=more;",
     ),
 ];
@@ -393,7 +388,7 @@ static PLACES: [(&str, &str); 2] = [
 fn a_new_entry_leaves_the_others_in_their_order(rt: HostRuntime) -> Result<(), Fail> {
     for (name, want) in &PLACES {
         let mut dir = directory(rt.alloc(), SCHOOL)?;
-        let found = ask_add(rt.alloc(), &mut dir, BEN, name, &CLUB)?;
+        let found = ask_add(rt.alloc(), &mut dir, BEN, name, CLUB)?;
         assert_eq!(rt; found.as_str(), "0", "{name}");
         assert_eq!(rt; names(rt.alloc(), &dir)?.as_str(), *want, "{name}");
     }

@@ -38,7 +38,7 @@ fn requester(alloc: Global, name: &str) -> Result<Requester, Fail> {
     if name.is_empty() {
         return Ok(Requester {
             name: None,
-            level: Level::None,
+            level: Level::Anyone,
         });
     }
     Ok(Requester {

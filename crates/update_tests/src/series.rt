@@ -1,6 +1,6 @@
 //! Changes one after the other: each is decided over what those before it left.
 
-use crate::changes::{Change, ask, count, directory};
+use crate::changes::{Attributes, Change, ask, count, directory};
 use crate::sets::{ANN, ANYONE, BEN, COUNT, KIOSK, SCHOOL};
 use std::alloc::Global;
 use std::process::Abort;
@@ -25,7 +25,7 @@ fn check_steps(
     Ok(())
 }
 
-static CLUB: [(&str, &[&str]); 2] = [
+const CLUB: Attributes = &[
     ("objectClass", &["groupOfNames"]),
     ("member", &["uid=ben,ou=people,dc=school"]),
 ];
@@ -33,11 +33,11 @@ static CLUB: [(&str, &[&str]); 2] = [
 const GO: &str = "cn=go,ou=clubs,dc=school";
 
 static AGAIN: [Step; 6] = [
-    (BEN, Change::Add(GO, &CLUB), "0", COUNT + 1),
-    (ANN, Change::Add(GO, &CLUB), "68", COUNT + 1),
+    (BEN, Change::Add(GO, CLUB), "0", COUNT + 1),
+    (ANN, Change::Add(GO, CLUB), "68", COUNT + 1),
     (BEN, Change::Delete(GO), "0", COUNT),
     (BEN, Change::Delete(GO), "32 ou=clubs,dc=school", COUNT),
-    (ANN, Change::Add(GO, &CLUB), "0", COUNT + 1),
+    (ANN, Change::Add(GO, CLUB), "0", COUNT + 1),
     (ANN, Change::Delete("ou=clubs,dc=school"), "66", COUNT + 1),
 ];
 
@@ -78,7 +78,7 @@ const TO_ALL: &str = "{ identificationTag \"all\", precedence 40, authentication
     itemOrUserFirst userFirst: { userClasses { allUsers }, userPermissions { { protectedItems { entry }, \
     grantsAndDenials { grantRemove } } } } }";
 
-static FREE_FOR_ALL: [(&str, &[&str]); 3] = [
+const FREE_FOR_ALL: Attributes = &[
     ("objectClass", &["subentry", "accessControlSubentry"]),
     ("subtreeSpecification", &["{ base \"ou=cellar\" }"]),
     ("prescriptiveACI", &[TO_ALL]),
@@ -103,7 +103,7 @@ static SUBENTRIES: [Step; 7] = [
     ),
     (
         ANN,
-        Change::Add("cn=free,dc=school", &FREE_FOR_ALL),
+        Change::Add("cn=free,dc=school", FREE_FOR_ALL),
         "0",
         COUNT,
     ),
@@ -126,7 +126,7 @@ fn subentries_are_in_force_while_they_stand(rt: HostRuntime) -> Result<(), Fail>
     check_steps(&rt, rt.alloc(), SCHOOL, &SUBENTRIES)
 }
 
-static OFFICE: [(&str, &[&str]); 2] = [
+const OFFICE: Attributes = &[
     ("objectClass", &["groupOfNames"]),
     ("member", &["uid=ben,ou=people,dc=school"]),
 ];
@@ -152,7 +152,7 @@ static GROUPS: [Step; 4] = [
     ),
     (
         ANN,
-        Change::Add("cn=office,ou=groups,dc=school", &OFFICE),
+        Change::Add("cn=office,ou=groups,dc=school", OFFICE),
         "50",
         COUNT - 1,
     ),
