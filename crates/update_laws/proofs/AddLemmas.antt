@@ -20,8 +20,8 @@ use Rattle.ldap_msg.specs.declared.kinds.KindValues.{KindValues}
 use Rattle.ldap_msg.specs.declared.kinds.LdapResult.{LdapResult}
 use Rattle.op_update.specs.Adding.{taken_refusal, refuses_entry, rule_refusal, add_refusal}
 use Rattle.op_update.specs.NewEntries.{read_attributes, new_entry}
-use Rattle.op_update.specs.Updates.{unless, added_entry, added_named, added}
-use Rattle.update_laws.proofs.TableLemmas.{none_of, none_from, not_when, when_not, unless-good, unless-refused, unless-made}
+use Rattle.op_update.specs.Updates.{added_entry, added_named, added}
+use Rattle.update_laws.proofs.TableLemmas.{none_of, none_from, not_when, when_not, unless-good, unless-refused}
 use Rattle.update_laws.proofs.ReadingLemmas.{name-new_entry, good-new_entry}
 
 -- what a new entry meets that is added

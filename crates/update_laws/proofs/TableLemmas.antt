@@ -1,5 +1,5 @@
 -- Tables of refusals in which nothing refuses, and the changes that they decide.
-use Rattle.std.proofs.Common.{◌≡◌, Bool, true, false, List, [], ◌∷◌, Option, Some, None, Result, Ok, Err, refl}
+use Rattle.std.proofs.Common.{◌≡◌, Bool, true, false, List, ◌∷◌, Option, Some, None, Result, Ok, Err, refl}
 use Rattle.plain_values.specs.Results.{◌>>=◌}
 use Rattle.dir_tree.specs.Entries.{EntryInformation}
 use Rattle.schema_rules.specs.Rules.{IsGoodTree}
