@@ -1,0 +1,8 @@
+pub mod ListLemmas
+pub mod TakenLemmas
+pub mod TableLemmas
+pub mod DeleteLemmas
+pub mod ReadingLemmas
+pub mod AddLemmas
+pub mod AllowedLemmas
+pub mod DoneLemmas

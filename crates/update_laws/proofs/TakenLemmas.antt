@@ -1,0 +1,184 @@
+-- Good entries stay good where one is taken out below which none stands.
+use Rattle.std.proofs.Common.{◌≡◌, ◌≢◌, ℕ, ◌-◌, ◌≤◌, nat_le, nat_lt, Bool, true, false, not, ◌&&◌, ◌||◌, List, [], ◌∷◌, ◌++◌, length, take, map, if◌then◌else◌, None, Some, refl, sym, ap, subst, ◌∙◌, inl, inr, append_assoc, arith}
+use Rattle.std.specs.List.{AllByRecursion}
+use Rattle.std.proofs.lemmas.Bool.{and_from, or_parts, or_from, false_from_ne_true, true≢false}
+use Rattle.std.proofs.lemmas.Bool.Decides.{nat_tests}
+use Rattle.std.proofs.lemmas.List.{length-map, length-take-le}
+use Rattle.dn_names.specs.Names.{RdnSequence}
+use Rattle.dn_names.specs.NameOrder.{is_same, is_prefix_of, type_and_key}
+use Rattle.dn_names.specs.GoodNames.{IsGoodName}
+use Rattle.dn_names.proofs.Theorems.{is_same-types_and_keys}
+use Rattle.dir_tree.specs.Entries.{EntryInformation, IsGoodAttributes}
+use Rattle.dir_tree.specs.Points.{is_access_subentry, access_subentries}
+use Rattle.dir_tree.specs.Trees.{is_before, is_named, is_below, has_below, named_in, superior_name, put_in, taken_out, IsInOrder}
+use Rattle.dir_tree.proofs.TreeTheorems.{put_in-taken_out, tree-taken_out}
+use Rattle.schema_rules.specs.Rules.{broken_rule, is_misplaced, is_past_limits, stands_wrong, MeetsRules, AreGood}
+use Rattle.schema_rules.proofs.Theorems.{Meets-from_broken_rule, broken_rule-from_Meets}
+use Rattle.update_laws.proofs.ListLemmas.{stands, all_at, all_filter, find-past, filter-fewer, length-fewer}
+
+-- where an entry was taken out
+record IsTaken (old : EntryInformation) (entries left : List EntryInformation) : Type 0 where
+  front : List EntryInformation
+  back : List EntryInformation
+  before : entries ≡ front ++ old ∷ back
+  after : left ≡ front ++ back
+
+taken_after_put : (old : EntryInformation) (left : List EntryInformation) → IsTaken old (put_in old left) left
+taken_after_put old [] = record { front = []; back = []; before = refl; after = refl }
+taken_after_put old (first ∷ rest) =
+    let later = taken_after_put old rest in
+    elim (is_before first.name old.name)
+    as (λ b. IsTaken old (if b then first ∷ put_in old rest else old ∷ first ∷ rest) (first ∷ rest)) [
+      | true ↦ record {
+        front = first ∷ later.front;
+        back = later.back;
+        before = ap (λ entries. first ∷ entries) later.before;
+        after = ap (λ entries. first ∷ entries) later.after;
+      }
+      | false ↦ record { front = []; back = first ∷ rest; before = refl; after = refl }
+    ]
+
+taken_at :
+    (old : EntryInformation) (entries : List EntryInformation) → IsInOrder entries → named_in old.name entries ≡ Some old
+    → IsTaken old entries (taken_out old.name entries)
+taken_at old entries sorted known =
+    subst (λ (all : List EntryInformation). IsTaken old all (taken_out old.name entries)) (put_in-taken_out old entries sorted known)
+    (taken_after_put old (taken_out old.name entries))
+
+-- names that are the same have as many RDNs
+length-same : (one other : RdnSequence) → is_same one other ≡ true → length one ≡ length other
+length-same one other same =
+    sym (length-map one (map type_and_key))
+    ∙ ap length ((is_same-types_and_keys one other).0 same)
+    ∙ length-map other (map type_and_key)
+
+filled : (name : RdnSequence) → name ≢ [] → 1 ≤ length name
+filled [] named = absurd (named refl)
+filled (rdn ∷ rdns) named = omega arith
+
+-- a name stands below that of its superior
+below_superior : (base name : RdnSequence) → name ≢ [] → is_same (superior_name name) base ≡ true → is_below base name ≡ true
+unfolding is_prefix_of
+below_superior base name named same =
+    let some = filled name named in
+    let long = length-same (superior_name name) base same in
+    let front : length name - 1 ≡ length base = sym (length-take-le (length name - 1) name (omega arith)) ∙ long in
+    let prefix : is_same (take (length base) name) base ≡ true = subst (λ (count : ℕ). is_same (take count name) base ≡ true) front same in
+    let less : nat_lt (length base) (length name) ≡ true = grind (arith, nat_tests) in
+    and_from _ _ prefix less
+
+-- the entry's superior has another name
+abbrev IsApart : RdnSequence → EntryInformation → Type 0
+IsApart name entry = is_same (superior_name entry.name) name ≡ false
+
+apart_from_leaf :
+    (name : RdnSequence) (entries : List EntryInformation) → AllByRecursion (λ entry. entry.name ≢ []) entries
+    → has_below name entries ≡ false → AllByRecursion (IsApart name) entries
+apart_from_leaf name [] named none = tt
+apart_from_leaf name (entry ∷ entries) named none =
+    let parts = or_parts (is_below name entry.name) (has_below name entries) none in (
+      false_from_ne_true _ (λ same. true≢false (sym (below_superior name entry.name named.0 same) ∙ parts.0)),
+      apart_from_leaf name entries named.1 parts.1,
+    )
+
+-- an entry that is not the superior changes nothing of it
+misplaced-without :
+    (front back : List EntryInformation) (old other : EntryInformation) → IsApart old.name other
+    → is_misplaced None (front ++ back) other ≡ is_misplaced None (front ++ old ∷ back) other
+unfolding is_misplaced
+misplaced-without front back old other apart =
+    ap (λ superior. stands_wrong superior other || false)
+    (sym (find-past (λ entry. is_same (superior_name other.name) entry.name) front back old apart))
+
+-- the counts of the last rule grow no more
+fewer : (most now before : ℕ) → now ≤ before → nat_le most before ≡ false → nat_le most now ≡ false
+fewer most now before less fits = grind (arith, nat_tests)
+
+counted : (mine : Bool) (now before : ℕ) → now ≤ before → (mine && nat_le 256 before) ≡ false → (mine && nat_le 256 now) ≡ false
+counted true now before less fits = fewer 256 now before less fits
+counted false now before less fits = refl
+
+limits-without :
+    (front back : List EntryInformation) (old other : EntryInformation)
+    → is_past_limits (front ++ old ∷ back) other ≡ false → is_past_limits (front ++ back) other ≡ false
+unfolding is_past_limits
+limits-without front back old other fits =
+    let parts = or_parts _ _ fits in
+    let counts = or_parts _ _ parts.0 in
+    or_from _ _
+    (or_from _ _ (fewer 200000 (length (front ++ back)) (length (front ++ old ∷ back)) (length-fewer front back old) counts.0)
+    (counted (is_access_subentry other) (access_subentries (front ++ back)) (access_subentries (front ++ old ∷ back))
+    (filter-fewer is_access_subentry front back old) counts.1))
+    parts.1
+
+-- so all rules
+broken_rule-without :
+    (front back : List EntryInformation) (old other : EntryInformation) → IsApart old.name other
+    → broken_rule None (front ++ old ∷ back) other ≡ None → broken_rule None (front ++ back) other ≡ None
+broken_rule-without front back old other apart unbroken =
+    let meets = Meets-from_broken_rule None (front ++ old ∷ back) other unbroken in
+    broken_rule-from_Meets None (front ++ back) other (record {
+      own_values = meets.own_values;
+      structural = meets.structural;
+      classes = meets.classes;
+      syntaxes = meets.syntaxes;
+      single = meets.single;
+      placed = misplaced-without front back old other apart ∙ meets.placed;
+      limits = limits-without front back old other meets.limits;
+    })
+
+-- an entry before the one that is taken out
+stays_before :
+    (front back before between : List EntryInformation) (old other : EntryInformation) → MeetsRules (front ++ old ∷ back)
+    → AllByRecursion (IsApart old.name) (front ++ old ∷ back) → front ≡ before ++ other ∷ between
+    → broken_rule None (before ++ (between ++ back)) other ≡ None
+stays_before front back before between old other meets apart is =
+    let whole : front ++ old ∷ back ≡ before ++ other ∷ (between ++ old ∷ back) =
+    ap (λ front. front ++ old ∷ back) is ∙ append_assoc before (other ∷ between) (old ∷ back) in
+    ap (λ entries. broken_rule None entries other) (sym (append_assoc before between back))
+    ∙ broken_rule-without (before ++ between) back old other
+    (all_at (IsApart old.name) before (between ++ old ∷ back) other (subst (λ entries. AllByRecursion (IsApart old.name) entries) whole apart))
+    (ap (λ entries. broken_rule None entries other) (append_assoc before between (old ∷ back)) ∙ meets before (between ++ old ∷ back) other whole)
+
+-- an entry after it
+stays_after :
+    (front back between after : List EntryInformation) (old other : EntryInformation) → MeetsRules (front ++ old ∷ back)
+    → AllByRecursion (IsApart old.name) (front ++ old ∷ back) → back ≡ between ++ other ∷ after
+    → broken_rule None ((front ++ between) ++ after) other ≡ None
+stays_after front back between after old other meets apart is =
+    let whole : front ++ old ∷ back ≡ (front ++ old ∷ between) ++ other ∷ after =
+    ap (λ back. front ++ old ∷ back) is ∙ sym (append_assoc front (old ∷ between) (other ∷ after)) in
+    ap (λ entries. broken_rule None entries other) (append_assoc front between after)
+    ∙ broken_rule-without front (between ++ after) old other
+    (all_at (IsApart old.name) (front ++ old ∷ between) after other (subst (λ entries. AllByRecursion (IsApart old.name) entries) whole apart))
+    (ap (λ entries. broken_rule None entries other) (sym (append_assoc front (old ∷ between) after))
+    ∙ meets (front ++ old ∷ between) after other whole)
+
+-- so each
+MeetsRules-without :
+    (front back : List EntryInformation) (old : EntryInformation) → MeetsRules (front ++ old ∷ back)
+    → AllByRecursion (IsApart old.name) (front ++ old ∷ back) → MeetsRules (front ++ back)
+MeetsRules-without front back old meets apart before after other is =
+    elim (stands front back before after other is) [
+      | inl sooner ↦
+          ap (λ after. broken_rule None (before ++ after) other) sooner.after_is
+          ∙ stays_before front back before sooner.between old other meets apart sooner.front_is
+      | inr later ↦
+          ap (λ before. broken_rule None (before ++ after) other) later.before_is
+          ∙ stays_after front back later.between after old other meets apart later.back_is
+    ]
+
+pub AreGood-taken_out :
+    (old : EntryInformation) (entries : List EntryInformation) → AreGood entries → named_in old.name entries ≡ Some old
+    → has_below old.name entries ≡ false → AreGood (taken_out old.name entries)
+AreGood-taken_out old entries good known alone =
+    let taken = taken_at old entries good.tree.sorted known in
+    let apart = apart_from_leaf old.name entries good.tree.named alone in
+    record {
+      tree = tree-taken_out old entries good.tree known alone;
+      names = all_filter (λ (entry : EntryInformation). IsGoodName entry.name) (λ entry. not (is_named old.name entry)) entries good.names;
+      attributes = all_filter (λ (entry : EntryInformation). IsGoodAttributes entry.attributes) (λ entry. not (is_named old.name entry)) entries good.attributes;
+      meets = subst MeetsRules (sym taken.after)
+          (MeetsRules-without taken.front taken.back old (subst MeetsRules taken.before good.meets)
+          (subst (λ entries. AllByRecursion (IsApart old.name) entries) taken.before apart));
+    }

@@ -1,0 +1,7 @@
+-- By the theorems.
+use Rattle.update_laws.proofs.DeleteLemmas.{good-deleted}
+use Rattle.update_laws.proofs.AddLemmas.{good-added}
+use Rattle.update_laws.proofs.laws.a_good_tree_stays_good.Goals as goal
+
+pub returns : goal.returns
+returns c = record { deleted = good-deleted; added = good-added }

@@ -1,0 +1,7 @@
+-- By the theorems.
+use Rattle.update_laws.proofs.DeleteLemmas.{refused-deleted}
+use Rattle.update_laws.proofs.AddLemmas.{refused-added}
+use Rattle.update_laws.proofs.laws.a_refusal_leaves_the_entries.Goals as goal
+
+pub returns : goal.returns
+returns c = record { deleted = refused-deleted; added = refused-added }

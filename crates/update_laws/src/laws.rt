@@ -1,0 +1,47 @@
+//! The laws of changes: each function computes nothing, and what it ensures is a law.
+
+ghost use Rattle.std.specs.Prelude.{◌≡◌, List, Some, None};
+ghost use Rattle.dir_tree.specs.Entries.{EntryInformation};
+ghost use Rattle.dir_tree.specs.Trees.{put_in, taken_out};
+ghost use Rattle.schema_rules.specs.Rules.{IsGoodTree};
+ghost use Rattle.acdf_filters.specs.declared.asking.Requester.{Requester};
+ghost use Rattle.ldap_msg.specs.declared.kinds.AddRequest.{AddRequest};
+ghost use Rattle.ldap_msg.specs.declared.kinds.DeleteRequest.{DeleteRequest};
+ghost use Rattle.ldap_msg.specs.declared.kinds.LdapResult.{LdapResult};
+ghost use Rattle.op_update.specs.Updates.{deleted, added, IsChanged};
+ghost use Rattle.update_laws.specs.Granting.{MayDelete, MayAdd};
+
+/// A good tree stays good, whatever is deleted or added, and by whom.
+pub fn a_good_tree_stays_good()
+    ensures deleted { (entries : List EntryInformation) (who : Requester) (request : DeleteRequest)
+        → IsGoodTree entries → IsGoodTree (deleted entries who request).entries }
+    ensures added { (entries : List EntryInformation) (who : Requester) (request : AddRequest)
+        → IsGoodTree entries → IsGoodTree (added entries who request).entries }
+{}
+
+/// A change that is refused leaves the entries as they were.
+pub fn a_refusal_leaves_the_entries()
+    ensures deleted { (entries : List EntryInformation) (who : Requester) (request : DeleteRequest)
+        (refusal : LdapResult) → (deleted entries who request).refusal ≡ Some refusal
+        → (deleted entries who request).entries ≡ entries }
+    ensures added { (entries : List EntryInformation) (who : Requester) (request : AddRequest)
+        (refusal : LdapResult) → (added entries who request).refusal ≡ Some refusal
+        → (added entries who request).entries ≡ entries }
+{}
+
+/// A change is done where nothing refuses it: each decision of its sequence is granted, and the tree takes it. So no
+/// answer is always a refusal (X.511 11.1 and 11.2). And what was done was granted so.
+pub fn exactly_what_may_be_done_is_done()
+    ensures deleted { (entries : List EntryInformation) (who : Requester) (request : DeleteRequest)
+        (target : EntryInformation) → MayDelete entries who request target
+        → IsChanged (deleted entries who request) None (taken_out target.name entries) }
+    ensures only_deleted { (entries : List EntryInformation) (who : Requester) (request : DeleteRequest)
+        → (deleted entries who request).refusal ≡ None
+        → (target : EntryInformation) × MayDelete entries who request target }
+    ensures added { (entries : List EntryInformation) (who : Requester) (request : AddRequest)
+        (entry : EntryInformation) → MayAdd entries who request entry
+        → IsChanged (added entries who request) None (put_in entry entries) }
+    ensures only_added { (entries : List EntryInformation) (who : Requester) (request : AddRequest)
+        → (added entries who request).refusal ≡ None
+        → (entry : EntryInformation) × MayAdd entries who request entry }
+{}

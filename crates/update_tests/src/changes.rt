@@ -1,0 +1,174 @@
+//! Changes of a directory, asked for in texts and told in texts.
+
+use acdf_filters::Requester;
+use acdf_lists::{Dir, PlainDir};
+use aci_item::Level;
+use data_file::load;
+use dir_tree::{Entry, Scope};
+use dn_names::{parse, print};
+use ldap_msg::{AddRequest, DeleteRequest, KindValues, LdapResult};
+use op_update::{add, delete};
+use plain_values::{Octets, OneOrMany};
+use schema_core::row;
+use std::alloc::Global;
+use std::str;
+use std::test::Fail;
+
+/// Types, each with its values.
+pub type Attributes = &'static [(&'static str, &'static [&'static str])];
+
+/// What is asked for.
+#[derive(Clone, Copy)]
+pub enum Change {
+    /// An entry of this name is to be added.
+    Add(&'static str, Attributes),
+    /// The entry of this name is to be deleted.
+    Delete(&'static str),
+}
+
+/// The directory of a data file.
+pub fn directory(alloc: Global, text: &str) -> Result<PlainDir, Fail> {
+    let tree = load(alloc, text.as_bytes())?;
+    let dir = PlainDir::new(alloc, tree)?;
+    Ok(dir)
+}
+
+// Who has authenticated by this name, or anyone where it is empty.
+fn requester(alloc: Global, name: &str) -> Result<Requester, Fail> {
+    if name.is_empty() {
+        return Ok(Requester {
+            name: None,
+            level: Level::Anyone,
+        });
+    }
+    Ok(Requester {
+        name: Some(parse(alloc, name.as_bytes())?),
+        level: Level::Simple,
+    })
+}
+
+fn octets(alloc: Global, text: &str) -> Result<Octets, Fail> {
+    Ok(Octets::from_vec(text.as_bytes().to_vec(alloc)?))
+}
+
+fn kind_values(alloc: Global, kind: &str, texts: &[&str]) -> Result<KindValues, Fail> {
+    let mut values = Vec::new(alloc);
+    for text in texts {
+        values.push(octets(alloc, text)?)?;
+    }
+    Ok(KindValues {
+        kind: octets(alloc, kind)?,
+        values: OneOrMany::from_vec(values),
+    })
+}
+
+fn add_request(
+    alloc: Global,
+    name: &str,
+    attributes: &[(&str, &[&str])],
+) -> Result<AddRequest, Fail> {
+    let mut list = Vec::new(alloc);
+    for (kind, texts) in attributes {
+        list.push(kind_values(alloc, kind, texts)?)?;
+    }
+    Ok(AddRequest {
+        name: octets(alloc, name)?,
+        attributes: OneOrMany::from_vec(list),
+    })
+}
+
+// The code of a result, and its matched name where it has one; 0 where there is no refusal.
+fn told(alloc: Global, refusal: &Option<LdapResult>) -> Result<String, Fail> {
+    let mut out = String::new(alloc);
+    match refusal {
+        None => out.push('0')?,
+        Some(result) => {
+            write!(out, "{}", result.code)?;
+            if !result.matched.is_empty() {
+                write!(out, " {}", str::from_utf8(result.matched.as_slice())?)?;
+            }
+        }
+    }
+    Ok(out)
+}
+
+/// Asks for an entry to be added, and tells the result.
+pub fn ask_add(
+    alloc: Global,
+    dir: &mut PlainDir,
+    who: &str,
+    name: &str,
+    attributes: &[(&str, &[&str])],
+) -> Result<String, Fail> {
+    let who = requester(alloc, who)?;
+    let request = add_request(alloc, name, attributes)?;
+    let refusal = add(alloc, dir, &who, &request)?;
+    told(alloc, &refusal)
+}
+
+/// Asks for an entry to be deleted, and tells the result.
+pub fn ask_delete(
+    alloc: Global,
+    dir: &mut PlainDir,
+    who: &str,
+    name: &str,
+) -> Result<String, Fail> {
+    let who = requester(alloc, who)?;
+    let name = octets(alloc, name)?;
+    let refusal = delete(alloc, dir, &who, &DeleteRequest { name })?;
+    told(alloc, &refusal)
+}
+
+/// Asks for a change, and tells the result.
+pub fn ask(alloc: Global, dir: &mut PlainDir, who: &str, change: Change) -> Result<String, Fail> {
+    match change {
+        Change::Add(name, attributes) => ask_add(alloc, dir, who, name, attributes),
+        Change::Delete(name) => ask_delete(alloc, dir, who, name),
+    }
+}
+
+/// The names of the entries in their order, each ended by a semicolon.
+pub fn names(alloc: Global, dir: &PlainDir) -> Result<String, Fail> {
+    let mut out = String::new(alloc);
+    let tree = dir.tree();
+    if let Some(suffix) = tree.suffix() {
+        for no in tree.below(suffix, Scope::Sub) {
+            let entry = tree.at(no).ok_or("no entry of the number")?;
+            print(alloc, entry.name(), &mut out)?;
+            out.push(';')?;
+        }
+    }
+    Ok(out)
+}
+
+/// How many entries there are.
+pub fn count(dir: &PlainDir) -> usize {
+    dir.tree().len()
+}
+
+// Appends an entry: its name, and each type with the octets of its values.
+fn put_entry(alloc: Global, out: &mut String, entry: &Entry) -> Result<(), Fail> {
+    print(alloc, entry.name(), out)?;
+    for index in 0..entry.kinds() {
+        let kind = entry.kind_at(index).ok_or("no type at the index")?;
+        write!(out, " {}=", row(kind).ok_or("no such type")?.name)?;
+        for value in entry.values(kind) {
+            write!(out, "{};", str::from_utf8(value.octets())?)?;
+        }
+    }
+    Ok(())
+}
+
+/// The entry of the name.
+pub fn shown(alloc: Global, dir: &PlainDir, name: &str) -> Result<String, Fail> {
+    let mut out = String::new(alloc);
+    let tree = dir.tree();
+    let name = parse(alloc, name.as_bytes())?;
+    let no = tree.find(&name).ok_or("no entry of the name")?;
+    put_entry(
+        alloc,
+        &mut out,
+        tree.at(no).ok_or("no entry of the number")?,
+    )?;
+    Ok(out)
+}

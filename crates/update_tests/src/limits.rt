@@ -1,0 +1,113 @@
+//! How long a value of an add may be, and how many access control subentries there may be.
+
+use crate::changes::{ask_add, count, directory};
+use crate::sets::{ANN, ANYONE, COUNT, SCHOOL};
+use std::alloc::Global;
+use std::test::Fail;
+
+fn long(alloc: Global, len: usize) -> Result<String, Fail> {
+    let mut out = String::new(alloc);
+    for _ in 0..len {
+        out.push('x')?;
+    }
+    Ok(out)
+}
+
+// Ann's add of a person with such a description, and then a country.
+fn answer(alloc: Global, len: usize, country: &str) -> Result<(String, usize), Fail> {
+    let mut dir = directory(alloc, SCHOOL)?;
+    let text = long(alloc, len)?;
+    let attributes: [(&str, &[&str]); 4] = [
+        ("objectClass", &["device"]),
+        ("description", &[text.as_str()]),
+        ("l", &[country]),
+        ("cn", &["N"]),
+    ];
+    let found = ask_add(
+        alloc,
+        &mut dir,
+        ANN,
+        "cn=N,ou=people,dc=school",
+        &attributes,
+    )?;
+    Ok((found, count(&dir)))
+}
+
+#[test]
+fn a_value_has_up_to_65536_octets(rt: HostRuntime) -> Result<(), Fail> {
+    let (found, entries) = answer(rt.alloc(), 65_536, "here")?;
+    assert_eq!(rt; (found.as_str(), entries), ("0", COUNT + 1));
+    let (found, entries) = answer(rt.alloc(), 65_537, "here")?;
+    assert_eq!(rt; (found.as_str(), entries), ("19", COUNT));
+    let (found, entries) = answer(rt.alloc(), 65_537, "")?;
+    assert_eq!(rt;
+        (found.as_str(), entries),
+        ("19", COUNT),
+        "the first decides"
+    );
+    Ok(())
+}
+
+// Appends a subentry of this number.
+fn put_subentry(out: &mut String, number: usize) -> Result<(), Fail> {
+    write!(
+        out,
+        "\ndn: cn=s{number},dc=crowd\nobjectClass: subentry\nobjectClass: accessControlSubentry\n"
+    )?;
+    write!(
+        out,
+        "subtreeSpecification: {{ }}\nprescriptiveACI: {EMPTY_ITEM}\n"
+    )?;
+    Ok(())
+}
+
+const EMPTY_ITEM: &str =
+    "{ identificationTag \"e\", precedence 0, authenticationLevel none, itemOrUserFirst userFirst: { \
+    userClasses { }, userPermissions { } } }";
+
+const ALL_MAY_ADD: &str =
+    "{ identificationTag \"a\", precedence 0, authenticationLevel none, itemOrUserFirst userFirst: { \
+    userClasses { allUsers }, userPermissions { { protectedItems { entry, attributeType { objectClass, cn, \
+    subtreeSpecification, prescriptiveACI }, allAttributeValues { objectClass, cn, subtreeSpecification, \
+    prescriptiveACI } }, grantsAndDenials { grantAdd } } } } }";
+
+// A suffix with so many access control subentries.
+fn crowd(alloc: Global, number: usize) -> Result<String, Fail> {
+    let mut out = String::new(alloc);
+    write!(
+        out,
+        "dn: dc=crowd\nobjectClass: domain\nadministrativeRole: autonomousArea\nsubentryACI: {ALL_MAY_ADD}\n"
+    )?;
+    for index in 0..number {
+        put_subentry(&mut out, index)?;
+    }
+    Ok(out)
+}
+
+static ONE_MORE: [(&str, &[&str]); 3] = [
+    ("objectClass", &["subentry", "accessControlSubentry"]),
+    ("subtreeSpecification", &["{ }"]),
+    ("prescriptiveACI", &[EMPTY_ITEM]),
+];
+
+static PLAIN: [(&str, &[&str]); 2] = [
+    ("objectClass", &["subentry"]),
+    ("subtreeSpecification", &["{ }"]),
+];
+
+#[test]
+fn a_directory_has_up_to_256_access_control_subentries(rt: HostRuntime) -> Result<(), Fail> {
+    let text = crowd(rt.alloc(), 255)?;
+    let mut dir = directory(rt.alloc(), text.as_str())?;
+    let found = ask_add(rt.alloc(), &mut dir, ANYONE, "cn=one,dc=crowd", &ONE_MORE)?;
+    assert_eq!(rt; (found.as_str(), count(&dir)), ("0", 257));
+    let found = ask_add(rt.alloc(), &mut dir, ANYONE, "cn=two,dc=crowd", &ONE_MORE)?;
+    assert_eq!(rt; (found.as_str(), count(&dir)), ("11", 257));
+    let found = ask_add(rt.alloc(), &mut dir, ANYONE, "cn=two,dc=crowd", &PLAIN)?;
+    assert_eq!(rt;
+        (found.as_str(), count(&dir)),
+        ("0", 258),
+        "no access control subentry"
+    );
+    Ok(())
+}

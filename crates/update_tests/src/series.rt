@@ -1,0 +1,175 @@
+//! Changes one after the other: each is decided over what those before it left.
+
+use crate::changes::{Attributes, Change, ask, count, directory};
+use crate::sets::{ANN, ANYONE, BEN, COUNT, KIOSK, SCHOOL};
+use std::alloc::Global;
+use std::process::Abort;
+use std::test::Fail;
+
+// Who asks, for what, the result, and how many entries there are then.
+type Step = (&'static str, Change, &'static str, usize);
+
+// The steps over the directory of the data file have these results.
+fn check_steps(
+    rt: &impl Abort,
+    alloc: Global,
+    text: &str,
+    steps: &'static [Step],
+) -> Result<(), Fail> {
+    let mut dir = directory(alloc, text)?;
+    for (index, (who, change, want, entries)) in steps.iter().enumerate() {
+        let found = ask(alloc, &mut dir, who, *change)?;
+        assert_eq!(rt; found.as_str(), *want, "step {index}");
+        assert_eq!(rt; count(&dir), *entries, "after step {index}");
+    }
+    Ok(())
+}
+
+const CLUB: Attributes = &[
+    ("objectClass", &["groupOfNames"]),
+    ("member", &["uid=ben,ou=people,dc=school"]),
+];
+
+const GO: &str = "cn=go,ou=clubs,dc=school";
+
+static AGAIN: [Step; 6] = [
+    (BEN, Change::Add(GO, CLUB), "0", COUNT + 1),
+    (ANN, Change::Add(GO, CLUB), "68", COUNT + 1),
+    (BEN, Change::Delete(GO), "0", COUNT),
+    (BEN, Change::Delete(GO), "32 ou=clubs,dc=school", COUNT),
+    (ANN, Change::Add(GO, CLUB), "0", COUNT + 1),
+    (ANN, Change::Delete("ou=clubs,dc=school"), "66", COUNT + 1),
+];
+
+#[test]
+fn what_was_added_can_be_deleted_and_added_again(rt: HostRuntime) -> Result<(), Fail> {
+    check_steps(&rt, rt.alloc(), SCHOOL, &AGAIN)
+}
+
+static BRANCH: [Step; 5] = [
+    (ANN, Change::Delete("ou=cellar,dc=school"), "66", COUNT),
+    (
+        ANN,
+        Change::Delete("cn=chest,ou=cellar,dc=school"),
+        "0",
+        COUNT - 1,
+    ),
+    (ANN, Change::Delete("ou=cellar,dc=school"), "0", COUNT - 2),
+    (
+        ANN,
+        Change::Delete("ou=cellar,dc=school"),
+        "32 dc=school",
+        COUNT - 2,
+    ),
+    (
+        BEN,
+        Change::Delete("ou=cellar,dc=school"),
+        "32 dc=school",
+        COUNT - 2,
+    ),
+];
+
+#[test]
+fn a_branch_goes_from_below(rt: HostRuntime) -> Result<(), Fail> {
+    check_steps(&rt, rt.alloc(), SCHOOL, &BRANCH)
+}
+
+const TO_ALL: &str = "{ identificationTag \"all\", precedence 40, authenticationLevel none, \
+    itemOrUserFirst userFirst: { userClasses { allUsers }, userPermissions { { protectedItems { entry }, \
+    grantsAndDenials { grantRemove } } } } }";
+
+const FREE_FOR_ALL: Attributes = &[
+    ("objectClass", &["subentry", "accessControlSubentry"]),
+    ("subtreeSpecification", &["{ base \"ou=cellar\" }"]),
+    ("prescriptiveACI", &[TO_ALL]),
+];
+
+static SUBENTRIES: [Step; 7] = [
+    // what is no longer open is no longer known of
+    (ANYONE, Change::Delete("ou=groups,dc=school"), "50", COUNT),
+    (ANN, Change::Delete("cn=open,dc=school"), "0", COUNT - 1),
+    (
+        ANYONE,
+        Change::Delete("ou=groups,dc=school"),
+        "32",
+        COUNT - 1,
+    ),
+    // a new subentry is in force at once
+    (
+        ANYONE,
+        Change::Delete("cn=chest,ou=cellar,dc=school"),
+        "32",
+        COUNT - 1,
+    ),
+    (
+        ANN,
+        Change::Add("cn=free,dc=school", FREE_FOR_ALL),
+        "0",
+        COUNT,
+    ),
+    (
+        ANYONE,
+        Change::Delete("cn=chest,ou=cellar,dc=school"),
+        "0",
+        COUNT - 1,
+    ),
+    (
+        ANYONE,
+        Change::Delete("ou=cellar,dc=school"),
+        "0",
+        COUNT - 2,
+    ),
+];
+
+#[test]
+fn subentries_are_in_force_while_they_stand(rt: HostRuntime) -> Result<(), Fail> {
+    check_steps(&rt, rt.alloc(), SCHOOL, &SUBENTRIES)
+}
+
+const OFFICE: Attributes = &[
+    ("objectClass", &["groupOfNames"]),
+    ("member", &["uid=ben,ou=people,dc=school"]),
+];
+
+static GROUPS: [Step; 4] = [
+    (
+        BEN,
+        Change::Delete("cn=chest,ou=cellar,dc=school"),
+        "32 dc=school",
+        COUNT,
+    ),
+    (
+        ANN,
+        Change::Delete("cn=office,ou=groups,dc=school"),
+        "0",
+        COUNT - 1,
+    ),
+    (
+        ANN,
+        Change::Delete("uid=ben,ou=people,dc=school"),
+        "50",
+        COUNT - 1,
+    ),
+    (
+        ANN,
+        Change::Add("cn=office,ou=groups,dc=school", OFFICE),
+        "50",
+        COUNT - 1,
+    ),
+];
+
+#[test]
+fn a_group_that_is_gone_has_no_members(rt: HostRuntime) -> Result<(), Fail> {
+    check_steps(&rt, rt.alloc(), SCHOOL, &GROUPS)
+}
+
+static LAST: [Step; 3] = [
+    (ANYONE, Change::Delete("cn=poster,dc=kiosk"), "0", 1),
+    (ANYONE, Change::Delete("dc=kiosk"), "32", 1),
+    (ANYONE, Change::Delete("cn=poster,dc=kiosk"), "32", 1),
+];
+
+#[test]
+fn the_last_subentry_may_be_deleted_and_the_suffix_not(rt: HostRuntime) -> Result<(), Fail> {
+    check_steps(&rt, rt.alloc(), KIOSK, &LAST)
+}
