@@ -9,4 +9,3 @@ mod DueLemmas
 mod PerformLemmas
 mod ExplainLemmas
 mod RunLemmas
-mod TreeLemmas

@@ -9,18 +9,18 @@ use Rattle.wire_io.specs.Journal.{heard, is_held, hold_after_all}
 use Rattle.wire_io.specs.Pieces.{pieces, steps_of, Plays as BringsOn}
 use Rattle.wire_io.specs.Plan.{Plan}
 use Rattle.wire_io.specs.Scripted.{LinkState, fresh_link}
-use Rattle.session_model.specs.Run.{run}
+use Rattle.session_model.specs.Run.{Step, run}
 use Rattle.session_model.specs.Journaled.{steps_of as journal_steps, steps_of_events}
 use Rattle.session_model.proofs.Theorems.{events_of}
 use Rattle.session_model.specs.Replaying.{IsReplay, replayed}
 use Rattle.session_hub.specs.declared.ended.Ended.{Ended}
 use Rattle.session_hub.specs.declared.ended.Ended.TheVariants as ended
+use Rattle.schema_rules.specs.Rules.{IsGoodTree}
 use Rattle.session_hub.specs.Parties.{DirectoryEntries}
 use Rattle.session_hub.specs.Answering.{rules}
 use Rattle.session_hub.specs.Loops.{buffer_length, Serves, ServesAll, PlaysOut, PlayedOut, EndsFor}
 use Rattle.acl_program.specs.Lines.{lines_of, heard_of, replay_of, replay_text, entries_after}
 use Rattle.acl_program.specs.Playing.{Plays, journal_text}
-use Rattle.acl_program.proofs.TreeLemmas.{run_tree}
 use Rattle.acl_program.proofs.JournalLemmas.{journal_text-sessions, steps_of_events-steps, length-stopped}
 
 -- the sessions of a journal that heard a replay's events
@@ -120,13 +120,17 @@ Plays-link t left turns how old new fresh serves plays cause =
     let Q : List Item → Type 0 = λ journal. PlaysOut turns (Some journal) (Some old.plan) how (Some new.journal) (Some new.plan) in
     plays_served t left old.plan.to_come turns how new.journal old.plan new.plan old.faults new.faults (ap (λ link. link.plan) fresh) (subst P none serves) (subst Q none plays) cause
 
--- the entries stay, whatever is heard
-pub Stays-link : (t left : DirectoryEntries) (turns : ℕ) (how : Ended) (before : Option (List Item)) (begun now : List Item) → before ≡ Some begun → Serves t left turns before how (Some now) → left ≡ t
+-- good entries leave good ones, whatever is heard, where the steps of sessions do
+pub Good-link : ((entries : DirectoryEntries) (steps : List Step) → IsGoodTree entries → IsGoodTree (run rules entries steps).tree)
+    → (t left : DirectoryEntries) (turns : ℕ) (how : Ended) (before : Option (List Item)) (begun now : List Item)
+    → before ≡ Some begun → IsGoodTree t → Serves t left turns before how (Some now) → IsGoodTree left
 unfolding Serves
-Stays-link t left turns how before begun now is serves = let so = serves begun is in by_end how so.0 so.2
+Good-link keeps t left turns how before begun now is good serves = let so = serves begun is in by_end how so.0 so.2
   where
-    by_end : (how : Ended) (added : List Item) → ServesAll t left turns added how → left ≡ t
-    by_end ended.Stopped added all = all.served.entries_left ∙ run_tree t (journal_steps added)
-    by_end ended.TurnsSpent added all = all.served.entries_left ∙ run_tree t (journal_steps added)
-    by_end ended.LinkFault added all = all.served.entries_left ∙ run_tree t (journal_steps added)
-    by_end ended.NoMemory added all = all.served.tree_left ∙ run_tree t all.served.steps
+    after : (steps : List Step) → left ≡ (run rules t steps).tree → IsGoodTree left
+    after steps leaves = subst IsGoodTree (sym leaves) (keeps t steps good)
+    by_end : (how : Ended) (added : List Item) → ServesAll t left turns added how → IsGoodTree left
+    by_end ended.Stopped added all = after (journal_steps added) all.served.entries_left
+    by_end ended.TurnsSpent added all = after (journal_steps added) all.served.entries_left
+    by_end ended.LinkFault added all = after (journal_steps added) all.served.entries_left
+    by_end ended.NoMemory added all = after all.served.steps all.served.tree_left

@@ -17,7 +17,7 @@ use crate::troubles::print_trouble;
 use acdf_lists::{Dir, PlainDir};
 use command_files::{load_data, load_script};
 use dir_tree::Tree;
-use session_hub::{Ended, serve_loop};
+use session_hub::{Ended, serve_loop, sessions_keep_a_directory_good};
 use std::alloc::Global;
 use wire_io::{ScriptLink, Shelf, Sink};
 
@@ -136,9 +136,11 @@ fn play_over<K: Sink>(
 /// Serves the link's events over the directory, at most so many.
 fn serve(alloc: Global, dir: &mut PlainDir, link: &mut ScriptLink, turns: u64) -> Ended
     requires fresh { link.old ≡ fresh_link link.old.plan.to_come [] [] [] }
+    requires good { IsGoodTree (entries_of dir.old) }
     ensures plays { Plays (entries_of dir.old) (entries_of dir.new) link.old.plan.to_come turns result link.new.journal }
-    ensures stays { entries_of dir.new ≡ entries_of dir.old }
+    ensures good { IsGoodTree (entries_of dir.new) }
 {
+    sessions_keep_a_directory_good();
     serve_loop(alloc, dir, link, turns)
 }
 

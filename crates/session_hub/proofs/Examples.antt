@@ -43,34 +43,34 @@ abbrev other_kind : List ℕ
 other_kind = codes "1.2.3"
 
 version_two : answered [] somebody [] (request.Bind (record { version = 2; name = []; auth = Simple [] }))
-    ≡ record { replies = reply.Bind (result_of code.ProtocolError) ∷ []; who = nobody }
+    ≡ record { replies = reply.Bind (result_of code.ProtocolError) ∷ []; entries = []; who = nobody }
 unfolding bind_answer
 version_two = refl
 
 another_method : answered [] somebody [] (request.Bind (record { version = 3; name = []; auth = Other 3 }))
-    ≡ record { replies = reply.Bind (result_of code.AuthMethodNotSupported) ∷ []; who = nobody }
+    ≡ record { replies = reply.Bind (result_of code.AuthMethodNotSupported) ∷ []; entries = []; who = nobody }
 unfolding bind_answer
 another_method = refl
 
 critical_bind : answered [] somebody (record { kind = other_kind; critical = true; value = None } ∷ []) (request.Bind (record { version = 3; name = []; auth = Simple [] }))
-    ≡ record { replies = reply.Bind (result_of code.UnavailableCriticalExtension) ∷ []; who = nobody }
+    ≡ record { replies = reply.Bind (result_of code.UnavailableCriticalExtension) ∷ []; entries = []; who = nobody }
 critical_bind = refl
 
 -- a control of subentries is known in a search alone
 critical_delete : answered [] somebody (record { kind = codes "1.3.6.1.4.1.4203.1.10.1"; critical = true; value = None } ∷ []) (request.Delete (record { name = [] }))
-    ≡ record { replies = reply.Delete (result_of code.UnavailableCriticalExtension) ∷ []; who = somebody }
+    ≡ record { replies = reply.Delete (result_of code.UnavailableCriticalExtension) ∷ []; entries = []; who = somebody }
 critical_delete = refl
 
 uncritical_delete : answered [] somebody (record { kind = other_kind; critical = false; value = None } ∷ []) (request.Delete (record { name = [] }))
-    ≡ record { replies = reply.Delete (result_of code.UnwillingToPerform) ∷ []; who = somebody }
+    ≡ record { replies = reply.Delete (result_of code.UnwillingToPerform) ∷ []; entries = []; who = somebody }
 uncritical_delete = refl
 
 -- an extended operation is unknown, an abandon is silent, and nobody looks at its controls
 extended : answered [] somebody [] (request.Extended [] None)
-    ≡ record { replies = reply.Extended (result_of code.ProtocolError) None None ∷ []; who = somebody }
+    ≡ record { replies = reply.Extended (result_of code.ProtocolError) None None ∷ []; entries = []; who = somebody }
 extended = refl
 
-abandon : answered [] somebody (record { kind = other_kind; critical = true; value = None } ∷ []) (request.Abandon 5) ≡ record { replies = []; who = somebody }
+abandon : answered [] somebody (record { kind = other_kind; critical = true; value = None } ∷ []) (request.Abandon 5) ≡ record { replies = []; entries = []; who = somebody }
 abandon = refl
 
 -- a control of subentries with this value
@@ -117,11 +117,11 @@ abbrev a_search : SearchRequest
 a_search = record { base = []; scope = 0; size = 0; kinds_only = false; filter = Present []; selection = [] }
 
 critical_search : answered [] nobody (record { kind = other_kind; critical = true; value = None } ∷ []) (request.Search a_search)
-    ≡ record { replies = reply.Done (result_of code.UnavailableCriticalExtension) ∷ []; who = nobody }
+    ≡ record { replies = reply.Done (result_of code.UnavailableCriticalExtension) ∷ []; entries = []; who = nobody }
 critical_search = refl
 
 search_twice : answered [] nobody (subentries_with None ∷ subentries_with None ∷ []) (request.Search a_search)
-    ≡ record { replies = reply.Done (result_of code.ProtocolError) ∷ []; who = nobody }
+    ≡ record { replies = reply.Done (result_of code.ProtocolError) ∷ []; entries = []; who = nobody }
 search_twice = refl
 
 -- an anonymous bind, as octets, and its reply

@@ -5,6 +5,9 @@ pub mod PlaceLemmas
 pub mod HearLemmas
 pub mod HubLemmas
 pub mod AnswerLemmas
+pub mod RefusalLemmas
+pub mod ChangeLemmas
+pub mod GoodLemmas
 pub mod ServingLemmas
 pub mod BlockLemmas
 pub mod LoopLemmas

@@ -1,4 +1,4 @@
--- How this server answers each message (RFC 4511 4.1.1, 4.2 to 4.5, 4.10 to 4.12). The rules of sessions take this, and
+-- How this server answers each message (RFC 4511 4.1.1, 4.2 to 4.5, 4.7, 4.8, 4.10 to 4.12). The rules of sessions take this, and
 -- nothing else of them knows what is answered.
 use Rattle.std.specs.Prelude.{Bool, true, false, List, [], ◌∷◌, Option, Some, None, if◌then◌else◌}
 use Rattle.ldap_msg.specs.declared.kinds.BindRequest.{BindRequest}
@@ -18,6 +18,7 @@ use Rattle.read_model.specs.Views.{View, view_of, result_of}
 use Rattle.read_model.specs.SearchReplies.{search_replies, replies_octets}
 use Rattle.read_model.specs.CompareReplies.{compare_result}
 use Rattle.op_bind.specs.Binds.{bind_answer}
+use Rattle.op_update.specs.Updates.{Changed, added, deleted}
 use Rattle.session_model.specs.Rules.{Rules, Answered}
 use Rattle.session_hub.specs.Parties.{DirectoryEntries, Requester, nobody}
 use Rattle.session_hub.specs.Controls.{is_refused, subentries_asked}
@@ -62,45 +63,61 @@ abbrev pub searched : View → SearchRequest → Option (Option Bool) → List R
 searched view search None = reply.Done (result_of code.ProtocolError) ∷ []
 searched view search (Some subentries) = search_replies view search subentries
 
--- what an operation comes to: the replies, and who the requester is from then on
+-- what an operation comes to: the replies, the entries that it leaves, and who the requester is from then on
 pub record Operated : Type 0 where
   pub replies : List Reply
+  pub entries : DirectoryEntries
   pub who : Requester
 
--- these replies, and the requester stays who it is
-abbrev pub replying : Requester → List Reply → Operated
-replying who replies = record { replies = replies; who = who }
+-- these replies, and the entries and the requester stay
+abbrev pub replying : DirectoryEntries → Requester → List Reply → Operated
+replying entries who replies = record { replies = replies; entries = entries; who = who }
 
 -- a bind over the entries
 abbrev pub bound : DirectoryEntries → BindRequest → Operated
-bound entries bind =
-    record { replies = reply.Bind (result_of (bind_answer entries bind).code) ∷ []; who = (bind_answer entries bind).who }
+bound entries bind = record {
+  replies = reply.Bind (result_of (bind_answer entries bind).code) ∷ [];
+  entries = entries;
+  who = (bind_answer entries bind).who;
+}
 
--- an operation that no control refuses: a search and a compare read what the requester sees of the entries, operations
--- that change entries aren't done, and no extended operation is known
+-- the result of a change: success where nothing refuses it
+abbrev pub change_result : Option LdapResult → LdapResult
+change_result None = result_of code.Success
+change_result (Some refusal) = refusal
+
+-- a change of the entries that a request asks for
+abbrev pub changing : Requester → Request → Changed → Operated
+changing who asked changed =
+    record { replies = replies_in (response_to asked (change_result changed.refusal)); entries = changed.entries; who = who }
+
+-- an operation that no control refuses: a search and a compare read what the requester sees of the entries, an add and a
+-- delete change them, a modify and a rename aren't done, and no extended operation is known
 abbrev pub operated : DirectoryEntries → Requester → List Control → Request → Operated
 operated entries who controls (request.Bind bind) = bound entries bind
-operated entries who controls request.Unbind = replying who []
+operated entries who controls request.Unbind = replying entries who []
 operated entries who controls (request.Search search) =
-    replying who (searched (view_of entries who) search (subentries_asked controls))
-operated entries who controls (request.Modify modify) = replying who (ended_with code.UnwillingToPerform (request.Modify modify))
-operated entries who controls (request.Add add) = replying who (ended_with code.UnwillingToPerform (request.Add add))
-operated entries who controls (request.Delete delete) = replying who (ended_with code.UnwillingToPerform (request.Delete delete))
-operated entries who controls (request.Rename rename) = replying who (ended_with code.UnwillingToPerform (request.Rename rename))
+    replying entries who (searched (view_of entries who) search (subentries_asked controls))
+operated entries who controls (request.Modify modify) =
+    replying entries who (ended_with code.UnwillingToPerform (request.Modify modify))
+operated entries who controls (request.Add add) = changing who (request.Add add) (added entries who add)
+operated entries who controls (request.Delete delete) = changing who (request.Delete delete) (deleted entries who delete)
+operated entries who controls (request.Rename rename) =
+    replying entries who (ended_with code.UnwillingToPerform (request.Rename rename))
 operated entries who controls (request.Compare compare) =
-    replying who (reply.Compare (compare_result (view_of entries who) compare) ∷ [])
-operated entries who controls (request.Abandon id) = replying who []
+    replying entries who (reply.Compare (compare_result (view_of entries who) compare) ∷ [])
+operated entries who controls (request.Abandon id) = replying entries who []
 operated entries who controls (request.Extended name value) =
-    replying who (ended_with code.ProtocolError (request.Extended name value))
+    replying entries who (ended_with code.ProtocolError (request.Extended name value))
 
 -- an operation that a control refuses, for this requester
-abbrev pub refused : Requester → Request → Operated
-refused who asked = replying who (ended_with code.UnavailableCriticalExtension asked)
+abbrev pub refused : DirectoryEntries → Requester → Request → Operated
+refused entries who asked = replying entries who (ended_with code.UnavailableCriticalExtension asked)
 
 -- a request with its controls
 abbrev pub answered : DirectoryEntries → Requester → List Control → Request → Operated
 answered entries who controls asked =
-    if is_refused asked controls then refused (asking who asked) asked else operated entries (asking who asked) controls asked
+    if is_refused asked controls then refused entries (asking who asked) asked else operated entries (asking who asked) controls asked
 
 -- an unbind closes
 abbrev pub is_unbind : Request → Bool
@@ -115,14 +132,14 @@ is_unbind (request.Compare compare) = false
 is_unbind (request.Abandon id) = false
 is_unbind (request.Extended name value) = false
 
--- the answer to a message, or to octets that are none, which get the notice of disconnection and close; the entries stay
+-- the answer to a message, or to octets that are none, which get the notice of disconnection and close
 abbrev pub answer_read : DirectoryEntries → Requester → Option Message → Answered DirectoryEntries Requester
 answer_read entries who None = record { replies = notice_octets; tree = entries; who = who; closes = true }
 answer_read entries who (Some message) =
     let came = answered entries who message.controls message.request in
     record {
       replies = replies_octets message.id came.replies;
-      tree = entries;
+      tree = came.entries;
       who = came.who;
       closes = is_unbind message.request;
     }

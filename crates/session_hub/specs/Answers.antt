@@ -17,9 +17,11 @@ pub record Gives (answered : Answered DirectoryEntries Requester) (old new : Lis
   pub asker : who ≡ answered.who
   pub closed : closes ≡ answered.closes
 
--- what was sent is the replies of an operation to the message of this number, and the requester is who it leaves
-pub record Sends (id : ℕ) (came : Operated) (old new : List ℕ) (who : Requester) : Type 0 where
+-- what was sent is the replies of an operation to the message of this number, and the entries and the requester are those
+-- that it leaves
+pub record Sends (id : ℕ) (came : Operated) (old new : List ℕ) (entries : DirectoryEntries) (who : Requester) : Type 0 where
   pub said : new ≡ old ++ replies_octets id came.replies
+  pub left : entries ≡ came.entries
   pub asker : who ≡ came.who
 
 -- what is said to a stream by this server, up to a cut

@@ -1,15 +1,16 @@
 //! The answer to one message.
 
-ghost use Rattle.std.specs.Prelude.{◌≡◌, ◌++◌, [], ◌∷◌, length, IfOk, OnOk, OnErr, Some, None};
+ghost use Rattle.std.specs.Prelude.{◌≡◌, ◌≤◌, ◌++◌, [], ◌∷◌, length, take, vec_len, IfOk, OnOk, OnErr, Some, None};
 ghost use Rattle.dir_tree.specs.Numbered.{entries_of};
 ghost use Rattle.ldap_msg.specs.Streams.{frame_at};
 ghost use Rattle.read_model.specs.Views.{view_of, result_of as result_with};
 ghost use Rattle.read_model.specs.SearchReplies.{replies_octets};
 ghost use Rattle.read_model.specs.CompareReplies.{compare_result};
 ghost use Rattle.ldap_msg.specs.declared.kinds.Reply.TheVariants as reply;
+ghost use Rattle.op_update.specs.Updates.{added, deleted};
 ghost use Rattle.session_hub.specs.Parties.{DirectoryEntries, Requester};
 ghost use Rattle.session_hub.specs.Controls.{subentries_asked};
-ghost use Rattle.session_hub.specs.Answering.{rules, response_to as response_of, ended_with, asking, searched, bound, operated, refused, answered, is_unbind, answer_read};
+ghost use Rattle.session_hub.specs.Answering.{rules, response_to as response_of, replies_in, ended_with, asking, searched, bound, changing, operated, refused, answered, is_unbind, answer_read};
 ghost use Rattle.session_hub.specs.Answers.{Gives, Sends};
 
 use crate::controls::{is_refused, subentries_asked};
@@ -17,11 +18,12 @@ use crate::requester::anonymous;
 use acdf_filters::Requester;
 use acdf_lists::Dir;
 use ldap_msg::{
-    BindRequest, CompareRequest, Frame, LdapResult, Message, ReadFault, Reply, Request, ResultCode,
-    SearchRequest, put_notice, put_reply, read_request,
+    AddRequest, BindRequest, CompareRequest, DeleteRequest, Frame, LdapResult, Message, ReadFault,
+    Reply, Request, ResultCode, SearchRequest, put_notice, put_reply, read_request,
 };
 use op_bind::bind;
 use op_read::{compare, search};
+use op_update::{add, delete};
 use plain_values::Octets;
 use std::alloc::{AllocError, Global};
 
@@ -50,7 +52,23 @@ fn response_to(request: &Request, ended: LdapResult) -> Option<Reply>
     }
 }
 
-/// Appends the response of a request that ends with the code and does nothing, if it has one.
+/// Appends the response with this result, if the request has one.
+fn put_response(
+    message: &Message,
+    ended: LdapResult,
+    out: &mut Vec<u8>,
+) -> Result<(), AllocError>
+    ensures ok { OnOk result (out.new.items ≡ out.old.items
+        ++ replies_octets message.now.id (replies_in (response_of message.now.request ended))) }
+    ensures err { OnErr result (out.new.items ≡ out.old.items) }
+{
+    match response_to(&message.request, ended) {
+        None => Ok(()),
+        Some(reply) => put_reply(out, message.id, &reply),
+    }
+}
+
+/// Appends the response of a request that ends with the code, if it has one.
 fn put_ended(
     alloc: Global,
     message: &Message,
@@ -61,10 +79,23 @@ fn put_ended(
         ≡ out.old.items ++ replies_octets message.now.id (ended_with code message.now.request)) }
     ensures err { OnErr result (out.new.items ≡ out.old.items) }
 {
-    match response_to(&message.request, result_of(alloc, code)) {
-        None => Ok(()),
-        Some(reply) => put_reply(out, message.id, &reply),
-    }
+    put_response(message, result_of(alloc, code), out)
+}
+
+/// Puts the response with this result in the place of all that stands behind the first octets.
+fn put_instead(
+    message: &Message,
+    ended: LdapResult,
+    first: usize,
+    out: &mut Vec<u8>,
+) -> Result<(), AllocError>
+    requires within { first ≤ vec_len out.old }
+    ensures ok { OnOk result (out.new.items ≡ take first out.old.items
+        ++ replies_octets message.now.id (replies_in (response_of message.now.request ended))) }
+    ensures err { OnErr result (out.new.items ≡ take first out.old.items) }
+{
+    out.truncate(first);
+    put_response(message, ended, out)
 }
 
 /// A bind makes the requester anonymous before anything else; no other request changes it.
@@ -86,7 +117,7 @@ fn answer_bind<D: Dir>(
     out: &mut Vec<u8>,
 ) -> Result<(), AllocError>
     ensures ok { OnOk result (Sends id (bound (entries_of (D.rows dir.now)) request.now)
-        out.old.items out.new.items who.new) }
+        out.old.items out.new.items (entries_of (D.rows dir.now)) who.new) }
     ensures err { OnErr result (out.new.items ≡ out.old.items) }
     ensures kept { OnErr result (who.new ≡ who.old) }
 {
@@ -137,43 +168,103 @@ fn put_compare<D: Dir>(
     put_reply(out, id, &Reply::Compare(found))
 }
 
-/// Does what a request asks for that no control refuses.
+/// Adds an entry, and appends the reply, for which there is room before the directory changes.
+/// After `AllocError` all is as it was.
+fn put_add<D: Dir>(
+    alloc: Global,
+    dir: &mut D,
+    who: &Requester,
+    message: &Message,
+    request: &AddRequest,
+    out: &mut Vec<u8>,
+) -> Result<(), AllocError>
+    ensures ok { OnOk result (Sends message.now.id
+        (changing who.now message.now.request (added (entries_of (D.rows dir.old)) who.now request.now))
+        out.old.items out.new.items (entries_of (D.rows dir.new)) who.now) }
+    ensures err { OnErr result (out.new.items ≡ out.old.items) }
+    ensures entries { OnErr result (entries_of (D.rows dir.new) ≡ entries_of (D.rows dir.old)) }
+{
+    let before = out.len();
+    put_ended(alloc, message, ResultCode::Success, out)?;
+    match add(alloc, dir, who, request) {
+        Ok(None) => Ok(()),
+        Ok(Some(refusal)) => put_instead(message, refusal, before, out),
+        Err(fault) => {
+            out.truncate(before);
+            Err(fault)
+        }
+    }
+}
+
+/// Deletes an entry, and appends the reply, for which there is room before the directory changes.
+/// After `AllocError` all is as it was.
+fn put_delete<D: Dir>(
+    alloc: Global,
+    dir: &mut D,
+    who: &Requester,
+    message: &Message,
+    request: &DeleteRequest,
+    out: &mut Vec<u8>,
+) -> Result<(), AllocError>
+    ensures ok { OnOk result (Sends message.now.id
+        (changing who.now message.now.request (deleted (entries_of (D.rows dir.old)) who.now request.now))
+        out.old.items out.new.items (entries_of (D.rows dir.new)) who.now) }
+    ensures err { OnErr result (out.new.items ≡ out.old.items) }
+    ensures entries { OnErr result (entries_of (D.rows dir.new) ≡ entries_of (D.rows dir.old)) }
+{
+    let before = out.len();
+    put_ended(alloc, message, ResultCode::Success, out)?;
+    match delete(alloc, dir, who, request) {
+        Ok(None) => Ok(()),
+        Ok(Some(refusal)) => put_instead(message, refusal, before, out),
+        Err(fault) => {
+            out.truncate(before);
+            Err(fault)
+        }
+    }
+}
+
+/// Does what a request asks for that no control refuses. After `AllocError` all is as it was.
 fn operate<D: Dir>(
     alloc: Global,
-    dir: &D,
+    dir: &mut D,
     who: &mut Requester,
     message: &Message,
     out: &mut Vec<u8>,
 ) -> Result<(), AllocError>
     ensures ok { OnOk result (Sends message.now.id
-        (operated (entries_of (D.rows dir.now)) (asking who.old message.now.request)
+        (operated (entries_of (D.rows dir.old)) (asking who.old message.now.request)
         message.now.controls message.now.request)
-        out.old.items out.new.items who.new) }
+        out.old.items out.new.items (entries_of (D.rows dir.new)) who.new) }
     ensures err { OnErr result (out.new.items ≡ out.old.items) }
     ensures kept { OnErr result (who.new ≡ who.old) }
+    ensures entries { OnErr result (entries_of (D.rows dir.new) ≡ entries_of (D.rows dir.old)) }
 {
     match &message.request {
         Request::Bind(bind) => answer_bind(alloc, dir, who, message.id, bind, out),
         Request::Search(search) => put_search(alloc, dir, who, message, search, out),
         Request::Compare(compare) => put_compare(alloc, dir, who, message.id, compare, out),
+        Request::Add(add) => put_add(alloc, dir, who, message, add, out),
+        Request::Delete(delete) => put_delete(alloc, dir, who, message, delete, out),
         Request::Unbind | Request::Abandon(_) => Ok(()),
         Request::Extended(_, _) => put_ended(alloc, message, ResultCode::ProtocolError, out),
-        Request::Modify(_) | Request::Add(_) | Request::Delete(_) | Request::Rename(_) => {
+        Request::Modify(_) | Request::Rename(_) => {
             put_ended(alloc, message, ResultCode::UnwillingToPerform, out)
         }
     }
 }
 
-/// Refuses a request for a control. After `AllocError` the requester is who it was.
+/// Refuses a request for a control, whatever the entries are. After `AllocError` the requester is
+/// who it was.
 fn refuse(
     alloc: Global,
     who: &mut Requester,
     message: &Message,
     out: &mut Vec<u8>,
 ) -> Result<(), AllocError>
-    ensures ok { OnOk result (Sends message.now.id
-        (refused (asking who.old message.now.request) message.now.request)
-        out.old.items out.new.items who.new) }
+    ensures ok { OnOk result ((entries : DirectoryEntries) → Sends message.now.id
+        (refused entries (asking who.old message.now.request) message.now.request)
+        out.old.items out.new.items entries who.new) }
     ensures err { OnErr result (out.new.items ≡ out.old.items) }
     ensures kept { OnErr result (who.new ≡ who.old) }
 {
@@ -187,19 +278,20 @@ fn refuse(
     Ok(())
 }
 
-/// Answers a request with its controls.
+/// Answers a request with its controls. After `AllocError` all is as it was.
 fn answer_request<D: Dir>(
     alloc: Global,
-    dir: &D,
+    dir: &mut D,
     who: &mut Requester,
     message: &Message,
     out: &mut Vec<u8>,
 ) -> Result<(), AllocError>
     ensures ok { OnOk result (Sends message.now.id
-        (answered (entries_of (D.rows dir.now)) who.old message.now.controls message.now.request)
-        out.old.items out.new.items who.new) }
+        (answered (entries_of (D.rows dir.old)) who.old message.now.controls message.now.request)
+        out.old.items out.new.items (entries_of (D.rows dir.new)) who.new) }
     ensures err { OnErr result (out.new.items ≡ out.old.items) }
     ensures kept { OnErr result (who.new ≡ who.old) }
+    ensures entries { OnErr result (entries_of (D.rows dir.new) ≡ entries_of (D.rows dir.old)) }
 {
     if is_refused(&message.request, message.controls.as_slice()) {
         refuse(alloc, who, message, out)
@@ -217,16 +309,17 @@ fn closes_after(request: &Request) -> bool
 #[tactic(auto, unfolding(crate::specs::Answering::rules))]
 fn answer_message<D: Dir>(
     alloc: Global,
-    dir: &D,
+    dir: &mut D,
     who: &mut Requester,
     message: &Message,
     out: &mut Vec<u8>,
 ) -> Result<bool, AllocError>
     ensures ok { IfOk result (λ closes.
-        Gives (answer_read (entries_of (D.rows dir.now)) who.old (Some message.now))
-        out.old.items out.new.items (entries_of (D.rows dir.now)) who.new closes) }
+        Gives (answer_read (entries_of (D.rows dir.old)) who.old (Some message.now))
+        out.old.items out.new.items (entries_of (D.rows dir.new)) who.new closes) }
     ensures err { OnErr result (out.new.items ≡ out.old.items) }
     ensures kept { OnErr result (who.new ≡ who.old) }
+    ensures entries { OnErr result (entries_of (D.rows dir.new) ≡ entries_of (D.rows dir.old)) }
 {
     answer_request(alloc, dir, who, message, out)?;
     Ok(closes_after(&message.request))

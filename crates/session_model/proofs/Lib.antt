@@ -15,5 +15,6 @@ pub mod LostLemmas
 pub mod ReplayLemmas
 pub mod SpeechLemmas
 pub mod JoinedLemmas
+pub mod ClaimLemmas
 pub mod Theorems
 pub mod Examples

@@ -14,6 +14,8 @@ pub use Rattle.session_model.proofs.KeepingLemmas.{Keeps-taken, length-kept}
 pub use Rattle.session_model.proofs.SpeechLemmas.{one_later, speech-whole, speech-more, speech-bad, speech-cut}
 -- octets and messages, however they are told apart
 pub use Rattle.session_model.proofs.JoinedLemmas.{talk-append, pieces-join}
+-- what each answer keeps true of a tree, through all steps
+pub use Rattle.session_model.proofs.ClaimLemmas.{AnswersKeep, run_claim}
 -- from block to block
 pub use Rattle.session_model.proofs.TrackLemmas.{works_start}
 pub use Rattle.session_model.proofs.EventLemmas.{works_bytes, works_ended, works_idle}

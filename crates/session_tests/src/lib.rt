@@ -9,3 +9,5 @@ mod loops;
 mod messages;
 #[cfg(test)]
 mod slow;
+#[cfg(test)]
+mod updates;

@@ -8,7 +8,7 @@ use Rattle.acl_program.proofs.replay.play_over.Goals as goal
 
 -- Stop was heard
 pub dumped-requires : goal.dumped-requires
-dumped-requires g c = record { good = subst IsGoodTree (sym (ap entries_of c.tree.ensures.exact ∙ c.in-Stopped.ensures.stays)) c.requires.good }
+dumped-requires g c = record { good = subst (λ rows. IsGoodTree (entries_of rows)) (sym c.tree.ensures.exact) c.in-Stopped.ensures.good }
 
 pub returns-in-Stopped : goal.returns-in-Stopped
 returns-in-Stopped g c =
@@ -16,7 +16,7 @@ returns-in-Stopped g c =
 
 -- the turns are spent
 pub dumped-requires-in-TurnsSpent : goal.dumped-requires-in-TurnsSpent
-dumped-requires-in-TurnsSpent g c = record { good = subst IsGoodTree (sym (ap entries_of c.tree-in-TurnsSpent.ensures.exact ∙ c.in-TurnsSpent.ensures.stays)) c.requires.good }
+dumped-requires-in-TurnsSpent g c = record { good = subst (λ rows. IsGoodTree (entries_of rows)) (sym c.tree-in-TurnsSpent.ensures.exact) c.in-TurnsSpent.ensures.good }
 
 pub returns-in-TurnsSpent : goal.returns-in-TurnsSpent
 returns-in-TurnsSpent g c =
