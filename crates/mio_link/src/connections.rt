@@ -69,7 +69,7 @@ impl Connections {
     }
 
     /// The connection of the number.
-    pub(crate) fn of(&mut self, number: u32) -> Option<&mut Connection> {
+    fn of(&mut self, number: u32) -> Option<&mut Connection> {
         let place = self.place_of(number)?;
         self.at(place)
     }
@@ -80,6 +80,15 @@ impl Connections {
             Some(found) => found.as_mut(),
             None => None,
         }
+    }
+
+    /// Puts the connection of the number on hold, or releases it, and gives its place.
+    pub(crate) fn set_on_hold(&mut self, number: u32, is_on_hold: bool) -> Option<usize> {
+        let place = self.place_of(number)?;
+        if let Some(connection) = self.at(place) {
+            connection.set_on_hold(is_on_hold);
+        }
+        Some(place)
     }
 
     /// Ends the connection of the number, and says whether there was one.

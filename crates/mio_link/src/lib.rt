@@ -5,6 +5,7 @@
 mod connection;
 mod connections;
 mod link;
+mod ready;
 mod server;
 mod sockets;
 

@@ -56,7 +56,12 @@ impl Server {
         self.poll.poll(events, Some(Duration::ZERO))
     }
 
-    /// Connections wait.
+    /// Whether connections may wait.
+    pub(crate) fn may_accept(&self) -> bool {
+        self.may_accept
+    }
+
+    /// Notes what the system reports.
     pub(crate) fn note(&mut self, event: &Event) {
         if event.is_readable() {
             self.may_accept = true;
@@ -74,19 +79,16 @@ impl Server {
         }
     }
 
-    /// Has the connection reported. Where the system refuses that, the connection is closed.
+    /// Has the connection reported. Where the system refuses that, the connection is closed, and others
+    /// that wait are tried later.
     fn watch(&mut self, stream: TcpStream, place: usize) -> Option<TcpStream> {
-        self.is_refused = false;
         let mut stream = stream;
         let interest = Interest::READABLE | Interest::WRITABLE;
         let token = Token(place);
-        if stream.set_nodelay(true).is_err() {
-            return None;
-        }
-        match self.poll.registry().register(&mut stream, token, interest) {
-            Ok(()) => Some(stream),
-            Err(_) => None,
-        }
+        let registry = self.poll.registry();
+        self.is_refused = stream.set_nodelay(true).is_err()
+            || registry.register(&mut stream, token, interest).is_err();
+        if self.is_refused { None } else { Some(stream) }
     }
 
     /// Nothing was accepted: none waits, or it is tried again later.

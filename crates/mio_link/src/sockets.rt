@@ -1,11 +1,12 @@
-//! All sockets of a link: events are found by going around the places of connections, the listening
-//! socket being one place more.
+//! All sockets of a link: events are found by going around the places of which something may be heard,
+//! the listening socket being one place beside those of connections.
 
 ghost use Rattle.std.specs.Prelude.{◌<◌, length, IfOk, IfSome};
 ghost use Rattle.wire_io.specs.Answers.{HeardFits, TookFits};
 
 use crate::connection::Connection;
 use crate::connections::{Connections, PLACES};
+use crate::ready::Ready;
 use crate::server::{LISTENER, Server};
 use mio::Events;
 use std::alloc::{AllocError, Global};
@@ -23,7 +24,9 @@ pub(crate) struct Sockets {
     server: Option<Server>,
     connections: Connections,
     events: Events,
-    // the place that is asked next
+    // the places that were reported or changed, and not asked in vain since
+    ready: Ready,
+    // the place behind the one that was asked last
     cursor: usize,
     // how many events were heard since the system was asked
     heard: u32,
@@ -41,7 +44,8 @@ impl Sockets {
             server: None,
             connections: Connections::new(alloc)?,
             events: Events::with_capacity(alloc, PLACES + 1)?,
-            cursor: LISTENER,
+            ready: Ready::new(),
+            cursor: 0,
             heard: 0,
             number: Some(1),
             sessions: 0,
@@ -86,21 +90,20 @@ impl Sockets {
         }
     }
 
-    /// An event that can be had now: each place is asked once, from the one after the last that had one.
+    /// An event that can be had now: the places are asked in turn, from the one behind the last. One of
+    /// which nothing is to be heard isn't asked again before it is reported or changed.
     fn hear(&mut self, buf: &mut [u8]) -> Option<Heard>
         requires room { 0 < length buf.old }
         ensures fits { IfSome result (HeardFits (length buf.new)) }
     {
         self.heard = self.heard.saturating_add(1);
         for _ in 0..PLACES + 1 {
-            self.cursor = if self.cursor < LISTENER {
-                self.cursor + 1
-            } else {
-                0
-            };
-            if let Some(heard) = self.ask(self.cursor, buf) {
+            let place = self.ready.next(self.cursor)?;
+            self.cursor = place.saturating_add(1);
+            if let Some(heard) = self.ask(place, buf) {
                 return Some(heard);
             }
+            self.ready.remove(place);
         }
         None
     }
@@ -155,10 +158,21 @@ impl Sockets {
         self.heard = 0;
         for event in self.events.iter() {
             let place = event.token().0;
+            self.ready.add(place);
             if place < PLACES {
                 self.connections.note(place, event);
             } else if let Some(server) = &mut self.server {
                 server.note(event);
+            }
+        }
+        self.listen();
+    }
+
+    /// Has the listening socket asked where connections may wait.
+    fn listen(&mut self) {
+        if let Some(server) = &self.server {
+            if server.may_accept() {
+                self.ready.add(LISTENER);
             }
         }
     }
@@ -173,8 +187,8 @@ impl Sockets {
 
     /// Puts the connection on hold, or releases it.
     pub(crate) fn set_on_hold(&mut self, number: u32, is_on_hold: bool) {
-        if let Some(connection) = self.connections.of(number) {
-            connection.set_on_hold(is_on_hold);
+        if let Some(place) = self.connections.set_on_hold(number, is_on_hold) {
+            self.ready.add(place);
         }
     }
 
@@ -182,6 +196,7 @@ impl Sockets {
     pub(crate) fn hang_up(&mut self, number: u32) {
         if self.connections.end(number) {
             self.ended = self.ended.saturating_add(1);
+            self.listen();
         }
     }
 }

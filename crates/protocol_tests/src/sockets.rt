@@ -66,3 +66,46 @@ fn connections_over_loopback_are_served_to_their_end(rt: HostRuntime) -> Result<
     assert_eq!(rt; link.next(&mut buf), Ok(Heard::Stop), "two sessions ended");
     Ok(())
 }
+
+#[test]
+fn what_comes_behind_a_short_read_is_heard(rt: HostRuntime) -> Result<(), Fail> {
+    let address = free_address(&rt)?;
+    let name = format!(in rt.alloc(); "{address}")?;
+    let mut link = MioLink::new(rt.clone()?, rt.alloc())?;
+    let mut buf = [0u8; 4];
+    assert_eq!(rt; link.open(&name, 0), Ok(()));
+    let mut peer = TcpStream::connect(&rt, address)?;
+    assert_eq!(rt; next(&mut link, &mut buf), Ok(Heard::Opened(1)));
+    let mut other = TcpStream::connect(&rt, address)?;
+    assert_eq!(rt; next(&mut link, &mut buf), Ok(Heard::Opened(2)));
+
+    // more octets than the buffer has room for
+    peer.write_all(b"abcde")?;
+    assert_eq!(rt; next(&mut link, &mut buf), Ok(Heard::Bytes(1, 4)));
+    assert_eq!(rt; next(&mut link, &mut buf), Ok(Heard::Bytes(1, 1)));
+    other.write_all(b"x")?;
+    assert_eq!(rt; next(&mut link, &mut buf), Ok(Heard::Bytes(2, 1)));
+
+    // octets that come on hold are heard after the release
+    assert!(rt; link.hold(1).is_ok());
+    peer.write_all(b"fg")?;
+    assert_eq!(rt; next(&mut link, &mut buf), Ok(Heard::Ready(1)));
+    assert!(rt; link.release(1).is_ok());
+    assert_eq!(rt; next(&mut link, &mut buf), Ok(Heard::Bytes(1, 2)));
+
+    // the end behind the last octet
+    peer.write_all(b"h")?;
+    peer.shutdown(Shutdown::Write)?;
+    assert_eq!(rt; next(&mut link, &mut buf), Ok(Heard::Bytes(1, 1)));
+    assert_eq!(rt; next(&mut link, &mut buf), Ok(Heard::Ended(1)));
+    assert!(rt; link.hang_up(1).is_ok());
+
+    // another connection at the place of one that was hung up
+    let mut third = TcpStream::connect(&rt, address)?;
+    assert_eq!(rt; next(&mut link, &mut buf), Ok(Heard::Opened(3)));
+    third.write_all(b"z")?;
+    assert_eq!(rt; next(&mut link, &mut buf), Ok(Heard::Bytes(3, 1)));
+    other.shutdown(Shutdown::Write)?;
+    assert_eq!(rt; next(&mut link, &mut buf), Ok(Heard::Ended(2)));
+    Ok(())
+}
