@@ -1,0 +1,3 @@
+mod FoundLemmas
+pub mod SearchLemmas
+pub mod CompareLemmas
