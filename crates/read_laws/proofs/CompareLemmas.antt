@@ -1,5 +1,5 @@
 -- What a compare that is granted is answered.
-use Rattle.std.proofs.Common.{◌≡◌, ◌≢◌, ◌⊎◌, inl, inr, ℕ, Bool, true, false, not, ◌&&◌, List, [], ◌∷◌, Some, Ok, refl, ap, ◌∙◌, map, filter, find}
+use Rattle.std.proofs.Common.{◌≡◌, ◌≢◌, ◌⊎◌, inl, inr, ℕ, true, List, [], ◌∷◌, Some, refl, ap, ◌∙◌, map, filter}
 use Rattle.std.proofs.lemmas.Bool.{cases_Bool}
 use Rattle.dn_names.specs.Names.{Keyed, RdnSequence}
 use Rattle.dir_tree.specs.Entries.{EntryInformation, has_kind}

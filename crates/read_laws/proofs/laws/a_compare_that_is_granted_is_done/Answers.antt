@@ -3,4 +3,4 @@ use Rattle.read_laws.proofs.CompareLemmas.{compare_result-granted}
 use Rattle.read_laws.proofs.laws.a_compare_that_is_granted_is_done.Goals as goal
 
 pub returns : goal.returns
-returns c = compare_result-granted
+returns c = record { exact = compare_result-granted }

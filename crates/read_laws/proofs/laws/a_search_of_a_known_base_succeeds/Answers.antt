@@ -3,4 +3,4 @@ use Rattle.read_laws.proofs.SearchLemmas.{search_replies-succeed}
 use Rattle.read_laws.proofs.laws.a_search_of_a_known_base_succeeds.Goals as goal
 
 pub returns : goal.returns
-returns c = search_replies-succeed
+returns c = record { exact = search_replies-succeed }
