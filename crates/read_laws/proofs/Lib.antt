@@ -1,3 +1,4 @@
 mod FoundLemmas
 pub mod SearchLemmas
 pub mod CompareLemmas
+mod Examples
