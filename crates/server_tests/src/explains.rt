@@ -3,7 +3,26 @@
 use crate::runs::{assert_ran, run_data};
 use crate::sets::ORGANISATION;
 use acl_program::Status;
+use std::alloc::{AllocError, Global};
+use std::process::Abort;
 use std::test::*;
+
+/// What a decision shows, the words that ask for it over a data file, and what is printed.
+pub type Explained = (&'static str, &'static str, &'static str);
+
+/// Each of the decisions over the data file is explained so.
+pub fn assert_explained(
+    rt: &impl Abort,
+    alloc: Global,
+    data: &str,
+    decisions: &[Explained],
+) -> Result<(), AllocError> {
+    for (what, line, put) in decisions {
+        let ran = run_data(alloc, line, data.as_bytes())?;
+        assert_ran(rt, &ran, put, Status::Done, what);
+    }
+    Ok(())
+}
 
 /// What is asked of the organisation, and what is printed.
 static EXPLAINED: [(&str, &str); 8] = [

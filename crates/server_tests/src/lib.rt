@@ -5,6 +5,8 @@
 #[cfg(test)]
 mod causes;
 #[cfg(test)]
+mod classes;
+#[cfg(test)]
 mod cuts;
 #[cfg(test)]
 mod data;
@@ -13,12 +15,26 @@ mod explains;
 #[cfg(test)]
 mod messages;
 #[cfg(test)]
+mod pipelines;
+#[cfg(test)]
+mod points;
+#[cfg(test)]
+mod ranks;
+#[cfg(test)]
 mod reads;
 #[cfg(test)]
 mod replays;
 #[cfg(test)]
+mod rooms;
+#[cfg(test)]
 mod runs;
+#[cfg(test)]
+mod selections;
 #[cfg(test)]
 mod serves;
 #[cfg(test)]
 mod sets;
+#[cfg(test)]
+mod subentries;
+#[cfg(test)]
+mod twins;

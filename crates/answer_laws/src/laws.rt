@@ -1,0 +1,30 @@
+//! The laws of answered messages: each function computes nothing, and what it ensures is a law.
+
+ghost use Rattle.std.specs.Prelude.{◌≡◌, ◌⊎◌, ◌∷◌, [], Some, List};
+ghost use Rattle.dir_tree.specs.Entries.{EntryInformation};
+ghost use Rattle.acdf_filters.specs.declared.asking.Requester.{Requester};
+ghost use Rattle.ldap_msg.specs.declared.operations.ResultCode.TheVariants as code;
+ghost use Rattle.ldap_msg.specs.declared.kinds.SearchRequest.{SearchRequest};
+ghost use Rattle.ldap_msg.specs.declared.kinds.CompareRequest.{CompareRequest};
+ghost use Rattle.ldap_msg.specs.declared.kinds.Message.{Message};
+ghost use Rattle.read_laws.specs.Complete.{HasKnownBase, IsComparable};
+ghost use Rattle.session_hub.specs.Answering.{answer_read};
+ghost use Rattle.answer_laws.specs.Asked.{AsksSearch, AsksCompare, IsSearchedWith, IsComparedWith};
+
+/// A message with a search whose base the requester may know of is answered by the octets of entries, or of none, and of
+/// an end with success or with sizeLimitExceeded, where no control of it is refused (RFC 4511 4.1.11 and 4.5.2).
+pub fn a_message_with_a_search_of_a_known_base_succeeds()
+    ensures exact { (entries : List EntryInformation) (who : Requester) (message : Message)
+        (request : SearchRequest) → AsksSearch message request → HasKnownBase entries who request
+        → (IsSearchedWith code.Success message.id (answer_read entries who (Some message)).replies)
+        ⊎ (IsSearchedWith code.SizeLimitExceeded message.id (answer_read entries who (Some message)).replies) }
+{}
+
+/// A message with a compare of an attribute that an entry has, where the entry may be read and the type compared, is
+/// answered by compareTrue or compareFalse, where no control of it is refused (RFC 4511 4.1.11 and 4.10).
+pub fn a_message_with_a_compare_that_is_granted_is_done()
+    ensures exact { (entries : List EntryInformation) (who : Requester) (message : Message)
+        (request : CompareRequest) → AsksCompare message request → IsComparable entries who request
+        → (IsComparedWith code.CompareTrue message.id (answer_read entries who (Some message)).replies)
+        ⊎ (IsComparedWith code.CompareFalse message.id (answer_read entries who (Some message)).replies) }
+{}
