@@ -54,11 +54,7 @@ fn response_to(request: &Request, ended: LdapResult) -> Option<Reply>
 }
 
 /// Appends the response with this result, if the request has one.
-fn put_response(
-    message: &Message,
-    ended: LdapResult,
-    out: &mut Vec<u8>,
-) -> Result<(), AllocError>
+fn put_response(message: &Message, ended: LdapResult, out: &mut Vec<u8>) -> Result<(), AllocError>
     ensures ok { OnOk result (out.new.items ≡ out.old.items
         ++ replies_octets message.now.id (replies_in (response_of message.now.request ended))) }
     ensures err { OnErr result (out.new.items ≡ out.old.items) }
