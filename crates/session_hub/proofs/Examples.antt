@@ -24,6 +24,7 @@ use Rattle.ldap_msg.specs.declared.kinds.SearchRequest.{SearchRequest}
 use Rattle.aci_item.specs.declared.level.Level.TheVariants as level
 use Rattle.read_model.specs.Views.{result_of}
 use Rattle.op_bind.specs.Binds.{bind_answer}
+use Rattle.op_update.specs.Updates.{added, deleted}
 use Rattle.session_model.specs.Rules.{talk}
 use Rattle.session_model.specs.Kept.{speech}
 use Rattle.session_hub.specs.Parties.{Requester, nobody}
@@ -63,7 +64,14 @@ critical_delete = refl
 
 uncritical_delete : answered [] somebody (record { kind = other_kind; critical = false; value = None } ∷ []) (request.Delete (record { name = [] }))
     ≡ record { replies = reply.Delete (result_of code.UnwillingToPerform) ∷ []; entries = []; who = somebody }
+unfolding deleted read_name text_fault resolve written_of
 uncritical_delete = refl
+
+-- the root is no entry, and isn't added either
+add_root : answered [] somebody [] (request.Add (record { name = []; attributes = [] }))
+    ≡ record { replies = reply.Add (result_of code.UnwillingToPerform) ∷ []; entries = []; who = somebody }
+unfolding added read_name text_fault resolve written_of
+add_root = refl
 
 -- an extended operation is unknown, an abandon is silent, and nobody looks at its controls
 extended : answered [] somebody [] (request.Extended [] None)

@@ -24,28 +24,28 @@ module _
     (deletes : (entries : DirectoryEntries) (who : Requester) (asked : DeleteRequest) → IsGoodTree entries → IsGoodTree (deleted entries who asked).entries)
     (adds : (entries : DirectoryEntries) (who : Requester) (asked : AddRequest) → IsGoodTree entries → IsGoodTree (added entries who asked).entries)
   where
-  operated_good : (entries : DirectoryEntries) (who : Requester) (controls : List Control) (asked : Request) → IsGoodTree entries → IsGoodTree (operated entries who controls asked).entries
-  operated_good entries who controls (request.Bind bind) good = good
-  operated_good entries who controls request.Unbind good = good
-  operated_good entries who controls (request.Search search) good = good
-  operated_good entries who controls (request.Modify modify) good = good
-  operated_good entries who controls (request.Add add) good = adds entries who add good
-  operated_good entries who controls (request.Delete delete) good = deletes entries who delete good
-  operated_good entries who controls (request.Rename rename) good = good
-  operated_good entries who controls (request.Compare compare) good = good
-  operated_good entries who controls (request.Abandon id) good = good
-  operated_good entries who controls (request.Extended name value) good = good
+    operated_good : (entries : DirectoryEntries) (who : Requester) (controls : List Control) (asked : Request) → IsGoodTree entries → IsGoodTree (operated entries who controls asked).entries
+    operated_good entries who controls (request.Bind bind) good = good
+    operated_good entries who controls request.Unbind good = good
+    operated_good entries who controls (request.Search search) good = good
+    operated_good entries who controls (request.Modify modify) good = good
+    operated_good entries who controls (request.Add add) good = adds entries who add good
+    operated_good entries who controls (request.Delete delete) good = deletes entries who delete good
+    operated_good entries who controls (request.Rename rename) good = good
+    operated_good entries who controls (request.Compare compare) good = good
+    operated_good entries who controls (request.Abandon id) good = good
+    operated_good entries who controls (request.Extended name value) good = good
 
-  read_good : (entries : DirectoryEntries) (who : Requester) (message : Option Message) → IsGoodTree entries → IsGoodTree (answer_read entries who message).tree
-  read_good entries who None good = good
-  read_good entries who (Some message) good =
-      let asks = asking who message.request in
-      one_good (is_refused message.request message.controls) (refused entries asks message.request) (operated entries asks message.controls message.request)
-      good (operated_good entries asks message.controls message.request good)
+    read_good : (entries : DirectoryEntries) (who : Requester) (message : Option Message) → IsGoodTree entries → IsGoodTree (answer_read entries who message).tree
+    read_good entries who None good = good
+    read_good entries who (Some message) good =
+        let asks = asking who message.request in
+        one_good (is_refused message.request message.controls) (refused entries asks message.request) (operated entries asks message.controls message.request)
+        good (operated_good entries asks message.controls message.request good)
 
-  answers_good : AnswersKeep rules IsGoodTree
-  unfolding rules
-  answers_good entries who bytes good = read_good entries who (message_of bytes) good
+    answers_good : AnswersKeep rules IsGoodTree
+    unfolding rules
+    answers_good entries who bytes good = read_good entries who (message_of bytes) good
 
-  pub sessions_good : (entries : DirectoryEntries) (steps : List Step) → IsGoodTree entries → IsGoodTree (run rules entries steps).tree
-  sessions_good entries steps good = run_claim rules IsGoodTree answers_good entries steps good
+    pub sessions_good : (entries : DirectoryEntries) (steps : List Step) → IsGoodTree entries → IsGoodTree (run rules entries steps).tree
+    sessions_good entries steps good = run_claim rules IsGoodTree answers_good entries steps good

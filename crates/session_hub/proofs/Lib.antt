@@ -6,7 +6,6 @@ pub mod HearLemmas
 pub mod HubLemmas
 pub mod AnswerLemmas
 pub mod RefusalLemmas
-pub mod ChangeLemmas
 pub mod GoodLemmas
 pub mod ServingLemmas
 pub mod BlockLemmas

@@ -17,30 +17,30 @@ use Rattle.op_update.specs.Updates.{Changed, IsChanged, unless, added, added_ent
 use Rattle.session_hub.specs.Parties.{DirectoryEntries, Requester}
 
 -- where it is refused, the entries stay
-IsKept : DirectoryEntries → Changed → Type 0
+abbrev IsKept : DirectoryEntries → Changed → Type 0
 IsKept entries changed = (refusal : LdapResult) → changed.refusal ≡ Some refusal → changed.entries ≡ entries
 
 unless_kept : (found : Option LdapResult) (before after : DirectoryEntries) → IsKept before (unless found before after)
-unless_kept None before after refusal is = absurd (cc)
-unless_kept (Some found) before after refusal is = refl
+unless_kept None before after = λ refusal is. absurd (cc)
+unless_kept (Some found) before after = λ refusal is. refl
 
 target_kept : (entries : DirectoryEntries) (who : Requester) (name : RdnSequence) (found : Option EntryInformation) → IsKept entries (deleted_target entries who name found)
-target_kept entries who name None refusal is = refl
+target_kept entries who name None = λ refusal is. refl
 target_kept entries who name (Some target) = unless_kept (delete_refusal entries who name target) entries (taken_out target.name entries)
 
 deleted_kept : (entries : DirectoryEntries) (who : Requester) (name : Result RdnSequence BadName) → IsKept entries (deleted_named entries who name)
-deleted_kept entries who (Err bad) refusal is = refl
-deleted_kept entries who (Ok []) refusal is = refl
+deleted_kept entries who (Err bad) = λ refusal is. refl
+deleted_kept entries who (Ok []) = λ refusal is. refl
 deleted_kept entries who (Ok (rdn ∷ rdns)) = target_kept entries who (rdn ∷ rdns) (named_in (rdn ∷ rdns) entries)
 
 entry_kept : (entries : DirectoryEntries) (who : Requester) (name : RdnSequence) (read : Result (List Attribute) ResultCode) → IsKept entries (added_entry entries who name read)
-entry_kept entries who name (Err fault) refusal is = refl
+entry_kept entries who name (Err fault) = λ refusal is. refl
 entry_kept entries who name (Ok attributes) =
     unless_kept (add_refusal entries who name (new_entry name attributes)) entries (put_in (new_entry name attributes) entries)
 
 added_kept : (entries : DirectoryEntries) (who : Requester) (given : List KindValues) (name : Result RdnSequence BadName) → IsKept entries (added_named entries who given name)
-added_kept entries who given (Err bad) refusal is = refl
-added_kept entries who given (Ok []) refusal is = refl
+added_kept entries who given (Err bad) = λ refusal is. refl
+added_kept entries who given (Ok []) = λ refusal is. refl
 added_kept entries who given (Ok (rdn ∷ rdns)) = entry_kept entries who (rdn ∷ rdns) (read_attributes given)
 
 -- so the entries after a delete or an add that was refused are those before it

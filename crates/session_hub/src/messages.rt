@@ -3,6 +3,7 @@
 ghost use Rattle.std.specs.Prelude.{◌≡◌, ◌≤◌, ◌++◌, [], ◌∷◌, length, take, vec_len, IfOk, OnOk, OnErr, Some, None};
 ghost use Rattle.dir_tree.specs.Numbered.{entries_of};
 ghost use Rattle.ldap_msg.specs.Streams.{frame_at};
+ghost use Rattle.ldap_msg.specs.declared.operations.ResultCode.TheVariants as code;
 ghost use Rattle.read_model.specs.Views.{view_of, result_of as result_with};
 ghost use Rattle.read_model.specs.SearchReplies.{replies_octets};
 ghost use Rattle.read_model.specs.CompareReplies.{compare_result};
@@ -10,7 +11,7 @@ ghost use Rattle.ldap_msg.specs.declared.kinds.Reply.TheVariants as reply;
 ghost use Rattle.op_update.specs.Updates.{added, deleted};
 ghost use Rattle.session_hub.specs.Parties.{DirectoryEntries, Requester};
 ghost use Rattle.session_hub.specs.Controls.{subentries_asked};
-ghost use Rattle.session_hub.specs.Answering.{rules, response_to as response_of, replies_in, ended_with, asking, searched, bound, changing, operated, refused, answered, is_unbind, answer_read};
+ghost use Rattle.session_hub.specs.Answering.{rules, response_to as response_of, replies_in, ended_with, asking, searched, bound, changing, operated, answered, is_unbind, answer_read};
 ghost use Rattle.session_hub.specs.Answers.{Gives, Sends};
 
 use crate::controls::{is_refused, subentries_asked};
@@ -53,11 +54,7 @@ fn response_to(request: &Request, ended: LdapResult) -> Option<Reply>
 }
 
 /// Appends the response with this result, if the request has one.
-fn put_response(
-    message: &Message,
-    ended: LdapResult,
-    out: &mut Vec<u8>,
-) -> Result<(), AllocError>
+fn put_response(message: &Message, ended: LdapResult, out: &mut Vec<u8>) -> Result<(), AllocError>
     ensures ok { OnOk result (out.new.items ≡ out.old.items
         ++ replies_octets message.now.id (replies_in (response_of message.now.request ended))) }
     ensures err { OnErr result (out.new.items ≡ out.old.items) }
@@ -254,17 +251,16 @@ fn operate<D: Dir>(
     }
 }
 
-/// Refuses a request for a control, whatever the entries are. After `AllocError` the requester is
-/// who it was.
+/// Refuses a request for a control. After `AllocError` the requester is who it was.
 fn refuse(
     alloc: Global,
     who: &mut Requester,
     message: &Message,
     out: &mut Vec<u8>,
 ) -> Result<(), AllocError>
-    ensures ok { OnOk result ((entries : DirectoryEntries) → Sends message.now.id
-        (refused entries (asking who.old message.now.request) message.now.request)
-        out.old.items out.new.items entries who.new) }
+    ensures ok { OnOk result (out.new.items ≡ out.old.items ++ replies_octets message.now.id
+        (ended_with code.UnavailableCriticalExtension message.now.request)) }
+    ensures asked { OnOk result (who.new ≡ asking who.old message.now.request) }
     ensures err { OnErr result (out.new.items ≡ out.old.items) }
     ensures kept { OnErr result (who.new ≡ who.old) }
 {
