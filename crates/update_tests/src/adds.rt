@@ -1,6 +1,6 @@
 //! Adds to a school's entries.
 
-use crate::changes::{Attributes, ask_add, count, directory, names, shown};
+use crate::changes::{Attributes, ask_add, check_names, count, directory, names, shown};
 use crate::sets::{ANN, ANYONE, BEN, COUNT, NAMES, SCHOOL};
 use std::alloc::Global;
 use std::process::Abort;
@@ -14,12 +14,8 @@ fn check_refused(rt: &impl Abort, alloc: Global, rows: &'static [Row]) -> Result
     let mut dir = directory(alloc, SCHOOL)?;
     for (who, name, attributes, want) in rows {
         let found = ask_add(alloc, &mut dir, who, name, attributes)?;
-        assert_eq!(rt; found.as_str(), *want, "{name} {attributes:?} by {who}");
-        assert_eq!(rt;
-            names(alloc, &dir)?.as_str(),
-            NAMES,
-            "after {name} by {who}"
-        );
+        assert_eq!(rt; found.as_str(), *want, "{name} by {who}");
+        check_names(rt, alloc, &dir, NAMES)?;
     }
     Ok(())
 }

@@ -11,6 +11,7 @@ use op_update::{add, delete};
 use plain_values::{Octets, OneOrMany};
 use schema_core::row;
 use std::alloc::Global;
+use std::process::Abort;
 use std::str;
 use std::test::Fail;
 
@@ -51,7 +52,8 @@ fn octets(alloc: Global, text: &str) -> Result<Octets, Fail> {
     Ok(Octets::from_vec(text.as_bytes().to_vec(alloc)?))
 }
 
-fn kind_values(alloc: Global, kind: &str, texts: &[&str]) -> Result<KindValues, Fail> {
+/// A type and its values.
+pub fn kind_values(alloc: Global, kind: &str, texts: &[&str]) -> Result<KindValues, Fail> {
     let mut values = Vec::new(alloc);
     for text in texts {
         values.push(octets(alloc, text)?)?;
@@ -62,19 +64,12 @@ fn kind_values(alloc: Global, kind: &str, texts: &[&str]) -> Result<KindValues, 
     })
 }
 
-fn add_request(
-    alloc: Global,
-    name: &str,
-    attributes: &[(&str, &[&str])],
-) -> Result<AddRequest, Fail> {
+fn list(alloc: Global, attributes: &[(&str, &[&str])]) -> Result<Vec<KindValues>, Fail> {
     let mut list = Vec::new(alloc);
     for (kind, texts) in attributes {
         list.push(kind_values(alloc, kind, texts)?)?;
     }
-    Ok(AddRequest {
-        name: octets(alloc, name)?,
-        attributes: OneOrMany::from_vec(list),
-    })
+    Ok(list)
 }
 
 // The code of a result, and its matched name where it has one; 0 where there is no refusal.
@@ -92,7 +87,24 @@ fn told(alloc: Global, refusal: &Option<LdapResult>) -> Result<String, Fail> {
     Ok(out)
 }
 
-/// Asks for an entry to be added, and tells the result.
+/// Asks for an entry with these attributes to be added, and tells the result.
+pub fn ask_list(
+    alloc: Global,
+    dir: &mut PlainDir,
+    who: &str,
+    name: &str,
+    attributes: Vec<KindValues>,
+) -> Result<String, Fail> {
+    let who = requester(alloc, who)?;
+    let request = AddRequest {
+        name: octets(alloc, name)?,
+        attributes: OneOrMany::from_vec(attributes),
+    };
+    let refusal = add(alloc, dir, &who, &request)?;
+    told(alloc, &refusal)
+}
+
+/// The same of attributes in texts.
 pub fn ask_add(
     alloc: Global,
     dir: &mut PlainDir,
@@ -100,10 +112,8 @@ pub fn ask_add(
     name: &str,
     attributes: &[(&str, &[&str])],
 ) -> Result<String, Fail> {
-    let who = requester(alloc, who)?;
-    let request = add_request(alloc, name, attributes)?;
-    let refusal = add(alloc, dir, &who, &request)?;
-    told(alloc, &refusal)
+    let attributes = list(alloc, attributes)?;
+    ask_list(alloc, dir, who, name, attributes)
 }
 
 /// Asks for an entry to be deleted, and tells the result.
@@ -139,6 +149,13 @@ pub fn names(alloc: Global, dir: &PlainDir) -> Result<String, Fail> {
         }
     }
     Ok(out)
+}
+
+/// These are the names of the entries.
+pub fn check_names(rt: &impl Abort, alloc: Global, dir: &PlainDir, want: &str) -> Result<(), Fail> {
+    let found = names(alloc, dir)?;
+    assert_eq!(rt; found.as_str(), want);
+    Ok(())
 }
 
 /// How many entries there are.

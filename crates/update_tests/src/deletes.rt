@@ -1,6 +1,6 @@
 //! Deletes of a school's entries.
 
-use crate::changes::{ask_delete, count, directory, names};
+use crate::changes::{ask_delete, check_names, count, directory, names};
 use crate::sets::{ANN, ANYONE, BEN, COUNT, NAMES, SCHOOL};
 use std::alloc::Global;
 use std::process::Abort;
@@ -15,11 +15,7 @@ fn check_refused(rt: &impl Abort, alloc: Global, rows: &'static [Row]) -> Result
     for (who, name, want) in rows {
         let found = ask_delete(alloc, &mut dir, who, name)?;
         assert_eq!(rt; found.as_str(), *want, "{name} by {who}");
-        assert_eq!(rt;
-            names(alloc, &dir)?.as_str(),
-            NAMES,
-            "after {name} by {who}"
-        );
+        check_names(rt, alloc, &dir, NAMES)?;
     }
     Ok(())
 }

@@ -1,6 +1,6 @@
 //! How long a value of an add may be, and how many access control subentries there may be.
 
-use crate::changes::{ask_add, count, directory};
+use crate::changes::{ask_add, ask_list, count, directory, kind_values};
 use crate::sets::{ANN, ANYONE, COUNT, SCHOOL};
 use std::alloc::Global;
 use std::test::Fail;
@@ -13,38 +13,34 @@ fn long(alloc: Global, len: usize) -> Result<String, Fail> {
     Ok(out)
 }
 
-// Ann's add of a person with such a description, and then a country.
-fn answer(alloc: Global, len: usize, country: &str) -> Result<(String, usize), Fail> {
+// What Ann's add of a device with such a description answers, where one more value of a type comes after it, and how many
+// entries there are then.
+fn answer(alloc: Global, len: usize, kind: &str, text: &str) -> Result<(String, usize), Fail> {
     let mut dir = directory(alloc, SCHOOL)?;
-    let text = long(alloc, len)?;
-    let attributes: [(&str, &[&str]); 4] = [
-        ("objectClass", &["device"]),
-        ("description", &[text.as_str()]),
-        ("l", &[country]),
-        ("cn", &["N"]),
-    ];
-    let found = ask_add(
-        alloc,
-        &mut dir,
-        ANN,
-        "cn=N,ou=people,dc=school",
-        &attributes,
-    )?;
+    let description = long(alloc, len)?;
+    let mut list = Vec::new(alloc);
+    list.push(kind_values(alloc, "objectClass", &["device"])?)?;
+    list.push(kind_values(alloc, "description", &[description.as_str()])?)?;
+    list.push(kind_values(alloc, kind, &[text])?)?;
+    let found = ask_list(alloc, &mut dir, ANN, "cn=N,ou=people,dc=school", list)?;
     Ok((found, count(&dir)))
 }
 
+// How long a description is, a type and a value after it, the result, and how many entries there are then.
+static LENGTHS: [(usize, &str, &str, &str, usize); 4] = [
+    (65_536, "l", "here", "0", COUNT + 1),
+    (65_537, "l", "here", "19", COUNT),
+    // the first that is none decides
+    (65_536, "c", "Nether", "21", COUNT),
+    (65_537, "c", "Nether", "19", COUNT),
+];
+
 #[test]
 fn a_value_has_up_to_65536_octets(rt: HostRuntime) -> Result<(), Fail> {
-    let (found, entries) = answer(rt.alloc(), 65_536, "here")?;
-    assert_eq!(rt; (found.as_str(), entries), ("0", COUNT + 1));
-    let (found, entries) = answer(rt.alloc(), 65_537, "here")?;
-    assert_eq!(rt; (found.as_str(), entries), ("19", COUNT));
-    let (found, entries) = answer(rt.alloc(), 65_537, "")?;
-    assert_eq!(rt;
-        (found.as_str(), entries),
-        ("19", COUNT),
-        "the first decides"
-    );
+    for (len, kind, text, want, entries) in &LENGTHS {
+        let (found, left) = answer(rt.alloc(), *len, kind, text)?;
+        assert_eq!(rt; (found.as_str(), left), (*want, *entries), "{len} {kind}");
+    }
     Ok(())
 }
 
