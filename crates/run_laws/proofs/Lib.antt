@@ -1,0 +1,5 @@
+pub mod AlikeLemmas
+pub mod RunLemmas
+pub mod HeldLemmas
+pub mod PurgeLemmas
+pub mod Theorems
