@@ -3,3 +3,4 @@ pub mod RunLemmas
 pub mod HeldLemmas
 pub mod PurgeLemmas
 pub mod Theorems
+pub mod Examples
