@@ -15,12 +15,13 @@ answer_over tree a = record a { tree = tree }
 
 -- both of two answers that are alike are the first over their trees
 pub AreAlike-over : {T W : Type 0} (one other : T) (a b : Answered T W) → AreAlike one other a b → (a ≡ answer_over one a) × (b ≡ answer_over other a)
-AreAlike-over one other a b alike =
-    (ap (λ t. answer_over t a) alike.one_stays,
-    ap (λ octets. record b { replies = octets }) (sym alike.replies)
-    ∙ ap (λ w. record { replies = a.replies; tree = b.tree; who = w; closes = b.closes }) (sym alike.who)
-    ∙ ap (λ c. record { replies = a.replies; tree = b.tree; who = a.who; closes = c }) (sym alike.closes)
-    ∙ ap (λ t. record { replies = a.replies; tree = t; who = a.who; closes = a.closes }) alike.other_stays)
+AreAlike-over one other a b alike = (
+  ap (λ t. answer_over t a) alike.one_stays,
+  ap (λ octets. record b { replies = octets }) (sym alike.replies)
+      ∙ ap (λ w. record { replies = a.replies; tree = b.tree; who = w; closes = b.closes }) (sym alike.who)
+      ∙ ap (λ c. record { replies = a.replies; tree = b.tree; who = a.who; closes = c }) (sym alike.closes)
+      ∙ ap (λ t. record { replies = a.replies; tree = t; who = a.who; closes = a.closes }) alike.other_stays,
+)
 
 -- so what follows from both is alike, where it is over their trees
 both_over : {T W : Type 0} (P : Answered T W → Answered T W → Type 0) (one other : T) (a b : Answered T W) → AreAlike one other a b

@@ -57,9 +57,9 @@ module _ {T W : Type 0} (r : Rules T W) (t : T) (c : ℕ) where
       let first : (hears r Open v c piece cut).of c ≡ after s b = with_session-same c _ v.of ∙ ap₂ after apart.same is in
       let second : (hears r Open u c piece cut).of c ≡ after s a = with_session-same c _ u.of in
       let answers : after s a ≡ after s b =
-          ap (λ octets. record (after s a) { reply = s.reply ++ octets }) alike.replies
-          ∙ ap (λ w. record { stream = s.stream ++ piece; who = w; reply = s.reply ++ b.replies; state = cond a.closes Closing Open; cut = cut }) alike.who
-          ∙ ap (λ closes. record { stream = s.stream ++ piece; who = b.who; reply = s.reply ++ b.replies; state = cond closes Closing Open; cut = cut }) alike.closes in
+      ap (λ octets. record (after s a) { reply = s.reply ++ octets }) alike.replies
+      ∙ ap (λ w. record { stream = s.stream ++ piece; who = w; reply = s.reply ++ b.replies; state = cond a.closes Closing Open; cut = cut }) alike.who
+      ∙ ap (λ closes. record { stream = s.stream ++ piece; who = b.who; reply = s.reply ++ b.replies; state = cond closes Closing Open; cut = cut }) alike.closes in
       (record { same = first ∙ sym (second ∙ answers); tree = ap (λ (x : Answered T W). x.tree) is ∙ alike.other_stays }, refl)
   own-piece Closing u v piece cut apart all = (record { same = apart.same; tree = apart.tree }, refl)
   own-piece Unopened u v piece cut apart all = (record { same = apart.same; tree = apart.tree }, refl)

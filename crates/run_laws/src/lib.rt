@@ -5,6 +5,6 @@
 mod laws;
 
 pub use laws::{
-    held_alike_leaves_the_same, messages_are_answered_alike, runs_are_alike, sessions_are_kept_alike,
-    steps_of_others_do_not_show,
+    held_alike_leaves_the_same, messages_are_answered_alike, runs_are_alike,
+    sessions_are_kept_alike, steps_of_others_do_not_show,
 };

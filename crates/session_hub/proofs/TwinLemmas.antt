@@ -71,12 +71,12 @@ module _ (who : Requester) (one other : DirectoryEntries) (top : RdnSequence) (t
   request-alike id controls (request.Bind bind) h = elim (cases_Bool (is_refused (request.Bind bind) controls)) [
     | inl e ↦ rw e (record { replies = refl; who = refl; closes = refl; one_stays = refl; other_stays = refl })
     | inr e ↦ rw e (let same = bind-twins bind h in record {
-        replies = ap (λ (bound : Bound). replies_octets id (reply.Bind (result_of bound.code) ∷ [])) same;
-        who = ap (λ (bound : Bound). bound.who) same;
-        closes = refl;
-        one_stays = refl;
-        other_stays = refl;
-      })
+      replies = ap (λ (bound : Bound). replies_octets id (reply.Bind (result_of bound.code) ∷ [])) same;
+      who = ap (λ (bound : Bound). bound.who) same;
+      closes = refl;
+      one_stays = refl;
+      other_stays = refl;
+    })
   ]
   request-alike id controls request.Unbind h = elim (cases_Bool (is_refused request.Unbind controls)) [
     | inl e ↦ rw e (record { replies = refl; who = refl; closes = refl; one_stays = refl; other_stays = refl })
@@ -85,12 +85,12 @@ module _ (who : Requester) (one other : DirectoryEntries) (top : RdnSequence) (t
   request-alike id controls (request.Search search) h = elim (cases_Bool (is_refused (request.Search search) controls)) [
     | inl e ↦ rw e (record { replies = refl; who = refl; closes = refl; one_stays = refl; other_stays = refl })
     | inr e ↦ rw e (record {
-        replies = ap (replies_octets id) (searched-twins search (subentries_asked controls));
-        who = refl;
-        closes = refl;
-        one_stays = refl;
-        other_stays = refl;
-      })
+      replies = ap (replies_octets id) (searched-twins search (subentries_asked controls));
+      who = refl;
+      closes = refl;
+      one_stays = refl;
+      other_stays = refl;
+    })
   ]
   request-alike id controls (request.Modify modify) h = absurd cc
   request-alike id controls (request.Add add) h = absurd cc
@@ -99,12 +99,12 @@ module _ (who : Requester) (one other : DirectoryEntries) (top : RdnSequence) (t
   request-alike id controls (request.Compare compare) h = elim (cases_Bool (is_refused (request.Compare compare) controls)) [
     | inl e ↦ rw e (record { replies = refl; who = refl; closes = refl; one_stays = refl; other_stays = refl })
     | inr e ↦ rw e (record {
-        replies = ap (λ (result : LdapResult). replies_octets id (reply.Compare result ∷ [])) (compare_result-twins who one other top twins compare);
-        who = refl;
-        closes = refl;
-        one_stays = refl;
-        other_stays = refl;
-      })
+      replies = ap (λ (result : LdapResult). replies_octets id (reply.Compare result ∷ [])) (compare_result-twins who one other top twins compare);
+      who = refl;
+      closes = refl;
+      one_stays = refl;
+      other_stays = refl;
+    })
   ]
   request-alike id controls (request.Abandon number) h = elim (cases_Bool (is_refused (request.Abandon number) controls)) [
     | inl e ↦ rw e (record { replies = refl; who = refl; closes = refl; one_stays = refl; other_stays = refl })

@@ -18,9 +18,7 @@ mod spoken;
 mod stream;
 mod waiting;
 
-pub use alike::{
-    other_sessions_do_not_show, runs_over_twins_are_alike, twins_are_answered_alike,
-};
+pub use alike::{other_sessions_do_not_show, runs_over_twins_are_alike, twins_are_answered_alike};
 pub use ended::Ended;
 pub use event::Event;
 pub use hub::{Hub, MAX_CONNECTIONS};
