@@ -1,5 +1,5 @@
 -- What reads over twins is answered alike, and so heard alike.
-use Rattle.std.proofs.Common.{◌≡◌, ◌≤◌, ℕ, Bool, true, false, not, List, [], ◌∷◌, Option, Some, None, Result, Ok, Err, IfOk, inl, inr, refl, ap, sym, ◌∙◌, subst}
+use Rattle.std.proofs.Common.{◌≡◌, ◌≤◌, ℕ, Bool, true, false, not, List, [], ◌∷◌, Option, Some, None, Result, Ok, Err, IfOk, inl, inr, refl, ap, sym, ◌∙◌}
 use Rattle.std.specs.List.{AllByRecursion}
 use Rattle.std.specs.Option.{option_map_or}
 use Rattle.std.proofs.lemmas.Bool.{cases_Bool, not-true}
@@ -7,7 +7,6 @@ use Rattle.dn_names.specs.Names.{RdnSequence}
 use Rattle.dn_names.specs.NameOrder.{is_prefix_of}
 use Rattle.dn_names.specs.NameText.{read_name}
 use Rattle.dn_names.specs.declared.error.BadName.{BadName}
-use Rattle.dir_tree.specs.Entries.{EntryInformation}
 use Rattle.ldap_msg.specs.declared.kinds.BindRequest.{BindRequest}
 use Rattle.ldap_msg.specs.declared.kinds.SearchRequest.{SearchRequest}
 use Rattle.ldap_msg.specs.declared.kinds.Control.{Control}
@@ -15,7 +14,6 @@ use Rattle.ldap_msg.specs.declared.kinds.Message.{Message}
 use Rattle.ldap_msg.specs.declared.kinds.Request.{Request}
 use Rattle.ldap_msg.specs.declared.kinds.Request.TheVariants as request
 use Rattle.ldap_msg.specs.declared.kinds.LdapResult.{LdapResult}
-use Rattle.ldap_msg.specs.declared.kinds.Reply.{Reply}
 use Rattle.ldap_msg.specs.declared.kinds.Reply.TheVariants as reply
 use Rattle.ldap_msg.specs.Messages.{message_of}
 use Rattle.read_model.specs.Views.{view_of, result_of}
@@ -37,7 +35,7 @@ use Rattle.session_hub.specs.Answering.{rules, searched, answer_read}
 use Rattle.session_hub.specs.declared.event.Event.{Event}
 use Rattle.session_hub.specs.Events.{step_by}
 use Rattle.session_hub.specs.Hubs.{Hears}
-use Rattle.session_hub.specs.Twins.{is_read_within, reads_outside, IsOverTwins, IsHeardOver, HearsAlike}
+use Rattle.session_hub.specs.Twins.{is_read_within, reads_outside, IsOverTwins, HearsAlike}
 use Rattle.session_hub.proofs.FollowingLemmas.{follows_step}
 
 -- one fact of each element, from another
