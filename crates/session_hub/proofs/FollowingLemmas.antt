@@ -17,7 +17,7 @@ pub follows_start : (hub : HubState) → hub ≡ no_hub → FollowsStart hub
 unfolding FollowsStart
 follows_start hub none = λ entries. subst (λ h. IsHeldOf (start rules entries) (λ c. 0) (held entries h)) (sym none) (Keeps-start rules entries (λ c. 0) (λ c. refl))
 
-follows_step : (s : Step) (old new : Held DirectoryEntries Requester) → new ≡ heard rules s old → FollowsStep s old new
+pub follows_step : (s : Step) (old new : Held DirectoryEntries Requester) → new ≡ heard rules s old → FollowsStep s old new
 unfolding FollowsStep
 follows_step s old new is u taken fresh keeps = subst (λ h. IsHeldOf (step rules u s) taken h) (sym is) (Keeps-step rules u taken old s fresh keeps)
 

@@ -1,5 +1,6 @@
 pub mod AddingLemmas
 pub mod FollowingLemmas
+pub mod TwinLemmas
 pub mod StreamLemmas
 pub mod PlaceLemmas
 pub mod HearLemmas
@@ -15,3 +16,4 @@ pub mod CauseLemmas
 pub mod TurnLemmas
 pub mod WaitLemmas
 pub mod Examples
+pub mod Theorems

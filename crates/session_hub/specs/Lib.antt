@@ -6,6 +6,7 @@ pub mod Limits
 pub mod Hubs
 pub mod Events
 pub mod Following
+pub mod Twins
 pub mod Loops
 -- for the inside of the crate alone
 pub mod Answers

@@ -7,6 +7,7 @@ ghost use Rattle.session_model.specs.Kept.{queue_of, closing_of, cut_of, taken_o
 ghost use Rattle.session_hub.specs.Hubs.{held, no_hub, Hears, HearsAnywhere, OpensOne, IsBounded};
 ghost use Rattle.session_hub.specs.Following.{FollowsStart, FollowsStep, FollowsAnywhere, FollowsTaking, QueuesReply, ClosesWith, CountsHeld};
 ghost use Rattle.session_hub.specs.Events.{step_by};
+ghost use Rattle.session_hub.specs.Twins.{HearsAlike};
 
 use crate::Event;
 use crate::connection::Connection;
@@ -109,11 +110,13 @@ impl Hub {
     /// changed by the events of connections that aren't held, nor by the opening of one that is.
     /// Where there is no memory for an answer that connection alone is cut, which closes it, and
     /// `cut` tells where. `AllocError` comes where a connection is to be held and there is no memory;
-    /// all is then as it was.
+    /// all is then as it was. Over twins of the directory the same is answered to requests that read.
     pub fn hear<D: Dir>(&mut self, dir: &mut D, event: Event<'_>) -> Result<(), AllocError>
         ensures exact { OnOk result (Hears event.entry
             (held (entries_of (D.rows dir.old)) self.old) (held (entries_of (D.rows dir.new)) self.new)) }
         ensures run { OnOk result (FollowsStep (step_by event.entry self.old.kept self.new.kept)
+            (held (entries_of (D.rows dir.old)) self.old) (held (entries_of (D.rows dir.new)) self.new)) }
+        ensures twins { OnOk result (HearsAlike (step_by event.entry self.old.kept self.new.kept)
             (held (entries_of (D.rows dir.old)) self.old) (held (entries_of (D.rows dir.new)) self.new)) }
         ensures cause { OnErr result (OpensOne event.entry self.old.kept) }
         ensures kept { OnErr result

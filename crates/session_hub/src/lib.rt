@@ -1,6 +1,7 @@
 //! The hub of all sessions (RFC 4511 5): it hears what connections send, and answers each message.
 #![tactic(auto)]
 
+mod alike;
 mod block;
 mod connection;
 mod controls;
@@ -18,6 +19,7 @@ mod spoken;
 mod stream;
 mod waiting;
 
+pub use alike::{other_sessions_do_not_show, runs_over_twins_are_alike, twins_are_answered_alike};
 pub use ended::Ended;
 pub use event::Event;
 pub use hub::{Hub, MAX_CONNECTIONS};

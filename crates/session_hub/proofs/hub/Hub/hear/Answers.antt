@@ -2,6 +2,7 @@ use Rattle.std.proofs.Common.{subst}
 use Rattle.std.proofs.lemmas.Result.{on_ok_weaker}
 use Rattle.session_hub.specs.Hubs.{HubState, IsBounded}
 use Rattle.session_hub.proofs.FollowingLemmas.{follows_event}
+use Rattle.session_hub.proofs.TwinLemmas.{hears_alike_event}
 use Rattle.session_hub.proofs.hub.Hub.hear.Goals as goal
 
 pub returns-clause-run : goal.returns-clause-run
@@ -9,3 +10,6 @@ returns-clause-run g c = on_ok_weaker c.hear_event-heard.result (follows_event c
 
 pub returns-clause-bounded : goal.returns-clause-bounded
 returns-clause-bounded g c = subst (λ (h : HubState). IsBounded h.kept) c.self.view_is c.self.invariant.bounded
+
+pub returns-clause-twins : goal.returns-clause-twins
+returns-clause-twins g c = on_ok_weaker c.hear_event-heard.result (hears_alike_event c.args.event _ _) c.hear_event-heard.ensures.ok

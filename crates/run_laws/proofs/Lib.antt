@@ -1,0 +1,6 @@
+pub mod AlikeLemmas
+pub mod RunLemmas
+pub mod HeldLemmas
+pub mod PurgeLemmas
+pub mod Theorems
+pub mod Examples
