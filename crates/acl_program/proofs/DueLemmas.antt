@@ -211,7 +211,7 @@ module _ (words : List (List ℕ)) (files : Option Files) (before after : ℕ) (
   unfolding script_of
   same_script other count again found replay = ap script_of (same_replay replay.data_file other count again replay.asked)
 
-  replay_due : (outcome : Outcome) → Comes words files before after outcome → (outcome ≡ OutOfMemory) ⊎ (outcome ≡ Replayed events turns dump entries)
+  pub replay_due : (outcome : Outcome) → Comes words files before after outcome → (outcome ≡ OutOfMemory) ⊎ (outcome ≡ Replayed events turns dump entries)
   unfolding Comes kind_of turns_of dump_of
   replay_due NoCommand comes = absurd (asks_something words files before after (Replay name script turns dump) is name refl tt entries known still comes.0)
   replay_due NoFile (inl lacks) = absurd (has_data words files before after (Replay name script turns dump) is name refl tt entries known still lacks)

@@ -9,3 +9,4 @@ mod DueLemmas
 mod PerformLemmas
 mod ExplainLemmas
 mod RunLemmas
+mod TwinReplays

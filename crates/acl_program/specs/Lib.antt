@@ -6,6 +6,7 @@ pub mod Explaining
 pub mod Outcomes
 pub mod Causes
 pub mod Running
+pub mod Twins
 -- for the inside of the crate alone
 pub mod Troubles
 pub mod Playing

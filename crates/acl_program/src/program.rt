@@ -7,6 +7,7 @@ ghost use Rattle.acl_program.specs.Outcomes.{Outcome};
 ghost use Rattle.acl_program.specs.Outside.{linked, outside};
 ghost use Rattle.acl_program.specs.Running.{Prints, EndsAs, IsCause, EndsAtFaults};
 ghost use Rattle.acl_program.specs.Playing.{Runs, Performs};
+ghost use Rattle.acl_program.specs.Twins.{PrintsAlike};
 ghost use Rattle.command_words.specs.Command.{view};
 
 use crate::data::{check, dump};
@@ -53,6 +54,12 @@ pub fn run<H: Shelf, K: Sink, L: Link>(
         (linked (L.journal link.new) (L.plan link.new) (L.faults link.new) (L.lost link.new)) outcome
         → (Rose (H.faults shelf.old) (H.faults shelf.new) → ⊥) → (Rose (K.faults out.old) (K.faults out.new) → ⊥)
         → EndsAs outcome result }
+    // over twins a replay puts the same lines
+    ensures twins { PrintsAlike (map string_bytes words.now)
+        (outside (H.files shelf.old) (H.faults shelf.old) (K.put out.old) (K.faults out.old)
+        (linked (L.journal link.old) (L.plan link.old) (L.faults link.old) (L.lost link.old))) result
+        (outside (H.files shelf.new) (H.faults shelf.new) (K.put out.new) (K.faults out.new)
+        (linked (L.journal link.new) (L.plan link.new) (L.faults link.new) (L.lost link.new))) }
     // each refusal
     ensures usage { result ≡ Status.Usage → IsNoCommand (map string_bytes words.now) }
     ensures refused { IsCause (map string_bytes words.now)

@@ -1,5 +1,6 @@
 use Rattle.acl_program.specs.Outside.{outside, linked}
 use Rattle.acl_program.proofs.RunLemmas.{Runs-prints, Runs-complete, Runs-usage_cause, Runs-cause, Runs-faults, Runs-link}
+use Rattle.acl_program.proofs.TwinReplays.{Runs-twins}
 use Rattle.acl_program.proofs.program.run.Goals as goal
 
 -- each clause of what is known of the outcome
@@ -21,3 +22,6 @@ returns-clause-faults g c = Runs-faults _ (outside _ _ _ _ (linked _ _ _ _)) (ou
 
 pub returns-clause-link : goal.returns-clause-link
 returns-clause-link g c = λ other. Runs-link _ (outside _ _ _ _ (linked _ _ _ _)) (outside _ _ _ _ (linked _ _ _ _)) _ c.run_words.ensures.runs other
+
+pub returns-clause-twins : goal.returns-clause-twins
+returns-clause-twins g c = Runs-twins _ (outside _ _ _ _ (linked _ _ _ _)) (outside _ _ _ _ (linked _ _ _ _)) _ c.run_words.ensures.runs
