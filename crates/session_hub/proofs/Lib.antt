@@ -16,4 +16,5 @@ pub mod CauseLemmas
 pub mod TurnLemmas
 pub mod WaitLemmas
 pub mod Examples
+pub mod TwinExamples
 pub mod Theorems
