@@ -209,8 +209,8 @@ fn cut_front(octets: &mut Vec<u8>, count: usize)
     if count == 0 {
         return;
     }
-    octets.rotate_left(count);
     let left = octets.len() - count;
+    octets.copy_within(count.., 0);
     octets.truncate(left);
     if left == 0 {
         octets.shrink_to(MOST_SPARE);

@@ -9,13 +9,18 @@ use crate::connection::Connection;
 use acdf_lists::Dir;
 use std::alloc::Global;
 
-/// The place of the connection with the number. The place that is guessed is tried first.
+/// The place of the connection with the number. The place that is guessed is tried first, and then the
+/// one behind it: connections that are heard in turn stand so.
 pub fn place_of(connections: &[Connection], guess: usize, number: u32) -> Option<usize>
     requires { AreDistinct connections.now }
     ensures { MatchOption result (kept_of number connections.now ≡ None) (λ at. IsAt number at connections.now) }
 {
     if is_number_at(connections, guess, number) {
         return Some(guess);
+    }
+    let next = guess.saturating_add(1);
+    if is_number_at(connections, next, number) {
+        return Some(next);
     }
     for (at, connection) in connections.iter().enumerate() {
         if connection.number() == number {
