@@ -2,3 +2,4 @@ mod SeenLemmas
 mod ReadingLemmas
 mod CountLemmas
 mod UpdateLemmas
+mod Examples

@@ -7,12 +7,13 @@ use Rattle.dir_tree.specs.Numbered.{Numbered, entries_of, entry_of}
 use Rattle.acdf_filters.specs.declared.asking.Requester.{Requester}
 use Rattle.ldap_msg.specs.declared.operations.ResultCode.{ResultCode}
 use Rattle.ldap_msg.specs.declared.operations.ResultCode.TheVariants as code
+use Rattle.ldap_msg.specs.declared.kinds.KindValues.{KindValues}
 use Rattle.op_update.specs.declared.deleting.Checked.{Checked}
 use Rattle.op_update.specs.declared.deleting.Checked.TheVariants.{Refused, Allowed}
 use Rattle.op_update.specs.declared.fault.Fault.{Fault}
 use Rattle.op_update.specs.declared.fault.Fault.TheVariants as fault
 use Rattle.op_update.specs.declared.reading.Given.{Given}
-use Rattle.op_update.specs.NewEntries.{without_twice}
+use Rattle.op_update.specs.NewEntries.{without_twice, read_attributes, new_entry}
 use Rattle.op_update.specs.Updates.{refused, unless, deleted_target}
 
 -- ---- deletes
@@ -53,3 +54,9 @@ finished twice done left = if twice then Err code.AttributeOrValueExists else wi
 pub record IsPut (twice : Bool) (old : EntryInformation) (attribute : Attribute) (later : Bool) (new : EntryInformation) : Type 0 where
   pub name : new.name ≡ old.name
   pub goes_on : (left : List Attribute) → finished later new.attributes left ≡ finished twice old.attributes (attribute ∷ left)
+
+-- the entry has the name and the attributes that were read, and the values of its own RDN
+pub record IsNewEntry (name : RdnSequence) (given : List KindValues) (entry : EntryInformation) : Type 0 where
+  pub attributes : List Attribute
+  pub read : read_attributes given ≡ Ok attributes
+  pub made : entry ≡ new_entry name attributes

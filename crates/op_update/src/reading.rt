@@ -1,12 +1,12 @@
 //! The attributes of an add request, read.
 
-ghost use Rattle.std.specs.Prelude.{◌≡◌, ◌≢◌, ◌||◌, List, [], Some, Ok, IfOk, IfErr, OnOk, false};
+ghost use Rattle.std.specs.Prelude.{◌≡◌, ◌≢◌, ◌||◌, [], Some, Ok, IfOk, IfErr, OnOk, false};
 ghost use Rattle.std.specs.List.{list_any};
 ghost use Rattle.schema_core.specs.Attributes.{IsAttrId};
-ghost use Rattle.dir_tree.specs.Entries.{Attribute, has_kind, is_match};
+ghost use Rattle.dir_tree.specs.Entries.{has_kind, is_match};
 ghost use Rattle.plain_values.specs.Answers.{Answers, IsFaultOf};
-ghost use Rattle.op_update.specs.NewEntries.{fitting, read_value, read_values, read_attribute, read_filled, repeats, lacks_values, read_attributes, new_entry};
-ghost use Rattle.op_update.specs.Steps.{cause_of, attribute_of, entry_from, IsPut};
+ghost use Rattle.op_update.specs.NewEntries.{fitting, read_value, read_values, read_attribute, read_filled, repeats, lacks_values, read_attributes};
+ghost use Rattle.op_update.specs.Steps.{cause_of, attribute_of, entry_from, IsPut, IsNewEntry};
 
 use crate::fault::Fault;
 use crate::twice::repeats;
@@ -161,7 +161,7 @@ fn read_attributes(alloc: Global, name: Dn, given: &[KindValues]) -> Result<Entr
 /// The entry that the request describes: its attributes in their order, and last the values of its own RDN that they
 /// leave out.
 pub(crate) fn new_entry(alloc: Global, name: Dn, given: &[KindValues]) -> Result<Entry, Fault>
-    ensures ok { IfOk result (λ entry. (attributes : List Attribute) × (read_attributes given.now ≡ Ok attributes) × (entry ≡ new_entry name attributes)) }
+    ensures ok { IfOk result (λ entry. IsNewEntry name given.now entry) }
     ensures refused { IfErr result (λ fault. IsFaultOf (cause_of fault) (read_attributes given.now)) }
 {
     let mut entry = read_attributes(alloc, name, given)?;
