@@ -1,7 +1,7 @@
 -- A replay puts the lines of the replay over twins.
-use Rattle.std.proofs.Common.{◌≡◌, ℕ, false, List, [], ◌++◌, Option, refl, ap, sym, ◌∙◌, subst, arith, inl, inr, ◌⊎◌, append-nil}
+use Rattle.std.proofs.Common.{◌≡◌, ℕ, false, List, Option, refl, ap, sym, ◌∙◌, subst, arith, inl, inr, ◌⊎◌, append-nil}
 use Rattle.std.specs.List.{AllByRecursion}
-use Rattle.plain_values.specs.Counts.{Rose, last_count}
+use Rattle.plain_values.specs.Counts.{Rose}
 use Rattle.script_text.specs.declared.event.ScriptEvent.{ScriptEvent}
 use Rattle.wire_io.specs.Files.{Files}
 use Rattle.wire_io.specs.Putting.{appended}
@@ -14,7 +14,7 @@ use Rattle.session_hub.specs.Twins.{IsOverTwins}
 use Rattle.session_hub.proofs.Theorems.{replayed-twins}
 use Rattle.acl_program.specs.declared.status.Status.{Status}
 use Rattle.acl_program.specs.declared.status.Status.TheVariants.{Done, ShelfFault, TurnsSpent, NoMemory}
-use Rattle.acl_program.specs.Lines.{lines_of, heard_of, replay_of, replay_text, entries_after}
+use Rattle.acl_program.specs.Lines.{lines_of, heard_of, replay_of, replay_text}
 use Rattle.acl_program.specs.Outcomes.{Outcome, NoFile, Replayed, OutOfMemory, text_of, status_of}
 use Rattle.acl_program.specs.Outside.{Outside}
 use Rattle.acl_program.specs.Causes.{Comes}
