@@ -261,7 +261,9 @@ static RANKED: [Explained; 16] = [
 ];
 
 #[test]
-fn the_highest_precedence_and_then_the_most_specific_class_counts(rt: HostRuntime) -> Result<(), Fail> {
+fn the_highest_precedence_and_then_the_most_specific_class_counts(
+    rt: HostRuntime,
+) -> Result<(), Fail> {
     assert_explained(&rt, rt.alloc(), RANKS, RANKED.as_slice())?;
     Ok(())
 }
