@@ -159,8 +159,11 @@ fn adds_and_deletes_are_answered_and_made(rt: HostRuntime) -> Result<(), Fail> {
 // An add with messageID 2 and a delete with messageID 3, of one entry, and their answers where they are made.
 const ADD: &[u8] =
     b"\x30\x2b\x02\x01\x02\x68\x26\x04\x09cn=e,dc=w\x30\x19\x30\x17\x04\x0bobjectClass\x31\x08\x04\x06device";
+
 const ADDED: &[u8] = b"\x30\x0c\x02\x01\x02\x69\x07\x0a\x01\x00\x04\x00\x04\x00";
+
 const DELETE: &[u8] = b"\x30\x0e\x02\x01\x03\x4a\x09cn=e,dc=w";
+
 const DELETED: &[u8] = b"\x30\x0c\x02\x01\x03\x6b\x07\x0a\x01\x00\x04\x00\x04\x00";
 
 #[test]
@@ -172,7 +175,7 @@ fn one_connection_deletes_what_another_added(rt: HostRuntime) -> Result<(), Fail
     hear(&mut hub, &mut dir, Event::Bytes(2, DELETE))?;
     assert_eq!(rt; hub.queue(2), DELETED);
     hear(&mut hub, &mut dir, Event::Bytes(1, ADD))?;
-    assert_eq!(rt; hub.queue(1).len(), 2 * ADDED.len(), "it was free again");
+    assert_eq!(rt; hub.queue(1).len(), 28, "it was free again");
     assert_eq!(rt; entries(&dir), 4);
     Ok(())
 }
@@ -188,6 +191,10 @@ fn a_change_is_made_exactly_where_it_is_answered(rt: HostRuntime) -> Result<(), 
     assert_eq!(rt; hub.was_cut(), !added, "the add");
     hear(&mut hub, &mut dir, Event::Bytes(2, DELETE))?;
     let deleted = hub.queue(2) == DELETED;
-    assert_eq!(rt; entries(&dir), if added && !deleted { 4 } else { 3 }, "the delete");
+    assert_eq!(rt;
+        entries(&dir),
+        if added && !deleted { 4 } else { 3 },
+        "the delete"
+    );
     Ok(())
 }
