@@ -129,6 +129,7 @@ Good-link keeps t left turns how before begun now is good serves = let so = serv
   where
     after : (steps : List Step) → left ≡ (run rules t steps).tree → IsGoodTree left
     after steps leaves = subst IsGoodTree (sym leaves) (keeps t steps good)
+
     by_end : (how : Ended) (added : List Item) → ServesAll t left turns added how → IsGoodTree left
     by_end ended.Stopped added all = after (journal_steps added) all.served.entries_left
     by_end ended.TurnsSpent added all = after (journal_steps added) all.served.entries_left
