@@ -1,13 +1,13 @@
 -- Marks and spaces at a cursor.
 use Prim.Native.Nat.{zero}
-use Rattle.std.proofs.Common.{◌≡◌, ℕ, suc, ◌≤◌, ◌<◌, ◌+◌, ◌-◌, Bool, true, false, cond, List, [], ◌∷◌, ◌++◌, length, take, drop, get_or, refl, sym, ap, ◌∙◌, subst, arith}
+use Rattle.std.proofs.Common.{◌≡◌, ◌≢◌, ℕ, suc, ◌≤◌, ◌<◌, ◌+◌, ◌-◌, Bool, true, false, cond, List, [], ◌∷◌, ◌++◌, length, take, drop, get_or, refl, sym, ap, ◌∙◌, subst, arith}
 use Rattle.std.specs.Prelude.{◌==◌, encode_utf8, IsUtf8, Decides}
 use Rattle.std.specs.Char.{len_utf8}
 use Rattle.std.specs.Str.{IsCharBoundary}
 use Rattle.std.specs.List.{list_all, prefix_len, common_prefix_len}
 use Rattle.std.proofs.lemmas.Bool.Decides.{nat_tests}
-use Rattle.std.proofs.lemmas.List.{append-nil, length-append, length-take-le, take-append-drop, take_all}
-use Rattle.std.proofs.lemmas.List.Sums.{prefix_len-le-length, prefix_len_passes, common_prefix_len-le}
+use Rattle.std.proofs.lemmas.List.{append-nil, length-append, length-drop, length-take-le, take-append-drop, take_all}
+use Rattle.std.proofs.lemmas.List.Sums.{prefix_len-le-length, prefix_len_passes, common_prefix_len-le, common_prefix_len-drop_no}
 use Rattle.std.proofs.lemmas.Str.{length-encode, IsCharBoundary-past_char, IsUtf8-drop}
 use Rattle.gser_core.specs.Productions.{is_blank, BeginsWith, IsMark, IsSpaces}
 use Rattle.gser_core.specs.Cursors.{Standing, rest_of, moved, IsFront, IsLacking, Takes, Lacks}
@@ -41,6 +41,21 @@ shared_front (x ∷ one) (y ∷ other) = inner (x == y) refl (shared_front one o
         let next : 1 + common_prefix_len is_same one other ≡ suc (common_prefix_len is_same one other) = omega arith in
         ap (λ n. take n (x ∷ one)) next ∙ ap (λ r. x ∷ r) again ∙ ap (λ z. z ∷ take (common_prefix_len is_same one other) other) (same_octet x y is)
         ∙ ap (λ n. take n (y ∷ other)) (sym next)
+
+-- octet by octet: the second text is at its end
+pub shared_end : (one other : List ℕ) (index : ℕ) → common_prefix_len is_same one other ≡ index + common_prefix_len is_same (drop index one) (drop index other)
+    → index ≡ length other → index ≡ common_prefix_len is_same one other
+shared_end one other index so_far end =
+    let most = common_prefix_len-le is_same (drop index one) (drop index other) in
+    omega (arith, so_far, most.1, length-drop index other, end)
+
+-- the next octets are not the same
+pub shared_stop : (one other : List ℕ) (index : ℕ) → common_prefix_len is_same one other ≡ index + common_prefix_len is_same (drop index one) (drop index other)
+    → index < length one → index < length other → get_or other index 0 ≢ get_or one index 0 → index ≡ common_prefix_len is_same one other
+shared_stop one other index so_far within inside differs =
+    let apart : is_same (get_or one index 0) (get_or other index 0) ≡ false = grind (arith, nat_tests, differs) in
+    let stop = common_prefix_len-drop_no is_same one other index 0 0 within inside apart in
+    omega (arith, so_far, stop)
 
 -- all of the mark is shared
 pub shared_all : (mark rest : List ℕ) → common_prefix_len is_same mark rest ≡ length mark → rest ≡ mark ++ drop (length mark) rest

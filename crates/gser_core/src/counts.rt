@@ -129,12 +129,16 @@ pub(crate) fn oid_reach(octets: &[u8]) -> usize
 }
 
 /// How many octets two texts share at their fronts.
+#[tactic(auto, using(crate::proofs::MarkLemmas::shared_end, crate::proofs::MarkLemmas::shared_stop))]
 pub(crate) fn shared_len(octets: &[u8], others: &[u8]) -> usize
     ensures exact { result ≡ common_prefix_len is_same octets.now others.now }
     ensures within { (result ≤ length octets.now) × (result ≤ length others.now) }
 {
     for (index, octet) in octets.iter().enumerate() {
-        if index >= others.len() || others[index] != *octet {
+        if index == others.len() {
+            return index;
+        }
+        if others[index] != *octet {
             return index;
         }
     }

@@ -99,11 +99,11 @@ impl<'a> Cursor<'a> {
         ensures ok { IfOk result (λ front. Takes IsOid self.old front.now self.new) }
         ensures err { IfErr result (λ fault. Lacks IsOid self.old fault self.new) }
     {
-        let rest = self.rest();
-        let count = oid_len(rest);
+        let count = oid_len(self.rest());
         if count == 0 {
+            let reach = oid_reach(self.rest());
             return Err(TextFault::Expected {
-                place: self.place + oid_reach(rest),
+                place: self.place + reach,
             });
         }
         Ok(self.take(count))
