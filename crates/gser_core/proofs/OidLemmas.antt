@@ -1,17 +1,17 @@
 -- The longest front that is an object identifier, and how far a text that has none goes.
 use Prim.Native.Nat.{zero}
 use Rattle.std.proofs.Common.{◌≡◌, ◌⊎◌, inl, inr, ℕ, suc, ◌≤◌, ◌<◌, ◌+◌, ◌-◌, Bool, true, false, List, [], ◌∷◌, ◌++◌, length, take, drop, get_or, refl, sym, ap, ◌∙◌, subst, append_assoc, arith}
-use Rattle.std.specs.Prelude.{◌==◌, if◌then◌else◌}
+use Rattle.std.specs.Prelude.{if◌then◌else◌}
 use Rattle.std.specs.Char.{is_ascii_alphabetic, is_ascii_digit}
 use Rattle.std.specs.List.{list_all, prefix_len}
 use Rattle.std.proofs.lemmas.Bool.Decides.{nat_tests}
-use Rattle.std.proofs.lemmas.List.{append-nil, length-append, length-take-le, take-append-drop, take_at, get_or_append_left}
-use Rattle.gser_core.specs.Productions.{is_key, IsLed, IsNumeral, IsJoined, IsDescriptor, IsDotted, IsOid}
+use Rattle.std.proofs.lemmas.List.{append-nil, length-append, take_at, get_or_append_left}
+use Rattle.gser_core.specs.Productions.{is_key, IsNumeral, IsJoined, IsDescriptor, IsDotted, IsOid}
 use Rattle.gser_core.specs.Cursors.{Standing, rest_of, IsLacking, Lacks}
 use Rattle.gser_core.specs.declared.error.TextFault.TheVariants.{Expected}
 use Rattle.gser_core.specs.Counts.{led_len, numeral_len, pointed_len, dotted_len, oid_len, some_of, oid_reach}
 use Rattle.gser_core.proofs.FrontLemmas.{both, numeral_taken, led_taken, IsTaken}
-use Rattle.gser_core.proofs.DottedLemmas.{IsBegun, HasDigit, number_best, pointed_exact, pointed_sound, joined_size, joined_low, dotted_first, dotted_sound, dotted_best}
+use Rattle.gser_core.proofs.DottedLemmas.{HasDigit, number_best, pointed_exact, pointed_sound, joined_size, joined_low, dotted_first, dotted_sound, dotted_best}
 
 -- ---- dotted numbers
 

@@ -1,5 +1,5 @@
 -- How many octets at the front of others are a production; 0 where none are.
-use Rattle.std.specs.Prelude.{ℕ, zero, suc, ◌+◌, Bool, true, false, ◌==◌, List, [], ◌∷◌, length, drop, get_or, encode_utf8, if◌then◌else◌}
+use Rattle.std.specs.Prelude.{ℕ, zero, suc, ◌+◌, Bool, false, ◌==◌, List, [], ◌∷◌, length, drop, get_or, encode_utf8, if◌then◌else◌}
 use Rattle.std.specs.Char.{is_ascii_alphabetic, is_ascii_lowercase, is_ascii_digit}
 use Rattle.std.specs.List.{prefix_len, common_prefix_len}
 use Rattle.gser_core.specs.Productions.{is_key}
