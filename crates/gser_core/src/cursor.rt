@@ -8,7 +8,9 @@ ghost use Rattle.std.specs.List.{prefix_len};
 ghost use Rattle.gser_core.specs.Counts.{shared_len, string_reach};
 ghost use Rattle.gser_core.specs.Cursors.{Standing, rest_of, moved, Takes, Lacks, LacksOrFails};
 
-use crate::counts::{blanks, identifier_len, numeral_len, oid_len, oid_reach, shared_len, string_len};
+use crate::counts::{
+    blanks, identifier_len, numeral_len, oid_len, oid_reach, shared_len, string_len,
+};
 use crate::error::TextFault;
 use crate::strings::unquoted;
 use std::alloc::{AllocError, Global};

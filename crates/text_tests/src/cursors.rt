@@ -33,7 +33,11 @@ fn put_front(
 fn put_end(found: Result<(), TextFault>, cursor: &Cursor, out: &mut String) -> Result<(), Fail> {
     match found {
         Ok(()) => write!(out, " to {}", cursor.place())?,
-        Err(TextFault::Expected { place }) => write!(out, "expected {place} at {}", cursor.place())?,
+        Err(TextFault::Expected { place }) => write!(
+            out,
+            "expected {place} at {}",
+            cursor.place()
+        )?,
         Err(TextFault::NoMemory) => out.push_str("no memory")?,
     }
     Ok(())
