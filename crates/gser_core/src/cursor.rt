@@ -1,14 +1,16 @@
 //! The cursor.
 
-ghost use Rattle.std.specs.Prelude.{◌≡◌, ◌+◌, ◌-◌, ◌≤◌, ◌<◌, length, take, drop, [], ◌∷◌, IfOk, OnOk, get_or, string_bytes};
+ghost use Rattle.std.specs.Prelude.{◌≡◌, ◌+◌, ◌-◌, ◌≤◌, ◌<◌, length, take, drop, IfOk, OnOk, get_or, string_bytes, encode_utf8, Decides};
 ghost use Rattle.std.specs.Result.{IfErr};
 ghost use Rattle.gser_core.specs.declared.error.TextFault.TheVariants.{Expected};
-ghost use Rattle.gser_core.specs.Productions.{is_blank, quoted, IsIdentifier, IsMark, IsNumeral, IsSpaces, IsString};
+ghost use Rattle.gser_core.specs.Productions.{is_blank, quoted, BeginsWith, IsIdentifier, IsMark, IsNumeral, IsOid, IsSpaces, IsString};
 ghost use Rattle.std.specs.List.{prefix_len};
-ghost use Rattle.gser_core.specs.Counts.{begins, string_reach};
+ghost use Rattle.gser_core.specs.Counts.{shared_len, string_reach};
 ghost use Rattle.gser_core.specs.Cursors.{Standing, rest_of, moved, Takes, Lacks, LacksOrFails};
 
-use crate::counts::{blanks, identifier_len, numeral_len, string_len};
+use crate::counts::{
+    blanks, identifier_len, numeral_len, oid_len, oid_reach, shared_len, string_len,
+};
 use crate::error::TextFault;
 use crate::strings::unquoted;
 use std::alloc::{AllocError, Global};
@@ -93,6 +95,22 @@ impl<'a> Cursor<'a> {
         Ok(self.take(count))
     }
 
+    /// Reads an object identifier: at least two numbers with a point between each two, or a letter, and the
+    /// letters, digits and hyphens behind it.
+    pub fn oid(&mut self) -> Result<&'a str, TextFault>
+        ensures ok { IfOk result (λ front. Takes IsOid self.old front.now self.new) }
+        ensures err { IfErr result (λ fault. Lacks IsOid self.old fault self.new) }
+    {
+        let count = oid_len(self.rest());
+        if count == 0 {
+            let reach = oid_reach(self.rest());
+            return Err(TextFault::Expected {
+                place: self.place + reach,
+            });
+        }
+        Ok(self.take(count))
+    }
+
     /// Whether the text ends at the cursor; where it does not, the cursor's place is given.
     pub fn end(&self) -> Result<(), TextFault>
         ensures ok { OnOk result (length self.now.text ≤ self.now.place) }
@@ -105,26 +123,36 @@ impl<'a> Cursor<'a> {
         }
     }
 
-    /// Whether the octet at the cursor is the mark.
-    pub fn at_mark(&self, mark: u8) -> bool
-        ensures exact { result ≡ begins mark (rest_of self.now) }
+    // How many octets the text at the cursor shares with a mark.
+    fn shared(&self, mark: char) -> usize
+        ensures exact { result ≡ shared_len mark (rest_of self.now) }
+        ensures within { (result ≤ length (encode_utf8 mark)) × (result ≤ length (rest_of self.now)) }
     {
-        match self.rest() {
-            [first, ..] => *first == mark,
-            [] => false,
-        }
+        let mut buffer = [0; 4];
+        let octets = mark.encode_utf8(&mut buffer).as_bytes();
+        shared_len(octets, self.rest())
     }
 
-    /// Reads a mark, which is ASCII.
-    pub fn mark(&mut self, mark: u8) -> Result<(), TextFault>
-        requires { mark < 128 }
-        ensures ok { OnOk result (Takes (IsMark mark) self.old (mark ∷ []) self.new) }
+    /// Whether the mark stands at the cursor.
+    pub fn at_mark(&self, mark: char) -> bool
+        ensures exact { Decides result (BeginsWith (encode_utf8 mark) (rest_of self.now)) }
+    {
+        self.shared(mark) == mark.len_utf8()
+    }
+
+    /// Reads a mark, which is one character. Where it is not there, the place is behind the octets that the
+    /// text shares with it.
+    pub fn mark(&mut self, mark: char) -> Result<(), TextFault>
+        ensures ok { OnOk result (Takes (IsMark mark) self.old (encode_utf8 mark) self.new) }
         ensures err { IfErr result (λ fault. Lacks (IsMark mark) self.old fault self.new) }
     {
-        if !self.at_mark(mark) {
-            return Err(TextFault::Expected { place: self.place });
+        let shared = self.shared(mark);
+        if shared < mark.len_utf8() {
+            return Err(TextFault::Expected {
+                place: self.place + shared,
+            });
         }
-        self.take(1);
+        self.place += shared;
         Ok(())
     }
 
@@ -169,10 +197,9 @@ impl<'a> Cursor<'a> {
     fn string_reach(&self) -> usize
         ensures exact { result ≡ self.now.place + string_reach (rest_of self.now) }
     {
-        if self.at_mark(b'"') {
-            self.text.len()
-        } else {
-            self.place
+        match self.rest() {
+            [b'"', ..] => self.text.len(),
+            _ => self.place,
         }
     }
 

@@ -1,14 +1,16 @@
 //! Strings, which stand in quotation marks with each quotation mark in them twice.
 
-ghost use Rattle.std.specs.Prelude.{◌≡◌, ◌++◌, OnOk, IfOk, string_bytes};
+ghost use Rattle.std.specs.Prelude.{◌≡◌, ◌++◌, OnOk, OnErr, IfOk, string_bytes};
 ghost use Rattle.gser_core.specs.Productions.{doubled, quoted, IsString};
-ghost use Rattle.gser_core.specs.Strings.{IsDoubled};
+ghost use Rattle.gser_core.specs.Strings.{IsDoubled, IsKept};
 
 use std::alloc::{AllocError, Global};
 
-// Writes the octets of a text, each quotation mark twice.
+// Writes the octets of a text, each quotation mark twice. What was written before stays.
+#[tactic(auto, using(crate::proofs::KeptLemmas::kept_more))]
 fn put_doubled(out: &mut String, text: &str) -> Result<(), AllocError>
     ensures ok { OnOk result (string_bytes out.new ≡ string_bytes out.old ++ doubled text.now) }
+    ensures kept { IsKept (string_bytes out.old) (string_bytes out.new) }
 {
     let mut rest = text;
     'marks: while let Some((before, after)) = rest.split_once('"') {
@@ -19,14 +21,30 @@ fn put_doubled(out: &mut String, text: &str) -> Result<(), AllocError>
     Ok(out.push_str(rest)?)
 }
 
-/// Appends a string of this text. After the error, want of memory, `out` has what it had and may
-/// have more.
-pub fn put_string(out: &mut String, text: &str) -> Result<(), AllocError>
+// Writes a string of a text. What was written before stays.
+#[tactic(auto, using(crate::proofs::KeptLemmas::kept_more, crate::proofs::KeptLemmas::kept_on))]
+fn put_quoted(out: &mut String, text: &str) -> Result<(), AllocError>
     ensures ok { OnOk result (string_bytes out.new ≡ string_bytes out.old ++ quoted text.now) }
+    ensures kept { IsKept (string_bytes out.old) (string_bytes out.new) }
 {
     out.push('"')?;
     put_doubled(out, text)?;
     Ok(out.push('"')?)
+}
+
+/// Appends a string of this text. After the error, want of memory, `out` is as before.
+pub fn put_string(out: &mut String, text: &str) -> Result<(), AllocError>
+    ensures ok { OnOk result (string_bytes out.new ≡ string_bytes out.old ++ quoted text.now) }
+    ensures err { OnErr result (string_bytes out.new ≡ string_bytes out.old) }
+{
+    let before = out.len();
+    match put_quoted(out, text) {
+        Ok(()) => Ok(()),
+        Err(AllocError) => {
+            out.truncate(before);
+            Err(AllocError)
+        }
+    }
 }
 
 // The text that is written with each quotation mark twice.

@@ -1,14 +1,23 @@
--- Another octet begins no mark.
-use Rattle.std.proofs.Common.{◌≡◌, false}
-use Rattle.gser_core.specs.Productions.{IsMark}
-use Rattle.gser_core.specs.Cursors.{rest_of}
-use Rattle.gser_core.specs.Counts.{begins}
-use Rattle.gser_core.proofs.FrontLemmas.{lacks_here}
-use Rattle.gser_core.proofs.MarkLemmas.{mark_none}
+-- What is shared is all of the mark, or is less.
+use Rattle.std.proofs.Common.{◌+◌, ap, arith}
+use Rattle.gser_core.specs.Cursors.{Standing, moved}
+use Rattle.gser_core.proofs.MarkLemmas.{behind_mark, lacks_mark, takes_mark}
 use Rattle.gser_core.proofs.cursor.Cursor.mark.Goals as goal
 
-pub returns-then-not-at_mark-clause-err : goal.returns-then-not-at_mark-clause-err
-returns-then-not-at_mark-clause-err c =
-    let other : begins c.args.mark (rest_of c.args.self.now) ≡ false = cc in
-    lacks_here (IsMark c.args.mark) c.args.self.now c.self.inside.text.now c.self.inside.place c.self.view_is
-    (mark_none c.args.mark (rest_of c.args.self.now) other)
+pub returns-then-shared-len_utf8-clause-err : goal.returns-then-shared-len_utf8-clause-err
+returns-then-shared-len_utf8-clause-err c =
+    lacks_mark c.args.mark c.args.self.now c.self.inside.text.now c.self.inside.place c.shared-shared.result c.self.view_is
+    c.shared-shared.ensures.exact (omega (arith, c.if-shared-len_utf8.true, c.len_utf8.ensures.len))
+
+pub invariant_of-self : goal.invariant_of-self
+invariant_of-self c = (
+  c.self.invariant.0,
+  behind_mark c.args.mark c.args.self.now c.self.inside.text.now c.self.inside.place c.shared-shared.result c.self.view_is c.self.invariant
+      c.shared-shared.ensures.exact (omega (arith, c.if-shared-len_utf8.false, c.len_utf8.ensures.len)),
+)
+
+pub returns-clause-ok : goal.returns-clause-ok
+returns-clause-ok c =
+    takes_mark c.args.mark c.args.self.now c.shared-shared.result (record { text = c.self.inside.text.now; place = c.self.inside.place + c.shared-shared.result })
+    c.shared-shared.ensures.exact (omega (arith, c.if-shared-len_utf8.false, c.len_utf8.ensures.len))
+    (ap (λ (s : Standing). moved s c.shared-shared.result) c.self.view_is)
