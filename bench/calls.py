@@ -1,5 +1,5 @@
 #!/usr/bin/env python3
-"""Measures calls by themselves: decisions, keys and names, trees and records, or messages.
+"""Measures calls by themselves: decisions, keys and names, subtree specifications, trees and records, or messages.
 
 The program of that name in the folder calls is built beside copies of the crates that it uses, and run.
 """
@@ -42,6 +42,11 @@ PROGRAMS = {
         ("dn_names", "match_rules"),
         ("schema_core", "regular_text", "plain_values"),
         {"src/main.rt": "names.txt"},
+    ),
+    "subtrees": Program(
+        ("subtree_spec",),
+        ("gser_tree", "dn_names", "match_rules", "schema_core", "regular_text", "plain_values"),
+        {"src/main.rt": "subtrees.txt"},
     ),
     "trees": Program(
         ("ldif_core", "dir_tree", "dn_names"),
