@@ -141,8 +141,8 @@ static REQUESTS: [Replay<'static>; 10] = [
     },
     Replay {
         script: "open 1\nsend 1 30070201054a026161",
-        put: "1 300c0201056b070a013504000400\n",
-        what: "a delete",
+        put: "1 300c0201056b070a012204000400\n",
+        what: "a delete of a name that is none",
     },
     Replay {
         script: "open 1\nsend 1 300b0201026606040261613000",
@@ -151,8 +151,8 @@ static REQUESTS: [Replay<'static>; 10] = [
     },
     Replay {
         script: "open 1\nsend 1 300b0201036806040261613000",
-        put: "1 300c02010369070a013504000400\n",
-        what: "an add",
+        put: "1 300c02010369070a012204000400\n",
+        what: "an add of a name that is none",
     },
     Replay {
         script: "open 1\nsend 1 30100201046c0b04026161040262620101ff",
