@@ -1,5 +1,5 @@
 #!/usr/bin/env python3
-"""Measures calls by themselves: decisions, keys and names, subtree specifications, trees and records, or messages.
+"""Measures calls by themselves: keys and names, subtree specifications, trees and records, or messages.
 
 The program of that name in the folder calls is built beside copies of the crates that it uses, and run.
 """
@@ -25,14 +25,6 @@ class Program(NamedTuple):
 
 
 PROGRAMS = {
-    "decisions": Program(
-        ("acdf_lists", "acdf_filters", "aci_item", "data_file", "dir_tree", "dn_names", "schema_core"),
-        (
-            *("admin_scope", "subtree_spec", "gser_tree", "load_laws", "op_write", "schema_rules", "ldif_core"),
-            *("wire_io", "script_text", "match_rules", "regular_text", "plain_values"),
-        ),
-        {"src/main.rt": "decisions.txt"},
-    ),
     "messages": Program(
         ("ldap_msg",),
         ("ldap_filter", "ber_layout", "ber_core", "plain_values"),
