@@ -1,5 +1,7 @@
 -- What answers, and so sessions, leave of a good tree.
 use Rattle.std.proofs.Common.{◌≡◌, ℕ, Bool, true, false, List, Option, Some, None, if◌then◌else◌}
+use Rattle.ldap_msg.specs.declared.kinds.ModifyRequest.{ModifyRequest}
+use Rattle.ldap_msg.specs.declared.kinds.RenameRequest.{RenameRequest}
 use Rattle.ldap_msg.specs.declared.kinds.AddRequest.{AddRequest}
 use Rattle.ldap_msg.specs.declared.kinds.DeleteRequest.{DeleteRequest}
 use Rattle.ldap_msg.specs.declared.kinds.Request.{Request}
@@ -9,6 +11,8 @@ use Rattle.ldap_msg.specs.declared.kinds.Message.{Message}
 use Rattle.ldap_msg.specs.Messages.{message_of}
 use Rattle.schema_rules.specs.Rules.{IsGoodTree}
 use Rattle.op_update.specs.Updates.{added, deleted}
+use Rattle.op_modify.specs.Modifying.{modified}
+use Rattle.op_modify.specs.Renames.{renamed}
 use Rattle.session_model.specs.Run.{Step, run}
 use Rattle.session_model.proofs.Theorems.{AnswersKeep, run_claim}
 use Rattle.session_hub.specs.Parties.{DirectoryEntries, Requester}
@@ -22,16 +26,18 @@ one_good false a b good other = other
 
 module _
     (deletes : (entries : DirectoryEntries) (who : Requester) (asked : DeleteRequest) → IsGoodTree entries → IsGoodTree (deleted entries who asked).entries)
+    (modifies : (entries : DirectoryEntries) (who : Requester) (asked : ModifyRequest) → IsGoodTree entries → IsGoodTree (modified entries who asked).entries)
+    (renames : (entries : DirectoryEntries) (who : Requester) (asked : RenameRequest) → IsGoodTree entries → IsGoodTree (renamed entries who asked).entries)
     (adds : (entries : DirectoryEntries) (who : Requester) (asked : AddRequest) → IsGoodTree entries → IsGoodTree (added entries who asked).entries)
   where
     operated_good : (entries : DirectoryEntries) (who : Requester) (controls : List Control) (asked : Request) → IsGoodTree entries → IsGoodTree (operated entries who controls asked).entries
     operated_good entries who controls (request.Bind bind) good = good
     operated_good entries who controls request.Unbind good = good
     operated_good entries who controls (request.Search search) good = good
-    operated_good entries who controls (request.Modify modify) good = good
+    operated_good entries who controls (request.Modify modify) good = modifies entries who modify good
     operated_good entries who controls (request.Add add) good = adds entries who add good
     operated_good entries who controls (request.Delete delete) good = deletes entries who delete good
-    operated_good entries who controls (request.Rename rename) good = good
+    operated_good entries who controls (request.Rename rename) good = renames entries who rename good
     operated_good entries who controls (request.Compare compare) good = good
     operated_good entries who controls (request.Abandon id) good = good
     operated_good entries who controls (request.Extended name value) good = good

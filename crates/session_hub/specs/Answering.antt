@@ -1,4 +1,4 @@
--- How this server answers each message (RFC 4511 4.1.1, 4.2 to 4.5, 4.7, 4.8, 4.10 to 4.12). The rules of sessions take this, and
+-- How this server answers each message (RFC 4511 4.1.1, 4.2 to 4.12). The rules of sessions take this, and
 -- nothing else of them knows what is answered.
 use Rattle.std.specs.Prelude.{Bool, true, false, List, [], ◌∷◌, Option, Some, None, if◌then◌else◌}
 use Rattle.ldap_msg.specs.declared.kinds.BindRequest.{BindRequest}
@@ -18,7 +18,9 @@ use Rattle.read_model.specs.Views.{View, view_of, result_of}
 use Rattle.read_model.specs.SearchReplies.{search_replies, replies_octets}
 use Rattle.read_model.specs.CompareReplies.{compare_result}
 use Rattle.op_bind.specs.Binds.{bind_answer}
-use Rattle.op_update.specs.Updates.{Changed, added, deleted}
+use Rattle.op_update.specs.Updates.{Changed, unless, added, deleted}
+use Rattle.op_modify.specs.Modifying.{modified}
+use Rattle.op_modify.specs.Renames.{renamed}
 use Rattle.session_model.specs.Rules.{Rules, Answered}
 use Rattle.session_hub.specs.Parties.{DirectoryEntries, Requester, nobody}
 use Rattle.session_hub.specs.Controls.{is_refused, subentries_asked}
@@ -91,19 +93,30 @@ abbrev pub changing : Requester → Request → Changed → Operated
 changing who asked changed =
     record { replies = replies_in (response_to asked (change_result changed.refusal)); entries = changed.entries; who = who }
 
--- an operation that no control refuses: a search and a compare read what the requester sees of the entries, an add and a
--- delete change them, a modify and a rename aren't done, and no extended operation is known
+-- the change that a request asks for; the entries stay where it asks for none
+abbrev pub change_of : DirectoryEntries → Requester → Request → Changed
+change_of entries who (request.Bind bind) = unless None entries entries
+change_of entries who request.Unbind = unless None entries entries
+change_of entries who (request.Search search) = unless None entries entries
+change_of entries who (request.Modify modify) = modified entries who modify
+change_of entries who (request.Add add) = added entries who add
+change_of entries who (request.Delete delete) = deleted entries who delete
+change_of entries who (request.Rename rename) = renamed entries who rename
+change_of entries who (request.Compare compare) = unless None entries entries
+change_of entries who (request.Abandon id) = unless None entries entries
+change_of entries who (request.Extended name value) = unless None entries entries
+
+-- an operation that no control refuses: a search and a compare read what the requester sees of the entries, a modify, an
+-- add, a delete and a rename change them, and no extended operation is known
 abbrev pub operated : DirectoryEntries → Requester → List Control → Request → Operated
 operated entries who controls (request.Bind bind) = bound entries bind
 operated entries who controls request.Unbind = replying entries who []
 operated entries who controls (request.Search search) =
     replying entries who (searched (view_of entries who) search (subentries_asked controls))
-operated entries who controls (request.Modify modify) =
-    replying entries who (ended_with code.UnwillingToPerform (request.Modify modify))
+operated entries who controls (request.Modify modify) = changing who (request.Modify modify) (modified entries who modify)
 operated entries who controls (request.Add add) = changing who (request.Add add) (added entries who add)
 operated entries who controls (request.Delete delete) = changing who (request.Delete delete) (deleted entries who delete)
-operated entries who controls (request.Rename rename) =
-    replying entries who (ended_with code.UnwillingToPerform (request.Rename rename))
+operated entries who controls (request.Rename rename) = changing who (request.Rename rename) (renamed entries who rename)
 operated entries who controls (request.Compare compare) =
     replying entries who (reply.Compare (compare_result (view_of entries who) compare) ∷ [])
 operated entries who controls (request.Abandon id) = replying entries who []

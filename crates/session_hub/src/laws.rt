@@ -6,6 +6,7 @@ ghost use Rattle.session_model.specs.Run.{Step, run};
 ghost use Rattle.session_hub.specs.Parties.{DirectoryEntries};
 ghost use Rattle.session_hub.specs.Answering.{rules};
 
+use modify_laws::a_good_tree_stays_good_when_changed;
 use update_laws::a_good_tree_stays_good;
 
 /// What sessions leave of a good tree is a good tree, whatever is asked, by whom and in which order.
@@ -14,4 +15,5 @@ pub fn sessions_keep_a_directory_good()
         → IsGoodTree (run rules entries steps).tree }
 {
     a_good_tree_stays_good();
+    a_good_tree_stays_good_when_changed();
 }

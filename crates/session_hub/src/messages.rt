@@ -8,10 +8,10 @@ ghost use Rattle.read_model.specs.Views.{view_of, result_of as result_with};
 ghost use Rattle.read_model.specs.SearchReplies.{replies_octets};
 ghost use Rattle.read_model.specs.CompareReplies.{compare_result};
 ghost use Rattle.ldap_msg.specs.declared.kinds.Reply.TheVariants as reply;
-ghost use Rattle.op_update.specs.Updates.{added, deleted};
+ghost use Rattle.op_update.specs.Updates.{IsChanged};
 ghost use Rattle.session_hub.specs.Parties.{DirectoryEntries, Requester};
 ghost use Rattle.session_hub.specs.Controls.{subentries_asked};
-ghost use Rattle.session_hub.specs.Answering.{rules, response_to as response_of, replies_in, ended_with, asking, searched, bound, changing, operated, answered, is_unbind, answer_read};
+ghost use Rattle.session_hub.specs.Answering.{rules, response_to as response_of, replies_in, ended_with, asking, searched, bound, change_of, changing, operated, answered, is_unbind, answer_read};
 ghost use Rattle.session_hub.specs.Answers.{Gives, Sends};
 
 use crate::controls::{is_refused, subentries_asked};
@@ -19,14 +19,17 @@ use crate::requester::anonymous;
 use acdf_filters::Requester;
 use acdf_lists::Dir;
 use ldap_msg::{
-    AddRequest, BindRequest, CompareRequest, DeleteRequest, Frame, LdapResult, Message, ReadFault,
-    Reply, Request, ResultCode, SearchRequest, put_notice, put_reply, read_request,
+    BindRequest, CompareRequest, Frame, LdapResult, Message, ReadFault, Reply, Request, ResultCode,
+    SearchRequest, put_notice, put_reply, read_request,
 };
+use modify_laws::a_refused_change_leaves_the_entries;
 use op_bind::bind;
+use op_modify::{modify, rename};
 use op_read::{compare, search};
 use op_update::{add, delete};
 use plain_values::Octets;
 use std::alloc::{AllocError, Global};
+use update_laws::a_refusal_leaves_the_entries;
 
 fn result_of(alloc: Global, code: ResultCode) -> LdapResult
     ensures { result ≡ result_with code }
@@ -165,53 +168,53 @@ fn put_compare<D: Dir>(
     put_reply(out, id, &Reply::Compare(found))
 }
 
-/// Adds an entry, and appends the reply, for which there is room before the directory changes.
-/// After `AllocError` all is as it was.
-fn put_add<D: Dir>(
+/// Changes the entries as the request asks for; a request that asks for no change leaves them. None where nothing refuses
+/// it. After `AllocError` all is as it was.
+fn change<D: Dir>(
     alloc: Global,
     dir: &mut D,
     who: &Requester,
-    message: &Message,
-    request: &AddRequest,
-    out: &mut Vec<u8>,
-) -> Result<(), AllocError>
-    ensures ok { OnOk result (Sends message.now.id
-        (changing who.now message.now.request (added (entries_of (D.rows dir.old)) who.now request.now))
-        out.old.items out.new.items (entries_of (D.rows dir.new)) who.now) }
-    ensures err { OnErr result (out.new.items ≡ out.old.items) }
-    ensures entries { OnErr result (entries_of (D.rows dir.new) ≡ entries_of (D.rows dir.old)) }
+    request: &Request,
+) -> Result<Option<LdapResult>, AllocError>
+    ensures ok { IfOk result (λ refusal. IsChanged (change_of (entries_of (D.rows dir.old)) who.now request.now)
+        refusal (entries_of (D.rows dir.new))) }
+    ensures kept { OnErr result (entries_of (D.rows dir.new) ≡ entries_of (D.rows dir.old)) }
 {
-    let before = out.len();
-    put_ended(alloc, message, ResultCode::Success, out)?;
-    match add(alloc, dir, who, request) {
-        Ok(None) => Ok(()),
-        Ok(Some(refusal)) => put_instead(message, refusal, before, out),
-        Err(fault) => {
-            out.truncate(before);
-            Err(fault)
-        }
+    match request {
+        Request::Modify(asked) => modify(alloc, dir, who, asked),
+        Request::Add(asked) => add(alloc, dir, who, asked),
+        Request::Delete(asked) => delete(alloc, dir, who, asked),
+        Request::Rename(asked) => rename(alloc, dir, who, asked),
+        Request::Bind(_)
+        | Request::Unbind
+        | Request::Search(_)
+        | Request::Compare(_)
+        | Request::Abandon(_)
+        | Request::Extended(_, _) => Ok(None),
     }
 }
 
-/// Deletes an entry, and appends the reply, for which there is room before the directory changes.
+/// Changes the entries, and appends the reply, for which there is room before the directory changes.
 /// After `AllocError` all is as it was.
-fn put_delete<D: Dir>(
+fn put_change<D: Dir>(
     alloc: Global,
     dir: &mut D,
     who: &Requester,
     message: &Message,
-    request: &DeleteRequest,
     out: &mut Vec<u8>,
 ) -> Result<(), AllocError>
     ensures ok { OnOk result (Sends message.now.id
-        (changing who.now message.now.request (deleted (entries_of (D.rows dir.old)) who.now request.now))
+        (changing who.now message.now.request
+        (change_of (entries_of (D.rows dir.old)) who.now message.now.request))
         out.old.items out.new.items (entries_of (D.rows dir.new)) who.now) }
     ensures err { OnErr result (out.new.items ≡ out.old.items) }
     ensures entries { OnErr result (entries_of (D.rows dir.new) ≡ entries_of (D.rows dir.old)) }
 {
+    a_refusal_leaves_the_entries();
+    a_refused_change_leaves_the_entries();
     let before = out.len();
     put_ended(alloc, message, ResultCode::Success, out)?;
-    match delete(alloc, dir, who, request) {
+    match change(alloc, dir, who, &message.request) {
         Ok(None) => Ok(()),
         Ok(Some(refusal)) => put_instead(message, refusal, before, out),
         Err(fault) => {
@@ -241,12 +244,10 @@ fn operate<D: Dir>(
         Request::Bind(bind) => answer_bind(alloc, dir, who, message.id, bind, out),
         Request::Search(search) => put_search(alloc, dir, who, message, search, out),
         Request::Compare(compare) => put_compare(alloc, dir, who, message.id, compare, out),
-        Request::Add(add) => put_add(alloc, dir, who, message, add, out),
-        Request::Delete(delete) => put_delete(alloc, dir, who, message, delete, out),
         Request::Unbind | Request::Abandon(_) => Ok(()),
         Request::Extended(_, _) => put_ended(alloc, message, ResultCode::ProtocolError, out),
-        Request::Modify(_) | Request::Rename(_) => {
-            put_ended(alloc, message, ResultCode::UnwillingToPerform, out)
+        Request::Modify(_) | Request::Add(_) | Request::Delete(_) | Request::Rename(_) => {
+            put_change(alloc, dir, who, message, out)
         }
     }
 }
