@@ -6,7 +6,11 @@ use aci_item::Level;
 use data_file::load;
 use dir_tree::{Entry, Scope};
 use dn_names::{parse, print};
-use ldap_msg::{AddRequest, DeleteRequest, KindValues, LdapResult};
+use ldap_msg::{
+    AddRequest, Change as ValueChange, DeleteRequest, KindValues, LdapResult, ModifyRequest,
+    RenameRequest,
+};
+use op_modify::{modify, rename};
 use op_update::{add, delete};
 use plain_values::{Octets, OneOrMany};
 use schema_core::row;
@@ -18,6 +22,18 @@ use std::test::Fail;
 /// Types, each with its values.
 pub type Attributes = &'static [(&'static str, &'static [&'static str])];
 
+/// Changes of an entry: 0 for an add, 1 for a delete and 2 for a replace, a type, and values.
+pub type Changes = &'static [(u8, &'static str, &'static [&'static str])];
+
+/// A rename that is asked for.
+#[derive(Clone, Copy)]
+pub struct Renaming {
+    pub name: &'static str,
+    pub rdn: &'static str,
+    pub delete_old: bool,
+    pub superior: Option<&'static str>,
+}
+
 /// What is asked for.
 #[derive(Clone, Copy)]
 pub enum Change {
@@ -25,6 +41,10 @@ pub enum Change {
     Add(&'static str, Attributes),
     /// The entry of this name is to be deleted.
     Delete(&'static str),
+    /// The entry of this name is to be changed so.
+    Modify(&'static str, Changes),
+    /// An entry is to have another name.
+    Rename(Renaming),
 }
 
 /// The directory of a data file.
@@ -129,11 +149,59 @@ pub fn ask_delete(
     told(alloc, &refusal)
 }
 
+/// Asks for an entry to be changed, and tells the result.
+pub fn ask_modify(
+    alloc: Global,
+    dir: &mut PlainDir,
+    who: &str,
+    name: &str,
+    changes: &[(u8, &str, &[&str])],
+) -> Result<String, Fail> {
+    let who = requester(alloc, who)?;
+    let mut list = Vec::new(alloc);
+    for (operation, kind, texts) in changes {
+        list.push(ValueChange {
+            operation: *operation,
+            body: kind_values(alloc, kind, texts)?,
+        })?;
+    }
+    let request = ModifyRequest {
+        name: octets(alloc, name)?,
+        changes: OneOrMany::from_vec(list),
+    };
+    let refusal = modify(alloc, dir, &who, &request)?;
+    told(alloc, &refusal)
+}
+
+/// Asks for an entry to have another name, and tells the result.
+pub fn ask_rename(
+    alloc: Global,
+    dir: &mut PlainDir,
+    who: &str,
+    renaming: &Renaming,
+) -> Result<String, Fail> {
+    let who = requester(alloc, who)?;
+    let superior = match renaming.superior {
+        Some(superior) => Some(octets(alloc, superior)?),
+        None => None,
+    };
+    let request = RenameRequest {
+        name: octets(alloc, renaming.name)?,
+        new_rdn: octets(alloc, renaming.rdn)?,
+        delete_old: renaming.delete_old,
+        superior,
+    };
+    let refusal = rename(alloc, dir, &who, &request)?;
+    told(alloc, &refusal)
+}
+
 /// Asks for a change, and tells the result.
 pub fn ask(alloc: Global, dir: &mut PlainDir, who: &str, change: Change) -> Result<String, Fail> {
     match change {
         Change::Add(name, attributes) => ask_add(alloc, dir, who, name, attributes),
         Change::Delete(name) => ask_delete(alloc, dir, who, name),
+        Change::Modify(name, changes) => ask_modify(alloc, dir, who, name, changes),
+        Change::Rename(renaming) => ask_rename(alloc, dir, who, &renaming),
     }
 }
 

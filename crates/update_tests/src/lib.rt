@@ -1,4 +1,4 @@
-//! Tests of changes of a directory that requests ask for: tables of adds and deletes by several requesters, with the
+//! Tests of changes of a directory that requests ask for: tables of adds, deletes, modifies and renames by several requesters, with the
 //! result of each and the entries that it leaves.
 #![tactic(auto)]
 
@@ -11,6 +11,12 @@ mod deletes;
 #[cfg(test)]
 mod limits;
 #[cfg(test)]
+mod modifies;
+#[cfg(test)]
+mod renames;
+#[cfg(test)]
 mod series;
 #[cfg(test)]
 mod sets;
+#[cfg(test)]
+mod shop;

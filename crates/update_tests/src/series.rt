@@ -1,7 +1,8 @@
 //! Changes one after the other: each is decided over what those before it left.
 
-use crate::changes::{Attributes, Change, ask, count, directory};
+use crate::changes::{Attributes, Change, Renaming, ask, count, directory};
 use crate::sets::{ANN, ANYONE, BEN, COUNT, KIOSK, SCHOOL};
+use crate::shop;
 use std::alloc::Global;
 use std::process::Abort;
 use std::test::Fail;
@@ -172,4 +173,186 @@ static LAST: [Step; 3] = [
 #[test]
 fn the_last_subentry_may_be_deleted_and_the_suffix_not(rt: HostRuntime) -> Result<(), Fail> {
     check_steps(&rt, rt.alloc(), KIOSK, &LAST)
+}
+
+const OPEN: &str = "cn=open,dc=shop";
+
+const BOX: &str = "cn=box,ou=vault,dc=shop";
+
+static RULES: [Step; 6] = [
+    (ANYONE, Change::Delete(shop::BEN), "50", 11),
+    // what is open is the vault alone
+    (
+        shop::ANN,
+        Change::Modify(
+            OPEN,
+            &[(2, "subtreeSpecification", &["{ base \"ou=vault\" }"])],
+        ),
+        "0",
+        11,
+    ),
+    (ANYONE, Change::Delete(shop::BEN), "32", 11),
+    (ANYONE, Change::Delete(BOX), "50", 11),
+    // and may be removed
+    (
+        shop::ANN,
+        Change::Modify(OPEN, &[(2, "prescriptiveACI", &[TO_ALL])]),
+        "0",
+        11,
+    ),
+    (ANYONE, Change::Delete(BOX), "0", 10),
+];
+
+#[test]
+fn a_subtree_and_an_item_are_in_force_as_they_are_changed(rt: HostRuntime) -> Result<(), Fail> {
+    check_steps(&rt, rt.alloc(), shop::SHOP, &RULES)
+}
+
+static OWN: [Step; 4] = [
+    (shop::BEN, Change::Delete(shop::ANN), "50", 11),
+    (
+        shop::ANN,
+        Change::Modify(shop::ANN, &[(0, "entryACI", &[TO_ALL])]),
+        "0",
+        11,
+    ),
+    (shop::BEN, Change::Delete(shop::BEN), "50", 11),
+    (ANYONE, Change::Delete(shop::ANN), "0", 10),
+];
+
+#[test]
+fn an_item_of_the_entry_itself_is_in_force_at_once(rt: HostRuntime) -> Result<(), Fail> {
+    check_steps(&rt, rt.alloc(), shop::SHOP, &OWN)
+}
+
+static AREA: [Step; 5] = [
+    (shop::ANN, Change::Delete("ou=vault,dc=shop"), "66", 11),
+    (
+        shop::ANN,
+        Change::Modify(
+            "ou=vault,dc=shop",
+            &[(0, "administrativeRole", &["accessControlSpecificArea"])],
+        ),
+        "0",
+        11,
+    ),
+    // an area of its own, with no rules
+    (shop::ANN, Change::Delete(BOX), "32 dc=shop", 11),
+    (
+        shop::ANN,
+        Change::Modify("ou=vault,dc=shop", &[(1, "administrativeRole", &[])]),
+        "32 dc=shop",
+        11,
+    ),
+    (
+        shop::ANN,
+        Change::Delete("ou=vault,dc=shop"),
+        "32 dc=shop",
+        11,
+    ),
+];
+
+#[test]
+fn an_area_begins_where_a_role_comes(rt: HostRuntime) -> Result<(), Fail> {
+    check_steps(&rt, rt.alloc(), shop::SHOP, &AREA)
+}
+
+static CLASSES: [Step; 6] = [
+    (
+        shop::ANN,
+        Change::Modify(
+            OPEN,
+            &[(
+                2,
+                "subtreeSpecification",
+                &["{ specificationFilter not:item:simpleSecurityObject }"],
+            )],
+        ),
+        "0",
+        11,
+    ),
+    (ANYONE, Change::Delete(shop::BEN), "50", 11),
+    (
+        shop::ANN,
+        Change::Modify(
+            shop::BEN,
+            &[
+                (0, "objectClass", &["simpleSecurityObject"]),
+                (0, "userPassword", &["x"]),
+            ],
+        ),
+        "0",
+        11,
+    ),
+    (
+        ANYONE,
+        Change::Delete(shop::BEN),
+        "32 ou=people,dc=shop",
+        11,
+    ),
+    (
+        shop::ANN,
+        Change::Modify(shop::BEN, &[(1, "objectClass", &["simpleSecurityObject"])]),
+        "0",
+        11,
+    ),
+    (ANYONE, Change::Delete(shop::BEN), "50", 11),
+];
+
+#[test]
+fn a_subtree_of_classes_follows_the_classes(rt: HostRuntime) -> Result<(), Fail> {
+    check_steps(&rt, rt.alloc(), shop::SHOP, &CLASSES)
+}
+
+static NAMED: [Step; 7] = [
+    (
+        shop::ANN,
+        Change::Rename(Renaming {
+            name: OPEN,
+            rdn: "cn=free",
+            delete_old: true,
+            superior: None,
+        }),
+        "0",
+        11,
+    ),
+    (shop::ANN, Change::Modify(OPEN, &[]), "32 dc=shop", 11),
+    (ANYONE, Change::Delete(shop::BEN), "50", 11),
+    (
+        shop::BEN,
+        Change::Rename(Renaming {
+            name: shop::BEN,
+            rdn: "uid=rob",
+            delete_old: true,
+            superior: Some("ou=people,dc=shop"),
+        }),
+        "0",
+        11,
+    ),
+    (
+        shop::BEN,
+        Change::Modify(shop::BEN, &[]),
+        "32 ou=people,dc=shop",
+        11,
+    ),
+    (
+        shop::BEN,
+        Change::Modify(
+            "uid=rob,ou=people,dc=shop",
+            &[(0, "telephoneNumber", &["+1 555 0102"])],
+        ),
+        "0",
+        11,
+    ),
+    (
+        ANYONE,
+        Change::Delete("uid=rob,ou=people,dc=shop"),
+        "50",
+        11,
+    ),
+];
+
+#[test]
+fn what_was_renamed_is_found_by_its_new_name_alone(rt: HostRuntime) -> Result<(), Fail> {
+    check_steps(&rt, rt.alloc(), shop::SHOP, &NAMED)
 }
