@@ -15,6 +15,8 @@ mod explains;
 #[cfg(test)]
 mod messages;
 #[cfg(test)]
+mod modifies;
+#[cfg(test)]
 mod pipelines;
 #[cfg(test)]
 mod points;

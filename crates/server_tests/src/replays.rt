@@ -146,8 +146,8 @@ static REQUESTS: [Replay<'static>; 10] = [
     },
     Replay {
         script: "open 1\nsend 1 300b0201026606040261613000",
-        put: "1 300c02010267070a013504000400\n",
-        what: "a modify",
+        put: "1 300c02010267070a012204000400\n",
+        what: "a modify of a name that is none",
     },
     Replay {
         script: "open 1\nsend 1 300b0201036806040261613000",
@@ -156,8 +156,8 @@ static REQUESTS: [Replay<'static>; 10] = [
     },
     Replay {
         script: "open 1\nsend 1 30100201046c0b04026161040262620101ff",
-        put: "1 300c0201046d070a013504000400\n",
-        what: "a rename",
+        put: "1 300c0201046d070a012204000400\n",
+        what: "a rename of a name that is none",
     },
     Replay {
         script: "open 1\nsend 1 30120201056e0d0402616130070402636e040178",
