@@ -14,6 +14,7 @@ if ! command -v ldapsearch >/dev/null; then
 fi
 
 piet=(-D "uid=piet,ou=people,$suffix" -w ebb)
+kofi=(-D "uid=kofi,ou=people,$suffix" -w neap-tide)
 runa=(-D "uid=runa,ou=people,$suffix" -w slack-water)
 ines=(-D "uid=ines,ou=people,$suffix" -w spring-tide)
 
@@ -65,3 +66,28 @@ RULE
 find_ -b "ou=lights,ou=projects,$suffix" description 2>&1
 ldapdelete -x -H "$url" "${ines[@]}" "cn=closed lights,$suffix"
 find_ -b "ou=lights,ou=projects,$suffix" description
+
+number="changetype: modify
+replace: telephoneNumber
+telephoneNumber: +47 70 55 01 99"
+
+say "Piet gives himself another number, and Amal none"
+ldapmodify -x -H "$url" "${piet[@]}" <<<"dn: uid=piet,ou=people,$suffix
+$number" 2>&1
+ldapmodify -x -H "$url" "${piet[@]}" <<<"dn: uid=amal,ou=people,$suffix
+$number" 2>&1
+find_ -b "ou=people,$suffix" '(|(sn=Hoekstra)(sn=Said))' telephoneNumber
+
+say "the help desk gives Piet a new password, without reading the old one"
+ldapmodify -x -H "$url" "${kofi[@]}" 2>&1 <<PASSWORD
+dn: uid=piet,ou=people,$suffix
+changetype: modify
+replace: userPassword
+userPassword: flood
+PASSWORD
+find_ "${piet[@]}" -b "ou=heron,ou=projects,$suffix" -s base description 2>&1
+find_ -D "uid=piet,ou=people,$suffix" -w flood -b "ou=heron,ou=projects,$suffix" -s base description
+
+say "Ines gives a gauge another name"
+ldapmodrdn -x -H "$url" -r "${ines[@]}" "cn=gauge 2,ou=devices,$suffix" "cn=gauge north"
+find_ "${ines[@]}" -b "ou=devices,$suffix" '(cn=gauge*)' cn
