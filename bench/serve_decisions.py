@@ -9,14 +9,10 @@ the attribute is there. What the 40 times more take is divided by their number.
 """
 
 import argparse
-import os
-import pathlib
 import socket
-import subprocess
 import sys
-import tempfile
 
-from serve_changes import ADMIN, SUFFIX, ask, bind, data_file, element, message, seconds_of, text
+from served import ADMIN, SUFFIX, ask, bind, element, message, seconds_of, served, text
 
 DONE = bytes.fromhex("65070a010004000400")
 MORE = 40
@@ -47,24 +43,14 @@ def main():
     words.add_argument("program", nargs="+")
     words.add_argument("--people", type=int, default=20000)
     asked = words.parse_args()
-    with socket.socket() as found:
-        found.bind(("127.0.0.1", 0))
-        port = found.getsockname()[1]
-    with tempfile.TemporaryDirectory() as folder:
-        data = os.path.join(folder, "people.ldif")
-        pathlib.Path(data).write_text(data_file(asked.people), encoding="ascii")
-        server = subprocess.Popen(asked.program + ["serve", data, f"127.0.0.1:{port}"], stdout=subprocess.PIPE)
-        try:
-            server.stdout.readline()
-            for who in ("anonymous", "named"):
-                with socket.create_connection(("127.0.0.1", port)) as connection:
-                    if who == "named":
-                        ask(connection, bind(ADMIN, "keys"), 0x61)
-                    once, _ = spent(server.pid, connection, search(1))
-                    often, entries = spent(server.pid, connection, search(1 + MORE))
-                    print(f"{who}: {(often - once) / MORE / entries * 1e9:.0f} ns a decision, over {entries} people")
-        finally:
-            server.kill()
+    with served(asked.program, asked.people) as (pid, port):
+        for who in ("anonymous", "named"):
+            with socket.create_connection(("127.0.0.1", port)) as connection:
+                if who == "named":
+                    ask(connection, bind(ADMIN, "keys"), 0x61)
+                once, _ = spent(pid, connection, search(1))
+                often, entries = spent(pid, connection, search(1 + MORE))
+                print(f"{who}: {(often - once) / MORE / entries * 1e9:.0f} ns a decision, over {entries} people")
     return 0
 
 
