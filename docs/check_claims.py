@@ -1,8 +1,9 @@
 #!/usr/bin/env python3
 """Looks up the names that the documents use of the sources.
 
-These are the names in README's tables of promises, the line counts of the definitions that it lists, the clauses
-that docs/ARCHITECTURE.md names for each arrow, and the words and files of docs/GLOSSARY.md. Each that is not found
+These are the names in the tables of docs/PROMISES.md, the line counts of the definitions that it lists, the clauses
+that docs/ARCHITECTURE.md names for each arrow, the words and files of docs/GLOSSARY.md, and README's calls and clauses
+with their files. Each that is not found
 is printed, and the status is then 1. It reads the sources as text: that a clause says what the sentence beside it
 says is for a reader.
 """
@@ -14,6 +15,7 @@ import sys
 TOP = pathlib.Path(__file__).resolve().parent.parent
 CRATES = TOP / "crates"
 COLUMNS = 6
+MOST_OCTETS = 8192
 
 
 def labels_of_functions(code):
@@ -165,9 +167,21 @@ def stands_on():
     return {name.strip(): below.split() for name, below in pairs}
 
 
-def faults_of_readme(names):
-    """The faults of README's tables and list, with the number of rows that were looked up."""
+def faults_of_front(names):
+    """What README names that is not there: calls, labels, files, and more octets than a page has."""
     text = (TOP / "README.md").read_text()
+    if len(text.encode()) > MOST_OCTETS:
+        yield f"{len(text.encode())} octets"
+    for line in text.split("## What it promises")[1].split("\n## ")[0].splitlines():
+        for words in re.findall(r"\(([^()]*`[^()]*)\)", line):
+            files = [word for word in quoted(words) if "/" in word]
+            yield from ("no file " + word for word in files if not (CRATES / word).exists())
+            yield from faults_of_calls(names, " ".join(f"`{word}`" for word in quoted(words) if word not in files))
+
+
+def faults_of_promises(names):
+    """The faults of the tables of promises and of the list, with the number of rows that were looked up."""
+    text = (TOP / "docs" / "PROMISES.md").read_text()
     faults, named, rows = [], set(), 0
     for number, cells in rows_of(text, COLUMNS):
         rows += 1
@@ -179,8 +193,9 @@ def faults_of_readme(names):
 
 def main():
     names, below = Names(), stands_on()
-    faults, rows = faults_of_readme(names)
-    faults = ["README: " + fault for fault in faults]
+    faults, rows = faults_of_promises(names)
+    faults = ["PROMISES: " + fault for fault in faults]
+    faults += ["README: " + fault for fault in faults_of_front(names)]
     arrows = (TOP / "docs" / "ARCHITECTURE.md").read_text()
     drawn = set()
     for number, cells in rows_of(arrows, 3):
