@@ -1,0 +1,180 @@
+-- What is seen of a numbered tree, by the names of its entries.
+use Rattle.std.proofs.Common.{◌≡◌, inl, inr, ℕ, Bool, true, false, ◌&&◌, ◌||◌, List, [], ◌∷◌, Option, Some, None, refl, sym, ap, subst, ◌∙◌, map, find, length, take, ◌-◌, Ordering, arith}
+use Rattle.std.specs.Prelude.{reverse, nat_le, if◌then◌else◌}
+use Rattle.std.specs.List.{AllByRecursion, list_any}
+use Rattle.std.specs.Option.{option_map, option_map_or, option_and_then}
+use Rattle.std.specs.Ordering.{is_eq}
+use Rattle.std.specs.declared.cmp.Ordering.TheVariants.{Less, Equal, Greater}
+use Rattle.std.proofs.lemmas.Bool.{cases_Bool, eq-eqb}
+use Rattle.std.proofs.lemmas.Bool.Decides.{nat_tests}
+use mathlib.Core.List.{reverse_aux}
+use Rattle.dn_names.specs.Names.{RdnSequence}
+use Rattle.dn_names.specs.NameOrder.{name_cmp, is_same}
+use Rattle.dn_names.specs.Printing.{print_name, print_by}
+use Rattle.dn_names.proofs.Theorems.{name_cmp_total}
+use Rattle.dir_tree.specs.Entries.{EntryInformation}
+use Rattle.dir_tree.specs.Trees.{is_named, is_below, named_in, superior_name, IsInOrder}
+use Rattle.dir_tree.specs.Numbered.{Numbered, IsNumberedTree, entries_of, entry_of, find_name, find_front, suffix_of}
+use Rattle.dir_tree.proofs.TreeTheorems.{entry_of-found}
+use Rattle.dir_tree.specs.declared.number.EntryNo.{EntryNo}
+use Rattle.aci_item.specs.declared.permission.Permission.TheVariants.{DiscloseOnError}
+use Rattle.acdf_filters.specs.declared.asking.Requester.{Requester}
+use Rattle.acdf_filters.specs.Asking.{Entry}
+use Rattle.acdf_filters.specs.Granted as decision
+use Rattle.acdf_filters.specs.Granted.{granted}
+use Rattle.acdf_core.specs.Nearest.{IsEntryOf}
+use Rattle.ldap_msg.specs.declared.operations.ResultCode.TheVariants as code
+use Rattle.read_model.specs.Views.{Row, View, row_of, view_of, matched_name, discloses, is_disclosed, no_such_object, result_of, result_with}
+use Rattle.op_asking.specs.Targets.{is_suffix}
+use Rattle.op_asking.specs.Asking.{view_in}
+use Rattle.op_asking.specs.Nearest.{nearest_name, without_object}
+
+-- ---- lists of what is seen of other lists
+
+find-map : {A B : Type 0} (f : A → B) (p : B → Bool) (xs : List A) → find p (map f xs) ≡ option_map f (find (λ x. p (f x)) xs)
+find-map f p [] = refl
+find-map f p (x ∷ xs) = elim (cases_Bool (p (f x))) [
+  | inl e ↦ rw e refl
+  | inr e ↦ rw e (find-map f p xs)
+]
+
+reverse_aux-map : {A B : Type 0} (f : A → B) (xs ys : List A) → reverse_aux (map f xs) (map f ys) ≡ map f (reverse_aux xs ys)
+reverse_aux-map f [] ys = refl
+reverse_aux-map f (x ∷ xs) ys = reverse_aux-map f xs (x ∷ ys)
+
+reverse-map : {A B : Type 0} (f : A → B) (xs : List A) → reverse (map f xs) ≡ map f (reverse xs)
+reverse-map f xs = reverse_aux-map f xs []
+
+list_any-map : {A B : Type 0} (f : A → B) (p : B → Bool) (xs : List A) → list_any p (map f xs) ≡ list_any (λ x. p (f x)) xs
+list_any-map f p [] = refl
+list_any-map f p (x ∷ xs) = ap (λ b. p (f x) || b) (list_any-map f p xs)
+
+-- ---- the one entry of a name
+
+is_equal : (o : Ordering) → is_eq o ≡ true → o ≡ Equal
+is_equal Less e = absurd cc
+is_equal Equal e = refl
+is_equal Greater e = absurd cc
+
+-- what comes later than an entry of the name has another
+later-other : (name : RdnSequence) (first later : EntryInformation) → is_named name first ≡ true → name_cmp first.name later.name ≡ Less → is_named name later ≡ false
+unfolding is_same
+later-other name first later e h = ap is_eq (name_cmp_total.congr name first.name later.name (is_equal (name_cmp name first.name) e) ∙ h)
+
+none-later : (test : EntryInformation → Bool) (name : RdnSequence) (first : EntryInformation) → is_named name first ≡ true → (rest : List EntryInformation) → AllByRecursion (λ later. name_cmp first.name later.name ≡ Less) rest → list_any (λ entry. is_named name entry && test entry) rest ≡ false
+none-later test name first e [] h = refl
+none-later test name first e (x ∷ rest) h = rw (later-other name first x e h.0) (none-later test name first e rest h.1)
+
+or-false : (b : Bool) → (b || false) ≡ b
+or-false true = refl
+or-false false = refl
+
+-- whether an entry of the name passes a test: the one that is found
+any-named : (test : EntryInformation → Bool) (name : RdnSequence) (entries : List EntryInformation) → IsInOrder entries → list_any (λ entry. is_named name entry && test entry) entries ≡ option_map_or test (named_in name entries) false
+any-named test name [] h = refl
+any-named test name (x ∷ xs) h = elim (cases_Bool (is_named name x)) [
+  | inl e ↦ rw (e, none-later test name x e xs h.0) (or-false (test x))
+  | inr e ↦ rw e (any-named test name xs h.1)
+]
+
+-- ---- what may be known of
+
+pub discloses-named : (rows : List Numbered) (who : Requester) (name : RdnSequence) → IsInOrder (entries_of rows)
+    → discloses (view_in rows who) name ≡ option_map_or (λ entry. granted (entries_of rows) who entry Entry DiscloseOnError) (named_in name (entries_of rows)) false
+discloses-named rows who name h =
+    list_any-map (row_of (entries_of rows) who) (λ row. is_named name row.entry && is_disclosed row) (entries_of rows)
+    ∙ any-named (λ entry. granted (entries_of rows) who entry Entry DiscloseOnError) name (entries_of rows) h
+
+-- as calls say it
+pub discloses-found : (tree rows : List Numbered) (who : Requester) (name : RdnSequence) (entry : EntryInformation) → tree ≡ rows → IsNumberedTree tree → Some entry ≡ named_in name (entries_of tree)
+    → discloses (view_in rows who) name ≡ granted (entries_of rows) who entry Entry DiscloseOnError
+discloses-found tree rows who name entry e numbered is =
+    let there : IsNumberedTree rows = subst IsNumberedTree e numbered in
+    discloses-named rows who name there.tree.sorted
+    ∙ ap (λ (found : Option EntryInformation). option_map_or (λ entry. granted (entries_of rows) who entry Entry DiscloseOnError) found false) (ap (λ (rows : List Numbered). named_in name (entries_of rows)) (sym e) ∙ sym is)
+
+pub discloses-none : (tree rows : List Numbered) (who : Requester) (name : RdnSequence) → tree ≡ rows → IsNumberedTree tree → None ≡ named_in name (entries_of tree) → discloses (view_in rows who) name ≡ false
+discloses-none tree rows who name e numbered is =
+    let there : IsNumberedTree rows = subst IsNumberedTree e numbered in
+    discloses-named rows who name there.tree.sorted
+    ∙ ap (λ (found : Option EntryInformation). option_map_or (λ entry. granted (entries_of rows) who entry Entry DiscloseOnError) found false) (ap (λ (rows : List Numbered). named_in name (entries_of rows)) (sym e) ∙ sym is)
+
+-- ---- the nearest entry above
+
+matched_name-of : (entries : List EntryInformation) (who : Requester) (name : RdnSequence) → matched_name (view_of entries who) name ≡ option_map_or (λ entry. entry.name) (decision.matched entries who name) []
+unfolding matched_name decision.matched
+matched_name-of entries who name =
+    ap (λ (view : View). option_map_or (λ row. row.entry.name) (find (λ row. is_below row.entry.name name && is_disclosed row) view) []) (reverse-map (row_of entries who) entries)
+    ∙ ap (λ (found : Option Row). option_map_or (λ row. row.entry.name) found []) (find-map (row_of entries who) (λ row. is_below row.entry.name name && is_disclosed row) (reverse entries))
+    ∙ inner (find (λ entry. is_below entry.name name && granted entries who entry Entry DiscloseOnError) (reverse entries))
+  where
+    inner : (found : Option EntryInformation) → option_map_or (λ (row : Row). row.entry.name) (option_map (row_of entries who) found) [] ≡ option_map_or (λ (entry : EntryInformation). entry.name) found []
+    inner None = refl
+    inner (Some entry) = refl
+
+nearest-of : (rows : List Numbered) (number : Option EntryNo) (wanted : Option EntryInformation) → IsEntryOf rows number wanted → nearest_name rows number ≡ option_map_or (λ entry. entry.name) wanted []
+nearest-of rows None None h = refl
+nearest-of rows None (Some entry) h = absurd h
+nearest-of rows (Some number) None h = absurd h
+nearest-of rows (Some number) (Some entry) h = ap (λ (found : Option EntryInformation). option_map_or (λ entry. entry.name) found []) h
+
+pub no_such_object-nearest : (rows : List Numbered) (who : Requester) (name : RdnSequence) (number : Option EntryNo) → IsEntryOf rows number (decision.matched (entries_of rows) who name) → without_object (nearest_name rows number) ≡ no_such_object (view_in rows who) name
+no_such_object-nearest rows who name number h =
+    ap (result_with code.NoSuchObject) (nearest-of rows number (decision.matched (entries_of rows) who name) h ∙ sym (matched_name-of (entries_of rows) who name))
+
+-- a number that is not in use names nothing
+pub nearest-lost : (rows : List Numbered) (nearest : Option EntryNo) (number : EntryNo) → nearest ≡ Some number → None ≡ entry_of number.0 rows → [] ≡ nearest_name rows nearest
+nearest-lost rows nearest number e f =
+    ap (λ (found : Option EntryInformation). option_map_or (λ entry. entry.name) found []) f ∙ ap (nearest_name rows) (sym e)
+
+-- the name of the root is printed as nothing
+print-root : print_name [] ≡ []
+unfolding print_name print_by
+print-root = refl
+
+pub result-root : result_of code.NoSuchObject ≡ result_with code.NoSuchObject []
+result-root = ap (λ (text : List ℕ). record { code = 32; matched = text }) (sym print-root)
+
+-- ---- the entry of a name, by its number
+
+named-by : (name : RdnSequence) (rows : List Numbered) → IsNumberedTree rows → (found : Option EntryNo) → option_map (λ no. no.0) found ≡ find_name name rows → named_in name (entries_of rows) ≡ option_and_then (λ (no : EntryNo). entry_of no.0 rows) found
+named-by name rows tree found e =
+    sym (entry_of-found name rows tree.distinct) ∙ ap (λ (found : Option ℕ). option_and_then (λ id. entry_of id rows) found) (sym e) ∙ inner found
+  where
+    inner : (found : Option EntryNo) → option_and_then (λ id. entry_of id rows) (option_map (λ (no : EntryNo). no.0) found) ≡ option_and_then (λ (no : EntryNo). entry_of no.0 rows) found
+    inner None = refl
+    inner (Some number) = refl
+
+pub named-found : (name : RdnSequence) (rows : List Numbered) → IsNumberedTree rows → (found : Option EntryNo) (number : EntryNo) → option_map (λ no. no.0) found ≡ find_name name rows → found ≡ Some number → named_in name (entries_of rows) ≡ entry_of number.0 rows
+named-found name rows tree found number e is = named-by name rows tree found e ∙ ap (λ (found : Option EntryNo). option_and_then (λ (no : EntryNo). entry_of no.0 rows) found) is
+
+pub named-none : (name : RdnSequence) (rows : List Numbered) → IsNumberedTree rows → (found : Option EntryNo) → option_map (λ no. no.0) found ≡ find_name name rows → found ≡ None → named_in name (entries_of rows) ≡ None
+named-none name rows tree found e is = named-by name rows tree found e ∙ ap (λ (found : Option EntryNo). option_and_then (λ (no : EntryNo). entry_of no.0 rows) found) is
+
+-- the suffix is the first entry
+pub suffix-none : (name : RdnSequence) (rows : List Numbered) (found : Option EntryNo) → option_map (λ no. no.0) found ≡ suffix_of rows → found ≡ None → is_suffix name (entries_of rows) ≡ false
+suffix-none name [] found e is = refl
+suffix-none name (row ∷ rows) found e is = (let none : None ≡ Some row.id = sym (ap (option_map (λ (no : EntryNo). no.0)) is) ∙ e in absurd cc)
+
+suffix-at : (name : RdnSequence) (rows : List Numbered) (number : ℕ) (first : EntryInformation) → Some number ≡ suffix_of rows → Some first ≡ entry_of number rows → is_suffix name (entries_of rows) ≡ is_same name first.name
+suffix-at name [] number first e f = absurd cc
+suffix-at name (row ∷ rows) number first e f =
+    let same : number ≡ row.id = cc in
+    let own : entry_of number (row ∷ rows) ≡ Some row.entry = rw (eq-eqb row.id number (sym same)) refl in
+    let is : Some first ≡ Some row.entry = f ∙ own in
+    let entry : row.entry ≡ first = cc in
+    ap (λ (entry : EntryInformation). is_same name entry.name) entry
+
+pub suffix-found : (name : RdnSequence) (rows : List Numbered) (found : Option EntryNo) (number : EntryNo) (first : EntryInformation) → option_map (λ no. no.0) found ≡ suffix_of rows → found ≡ Some number → Some first ≡ entry_of number.0 rows → is_suffix name (entries_of rows) ≡ is_same name first.name
+suffix-found name rows found number first e is f = suffix-at name rows number.0 first (sym (ap (option_map (λ (no : EntryNo). no.0)) is) ∙ e) f
+
+pub suffix-lost : (name : RdnSequence) (rows : List Numbered) (found : Option EntryNo) (number : EntryNo) → option_map (λ no. no.0) found ≡ suffix_of rows → found ≡ Some number → None ≡ entry_of number.0 rows → is_suffix name (entries_of rows) ≡ false
+suffix-lost name rows found number e is f = by rows (sym (ap (option_map (λ (no : EntryNo). no.0)) is) ∙ e) f
+  where
+    by : (rows : List Numbered) → Some number.0 ≡ suffix_of rows → None ≡ entry_of number.0 rows → is_suffix name (entries_of rows) ≡ false
+    by [] e f = refl
+    by (row ∷ rows) e f =
+        let same : number.0 ≡ row.id = cc in
+        let own : entry_of number.0 (row ∷ rows) ≡ Some row.entry = rw (eq-eqb row.id number.0 (sym same)) refl in
+        let none : None ≡ Some row.entry = f ∙ own in
+        absurd cc
