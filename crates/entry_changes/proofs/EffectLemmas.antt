@@ -1,0 +1,171 @@
+-- Values that are added one after the other fill the attribute as at once, and what changes leave by what they are given.
+use Rattle.std.proofs.Common.{◌≡◌, ◌≢◌, ℕ, suc, ◌+◌, ◌<◌, Bool, true, false, ◌||◌, not, filter, List, [], ◌∷◌, ◌++◌, length, drop, get_or, refl, sym, ap, ◌∙◌, add-one, append_assoc, arith, subst}
+use Rattle.std.specs.Prelude.{◌==◌, if◌then◌else◌}
+use Rattle.std.specs.List.{AllByRecursion, IsDistinct, list_any}
+use Rattle.std.specs.Str.{bytes_eq}
+use Rattle.std.proofs.Math.Seq.{drop-cons}
+use Rattle.std.proofs.lemmas.Bool.{cases_Bool, or_parts, or_from, false_from_ne_true}
+use Rattle.std.proofs.lemmas.Bool.Decides.{nat_tests}
+use Rattle.std.proofs.lemmas.List.{append-nil}
+use Rattle.std.proofs.lemmas.List.Folds.{list_any-append}
+use Rattle.std.proofs.lemmas.Slice.Eq.{bytes_eq-Decides}
+use Rattle.dn_names.specs.Names.{Keyed, TypeAndValue}
+use Rattle.dir_tree.specs.Entries.{Attribute, EntryInformation, values_of, has_key, is_match, IsGoodAttribute, IsGoodAttributes}
+use Rattle.dir_tree.specs.Changes.{put_value, set_in, with_value, with_values, without_value, without_kind}
+use Rattle.dir_tree.proofs.Theorems.{values_of-set_in, good-with_value}
+use Rattle.entry_changes.specs.declared.kind.ChangeKind.TheVariants.{Delete, Replace}
+use Rattle.entry_changes.specs.Changes.{are_none, with_each, without_each, left_by}
+use Rattle.entry_changes.specs.Renaming.{has_pair, gone_among, without_pairs}
+use Rattle.entry_changes.specs.Effects.{has_any_key}
+
+-- the first of the items that are left
+pub next-item : {A : Type 0} (xs : List A) (index : ℕ) (x : A) → index < length xs → x ≡ get_or xs index x → drop index xs ≡ x ∷ drop (index + 1) xs
+next-item xs index x within is = rw add-one (drop-cons xs index x within ∙ ap (λ first. first ∷ drop (suc index) xs) (sym is))
+
+-- no values are there
+pub are_none-length : (values : List Keyed) → are_none values ≡ (length values == 0)
+are_none-length [] = refl
+are_none-length (first ∷ rest) = grind (arith, nat_tests)
+
+pub none_from : (values : List Keyed) → are_none values ≡ true → values ≡ []
+none_from [] e = refl
+none_from (first ∷ rest) e = absurd cc
+
+pub filled_from : (values : List Keyed) → are_none values ≡ false → values ≢ []
+filled_from [] e = absurd cc
+filled_from (first ∷ rest) e = λ none. absurd cc
+
+-- ---- what is left, by whether values are given
+
+pub left_by-delete : (kind : ℕ) (values : List Keyed) (entry : EntryInformation) → are_none values ≡ false
+    → left_by Delete kind values entry ≡ without_each kind values entry
+left_by-delete kind [] entry e = absurd cc
+left_by-delete kind (first ∷ rest) entry e = refl
+
+pub left_by-replace : (kind : ℕ) (values : List Keyed) (entry : EntryInformation) → are_none values ≡ false
+    → left_by Replace kind values entry ≡ with_values kind values entry
+left_by-replace kind [] entry e = absurd cc
+left_by-replace kind (first ∷ rest) entry e = refl
+
+pub left_by-none : (kind : ℕ) (values : List Keyed) (entry : EntryInformation) → are_none values ≡ true
+    → (left_by Delete kind values entry ≡ without_kind kind entry) × (left_by Replace kind values entry ≡ without_kind kind entry)
+left_by-none kind [] entry e = (refl, refl)
+left_by-none kind (first ∷ rest) entry e = absurd cc
+
+-- ---- values that are added
+
+-- a value put last, in terms of what the attribute then has
+put_value-set_in : (kind : ℕ) (value : Keyed) (attributes : List Attribute)
+    → put_value kind value attributes ≡ set_in kind (values_of kind attributes ++ value ∷ []) attributes
+put_value-set_in kind value [] = refl
+put_value-set_in kind value (first ∷ rest) = elim (cases_Bool (kind == first.kind)) [
+  | inl mine ↦ rw mine refl
+  | inr other ↦ rw other (ap (λ later. first ∷ later) (put_value-set_in kind value rest))
+]
+
+set_in-set_in : (kind : ℕ) (values others : List Keyed) (attributes : List Attribute)
+    → set_in kind values (set_in kind others attributes) ≡ set_in kind values attributes
+set_in-set_in kind values others [] = grind (arith, nat_tests)
+set_in-set_in kind values others (first ∷ rest) = grind (arith, nat_tests, set_in-set_in kind values others rest)
+
+-- a value added, where none matches
+with_value-set : (kind : ℕ) (value : Keyed) (entry : EntryInformation) → has_key value.key (values_of kind entry.attributes) ≡ false
+    → with_value kind value entry ≡ with_values kind (values_of kind entry.attributes ++ value ∷ []) entry
+with_value-set kind value entry new =
+    rw new (ap (λ attributes. record entry { attributes = attributes }) (put_value-set_in kind value entry.attributes))
+
+-- one more value, where some were given already
+with_value-more : (kind : ℕ) (value : Keyed) (old : List Keyed) (entry : EntryInformation) → has_key value.key old ≡ false
+    → with_value kind value (with_values kind old entry) ≡ with_values kind (old ++ value ∷ []) entry
+with_value-more kind value old entry new =
+    let there = values_of-set_in kind old entry.attributes in
+    with_value-set kind value (with_values kind old entry) (ap (has_key value.key) there ∙ new)
+    ∙ ap (λ attributes. record entry { attributes = attributes })
+    (set_in-set_in kind (values_of kind (set_in kind old entry.attributes) ++ value ∷ []) old entry.attributes
+    ∙ ap (λ before. set_in kind (before ++ value ∷ []) entry.attributes) there)
+
+-- two keys differ, either way round
+apart_back : (one other : List ℕ) → bytes_eq one other ≡ false → bytes_eq other one ≡ false
+apart_back one other apart =
+    false_from_ne_true (bytes_eq other one) (λ e. let back : bytes_eq one other ≡ true = (bytes_eq-Decides one other).1 (sym ((bytes_eq-Decides other one).0 e)) in absurd cc)
+
+-- values that match none of the old ones, nor one more
+admitted-more : (value : Keyed) (old values : List Keyed) → has_any_key values old ≡ false → AllByRecursion (λ other. is_match value other ≡ false) values
+    → has_any_key values (old ++ value ∷ []) ≡ false
+admitted-more value old [] new apart = refl
+admitted-more value old (first ∷ rest) new apart =
+    let parts = or_parts (has_key first.key old) (has_any_key rest old) new in
+    or_from (has_key first.key (old ++ value ∷ [])) (has_any_key rest (old ++ value ∷ []))
+    (list_any-append (λ (other : Keyed). bytes_eq first.key other.key) old (value ∷ [])
+    ∙ or_from (has_key first.key old) (bytes_eq first.key value.key || false) parts.0
+    (or_from (bytes_eq first.key value.key) false (apart_back value.key first.key apart.0) refl))
+    (admitted-more value old rest parts.1 apart.1)
+
+each-more : (kind : ℕ) (old values : List Keyed) (entry : EntryInformation) → has_any_key values old ≡ false → IsDistinct is_match values
+    → with_each kind values (with_values kind old entry) ≡ with_values kind (old ++ values) entry
+unfolding IsDistinct
+each-more kind old [] entry new distinct = ap (λ all. with_values kind all entry) (sym (append-nil old))
+each-more kind old (value ∷ rest) entry new distinct =
+    let parts = or_parts (has_key value.key old) (has_any_key rest old) new in
+    ap (with_each kind rest) (with_value-more kind value old entry parts.0)
+    ∙ each-more kind (old ++ value ∷ []) rest entry (admitted-more value old rest parts.1 distinct.0) distinct.1
+    ∙ ap (λ all. with_values kind all entry) (append_assoc old (value ∷ []) rest)
+
+-- values that are added one after the other stand behind the old ones
+pub each-set : (kind : ℕ) (values : List Keyed) (entry : EntryInformation) → values ≢ [] → has_any_key values (values_of kind entry.attributes) ≡ false → IsDistinct is_match values
+    → with_each kind values entry ≡ with_values kind (values_of kind entry.attributes ++ values) entry
+unfolding IsDistinct
+each-set kind [] entry filled new distinct = absurd (filled refl)
+each-set kind (value ∷ rest) entry filled new distinct =
+    let old = values_of kind entry.attributes in
+    let parts = or_parts (has_key value.key old) (has_any_key rest old) new in
+    ap (with_each kind rest) (with_value-set kind value entry parts.0)
+    ∙ each-more kind (old ++ value ∷ []) rest entry (admitted-more value old rest parts.1 distinct.0) distinct.1
+    ∙ ap (λ all. with_values kind all entry) (append_assoc old (value ∷ []) rest)
+
+-- the values of a type don't match
+pub distinct-values_of : (kind : ℕ) (attributes : List Attribute) → AllByRecursion IsGoodAttribute attributes → IsDistinct is_match (values_of kind attributes)
+unfolding IsDistinct
+distinct-values_of kind [] good = tt
+distinct-values_of kind (first ∷ rest) good = elim (cases_Bool (kind == first.kind)) [
+  | inl mine ↦ rw mine good.0.distinct
+  | inr other ↦ rw other (distinct-values_of kind rest good.1)
+]
+
+pub good-with_each : (kind : ℕ) (values : List Keyed) (entry : EntryInformation) → IsGoodAttributes entry.attributes
+    → IsGoodAttributes (with_each kind values entry).attributes
+good-with_each kind [] entry good = good
+good-with_each kind (value ∷ rest) entry good = good-with_each kind rest (with_value kind value entry) (good-with_value kind value entry good)
+
+-- so old values and added ones don't
+pub distinct-each : (kind : ℕ) (values : List Keyed) (entry : EntryInformation) → values ≢ [] → has_any_key values (values_of kind entry.attributes) ≡ false → IsDistinct is_match values
+    → IsGoodAttributes entry.attributes → IsDistinct is_match (values_of kind entry.attributes ++ values)
+distinct-each kind values entry filled new distinct good =
+    let all = values_of kind entry.attributes ++ values in
+    let left : IsGoodAttributes (set_in kind all entry.attributes) =
+    subst (λ (left : EntryInformation). IsGoodAttributes left.attributes) (each-set kind values entry filled new distinct) (good-with_each kind values entry good) in
+    subst (IsDistinct is_match) (values_of-set_in kind all entry.attributes) (distinct-values_of kind (set_in kind all entry.attributes) left.good)
+
+pub filled-behind : (old values : List Keyed) → values ≢ [] → old ++ values ≢ []
+filled-behind [] values filled = filled
+filled-behind (first ∷ rest) values filled = λ none. absurd cc
+
+-- ---- pairs that go
+
+-- one pair more, that stays or goes
+pub pairs-stay : (entry : EntryInformation) (old new : List TypeAndValue) (index : ℕ) (pair : TypeAndValue) → drop index old ≡ pair ∷ drop (index + 1) old → has_pair pair new ≡ true
+    → without_pairs entry (gone_among (drop index old) new) ≡ without_pairs entry (gone_among (drop (index + 1) old) new)
+pairs-stay entry old new index pair left there =
+    ap (λ pairs. without_pairs entry (gone_among pairs new)) left
+    ∙ ap (λ (there : Bool). without_pairs entry (if not there then pair ∷ gone_among (drop (index + 1) old) new else gone_among (drop (index + 1) old) new)) there
+
+pub pairs-go : (entry : EntryInformation) (old new : List TypeAndValue) (index : ℕ) (pair : TypeAndValue) → drop index old ≡ pair ∷ drop (index + 1) old → has_pair pair new ≡ false
+    → without_pairs entry (gone_among (drop index old) new) ≡ without_pairs (without_value pair.kind pair.value.key entry) (gone_among (drop (index + 1) old) new)
+unfolding without_pairs
+pairs-go entry old new index pair left there =
+    ap (λ pairs. without_pairs entry (gone_among pairs new)) left
+    ∙ ap (λ (there : Bool). without_pairs entry (if not there then pair ∷ gone_among (drop (index + 1) old) new else gone_among (drop (index + 1) old) new)) there
+
+pub pairs-done : (entry : EntryInformation) (old new : List TypeAndValue) → old ≡ [] → without_pairs entry (gone_among old new) ≡ entry
+unfolding without_pairs
+pairs-done entry old new none = ap (λ old. without_pairs entry (gone_among old new)) none

@@ -1,0 +1,5 @@
+mod Examples
+mod EffectLemmas
+mod RefusalLemmas
+mod GoodLemmas
+pub mod Theorems

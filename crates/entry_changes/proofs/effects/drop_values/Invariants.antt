@@ -1,0 +1,8 @@
+-- The values that are left, taken out of the entry so far, leave what all leave.
+use Rattle.std.proofs.Common.{◌≡◌, drop}
+use Rattle.entry_changes.specs.Changes.{without_each}
+use Rattle.entry_changes.proofs.effects.drop_values.Given as goal
+
+abbrev pub invariant-loop-value : goal.invariant-loop-value
+invariant-loop-value l =
+    without_each l.kind.0 l.values l.initial.entry ≡ without_each l.kind.0 (drop l.value-index l.values) l.entry

@@ -1,0 +1,10 @@
+-- What refuses the values that are left refuses all: none of the others is refused.
+use Rattle.std.proofs.Common.{◌≡◌, map, drop}
+use Rattle.entry_changes.specs.Refusals.{first_some}
+use Rattle.entry_changes.specs.Changes.{comes_refusal}
+use Rattle.entry_changes.proofs.refusing.all_come_refusal.Given as goal
+
+abbrev pub invariant-loop-value : goal.invariant-loop-value
+invariant-loop-value g l =
+    first_some (map (comes_refusal (g.A.Ask.asks l.asker) l.kind.0 l.old) l.values)
+    ≡ first_some (map (comes_refusal (g.A.Ask.asks l.asker) l.kind.0 l.old) (drop l.value-index l.values))

@@ -1,0 +1,21 @@
+//! Changes of one entry that modify and rename requests ask for (RFC 4511 4.6 and 4.9): which are refused, and what the
+//! others leave of the entry. Neither the tree nor the access control decision is known here.
+#![tactic(auto)]
+
+mod ask;
+mod change;
+mod changing;
+mod effects;
+mod fault;
+mod kind;
+mod laws;
+mod refusing;
+mod renaming;
+
+pub use ask::Ask;
+pub use change::EntryChange;
+pub use changing::change_entry;
+pub use fault::{ChangeFault, NoMemory};
+pub use kind::ChangeKind;
+pub use laws::changes_keep_attributes_good;
+pub use renaming::rename_entry;
