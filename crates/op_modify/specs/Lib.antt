@@ -3,5 +3,5 @@ pub mod ReadChanges
 pub mod Modifying
 pub mod Renames
 -- for the inside of the crate alone
-pub mod Found
+pub mod Asked
 pub mod Steps

@@ -1,31 +1,28 @@
 //! What is asked of one entry.
 
-ghost use Rattle.std.specs.Prelude.{◌≡◌, Some};
-ghost use Rattle.dir_tree.specs.Numbered.{entry_of, entries_of};
-ghost use Rattle.acdf_filters.specs.Asking.{protected_of};
-ghost use Rattle.acdf_filters.specs.Granted.{granted};
-ghost use Rattle.op_modify.specs.Found.{IsFound, found-prop};
+ghost use Rattle.op_modify.specs.Asked.{granted_at};
 
 use acdf_filters::Item;
 use acdf_lists::Dir;
 use aci_item::Permission;
+use dir_tree::EntryNo;
 use entry_changes::Ask;
-use op_asking::{Asking, Target};
+use op_asking::Asking;
 
-/// A requester asks of one entry of a directory.
+/// A requester asks of the entry of a number.
 #[derive(Drop)]
-pub(crate) struct TargetAsker<'a, 'b, D: Dir> {
+pub(crate) struct EntryAsker<'a, 'b, D: Dir> {
     pub(crate) asking: &'b Asking<'a, D>,
-    pub(crate) target: Target<'b>,
-    ghost found: { IsFound (D.rows asking.now.dir.now) target.number.0 target.entry.now }
-        by { found-prop (D.rows asking.now.dir.now) target.number.0 target.entry.now },
+    pub(crate) number: EntryNo,
 }
 
-impl<'a, 'b, D: Dir> Ask for TargetAsker<'a, 'b, D> {
-    ghost asks = { λ asker. granted (entries_of (D.rows asker.asking.now.dir.now)) asker.asking.now.who.now
-        asker.target.entry.now };
+impl<'a, 'b, D: Dir> Ask for EntryAsker<'a, 'b, D> {
+    ghost asks = { λ asker. granted_at (D.rows asker.asking.now.dir.now) asker.asking.now.who.now asker.number.0 };
 
     fn asks(&self, item: Item<'_>, permission: Permission) -> bool {
-        self.asking.allows(self.target, item, permission)
+        let asking = self.asking;
+        asking
+            .dir
+            .decide(asking.who, asking.known, self.number, item, permission)
     }
 }

@@ -10,7 +10,7 @@ ghost use Rattle.op_modify.specs.ReadChanges.{read_changes};
 ghost use Rattle.op_modify.specs.Modifying.{modified_as, modified_target, modified_by, modified_named, modified};
 ghost use Rattle.op_modify.specs.Steps.{IsChecked};
 
-use crate::asker::TargetAsker;
+use crate::asker::EntryAsker;
 use crate::reading::read_changes;
 use crate::replacing::{Checked, make, rule_refusal};
 use acdf_filters::{Item, Requester};
@@ -56,7 +56,10 @@ fn check_changes<D: Dir>(
         target.entry.entry.now changes.items))
         (D.rows asking.now.dir.now) checked) }
 {
-    let asker = TargetAsker { asking, target };
+    let asker = EntryAsker {
+        asking,
+        number: target.number,
+    };
     match change_entry(alloc, &asker, target.entry, changes) {
         Ok(left) => check_left(alloc, asking, target, left),
         Err(ChangeFault::Refused(code)) => Ok(Checked::Refused(result_of(alloc, code))),
