@@ -1,0 +1,79 @@
+-- What a call did is what the definition says.
+use Rattle.std.proofs.Common.{◌≡◌, ◌≢◌, ℕ, Bool, true, false, List, [], ◌∷◌, length, Option, Some, None, Result, Ok, Err, if◌then◌else◌, refl, sym, ap, ◌∙◌, arith}
+use Rattle.std.specs.Option.{option_map_or}
+use Rattle.std.specs.Result.{result_ok}
+use Rattle.dn_names.specs.Names.{RdnSequence}
+use Rattle.dn_names.specs.declared.error.BadName.{BadName}
+use Rattle.dn_names.specs.NameText.{read_name}
+use Rattle.dir_tree.specs.Entries.{EntryInformation}
+use Rattle.dir_tree.specs.Trees.{named_in, put_in, taken_out}
+use Rattle.dir_tree.specs.Numbered.{Numbered, entries_of, entry_of}
+use Rattle.aci_item.specs.declared.permission.Permission.{Permission}
+use Rattle.acdf_filters.specs.declared.asking.Requester.{Requester}
+use Rattle.acdf_filters.specs.Asking.{Protected}
+use Rattle.acdf_filters.specs.Granted.{granted}
+use Rattle.ldap_msg.specs.declared.operations.ResultCode.TheVariants as code
+use Rattle.ldap_msg.specs.declared.kinds.Change.{Change}
+use Rattle.ldap_msg.specs.declared.kinds.LdapResult.{LdapResult}
+use Rattle.ldap_msg.specs.declared.kinds.ModifyRequest.{ModifyRequest}
+use Rattle.read_model.specs.Views.{result_of}
+use Rattle.op_update.specs.Updates.{Changed, IsChanged, refused, unless}
+use Rattle.op_modify.specs.Asked.{granted_at}
+use Rattle.op_modify.specs.ReadChanges.{read_changes}
+use Rattle.op_modify.specs.Modifying.{modified_by, modified_named, modified}
+use Rattle.op_modify.specs.Steps.{IsInPlace}
+
+-- a refusal, and a change that is made
+pub changed-refused : (changed : Changed) (entries : List EntryInformation) (refusal ended : LdapResult) → changed ≡ refused entries ended → refusal ≡ ended → IsChanged changed (Some refusal) entries
+changed-refused changed entries refusal ended is same = record {
+  refused = ap (λ (refusal : LdapResult). Some refusal) same ∙ sym (ap (λ (changed : Changed). changed.refusal) is);
+  left = sym (ap (λ (changed : Changed). changed.entries) is);
+}
+
+pub changed-done : (changed : Changed) (before after entries : List EntryInformation) → changed ≡ unless None before after → entries ≡ after → IsChanged changed None entries
+changed-done changed before after entries is same = record {
+  refused = sym (ap (λ (changed : Changed). changed.refusal) is);
+  left = same ∙ sym (ap (λ (changed : Changed). changed.entries) is);
+}
+
+pub changed-like : (one other : Changed) (refusal : Option LdapResult) (entries : List EntryInformation) → other ≡ one → IsChanged one refusal entries → IsChanged other refusal entries
+changed-like one other refusal entries same is = record {
+  refused = is.refused ∙ sym (ap (λ (changed : Changed). changed.refusal) same);
+  left = is.left ∙ sym (ap (λ (changed : Changed). changed.entries) same);
+}
+
+-- the entry takes the target's place
+pub placed : (changed : Changed) (rows : List Numbered) (id : ℕ) (target entry : EntryInformation) → entry_of id rows ≡ Some target → changed ≡ unless None (entries_of rows) (put_in entry (taken_out target.name (entries_of rows)))
+    → IsInPlace changed rows id entry
+placed changed rows id target entry found is = record { target = target; found = found; leaves = is }
+
+-- what is asked of the target's number is asked of the target
+pub granted_at-found : (rows : List Numbered) (who : Requester) (id : ℕ) (target : EntryInformation) → entry_of id rows ≡ Some target → granted_at rows who id ≡ granted (entries_of rows) who target
+granted_at-found rows who id target found =
+    ap (λ (found : Option EntryInformation) (item : Protected) (permission : Permission). option_map_or (λ entry. granted (entries_of rows) who entry item permission) found false) found
+
+-- ---- modifies, by what the name is
+
+pub modified-bad : (entries : List EntryInformation) (who : Requester) (request : ModifyRequest) → None ≡ result_ok (read_name request.name) → modified entries who request ≡ refused entries (result_of code.InvalidDnSyntax)
+unfolding modified
+modified-bad entries who request e = by (read_name request.name) e
+  where
+    by : (name : Result RdnSequence BadName) → None ≡ result_ok name → modified_named entries who request.changes name ≡ refused entries (result_of code.InvalidDnSyntax)
+    by (Ok name) e = absurd cc
+    by (Err bad) e = refl
+
+pub modified-read : (entries : List EntryInformation) (who : Requester) (request : ModifyRequest) (found : RdnSequence) → Some found ≡ result_ok (read_name request.name) → modified entries who request ≡ modified_named entries who request.changes (Ok found)
+unfolding modified
+modified-read entries who request found e = by (read_name request.name) e
+  where
+    by : (name : Result RdnSequence BadName) → Some found ≡ result_ok name → modified_named entries who request.changes name ≡ modified_named entries who request.changes (Ok found)
+    by (Ok name) e = (let same : found ≡ name = cc in ap (λ (name : RdnSequence). modified_named entries who request.changes (Ok name)) (sym same))
+    by (Err bad) e = absurd cc
+
+pub modified-root : (entries : List EntryInformation) (who : Requester) (given : List Change) (name : RdnSequence) → length name ≡ 0 → modified_named entries who given (Ok name) ≡ refused entries (result_of code.UnwillingToPerform)
+modified-root entries who given [] e = refl
+modified-root entries who given (rdn ∷ rdns) e = absurd (omega arith)
+
+pub modified-entry : (entries : List EntryInformation) (who : Requester) (given : List Change) (name : RdnSequence) → length name ≢ 0 → modified_named entries who given (Ok name) ≡ modified_by entries who name (read_changes given)
+modified-entry entries who given [] h = absurd (h refl)
+modified-entry entries who given (rdn ∷ rdns) h = refl

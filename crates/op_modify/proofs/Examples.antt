@@ -1,0 +1,137 @@
+-- The definitions on small cases.
+use Rattle.std.proofs.Common.{◌≡◌, ℕ, true, false, Bool, [], ◌∷◌, List, Option, Some, None, Ok, Err, refl}
+use Rattle.std.specs.Prelude.{codes}
+use Rattle.std.specs.Str.{is_utf8, chars}
+use lib.Utf8.{encode}
+use Rattle.schema_core.specs.Attributes.{attributes}
+use Rattle.match_rules.specs.Keys.{key_of}
+use Rattle.match_rules.specs.Syntaxes.{is_of}
+use Rattle.dn_names.specs.Names.{Keyed, RdnSequence}
+use Rattle.dn_names.specs.NameValues.{value_of}
+use Rattle.dn_names.specs.NameOrder.{name_cmp, is_same}
+use Rattle.dn_names.specs.declared.error.BadName.TheVariants.{TooMany}
+use Rattle.dir_tree.specs.Entries.{EntryInformation}
+use Rattle.acdf_filters.specs.declared.asking.Requester.{Requester}
+use Rattle.entry_changes.specs.declared.kind.ChangeKind.TheVariants as kind
+use Rattle.ldap_msg.specs.declared.operations.ResultCode.TheVariants as code
+use Rattle.ldap_msg.specs.declared.kinds.Change.{Change}
+use Rattle.read_model.specs.Views.{result_of}
+use Rattle.op_update.specs.NewEntries.{read_values, repeats}
+use Rattle.op_update.specs.Updates.{refused}
+use Rattle.op_modify.specs.ReadChanges.{is_no_change, change_of, read_each, read_changes}
+use Rattle.op_modify.specs.Modifying.{modified_as, modified_named}
+use Rattle.op_modify.specs.Renames.{moves, is_unwilling, above_in, new_name, taken_refusal, other_named, renamed_by}
+
+-- a value whose key is its octets, and one spelled in capitals
+plain_value : List ℕ → Keyed
+plain_value octets = record { octets = octets; key = octets }
+
+spelled_value : List ℕ → List ℕ → Keyed
+spelled_value octets key = record { octets = octets; key = key }
+
+-- dc=A, and ou=b and ou=c below it
+root : RdnSequence
+root = (record { kind = 25; value = spelled_value (codes "A") (codes "a") } ∷ []) ∷ []
+
+below : List ℕ → RdnSequence
+below octets = (record { kind = 25; value = plain_value (codes "a") } ∷ []) ∷ (record { kind = 9; value = plain_value octets } ∷ []) ∷ []
+
+bare : RdnSequence → EntryInformation
+bare name = record { name = name; attributes = [] }
+
+-- a change as a request gives it
+given : ℕ → List ℕ → List (List ℕ) → Change
+given operation kind values = record { operation = operation; body = record { kind = kind; values = values } }
+
+-- an add must bring values, and a fourth operation is none; a delete and a replace may come without values
+an_add_of_nothing : is_no_change (given 0 (codes "cn") []) ≡ true
+unfolding given
+an_add_of_nothing = refl
+
+an_increment : is_no_change (given 3 (codes "cn") (codes "1" ∷ [])) ≡ true
+unfolding given
+an_increment = refl
+
+a_delete_of_all : is_no_change (given 1 (codes "cn") []) ≡ false
+unfolding given
+a_delete_of_all = refl
+
+a_replace_by_nothing : is_no_change (given 2 (codes "cn") []) ≡ false
+unfolding given
+a_replace_by_nothing = refl
+
+the_three : (change_of 0 ≡ kind.Add) × (change_of 1 ≡ kind.Delete) × (change_of 2 ≡ kind.Replace)
+the_three = (refl, refl, refl)
+
+-- no change at all is none to be refused
+no_changes : read_changes [] ≡ Ok []
+unfolding read_changes read_each
+no_changes = refl
+
+-- an operation that is none comes before an unknown type that comes earlier
+an_operation_first : read_changes (given 2 (codes "zz") [] ∷ given 3 (codes "cn") [] ∷ []) ≡ Err code.ProtocolError
+unfolding given read_changes
+an_operation_first = refl
+
+an_unknown_type : read_changes (given 2 (codes "zz") [] ∷ []) ≡ Err code.UndefinedAttributeType
+unfolding given read_changes read_each attributes
+an_unknown_type = refl
+
+-- two values of one change may not match; those of two changes may
+equal_values : read_changes (given 2 (codes "userPassword") (codes "x" ∷ codes "x" ∷ []) ∷ []) ≡ Err code.AttributeOrValueExists
+unfolding given read_changes read_each read_values repeats attributes is_utf8 encode chars value_of key_of is_of
+equal_values = refl
+
+values_of_two_changes : read_changes (given 1 (codes "userPassword") (codes "x" ∷ []) ∷ given 0 (codes "2.5.4.35") (codes "x" ∷ []) ∷ [])
+    ≡ Ok (record { change = kind.Delete; kind = 18; values = plain_value (codes "x") ∷ [] } ∷ record { change = kind.Add; kind = 18; values = plain_value (codes "x") ∷ [] } ∷ [])
+unfolding plain_value given read_changes read_each read_values repeats attributes is_utf8 encode chars value_of key_of is_of
+values_of_two_changes = refl
+
+-- a name that is none, and the empty name
+a_bad_name : (entries : List EntryInformation) (who : Requester) (changes : List Change) → modified_named entries who changes (Err TooMany) ≡ refused entries (result_of code.InvalidDnSyntax)
+a_bad_name entries who changes = refl
+
+the_empty_name : (entries : List EntryInformation) (who : Requester) (changes : List Change) → modified_named entries who changes (Ok []) ≡ refused entries (result_of code.UnwillingToPerform)
+the_empty_name entries who changes = refl
+
+-- a refused change leaves the entries
+a_refused_change : (entries : List EntryInformation) (target : EntryInformation) → modified_as entries target (Err code.NoSuchAttribute) ≡ refused entries (result_of code.NoSuchAttribute)
+a_refused_change entries target = refl
+
+-- what is no rename, and the root's
+no_rename : (entries : List EntryInformation) (who : Requester) → renamed_by entries who None ≡ refused entries (result_of code.InvalidDnSyntax)
+no_rename entries who = refl
+
+the_root : is_unwilling (record { name = []; rdn = root; delete_old = true; superior = None }) ≡ true
+the_root = refl
+
+-- the present superior may be given, in any spelling; another one moves the entry
+no_superior : moves (below (codes "b")) None ≡ false
+no_superior = refl
+
+the_same_superior : moves (below (codes "b")) (Some root) ≡ false
+unfolding root below plain_value spelled_value name_cmp is_same
+the_same_superior = refl
+
+another_superior : moves (below (codes "b")) (Some (below (codes "c"))) ≡ true
+unfolding below plain_value name_cmp is_same
+another_superior = refl
+
+-- the superior's part of the new name is spelled as the superior's own
+the_spelling : new_name (bare root ∷ bare (below (codes "b")) ∷ []) (bare (below (codes "b"))) ((record { kind = 9; value = plain_value (codes "c") } ∷ []) ∷ [])
+    ≡ (record { kind = 25; value = spelled_value (codes "A") (codes "a") } ∷ []) ∷ (record { kind = 9; value = plain_value (codes "c") } ∷ []) ∷ []
+unfolding root below bare plain_value spelled_value name_cmp is_same
+the_spelling = refl
+
+-- a name that is the target's own, in another spelling, is not taken; that of another entry is
+its_own_name : other_named (bare root ∷ bare (below (codes "b")) ∷ []) (bare (below (codes "b")))
+    ((record { kind = 25; value = plain_value (codes "a") } ∷ []) ∷ (record { kind = 9; value = spelled_value (codes "B") (codes "b") } ∷ []) ∷ []) ≡ None
+unfolding root below bare plain_value spelled_value name_cmp is_same
+its_own_name = refl
+
+another_name : other_named (bare root ∷ bare (below (codes "b")) ∷ bare (below (codes "c")) ∷ []) (bare (below (codes "b"))) (below (codes "c")) ≡ Some (bare (below (codes "c")))
+unfolding root below bare plain_value spelled_value name_cmp is_same
+another_name = refl
+
+nobody : (entries : List EntryInformation) (who : Requester) → taken_refusal entries who None ≡ None
+nobody entries who = refl

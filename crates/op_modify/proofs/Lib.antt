@@ -1,0 +1,4 @@
+mod ReadingLemmas
+mod ChangeLemmas
+mod NameLemmas
+mod Examples

@@ -1,0 +1,69 @@
+-- The changes of a request, read one after the other.
+use Rattle.std.proofs.Common.{◌≡◌, ℕ, suc, ◌+◌, ◌<◌, Bool, false, List, [], ◌∷◌, ◌++◌, length, drop, get_or, Result, Ok, Err, refl, sym, ap, ◌∙◌, add-one, append_assoc}
+use Rattle.std.specs.List.{AllByRecursion, IsDistinct, list_any}
+use Rattle.std.proofs.Math.Seq.{drop-cons}
+use Rattle.std.proofs.lemmas.Bool.{or_parts}
+use Rattle.std.proofs.lemmas.List.{append-nil}
+use Rattle.plain_values.specs.Results.{◌>>=◌}
+use Rattle.plain_values.specs.Answers.{IsFaultOf}
+use Rattle.entry_changes.specs.Changes.{Modification}
+use Rattle.ldap_msg.specs.declared.operations.ResultCode.{ResultCode}
+use Rattle.ldap_msg.specs.declared.kinds.Change.{Change}
+use Rattle.op_update.specs.declared.fault.Fault.{Fault}
+use Rattle.op_update.specs.declared.fault.Fault.TheVariants as fault
+use Rattle.op_update.specs.NewEntries.{repeats}
+use Rattle.op_update.specs.Steps.{cause_of}
+use Rattle.op_modify.specs.ReadChanges.{read_change, read_each}
+
+-- the first of the items that are left
+pub next-item : {A : Type 0} (xs : List A) (index : ℕ) (x : A) → index < length xs → x ≡ get_or xs index x → drop index xs ≡ x ∷ drop (index + 1) xs
+next-item xs index x within is = rw add-one (drop-cons xs index x within ∙ ap (λ first. first ∷ drop (suc index) xs) (sym is))
+
+-- items before those of a result
+abbrev pub put_before : {A E : Type 0} → List A → Result (List A) E → Result (List A) E
+put_before done (Ok left) = Ok (done ++ left)
+put_before done (Err fault) = Err fault
+
+pub before-none : {A E : Type 0} (result : Result (List A) E) → result ≡ put_before [] result
+before-none (Ok left) = refl
+before-none (Err fault) = refl
+
+before-more : {A E : Type 0} (done : List A) (x : A) (result : Result (List A) E) → put_before done (result >>= λ left. Ok (x ∷ left)) ≡ put_before (done ++ x ∷ []) result
+before-more done x (Ok left) = ap (λ items. Ok items) (sym (append_assoc done (x ∷ []) left))
+before-more done x (Err fault) = refl
+
+-- one change more
+pub changes-step : (done : List Modification) (given : List Change) (index : ℕ) (item : Change) (change : Modification) → drop index given ≡ item ∷ drop (index + 1) given → read_change item ≡ Ok change
+    → put_before done (read_each (drop index given)) ≡ put_before (done ++ change ∷ []) (read_each (drop (index + 1) given))
+unfolding read_each
+changes-step done given index item change left good =
+    ap (λ given. put_before done (read_each given)) left
+    ∙ ap (λ first. put_before done (first >>= λ change. read_each (drop (index + 1) given) >>= λ changes. Ok (change ∷ changes))) good
+    ∙ before-more done change (read_each (drop (index + 1) given))
+
+-- one that is none decides
+changes-stop : (done : List Modification) (given : List Change) (index : ℕ) (item : Change) (code : ResultCode) → drop index given ≡ item ∷ drop (index + 1) given → read_change item ≡ Err code
+    → put_before done (read_each (drop index given)) ≡ Err code
+unfolding read_each
+changes-stop done given index item code left bad =
+    ap (λ given. put_before done (read_each given)) left
+    ∙ ap (λ first. put_before done (first >>= λ change. read_each (drop (index + 1) given) >>= λ changes. Ok (change ∷ changes))) bad
+
+pub changes-fault : (done : List Modification) (given : List Change) (index : ℕ) (item : Change) (all : Result (List Modification) ResultCode) (bad : Fault)
+    → drop index given ≡ item ∷ drop (index + 1) given → all ≡ put_before done (read_each (drop index given)) → IsFaultOf (cause_of bad) (read_change item) → IsFaultOf (cause_of bad) all
+changes-fault done given index item all fault.NoMemory left is says = tt
+changes-fault done given index item all (fault.Refused code) left is says = is ∙ changes-stop done given index item code left says
+
+pub changes-done : (done : List Modification) (given : List Change) → given ≡ [] → put_before done (read_each given) ≡ Ok done
+unfolding read_each
+changes-done done given none = ap (λ given. put_before done (read_each given)) none ∙ ap (λ items. Ok items) (append-nil done)
+
+-- items of which none comes twice are distinct
+all-false : {A : Type 0} (test : A → Bool) (xs : List A) → list_any test xs ≡ false → AllByRecursion (λ x. test x ≡ false) xs
+all-false test [] e = tt
+all-false test (x ∷ xs) e = (let parts = or_parts (test x) (list_any test xs) e in (parts.0, all-false test xs parts.1))
+
+pub distinct-repeats : {A : Type 0} (same : A → A → Bool) (xs : List A) → repeats same xs ≡ false → IsDistinct same xs
+unfolding repeats IsDistinct
+distinct-repeats same [] e = tt
+distinct-repeats same (x ∷ xs) e = (let parts = or_parts (list_any (same x) xs) (repeats same xs) e in (all-false (same x) xs parts.0, distinct-repeats same xs parts.1))

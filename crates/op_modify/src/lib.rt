@@ -1,0 +1,13 @@
+//! Changes of an entry that requests ask for (RFC 4511 4.6 and 4.9, X.511 11.3 and 11.4), over any directory that takes
+//! decisions: its attributes are modified, or it gets another name.
+#![tactic(auto)]
+
+mod asker;
+mod modifying;
+mod reading;
+mod renames;
+mod renaming;
+mod replacing;
+
+pub use modifying::modify;
+pub use renames::rename;

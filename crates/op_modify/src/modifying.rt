@@ -1,0 +1,189 @@
+//! Modifies.
+
+ghost use Rattle.std.specs.Prelude.{◌≡◌, Some, Ok, IfOk, OnErr};
+ghost use Rattle.dir_tree.specs.Trees.{named_in};
+ghost use Rattle.dir_tree.specs.Numbered.{entry_of, entries_of};
+ghost use Rattle.acdf_filters.specs.Granted.{granted};
+ghost use Rattle.entry_changes.specs.Changes.{changed_by};
+ghost use Rattle.op_update.specs.Updates.{IsChanged};
+ghost use Rattle.op_modify.specs.ReadChanges.{read_changes};
+ghost use Rattle.op_modify.specs.Modifying.{modified_as, modified_target, modified_by, modified_named, modified};
+ghost use Rattle.op_modify.specs.Steps.{IsChecked};
+
+use crate::asker::EntryAsker;
+use crate::reading::read_changes;
+use crate::replacing::{Checked, make, rule_refusal};
+use acdf_filters::{Item, Requester};
+use acdf_lists::Dir;
+use aci_item::Permission;
+use dir_tree::{Entry, NoMemory};
+use dn_names::Dn;
+use entry_changes::{ChangeFault, EntryChange, change_entry};
+use ldap_msg::{Change, LdapResult, ModifyRequest, ResultCode};
+use op_asking::{Asking, Target, find_target, hidden, read_named, result_of};
+use op_update::Fault;
+use std::alloc::{AllocError, Global};
+
+// What comes of the entry that the changes leave.
+fn check_left<D: Dir>(
+    alloc: Global,
+    asking: &Asking<'_, D>,
+    target: Target<'_>,
+    left: Entry,
+) -> Result<Checked, NoMemory>
+    requires found { entry_of target.number.0 (D.rows asking.now.dir.now) ≡ Some target.entry.now }
+    ensures ok { IfOk result (λ checked. IsChecked
+        (modified_as (entries_of (D.rows asking.now.dir.now)) target.entry.entry.now (Ok left))
+        (D.rows asking.now.dir.now) checked) }
+{
+    match rule_refusal(alloc, asking.dir.tree(), target, &left)? {
+        Some(refusal) => Ok(Checked::Refused(refusal)),
+        None => Ok(Checked::Allowed(target.number, left)),
+    }
+}
+
+// What comes of the changes of the target.
+fn check_changes<D: Dir>(
+    alloc: Global,
+    asking: &Asking<'_, D>,
+    target: Target<'_>,
+    changes: Vec<EntryChange>,
+) -> Result<Checked, NoMemory>
+    requires found { entry_of target.number.0 (D.rows asking.now.dir.now) ≡ Some target.entry.now }
+    ensures ok { IfOk result (λ checked. IsChecked
+        (modified_as (entries_of (D.rows asking.now.dir.now)) target.entry.entry.now
+        (changed_by (granted (entries_of (D.rows asking.now.dir.now)) asking.now.who.now target.entry.entry.now)
+        target.entry.entry.now changes.items))
+        (D.rows asking.now.dir.now) checked) }
+{
+    let asker = EntryAsker {
+        asking,
+        number: target.number,
+    };
+    match change_entry(alloc, &asker, target.entry, changes) {
+        Ok(left) => check_left(alloc, asking, target, left),
+        Err(ChangeFault::Refused(code)) => Ok(Checked::Refused(result_of(alloc, code))),
+        Err(ChangeFault::NoMemory) => Err(AllocError),
+    }
+}
+
+// What comes of the changes of the entry that has the name, if there is one.
+fn check_target<D: Dir>(
+    alloc: Global,
+    asking: &Asking<'_, D>,
+    name: &Dn,
+    changes: Vec<EntryChange>,
+) -> Result<Checked, NoMemory>
+    ensures ok { IfOk result (λ checked. IsChecked
+        (modified_target (entries_of (D.rows asking.now.dir.now)) asking.now.who.now name.now changes.items
+        (named_in name.now (entries_of (D.rows asking.now.dir.now))))
+        (D.rows asking.now.dir.now) checked) }
+{
+    let Some(target) = find_target(asking.dir.tree(), name) else {
+        return Ok(Checked::Refused(hidden(alloc, asking, name)?));
+    };
+    if !asking.allows(target, Item::Entry, Permission::Modify) {
+        return Ok(Checked::Refused(hidden(alloc, asking, name)?));
+    }
+    check_changes(alloc, asking, target, changes)
+}
+
+// The same of a directory that isn't asked yet.
+fn check_modify<D: Dir>(
+    alloc: Global,
+    dir: &D,
+    who: &Requester,
+    name: &Dn,
+    changes: Vec<EntryChange>,
+) -> Result<Checked, NoMemory>
+    ensures ok { IfOk result (λ checked. IsChecked
+        (modified_target (entries_of (D.rows dir.now)) who.now name.now changes.items
+        (named_in name.now (entries_of (D.rows dir.now))))
+        (D.rows dir.now) checked) }
+{
+    let known = dir.memberships(alloc, who)?;
+    let asking = Asking {
+        dir,
+        who,
+        known: &known,
+    };
+    check_target(alloc, &asking, name, changes)
+}
+
+// A modify of the entry of the name by these changes.
+fn modify_by<D: Dir>(
+    alloc: Global,
+    dir: &mut D,
+    who: &Requester,
+    name: &Dn,
+    changes: Vec<EntryChange>,
+) -> Result<Option<LdapResult>, NoMemory>
+    ensures ok { IfOk result (λ refusal. IsChanged
+        (modified_by (entries_of (D.rows dir.old)) who.now name.now (Ok changes.items))
+        refusal (entries_of (D.rows dir.new))) }
+    ensures kept { OnErr result (D.rows dir.new ≡ D.rows dir.old) }
+{
+    let checked = check_modify(alloc, dir, who, name, changes)?;
+    make(alloc, dir, checked)
+}
+
+// A modify of the entry of the name by the changes that a request lists.
+fn modify_entry<D: Dir>(
+    alloc: Global,
+    dir: &mut D,
+    who: &Requester,
+    name: &Dn,
+    given: &[Change],
+) -> Result<Option<LdapResult>, NoMemory>
+    ensures ok { IfOk result (λ refusal. IsChanged
+        (modified_by (entries_of (D.rows dir.old)) who.now name.now (read_changes given.now))
+        refusal (entries_of (D.rows dir.new))) }
+    ensures kept { OnErr result (D.rows dir.new ≡ D.rows dir.old) }
+{
+    match read_changes(alloc, given) {
+        Ok(changes) => modify_by(alloc, dir, who, name, changes),
+        Err(Fault::Refused(code)) => Ok(Some(result_of(alloc, code))),
+        Err(Fault::NoMemory) => Err(AllocError),
+    }
+}
+
+// A modify of any name.
+fn modify_named<D: Dir>(
+    alloc: Global,
+    dir: &mut D,
+    who: &Requester,
+    name: &Dn,
+    given: &[Change],
+) -> Result<Option<LdapResult>, NoMemory>
+    ensures ok { IfOk result (λ refusal. IsChanged
+        (modified_named (entries_of (D.rows dir.old)) who.now given.now (Ok name.now))
+        refusal (entries_of (D.rows dir.new))) }
+    ensures kept { OnErr result (D.rows dir.new ≡ D.rows dir.old) }
+{
+    if name.len() == 0 {
+        return Ok(Some(result_of(alloc, ResultCode::UnwillingToPerform)));
+    }
+    modify_entry(alloc, dir, who, name, given)
+}
+
+/// Modifies the entry of the name (RFC 4511 4.6, X.511 11.3) by the request's changes, in their order and all or none:
+/// each must be one that the requester may make, by decisions that are all taken before the first is made, and the entry
+/// that they leave must keep the rules of the directory. None where it was done, and otherwise the result that refuses it,
+/// with the directory as it was: of an entry that may not be modified nothing is said but what is said of one that isn't
+/// there, unless the requester may know of it. The error comes where memory is wanted, and all is then as it was.
+pub fn modify<D: Dir>(
+    alloc: Global,
+    dir: &mut D,
+    who: &Requester,
+    request: &ModifyRequest,
+) -> Result<Option<LdapResult>, NoMemory>
+    ensures ok { IfOk result (λ refusal. IsChanged
+        (modified (entries_of (D.rows dir.old)) who.now request.now)
+        refusal (entries_of (D.rows dir.new))) }
+    ensures kept { OnErr result (entries_of (D.rows dir.new) ≡ entries_of (D.rows dir.old)) }
+{
+    match read_named(alloc, request.name.as_slice())? {
+        Some(name) => modify_named(alloc, dir, who, &name, request.changes.as_slice()),
+        None => Ok(Some(result_of(alloc, ResultCode::InvalidDnSyntax))),
+    }
+}

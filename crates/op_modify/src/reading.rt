@@ -1,0 +1,85 @@
+//! The changes of a modify request, read.
+
+ghost use Rattle.std.specs.Prelude.{◌≡◌};
+ghost use Rattle.std.specs.List.{list_any};
+ghost use Rattle.plain_values.specs.Answers.{Answers};
+ghost use Rattle.op_update.specs.Steps.{cause_of, attribute_of};
+ghost use Rattle.op_modify.specs.ReadChanges.{is_no_change, change_of, change_with, read_change, read_each, read_changes};
+
+use entry_changes::{ChangeKind, EntryChange};
+use ldap_msg::{Change, ResultCode};
+use op_update::{Fault, Given, read_attribute, repeats};
+use std::alloc::Global;
+
+// Whether it is no change that may be asked for.
+fn is_no_change(given: &Change) -> bool
+    ensures exact { result ≡ is_no_change given.now }
+{
+    given.operation > 2 || (given.operation == 0 && given.body.values.is_empty())
+}
+
+// Whether one of them is none.
+fn any_is_no_change(given: &[Change]) -> bool
+    ensures exact { result ≡ list_any is_no_change given.now }
+{
+    given.iter().any(|change| is_no_change(change))
+}
+
+// What the operation's number asks for.
+fn change_of(operation: u8) -> ChangeKind
+    ensures exact { result ≡ change_of operation }
+{
+    if operation == 0 {
+        ChangeKind::Add
+    } else if operation == 1 {
+        ChangeKind::Delete
+    } else {
+        ChangeKind::Replace
+    }
+}
+
+// The change with the values of the attribute, of which no two may match.
+fn change_with(alloc: Global, change: ChangeKind, attribute: Given) -> Result<EntryChange, Fault>
+    ensures exact { Answers (λ change. change) cause_of result (change_with change (attribute_of attribute)) }
+{
+    match repeats(alloc, &attribute.values) {
+        Ok(true) => Err(Fault::Refused(ResultCode::AttributeOrValueExists)),
+        Ok(false) => Ok(EntryChange::new(change, attribute.kind, attribute.values)),
+        Err(_) => Err(Fault::NoMemory),
+    }
+}
+
+// The change that a request lists.
+fn read_change(alloc: Global, given: &Change) -> Result<EntryChange, Fault>
+    ensures exact { Answers (λ change. change) cause_of result (read_change given.now) }
+{
+    match read_attribute(alloc, &given.body) {
+        Ok(attribute) => change_with(alloc, change_of(given.operation), attribute),
+        Err(fault) => Err(fault),
+    }
+}
+
+// The changes, in order.
+fn read_each(alloc: Global, given: &[Change]) -> Result<Vec<EntryChange>, Fault>
+    ensures exact { Answers (λ changes. changes.items) cause_of result (read_each given.now) }
+{
+    let mut changes = Vec::new(alloc);
+    for item in given {
+        match read_change(alloc, item) {
+            Ok(change) => changes.push(change)?,
+            Err(fault) => return Err(fault),
+        }
+    }
+    Ok(changes)
+}
+
+/// The changes of a modify request, in their order: each is one that may be asked for, and then each is read.
+#[tactic(auto, unfolding(crate::specs::ReadChanges::read_changes))]
+pub(crate) fn read_changes(alloc: Global, given: &[Change]) -> Result<Vec<EntryChange>, Fault>
+    ensures exact { Answers (λ changes. changes.items) cause_of result (read_changes given.now) }
+{
+    if any_is_no_change(given) {
+        return Err(Fault::Refused(ResultCode::ProtocolError));
+    }
+    read_each(alloc, given)
+}

@@ -1,0 +1,78 @@
+//! Entries that take another's place.
+
+ghost use Rattle.std.specs.Prelude.{◌≡◌, Some, IfOk, OnOk, OnErr};
+ghost use Rattle.dir_tree.specs.Entries.{EntryInformation};
+ghost use Rattle.dir_tree.specs.Trees.{put_in, taken_out};
+ghost use Rattle.dir_tree.specs.Numbered.{entry_of, entries_of};
+ghost use Rattle.schema_rules.specs.Rules.{broken_rule};
+ghost use Rattle.op_update.specs.Adding.{rule_refusal};
+ghost use Rattle.op_update.specs.Updates.{Changed, IsChanged};
+ghost use Rattle.op_modify.specs.Steps.{IsChecked};
+
+use acdf_lists::Dir;
+use dir_tree::{Entry, EntryNo, NoMemory, Tree};
+use ldap_msg::LdapResult;
+use op_asking::{Target, result_numbered};
+use schema_rules::{Broken, check_entry};
+use std::alloc::{AllocError, Global};
+
+/// What came of the checks of a change.
+#[derive(Drop)]
+pub(crate) enum Checked {
+    /// The change is refused.
+    Refused(LdapResult),
+    /// The entry may take the place of that of the number.
+    Allowed(EntryNo, Entry),
+}
+
+/// The refusal where the entry breaks a rule in the target's place. The error comes where memory is wanted.
+pub(crate) fn rule_refusal(
+    alloc: Global,
+    tree: &Tree,
+    target: Target<'_>,
+    entry: &Entry,
+) -> Result<Option<LdapResult>, NoMemory>
+    requires found { entry_of target.number.0 tree.now ≡ Some target.entry.now }
+    ensures ok { IfOk result (λ refusal. refusal ≡ rule_refusal (broken_rule (Some target.entry.now)
+        (taken_out target.entry.entry.now.name (entries_of tree.now)) entry.now)) }
+{
+    tree.entries_form_a_tree();
+    match check_entry(alloc, tree, Some(target.number), entry) {
+        Ok(()) => Ok(None),
+        Err(Broken::Rule(code)) => Ok(Some(result_numbered(alloc, code))),
+        Err(Broken::NoMemory) => Err(AllocError),
+    }
+}
+
+// Gives the place of the entry of the number to another. After the error, want of memory, the directory is as before.
+fn replace<D: Dir>(alloc: Global, dir: &mut D, number: EntryNo, entry: Entry) -> Result<(), NoMemory>
+    ensures ok { OnOk result ((target : EntryInformation) → entry_of number.0 (D.rows dir.old) ≡ Some target
+        → entries_of (D.rows dir.new) ≡ put_in entry (taken_out target.name (entries_of (D.rows dir.old)))) }
+    ensures kept { OnErr result (D.rows dir.new ≡ D.rows dir.old) }
+{
+    dir.tree().entries_form_a_tree();
+    match dir.replace(alloc, number, entry) {
+        Ok(_entry) => Ok(()),
+        Err(_) => Err(AllocError),
+    }
+}
+
+/// Makes the change that was checked, unless it is refused. The error comes where memory is wanted, and the directory is
+/// as before.
+pub(crate) fn make<D: Dir>(
+    alloc: Global,
+    dir: &mut D,
+    checked: Checked,
+) -> Result<Option<LdapResult>, NoMemory>
+    ensures ok { IfOk result (λ refusal. (changed : Changed) → IsChecked changed (D.rows dir.old) checked
+        → IsChanged changed refusal (entries_of (D.rows dir.new))) }
+    ensures kept { OnErr result (D.rows dir.new ≡ D.rows dir.old) }
+{
+    match checked {
+        Checked::Refused(refusal) => Ok(Some(refusal)),
+        Checked::Allowed(number, entry) => {
+            replace(alloc, dir, number, entry)?;
+            Ok(None)
+        }
+    }
+}
