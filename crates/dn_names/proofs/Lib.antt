@@ -1,3 +1,4 @@
+pub mod BareLemmas
 pub mod MachineOfNames
 pub mod Examples
 pub mod ClassLemmas

@@ -1,10 +1,11 @@
 //! The octets of a value, from its text.
 
-ghost use Rattle.std.specs.Prelude.{◌≡◌, IfOk};
+ghost use Rattle.std.specs.Prelude.{◌≡◌, IfOk, IfSome};
 ghost use Rattle.dn_names.specs.Classes.{class_of, is_hex};
 ghost use Rattle.dn_names.specs.Reading.{without_spaces, hex_value, piece_of, value_octets};
 
 use crate::classes::{Class, classify};
+use plain_values::position_of;
 use std::alloc::{AllocError, Global};
 
 /// Where in a value's text reading is.
@@ -79,6 +80,22 @@ pub(crate) fn skip_spaces(text: &[u8]) -> &[u8]
         rest = after;
     }
     rest
+}
+
+/// The octets that a value's text stands for, within the text, where it has no escape and ends in no space.
+#[tactic(auto, unfolding(crate::specs::Reading::value_octets))]
+pub(crate) fn bare_octets(text: &[u8]) -> Option<&[u8]>
+    ensures exact { IfSome result (λ octets. octets.now ≡ value_octets text.now) }
+{
+    let octets = skip_spaces(text);
+    let len = octets.len();
+    if len == 0 {
+        return Some(octets);
+    }
+    if octets[len - 1] == b' ' || position_of(octets, b'\\') != len {
+        return None;
+    }
+    Some(octets)
 }
 
 /// The octets that a value's text stands for: escapes read, bare spaces at both ends skipped.

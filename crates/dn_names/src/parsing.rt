@@ -15,7 +15,7 @@ use crate::error::BadName;
 use crate::limits::MOST_RDNS;
 use crate::name::{Dn, Pair, Rdn};
 use crate::parts::{count_marks, cut, is_blank};
-use crate::resolve::add;
+use crate::resolve::{add, read_one};
 use crate::scan::fault_place;
 use plain_values::OneOrMany;
 use std::alloc::{AllocError, Global};
@@ -74,8 +74,7 @@ fn read_pairs(alloc: Global, text: &[u8], first: usize) -> Result<Vec<Pair>, Bad
     ensures exact { Answers (λ pairs. pairs.items) cause_of result (rdn_from first [] (rdn_of text.now)) }
     ensures len { IfOk result (λ pairs. vec_len pairs ≡ length (rdn_of text.now)) }
 {
-    // an RDN of one pair is the usual one
-    let mut pairs = Vec::with_capacity(alloc, 1)?;
+    let mut pairs = Vec::with_capacity(alloc, 2)?;
     let mut index = first;
     let mut rest = text;
     'pairs: loop {
@@ -91,6 +90,31 @@ fn read_pairs(alloc: Global, text: &[u8], first: usize) -> Result<Vec<Pair>, Bad
             }
             None => return Ok(pairs),
         }
+    }
+}
+
+// The same as an RDN keeps them.
+fn read_many(alloc: Global, text: &[u8], first: usize) -> Result<OneOrMany<Pair>, BadName>
+    requires { first + length text.now < 2 ^ 64 }
+    ensures exact { Answers (λ pairs. pairs) cause_of result (rdn_from first [] (rdn_of text.now)) }
+    ensures len { IfOk result (λ pairs. length pairs ≡ length (rdn_of text.now)) }
+{
+    match read_pairs(alloc, text, first) {
+        Ok(pairs) => Ok(OneOrMany::from_vec(pairs)),
+        Err(error) => Err(error),
+    }
+}
+
+// The same; an RDN of one pair, which is the usual one, takes no memory of its own.
+fn read_rdn(alloc: Global, text: &[u8], first: usize) -> Result<OneOrMany<Pair>, BadName>
+    requires { first + length text.now < 2 ^ 64 }
+    ensures exact { Answers (λ pairs. pairs) cause_of result (rdn_from first [] (rdn_of text.now)) }
+    ensures len { IfOk result (λ pairs. length pairs ≡ length (rdn_of text.now)) }
+{
+    let (part, after) = cut(text, b'+');
+    match after {
+        Some(_) => read_many(alloc, text, first),
+        None => read_one(alloc, part, first),
     }
 }
 
@@ -115,12 +139,12 @@ fn read_rdns(alloc: Global, text: &[u8]) -> Result<Vec<Rdn>, BadName>
     let mut rest = text;
     'rdns: loop {
         let (part, after) = cut(rest, b',');
-        let pairs = match read_pairs(alloc, part, index) {
+        let pairs = match read_rdn(alloc, part, index) {
             Ok(pairs) => pairs,
             Err(error) => return Err(error),
         };
-        let count = pairs.len();
-        rdns.push(Rc::new(alloc, OneOrMany::from_vec(pairs))?)?;
+        let count = pairs.as_slice().len();
+        rdns.push(Rc::new(alloc, pairs)?)?;
         match after {
             Some(others) => {
                 index += count;

@@ -7,6 +7,7 @@ ghost use Rattle.dn_names.specs.PathReading.{after_key};
 
 use crate::name::{Pair, Rdn};
 use crate::short::front;
+use plain_values::position_of;
 use std::alloc::{AllocError, Global};
 
 // The octet behind the last pair of an RDN, and that before a pair.
@@ -58,8 +59,20 @@ fn put_pair(out: &mut Vec<u8>, pair: &Pair) -> Result<(), AllocError>
     put_escaped(out, pair.value.key())
 }
 
-// Puts the octets of a key with their end at the end.
+// Puts the octets of a key with their end at the end. Nearly no key has an octet 00.
 fn put_escaped(out: &mut Vec<u8>, octets: &[u8]) -> Result<(), AllocError>
+    ensures ok { OnOk result (out.new.items ≡ out.old.items ++ escape octets.now) }
+{
+    if position_of(octets, 0) != octets.len() {
+        return put_each(out, octets);
+    }
+    out.extend_from_slice(octets)?;
+    out.extend_from_slice(&[0, 0])?;
+    Ok(())
+}
+
+// The same, octet by octet.
+fn put_each(out: &mut Vec<u8>, octets: &[u8]) -> Result<(), AllocError>
     ensures ok { OnOk result (out.new.items ≡ out.old.items ++ escape octets.now) }
 {
     for octet in octets {

@@ -1,7 +1,9 @@
 //! Whether octets are in the outer grammar of names, and where they leave it.
 
-ghost use Rattle.std.specs.Prelude.{◌≡◌, ◌≤◌, IfSome, length};
-ghost use Rattle.dn_names.specs.Modes.{text_fault};
+ghost use Rattle.std.specs.Prelude.{◌≡◌, Some, IsTrue};
+ghost use Rattle.dn_names.specs.declared.modes.Mode.TheVariants.{InValue};
+ghost use Rattle.dn_names.specs.Classes.{class_of};
+ghost use Rattle.dn_names.specs.Modes.{in_value_of, step_of, text_fault};
 
 use crate::classes::classify;
 use crate::modes::{Mode, ends, step};
@@ -13,10 +15,28 @@ pub(crate) fn fault_place(octets: &[u8]) -> Option<usize>
 {
     let mut mode = Mode::Start;
     for (place, octet) in octets.iter().enumerate() {
-        match step(mode, classify(*octet)) {
+        match next_mode(mode, *octet) {
             Some(next) => mode = next,
             None => return Some(place),
         }
     }
     if ends(mode) { None } else { Some(octets.len()) }
+}
+
+// The state after an octet, or None where it may not follow. What most values are made of is not looked up.
+fn next_mode(mode: Mode, octet: u8) -> Option<Mode>
+    ensures exact { result ≡ step_of mode (class_of octet) }
+{
+    match mode {
+        Mode::InValue if is_usual(octet) => Some(Mode::InValue),
+        _ => step(mode, classify(octet)),
+    }
+}
+
+// Whether the octet is a letter, a digit or another that stands for itself in a value; not of each such octet.
+#[tactic(auto, unfolding(crate::specs::Classes::class_of))]
+fn is_usual(octet: u8) -> bool
+    ensures stays { IsTrue result → in_value_of (class_of octet) ≡ Some InValue }
+{
+    matches!(octet, b'-'..=b':' | b'?'..=b'[' | b']'..=255)
 }

@@ -1,6 +1,6 @@
 //! The octets and the key of a value in one text, which takes no memory beside its own where it is short.
 
-ghost use Rattle.std.specs.Prelude.{◌≡◌, ◌↔◌, ◌≤◌, ◌<◌, true, length, take, IfOk, IsTrue};
+ghost use Rattle.std.specs.Prelude.{◌≡◌, ◌↔◌, ◌≤◌, ◌<◌, ◌+◌, ◌++◌, true, length, take, IfOk, IsTrue};
 ghost use Rattle.dn_names.specs.Texts.{room, text_in, is_short};
 
 use std::alloc::{AllocError, Global};
@@ -45,6 +45,34 @@ impl Text {
         Text {
             kept: form_of(octets, split),
         }
+    }
+
+    /// The text of octets and of others behind them, split at this place. The error comes where a long one gets no
+    /// memory.
+    pub(crate) fn from_slices(
+        alloc: Global,
+        octets: &[u8],
+        more: &[u8],
+        split: usize,
+    ) -> Result<Text, AllocError>
+        ensures ok { IfOk result (λ text. text ≡ record { octets = octets.now ++ more.now; split = split }) }
+    {
+        if let Ok(short) = u8::try_from(split) {
+            if octets.len() <= ROOM && more.len() <= ROOM - octets.len() {
+                return Ok(Text {
+                    kept: joined_form(octets, more, short),
+                });
+            }
+        }
+        let octets = append(octets.to_vec(alloc)?, more)?;
+        Ok(Text::from_vec(octets, split))
+    }
+
+    /// The text of octets that others keep, split at this place.
+    pub(crate) fn from_slice(alloc: Global, octets: &[u8], split: usize) -> Result<Text, AllocError>
+        ensures ok { IfOk result (λ text. text ≡ record { octets = octets.now; split = split }) }
+    {
+        Text::from_slices(alloc, octets, &[], split)
     }
 
     /// The octets.
@@ -121,6 +149,28 @@ fn short_form(octets: &[u8], split: u8) -> Form
     }
 }
 
+// The short form of octets and of others behind them.
+fn joined_form(octets: &[u8], more: &[u8], split: u8) -> Form
+    requires fits { length octets.now + length more.now ≤ room }
+    ensures exact { text_in result ≡ record { octets = octets.now ++ more.now; split = split } }
+{
+    Form::Short {
+        len: (octets.len() + more.len()) as u8,
+        split,
+        octets: padded_both(octets, more),
+    }
+}
+
+// The octets, others behind them, and zeros behind these.
+fn padded_both(octets: &[u8], more: &[u8]) -> [u8; ROOM]
+    requires fits { length octets.now + length more.now ≤ room }
+    ensures front { take (length octets.now + length more.now) result ≡ octets.now ++ more.now }
+{
+    let mut room = padded(octets);
+    room[octets.len()..octets.len() + more.len()].copy_from_slice(more);
+    room
+}
+
 // The octets, and zeros behind them.
 fn padded(octets: &[u8]) -> [u8; ROOM]
     requires fits { length octets.now ≤ room }
@@ -129,4 +179,14 @@ fn padded(octets: &[u8]) -> [u8; ROOM]
     let mut room = [0; ROOM];
     room[..octets.len()].copy_from_slice(octets);
     room
+}
+
+/// The octets and then others.
+pub(crate) fn append(octets: Vec<u8>, more: &[u8]) -> Result<Vec<u8>, AllocError>
+    ensures ok { IfOk result (λ text. text.items ≡ octets.items ++ more.now) }
+{
+    let mut text = octets;
+    text.reserve_exact(more.len())?;
+    text.extend_from_slice(more)?;
+    Ok(text)
 }

@@ -3,7 +3,7 @@
 ghost use Rattle.std.specs.Prelude.{◌≡◌, ◌++◌, IfOk};
 ghost use Rattle.dn_names.specs.Pieces.{split_of};
 
-use crate::short::{Text, front};
+use crate::short::{Text, append, front};
 use std::alloc::{AllocError, Global};
 use std::marker::Model;
 
@@ -37,6 +37,27 @@ impl Value {
         } else {
             Value::from_two(octets, &key)
         }
+    }
+
+    /// The same of octets and a key that others keep; short ones take no memory.
+    pub(crate) fn from_slices(alloc: Global, octets: &[u8], key: &[u8]) -> Result<Value, AllocError>
+        ensures ok { IfOk result (λ value. value ≡ record { octets = octets.now; key = key.now }) }
+    {
+        if octets == key {
+            Value::from_slice(alloc, octets)
+        } else {
+            let split = split_of(octets, key)?;
+            let text = Text::from_slices(alloc, octets, key, split)?;
+            Ok(Value { text })
+        }
+    }
+
+    // The value whose key is its octets, which others keep.
+    fn from_slice(alloc: Global, octets: &[u8]) -> Result<Value, AllocError>
+        ensures ok { IfOk result (λ value. value ≡ record { octets = octets.now; key = octets.now }) }
+    {
+        let text = Text::from_slice(alloc, octets, octets.len())?;
+        Ok(Value { text })
     }
 
     // The value whose key is its octets.
@@ -100,14 +121,4 @@ fn split_of(octets: &[u8], key: &[u8]) -> Result<usize, AllocError>
         Some(past) => Ok(past),
         None => Err(AllocError),
     }
-}
-
-// The octets and then the key.
-fn append(octets: Vec<u8>, key: &[u8]) -> Result<Vec<u8>, AllocError>
-    ensures ok { IfOk result (λ text. text.items ≡ octets.items ++ key.now) }
-{
-    let mut text = octets;
-    text.reserve_exact(key.len())?;
-    text.extend_from_slice(key)?;
-    Ok(text)
 }

@@ -10,13 +10,14 @@ rdns-preserved c =
     let l = c.rdns in
     let is = rw c.in-Some.is at c.cut.ensures.exact in
     let fits = rw c.in-Some.is at c.cut.ensures.fits in
-    let count : c.len-count.result ≡ length (rdn_of c.cut.result.0.now) = c.len-count.ensures ∙ c.in-Ok.ensures.len in
-    let more = rdns_at-more l.index l.rest.now c.cut.result.0.now (rdns_of l.rdns.items) c.in-Some.others.now c.in-Ok.pairs.items is c.in-Ok.ensures.exact in
-    let put = rw (c.in_ok-new.ensures.ok, c.from_vec.ensures.exact) at (rdns_of-push l.rdns.items c.in_ok-new.field-0 c.push.new.self.items c.in_ok-push.ensures.items) in
+    let size = length c.as_slice-count.result.now in
+    let count : size ≡ length (rdn_of c.cut.result.0.now) = ap length c.as_slice-count.ensures.exact ∙ c.in-Ok.ensures.len in
+    let more = rdns_at-more l.index l.rest.now c.cut.result.0.now (rdns_of l.rdns.items) c.in-Some.others.now c.in-Ok.pairs is c.in-Ok.ensures.exact in
+    let put = rw c.in_ok-new.ensures.ok at (rdns_of-push l.rdns.items c.in_ok-new.field-0 c.push.new.self.items c.in_ok-push.ensures.items) in
     record {
       exact =
-          ap (λ t. after_rdns t (rdns_at (l.index + c.len-count.result) c.in-Some.others.now)) put
-          ∙ ap (λ n. after_rdns (rdns_of l.rdns.items ++ c.in-Ok.pairs.items ∷ []) (rdns_at (l.index + n) c.in-Some.others.now)) count
+          ap (λ t. after_rdns t (rdns_at (l.index + size) c.in-Some.others.now)) put
+          ∙ ap (λ n. after_rdns (rdns_of l.rdns.items ++ c.in-Ok.pairs ∷ []) (rdns_at (l.index + n) c.in-Some.others.now)) count
           ∙ sym more ∙ l.invariant.exact;
       fits = omega (arith, l.invariant.fits, fits, count, length-rdn_of c.cut.result.0.now);
     }

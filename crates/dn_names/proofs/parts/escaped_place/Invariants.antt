@@ -1,7 +1,7 @@
 -- No mark has come, so the place of the first is counted from here on.
 use Rattle.std.proofs.Common.{◌≡◌, ◌+◌, false, drop}
 use Rattle.dn_names.specs.Reading.{mark_from}
-use Rattle.dn_names.proofs.parts.mark_place.Given as goal
+use Rattle.dn_names.proofs.parts.escaped_place.Given as goal
 
 abbrev pub invariant-loop-place : goal.invariant-loop-place
 invariant-loop-place l = l.place + mark_from l.mark l.escaped (drop l.place l.text) ≡ mark_from l.mark false l.text
