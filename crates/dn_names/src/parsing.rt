@@ -181,10 +181,14 @@ fn from_last(alloc: Global, rdns: Vec<Rdn>) -> Result<Dn, AllocError>
 }
 
 // Whether a text of the outer grammar has more than 64 RDNs.
-#[tactic(auto, unfolding(crate::specs::Reading::written_of))]
+#[tactic(auto, using(crate::proofs::ResolveLemmas::few_rdns), unfolding(crate::specs::Reading::written_of))]
 fn has_too_many(text: &[u8]) -> bool
     ensures exact { result ≡ nat_lt most_rdns (length (written_of text.now)) }
 {
+    // nor is there room for so many in a short text
+    if text.len() < MOST_RDNS {
+        return false;
+    }
     !is_blank(text) && count_marks(text, b',') >= MOST_RDNS
 }
 
