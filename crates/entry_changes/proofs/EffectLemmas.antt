@@ -1,5 +1,5 @@
 -- Values that are added one after the other fill the attribute as at once, and what changes leave by what they are given.
-use Rattle.std.proofs.Common.{◌≡◌, ◌≢◌, ℕ, suc, ◌+◌, ◌<◌, Bool, true, false, ◌||◌, not, filter, List, [], ◌∷◌, ◌++◌, length, drop, get_or, refl, sym, ap, ◌∙◌, add-one, append_assoc, arith, subst}
+use Rattle.std.proofs.Common.{◌≡◌, ◌≢◌, inl, inr, ℕ, suc, ◌+◌, ◌<◌, Bool, true, false, ◌||◌, not, filter, List, [], ◌∷◌, ◌++◌, length, drop, get_or, refl, sym, ap, ◌∙◌, add-one, append_assoc, arith, subst}
 use Rattle.std.specs.Prelude.{◌==◌, if◌then◌else◌}
 use Rattle.std.specs.List.{AllByRecursion, IsDistinct, list_any}
 use Rattle.std.specs.Str.{bytes_eq}
@@ -55,13 +55,18 @@ left_by-none kind (first ∷ rest) entry e = absurd cc
 -- ---- values that are added
 
 -- a value put last, in terms of what the attribute then has
+put_case : (mine : Bool) (kind : ℕ) (value : Keyed) (first : Attribute) (rest : List Attribute)
+    → put_value kind value rest ≡ set_in kind (values_of kind rest ++ value ∷ []) rest
+    → (if mine then record first { values = first.values ++ value ∷ [] } ∷ rest else first ∷ put_value kind value rest)
+    ≡ (if mine then record first { values = (if mine then first.values else values_of kind rest) ++ value ∷ [] } ∷ rest
+    else first ∷ set_in kind ((if mine then first.values else values_of kind rest) ++ value ∷ []) rest)
+put_case true kind value first rest later = refl
+put_case false kind value first rest later = ap (λ attributes. first ∷ attributes) later
+
 put_value-set_in : (kind : ℕ) (value : Keyed) (attributes : List Attribute)
     → put_value kind value attributes ≡ set_in kind (values_of kind attributes ++ value ∷ []) attributes
 put_value-set_in kind value [] = refl
-put_value-set_in kind value (first ∷ rest) = elim (cases_Bool (kind == first.kind)) [
-  | inl mine ↦ rw mine refl
-  | inr other ↦ rw other (ap (λ later. first ∷ later) (put_value-set_in kind value rest))
-]
+put_value-set_in kind value (first ∷ rest) = put_case (kind == first.kind) kind value first rest (put_value-set_in kind value rest)
 
 set_in-set_in : (kind : ℕ) (values others : List Keyed) (attributes : List Attribute)
     → set_in kind values (set_in kind others attributes) ≡ set_in kind values attributes
@@ -153,18 +158,16 @@ filled-behind (first ∷ rest) values filled = λ none. absurd cc
 -- ---- pairs that go
 
 -- one pair more, that stays or goes
-pub pairs-stay : (entry : EntryInformation) (old new : List TypeAndValue) (index : ℕ) (pair : TypeAndValue) → drop index old ≡ pair ∷ drop (index + 1) old → has_pair pair new ≡ true
-    → without_pairs entry (gone_among (drop index old) new) ≡ without_pairs entry (gone_among (drop (index + 1) old) new)
-pairs-stay entry old new index pair left there =
-    ap (λ pairs. without_pairs entry (gone_among pairs new)) left
-    ∙ ap (λ (there : Bool). without_pairs entry (if not there then pair ∷ gone_among (drop (index + 1) old) new else gone_among (drop (index + 1) old) new)) there
-
-pub pairs-go : (entry : EntryInformation) (old new : List TypeAndValue) (index : ℕ) (pair : TypeAndValue) → drop index old ≡ pair ∷ drop (index + 1) old → has_pair pair new ≡ false
-    → without_pairs entry (gone_among (drop index old) new) ≡ without_pairs (without_value pair.kind pair.value.key entry) (gone_among (drop (index + 1) old) new)
+pub pairs-step : (entry : EntryInformation) (old new : List TypeAndValue) (index : ℕ) (pair : TypeAndValue) → drop index old ≡ pair ∷ drop (index + 1) old
+    → without_pairs entry (gone_among (drop index old) new)
+    ≡ without_pairs (if has_pair pair new then entry else without_value pair.kind pair.value.key entry) (gone_among (drop (index + 1) old) new)
 unfolding without_pairs
-pairs-go entry old new index pair left there =
-    ap (λ pairs. without_pairs entry (gone_among pairs new)) left
-    ∙ ap (λ (there : Bool). without_pairs entry (if not there then pair ∷ gone_among (drop (index + 1) old) new else gone_among (drop (index + 1) old) new)) there
+pairs-step entry old new index pair left = ap (λ pairs. without_pairs entry (gone_among pairs new)) left ∙ by (has_pair pair new)
+  where
+    by : (there : Bool) → without_pairs entry (if not there then pair ∷ gone_among (drop (index + 1) old) new else gone_among (drop (index + 1) old) new)
+        ≡ without_pairs (if there then entry else without_value pair.kind pair.value.key entry) (gone_among (drop (index + 1) old) new)
+    by true = refl
+    by false = refl
 
 pub pairs-done : (entry : EntryInformation) (old new : List TypeAndValue) → old ≡ [] → without_pairs entry (gone_among old new) ≡ entry
 unfolding without_pairs
