@@ -1,7 +1,7 @@
--- Values that are added one after the other fill the attribute as at once, and what changes leave by what they are given.
-use Rattle.std.proofs.Common.{◌≡◌, ◌≢◌, inl, inr, ℕ, suc, ◌+◌, ◌<◌, Bool, true, false, ◌||◌, not, filter, List, [], ◌∷◌, ◌++◌, length, drop, get_or, refl, sym, ap, ◌∙◌, add-one, append_assoc, arith, subst}
+-- Values that are added one after the other fill the attribute as at once, and pairs go one by one.
+use Rattle.std.proofs.Common.{◌≡◌, ◌≢◌, inl, inr, ℕ, suc, ◌+◌, ◌<◌, Bool, true, false, ◌||◌, not, List, [], ◌∷◌, ◌++◌, length, drop, get_or, refl, sym, ap, ◌∙◌, add-one, append_assoc, arith, subst}
 use Rattle.std.specs.Prelude.{◌==◌, if◌then◌else◌}
-use Rattle.std.specs.List.{AllByRecursion, IsDistinct, list_any}
+use Rattle.std.specs.List.{AllByRecursion, IsDistinct}
 use Rattle.std.specs.Str.{bytes_eq}
 use Rattle.std.proofs.Math.Seq.{drop-cons}
 use Rattle.std.proofs.lemmas.Bool.{cases_Bool, or_parts, or_from, false_from_ne_true}
@@ -11,10 +11,9 @@ use Rattle.std.proofs.lemmas.List.Folds.{list_any-append}
 use Rattle.std.proofs.lemmas.Slice.Eq.{bytes_eq-Decides}
 use Rattle.dn_names.specs.Names.{Keyed, TypeAndValue}
 use Rattle.dir_tree.specs.Entries.{Attribute, EntryInformation, values_of, has_key, is_match, IsGoodAttribute, IsGoodAttributes}
-use Rattle.dir_tree.specs.Changes.{put_value, set_in, with_value, with_values, without_value, without_kind}
+use Rattle.dir_tree.specs.Changes.{put_value, set_in, with_value, with_values, without_value}
 use Rattle.dir_tree.proofs.Theorems.{values_of-set_in, good-with_value}
-use Rattle.entry_changes.specs.declared.kind.ChangeKind.TheVariants.{Delete, Replace}
-use Rattle.entry_changes.specs.Changes.{are_none, with_each, without_each, left_by}
+use Rattle.entry_changes.specs.Changes.{are_none, with_each}
 use Rattle.entry_changes.specs.Renaming.{has_pair, gone_among, without_pairs}
 use Rattle.entry_changes.specs.Effects.{has_any_key}
 
@@ -22,35 +21,10 @@ use Rattle.entry_changes.specs.Effects.{has_any_key}
 pub next-item : {A : Type 0} (xs : List A) (index : ℕ) (x : A) → index < length xs → x ≡ get_or xs index x → drop index xs ≡ x ∷ drop (index + 1) xs
 next-item xs index x within is = rw add-one (drop-cons xs index x within ∙ ap (λ first. first ∷ drop (suc index) xs) (sym is))
 
--- no values are there
-pub are_none-length : (values : List Keyed) → are_none values ≡ (length values == 0)
-are_none-length [] = refl
-are_none-length (first ∷ rest) = grind (arith, nat_tests)
-
-pub none_from : (values : List Keyed) → are_none values ≡ true → values ≡ []
-none_from [] e = refl
-none_from (first ∷ rest) e = absurd cc
-
+-- values are there
 pub filled_from : (values : List Keyed) → are_none values ≡ false → values ≢ []
 filled_from [] e = absurd cc
 filled_from (first ∷ rest) e = λ none. absurd cc
-
--- ---- what is left, by whether values are given
-
-pub left_by-delete : (kind : ℕ) (values : List Keyed) (entry : EntryInformation) → are_none values ≡ false
-    → left_by Delete kind values entry ≡ without_each kind values entry
-left_by-delete kind [] entry e = absurd cc
-left_by-delete kind (first ∷ rest) entry e = refl
-
-pub left_by-replace : (kind : ℕ) (values : List Keyed) (entry : EntryInformation) → are_none values ≡ false
-    → left_by Replace kind values entry ≡ with_values kind values entry
-left_by-replace kind [] entry e = absurd cc
-left_by-replace kind (first ∷ rest) entry e = refl
-
-pub left_by-none : (kind : ℕ) (values : List Keyed) (entry : EntryInformation) → are_none values ≡ true
-    → (left_by Delete kind values entry ≡ without_kind kind entry) × (left_by Replace kind values entry ≡ without_kind kind entry)
-left_by-none kind [] entry e = (refl, refl)
-left_by-none kind (first ∷ rest) entry e = absurd cc
 
 -- ---- values that are added
 
@@ -150,10 +124,6 @@ distinct-each kind values entry filled new distinct good =
     let left : IsGoodAttributes (set_in kind all entry.attributes) =
     subst (λ (left : EntryInformation). IsGoodAttributes left.attributes) (each-set kind values entry filled new distinct) (good-with_each kind values entry good) in
     subst (IsDistinct is_match) (values_of-set_in kind all entry.attributes) (distinct-values_of kind (set_in kind all entry.attributes) left.good)
-
-pub filled-behind : (old values : List Keyed) → values ≢ [] → old ++ values ≢ []
-filled-behind [] values filled = filled
-filled-behind (first ∷ rest) values filled = λ none. absurd cc
 
 -- ---- pairs that go
 

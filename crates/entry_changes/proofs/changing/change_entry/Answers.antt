@@ -1,5 +1,5 @@
 -- Changes are made one after the other.
-use Rattle.std.proofs.Common.{sym, ap, ◌∙◌, subst, Result, arith}
+use Rattle.std.proofs.Common.{sym, ◌∙◌, subst, Result, arith}
 use Rattle.std.specs.Vec.Iter.{into_iter_items}
 use Rattle.std.proofs.lemmas.List.{nil_from_length}
 use Rattle.plain_values.specs.Answers.{IsFaultOf}

@@ -1,4 +1,4 @@
-use Rattle.std.proofs.Common.{◌≡◌, map, sym, ◌∙◌}
+use Rattle.std.proofs.Common.{map, sym, ◌∙◌}
 use Rattle.entry_changes.specs.Changes.{goes_refusal, comes_refusal}
 use Rattle.entry_changes.proofs.RefusalLemmas.{first_some-decided, first_some-open}
 use Rattle.entry_changes.proofs.refusing.values_refusal.Goals as goal
