@@ -1,7 +1,7 @@
--- Values that are added one after the other fill the attribute as at once, and what changes leave by what they are given.
-use Rattle.std.proofs.Common.{◌≡◌, ◌≢◌, ℕ, suc, ◌+◌, ◌<◌, Bool, true, false, ◌||◌, not, filter, List, [], ◌∷◌, ◌++◌, length, drop, get_or, refl, sym, ap, ◌∙◌, add-one, append_assoc, arith, subst}
+-- Values that are added one after the other fill the attribute as at once, and pairs go one by one.
+use Rattle.std.proofs.Common.{◌≡◌, ◌≢◌, inl, inr, ℕ, suc, ◌+◌, ◌<◌, Bool, true, false, ◌||◌, not, List, [], ◌∷◌, ◌++◌, length, drop, get_or, refl, sym, ap, ◌∙◌, add-one, append_assoc, arith, subst}
 use Rattle.std.specs.Prelude.{◌==◌, if◌then◌else◌}
-use Rattle.std.specs.List.{AllByRecursion, IsDistinct, list_any}
+use Rattle.std.specs.List.{AllByRecursion, IsDistinct}
 use Rattle.std.specs.Str.{bytes_eq}
 use Rattle.std.proofs.Math.Seq.{drop-cons}
 use Rattle.std.proofs.lemmas.Bool.{cases_Bool, or_parts, or_from, false_from_ne_true}
@@ -11,10 +11,9 @@ use Rattle.std.proofs.lemmas.List.Folds.{list_any-append}
 use Rattle.std.proofs.lemmas.Slice.Eq.{bytes_eq-Decides}
 use Rattle.dn_names.specs.Names.{Keyed, TypeAndValue}
 use Rattle.dir_tree.specs.Entries.{Attribute, EntryInformation, values_of, has_key, is_match, IsGoodAttribute, IsGoodAttributes}
-use Rattle.dir_tree.specs.Changes.{put_value, set_in, with_value, with_values, without_value, without_kind}
+use Rattle.dir_tree.specs.Changes.{put_value, set_in, with_value, with_values, without_value}
 use Rattle.dir_tree.proofs.Theorems.{values_of-set_in, good-with_value}
-use Rattle.entry_changes.specs.declared.kind.ChangeKind.TheVariants.{Delete, Replace}
-use Rattle.entry_changes.specs.Changes.{are_none, with_each, without_each, left_by}
+use Rattle.entry_changes.specs.Changes.{are_none, with_each}
 use Rattle.entry_changes.specs.Renaming.{has_pair, gone_among, without_pairs}
 use Rattle.entry_changes.specs.Effects.{has_any_key}
 
@@ -22,46 +21,26 @@ use Rattle.entry_changes.specs.Effects.{has_any_key}
 pub next-item : {A : Type 0} (xs : List A) (index : ℕ) (x : A) → index < length xs → x ≡ get_or xs index x → drop index xs ≡ x ∷ drop (index + 1) xs
 next-item xs index x within is = rw add-one (drop-cons xs index x within ∙ ap (λ first. first ∷ drop (suc index) xs) (sym is))
 
--- no values are there
-pub are_none-length : (values : List Keyed) → are_none values ≡ (length values == 0)
-are_none-length [] = refl
-are_none-length (first ∷ rest) = grind (arith, nat_tests)
-
-pub none_from : (values : List Keyed) → are_none values ≡ true → values ≡ []
-none_from [] e = refl
-none_from (first ∷ rest) e = absurd cc
-
+-- values are there
 pub filled_from : (values : List Keyed) → are_none values ≡ false → values ≢ []
 filled_from [] e = absurd cc
 filled_from (first ∷ rest) e = λ none. absurd cc
 
--- ---- what is left, by whether values are given
-
-pub left_by-delete : (kind : ℕ) (values : List Keyed) (entry : EntryInformation) → are_none values ≡ false
-    → left_by Delete kind values entry ≡ without_each kind values entry
-left_by-delete kind [] entry e = absurd cc
-left_by-delete kind (first ∷ rest) entry e = refl
-
-pub left_by-replace : (kind : ℕ) (values : List Keyed) (entry : EntryInformation) → are_none values ≡ false
-    → left_by Replace kind values entry ≡ with_values kind values entry
-left_by-replace kind [] entry e = absurd cc
-left_by-replace kind (first ∷ rest) entry e = refl
-
-pub left_by-none : (kind : ℕ) (values : List Keyed) (entry : EntryInformation) → are_none values ≡ true
-    → (left_by Delete kind values entry ≡ without_kind kind entry) × (left_by Replace kind values entry ≡ without_kind kind entry)
-left_by-none kind [] entry e = (refl, refl)
-left_by-none kind (first ∷ rest) entry e = absurd cc
-
 -- ---- values that are added
 
 -- a value put last, in terms of what the attribute then has
+put_case : (mine : Bool) (kind : ℕ) (value : Keyed) (first : Attribute) (rest : List Attribute)
+    → put_value kind value rest ≡ set_in kind (values_of kind rest ++ value ∷ []) rest
+    → (if mine then record first { values = first.values ++ value ∷ [] } ∷ rest else first ∷ put_value kind value rest)
+    ≡ (if mine then record first { values = (if mine then first.values else values_of kind rest) ++ value ∷ [] } ∷ rest
+    else first ∷ set_in kind ((if mine then first.values else values_of kind rest) ++ value ∷ []) rest)
+put_case true kind value first rest later = refl
+put_case false kind value first rest later = ap (λ attributes. first ∷ attributes) later
+
 put_value-set_in : (kind : ℕ) (value : Keyed) (attributes : List Attribute)
     → put_value kind value attributes ≡ set_in kind (values_of kind attributes ++ value ∷ []) attributes
 put_value-set_in kind value [] = refl
-put_value-set_in kind value (first ∷ rest) = elim (cases_Bool (kind == first.kind)) [
-  | inl mine ↦ rw mine refl
-  | inr other ↦ rw other (ap (λ later. first ∷ later) (put_value-set_in kind value rest))
-]
+put_value-set_in kind value (first ∷ rest) = put_case (kind == first.kind) kind value first rest (put_value-set_in kind value rest)
 
 set_in-set_in : (kind : ℕ) (values others : List Keyed) (attributes : List Attribute)
     → set_in kind values (set_in kind others attributes) ≡ set_in kind values attributes
@@ -146,25 +125,19 @@ distinct-each kind values entry filled new distinct good =
     subst (λ (left : EntryInformation). IsGoodAttributes left.attributes) (each-set kind values entry filled new distinct) (good-with_each kind values entry good) in
     subst (IsDistinct is_match) (values_of-set_in kind all entry.attributes) (distinct-values_of kind (set_in kind all entry.attributes) left.good)
 
-pub filled-behind : (old values : List Keyed) → values ≢ [] → old ++ values ≢ []
-filled-behind [] values filled = filled
-filled-behind (first ∷ rest) values filled = λ none. absurd cc
-
 -- ---- pairs that go
 
 -- one pair more, that stays or goes
-pub pairs-stay : (entry : EntryInformation) (old new : List TypeAndValue) (index : ℕ) (pair : TypeAndValue) → drop index old ≡ pair ∷ drop (index + 1) old → has_pair pair new ≡ true
-    → without_pairs entry (gone_among (drop index old) new) ≡ without_pairs entry (gone_among (drop (index + 1) old) new)
-pairs-stay entry old new index pair left there =
-    ap (λ pairs. without_pairs entry (gone_among pairs new)) left
-    ∙ ap (λ (there : Bool). without_pairs entry (if not there then pair ∷ gone_among (drop (index + 1) old) new else gone_among (drop (index + 1) old) new)) there
-
-pub pairs-go : (entry : EntryInformation) (old new : List TypeAndValue) (index : ℕ) (pair : TypeAndValue) → drop index old ≡ pair ∷ drop (index + 1) old → has_pair pair new ≡ false
-    → without_pairs entry (gone_among (drop index old) new) ≡ without_pairs (without_value pair.kind pair.value.key entry) (gone_among (drop (index + 1) old) new)
+pub pairs-step : (entry : EntryInformation) (old new : List TypeAndValue) (index : ℕ) (pair : TypeAndValue) → drop index old ≡ pair ∷ drop (index + 1) old
+    → without_pairs entry (gone_among (drop index old) new)
+    ≡ without_pairs (if has_pair pair new then entry else without_value pair.kind pair.value.key entry) (gone_among (drop (index + 1) old) new)
 unfolding without_pairs
-pairs-go entry old new index pair left there =
-    ap (λ pairs. without_pairs entry (gone_among pairs new)) left
-    ∙ ap (λ (there : Bool). without_pairs entry (if not there then pair ∷ gone_among (drop (index + 1) old) new else gone_among (drop (index + 1) old) new)) there
+pairs-step entry old new index pair left = ap (λ pairs. without_pairs entry (gone_among pairs new)) left ∙ by (has_pair pair new)
+  where
+    by : (there : Bool) → without_pairs entry (if not there then pair ∷ gone_among (drop (index + 1) old) new else gone_among (drop (index + 1) old) new)
+        ≡ without_pairs (if there then entry else without_value pair.kind pair.value.key entry) (gone_among (drop (index + 1) old) new)
+    by true = refl
+    by false = refl
 
 pub pairs-done : (entry : EntryInformation) (old new : List TypeAndValue) → old ≡ [] → without_pairs entry (gone_among old new) ≡ entry
 unfolding without_pairs

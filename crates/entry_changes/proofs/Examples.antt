@@ -6,7 +6,7 @@ use Rattle.dn_names.specs.Names.{Keyed, TypeAndValue, RdnSequence}
 use Rattle.dir_tree.specs.Entries.{EntryInformation, kinds_of, values_of}
 use Rattle.op_write.specs.Loading.{with_pairs}
 use Rattle.aci_item.specs.declared.permission.Permission.TheVariants.{Add, Remove, DiscloseOnError}
-use Rattle.acdf_filters.specs.Asking.{Protected, Entry, Kind, Value}
+use Rattle.acdf_filters.specs.Asking.{Kind, Value}
 use Rattle.ldap_msg.specs.declared.operations.ResultCode.TheVariants as code
 use Rattle.entry_changes.specs.declared.kind.ChangeKind.TheVariants as change_kind
 use Rattle.entry_changes.specs.Refusals.{when, first_some}
@@ -204,22 +204,22 @@ absent_by_values_allowed = refl
 
 -- each is judged by what the earlier ones left
 a_value_moves : changed_by all person (
-  record { change = change_kind.Delete; kind = 11; values = value "a" "a" ∷ [] }
-  ∷ record { change = change_kind.Add; kind = 11; values = value "a" "a" ∷ [] }
-  ∷ []
-) ≡ Ok (record person {
-  attributes = record { kind = 1; values = ann ∷ value "Anna" "anna" ∷ [] } ∷ record { kind = 11; values = value "a" "a" ∷ [] } ∷ [];
-})
+    record { change = change_kind.Delete; kind = 11; values = value "a" "a" ∷ [] }
+    ∷ record { change = change_kind.Add; kind = 11; values = value "a" "a" ∷ [] }
+    ∷ []
+    ) ≡ Ok (record person {
+      attributes = record { kind = 1; values = ann ∷ value "Anna" "anna" ∷ [] } ∷ record { kind = 11; values = value "a" "a" ∷ [] } ∷ [];
+    })
 unfolding changed_by add_refusal delete_refusal
 a_value_moves = refl
 
 -- the first that is refused decides
 the_first_refusal : changed_by all person (
-  record { change = change_kind.Delete; kind = 11; values = [] }
-  ∷ record { change = change_kind.Delete; kind = 11; values = [] }
-  ∷ record { change = change_kind.Add; kind = 1; values = ann ∷ [] }
-  ∷ []
-) ≡ Err code.NoSuchAttribute
+    record { change = change_kind.Delete; kind = 11; values = [] }
+    ∷ record { change = change_kind.Delete; kind = 11; values = [] }
+    ∷ record { change = change_kind.Add; kind = 1; values = ann ∷ [] }
+    ∷ []
+    ) ≡ Err code.NoSuchAttribute
 unfolding changed_by delete_refusal
 the_first_refusal = refl
 

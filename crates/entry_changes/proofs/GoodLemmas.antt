@@ -1,6 +1,6 @@
 -- Changes and renames leave good attributes, and the name that is wanted.
-use Rattle.std.proofs.Common.{◌≡◌, ◌≢◌, ℕ, Bool, true, false, List, [], ◌∷◌, Option, Some, None, Result, Ok, Err, refl, sym, ap, ◌∙◌}
-use Rattle.std.specs.Prelude.{IfOk, if◌then◌else◌}
+use Rattle.std.proofs.Common.{◌≡◌, inl, inr, ℕ, Bool, true, false, List, [], ◌∷◌, Option, Some, None, Result, refl, ◌∙◌}
+use Rattle.std.specs.Prelude.{IfOk}
 use Rattle.std.specs.List.{AllByRecursion, IsDistinct}
 use Rattle.std.proofs.lemmas.Bool.{cases_Bool}
 use Rattle.plain_values.specs.Results.{◌>>=◌}

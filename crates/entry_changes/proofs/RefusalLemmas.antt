@@ -1,12 +1,10 @@
 -- Tables of refusals: what the first part of one says of the whole, and what is known where no row applies.
-use Rattle.std.proofs.Common.{◌≡◌, ℕ, Bool, true, false, not, ◌&&◌, map, List, [], ◌∷◌, ◌++◌, Option, Some, None, Result, Ok, Err, refl, sym, ap, ◌∙◌}
-use Rattle.std.specs.Prelude.{if◌then◌else◌}
-use Rattle.std.specs.List.{list_any}
-use Rattle.std.proofs.lemmas.Bool.{cases_Bool, or_from}
+use Rattle.std.proofs.Common.{◌≡◌, ℕ, Bool, true, false, not, ◌&&◌, map, List, [], ◌∷◌, ◌++◌, Option, Some, None, Result, Ok, refl, sym, ap, ◌∙◌}
+use Rattle.std.proofs.lemmas.Bool.{or_from}
 use Rattle.plain_values.specs.Answers.{IsFaultOf}
 use Rattle.plain_values.specs.Results.{◌>>=◌}
 use Rattle.dn_names.specs.Names.{Keyed}
-use Rattle.dir_tree.specs.Entries.{EntryInformation, values_of, has_key}
+use Rattle.dir_tree.specs.Entries.{EntryInformation, has_key}
 use Rattle.acdf_filters.specs.Asking.{Kind, Value}
 use Rattle.aci_item.specs.declared.permission.Permission.TheVariants.{Add}
 use Rattle.ldap_msg.specs.declared.operations.ResultCode.{ResultCode}
@@ -16,7 +14,7 @@ use Rattle.entry_changes.specs.declared.kind.ChangeKind.TheVariants as change_ki
 use Rattle.entry_changes.specs.declared.fault.ChangeFault.{ChangeFault}
 use Rattle.entry_changes.specs.declared.fault.ChangeFault.TheVariants as fault
 use Rattle.entry_changes.specs.Refusals.{when, first_some}
-use Rattle.entry_changes.specs.Changes.{Asks, Modification, are_none, exists_already, add_value_refusal, add_refusal, delete_value_refusal, delete_refusal, refusal_by, change_refusal, left_by, unless_refused, changed, changed_by, cause_of}
+use Rattle.entry_changes.specs.Changes.{Asks, Modification, are_none, exists_already, add_value_refusal, add_refusal, delete_value_refusal, delete_refusal, refusal_by, change_refusal, changed, changed_by, cause_of}
 use Rattle.entry_changes.specs.Effects.{has_any_key, IsAdmitted}
 
 -- ---- two tables, one behind the other
@@ -83,18 +81,6 @@ delete_refusal-values asks kind old [] e = absurd cc
 delete_refusal-values asks kind old (first ∷ rest) e = refl
 
 -- ---- changes in their order
-
--- a change that is refused
-pub changed-refused : (asks : Asks) (entry : EntryInformation) (change : Modification) (refusal : ResultCode) → Some refusal ≡ change_refusal asks change (values_of change.kind entry.attributes)
-    → changed asks entry change ≡ Err refusal
-changed-refused asks entry change refusal e =
-    ap (λ (refusal : Option ResultCode). unless_refused refusal (left_by change.change change.kind change.values entry)) (sym e)
-
--- one that is made
-pub changed-made : (asks : Asks) (entry : EntryInformation) (change : Modification) → None ≡ change_refusal asks change (values_of change.kind entry.attributes)
-    → changed asks entry change ≡ Ok (left_by change.change change.kind change.values entry)
-changed-made asks entry change e =
-    ap (λ (refusal : Option ResultCode). unless_refused refusal (left_by change.change change.kind change.values entry)) (sym e)
 
 -- one change more
 pub changes-step : (asks : Asks) (entry left : EntryInformation) (all : List Modification) (change : Modification) (changes : List Modification) → all ≡ change ∷ changes → changed asks entry change ≡ Ok left

@@ -51,39 +51,39 @@ exists_already asks kind value =
 -- why a value is not added beside the old ones
 abbrev pub add_value_refusal : Asks → ℕ → List Keyed → Keyed → Option ResultCode
 add_value_refusal asks kind old value = first_some (
-  -- a value that matches is there
-  when (has_key value.key old) (exists_already asks kind value)
-  -- it may not be added
-  ∷ when (not (asks (Value kind value) Add)) code.InsufficientAccessRights
-  ∷ []
-)
+    -- a value that matches is there
+    when (has_key value.key old) (exists_already asks kind value)
+    -- it may not be added
+    ∷ when (not (asks (Value kind value) Add)) code.InsufficientAccessRights
+    ∷ []
+    )
 
 -- why values are not added: an attribute that is not there yet must be allowed as such
 unfoldable pub add_refusal : Asks → ℕ → List Keyed → List Keyed → Option ResultCode
 add_refusal asks kind old values = first_some (
-  when (are_none old && not (asks (Kind kind) Add)) code.InsufficientAccessRights
-  ∷ map (add_value_refusal asks kind old) values
-)
+    when (are_none old && not (asks (Kind kind) Add)) code.InsufficientAccessRights
+    ∷ map (add_value_refusal asks kind old) values
+    )
 
 -- why a value is not deleted
 abbrev pub delete_value_refusal : Asks → ℕ → List Keyed → Keyed → Option ResultCode
 delete_value_refusal asks kind old value = first_some (
-  -- it may not be removed
-  when (not (asks (Value kind value) Remove)) (withheld asks (Value kind value))
-  -- no value that matches is there
-  ∷ when (not (has_key value.key old)) code.NoSuchAttribute
-  ∷ []
-)
+    -- it may not be removed
+    when (not (asks (Value kind value) Remove)) (withheld asks (Value kind value))
+    -- no value that matches is there
+    ∷ when (not (has_key value.key old)) code.NoSuchAttribute
+    ∷ []
+    )
 
 -- why values are not deleted, or, where none is named, the attribute
 unfoldable pub delete_refusal : Asks → ℕ → List Keyed → List Keyed → Option ResultCode
 delete_refusal asks kind old [] = first_some (
-  -- the attribute may not be removed
-  when (not (asks (Kind kind) Remove)) (withheld asks (Kind kind))
-  -- it is not there
-  ∷ when (are_none old) code.NoSuchAttribute
-  ∷ []
-)
+    -- the attribute may not be removed
+    when (not (asks (Kind kind) Remove)) (withheld asks (Kind kind))
+    -- it is not there
+    ∷ when (are_none old) code.NoSuchAttribute
+    ∷ []
+    )
 delete_refusal asks kind old (value ∷ values) = first_some (map (delete_value_refusal asks kind old) (value ∷ values))
 
 -- one of the values has the value's octets, spelling included
@@ -103,13 +103,13 @@ comes_refusal asks kind old value =
 -- why values don't take the place of those that are there
 unfoldable pub replace_refusal : Asks → ℕ → List Keyed → List Keyed → Option ResultCode
 replace_refusal asks kind old values = first_some (
-  -- the attribute comes, and may not be added
-  when (are_none old && (not (are_none values) && not (asks (Kind kind) Add))) code.InsufficientAccessRights
-  -- it goes, and may not be removed
-  ∷ when (not (are_none old) && (are_none values && not (asks (Kind kind) Remove))) (withheld asks (Kind kind))
-  -- an old value may not be removed, or a new one not be added
-  ∷ map (goes_refusal asks kind values) old ++ map (comes_refusal asks kind old) values
-)
+    -- the attribute comes, and may not be added
+    when (are_none old && (not (are_none values) && not (asks (Kind kind) Add))) code.InsufficientAccessRights
+    -- it goes, and may not be removed
+    ∷ when (not (are_none old) && (are_none values && not (asks (Kind kind) Remove))) (withheld asks (Kind kind))
+    -- an old value may not be removed, or a new one not be added
+    ∷ map (goes_refusal asks kind values) old ++ map (comes_refusal asks kind old) values
+    )
 
 -- why a change of this kind is not made, by the values of its type that are there
 abbrev pub refusal_by : ChangeKind → Asks → ℕ → List Keyed → List Keyed → Option ResultCode

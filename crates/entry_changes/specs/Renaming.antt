@@ -1,6 +1,6 @@
 -- How an entry gets another name (RFC 4511 4.9, X.511 11.4): the values of the new RDN come, and where the old ones are to
 -- go, those go that the new RDN does not name too.
-use Rattle.std.specs.Prelude.{ℕ, ◌==◌, Bool, not, ◌&&◌, List, [], ◌∷◌, filter, if◌then◌else◌}
+use Rattle.std.specs.Prelude.{◌==◌, Bool, not, ◌&&◌, List, [], ◌∷◌, filter, if◌then◌else◌}
 use Rattle.std.specs.List.{list_any}
 use Rattle.std.specs.Str.{bytes_eq}
 use Rattle.dn_names.specs.Names.{TypeAndValue, RdnSequence, last_rdn}

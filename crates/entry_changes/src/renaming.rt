@@ -1,6 +1,7 @@
 //! Renames of an entry.
 
-ghost use Rattle.std.specs.Prelude.{◌≡◌, IfOk};
+ghost use Rattle.std.specs.Prelude.{◌≡◌, IfOk, if◌then◌else◌};
+ghost use Rattle.dir_tree.specs.Changes.{without_value};
 ghost use Rattle.entry_changes.specs.Renaming.{is_same_pair, has_pair, gone_among, without_pairs, renamed_entry};
 
 use crate::fault::NoMemory;
@@ -23,14 +24,22 @@ fn has_pair(pair: &Pair, pairs: &[Pair]) -> bool
     pairs.iter().any(|other| is_same_pair(pair, other))
 }
 
+// Takes out the value of the pair, unless that is among the new ones.
+fn drop_pair(entry: &mut Entry, pair: &Pair, new: &[Pair])
+    ensures exact { entry.new ≡ (if has_pair pair.now new.now then entry.old
+        else without_value pair.now.kind pair.now.value.key entry.old) }
+{
+    if !has_pair(pair, new) {
+        let _found = entry.drop_value(pair.kind(), pair.value().key());
+    }
+}
+
 // Takes out the values of those old pairs that are not among the new ones.
 fn drop_pairs(entry: &mut Entry, old: &[Pair], new: &[Pair])
     ensures exact { entry.new ≡ without_pairs entry.old (gone_among old.now new.now) }
 {
     for pair in old {
-        if !has_pair(pair, new) {
-            let _found = entry.drop_value(pair.kind(), pair.value().key());
-        }
+        drop_pair(entry, pair, new);
     }
 }
 
