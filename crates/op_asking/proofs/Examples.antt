@@ -1,10 +1,9 @@
 -- The definitions on small cases.
-use Rattle.std.proofs.Common.{◌≡◌, ℕ, true, false, Bool, [], ◌∷◌, List, Some, None, refl, sym}
+use Rattle.std.proofs.Common.{◌≡◌, ℕ, true, false, [], ◌∷◌, List, None, refl}
 use Rattle.std.specs.Prelude.{codes}
 use Rattle.dn_names.specs.Names.{Keyed, RdnSequence}
 use Rattle.dn_names.specs.NameOrder.{name_cmp, is_same}
 use Rattle.dir_tree.specs.Entries.{EntryInformation}
-use Rattle.dir_tree.specs.declared.number.EntryNo.{EntryNo}
 use Rattle.acdf_filters.specs.declared.asking.Requester.{Requester}
 use Rattle.acdf_filters.specs.Asking.{Entry}
 use Rattle.acdf_filters.specs.Granted.{granted}

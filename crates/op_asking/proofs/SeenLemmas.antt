@@ -1,20 +1,19 @@
 -- What is seen of a numbered tree, by the names of its entries.
-use Rattle.std.proofs.Common.{◌≡◌, inl, inr, ℕ, Bool, true, false, ◌&&◌, ◌||◌, List, [], ◌∷◌, Option, Some, None, refl, sym, ap, subst, ◌∙◌, map, find, length, take, ◌-◌, Ordering, arith}
-use Rattle.std.specs.Prelude.{reverse, nat_le, if◌then◌else◌}
+use Rattle.std.proofs.Common.{◌≡◌, inl, inr, ℕ, Bool, true, false, ◌&&◌, ◌||◌, List, [], ◌∷◌, Option, Some, None, refl, sym, ap, subst, ◌∙◌, map, find, Ordering}
+use Rattle.std.specs.Prelude.{reverse}
 use Rattle.std.specs.List.{AllByRecursion, list_any}
 use Rattle.std.specs.Option.{option_map, option_map_or, option_and_then}
 use Rattle.std.specs.Ordering.{is_eq}
 use Rattle.std.specs.declared.cmp.Ordering.TheVariants.{Less, Equal, Greater}
 use Rattle.std.proofs.lemmas.Bool.{cases_Bool, eq-eqb}
-use Rattle.std.proofs.lemmas.Bool.Decides.{nat_tests}
 use mathlib.Core.List.{reverse_aux}
 use Rattle.dn_names.specs.Names.{RdnSequence}
 use Rattle.dn_names.specs.NameOrder.{name_cmp, is_same}
 use Rattle.dn_names.specs.Printing.{print_name, print_by}
 use Rattle.dn_names.proofs.Theorems.{name_cmp_total}
 use Rattle.dir_tree.specs.Entries.{EntryInformation}
-use Rattle.dir_tree.specs.Trees.{is_named, is_below, named_in, superior_name, IsInOrder}
-use Rattle.dir_tree.specs.Numbered.{Numbered, IsNumberedTree, entries_of, entry_of, find_name, find_front, suffix_of}
+use Rattle.dir_tree.specs.Trees.{is_named, is_below, named_in, IsInOrder}
+use Rattle.dir_tree.specs.Numbered.{Numbered, IsNumberedTree, entries_of, entry_of, find_name, suffix_of}
 use Rattle.dir_tree.proofs.TreeTheorems.{entry_of-found}
 use Rattle.dir_tree.specs.declared.number.EntryNo.{EntryNo}
 use Rattle.aci_item.specs.declared.permission.Permission.TheVariants.{DiscloseOnError}

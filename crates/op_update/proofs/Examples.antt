@@ -11,7 +11,6 @@ use Rattle.match_rules.specs.Keys.{key_of}
 use Rattle.match_rules.specs.Syntaxes.{is_of}
 use Rattle.dn_names.specs.Names.{Keyed, RdnSequence}
 use Rattle.dn_names.specs.NameValues.{value_of}
-use Rattle.dn_names.specs.NameOrder.{name_cmp, is_same}
 use Rattle.dn_names.specs.declared.error.BadName.TheVariants.{TooMany}
 use Rattle.dir_tree.specs.Entries.{EntryInformation}
 use Rattle.op_write.specs.Loading.{with_pairs}
@@ -22,7 +21,6 @@ use Rattle.ldap_msg.specs.declared.operations.ResultCode.TheVariants as code
 use Rattle.ldap_msg.specs.declared.kinds.KindValues.{KindValues}
 use Rattle.read_model.specs.Views.{result_of}
 use Rattle.op_update.specs.Refusals.{when, first_some}
-use Rattle.op_update.specs.Deleting.{is_suffix}
 use Rattle.op_update.specs.NewEntries.{read_values, read_each, read_attributes, repeats, new_entry}
 use Rattle.op_update.specs.Adding.{refuses_entry, rule_refusal}
 use Rattle.op_update.specs.Updates.{refused, unless, deleted_named, added_named}
@@ -58,15 +56,6 @@ a_bad_name entries who = refl
 
 the_empty_name : (entries : List EntryInformation) (who : Requester) (attributes : List KindValues) → added_named entries who attributes (Ok []) ≡ refused entries (result_of code.UnwillingToPerform)
 the_empty_name entries who attributes = refl
-
--- the suffix is known by its name in any spelling
-the_suffix : is_suffix ((record { kind = 25; value = plain_value (codes "a") } ∷ []) ∷ []) (bare root ∷ bare below ∷ []) ≡ true
-unfolding root below bare plain_value name_cmp is_same
-the_suffix = refl
-
-below_the_suffix : is_suffix below (bare root ∷ bare below ∷ []) ≡ false
-unfolding root below bare name_cmp is_same
-below_the_suffix = refl
 
 -- an attribute without values comes before all else, then types and values in order, and last what comes twice
 no_values : read_attributes (given (codes "zz") (codes "x" ∷ []) ∷ given (codes "cn") [] ∷ []) ≡ Err code.ProtocolError

@@ -19,7 +19,8 @@ use Rattle.ldap_msg.specs.declared.kinds.KindValues.{KindValues}
 use Rattle.op_update.specs.declared.fault.Fault.{Fault}
 use Rattle.op_update.specs.declared.fault.Fault.TheVariants as fault
 use Rattle.op_update.specs.NewEntries.{read_value, read_values, read_known, read_attribute, read_each, repeats, has_twice, without_twice, lacks_values}
-use Rattle.op_update.specs.Steps.{cause_of, finished, entry_from, IsPut}
+use Rattle.op_update.specs.Reading.{cause_of}
+use Rattle.op_update.specs.Steps.{finished, entry_from, IsPut}
 
 -- the first of the items that are left
 pub next-item : {A : Type 0} (xs : List A) (index : ℕ) (x : A) → index < length xs → x ≡ get_or xs index x → drop index xs ≡ x ∷ drop (index + 1) xs

@@ -1,28 +1,18 @@
 -- Why an entry is not deleted (RFC 4511 4.8, X.511 11.2): a table by rows, of which the first that applies decides. Each
 -- decision is taken over all entries.
-use Rattle.std.specs.Prelude.{Bool, false, not, List, [], ◌∷◌, Option, if◌then◌else◌}
+use Rattle.std.specs.Prelude.{not, List, [], ◌∷◌, Option}
 use Rattle.dn_names.specs.Names.{RdnSequence}
 use Rattle.dir_tree.specs.Entries.{EntryInformation}
-use Rattle.dir_tree.specs.Trees.{is_named, has_below}
-use Rattle.aci_item.specs.declared.permission.Permission.TheVariants.{Remove, DiscloseOnError}
+use Rattle.dir_tree.specs.Trees.{has_below}
+use Rattle.aci_item.specs.declared.permission.Permission.TheVariants.{Remove}
 use Rattle.acdf_filters.specs.declared.asking.Requester.{Requester}
 use Rattle.acdf_filters.specs.Asking.{Entry}
 use Rattle.acdf_filters.specs.Granted.{granted}
 use Rattle.ldap_msg.specs.declared.operations.ResultCode.TheVariants as code
 use Rattle.ldap_msg.specs.declared.kinds.LdapResult.{LdapResult}
-use Rattle.read_model.specs.Views.{view_of, hidden, no_such_object, result_of}
+use Rattle.read_model.specs.Views.{view_of, hidden, result_of}
+use Rattle.op_asking.specs.Targets.{is_suffix, not_leaf}
 use Rattle.op_update.specs.Refusals.{when, first_some}
-
--- the name is that of the first entry, the suffix
-abbrev pub is_suffix : RdnSequence → List EntryInformation → Bool
-is_suffix name [] = false
-is_suffix name (first ∷ rest) = is_named name first
-
--- what is answered where entries stand below the target: as where there is none, if it may not be known of
-abbrev pub not_leaf : List EntryInformation → Requester → RdnSequence → EntryInformation → LdapResult
-not_leaf entries who name target =
-    if granted entries who target Entry DiscloseOnError then result_of code.NotAllowedOnNonLeaf
-    else no_such_object (view_of entries who) name
 
 -- the table, over the entry that has the name
 abbrev pub delete_rows : List EntryInformation → Requester → RdnSequence → EntryInformation → List (Option LdapResult)

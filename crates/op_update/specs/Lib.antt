@@ -2,8 +2,8 @@
 pub mod Refusals
 pub mod Deleting
 pub mod NewEntries
+pub mod Reading
 pub mod Adding
 pub mod Updates
 -- for the inside of the crate alone
-pub mod Asking
 pub mod Steps

@@ -10,9 +10,6 @@ use Rattle.ldap_msg.specs.declared.operations.ResultCode.TheVariants as code
 use Rattle.ldap_msg.specs.declared.kinds.KindValues.{KindValues}
 use Rattle.op_update.specs.declared.deleting.Checked.{Checked}
 use Rattle.op_update.specs.declared.deleting.Checked.TheVariants.{Refused, Allowed}
-use Rattle.op_update.specs.declared.fault.Fault.{Fault}
-use Rattle.op_update.specs.declared.fault.Fault.TheVariants as fault
-use Rattle.op_update.specs.declared.reading.Given.{Given}
 use Rattle.op_update.specs.NewEntries.{without_twice, read_attributes, new_entry}
 use Rattle.op_update.specs.Updates.{refused, unless, deleted_target}
 
@@ -31,15 +28,6 @@ IsChecked rows who name (Refused refusal) =
 IsChecked rows who name (Allowed number) = IsAllowed rows who name number.0
 
 -- ---- adds
-
--- the code of a fault; want of memory has none
-abbrev pub cause_of : Fault → Option ResultCode
-cause_of (fault.Refused code) = Some code
-cause_of fault.NoMemory = None
-
--- the attribute that a type and values are
-abbrev pub attribute_of : Given → Attribute
-attribute_of given = record { kind = given.kind.0; values = given.values.items }
 
 -- the entry of the name with the attributes
 abbrev pub entry_from : RdnSequence → Result (List Attribute) ResultCode → Result EntryInformation ResultCode

@@ -12,18 +12,17 @@ ghost use Rattle.op_update.specs.NewEntries.{read_attributes};
 ghost use Rattle.op_update.specs.Adding.{there_already, taken_refusal, refuses_attribute, refuses_entry, rule_refusal, add_refusal};
 ghost use Rattle.op_update.specs.Updates.{IsChanged, unless, added_entry, added_named, added};
 
-use crate::asking::{Asking, Target, find_target};
 use crate::fault::Fault;
-use crate::hiding::no_such_object;
 use crate::reading::new_entry;
-use crate::results::{result_numbered, result_of};
-use crate::texts::read_named;
 use acdf_filters::{Item, Requester};
 use acdf_lists::Dir;
 use aci_item::Permission;
 use dir_tree::{Entry, NoMemory, Tree};
 use dn_names::{Dn, Value};
 use ldap_msg::{AddRequest, KindValues, LdapResult, ResultCode};
+use op_asking::{
+    Asking, Target, find_target, no_such_object, read_named, result_numbered, result_of,
+};
 use schema_core::AttrId;
 use schema_rules::{Broken, check_entry};
 use std::alloc::{AllocError, Global};

@@ -4,20 +4,17 @@ ghost use Rattle.std.specs.Prelude.{◌≡◌, Some, Ok, IfOk, OnOk, OnErr};
 ghost use Rattle.dir_tree.specs.Entries.{EntryInformation};
 ghost use Rattle.dir_tree.specs.Trees.{taken_out, named_in};
 ghost use Rattle.dir_tree.specs.Numbered.{entry_of, entries_of};
-ghost use Rattle.op_update.specs.Deleting.{is_suffix, not_leaf, delete_refusal};
+ghost use Rattle.op_update.specs.Deleting.{delete_refusal};
 ghost use Rattle.op_update.specs.Updates.{IsChanged, deleted_target, deleted_named, deleted};
 ghost use Rattle.op_update.specs.Steps.{IsChecked};
 
-use crate::asking::{Asking, Target, find_target};
-use crate::hiding::{hidden, no_such_object};
-use crate::results::result_of;
-use crate::texts::read_named;
 use acdf_filters::{Item, Requester};
 use acdf_lists::Dir;
 use aci_item::Permission;
-use dir_tree::{EntryNo, NoMemory, Tree};
-use dn_names::{Dn, same};
+use dir_tree::{EntryNo, NoMemory};
+use dn_names::Dn;
 use ldap_msg::{DeleteRequest, LdapResult, ResultCode};
+use op_asking::{Asking, Target, find_target, hidden, is_suffix, not_leaf, read_named, result_of};
 use std::alloc::{AllocError, Global};
 
 /// What came of a delete's table.
@@ -27,37 +24,6 @@ pub(crate) enum Checked {
     Refused(LdapResult),
     /// The entry of the number may go.
     Allowed(EntryNo),
-}
-
-// Whether the name is that of the suffix.
-fn is_suffix(tree: &Tree, name: &Dn) -> bool
-    ensures exact { result ≡ is_suffix name.now (entries_of tree.now) }
-{
-    let Some(number) = tree.suffix() else {
-        return false;
-    };
-    match tree.at(number) {
-        Some(first) => same(name, first.name()),
-        None => false,
-    }
-}
-
-// What is answered where entries stand below the target.
-fn not_leaf<D: Dir>(
-    alloc: Global,
-    asking: &Asking<'_, D>,
-    name: &Dn,
-    target: Target<'_>,
-) -> Result<LdapResult, NoMemory>
-    requires found { entry_of target.number.0 (D.rows asking.now.dir.now) ≡ Some target.entry.now }
-    ensures ok { IfOk result (λ ended. ended
-        ≡ not_leaf (entries_of (D.rows asking.now.dir.now)) asking.now.who.now name.now target.entry.entry.now) }
-{
-    if asking.allows(target, Item::Entry, Permission::DiscloseOnError) {
-        Ok(result_of(alloc, ResultCode::NotAllowedOnNonLeaf))
-    } else {
-        no_such_object(alloc, asking, name)
-    }
 }
 
 // Why the target, which has the name, is not deleted.

@@ -6,12 +6,12 @@ ghost use Rattle.op_update.specs.declared.fault.Fault.TheVariants.{NoMemory};
 use ldap_msg::ResultCode;
 use std::alloc::{AllocError, AllocFailed};
 
-/// Why a request isn't read.
+/// Why a request, or a part of one, isn't read.
 #[derive(Drop)]
-pub(crate) enum Fault {
-    /// It is refused, with this code.
+pub enum Fault {
+    /// It is refused, with this code: it says what no directory could hold.
     Refused(ResultCode),
-    /// There was no memory.
+    /// There was no memory, whatever the request says.
     NoMemory,
 }
 

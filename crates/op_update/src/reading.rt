@@ -6,7 +6,8 @@ ghost use Rattle.schema_core.specs.Attributes.{IsAttrId};
 ghost use Rattle.dir_tree.specs.Entries.{has_kind, is_match};
 ghost use Rattle.plain_values.specs.Answers.{Answers, IsFaultOf};
 ghost use Rattle.op_update.specs.NewEntries.{fitting, read_value, read_values, read_attribute, read_filled, repeats, lacks_values, read_attributes};
-ghost use Rattle.op_update.specs.Steps.{cause_of, attribute_of, entry_from, IsPut, IsNewEntry};
+ghost use Rattle.op_update.specs.Reading.{cause_of, attribute_of};
+ghost use Rattle.op_update.specs.Steps.{entry_from, IsPut, IsNewEntry};
 
 use crate::fault::Fault;
 use crate::twice::repeats;
@@ -21,11 +22,11 @@ use std::alloc::Global;
 
 const MOST_OCTETS: usize = 65_536;
 
-/// A type, with values of it.
+/// A type and values of it as a request gives them, read: in the order of the request, and some of them may match.
 #[derive(Drop)]
-pub(crate) struct Given {
-    pub(crate) kind: AttrId,
-    pub(crate) values: Vec<Value>,
+pub struct Given {
+    pub kind: AttrId,
+    pub values: Vec<Value>,
 }
 
 // The value, unless its octets are too many.
@@ -67,9 +68,13 @@ fn read_values(alloc: Global, kind: AttrId, given: &[Octets]) -> Result<Vec<Valu
     Ok(values)
 }
 
-// A type and values of a request.
-fn read_attribute(alloc: Global, given: &KindValues) -> Result<Given, Fault>
+/// A type and values of a request, read (RFC 4511 4.1.7). Each refusal comes in exactly one case: undefinedAttributeType
+/// where the type is none of the schema's, and then, for the first value that is none, invalidAttributeSyntax where the
+/// octets are not of the type's syntax, and constraintViolation where they are more than 65,536. Values that match are no
+/// fault here; there may be none at all. `NoMemory` may come before these.
+pub fn read_attribute(alloc: Global, given: &KindValues) -> Result<Given, Fault>
     ensures exact { Answers attribute_of cause_of result (read_attribute given.now) }
+    ensures known { IfOk result (λ read. IsAttrId read.kind.0) }
 {
     let Some(kind) = attr_named(given.kind.as_slice()) else {
         return Err(Fault::Refused(ResultCode::UndefinedAttributeType));

@@ -18,8 +18,9 @@ fn key_count(alloc: Global, values: &[Value]) -> Result<usize, NoMemory>
     Ok(keys.len())
 }
 
-/// Whether two of the values match. Of n values about n log n keys are compared: a request may have many.
-pub(crate) fn repeats(alloc: Global, values: &[Value]) -> Result<bool, NoMemory>
+/// Whether two of the values match. Of n values about n log n keys are compared: a request may have many. The error comes
+/// where memory is wanted.
+pub fn repeats(alloc: Global, values: &[Value]) -> Result<bool, NoMemory>
     ensures ok { IfOk result (λ found. found ≡ repeats is_match values.now) }
 {
     if values.len() < 2 {

@@ -16,7 +16,8 @@ use Rattle.acdf_filters.specs.Asking.{Entry}
 use Rattle.acdf_filters.specs.Granted.{granted}
 use Rattle.ldap_msg.specs.declared.kinds.DeleteRequest.{DeleteRequest}
 use Rattle.ldap_msg.specs.declared.kinds.LdapResult.{LdapResult}
-use Rattle.op_update.specs.Deleting.{is_suffix, delete_refusal}
+use Rattle.op_asking.specs.Targets.{is_suffix}
+use Rattle.op_update.specs.Deleting.{delete_refusal}
 use Rattle.op_update.specs.Updates.{unless, deleted_target, deleted_named, deleted, IsChanged}
 use Rattle.update_laws.specs.Granting.{MayDelete}
 use Rattle.update_laws.proofs.TableLemmas.{none_of, none_from, not_when, when_not, unless-good, unless-refused, unless-made}

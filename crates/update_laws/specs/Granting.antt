@@ -14,7 +14,7 @@ use Rattle.acdf_filters.specs.Asking.{Protected, Entry, Kind, Value}
 use Rattle.acdf_filters.specs.Granted.{granted, granted_new}
 use Rattle.ldap_msg.specs.declared.kinds.AddRequest.{AddRequest}
 use Rattle.ldap_msg.specs.declared.kinds.DeleteRequest.{DeleteRequest}
-use Rattle.op_update.specs.Deleting.{is_suffix}
+use Rattle.op_asking.specs.Targets.{is_suffix}
 use Rattle.op_update.specs.NewEntries.{read_attributes, new_entry}
 
 -- the request's name is that of the target, which may be removed, is not the suffix, and has none below it

@@ -6,7 +6,8 @@ use Rattle.std.proofs.lemmas.Bool.{or_parts}
 use Rattle.std.proofs.lemmas.List.{drop_all}
 use Rattle.plain_values.specs.Results.{◌>>=◌}
 use Rattle.op_update.specs.NewEntries.{lacks_values, read_each}
-use Rattle.op_update.specs.Steps.{attribute_of, entry_from, finished}
+use Rattle.op_update.specs.Reading.{attribute_of}
+use Rattle.op_update.specs.Steps.{entry_from, finished}
 use Rattle.op_update.proofs.ReadingLemmas.{next-item, attribute-filled, each-step, each-fault, each-twice, each-done}
 use Rattle.op_update.proofs.reading.read_each.Goals as goal
 
