@@ -8,3 +8,4 @@ pub mod ModifiedLemmas
 pub mod RenamingLemmas
 pub mod RenameLemmas
 pub mod RenamedLemmas
+pub mod Examples
