@@ -16,7 +16,8 @@ same_itself name = (is_same-types_and_keys name name).1 refl
 pub same_back : (one other : RdnSequence) → is_same one other ≡ true → is_same other one ≡ true
 same_back one other same = (is_same-types_and_keys other one).1 (sym ((is_same-types_and_keys one other).0 same))
 
-pub same_over : (one other name : RdnSequence) → is_same one other ≡ true → is_same other name ≡ true → is_same one name ≡ true
+pub same_over :
+    (one other name : RdnSequence) → is_same one other ≡ true → is_same other name ≡ true → is_same one name ≡ true
 same_over one other name first second =
     (is_same-types_and_keys one name).1 ((is_same-types_and_keys one other).0 first ∙ (is_same-types_and_keys other name).0 second)
 
@@ -59,7 +60,9 @@ found_by_own_name name target (first ∷ rest) found = elim (cases_Bool (is_name
 ]
 
 -- a name that finds nothing is none's
-none_named : (test : EntryInformation → Bool) (entries : List EntryInformation) → find test entries ≡ None → list_any test entries ≡ false
+none_named :
+    (test : EntryInformation → Bool) (entries : List EntryInformation) → find test entries ≡ None
+    → list_any test entries ≡ false
 none_named test [] none = refl
 none_named test (first ∷ rest) none =
     (elim (test first) as (λ here. (if here then Some first else find test rest) ≡ None → (here || list_any test rest) ≡ false) [
@@ -68,19 +71,25 @@ none_named test (first ∷ rest) none =
     ]) none
 
 -- an entry that has another name than the one that is taken out has also another than one that is the same
-apart_too : (old new : RdnSequence) (entry : EntryInformation) → is_same new old ≡ true → not (is_named old entry) ≡ true → is_named new entry ≡ false
+apart_too :
+    (old new : RdnSequence) (entry : EntryInformation) → is_same new old ≡ true → not (is_named old entry) ≡ true
+    → is_named new entry ≡ false
 apart_too old new entry same other =
     false_from_ne_true (is_named new entry) (λ here. true≢false (sym (same_over old new entry.name (same_back new old same) here) ∙ not-true (is_named old entry) other))
 
 -- no entry is left of the name that is taken out, nor of one that no entry had
-none_left : (old new : RdnSequence) (entries : List EntryInformation) → is_same new old ≡ true → has_name new (taken_out old entries) ≡ false
+none_left :
+    (old new : RdnSequence) (entries : List EntryInformation) → is_same new old ≡ true
+    → has_name new (taken_out old entries) ≡ false
 none_left old new [] same = refl
 none_left old new (first ∷ rest) same =
     let later = none_left old new rest same in
     cond_both (not (is_named old first)) (first ∷ taken_out old rest) (taken_out old rest) (λ left. has_name new left ≡ false)
     (λ other. or_from _ _ (apart_too old new first same other) later) (λ _. later)
 
-none_more : (old new : RdnSequence) (entries : List EntryInformation) → has_name new entries ≡ false → has_name new (taken_out old entries) ≡ false
+none_more :
+    (old new : RdnSequence) (entries : List EntryInformation) → has_name new entries ≡ false
+    → has_name new (taken_out old entries) ≡ false
 none_more old new [] none = refl
 none_more old new (first ∷ rest) none =
     let parts = or_parts (is_named new first) (has_name new rest) none in
@@ -98,7 +107,9 @@ free_beside old new entries free = elim (cases_Bool (is_same new old)) [
 ]
 
 -- entries with one more are not none
-some_put : (before : Bool) (entry first : EntryInformation) (rest later : List EntryInformation) → (if before then first ∷ later else entry ∷ first ∷ rest) ≢ []
+some_put :
+    (before : Bool) (entry first : EntryInformation) (rest later : List EntryInformation)
+    → (if before then first ∷ later else entry ∷ first ∷ rest) ≢ []
 some_put true entry first rest later is = cc
 some_put false entry first rest later is = cc
 

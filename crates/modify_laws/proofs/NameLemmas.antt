@@ -26,7 +26,9 @@ both_read (Ok given) next value is = (given, refl, is)
 both_read (Err fault) next value is = absurd cc
 
 -- as many RDNs are read as are written
-length-rdns_from : (index : ℕ) (written : List (List WrittenPair)) (out : RdnSequence) → rdns_from index written ≡ Ok out → length out ≡ length written
+length-rdns_from :
+    (index : ℕ) (written : List (List WrittenPair)) (out : RdnSequence) → rdns_from index written ≡ Ok out
+    → length out ≡ length written
 length-rdns_from index [] out is =
     let same : [] ≡ out = cc in
     sym (ap length same)
@@ -36,7 +38,9 @@ length-rdns_from index (first ∷ rest) out is =
     let same : one.0 ∷ later.0 ≡ out = cc later.2 in
     sym (ap length same) ∙ ap suc (length-rdns_from (index + length first) rest later.0 later.1)
 
-length-from_root : (written : List (List WrittenPair)) (name : RdnSequence) → from_root (rdns_from 0 written) ≡ Ok name → length name ≡ length written
+length-from_root :
+    (written : List (List WrittenPair)) (name : RdnSequence) → from_root (rdns_from 0 written) ≡ Ok name
+    → length name ≡ length written
 length-from_root written name is =
     let found = both_read (rdns_from 0 written) (λ rdns. Ok (reverse rdns)) name is in
     let same : reverse found.0 ≡ name = cc found.2 in

@@ -13,13 +13,16 @@ use Rattle.op_modify.specs.ReadChanges.{is_no_change, change_of, change_with, re
 use Rattle.modify_laws.proofs.TableLemmas.{both_given}
 
 -- items of which none repeats are distinct
-none_of_any : {A : Type 0} (test : A → Bool) (items : List A) → list_any test items ≡ false → AllByRecursion (λ item. test item ≡ false) items
+none_of_any :
+    {A : Type 0} (test : A → Bool) (items : List A) → list_any test items ≡ false
+    → AllByRecursion (λ item. test item ≡ false) items
 none_of_any test [] none = tt
 none_of_any test (first ∷ rest) none =
     let parts = or_parts (test first) (list_any test rest) none in
     (parts.0, none_of_any test rest parts.1)
 
-IsDistinct-from_repeats : {A : Type 0} (same : A → A → Bool) (items : List A) → repeats same items ≡ false → IsDistinct same items
+IsDistinct-from_repeats :
+    {A : Type 0} (same : A → A → Bool) (items : List A) → repeats same items ≡ false → IsDistinct same items
 unfolding IsDistinct repeats
 IsDistinct-from_repeats same [] none = tt
 IsDistinct-from_repeats same (first ∷ rest) none =

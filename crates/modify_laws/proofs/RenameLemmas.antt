@@ -35,7 +35,9 @@ pub record IsRenamable (entries : List EntryInformation) (who : Requester) (targ
   pub unbroken : broken_rule (Some target) (taken_out target.name entries) entry ≡ None
 
 -- a row over an option
-not_taken : (entries : List EntryInformation) (who : Requester) (found : Option EntryInformation) → taken_refusal entries who found ≡ None → found ≡ None
+not_taken :
+    (entries : List EntryInformation) (who : Requester) (found : Option EntryInformation)
+    → taken_refusal entries who found ≡ None → found ≡ None
 not_taken entries who None is = refl
 not_taken entries who (Some other) is = absurd cc
 

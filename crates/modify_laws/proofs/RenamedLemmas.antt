@@ -92,7 +92,9 @@ module _ (entries : List EntryInformation) (who : Requester) (request : RenameRe
         },
       )
 
-  may-renamed_read : (renamed_read entries who name rdn request.delete_old superior).refusal ≡ None → MayRenameSome entries who request
+  may-renamed_read :
+      (renamed_read entries who name rdn request.delete_old superior).refusal ≡ None
+      → MayRenameSome entries who request
   may-renamed_read none =
       let kept = refused entries (result_of code.UnwillingToPerform) in
       let made = renamed_found entries who name rdn request.delete_old superior (named_in name entries) in

@@ -86,7 +86,9 @@ pub stays-read :
 stays-read name None superior read stays = tt
 stays-read name (Some text) superior read stays = superior_read (read_name text) refl read
   where
-    superior_read : (found : Result RdnSequence BadName) → read_name text ≡ found → option_map (λ name. Some name) (result_ok found) ≡ Some superior → IsSuperiorText name text
+    superior_read :
+        (found : Result RdnSequence BadName) → read_name text ≡ found
+        → option_map (λ name. Some name) (result_ok found) ≡ Some superior → IsSuperiorText name text
     superior_read (Err fault) is read = absurd cc
     superior_read (Ok above) is read = record {
       superior = above;
@@ -105,6 +107,8 @@ pub read-superior_of :
 read-superior_of name None stays = refl
 read-superior_of name (Some text) stays = ap (λ found. option_map (λ (name : RdnSequence). Some name) (result_ok found)) stays.superior_read
 
-pub moves-superior_of : (name : RdnSequence) (given : Option (List ℕ)) (stays : StaysBelow name given) → moves name (superior_of name given stays) ≡ false
+pub moves-superior_of :
+    (name : RdnSequence) (given : Option (List ℕ)) (stays : StaysBelow name given)
+    → moves name (superior_of name given stays) ≡ false
 moves-superior_of name None stays = refl
 moves-superior_of name (Some text) stays = not_from_true _ stays.same
