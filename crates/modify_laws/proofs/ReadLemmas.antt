@@ -1,0 +1,74 @@
+-- What is read of a modify request: of each change no two values match.
+use Rattle.std.proofs.Common.{◌≡◌, Bool, true, false, List, [], ◌∷◌, if◌then◌else◌, Ok, Err, refl, subst}
+use Rattle.std.specs.List.{AllByRecursion, IsDistinct, list_any}
+use Rattle.std.proofs.lemmas.Bool.{or_parts}
+use Rattle.plain_values.specs.Results.{◌>>=◌}
+use Rattle.dir_tree.specs.Entries.{Attribute, is_match}
+use Rattle.ldap_msg.specs.declared.operations.ResultCode.{ResultCode}
+use Rattle.ldap_msg.specs.declared.kinds.Change.{Change}
+use Rattle.op_update.specs.NewEntries.{read_attribute, repeats}
+use Rattle.entry_changes.specs.declared.kind.ChangeKind.{ChangeKind}
+use Rattle.entry_changes.specs.Changes.{Modification}
+use Rattle.op_modify.specs.ReadChanges.{is_no_change, change_of, change_with, read_change, read_each, read_changes}
+use Rattle.modify_laws.proofs.TableLemmas.{both_given}
+
+-- items of which none repeats are distinct
+none_of_any :
+    {A : Type 0} (test : A → Bool) (items : List A) → list_any test items ≡ false
+    → AllByRecursion (λ item. test item ≡ false) items
+none_of_any test [] none = tt
+none_of_any test (first ∷ rest) none =
+    let parts = or_parts (test first) (list_any test rest) none in
+    (parts.0, none_of_any test rest parts.1)
+
+IsDistinct-from_repeats :
+    {A : Type 0} (same : A → A → Bool) (items : List A) → repeats same items ≡ false → IsDistinct same items
+unfolding IsDistinct repeats
+IsDistinct-from_repeats same [] none = tt
+IsDistinct-from_repeats same (first ∷ rest) none =
+    let parts = or_parts (list_any (same first) rest) (repeats same rest) none in
+    (none_of_any (same first) rest parts.0, IsDistinct-from_repeats same rest parts.1)
+
+-- the values of the change are so
+abbrev pub HasDistinctValues : Modification → Type 0
+HasDistinctValues change = IsDistinct is_match change.values
+
+distinct_once :
+    (twice : Bool) (kind : ChangeKind) (attribute : Attribute) (change : Modification) (fault : ResultCode)
+    → repeats is_match attribute.values ≡ twice
+    → (if twice then Err fault else Ok (record { change = kind; kind = attribute.kind; values = attribute.values })) ≡ Ok change
+    → HasDistinctValues change
+distinct_once true kind attribute change fault none is = absurd cc
+distinct_once false kind attribute change fault none is =
+    let same : record { change = kind; kind = attribute.kind; values = attribute.values } ≡ change = cc in
+    subst HasDistinctValues same (IsDistinct-from_repeats is_match attribute.values none)
+
+distinct-read_change : (given : Change) (change : Modification) → read_change given ≡ Ok change → HasDistinctValues change
+distinct-read_change given change is =
+    let read = both_given (read_attribute given.body) (change_with (change_of given.operation)) change is in
+    distinct_once (repeats is_match read.0.values) (change_of given.operation) read.0 change _ refl read.2
+
+distinct-read_each :
+    (given : List Change) (changes : List Modification) → read_each given ≡ Ok changes → AllByRecursion HasDistinctValues changes
+unfolding read_each
+distinct-read_each [] changes is =
+    let same : [] ≡ changes = cc in
+    subst (λ changes. AllByRecursion HasDistinctValues changes) same tt
+distinct-read_each (one ∷ rest) changes is =
+    let first = both_given (read_change one) (λ change. read_each rest >>= λ changes. Ok (change ∷ changes)) changes is in
+    let later = both_given (read_each rest) (λ changes. Ok (first.0 ∷ changes)) changes first.2 in
+    let same : first.0 ∷ later.0 ≡ changes = cc later.2 in
+    subst (λ changes. AllByRecursion HasDistinctValues changes) same
+    (distinct-read_change one first.0 first.1, distinct-read_each rest later.0 later.1)
+
+distinct_where_all_are :
+    (lacks : Bool) (given : List Change) (changes : List Modification) (fault : ResultCode)
+    → (if lacks then Err fault else read_each given) ≡ Ok changes → AllByRecursion HasDistinctValues changes
+distinct_where_all_are true given changes fault is = absurd cc
+distinct_where_all_are false given changes fault is = distinct-read_each given changes is
+
+pub distinct-read_changes :
+    (given : List Change) (changes : List Modification) → read_changes given ≡ Ok changes
+    → AllByRecursion HasDistinctValues changes
+unfolding read_changes
+distinct-read_changes given changes is = distinct_where_all_are (list_any is_no_change given) given changes _ is

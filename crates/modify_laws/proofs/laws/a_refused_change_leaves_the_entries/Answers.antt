@@ -1,0 +1,7 @@
+-- By the theorems.
+use Rattle.modify_laws.proofs.ModifyLemmas.{refused-modified}
+use Rattle.modify_laws.proofs.RenameLemmas.{refused-renamed}
+use Rattle.modify_laws.proofs.laws.a_refused_change_leaves_the_entries.Goals as goal
+
+pub returns : goal.returns
+returns c = record { modified = refused-modified; renamed = refused-renamed }

@@ -1,0 +1,55 @@
+//! The laws of modifies and renames: each function computes nothing, and what it ensures is a law.
+
+ghost use Rattle.std.specs.Prelude.{◌≡◌, List, Some, None};
+ghost use Rattle.dir_tree.specs.Entries.{EntryInformation};
+ghost use Rattle.dir_tree.specs.Trees.{put_in, taken_out};
+ghost use Rattle.schema_rules.specs.Rules.{IsGoodTree};
+ghost use Rattle.acdf_filters.specs.declared.asking.Requester.{Requester};
+ghost use Rattle.ldap_msg.specs.declared.kinds.ModifyRequest.{ModifyRequest};
+ghost use Rattle.ldap_msg.specs.declared.kinds.RenameRequest.{RenameRequest};
+ghost use Rattle.ldap_msg.specs.declared.kinds.LdapResult.{LdapResult};
+ghost use Rattle.op_update.specs.Updates.{IsChanged};
+ghost use Rattle.op_modify.specs.Modifying.{modified};
+ghost use Rattle.op_modify.specs.Renames.{renamed};
+ghost use Rattle.modify_laws.specs.Granting.{MayModify, MayRename};
+
+use entry_changes::changes_keep_attributes_good;
+use schema_rules::a_tree_stays_good_in_place;
+
+/// A good tree stays good, whatever is modified or renamed, and by whom.
+pub fn a_good_tree_stays_good_when_changed()
+    ensures modified { (entries : List EntryInformation) (who : Requester) (request : ModifyRequest)
+        → IsGoodTree entries → IsGoodTree (modified entries who request).entries }
+    ensures renamed { (entries : List EntryInformation) (who : Requester) (request : RenameRequest)
+        → IsGoodTree entries → IsGoodTree (renamed entries who request).entries }
+{
+    a_tree_stays_good_in_place();
+    changes_keep_attributes_good();
+}
+
+/// A change that is refused leaves the entries as they were: of a modify's changes all are made, or none.
+pub fn a_refused_change_leaves_the_entries()
+    ensures modified { (entries : List EntryInformation) (who : Requester) (request : ModifyRequest)
+        (refusal : LdapResult) → (modified entries who request).refusal ≡ Some refusal
+        → (modified entries who request).entries ≡ entries }
+    ensures renamed { (entries : List EntryInformation) (who : Requester) (request : RenameRequest)
+        (refusal : LdapResult) → (renamed entries who request).refusal ≡ Some refusal
+        → (renamed entries who request).entries ≡ entries }
+{}
+
+/// A change is made where nothing refuses it: each decision of its sequence is granted, and the tree takes what it leaves.
+/// So no answer is always a refusal (X.511 11.3 and 11.4). And what was changed was granted so.
+pub fn exactly_what_may_be_changed_is_changed()
+    ensures modified { (entries : List EntryInformation) (who : Requester) (request : ModifyRequest)
+        (target left : EntryInformation) → MayModify entries who request target left
+        → IsChanged (modified entries who request) None (put_in left (taken_out target.name entries)) }
+    ensures only_modified { (entries : List EntryInformation) (who : Requester) (request : ModifyRequest)
+        → (modified entries who request).refusal ≡ None
+        → (target : EntryInformation) × (left : EntryInformation) × MayModify entries who request target left }
+    ensures renamed { (entries : List EntryInformation) (who : Requester) (request : RenameRequest)
+        (target entry : EntryInformation) → MayRename entries who request target entry
+        → IsChanged (renamed entries who request) None (put_in entry (taken_out target.name entries)) }
+    ensures only_renamed { (entries : List EntryInformation) (who : Requester) (request : RenameRequest)
+        → (renamed entries who request).refusal ≡ None
+        → (target : EntryInformation) × (entry : EntryInformation) × MayRename entries who request target entry }
+{}
