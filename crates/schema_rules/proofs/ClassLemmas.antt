@@ -1,6 +1,6 @@
 -- A class and its superclasses: the class first, and then those from its superior on.
 use Rattle.std.proofs.Common.{◌≡◌, ℕ, ◌==◌, Bool, true, false, not, ◌&&◌, ◌||◌, List, [], ◌∷◌, length, Option, Some, None, refl, ap, sym, ◌∙◌}
-use Rattle.std.specs.List.{list_any, flat_map, cons_option}
+use Rattle.std.specs.List.{list_any, list_all, flat_map, cons_option}
 use Rattle.std.specs.Option.{option_map_or}
 use Rattle.schema_core.specs.Classes.{class_with, superior_of}
 use Rattle.schema_core.specs.Superclasses.{with_superclasses}
@@ -10,7 +10,7 @@ use Rattle.std.proofs.lemmas.List.Folds.{list_any-append}
 use Rattle.dn_names.specs.Names.{Keyed}
 use Rattle.schema_rules.specs.Listed.{is_structural, are_in_line}
 use Rattle.schema_rules.specs.Classes.{classes_in, structural_in, is_apart, is_apart_from}
-use Rattle.schema_rules.proofs.ListLemmas.{list_any-filter, list_any-filter_map, list_any-same, none_passes}
+use Rattle.schema_rules.proofs.ListLemmas.{list_any-filter, list_any-filter_map, list_all-filter, list_all-filter_map, list_any-same, none_passes}
 
 -- the same of a list that each class gives
 pub flat_map-first :
@@ -56,7 +56,7 @@ flat_map-all_classes test lists (value ∷ values) =
     (flat_map-all_classes test lists values)
 
 -- structural classes
-structural_tests :
+pub structural_tests :
     (test : ℕ → Bool) (values : List Keyed)
     → list_any test (structural_in values)
     ≡ list_any (λ value. option_map_or (λ class. is_structural class && test class) (class_with value.key) false) values
@@ -80,3 +80,11 @@ two_lines values =
     list_any-same _ (λ one. list_any (λ value. is_apart one value.key) values) (structural_in values)
     (λ one. structural_tests (λ other. not (are_in_line one other)) values)
     ∙ structural_tests (λ one. list_any (λ value. is_apart one value.key) values) values
+
+pub all_structural :
+    (test : ℕ → Bool) (values : List Keyed)
+    → list_all (λ value. option_map_or (λ class. not (is_structural class) || test class) (class_with value.key) true) values
+    ≡ list_all test (structural_in values)
+all_structural test values =
+    sym (list_all-filter_map (λ class. not (is_structural class) || test class) (λ value. class_with value.key) values)
+    ∙ sym (list_all-filter test is_structural (classes_in values))

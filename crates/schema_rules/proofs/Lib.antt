@@ -6,6 +6,12 @@ pub mod TreeLemmas
 pub mod ListPlaceLemmas
 pub mod RuleLemmas
 pub mod RootLemmas
+pub mod BesideLemmas
+pub mod ChildLemmas
 pub mod StayLemmas
+pub mod ListTakenLemmas
+pub mod TakenLemmas
+pub mod InPlaceLemmas
+pub mod RenamedLemmas
 pub mod Examples
 pub mod Theorems

@@ -1,6 +1,6 @@
 -- Tests of lists that are made from other lists, and loops over the places of a list.
 use Rattle.std.proofs.Common.{◌≡◌, ℕ, ◌+◌, ◌≤◌, ◌==◌, Bool, true, false, not, ◌&&◌, ◌||◌, if◌then◌else◌, List, [], ◌∷◌, map, length, min, take, slice_get, filter, Option, Some, None, refl, sym, ap, ◌∙◌, inl, inr, true≢false, add-zero, arith}
-use Rattle.std.specs.List.{list_any, filter_map, cons_option, sum_by}
+use Rattle.std.specs.List.{list_any, list_all, filter_map, cons_option, sum_by}
 use Rattle.std.specs.Option.{option_map_or}
 use Rattle.std.proofs.lemmas.Bool.Decides.{nat_tests}
 use Rattle.std.proofs.lemmas.List.{take_all}
@@ -39,6 +39,30 @@ list_any-filter_map test find_one [] = refl
 list_any-filter_map test find_one (x ∷ xs) =
     any_cons test (find_one x) (filter_map find_one xs)
     ∙ ap (λ later. option_map_or test (find_one x) false || later) (list_any-filter_map test find_one xs)
+
+all_cons :
+    {Y : Type 0} (test : Y → Bool) (found : Option Y) (ys : List Y)
+    → list_all test (cons_option found ys) ≡ (option_map_or test found true && list_all test ys)
+all_cons test None ys = refl
+all_cons test (Some y) ys = refl
+
+pub list_all-filter_map :
+    {X Y : Type 0} (test : Y → Bool) (find_one : X → Option Y) (xs : List X)
+    → list_all test (filter_map find_one xs) ≡ list_all (λ x. option_map_or test (find_one x) true) xs
+list_all-filter_map test find_one [] = refl
+list_all-filter_map test find_one (x ∷ xs) =
+    all_cons test (find_one x) (filter_map find_one xs)
+    ∙ ap (λ later. option_map_or test (find_one x) true && later) (list_all-filter_map test find_one xs)
+
+pub list_all-filter :
+    {X : Type 0} (test passes : X → Bool) (xs : List X)
+    → list_all test (filter passes xs) ≡ list_all (λ x. not (passes x) || test x) xs
+list_all-filter test passes [] = refl
+list_all-filter test passes (x ∷ xs) =
+    elim (passes x) as (λ b. list_all test (if b then x ∷ filter passes xs else filter passes xs) ≡ ((not b || test x) && list_all (λ x. not (passes x) || test x) xs)) [
+      | true ↦ ap (λ later. test x && later) (list_all-filter test passes xs)
+      | false ↦ list_all-filter test passes xs
+    ]
 
 -- a filter that keeps nothing
 pub none_passes :

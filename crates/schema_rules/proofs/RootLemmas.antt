@@ -10,23 +10,23 @@ use Rattle.dir_tree.specs.Entries.{EntryInformation}
 use Rattle.dir_tree.specs.Trees.{IsTree, has_name, lacks_superior, superior_name}
 
 -- names that are the same have as many RDNs
-length-same : (x y : RdnSequence) → is_same x y ≡ true → length x ≡ length y
+pub length-same : (x y : RdnSequence) → is_same x y ≡ true → length x ≡ length y
 length-same x y same =
     sym (length-map x (map type_and_key))
     ∙ ap length ((is_same-types_and_keys x y).0 same)
     ∙ length-map y (map type_and_key)
 
-same_back : (x y : RdnSequence) → is_same x y ≡ true → is_same y x ≡ true
+pub same_back : (x y : RdnSequence) → is_same x y ≡ true → is_same y x ≡ true
 same_back x y same = (is_same-types_and_keys y x).1 (sym ((is_same-types_and_keys x y).0 same))
 
-same_over : (x y z : RdnSequence) → is_same x y ≡ true → is_same x z ≡ true → is_same y z ≡ true
+pub same_over : (x y z : RdnSequence) → is_same x y ≡ true → is_same x z ≡ true → is_same y z ≡ true
 same_over x y z one other =
     (is_same-types_and_keys y z).1 (sym ((is_same-types_and_keys x y).0 one) ∙ (is_same-types_and_keys x z).0 other)
 
-length-superior : (name : RdnSequence) → length (superior_name name) ≡ length name - 1
+pub length-superior : (name : RdnSequence) → length (superior_name name) ≡ length name - 1
 length-superior name = length-take-le (length name - 1) name (omega arith)
 
-filled : (name : RdnSequence) → name ≢ [] → 1 ≤ length name
+pub filled : (name : RdnSequence) → name ≢ [] → 1 ≤ length name
 filled [] named = absurd (named refl)
 filled (rdn ∷ rdns) named = omega arith
 
@@ -84,7 +84,7 @@ shortest first rest below (suc most) name within has =
     ]
 
 -- where a name is the new one, the tree has the new one
-has_same :
+pub has_same :
     (name new : RdnSequence) (entries : List EntryInformation) → is_same name new ≡ true → has_name name entries ≡ true
     → has_name new entries ≡ true
 has_same name new [] same has = has

@@ -40,7 +40,7 @@ broken_rule-from_Meets old others entry meets =
     (meets.own_values, (meets.structural, (meets.classes, (meets.syntaxes, (meets.single, (meets.placed, (meets.limits, tt))))))))
 
 -- an entry that is not the superior changes nothing of it
-misplaced-past :
+pub misplaced-past :
     (front back : List EntryInformation) (new other : EntryInformation) → is_same (superior_name other.name) new.name ≡ false
     → is_misplaced None (front ++ new ∷ back) other ≡ is_misplaced None (front ++ back) other
 unfolding is_misplaced
@@ -59,7 +59,7 @@ counted false true before now old now_is old_is new_fits fits =
     let same : now ≡ before = omega arith in ap (nat_le 256) same ∙ fits
 
 -- the counts of the last rule grow by one at most, and stay as they were when the new entry was checked
-limits-past :
+pub limits-past :
     (a b c d : List EntryInformation) (new other : EntryInformation) → a ++ b ≡ c ++ d
     → is_past_limits (c ++ other ∷ d) new ≡ false → is_past_limits (c ++ d) other ≡ false
     → is_past_limits (a ++ new ∷ b) other ≡ false

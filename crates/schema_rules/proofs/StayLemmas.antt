@@ -20,7 +20,7 @@ pub record IsPut (entry : EntryInformation) (entries new_entries : List EntryInf
   pub old : entries ≡ front ++ back
   pub new : new_entries ≡ front ++ entry ∷ back
 
-is_put : (entry : EntryInformation) (entries : List EntryInformation) → IsPut entry entries (put_in entry entries)
+pub is_put : (entry : EntryInformation) (entries : List EntryInformation) → IsPut entry entries (put_in entry entries)
 is_put entry [] = record { front = []; back = []; old = refl; new = refl }
 is_put entry (first ∷ rest) =
     let later = is_put entry rest in
@@ -103,7 +103,7 @@ MeetsRules-put_in entries entry tree meets named absent has unbroken before afte
     (ap (λ entries. broken_rule None entries entry) (sym put.old) ∙ unbroken) (sym put.new ∙ is)
 
 -- what holds of all holds of them with one more of which it holds
-all_put_in :
+pub all_put_in :
     (P : EntryInformation → Type 0) (entry : EntryInformation) (entries : List EntryInformation) → P entry
     → AllByRecursion P entries → AllByRecursion P (put_in entry entries)
 all_put_in P entry [] here all = (here, tt)

@@ -4,3 +4,4 @@ pub mod Rules
 pub mod Checking
 -- for the inside of the crate alone
 pub mod Classes
+pub mod Beside

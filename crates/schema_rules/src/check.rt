@@ -1,9 +1,9 @@
-//! Whether an entry may be added to a tree.
+//! Whether an entry may stand in a tree.
 
 ghost use Rattle.std.specs.Prelude.{◌≡◌, None, IfOk, IfErr};
 ghost use Rattle.std.specs.Option.{option_map};
 ghost use Rattle.dir_tree.specs.Numbered.{entries_of};
-ghost use Rattle.schema_rules.specs.Checking.{IsSuperior, IsFor};
+ghost use Rattle.schema_rules.specs.Checking.{IsSuperior, IsFor, replaced, others};
 ghost use Rattle.schema_rules.specs.Rules.{broken_rule};
 
 use crate::broken::Broken;
@@ -12,25 +12,31 @@ use crate::rules::broken_rule;
 use dir_tree::{Entry, EntryNo, Tree};
 use std::alloc::{AllocError, Global};
 
-/// Whether the entry may be added to the tree: `Rule` comes exactly where it breaks a rule, with the code of the
-/// first one. `NoMemory` may come in place of any answer: values of subtreeSpecification are read. An entry that takes the
-/// place of another isn't checked yet.
+/// Whether the entry may stand in the tree in the place of the entry of the number, or, without a number, as a new one:
+/// `Rule` comes exactly where it breaks a rule beside the others, with the code of the first one. `NoMemory` may come
+/// in place of any answer: values of subtreeSpecification are read. A number that is not in use is none.
 pub fn check_entry(
     alloc: Global,
     tree: &Tree,
     old: Option<EntryNo>,
     entry: &Entry,
 ) -> Result<(), Broken>
-    requires { old ≡ None }
-    ensures ok { IfOk result (λ _. broken_rule None (entries_of tree.now) entry.now ≡ None) }
+    ensures ok { IfOk result (λ _. broken_rule (replaced (option_map (λ no. no.0) old) tree.now)
+        (others (option_map (λ no. no.0) old) tree.now) entry.now ≡ None) }
     ensures rule { IfErr result (λ broken.
-        IsFor broken (broken_rule None (entries_of tree.now) entry.now)) }
+        IsFor broken (broken_rule (replaced (option_map (λ no. no.0) old) tree.now)
+        (others (option_map (λ no. no.0) old) tree.now) entry.now)) }
 {
-    check_entry_below(alloc, tree, number_above(tree, entry.name()), entry)
+    let superior = number_above(tree, entry.name());
+    match broken_rule(alloc, tree, old, superior, entry) {
+        Ok(Some(code)) => Err(Broken::Rule(code)),
+        Ok(None) => Ok(()),
+        Err(AllocError) => Err(Broken::NoMemory),
+    }
 }
 
-/// The same for a caller that knows the number of the entry's superior: the tree isn't searched for it. None says that
-/// the tree has no entry of the superior's name.
+/// The same of a new entry for a caller that knows the number of its superior: the tree isn't searched for it. None says
+/// that the tree has no entry of the superior's name.
 pub fn check_entry_below(
     alloc: Global,
     tree: &Tree,
@@ -42,7 +48,7 @@ pub fn check_entry_below(
     ensures rule { IfErr result (λ broken.
         IsFor broken (broken_rule None (entries_of tree.now) entry.now)) }
 {
-    match broken_rule(alloc, tree, superior, entry) {
+    match broken_rule(alloc, tree, None, superior, entry) {
         Ok(Some(code)) => Err(Broken::Rule(code)),
         Ok(None) => Ok(()),
         Err(AllocError) => Err(Broken::NoMemory),

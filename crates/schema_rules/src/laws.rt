@@ -1,9 +1,10 @@
 //! The laws of the rules: each function computes nothing, and what it ensures is a law.
 
-ghost use Rattle.std.specs.Prelude.{◌≡◌, ◌≢◌, ◌↔◌, List, [], Option, None, false};
+ghost use Rattle.std.specs.Prelude.{◌≡◌, ◌≢◌, ◌↔◌, List, [], Option, None, Some, true, false};
+ghost use Rattle.dn_names.specs.NameOrder.{is_same};
 ghost use Rattle.dn_names.specs.GoodNames.{IsGoodName};
 ghost use Rattle.dir_tree.specs.Entries.{EntryInformation, IsGoodAttributes};
-ghost use Rattle.dir_tree.specs.Trees.{has_name, lacks_superior, put_in};
+ghost use Rattle.dir_tree.specs.Trees.{has_name, named_in, superior_name, lacks_superior, has_below, put_in, taken_out};
 ghost use Rattle.schema_rules.specs.Rules.{broken_rule, Meets, AreGood};
 
 /// No rule is broken exactly where each one is met.
@@ -20,4 +21,21 @@ pub fn a_tree_stays_good()
         → entry.name ≢ [] → IsGoodName entry.name → IsGoodAttributes entry.attributes
         → has_name entry.name entries ≡ false → lacks_superior entry.name entries ≡ false
         → broken_rule None entries entry ≡ None → AreGood (put_in entry entries) }
+{}
+
+/// Good entries stay so where one takes another's place and breaks no rule there: under the same name, or, where none
+/// stands below, under a free name below the same superior.
+pub fn a_tree_stays_good_in_place()
+    ensures same { (entries : List EntryInformation) (old new : EntryInformation) → AreGood entries
+        → named_in old.name entries ≡ Some old → is_same new.name old.name ≡ true
+        → new.name ≢ [] → IsGoodName new.name → IsGoodAttributes new.attributes
+        → broken_rule (Some old) (taken_out old.name entries) new ≡ None
+        → AreGood (put_in new (taken_out old.name entries)) }
+    ensures renamed { (entries : List EntryInformation) (old new : EntryInformation) → AreGood entries
+        → named_in old.name entries ≡ Some old → has_below old.name entries ≡ false
+        → new.name ≢ [] → has_name new.name (taken_out old.name entries) ≡ false
+        → is_same (superior_name new.name) (superior_name old.name) ≡ true
+        → IsGoodName new.name → IsGoodAttributes new.attributes
+        → broken_rule (Some old) (taken_out old.name entries) new ≡ None
+        → AreGood (put_in new (taken_out old.name entries)) }
 {}

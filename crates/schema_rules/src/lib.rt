@@ -9,11 +9,13 @@ mod laws;
 mod limits;
 mod listed;
 mod marks;
+mod old;
 mod own;
 mod points;
 mod rules;
+mod structural;
 mod values;
 
 pub use broken::{Broken, NoMemory};
 pub use check::{check_entry, check_entry_below};
-pub use laws::{a_tree_stays_good, an_entry_meets_the_rules_or_breaks_one};
+pub use laws::{a_tree_stays_good, a_tree_stays_good_in_place, an_entry_meets_the_rules_or_breaks_one};

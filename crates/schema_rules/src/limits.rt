@@ -1,12 +1,15 @@
 //! How much a tree and an entry hold at most.
 
-ghost use Rattle.std.specs.Prelude.{◌≡◌, ◌&&◌, nat_le, nat_lt, length};
+ghost use Rattle.std.specs.Prelude.{◌≡◌, false, ◌&&◌, nat_le, nat_lt, length};
+ghost use Rattle.std.specs.Option.{option_map, option_map_or};
+ghost use Rattle.dir_tree.specs.Numbered.{IsNumberedTree, entries_of};
 ghost use Rattle.dir_tree.specs.Points.{is_access_subentry, access_subentries};
-ghost use Rattle.dir_tree.specs.Numbered.{entries_of};
+ghost use Rattle.schema_rules.specs.Checking.{replaced, others};
 ghost use Rattle.schema_rules.specs.Rules.{octets_in, is_past_limits};
 
+use crate::old::replaced;
 use crate::values::{MOST_OCTETS, octets_in};
-use dir_tree::{Entry, Tree};
+use dir_tree::{Entry, EntryNo, Tree};
 
 /// How many entries a tree has at most.
 const MOST_ENTRIES: usize = 200_000;
@@ -14,35 +17,77 @@ const MOST_ENTRIES: usize = 200_000;
 /// How many access control subentries a tree has at most.
 const MOST_SUBENTRIES: usize = 256;
 
-/// Whether the tree is full, the entry is one access control subentry more than the tree may have, or its values have
-/// too many octets.
+/// Whether the tree is full without the entry whose place is taken, the entry is one access control subentry more than
+/// the tree may have, or its values have too many octets.
 #[tactic(auto, unfolding(crate::specs::Rules::is_past_limits))]
-pub(crate) fn is_past_limits(tree: &Tree, entry: &Entry) -> bool
-    ensures exact { result ≡ is_past_limits (entries_of tree.now) entry.now }
+pub(crate) fn is_past_limits(tree: &Tree, old: Option<EntryNo>, entry: &Entry) -> bool
+    ensures exact { result ≡ is_past_limits (others (option_map (λ no. no.0) old) tree.now) entry.now }
 {
-    is_full(tree) || is_subentry_too_many(tree, entry) || is_too_large(entry)
+    is_full(tree, old) || is_subentry_too_many(tree, old, entry) || is_too_large(entry)
 }
 
-// Whether the tree has as many entries as it may.
-fn is_full(tree: &Tree) -> bool
-    ensures exact { result ≡ nat_le 200000 (length (entries_of tree.now)) }
+// Whether as many entries stand beside the one whose place is taken as a tree may have.
+fn is_full(tree: &Tree, old: Option<EntryNo>) -> bool
+    ensures exact { result ≡ nat_le 200000 (length (others (option_map (λ no. no.0) old) tree.now)) }
 {
-    tree.len() >= MOST_ENTRIES
+    count_beside(tree, old) >= MOST_ENTRIES
 }
 
-// Whether the entry is an access control subentry, and the tree has as many as it may.
-fn is_subentry_too_many(tree: &Tree, entry: &Entry) -> bool
+// How many entries stand beside the one whose place is taken.
+fn count_beside(tree: &Tree, old: Option<EntryNo>) -> usize
+    ensures exact { result ≡ length (others (option_map (λ no. no.0) old) tree.now) }
+{
+    match replaced(tree, old) {
+        Some(_) => tree.len().saturating_sub(1),
+        None => tree.len(),
+    }
+}
+
+// Whether the entry is an access control subentry, and the tree has as many others as it may.
+fn is_subentry_too_many(tree: &Tree, old: Option<EntryNo>, entry: &Entry) -> bool
     ensures exact { result
-        ≡ (is_access_subentry entry.now && nat_le 256 (access_subentries (entries_of tree.now))) }
+        ≡ (is_access_subentry entry.now
+        && nat_le 256 (access_subentries (others (option_map (λ no. no.0) old) tree.now))) }
 {
-    is_full_of_subentries(tree) && entry.is_access_subentry()
+    is_full_of_subentries(tree, old) && entry.is_access_subentry()
 }
 
-// Whether the tree has as many access control subentries as it may.
-fn is_full_of_subentries(tree: &Tree) -> bool
-    ensures exact { result ≡ nat_le 256 (access_subentries (entries_of tree.now)) }
+// Whether as many access control subentries stand beside the entry whose place is taken as a tree may have.
+fn is_full_of_subentries(tree: &Tree, old: Option<EntryNo>) -> bool
+    ensures exact { result
+        ≡ nat_le 256 (access_subentries (others (option_map (λ no. no.0) old) tree.now)) }
 {
-    tree.access_subentries().len() >= MOST_SUBENTRIES
+    subentries_beside(tree, old) >= MOST_SUBENTRIES
+}
+
+// How many access control subentries stand beside the entry whose place is taken.
+fn subentries_beside(tree: &Tree, old: Option<EntryNo>) -> usize
+    ensures exact { result ≡ access_subentries (others (option_map (λ no. no.0) old) tree.now) }
+{
+    if takes_subentry(tree, old) {
+        count_subentries(tree).saturating_sub(1)
+    } else {
+        count_subentries(tree)
+    }
+}
+
+// How many access control subentries the tree has.
+fn count_subentries(tree: &Tree) -> usize
+    ensures exact { result ≡ access_subentries (entries_of tree.now) }
+{
+    tree.access_subentries().len()
+}
+
+// Whether the entry whose place is taken is an access control subentry.
+fn takes_subentry(tree: &Tree, old: Option<EntryNo>) -> bool
+    ensures exact { result
+        ≡ option_map_or is_access_subentry (replaced (option_map (λ no. no.0) old) tree.now) false }
+    ensures tree { IsNumberedTree tree.now }
+{
+    match replaced(tree, old) {
+        Some(entry) => entry.is_access_subentry(),
+        None => false,
+    }
 }
 
 // Whether the entry's values have more octets than they may.

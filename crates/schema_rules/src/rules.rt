@@ -1,9 +1,8 @@
 //! The table of the rules, in the order in which they are tried.
 
-ghost use Rattle.std.specs.Prelude.{◌≡◌, None, IfOk};
+ghost use Rattle.std.specs.Prelude.{◌≡◌, IfOk};
 ghost use Rattle.std.specs.Option.{option_map};
-ghost use Rattle.dir_tree.specs.Numbered.{entries_of};
-ghost use Rattle.schema_rules.specs.Checking.{IsSuperior};
+ghost use Rattle.schema_rules.specs.Checking.{IsSuperior, replaced, others};
 ghost use Rattle.schema_rules.specs.Rules.{breaks_classes, broken_rule};
 
 use crate::broken::NoMemory;
@@ -14,33 +13,39 @@ use crate::listed::{
 };
 use crate::own::lacks_own_value;
 use crate::points::is_misplaced;
+use crate::structural::has_other_structural;
 use crate::values::{has_two_values, has_unread};
 use dir_tree::{Entry, EntryNo, Tree};
 use std::alloc::Global;
 
-/// The result code of the first rule that the entry breaks in the tree; None where it breaks none. The number is that
-/// of its superior.
-#[tactic(auto, unfolding(crate::specs::Rules::broken_rule, crate::specs::Rules::has_other_structural))]
+/// The result code of the first rule that the entry breaks in the tree, as a new one or in the place of the entry of the
+/// first number; None where it breaks none. The second number is that of its superior.
+#[tactic(auto, unfolding(crate::specs::Rules::broken_rule))]
 pub(crate) fn broken_rule(
     alloc: Global,
     tree: &Tree,
+    old: Option<EntryNo>,
     superior: Option<EntryNo>,
     entry: &Entry,
 ) -> Result<Option<u8>, NoMemory>
     requires { IsSuperior (option_map (λ no. no.0) superior) entry.now tree.now }
-    ensures exact { IfOk result (λ code. code ≡ broken_rule None (entries_of tree.now) entry.now) }
+    ensures exact { IfOk result (λ code. code
+        ≡ broken_rule (replaced (option_map (λ no. no.0) old) tree.now)
+        (others (option_map (λ no. no.0) old) tree.now) entry.now) }
 {
     if lacks_own_value(entry) {
         Ok(Some(67))
+    } else if has_other_structural(tree, old, entry) {
+        Ok(Some(69))
     } else if breaks_classes(entry) {
         Ok(Some(65))
     } else if has_unread(alloc, entry)? {
         Ok(Some(21))
     } else if has_two_values(entry) {
         Ok(Some(19))
-    } else if is_misplaced(tree, superior, entry) {
+    } else if is_misplaced(tree, old, superior, entry) {
         Ok(Some(64))
-    } else if is_past_limits(tree, entry) {
+    } else if is_past_limits(tree, old, entry) {
         Ok(Some(11))
     } else {
         Ok(None)

@@ -21,7 +21,7 @@ use Rattle.op_update.specs.Deleting.{delete_refusal}
 use Rattle.op_update.specs.Updates.{unless, deleted_target, deleted_named, deleted, IsChanged}
 use Rattle.update_laws.specs.Granting.{MayDelete}
 use Rattle.update_laws.proofs.TableLemmas.{none_of, none_from, not_when, when_not, unless-good, unless-refused, unless-made}
-use Rattle.update_laws.proofs.TakenLemmas.{AreGood-taken_out}
+use Rattle.schema_rules.proofs.Theorems.{AreGood-taken_out}
 
 -- an entry that is found by a name is found by its own
 same_itself : (name : RdnSequence) → is_same name name ≡ true

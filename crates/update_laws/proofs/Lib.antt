@@ -1,5 +1,3 @@
-pub mod ListLemmas
-pub mod TakenLemmas
 pub mod TableLemmas
 pub mod DeleteLemmas
 pub mod ReadingLemmas

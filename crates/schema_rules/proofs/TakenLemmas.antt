@@ -3,25 +3,25 @@ use Rattle.std.proofs.Common.{◌≡◌, ◌≢◌, ℕ, ◌-◌, ◌≤◌, nat
 use Rattle.std.specs.List.{AllByRecursion}
 use Rattle.std.proofs.lemmas.Bool.{and_from, or_parts, or_from, false_from_ne_true, true≢false}
 use Rattle.std.proofs.lemmas.Bool.Decides.{nat_tests}
-use Rattle.std.proofs.lemmas.List.{length-map, length-take-le}
 use Rattle.dn_names.specs.Names.{RdnSequence}
-use Rattle.dn_names.specs.NameOrder.{is_same, is_prefix_of, type_and_key}
+use Rattle.dn_names.specs.NameOrder.{is_same, is_prefix_of}
 use Rattle.dn_names.specs.GoodNames.{IsGoodName}
-use Rattle.dn_names.proofs.Theorems.{is_same-types_and_keys}
 use Rattle.dir_tree.specs.Entries.{EntryInformation, IsGoodAttributes}
 use Rattle.dir_tree.specs.Points.{is_access_subentry, access_subentries}
 use Rattle.dir_tree.specs.Trees.{is_before, is_named, is_below, has_below, named_in, superior_name, put_in, taken_out, IsInOrder}
 use Rattle.dir_tree.proofs.TreeTheorems.{put_in-taken_out, tree-taken_out}
 use Rattle.schema_rules.specs.Rules.{broken_rule, is_misplaced, is_past_limits, stands_wrong, MeetsRules, AreGood}
-use Rattle.schema_rules.proofs.Theorems.{Meets-from_broken_rule, broken_rule-from_Meets}
-use Rattle.update_laws.proofs.ListLemmas.{stands, all_at, all_filter, find-past, filter-fewer, length-fewer}
+use Rattle.schema_rules.proofs.ListPlaceLemmas.{all_at, find-past}
+use Rattle.schema_rules.proofs.ListTakenLemmas.{stands, all_filter, filter-fewer, length-fewer}
+use Rattle.schema_rules.proofs.RootLemmas.{length-same, length-superior, filled}
+use Rattle.schema_rules.proofs.RuleLemmas.{Meets-from_broken_rule, broken_rule-from_Meets}
 
 -- where an entry was taken out
-record IsTaken (old : EntryInformation) (entries left : List EntryInformation) : Type 0 where
-  front : List EntryInformation
-  back : List EntryInformation
-  before : entries ≡ front ++ old ∷ back
-  after : left ≡ front ++ back
+pub record IsTaken (old : EntryInformation) (entries left : List EntryInformation) : Type 0 where
+  pub front : List EntryInformation
+  pub back : List EntryInformation
+  pub before : entries ≡ front ++ old ∷ back
+  pub after : left ≡ front ++ back
 
 taken_after_put : (old : EntryInformation) (left : List EntryInformation) → IsTaken old (put_in old left) left
 taken_after_put old [] = record { front = []; back = []; before = refl; after = refl }
@@ -38,34 +38,30 @@ taken_after_put old (first ∷ rest) =
       | false ↦ record { front = []; back = first ∷ rest; before = refl; after = refl }
     ]
 
-taken_at :
+pub taken_at :
     (old : EntryInformation) (entries : List EntryInformation) → IsInOrder entries → named_in old.name entries ≡ Some old
     → IsTaken old entries (taken_out old.name entries)
 taken_at old entries sorted known =
     subst (λ (all : List EntryInformation). IsTaken old all (taken_out old.name entries)) (put_in-taken_out old entries sorted known)
     (taken_after_put old (taken_out old.name entries))
 
--- names that are the same have as many RDNs
-length-same : (one other : RdnSequence) → is_same one other ≡ true → length one ≡ length other
-length-same one other same =
-    sym (length-map one (map type_and_key))
-    ∙ ap length ((is_same-types_and_keys one other).0 same)
-    ∙ length-map other (map type_and_key)
-
-filled : (name : RdnSequence) → name ≢ [] → 1 ≤ length name
-filled [] named = absurd (named refl)
-filled (rdn ∷ rdns) named = omega arith
-
--- a name stands below that of its superior
-below_superior : (base name : RdnSequence) → name ≢ [] → is_same (superior_name name) base ≡ true → is_below base name ≡ true
+-- a name begins with that of its superior, and stands below it
+pub front_of_superior :
+    (base name : RdnSequence) → name ≢ [] → is_same (superior_name name) base ≡ true → is_prefix_of base name ≡ true
 unfolding is_prefix_of
+front_of_superior base name named same =
+    let some = filled name named in
+    let long = length-same (superior_name name) base same in
+    let front : length name - 1 ≡ length base = sym (length-superior name) ∙ long in
+    subst (λ (count : ℕ). is_same (take count name) base ≡ true) front same
+
+below_superior : (base name : RdnSequence) → name ≢ [] → is_same (superior_name name) base ≡ true → is_below base name ≡ true
 below_superior base name named same =
     let some = filled name named in
     let long = length-same (superior_name name) base same in
-    let front : length name - 1 ≡ length base = sym (length-take-le (length name - 1) name (omega arith)) ∙ long in
-    let prefix : is_same (take (length base) name) base ≡ true = subst (λ (count : ℕ). is_same (take count name) base ≡ true) front same in
+    let shorter = length-superior name in
     let less : nat_lt (length base) (length name) ≡ true = grind (arith, nat_tests) in
-    and_from _ _ prefix less
+    and_from _ _ (front_of_superior base name named same) less
 
 -- the entry's superior has another name
 abbrev IsApart : RdnSequence → EntryInformation → Type 0
@@ -98,7 +94,7 @@ counted : (mine : Bool) (now before : ℕ) → now ≤ before → (mine && nat_l
 counted true now before less fits = fewer 256 now before less fits
 counted false now before less fits = refl
 
-limits-without :
+pub limits-without :
     (front back : List EntryInformation) (old other : EntryInformation)
     → is_past_limits (front ++ old ∷ back) other ≡ false → is_past_limits (front ++ back) other ≡ false
 unfolding is_past_limits

@@ -1,5 +1,5 @@
 -- A list without the element at a place, looked at around another element.
-use Rattle.std.proofs.Common.{◌≡◌, ◌≤◌, Bool, true, false, List, [], ◌∷◌, ◌++◌, ◌⊎◌, length, filter, find, if◌then◌else◌, Some, refl, inl, inr, length-append, arith}
+use Rattle.std.proofs.Common.{◌≡◌, ◌≤◌, Bool, true, false, List, [], ◌∷◌, ◌++◌, ◌⊎◌, length, filter, if◌then◌else◌, refl, inl, inr, length-append, arith}
 use Rattle.std.specs.List.{AllByRecursion}
 use Rattle.std.proofs.lemmas.Bool.{cond_both}
 
@@ -39,29 +39,13 @@ stands (first ∷ front) back (second ∷ before) after x is =
     let rest : front ++ back ≡ before ++ x ∷ after = cc in
     one_more first second front back before after x same (stands front back before after x rest)
 
--- what holds of all
-pub all_at :
-    {X : Type 0} (P : X → Type 0) (front back : List X) (x : X) → AllByRecursion P (front ++ x ∷ back) → P x
-all_at P [] back x all = all.0
-all_at P (first ∷ front) back x all = all_at P front back x all.1
-
+-- what holds of all holds of those kept
 pub all_filter :
     {X : Type 0} (P : X → Type 0) (test : X → Bool) (xs : List X) → AllByRecursion P xs → AllByRecursion P (filter test xs)
 all_filter P test [] all = tt
 all_filter P test (x ∷ xs) all =
     let later = all_filter P test xs all.1 in
     cond_both (test x) (x ∷ filter test xs) (filter test xs) (λ kept. AllByRecursion P kept) (λ _. (all.0, later)) (λ _. later)
-
--- an element that does not pass is passed over
-pub find-past :
-    {X : Type 0} (test : X → Bool) (front back : List X) (x : X) → test x ≡ false
-    → find test (front ++ x ∷ back) ≡ find test (front ++ back)
-find-past test [] back x fails = rw fails refl
-find-past test (first ∷ front) back x fails =
-    elim (test first) as (λ b. (if b then Some first else find test (front ++ x ∷ back)) ≡ (if b then Some first else find test (front ++ back))) [
-      | true ↦ refl
-      | false ↦ find-past test front back x fails
-    ]
 
 -- no more pass
 pub filter-fewer :

@@ -1,0 +1,8 @@
+-- The tree keeps the number of each access control subentry.
+use Rattle.schema_rules.proofs.TreeLemmas.{count-numbers}
+use Rattle.schema_rules.proofs.limits.count_subentries.Goals as goal
+
+pub returns : goal.returns
+returns c = record {
+  exact = count-numbers c.access_subentries.result.now c.args.tree.now c.access_subentries.ensures.exact;
+}
