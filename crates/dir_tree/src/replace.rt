@@ -8,14 +8,15 @@ ghost use Rattle.dir_tree.specs.Refusals.{is_elsewhere};
 
 use crate::entry::Entry;
 use crate::number::EntryNo;
-use crate::paths::{copy_path, same_superior};
+use crate::paths::{copy_path, copy_places, same_superior};
 use crate::reader::{TreeReader, Unread};
 use crate::refusals::ReplaceRefusal;
 use crate::slots::replace_entry;
-use crate::subentries::{drop_number, list_number, make_room};
+use crate::subentries::relisted;
 use crate::tree::Tree;
 use dn_names::{Dn, same};
 use std::alloc::AllocError;
+use std::mem::replace;
 
 impl Tree {
     ghost use Rattle.dir_tree.specs.Trees.{has_name, has_below};
@@ -168,10 +169,8 @@ impl Tree {
         ensures kept { OnErr result (self.new ≡ self.old) }
         ensures read { OnOk result (R.has_read reader.new self.new) }
     {
-        let numbers = self.subentries.clone()?;
-        make_room(&mut self.subentries, &entry)?;
-        drop_number(&mut self.subentries, no);
-        list_number(&self.slots, &mut self.subentries, &entry, no);
+        let numbers = relisted(&self.slots, &self.subentries, &entry, no)?;
+        let numbers = replace(&mut self.subentries, numbers);
         let old = replace_entry(&mut self.slots, no.0, entry);
         match reader.read(self) {
             Ok(()) => Ok(old),
@@ -183,7 +182,8 @@ impl Tree {
         }
     }
 
-    // Gives the place of the entry of the number to one of another name: its path key comes in before the old one goes.
+    // Gives the place of the entry of the number to one of another name: its path key comes into a copy
+    // of the map before the old one goes.
     fn change_path<R: TreeReader>(
         &mut self,
         no: EntryNo,
@@ -198,20 +198,19 @@ impl Tree {
         ensures read { OnOk result (R.has_read reader.new self.new) }
     {
         let path = copy_path(entry.name())?;
-        let numbers = self.subentries.clone()?;
-        let places = self.places.clone()?;
-        make_room(&mut self.subentries, &entry)?;
-        self.places.insert(path, no.0)?;
-        drop_number(&mut self.subentries, no);
-        list_number(&self.slots, &mut self.subentries, &entry, no);
+        let mut places = copy_places(&self.places)?;
+        places.insert(path, no.0)?;
+        let numbers = relisted(&self.slots, &self.subentries, &entry, no)?;
+        let numbers = replace(&mut self.subentries, numbers);
         let old = replace_entry(&mut self.slots, no.0, entry);
-        let _number = self.places.remove(old.name().path().as_slice());
+        let _number = places.remove(old.name().path().as_slice());
+        let places = replace(&mut self.places, places);
         match reader.read(self) {
             Ok(()) => Ok(old),
             Err(error) => {
                 let _new = replace_entry(&mut self.slots, no.0, old);
-                self.places = places;
                 self.subentries = numbers;
+                self.places = places;
                 Err(error)
             }
         }
