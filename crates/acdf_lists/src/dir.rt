@@ -4,7 +4,7 @@ ghost use Rattle.std.specs.Prelude.{◌≡◌, ◌≢◌, ◌⊎◌, [], Some, N
 ghost use Rattle.std.specs.Option.{option_map_or};
 ghost use Rattle.dir_tree.specs.Entries.{EntryInformation};
 ghost use Rattle.dir_tree.specs.Numbered.{entry_of, entries_of, entries_at, put_entry, without};
-ghost use Rattle.dir_tree.specs.Refusals.{insert_refusal, remove_refusal};
+ghost use Rattle.dir_tree.specs.Refusals.{insert_refusal, remove_refusal, replace_refusal};
 ghost use Rattle.admin_scope.specs.InForce.{in_force};
 ghost use Rattle.acdf_filters.specs.Asking.{protected_of};
 ghost use Rattle.acdf_filters.specs.Granted.{granted, granted_new};
@@ -12,7 +12,7 @@ ghost use Rattle.acdf_filters.specs.Weighing.{AreMemberships};
 
 use acdf_filters::{Item, Membership, Requester};
 use aci_item::Permission;
-use dir_tree::{Entry, EntryNo, InsertRefusal, NoMemory, RemoveRefusal, Tree};
+use dir_tree::{Entry, EntryNo, InsertRefusal, NoMemory, RemoveRefusal, ReplaceRefusal, Tree};
 use std::alloc::Global;
 
 /// A directory. Contracts see its numbered entries.
@@ -96,5 +96,25 @@ pub trait Dir {
         ensures exact { OnOk result (remove_refusal no.0 (rows self.old) ≡ None) }
         ensures cause { IfErr result (λ refusal. (refusal ≡ RemoveRefusal.NoMemory)
             ⊎ (remove_refusal no.0 (rows self.old) ≡ Some refusal)) }
+        ensures kept { OnErr result (rows self.new ≡ rows self.old) };
+
+    /// Gives the entry's place to another, which is known by the same number. The memory that the attributes of the
+    /// other do not need is given back.
+    ///
+    /// Each refusal comes in exactly one case, and of several the first: `Absent` for a number that is not in use,
+    /// `NameTaken` where the new name is that of another entry, `Elsewhere` for the empty name and for one below
+    /// another superior, and `HasBelow` where the new name is not the same as the old one and entries stand below.
+    /// `NoMemory`, where memory is refused, may come before these, and then nothing has changed.
+    fn replace(
+        &mut self,
+        alloc: Global,
+        no: EntryNo,
+        entry: Entry,
+    ) -> Result<Entry, ReplaceRefusal>
+        ensures found { IfOk result (λ old. entry_of no.0 (rows self.old) ≡ Some old) }
+        ensures ok { OnOk result (rows self.new ≡ put_entry no.0 entry (without no.0 (rows self.old))) }
+        ensures exact { OnOk result (replace_refusal no.0 entry.name (rows self.old) ≡ None) }
+        ensures cause { IfErr result (λ refusal. (refusal ≡ ReplaceRefusal.NoMemory)
+            ⊎ (replace_refusal no.0 entry.name (rows self.old) ≡ Some refusal)) }
         ensures kept { OnErr result (rows self.new ≡ rows self.old) };
 }

@@ -9,6 +9,7 @@ mod kept;
 mod making;
 mod newcomers;
 mod plain_dir;
+mod replacing;
 
 pub use decision::decide;
 pub use dir::Dir;

@@ -13,9 +13,10 @@ use crate::groups::memberships_in;
 use crate::kept::{Holdings, in_force_at};
 use crate::making::hold;
 use crate::newcomers::decide_new;
+use crate::replacing::replace_in;
 use acdf_filters::{Item, Membership, Question, Requester};
 use aci_item::Permission;
-use dir_tree::{Entry, EntryNo, InsertRefusal, NoMemory, RemoveRefusal, Tree};
+use dir_tree::{Entry, EntryNo, InsertRefusal, NoMemory, RemoveRefusal, ReplaceRefusal, Tree};
 use std::alloc::Global;
 use std::marker::Model;
 
@@ -132,5 +133,16 @@ impl Dir for PlainDir {
         let entry = self.tree.remove(no)?;
         forget(alloc, &mut self.held, no);
         Ok(entry)
+    }
+
+    fn replace(
+        &mut self,
+        alloc: Global,
+        no: EntryNo,
+        entry: Entry,
+    ) -> Result<Entry, ReplaceRefusal> {
+        let replaced = replace_in(alloc, &mut self.tree, no, entry)?;
+        self.held = replaced.held;
+        Ok(replaced.old)
     }
 }

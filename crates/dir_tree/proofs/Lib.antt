@@ -21,6 +21,8 @@ pub mod PathLemmas
 pub mod KeptLemmas
 pub mod AccessLemmas
 pub mod ReplaceLemmas
+pub mod CopyLemmas
+pub mod MappedLemmas
 pub mod TreeLemmas
 pub mod TreeExamples
 pub mod StayLaws

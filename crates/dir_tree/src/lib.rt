@@ -10,6 +10,7 @@ mod insert;
 mod laws;
 mod number;
 mod paths;
+mod reader;
 mod refusals;
 mod remove;
 mod replace;
@@ -29,6 +30,7 @@ pub use laws::{
     a_class_has_the_identifiers_of_its_superior, an_attribute_is_found_by_its_type,
 };
 pub use number::EntryNo;
+pub use reader::TreeReader;
 pub use refusals::{InsertRefusal, RemoveRefusal, ReplaceRefusal};
 pub use scope::Scope;
 pub use tree::Tree;

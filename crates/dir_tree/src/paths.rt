@@ -6,11 +6,13 @@ ghost use Rattle.dn_names.specs.Names.{RdnSequence};
 ghost use Rattle.dn_names.specs.NameOrder.{is_same};
 ghost use Rattle.dn_names.specs.PathKeys.{path_key};
 ghost use Rattle.dir_tree.specs.Trees.{superior_name};
+ghost use Rattle.dir_tree.specs.Maps.{HasSamePlaces};
 
 use crate::number::EntryNo;
 use crate::tree::Tree;
 use dn_names::Dn;
 use std::alloc::AllocError;
+use std::collections::BTreeMap;
 
 impl Tree {
     ghost use Rattle.dir_tree.specs.Numbered.{find_name};
@@ -57,4 +59,15 @@ pub(crate) fn copy_path(name: &Dn) -> Result<Vec<u8>, AllocError>
 {
     let path = name.path();
     path.as_slice().to_vec(*path.allocator())
+}
+
+/// The numbers by path keys, in memory of their own.
+pub(crate) fn copy_places(
+    places: &BTreeMap<Vec<u8>, u32>,
+) -> Result<BTreeMap<Vec<u8>, u32>, AllocError>
+    ensures ok { IfOk result (λ copy.
+        HasSamePlaces (λ key. key.items) places.now.entries copy.entries) }
+{
+    let copy = places.clone()?;
+    Ok(copy)
 }

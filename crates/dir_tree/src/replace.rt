@@ -8,13 +8,15 @@ ghost use Rattle.dir_tree.specs.Refusals.{is_elsewhere};
 
 use crate::entry::Entry;
 use crate::number::EntryNo;
-use crate::paths::{copy_path, same_superior};
+use crate::paths::{copy_path, copy_places, same_superior};
+use crate::reader::{TreeReader, Unread};
 use crate::refusals::ReplaceRefusal;
 use crate::slots::replace_entry;
-use crate::subentries::{drop_number, list_number, make_room};
+use crate::subentries::relisted;
 use crate::tree::Tree;
 use dn_names::{Dn, same};
 use std::alloc::AllocError;
+use std::mem::replace;
 
 impl Tree {
     ghost use Rattle.dir_tree.specs.Trees.{has_name, has_below};
@@ -37,11 +39,33 @@ impl Tree {
             ⊎ (replace_refusal no.0 entry.name self.old ≡ Some refusal)) }
         ensures kept { OnErr result (self.new ≡ self.old) }
     {
+        self.replace_read(no, entry, &mut Unread)
+    }
+
+    /// Gives the entry's place to another, as `replace` does, and lets the reader read the tree as it then is. Where the
+    /// reader wants memory, the refusal is `NoMemory`, and the tree is put back as it was, which takes no memory.
+    pub fn replace_read<R: TreeReader>(
+        &mut self,
+        no: EntryNo,
+        entry: Entry,
+        reader: &mut R,
+    ) -> Result<Entry, ReplaceRefusal>
+        ensures found { IfOk result (λ old. entry_of no.0 self.old ≡ Some old) }
+        ensures ok { OnOk result (self.new ≡ put_entry no.0 entry (without no.0 self.old)) }
+        ensures exact { OnOk result (replace_refusal no.0 entry.name self.old ≡ None) }
+        // Want of memory comes after the other causes.
+        ensures cause { IfErr result (λ refusal. (refusal ≡ ReplaceRefusal.NoMemory)
+            ⊎ (replace_refusal no.0 entry.name self.old ≡ Some refusal)) }
+        ensures kept { OnErr result (self.new ≡ self.old) }
+
+        // What the reader made is of the tree as it is now.
+        ensures read { OnOk result (R.has_read reader.new self.new) }
+    {
         match self.replaceable(no, entry.name()) {
             Ok(()) => {
                 let mut entry = entry;
                 entry.fit();
-                match self.change(no, entry) {
+                match self.change(no, entry, reader) {
                     Ok(old) => Ok(old),
                     Err(_) => Err(ReplaceRefusal::NoMemory),
                 }
@@ -101,16 +125,22 @@ impl Tree {
     }
 
     // Gives the place of the entry of the number to another.
-    fn change(&mut self, no: EntryNo, entry: Entry) -> Result<Entry, AllocError>
+    fn change<R: TreeReader>(
+        &mut self,
+        no: EntryNo,
+        entry: Entry,
+        reader: &mut R,
+    ) -> Result<Entry, AllocError>
         requires may { IsReplaceable no.0 entry.name self.old }
         ensures found { IfOk result (λ old. entry_of no.0 self.old ≡ Some old) }
         ensures ok { OnOk result (self.new ≡ put_entry no.0 entry (without no.0 self.old)) }
         ensures kept { OnErr result (self.new ≡ self.old) }
+        ensures read { OnOk result (R.has_read reader.new self.new) }
     {
         if self.is_called(no, entry.name()) {
-            self.change_here(no, entry)
+            self.change_here(no, entry, reader)
         } else {
-            self.change_path(no, entry)
+            self.change_path(no, entry, reader)
         }
     }
 
@@ -126,35 +156,64 @@ impl Tree {
     }
 
     // Gives the place of the entry of the number to another of the same name: the path keys stay.
-    fn change_here(&mut self, no: EntryNo, entry: Entry) -> Result<Entry, AllocError>
+    fn change_here<R: TreeReader>(
+        &mut self,
+        no: EntryNo,
+        entry: Entry,
+        reader: &mut R,
+    ) -> Result<Entry, AllocError>
         requires may { IsReplaceable no.0 entry.name self.old }
         requires called { option_map_or (λ old. is_same entry.name old.name) (entry_of no.0 self.old) false ≡ true }
         ensures found { IfOk result (λ old. entry_of no.0 self.old ≡ Some old) }
         ensures ok { OnOk result (self.new ≡ put_entry no.0 entry (without no.0 self.old)) }
         ensures kept { OnErr result (self.new ≡ self.old) }
+        ensures read { OnOk result (R.has_read reader.new self.new) }
     {
-        make_room(&mut self.subentries, &entry)?;
-        drop_number(&mut self.subentries, no);
-        list_number(&self.slots, &mut self.subentries, &entry, no);
-        Ok(replace_entry(&mut self.slots, no.0, entry))
+        let numbers = relisted(&self.slots, &self.subentries, &entry, no)?;
+        let numbers = replace(&mut self.subentries, numbers);
+        let old = replace_entry(&mut self.slots, no.0, entry);
+        match reader.read(self) {
+            Ok(()) => Ok(old),
+            Err(error) => {
+                let _new = replace_entry(&mut self.slots, no.0, old);
+                self.subentries = numbers;
+                Err(error)
+            }
+        }
     }
 
-    // Gives the place of the entry of the number to one of another name: its path key comes in before the old one goes.
-    fn change_path(&mut self, no: EntryNo, entry: Entry) -> Result<Entry, AllocError>
+    // Gives the place of the entry of the number to one of another name: its path key comes into a copy
+    // of the map before the old one goes.
+    fn change_path<R: TreeReader>(
+        &mut self,
+        no: EntryNo,
+        entry: Entry,
+        reader: &mut R,
+    ) -> Result<Entry, AllocError>
         requires may { IsReplaceable no.0 entry.name self.old }
         requires called { option_map_or (λ old. is_same entry.name old.name) (entry_of no.0 self.old) false ≡ false }
         ensures found { IfOk result (λ old. entry_of no.0 self.old ≡ Some old) }
         ensures ok { OnOk result (self.new ≡ put_entry no.0 entry (without no.0 self.old)) }
         ensures kept { OnErr result (self.new ≡ self.old) }
+        ensures read { OnOk result (R.has_read reader.new self.new) }
     {
         let path = copy_path(entry.name())?;
-        make_room(&mut self.subentries, &entry)?;
-        self.places.insert(path, no.0)?;
-        drop_number(&mut self.subentries, no);
-        list_number(&self.slots, &mut self.subentries, &entry, no);
+        let mut places = copy_places(&self.places)?;
+        places.insert(path, no.0)?;
+        let numbers = relisted(&self.slots, &self.subentries, &entry, no)?;
+        let numbers = replace(&mut self.subentries, numbers);
         let old = replace_entry(&mut self.slots, no.0, entry);
-        let _number = self.places.remove(old.name().path().as_slice());
-        Ok(old)
+        let _number = places.remove(old.name().path().as_slice());
+        let places = replace(&mut self.places, places);
+        match reader.read(self) {
+            Ok(()) => Ok(old),
+            Err(error) => {
+                let _new = replace_entry(&mut self.slots, no.0, old);
+                self.subentries = numbers;
+                self.places = places;
+                Err(error)
+            }
+        }
     }
 }
 

@@ -1,6 +1,6 @@
 //! The numbers of the access control subentries, kept in the order of the names.
 
-ghost use Rattle.std.specs.Prelude.{◌≡◌, ◌<◌, ◌≤◌, not, ◌==◌, true, length, OnErr, OnOk, vec_len, vec_capacity};
+ghost use Rattle.std.specs.Prelude.{◌≡◌, ◌<◌, ◌≤◌, not, ◌==◌, true, length, IfOk, OnErr, OnOk, vec_len, vec_capacity};
 ghost use Rattle.dir_tree.specs.Points.{is_access_subentry};
 ghost use Rattle.dir_tree.specs.Trees.{is_before};
 ghost use Rattle.dir_tree.specs.Slots.{slot_of, entry_in, numbers_in, place_among, listed_in, unlisted};
@@ -50,6 +50,23 @@ pub(crate) fn drop_number(numbers: &mut Vec<EntryNo>, no: EntryNo)
             ensures { result ≡ not (other.now.0 == no.0) }
         { other.0 != no.0 },
     );
+}
+
+/// The numbers, in memory of their own, where the entry takes the place of the one that has the number.
+pub(crate) fn relisted(
+    slots: &Vec<Option<Entry>>,
+    numbers: &Vec<EntryNo>,
+    entry: &Entry,
+    no: EntryNo,
+) -> Result<Vec<EntryNo>, AllocError>
+    ensures ok { IfOk result (λ list. numbers_in list.items
+        ≡ listed_in slots.now.items entry.now no.0 (unlisted no.0 (numbers_in numbers.now.items))) }
+{
+    let mut list = numbers.as_slice().to_vec(*numbers.allocator())?;
+    make_room(&mut list, entry)?;
+    drop_number(&mut list, no);
+    list_number(slots, &mut list, entry, no);
+    Ok(list)
 }
 
 // The place of the name among the entries of the numbers: how many come before it.
