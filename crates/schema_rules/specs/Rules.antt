@@ -1,6 +1,6 @@
 -- When an entry may not stand in a tree: the rules in the order in which they are tried, each with its result code
 -- (RFC 4511 appendix A). X.501 and X.511 leave the order open; it is this profile's.
-use Rattle.std.specs.Prelude.{◌≡◌, ◌≢◌, ℕ, nat_lt, nat_le, ◌==◌, Bool, true, false, not, ◌&&◌, ◌||◌, List, [], ◌∷◌, ◌++◌, length, find, sum_by, codes, Option, Some, None, is_none, is_err}
+use Rattle.std.specs.Prelude.{◌≡◌, ◌≢◌, ℕ, nat_lt, nat_le, ◌==◌, Bool, false, not, ◌&&◌, ◌||◌, List, [], ◌∷◌, ◌++◌, length, find, sum_by, codes, Option, Some, None, is_none, is_err}
 use Rattle.std.specs.List.{AllByRecursion, list_any, list_all}
 use Rattle.std.specs.Option.{option_map, option_map_or}
 use Rattle.schema_core.specs.declared.kinds.Syntax.{Syntax}

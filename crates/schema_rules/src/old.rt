@@ -45,11 +45,7 @@ fn found_beside(tree: &Tree, old: Option<EntryNo>, no: EntryNo) -> Option<&Entry
     ensures exact { option_map (λ entry. entry.now) result
         ≡ entry_beside (option_map (λ no. no.0) old) tree.now no.0 }
 {
-    if is_old(old, no) {
-        None
-    } else {
-        tree.at(no)
-    }
+    if is_old(old, no) { None } else { tree.at(no) }
 }
 
 // Whether the number is that of the entry whose place is taken.
