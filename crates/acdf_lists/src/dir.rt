@@ -105,12 +105,7 @@ pub trait Dir {
     /// `NameTaken` where the new name is that of another entry, `Elsewhere` for the empty name and for one below
     /// another superior, and `HasBelow` where the new name is not the same as the old one and entries stand below.
     /// `NoMemory`, where memory is refused, may come before these, and then nothing has changed.
-    fn replace(
-        &mut self,
-        alloc: Global,
-        no: EntryNo,
-        entry: Entry,
-    ) -> Result<Entry, ReplaceRefusal>
+    fn replace(&mut self, alloc: Global, no: EntryNo, entry: Entry) -> Result<Entry, ReplaceRefusal>
         ensures found { IfOk result (λ old. entry_of no.0 (rows self.old) ≡ Some old) }
         ensures ok { OnOk result (rows self.new ≡ put_entry no.0 entry (without no.0 (rows self.old))) }
         ensures exact { OnOk result (replace_refusal no.0 entry.name (rows self.old) ≡ None) }

@@ -42,6 +42,15 @@ pub(crate) fn no_lists(alloc: Global) -> Kept {
     }
 }
 
+/// What is kept beside no tree. Takes no memory.
+pub(crate) fn no_holdings(alloc: Global) -> Holdings {
+    Holdings {
+        subtrees: Vec::new(alloc),
+        lists: Vec::new(alloc),
+        groups: Vec::new(alloc),
+    }
+}
+
 /// The items of the prescriptiveACI values of the number.
 pub(crate) fn prescriptive_at(kept: &[Kept], number: EntryNo) -> &[TaggedTuples]
     ensures exact { map tagged_of result.now ≡ (lists_at kept.now number.0).prescriptive }

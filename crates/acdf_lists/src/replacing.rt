@@ -1,12 +1,11 @@
 //! What is kept, where an entry takes another's place.
 
 ghost use Rattle.std.specs.Prelude.{◌≡◌, ◌⊎◌, Some, None, IfOk, IfErr, OnOk, OnErr};
-ghost use Rattle.std.specs.Option.{IfSome};
 ghost use Rattle.dir_tree.specs.Numbered.{entry_of, put_entry, without};
 ghost use Rattle.dir_tree.specs.Refusals.{replace_refusal};
 ghost use Rattle.acdf_lists.specs.Holdings.{IsHeld};
 
-use crate::kept::Holdings;
+use crate::kept::{Holdings, no_holdings};
 use crate::making::hold;
 use dir_tree::{Entry, EntryNo, NoMemory, ReplaceRefusal, Tree, TreeReader};
 use std::alloc::Global;
@@ -18,21 +17,20 @@ pub struct Replaced {
     pub held: Holdings,
 }
 
-// Makes what is kept of the tree that it reads.
+// Makes anew what is kept beside the tree that it reads.
 #[derive(Drop)]
 struct Holder {
     alloc: Global,
-    held: Option<Holdings>,
+    held: Holdings,
 }
 
 impl TreeReader for Holder {
-    ghost use Rattle.std.specs.Prelude.{◌×◌, IfSome, IsSome};
     ghost use Rattle.acdf_lists.specs.Holdings.{IsHeld};
 
-    ghost has_read = { λ holder rows. IsSome holder.held × IfSome holder.held (λ held. IsHeld held rows) };
+    ghost has_read = { λ holder rows. IsHeld holder.held rows };
 
     fn read(&mut self, tree: &Tree) -> Result<(), NoMemory> {
-        self.held = Some(hold(self.alloc, tree)?);
+        self.held = hold(self.alloc, tree)?;
         Ok(())
     }
 }
@@ -53,10 +51,13 @@ pub(crate) fn replace_in(
         ⊎ (replace_refusal no.0 entry.name tree.old ≡ Some refusal)) }
     ensures kept { OnErr result (tree.new ≡ tree.old) }
 {
-    let mut holder = Holder { alloc, held: None };
+    let mut holder = Holder {
+        alloc,
+        held: no_holdings(alloc),
+    };
     let old = tree.replace_read(no, entry, &mut holder)?;
-    match holder.held {
-        Some(held) => Ok(Replaced { old, held }),
-        None => unreachable!(),
-    }
+    Ok(Replaced {
+        old,
+        held: holder.held,
+    })
 }

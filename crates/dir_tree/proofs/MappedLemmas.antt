@@ -88,12 +88,12 @@ module _ {K : Type 0} (octets : K → List ℕ) (slots : List (Option EntryInfor
 -- a copy of the map does as well
 pub mapped_copy : {K : Type 0} (octets : K → List ℕ) (slots : List (Option EntryInformation)) (places others : List (K × ℕ)) (listed : List ℕ) → HasSamePlaces octets places others → IsMapped octets slots places listed → IsMapped octets slots others listed
 mapped_copy octets slots places others listed same mapped = (
-  let values = values-same octets places others same in
-  record {
-    kept = subst (IsKept slots) (sym values) mapped.kept;
-    keyed = keyed-same octets slots places others same mapped.keyed;
-    listed = mapped.listed ∙ ap (λ (order : List ℕ). ids_of (subentry_rows (rows_of slots order))) (sym values);
-  })
+    let values = values-same octets places others same in
+    record {
+      kept = subst (IsKept slots) (sym values) mapped.kept;
+      keyed = keyed-same octets slots places others same mapped.keyed;
+      listed = mapped.listed ∙ ap (λ (order : List ℕ). ids_of (subentry_rows (rows_of slots order))) (sym values);
+    })
 
 -- the slot has again what it had
 pub set_back : (slots : List (Option EntryInformation)) (id : ℕ) (old : EntryInformation) (other : Option EntryInformation) → slot_of slots id ≡ Some old → set (set slots id other) id (Some old) ≡ slots

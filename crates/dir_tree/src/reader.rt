@@ -22,8 +22,6 @@ pub trait TreeReader {
 pub(crate) struct Unread;
 
 impl TreeReader for Unread {
-    ghost use Rattle.std.specs.Prelude.{Unit};
-
     ghost has_read = { λ reader rows. Unit {0} };
 
     fn read(&mut self, _tree: &Tree) -> Result<(), NoMemory> {

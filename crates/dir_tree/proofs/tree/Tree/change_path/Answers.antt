@@ -1,11 +1,10 @@
 -- In a copy of the map the new path key comes in and the old one goes, and the slot takes the entry.
-use Rattle.std.proofs.Common.{ℕ, ap, ◌∙◌, ◌≡◌, Some, set, List, Vec, Global}
+use Rattle.std.proofs.Common.{ℕ, ap, ◌∙◌, Some, set, Vec, Global}
 use Rattle.std.specs.Ordering.{nat_cmp}
 use Rattle.std.specs.Map.{values_of, remove_entry}
 use Rattle.std.specs.BTreeMap.{is_at, insert_entry}
 use Rattle.std.specs.Cmp.Lexicographic.{slice_cmp}
 use Rattle.dn_names.specs.PathKeys.{path_key}
-use Rattle.dir_tree.specs.Entries.{EntryInformation}
 use Rattle.dir_tree.specs.Slots.{rows_of, numbers_in}
 use Rattle.dir_tree.proofs.KeptLemmas.{slot_known}
 use Rattle.dir_tree.proofs.CopyLemmas.{values-same}
