@@ -1,5 +1,5 @@
 -- What a call did is what the definition says.
-use Rattle.std.proofs.Common.{◌≡◌, ◌≢◌, ℕ, Bool, true, false, List, [], ◌∷◌, length, Option, Some, None, Result, Ok, Err, if◌then◌else◌, refl, sym, ap, ◌∙◌, arith}
+use Rattle.std.proofs.Common.{◌≡◌, ◌≢◌, ℕ, Bool, true, false, List, [], ◌∷◌, length, Option, Some, None, Result, Ok, Err, if◌then◌else◌, refl, sym, ap, subst, ◌∙◌, arith}
 use Rattle.std.specs.Option.{option_map_or}
 use Rattle.std.specs.Result.{result_ok}
 use Rattle.dn_names.specs.Names.{RdnSequence}
@@ -7,11 +7,17 @@ use Rattle.dn_names.specs.declared.error.BadName.{BadName}
 use Rattle.dn_names.specs.NameText.{read_name}
 use Rattle.dir_tree.specs.Entries.{EntryInformation}
 use Rattle.dir_tree.specs.Trees.{named_in, put_in, taken_out}
-use Rattle.dir_tree.specs.Numbered.{Numbered, entries_of, entry_of}
+use Rattle.dir_tree.specs.Numbered.{Numbered, IsNumberedTree, entries_of, entry_of, without}
+use Rattle.dir_tree.proofs.TreeTheorems.{entries_of-without}
+use Rattle.schema_rules.specs.Checking.{replaced, others}
+use Rattle.schema_rules.specs.Rules.{broken_rule}
+use Rattle.dir_tree.specs.declared.number.EntryNo.{EntryNo}
 use Rattle.aci_item.specs.declared.permission.Permission.{Permission}
 use Rattle.acdf_filters.specs.declared.asking.Requester.{Requester}
 use Rattle.acdf_filters.specs.Asking.{Protected}
 use Rattle.acdf_filters.specs.Granted.{granted}
+use Rattle.entry_changes.specs.Changes.{Asks, Modification, changed_by}
+use Rattle.ldap_msg.specs.declared.operations.ResultCode.{ResultCode}
 use Rattle.ldap_msg.specs.declared.operations.ResultCode.TheVariants as code
 use Rattle.ldap_msg.specs.declared.kinds.Change.{Change}
 use Rattle.ldap_msg.specs.declared.kinds.LdapResult.{LdapResult}
@@ -20,8 +26,10 @@ use Rattle.read_model.specs.Views.{result_of}
 use Rattle.op_update.specs.Updates.{Changed, IsChanged, refused, unless}
 use Rattle.op_modify.specs.Asked.{granted_at}
 use Rattle.op_modify.specs.ReadChanges.{read_changes}
-use Rattle.op_modify.specs.Modifying.{modified_by, modified_named, modified}
-use Rattle.op_modify.specs.Steps.{IsInPlace}
+use Rattle.op_modify.specs.Modifying.{modified_as, modified_by, modified_named, modified}
+use Rattle.op_modify.specs.declared.replacing.Checked.{Checked}
+use Rattle.op_modify.specs.declared.replacing.Checked.TheVariants.{Refused, Allowed}
+use Rattle.op_modify.specs.Steps.{IsInPlace, IsChecked}
 
 -- a refusal, and a change that is made
 pub changed-refused : (changed : Changed) (entries : List EntryInformation) (refusal ended : LdapResult) → changed ≡ refused entries ended → refusal ≡ ended → IsChanged changed (Some refusal) entries
@@ -42,15 +50,34 @@ changed-like one other refusal entries same is = record {
   left = is.left ∙ sym (ap (λ (changed : Changed). changed.entries) same);
 }
 
--- the entry takes the target's place
-pub placed : (changed : Changed) (rows : List Numbered) (id : ℕ) (target entry : EntryInformation) → entry_of id rows ≡ Some target → changed ≡ unless None (entries_of rows) (put_in entry (taken_out target.name (entries_of rows)))
-    → IsInPlace changed rows id entry
-placed changed rows id target entry found is = record { target = target; found = found; leaves = is }
+-- what was checked, as it came
+pub made-refused : (changed : Changed) (rows : List Numbered) (checked : Checked) (refusal : LdapResult) → checked ≡ Refused refusal → IsChecked changed rows checked → IsChanged changed (Some refusal) (entries_of rows)
+made-refused changed rows checked refusal e is = changed-refused changed (entries_of rows) refusal refusal (subst (IsChecked changed rows) e is) refl
+
+pub made-allowed : (changed : Changed) (old new : List Numbered) (checked : Checked) (number : EntryNo) (entry : EntryInformation) → checked ≡ Allowed number entry
+    → ((target : EntryInformation) → entry_of number.0 old ≡ Some target → entries_of new ≡ put_in entry (taken_out target.name (entries_of old)))
+    → IsChecked changed old checked → IsChanged changed None (entries_of new)
+made-allowed changed old new checked number entry e after is =
+    let placed : IsInPlace changed old number.0 entry = subst (IsChecked changed old) e is in
+    changed-done changed (entries_of old) _ (entries_of new) placed.leaves (after placed.target placed.found)
+
+-- what stands beside the target, by its number
+pub broken_rule-beside : (rows : List Numbered) (id : ℕ) (target entry : EntryInformation) → IsNumberedTree rows → entry_of id rows ≡ Some target
+    → broken_rule (replaced (Some id) rows) (others (Some id) rows) entry ≡ broken_rule (Some target) (taken_out target.name (entries_of rows)) entry
+broken_rule-beside rows id target entry tree found =
+    ap (λ (old : Option EntryInformation). broken_rule old (entries_of (without id rows)) entry) found
+    ∙ ap (λ (others : List EntryInformation). broken_rule (Some target) others entry) (entries_of-without id target rows tree found)
 
 -- what is asked of the target's number is asked of the target
 pub granted_at-found : (rows : List Numbered) (who : Requester) (id : ℕ) (target : EntryInformation) → entry_of id rows ≡ Some target → granted_at rows who id ≡ granted (entries_of rows) who target
 granted_at-found rows who id target found =
-    ap (λ (found : Option EntryInformation) (item : Protected) (permission : Permission). option_map_or (λ entry. granted (entries_of rows) who entry item permission) found false) found
+    ap {B = Protected → Permission → Bool} (λ (found : Option EntryInformation) (item : Protected) (permission : Permission). option_map_or (λ entry. granted (entries_of rows) who entry item permission) found false) found
+
+pub modified_as-asked : (rows : List Numbered) (who : Requester) (id : ℕ) (target : EntryInformation) (changes : List Modification) (left : Result EntryInformation ResultCode) → entry_of id rows ≡ Some target
+    → changed_by (granted_at rows who id) target changes ≡ left
+    → modified_as (entries_of rows) target (changed_by (granted (entries_of rows) who target) target changes) ≡ modified_as (entries_of rows) target left
+modified_as-asked rows who id target changes left found e =
+    ap (modified_as (entries_of rows) target) (ap (λ (asks : Asks). changed_by asks target changes) (sym (granted_at-found rows who id target found)) ∙ e)
 
 -- ---- modifies, by what the name is
 

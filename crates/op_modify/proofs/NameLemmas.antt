@@ -1,5 +1,5 @@
 -- New names, and the table of a rename.
-use Rattle.std.proofs.Common.{◌≡◌, ℕ, List, [], ◌∷◌, ◌++◌, Option, Some, None, refl, sym, ap, ◌∙◌}
+use Rattle.std.proofs.Common.{◌≡◌, ℕ, Bool, false, List, [], ◌∷◌, ◌++◌, Option, Some, None, if◌then◌else◌, refl, sym, ap, ◌∙◌}
 use Rattle.std.specs.Option.{option_map, option_map_or, option_and_then}
 use Rattle.dn_names.specs.Names.{RdnSequence}
 use Rattle.dir_tree.specs.Entries.{EntryInformation}
@@ -9,9 +9,12 @@ use Rattle.dir_tree.specs.declared.number.EntryNo.{EntryNo}
 use Rattle.dir_tree.proofs.TreeTheorems.{entry_of-found}
 use Rattle.acdf_filters.specs.declared.asking.Requester.{Requester}
 use Rattle.entry_changes.specs.Refusals.{first_some}
+use Rattle.ldap_msg.specs.declared.operations.ResultCode.TheVariants as code
 use Rattle.ldap_msg.specs.declared.kinds.LdapResult.{LdapResult}
+use Rattle.read_model.specs.Views.{result_of}
 use Rattle.op_update.specs.Updates.{refused, unless}
-use Rattle.op_modify.specs.Renames.{above_in, new_name, rename_refusal, renamed_as}
+use Rattle.op_modify.specs.declared.renaming.Renaming.{Renaming}
+use Rattle.op_modify.specs.Renames.{is_unwilling, above_in, rename_refusal, renamed_as, renamed_target, renamed_by}
 use Rattle.op_modify.specs.Steps.{target_rows, place_rows}
 
 -- the entry of the superior's number has the superior's name
@@ -49,9 +52,14 @@ renamed-stop entries who name target entry refusal e =
     (first_some-stop (target_rows entries who name target) (place_rows entries who target entry) refusal e)
 
 -- what the renamed entry decides
-pub renamed-past : (entries : List EntryInformation) (who : Requester) (name : RdnSequence) (target entry : EntryInformation) → first_some (target_rows entries who name target) ≡ None
-    → renamed_as entries who name target entry ≡ unless (first_some (place_rows entries who target entry)) entries (put_in entry (taken_out target.name entries))
+pub renamed-past : (entries : List EntryInformation) (who : Requester) (name : RdnSequence) (target entry : EntryInformation) (refusal : Option LdapResult) → first_some (target_rows entries who name target) ≡ None
+    → first_some (place_rows entries who target entry) ≡ refusal → renamed_as entries who name target entry ≡ unless refusal entries (put_in entry (taken_out target.name entries))
 unfolding rename_refusal
-renamed-past entries who name target entry e =
+renamed-past entries who name target entry refusal none e =
     ap (λ (refusal : Option LdapResult). unless refusal entries (put_in entry (taken_out target.name entries)))
-    (first_some-past (target_rows entries who name target) (place_rows entries who target entry) e)
+    (first_some-past (target_rows entries who name target) (place_rows entries who target entry) none ∙ e)
+
+-- a rename that is done here
+pub renamed_by-willing : (entries : List EntryInformation) (who : Requester) (renaming : Renaming) → is_unwilling renaming ≡ false → renamed_by entries who (Some renaming) ≡ renamed_target entries who renaming (named_in renaming.name entries)
+renamed_by-willing entries who renaming e =
+    ap (λ (unwilling : Bool). if unwilling then refused entries (result_of code.UnwillingToPerform) else renamed_target entries who renaming (named_in renaming.name entries)) e

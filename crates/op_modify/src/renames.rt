@@ -147,7 +147,7 @@ fn check_place<D: Dir>(
 ) -> Result<Checked, NoMemory>
     requires found { entry_of target.number.0 (D.rows asking.now.dir.now) ≡ Some target.entry.now }
     requires free { first_some (target_rows (entries_of (D.rows asking.now.dir.now)) asking.now.who.now name.now
-        target.entry.entry.now) ≡ None }
+        target.entry.now) ≡ None }
     ensures ok { IfOk result (λ checked. IsChecked
         (renamed_as (entries_of (D.rows asking.now.dir.now)) asking.now.who.now name.now target.entry.entry.now entry)
         (D.rows asking.now.dir.now) checked) }

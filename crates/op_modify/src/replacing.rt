@@ -33,7 +33,7 @@ pub(crate) fn rule_refusal(
     entry: &Entry,
 ) -> Result<Option<LdapResult>, NoMemory>
     requires found { entry_of target.number.0 tree.now ≡ Some target.entry.now }
-    ensures ok { IfOk result (λ refusal. refusal ≡ rule_refusal (broken_rule (Some target.entry.now)
+    ensures ok { IfOk result (λ refusal. refusal ≡ rule_refusal (broken_rule (Some target.entry.entry.now)
         (taken_out target.entry.entry.now.name (entries_of tree.now)) entry.now)) }
 {
     tree.entries_form_a_tree();

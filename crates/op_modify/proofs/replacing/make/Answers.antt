@@ -1,10 +1,10 @@
 -- The change is refused, or the entry is in its place.
-use Rattle.std.proofs.Common.{refl}
-use Rattle.op_modify.proofs.ChangeLemmas.{changed-refused, changed-done}
+use Rattle.op_modify.proofs.ChangeLemmas.{made-refused, made-allowed}
 use Rattle.op_modify.proofs.replacing.make.Goals as goal
 
 pub returns-in-Refused-clause-ok : goal.returns-in-Refused-clause-ok
-returns-in-Refused-clause-ok g c = λ changed is. changed-refused changed _ _ _ is refl
+returns-in-Refused-clause-ok g c = λ changed is. made-refused changed _ _ _ c.in-Refused.is is
 
-pub returns-in-Allowed-clause-ok : goal.returns-in-Allowed-clause-ok
-returns-in-Allowed-clause-ok g c = λ changed is. changed-done changed _ _ _ is.leaves (c.in_ok.ensures.ok is.target is.found)
+pub returns-in_ok-replace-in-Allowed-clause-ok : goal.returns-in_ok-replace-in-Allowed-clause-ok
+returns-in_ok-replace-in-Allowed-clause-ok g c = λ changed is.
+    made-allowed changed _ _ _ c.in-Allowed.number c.in-Allowed.entry c.in-Allowed.is c.in_ok-replace-in-Allowed.ensures.ok is

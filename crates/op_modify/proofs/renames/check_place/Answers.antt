@@ -1,0 +1,23 @@
+-- The renamed entry decides.
+use Rattle.std.proofs.Common.{◌∙◌, Some, None, sym}
+use Rattle.dir_tree.specs.Numbered.{entries_of}
+use Rattle.op_modify.proofs.NameLemmas.{renamed-past}
+use Rattle.op_modify.proofs.renames.check_place.Goals as goal
+
+-- it is refused
+pub returns-in-Some : goal.returns-in-Some
+returns-in-Some g c = record {
+  ok = renamed-past (entries_of (g.D.Dir.rows c.args.asking.now.dir.now)) c.args.asking.now.who.now c.args.name.now c.args.target.entry.now c.args.entry (Some c.in-Some.refusal)
+      c.requires.free (sym c.in_ok-refusal.ensures.ok ∙ c.in-Some.is);
+}
+
+-- it isn't
+pub returns-in-None : goal.returns-in-None
+returns-in-None g c = record {
+  ok = record {
+    target = c.args.target.entry.now;
+    found = c.requires.found;
+    leaves = renamed-past (entries_of (g.D.Dir.rows c.args.asking.now.dir.now)) c.args.asking.now.who.now c.args.name.now c.args.target.entry.now c.args.entry None
+        c.requires.free (sym c.in_ok-refusal.ensures.ok ∙ c.in-None.is);
+  };
+}
