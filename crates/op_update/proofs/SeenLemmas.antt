@@ -1,5 +1,5 @@
 -- What is seen of a numbered tree, by the names of its entries.
-use Rattle.std.proofs.Common.{◌≡◌, ℕ, Bool, true, List, None, ap, ◌∙◌, length, take, ◌-◌, arith}
+use Rattle.std.proofs.Common.{◌≡◌, ℕ, true, List, None, ap, ◌∙◌, length, take, ◌-◌, arith}
 use Rattle.std.specs.Prelude.{nat_le, if◌then◌else◌}
 use Rattle.std.proofs.lemmas.Bool.Decides.{nat_tests}
 use Rattle.dn_names.specs.Names.{RdnSequence}

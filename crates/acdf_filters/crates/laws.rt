@@ -1,0 +1,40 @@
+//! The laws of the decision: each function computes nothing, and what it ensures is a law.
+
+ghost use Rattle.std.specs.Prelude.{◌≡◌, false, List, fold, map};
+ghost use Rattle.dn_names.specs.Names.{RdnSequence};
+ghost use Rattle.dir_tree.specs.Entries.{EntryInformation};
+ghost use Rattle.dir_tree.specs.Numbered.{entries_of};
+ghost use Rattle.dir_tree.specs.Scopes.{is_within};
+ghost use Rattle.admin_scope.specs.Areas.{without_subtree};
+ghost use Rattle.aci_item.specs.declared.permission.Permission.{Permission};
+ghost use Rattle.acdf_filters.specs.declared.asking.Requester.{Requester};
+ghost use Rattle.acdf_filters.specs.declared.question.Question.{Question};
+ghost use Rattle.acdf_filters.specs.Asking.{Protected};
+ghost use Rattle.acdf_filters.specs.Tuples.{Listed};
+ghost use Rattle.acdf_filters.specs.Filters.{decided};
+ghost use Rattle.acdf_filters.specs.Granted.{placed, granted, granted_new};
+ghost use Rattle.acdf_filters.specs.Standings.{initial};
+ghost use Rattle.acdf_filters.specs.Unseen.{IsApart, has_group};
+ghost use Rattle.acdf_filters.specs.Weighing.{asked_of, weighed_for, is_granted};
+
+/// Weighing tuples one after the other decides as the six filters do, each over whole lists.
+pub fn the_running_state_is_that_of_the_six_filters()
+    ensures exact { (question : Question) (xs : List Listed)
+        → is_granted (fold (weighed_for question) initial (map (λ x. x.tuple) xs))
+        ≡ decided (asked_of question)
+        (placed (entries_of question.tree.now) question.entry.now question.who.now.name xs) }
+{}
+
+/// Leaving out all entries at or below a name changes no decision on an entry that is not among them, where they have no
+/// access control subentry, and no item outside them names a group among them.
+pub fn an_unseen_subtree_changes_no_decision()
+    ensures there { (top : RdnSequence) (entries : List EntryInformation) (entry : EntryInformation)
+        → IsApart top entries → is_within top entry ≡ false → has_group top entry ≡ false
+        → (who : Requester) (item : Protected) (permission : Permission)
+        → granted (without_subtree top entries) who entry item permission ≡ granted entries who entry item permission }
+    ensures new { (top : RdnSequence) (entries : List EntryInformation) (entry : EntryInformation)
+        → IsApart top entries → is_within top entry ≡ false
+        → (who : Requester) (item : Protected) (permission : Permission)
+        → granted_new (without_subtree top entries) who entry item permission
+        ≡ granted_new entries who entry item permission }
+{}

@@ -1,0 +1,25 @@
+//! The access control decision function (X.501 18.8): its six filters as definitions over lists of tuples, and the
+//! running state by which a program takes the decision, one tuple after the other.
+#![tactic(auto)]
+
+mod asking;
+mod covering;
+mod laws;
+mod members;
+mod question;
+mod reading;
+mod standing;
+mod users;
+mod weighing;
+
+pub use asking::{Item, Requester};
+pub use covering::{covers, is_explicit};
+pub use laws::{
+    an_unseen_subtree_changes_no_decision, the_running_state_is_that_of_the_six_filters,
+};
+pub use members::memberships;
+pub use question::{Membership, Question};
+pub use reading::read_items;
+pub use standing::Standing;
+pub use users::{class_of, is_in_group, listed_class};
+pub use weighing::{TaggedTuples, weigh, weigh_items, weigh_tuples};

@@ -1,0 +1,99 @@
+//! What is kept, made of a tree.
+
+ghost use Rattle.std.specs.Prelude.{◌≡◌, ◌+◌, ◌<◌, ℕ, Some, IfOk, OnOk, length};
+ghost use Rattle.dir_tree.specs.Entries.{EntryInformation};
+ghost use Rattle.dir_tree.specs.Numbered.{entry_of};
+ghost use Rattle.admin_scope.specs.Finding.{AreSubtrees};
+ghost use Rattle.acdf_lists.specs.Lists.{AreOf, IsKept, IsKeptBelow, lists_of};
+ghost use Rattle.acdf_lists.specs.Holdings.{IsHeld};
+
+use crate::groups::named_groups;
+use crate::kept::{Holdings, Kept, no_lists};
+use acdf_filters::read_items;
+use admin_scope::{AccessSubentry, access_subtrees, in_force_by};
+use dir_tree::{Entry, EntryNo, NoMemory, Tree};
+use schema_core::AttrId;
+use std::alloc::Global;
+
+// What is kept of an entry.
+fn make_lists(
+    alloc: Global,
+    tree: &Tree,
+    subtrees: &[AccessSubentry],
+    entry: &Entry,
+) -> Result<Kept, NoMemory>
+    requires subtrees { AreSubtrees subtrees.now tree.now }
+    ensures ok { IfOk result (λ kept. AreOf tree.now entry.now (lists_of kept)) }
+{
+    let in_force = in_force_by(alloc, tree, subtrees, entry)?;
+    let prescriptive = read_items(alloc, entry, AttrId::PRESCRIPTIVE_ACI)?;
+    let own = read_items(alloc, entry, AttrId::ENTRY_ACI)?;
+    let below = read_items(alloc, entry, AttrId::SUBENTRY_ACI)?;
+    Ok(Kept {
+        in_force,
+        prescriptive,
+        own,
+        below,
+    })
+}
+
+// What is kept of the entry of the number, if there is one.
+fn make_at(
+    alloc: Global,
+    tree: &Tree,
+    subtrees: &[AccessSubentry],
+    number: EntryNo,
+) -> Result<Kept, NoMemory>
+    requires subtrees { AreSubtrees subtrees.now tree.now }
+    ensures ok { (entry : EntryInformation) → entry_of number.0 tree.now ≡ Some entry
+        → IfOk result (λ kept. AreOf tree.now entry (lists_of kept)) }
+{
+    match tree.at(number) {
+        Some(entry) => make_lists(alloc, tree, subtrees, entry),
+        None => Ok(no_lists(alloc)),
+    }
+}
+
+// Puts what is kept of the next number at the end.
+fn put_next(
+    alloc: Global,
+    tree: &Tree,
+    subtrees: &[AccessSubentry],
+    kept: &mut Vec<Kept>,
+) -> Result<(), NoMemory>
+    requires subtrees { AreSubtrees subtrees.now tree.now }
+    requires fits { length kept.old.items < 200000 }
+    requires below { IsKeptBelow kept.old.items tree.now }
+    ensures below { OnOk result (IsKeptBelow kept.new.items tree.now) }
+    ensures longer { OnOk result (length kept.new.items ≡ length kept.old.items + 1) }
+{
+    let number = EntryNo(kept.len() as u32);
+    kept.push(make_at(alloc, tree, subtrees, number)?)?;
+    Ok(())
+}
+
+// What is kept of each entry of the tree.
+fn make_all(alloc: Global, tree: &Tree, subtrees: &[AccessSubentry]) -> Result<Vec<Kept>, NoMemory>
+    requires subtrees { AreSubtrees subtrees.now tree.now }
+    ensures ok { IfOk result (λ kept. IsKept kept.items tree.now) }
+{
+    let mut kept = Vec::new(alloc);
+    for index in 0..tree.bound() {
+        put_next(alloc, tree, subtrees, &mut kept)?;
+    }
+    Ok(kept)
+}
+
+/// What is kept beside the tree. The error comes where memory is wanted.
+pub(crate) fn hold(alloc: Global, tree: &Tree) -> Result<Holdings, NoMemory>
+    ensures ok { IfOk result (λ held. IsHeld held tree.now) }
+{
+    let subtrees = access_subtrees(alloc, tree)?;
+    let lists = make_all(alloc, tree, &subtrees)?;
+    let groups = named_groups(alloc, &lists)?;
+    Ok(Holdings {
+        subtrees,
+        lists,
+        groups,
+    })
+}

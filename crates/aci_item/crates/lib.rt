@@ -1,0 +1,28 @@
+//! Access control items (X.501 18.4): read from text, printed, and split into tuples.
+#![tactic(auto)]
+
+mod bits;
+mod classes;
+mod item;
+mod laws;
+mod level;
+mod members;
+mod parts;
+mod permission;
+mod printing;
+mod protected;
+mod reading;
+mod sets;
+mod splitting;
+
+pub use bits::Bits;
+pub use classes::UserClasses;
+pub use item::{AciItem, First, ItemPermission, UserPermission};
+pub use laws::{a_printed_item_is_read_again, sets_are_in_order, sets_are_their_members_sorted};
+pub use level::Level;
+pub use permission::Permission;
+pub use printing::print;
+pub use protected::{AttributeTypeAndValue, ProtectedItems};
+pub use reading::read;
+pub use splitting::{AciTuple, tuples};
+pub use subtree_spec::BadText;

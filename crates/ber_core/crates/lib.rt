@@ -1,0 +1,18 @@
+//! The basic encoding rules of X.690, as far as LDAP uses them: headers of elements, and integers.
+#![tactic(auto)]
+
+mod integer;
+mod kinds;
+mod laws;
+mod number;
+mod read;
+mod write;
+
+pub use integer::{int_len, put_int, read_int};
+pub use kinds::{Header, NoMemory};
+pub use laws::{
+    headers_read_again, integers_read_again, lengths_are_shortest, one_element, one_heading,
+    one_integer,
+};
+pub use read::header;
+pub use write::{header_len, put_header};

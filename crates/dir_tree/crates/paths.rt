@@ -1,0 +1,60 @@
+//! Names found by their path keys.
+
+ghost use Rattle.std.specs.Prelude.{◌≡◌, IfOk};
+ghost use Rattle.std.specs.Option.{option_map};
+ghost use Rattle.dn_names.specs.Names.{RdnSequence};
+ghost use Rattle.dn_names.specs.NameOrder.{is_same};
+ghost use Rattle.dn_names.specs.PathKeys.{path_key};
+ghost use Rattle.dir_tree.specs.Trees.{superior_name};
+
+use crate::number::EntryNo;
+use crate::tree::Tree;
+use dn_names::Dn;
+use std::alloc::AllocError;
+
+impl Tree {
+    ghost use Rattle.dir_tree.specs.Numbered.{find_name};
+
+    /// The number of the entry whose name has the path key.
+    pub(crate) fn number_of(&self, path: &[u8]) -> Option<EntryNo>
+        ensures exact { (name : RdnSequence) → path.now ≡ path_key name
+            → option_map (λ no. no.0) result ≡ find_name name self.now }
+    {
+        match self.places.get(path) {
+            Some(no) => Some(EntryNo(*no)),
+            None => None,
+        }
+    }
+
+    /// The number of the entry that the name without its last RDN names.
+    pub(crate) fn number_above(&self, name: &Dn) -> Option<EntryNo>
+        ensures exact { option_map (λ no. no.0) result ≡ find_name (superior_name name.now) self.now }
+    {
+        self.number_of(superior_path(name))
+    }
+}
+
+/// The path key of the name without its last RDN.
+pub(crate) fn superior_path(name: &Dn) -> &[u8]
+    ensures exact { result.now ≡ path_key (superior_name name.now) }
+{
+    match name.path_to(name.len().saturating_sub(1)) {
+        Some(path) => path,
+        None => unreachable!(),
+    }
+}
+
+/// Whether the names have the same superior: whether they are the same without the last RDN.
+pub(crate) fn same_superior(one: &Dn, other: &Dn) -> bool
+    ensures exact { result ≡ is_same (superior_name one.now) (superior_name other.now) }
+{
+    superior_path(one).cmp(superior_path(other)).is_eq()
+}
+
+/// The path key of the name, in memory of its own.
+pub(crate) fn copy_path(name: &Dn) -> Result<Vec<u8>, AllocError>
+    ensures ok { IfOk result (λ path. path.items ≡ path_key name.now) }
+{
+    let path = name.path();
+    path.as_slice().to_vec(*path.allocator())
+}

@@ -1,0 +1,170 @@
+//! Entries that take another's place.
+
+ghost use Rattle.std.specs.Prelude.{◌≡◌, ◌⊎◌, ◌&&◌, not, true, false, Some, None, IfOk, IfErr, OnOk, OnErr};
+ghost use Rattle.std.specs.Option.{option_map_or};
+ghost use Rattle.dn_names.specs.NameOrder.{is_same};
+ghost use Rattle.dir_tree.specs.Removals.{IsReplaceable};
+ghost use Rattle.dir_tree.specs.Refusals.{is_elsewhere};
+
+use crate::entry::Entry;
+use crate::number::EntryNo;
+use crate::paths::{copy_path, same_superior};
+use crate::refusals::ReplaceRefusal;
+use crate::slots::replace_entry;
+use crate::subentries::{drop_number, list_number, make_room};
+use crate::tree::Tree;
+use dn_names::{Dn, same};
+use std::alloc::AllocError;
+
+impl Tree {
+    ghost use Rattle.dir_tree.specs.Trees.{has_name, has_below};
+    ghost use Rattle.dir_tree.specs.Numbered.{entries_of, entry_of, without, put_entry};
+    ghost use Rattle.dir_tree.specs.Refusals.{refusal_in_place, replace_refusal};
+
+    /// Gives the entry's place to another, which is known by the same number. The memory that the attributes of the
+    /// other do not need is given back.
+    ///
+    /// Each refusal comes in exactly one case, and of several the first: `Absent` for a number that is not in use,
+    /// `NameTaken` where the new name is that of another entry, `Elsewhere` for the empty name and for one below
+    /// another superior, and `HasBelow` where the new name is not the same as the old one and entries stand below.
+    /// `NoMemory` may come where none of these does.
+    pub fn replace(&mut self, no: EntryNo, entry: Entry) -> Result<Entry, ReplaceRefusal>
+        ensures found { IfOk result (λ old. entry_of no.0 self.old ≡ Some old) }
+        ensures ok { OnOk result (self.new ≡ put_entry no.0 entry (without no.0 self.old)) }
+        ensures exact { OnOk result (replace_refusal no.0 entry.name self.old ≡ None) }
+        // Want of memory comes after the other causes.
+        ensures cause { IfErr result (λ refusal. (refusal ≡ ReplaceRefusal.NoMemory)
+            ⊎ (replace_refusal no.0 entry.name self.old ≡ Some refusal)) }
+        ensures kept { OnErr result (self.new ≡ self.old) }
+    {
+        match self.replaceable(no, entry.name()) {
+            Ok(()) => {
+                let mut entry = entry;
+                entry.fit();
+                match self.change(no, entry) {
+                    Ok(old) => Ok(old),
+                    Err(_) => Err(ReplaceRefusal::NoMemory),
+                }
+            }
+            Err(refusal) => Err(refusal),
+        }
+    }
+
+    // That an entry of the name may take the place of the entry of the number.
+    fn replaceable(&self, no: EntryNo, name: &Dn) -> Result<(), ReplaceRefusal>
+        ensures ok { OnOk result (IsReplaceable no.0 name.now self.now) }
+        ensures exact { OnOk result (replace_refusal no.0 name.now self.now ≡ None) }
+        ensures cause { IfErr result (λ refusal.
+            replace_refusal no.0 name.now self.now ≡ Some refusal) }
+    {
+        match self.at(no) {
+            Some(old) => match self.refusal_in_place(no, name, old) {
+                Some(refusal) => Err(refusal),
+                None => Ok(()),
+            },
+            None => Err(ReplaceRefusal::Absent),
+        }
+    }
+
+    // Why an entry of the name does not take the place of the entry of the number.
+    fn refusal_in_place(&self, no: EntryNo, name: &Dn, old: &Entry) -> Option<ReplaceRefusal>
+        requires { entry_of no.0 self.now ≡ Some old.now }
+        ensures exact { result ≡ refusal_in_place no.0 name.now (Some old.now) self.now }
+    {
+        if self.is_taken(no, name) {
+            Some(ReplaceRefusal::NameTaken)
+        } else if is_elsewhere(name, old.name()) {
+            Some(ReplaceRefusal::Elsewhere)
+        } else if self.takes_along(name, old.name()) {
+            Some(ReplaceRefusal::HasBelow)
+        } else {
+            None
+        }
+    }
+
+    // Whether an entry other than that of the number has the name.
+    fn is_taken(&self, no: EntryNo, name: &Dn) -> bool
+        ensures exact { result ≡ has_name name.now (entries_of (without no.0 self.now)) }
+    {
+        self.entries_form_a_tree();
+        match self.find(name) {
+            Some(other) => other.0 != no.0,
+            None => false,
+        }
+    }
+
+    // Whether the name is another than the old one, and an entry stands below that.
+    fn takes_along(&self, name: &Dn, old: &Dn) -> bool
+        ensures exact { result ≡ (not (is_same name.now old.now) && has_below old.now (entries_of self.now)) }
+    {
+        !same(name, old) && self.has_any_below(old)
+    }
+
+    // Gives the place of the entry of the number to another.
+    fn change(&mut self, no: EntryNo, entry: Entry) -> Result<Entry, AllocError>
+        requires may { IsReplaceable no.0 entry.name self.old }
+        ensures found { IfOk result (λ old. entry_of no.0 self.old ≡ Some old) }
+        ensures ok { OnOk result (self.new ≡ put_entry no.0 entry (without no.0 self.old)) }
+        ensures kept { OnErr result (self.new ≡ self.old) }
+    {
+        if self.is_called(no, entry.name()) {
+            self.change_here(no, entry)
+        } else {
+            self.change_path(no, entry)
+        }
+    }
+
+    // Whether the number is that of an entry of the name.
+    fn is_called(&self, no: EntryNo, name: &Dn) -> bool
+        ensures exact { result
+            ≡ option_map_or (λ old. is_same name.now old.name) (entry_of no.0 self.now) false }
+    {
+        match self.at(no) {
+            Some(old) => same(name, old.name()),
+            None => false,
+        }
+    }
+
+    // Gives the place of the entry of the number to another of the same name: the path keys stay.
+    fn change_here(&mut self, no: EntryNo, entry: Entry) -> Result<Entry, AllocError>
+        requires may { IsReplaceable no.0 entry.name self.old }
+        requires called { option_map_or (λ old. is_same entry.name old.name) (entry_of no.0 self.old) false ≡ true }
+        ensures found { IfOk result (λ old. entry_of no.0 self.old ≡ Some old) }
+        ensures ok { OnOk result (self.new ≡ put_entry no.0 entry (without no.0 self.old)) }
+        ensures kept { OnErr result (self.new ≡ self.old) }
+    {
+        make_room(&mut self.subentries, &entry)?;
+        drop_number(&mut self.subentries, no);
+        list_number(&self.slots, &mut self.subentries, &entry, no);
+        Ok(replace_entry(&mut self.slots, no.0, entry))
+    }
+
+    // Gives the place of the entry of the number to one of another name: its path key comes in before the old one goes.
+    fn change_path(&mut self, no: EntryNo, entry: Entry) -> Result<Entry, AllocError>
+        requires may { IsReplaceable no.0 entry.name self.old }
+        requires called { option_map_or (λ old. is_same entry.name old.name) (entry_of no.0 self.old) false ≡ false }
+        ensures found { IfOk result (λ old. entry_of no.0 self.old ≡ Some old) }
+        ensures ok { OnOk result (self.new ≡ put_entry no.0 entry (without no.0 self.old)) }
+        ensures kept { OnErr result (self.new ≡ self.old) }
+    {
+        let path = copy_path(entry.name())?;
+        make_room(&mut self.subentries, &entry)?;
+        self.places.insert(path, no.0)?;
+        drop_number(&mut self.subentries, no);
+        list_number(&self.slots, &mut self.subentries, &entry, no);
+        let old = replace_entry(&mut self.slots, no.0, entry);
+        let _number = self.places.remove(old.name().path().as_slice());
+        Ok(old)
+    }
+}
+
+// Whether the name is the empty one, or its superior is not that of the old name.
+fn is_elsewhere(name: &Dn, old: &Dn) -> bool
+    ensures exact { result ≡ is_elsewhere name.now old.now }
+{
+    if name.len() == 0 {
+        true
+    } else {
+        !same_superior(name, old)
+    }
+}

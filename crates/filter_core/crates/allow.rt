@@ -1,0 +1,20 @@
+//! Permission to match.
+
+ghost use Rattle.std.specs.Prelude.{◌≡◌, ℕ, Bool};
+ghost use Rattle.filter_core.specs.Truths.{Permits};
+
+use dn_names::Value;
+use schema_core::AttrId;
+
+/// What the requester may match filters against, of one entry: the permission FilterMatch (X.501 18.2).
+pub trait Allow {
+    ghost permits: { Self → Permits };
+
+    /// Whether FilterMatch is granted on the attribute type.
+    fn kind(&self, kind: AttrId) -> bool
+        ensures { result ≡ (permits self.now).kind kind.0 };
+
+    /// Whether FilterMatch is granted on the value of the attribute type.
+    fn value(&self, kind: AttrId, value: &Value) -> bool
+        ensures { result ≡ (permits self.now).value kind.0 value.now };
+}

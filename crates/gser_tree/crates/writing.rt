@@ -1,0 +1,77 @@
+//! Values as text.
+
+ghost use Rattle.std.specs.Prelude.{◌≡◌, ◌++◌, [], OnOk, string_bytes};
+ghost use Rattle.gser_tree.specs.Lexemes.{doubled};
+ghost use Rattle.gser_tree.specs.Writing.{text_of, print_choice, print_component, print_number, print_string, separator, ending};
+
+use std::alloc::AllocError;
+
+// Writes the octets of a string, each quotation mark twice.
+fn put_doubled(out: &mut String, text: &str) -> Result<(), AllocError>
+    ensures ok { OnOk result (string_bytes out.new ≡ string_bytes out.old ++ doubled text.now) }
+{
+    let mut rest = text;
+    'marks: while let Some((before, after)) = rest.split_once('"') {
+        out.push_str(before)?;
+        out.push_str("\"\"")?;
+        rest = after;
+    }
+    Ok(out.push_str(rest)?)
+}
+
+/// Writes a string in quotation marks, each quotation mark in it twice.
+pub fn put_string(out: &mut String, text: &str) -> Result<(), AllocError>
+    ensures ok { OnOk result (string_bytes out.new ≡ string_bytes out.old ++ text_of (print_string text.now)) }
+{
+    out.push('"')?;
+    put_doubled(out, text)?;
+    Ok(out.push('"')?)
+}
+
+/// Writes a number in decimal.
+pub fn put_number(out: &mut String, value: u32) -> Result<(), AllocError>
+    ensures ok { OnOk result (string_bytes out.new ≡ string_bytes out.old ++ text_of (print_number value)) }
+{
+    write!(out, "{value}")
+}
+
+/// Writes what stands before a member in braces: the brace itself before the first.
+pub fn put_separator(out: &mut String, first: bool) -> Result<(), AllocError>
+    ensures ok { OnOk result (string_bytes out.new ≡ string_bytes out.old ++ text_of (separator first)) }
+{
+    if first {
+        out.push_str("{ ")
+    } else {
+        out.push_str(", ")
+    }
+}
+
+/// Writes the end of braces: both braces where there is no member.
+pub fn put_end(out: &mut String, first: bool) -> Result<(), AllocError>
+    ensures ok { OnOk result (string_bytes out.new ≡ string_bytes out.old ++ text_of (ending first)) }
+{
+    if first {
+        out.push_str("{ }")
+    } else {
+        out.push_str(" }")
+    }
+}
+
+/// Writes what stands before the value of a component in braces.
+pub fn put_name(out: &mut String, first: bool, name: &str) -> Result<(), AllocError>
+    ensures ok { OnOk result (string_bytes out.new
+        ≡ string_bytes out.old ++ text_of (separator first ++ print_component name.now [])) }
+{
+    put_separator(out, first)?;
+    out.push_str(name)?;
+    out.push_str(" ")
+}
+
+/// Writes what stands before the value of a choice.
+pub fn put_kind(out: &mut String, kind: &str) -> Result<(), AllocError>
+    ensures ok { OnOk result (string_bytes out.new
+        ≡ string_bytes out.old ++ text_of (print_choice kind.now [])) }
+{
+    out.push_str(kind)?;
+    out.push_str(":")
+}

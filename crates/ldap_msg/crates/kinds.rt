@@ -1,0 +1,178 @@
+//! The values of this crate (RFC 4511 section 4).
+
+use ldap_filter::Filter;
+use plain_values::{Octets, OneOrMany};
+use std::alloc::AllocError;
+
+/// The one error of the calls that append: there was no memory.
+pub type NoMemory = AllocError;
+
+/// The most content octets that a message may have here.
+pub const MAX_CONTENT: usize = 1_048_576;
+
+/// What stands at the front of a stream (RFC 4511 5).
+#[derive(Clone, Copy, Debug, PartialEq, Eq)]
+pub enum Frame {
+    /// A whole message, of so many octets.
+    Whole(usize),
+    /// Less than a whole message, or nothing.
+    More,
+    /// No message, however the stream goes on.
+    Bad,
+}
+
+/// How a client shows who it is (RFC 4511 4.2).
+#[derive(Debug, Drop)]
+pub enum Auth {
+    /// A password.
+    Simple(Octets),
+    /// Another method, by its tag.
+    Other(u8),
+}
+
+/// A bind request (RFC 4511 4.2).
+#[derive(Debug, Drop)]
+pub struct BindRequest {
+    /// From 1 to 127.
+    pub version: u8,
+    pub name: Octets,
+    pub auth: Auth,
+}
+
+/// An attribute's type and values (RFC 4511 4.1.7).
+#[derive(Debug, Drop)]
+pub struct KindValues {
+    pub kind: Octets,
+    pub values: OneOrMany<Octets>,
+}
+
+/// One change of a modify request (RFC 4511 4.6).
+#[derive(Debug, Drop)]
+pub struct Change {
+    /// From 0 to 127.
+    pub operation: u8,
+    pub body: KindValues,
+}
+
+/// A modify request (RFC 4511 4.6).
+#[derive(Debug, Drop)]
+pub struct ModifyRequest {
+    pub name: Octets,
+    pub changes: OneOrMany<Change>,
+}
+
+/// An add request (RFC 4511 4.7).
+#[derive(Debug, Drop)]
+pub struct AddRequest {
+    pub name: Octets,
+    pub attributes: OneOrMany<KindValues>,
+}
+
+/// A delete request (RFC 4511 4.8).
+#[derive(Debug, Drop)]
+pub struct DeleteRequest {
+    pub name: Octets,
+}
+
+/// A modify DN request (RFC 4511 4.9).
+#[derive(Debug, Drop)]
+pub struct RenameRequest {
+    pub name: Octets,
+    pub new_rdn: Octets,
+    pub delete_old: bool,
+    pub superior: Option<Octets>,
+}
+
+/// A compare request (RFC 4511 4.10).
+#[derive(Debug, Drop)]
+pub struct CompareRequest {
+    pub name: Octets,
+    pub kind: Octets,
+    pub value: Octets,
+}
+
+/// A search request (RFC 4511 4.5.1).
+#[derive(Drop)]
+pub struct SearchRequest {
+    pub base: Octets,
+    /// 0 the base alone, 1 what stands immediately below it, 2 both and all below.
+    pub scope: u8,
+    /// The most entries to be sent, 0 for no limit; up to 2,147,483,647.
+    pub size: u32,
+    /// Whether values are left out.
+    pub kinds_only: bool,
+    pub filter: Filter,
+    pub selection: OneOrMany<Octets>,
+}
+
+/// What a client asks for.
+#[derive(Drop)]
+pub enum Request {
+    /// To bind (RFC 4511 4.2).
+    Bind(BindRequest),
+    /// To end the session (RFC 4511 4.3).
+    Unbind,
+    /// To search entries (RFC 4511 4.5.1).
+    Search(SearchRequest),
+    /// To change an entry's attributes (RFC 4511 4.6).
+    Modify(ModifyRequest),
+    /// To add an entry (RFC 4511 4.7).
+    Add(AddRequest),
+    /// To delete an entry (RFC 4511 4.8).
+    Delete(DeleteRequest),
+    /// To give an entry another name (RFC 4511 4.9).
+    Rename(RenameRequest),
+    /// To compare a value with those of an entry (RFC 4511 4.10).
+    Compare(CompareRequest),
+    /// To abandon the operation with this message's number (RFC 4511 4.11).
+    Abandon(u32),
+    /// To run the operation of this name, with a value (RFC 4511 4.12).
+    Extended(Octets, Option<Octets>),
+}
+
+/// What goes with an operation (RFC 4511 4.1.11).
+#[derive(Debug, Drop)]
+pub struct Control {
+    pub kind: Octets,
+    pub critical: bool,
+    pub value: Option<Octets>,
+}
+
+/// A request's message (RFC 4511 4.1.1).
+#[derive(Drop)]
+pub struct Message {
+    /// From 1 to 2,147,483,647.
+    pub id: u32,
+    pub request: Request,
+    pub controls: OneOrMany<Control>,
+}
+
+/// How an operation ended (RFC 4511 4.1.9). The diagnostic message is always empty.
+#[derive(Debug, Drop)]
+pub struct LdapResult {
+    pub code: u8,
+    pub matched: Octets,
+}
+
+/// What the server answers.
+#[derive(Debug, Drop)]
+pub enum Reply {
+    /// To a bind (RFC 4511 4.2.2).
+    Bind(LdapResult),
+    /// One entry of a search, its name and its attributes (RFC 4511 4.5.2).
+    Entry(Octets, OneOrMany<KindValues>),
+    /// At the end of a search (RFC 4511 4.5.2).
+    Done(LdapResult),
+    /// To a modify (RFC 4511 4.6).
+    Modify(LdapResult),
+    /// To an add (RFC 4511 4.7).
+    Add(LdapResult),
+    /// To a delete (RFC 4511 4.8).
+    Delete(LdapResult),
+    /// To a rename (RFC 4511 4.9).
+    Rename(LdapResult),
+    /// To a compare (RFC 4511 4.10).
+    Compare(LdapResult),
+    /// To an extended operation, with its name and its value (RFC 4511 4.12).
+    Extended(LdapResult, Option<Octets>, Option<Octets>),
+}

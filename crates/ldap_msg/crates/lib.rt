@@ -1,0 +1,35 @@
+//! LDAP messages (RFC 4511): where a message ends in a stream of octets, requests and replies read and written.
+#![tactic(auto)]
+
+mod attributes;
+mod binds;
+mod controls;
+mod extended;
+mod framing;
+mod kinds;
+mod laws;
+mod operations;
+mod reading;
+mod replies;
+mod requests;
+mod results;
+mod search;
+mod writing;
+
+pub use ber_layout::ReadFault;
+pub use framing::frame;
+pub use kinds::{
+    AddRequest, Auth, BindRequest, Change, CompareRequest, Control, DeleteRequest, Frame,
+    KindValues, LdapResult, MAX_CONTENT, Message, ModifyRequest, NoMemory, RenameRequest, Reply,
+    Request, SearchRequest,
+};
+pub use laws::{
+    broken_streams, messages_are_longest, messages_are_read, one_message, replies_are_read,
+    replies_are_read_again, replies_have_octets, requests_are_read_again, rests_are_done,
+    streams_go_on, streams_step,
+};
+pub use ldap_filter::{Filter, Node};
+pub use operations::{Operation, Response, ResultCode};
+pub use reading::read_request;
+pub use replies::{put_notice, put_reply, read_reply};
+pub use writing::put_request;

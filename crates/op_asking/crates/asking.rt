@@ -1,0 +1,66 @@
+//! Who asks, and what is asked.
+
+ghost use Rattle.std.specs.Prelude.{◌≡◌, Some, IfSome};
+ghost use Rattle.std.specs.Option.{option_map};
+ghost use Rattle.dir_tree.specs.Trees.{named_in};
+ghost use Rattle.dir_tree.specs.Numbered.{entry_of, entries_of};
+ghost use Rattle.acdf_filters.specs.Asking.{protected_of};
+ghost use Rattle.acdf_filters.specs.Granted.{granted, granted_new};
+ghost use Rattle.op_asking.specs.Asking.{Knows, knows-prop};
+
+use acdf_filters::{Item, Membership, Requester};
+use acdf_lists::Dir;
+use aci_item::Permission;
+use dir_tree::{Entry, EntryNo, Tree};
+use dn_names::Dn;
+
+/// A requester asks a directory, with the groups in which it is known to be or not to be: what
+/// [`Dir::memberships`](acdf_lists::Dir::memberships) says, once for all that one request asks.
+#[derive(Drop)]
+pub struct Asking<'a, D: Dir> {
+    pub dir: &'a D,
+    pub who: &'a Requester,
+    pub known: &'a [Membership],
+    pub ghost memberships: { Knows (D.rows dir.now) who.now known.now } by { knows-prop (D.rows dir.now) who.now known.now },
+}
+
+/// An entry of a tree, with its number.
+#[derive(Clone, Copy)]
+pub struct Target<'a> {
+    pub number: EntryNo,
+    pub entry: &'a Entry,
+}
+
+/// The entry of the name; None exactly where there is none.
+pub fn find_target<'a>(tree: &'a Tree, name: &Dn) -> Option<Target<'a>>
+    ensures exact { option_map (λ target. target.entry.now) result ≡ named_in name.now (entries_of tree.now) }
+    ensures numbered { IfSome result (λ target. entry_of target.number.0 tree.now ≡ Some target.entry.now) }
+{
+    tree.entries_form_a_tree();
+    let number = tree.find(name)?;
+    match tree.at(number) {
+        Some(entry) => Some(Target { number, entry }),
+        None => None,
+    }
+}
+
+impl<'a, D: Dir> Asking<'a, D> {
+    /// Whether the requester has the permission for the item of the entry (X.501 18.8).
+    pub fn allows(&self, target: Target<'_>, item: Item<'_>, permission: Permission) -> bool
+        requires { entry_of target.number.0 (D.rows self.now.dir.now) ≡ Some target.entry.now }
+        ensures exact { result ≡ granted (entries_of (D.rows self.now.dir.now)) self.now.who.now
+            target.entry.entry.now (protected_of item.entry) permission }
+    {
+        self.dir
+            .decide(self.who, self.known, target.number, item, permission)
+    }
+
+    /// The same of an entry that is to be added: what it itself would grant doesn't count.
+    pub fn allows_new(&self, entry: &Entry, item: Item<'_>, permission: Permission) -> bool
+        ensures exact { result ≡ granted_new (entries_of (D.rows self.now.dir.now)) self.now.who.now
+            entry.now (protected_of item.entry) permission }
+    {
+        self.dir
+            .decide_new(self.who, self.known, entry, item, permission)
+    }
+}

@@ -1,0 +1,62 @@
+//! The table of the rules, in the order in which they are tried.
+
+ghost use Rattle.std.specs.Prelude.{◌≡◌, None, IfOk};
+ghost use Rattle.std.specs.Option.{option_map};
+ghost use Rattle.dir_tree.specs.Numbered.{entries_of};
+ghost use Rattle.schema_rules.specs.Checking.{IsSuperior};
+ghost use Rattle.schema_rules.specs.Rules.{breaks_classes, broken_rule};
+
+use crate::broken::NoMemory;
+use crate::contents::{has_unpermitted, lacks_required};
+use crate::limits::is_past_limits;
+use crate::listed::{
+    lists_access_alone, lists_no_structural, lists_none, lists_two_lines, lists_unknown,
+};
+use crate::own::lacks_own_value;
+use crate::points::is_misplaced;
+use crate::values::{has_two_values, has_unread};
+use dir_tree::{Entry, EntryNo, Tree};
+use std::alloc::Global;
+
+/// The result code of the first rule that the entry breaks in the tree; None where it breaks none. The number is that
+/// of its superior.
+#[tactic(auto, unfolding(crate::specs::Rules::broken_rule, crate::specs::Rules::has_other_structural))]
+pub(crate) fn broken_rule(
+    alloc: Global,
+    tree: &Tree,
+    superior: Option<EntryNo>,
+    entry: &Entry,
+) -> Result<Option<u8>, NoMemory>
+    requires { IsSuperior (option_map (λ no. no.0) superior) entry.now tree.now }
+    ensures exact { IfOk result (λ code. code ≡ broken_rule None (entries_of tree.now) entry.now) }
+{
+    if lacks_own_value(entry) {
+        Ok(Some(67))
+    } else if breaks_classes(entry) {
+        Ok(Some(65))
+    } else if has_unread(alloc, entry)? {
+        Ok(Some(21))
+    } else if has_two_values(entry) {
+        Ok(Some(19))
+    } else if is_misplaced(tree, superior, entry) {
+        Ok(Some(64))
+    } else if is_past_limits(tree, entry) {
+        Ok(Some(11))
+    } else {
+        Ok(None)
+    }
+}
+
+// Whether the entry's classes don't go together, or its attributes don't go with them.
+#[tactic(auto, unfolding(crate::specs::Rules::breaks_classes))]
+fn breaks_classes(entry: &Entry) -> bool
+    ensures exact { result ≡ breaks_classes entry.now }
+{
+    lists_none(entry)
+        || lists_unknown(entry)
+        || lists_no_structural(entry)
+        || lists_two_lines(entry)
+        || lacks_required(entry)
+        || has_unpermitted(entry)
+        || lists_access_alone(entry)
+}
