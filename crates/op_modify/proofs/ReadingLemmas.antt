@@ -12,7 +12,7 @@ use Rattle.ldap_msg.specs.declared.kinds.Change.{Change}
 use Rattle.op_update.specs.declared.fault.Fault.{Fault}
 use Rattle.op_update.specs.declared.fault.Fault.TheVariants as fault
 use Rattle.op_update.specs.NewEntries.{repeats}
-use Rattle.op_update.specs.Steps.{cause_of}
+use Rattle.op_update.specs.Reading.{cause_of}
 use Rattle.op_modify.specs.ReadChanges.{read_change, read_each}
 
 -- the first of the items that are left

@@ -3,7 +3,7 @@
 ghost use Rattle.std.specs.Prelude.{◌≡◌};
 ghost use Rattle.std.specs.List.{list_any};
 ghost use Rattle.plain_values.specs.Answers.{Answers};
-ghost use Rattle.op_update.specs.Steps.{cause_of, attribute_of};
+ghost use Rattle.op_update.specs.Reading.{cause_of, attribute_of};
 ghost use Rattle.op_modify.specs.ReadChanges.{is_no_change, change_of, change_with, read_change, read_each, read_changes};
 
 use entry_changes::{ChangeKind, EntryChange};
