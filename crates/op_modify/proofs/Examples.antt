@@ -1,5 +1,5 @@
 -- The definitions on small cases.
-use Rattle.std.proofs.Common.{◌≡◌, ℕ, true, false, Bool, [], ◌∷◌, List, Option, Some, None, Ok, Err, refl}
+use Rattle.std.proofs.Common.{◌≡◌, ℕ, true, false, [], ◌∷◌, List, Some, None, Ok, Err, refl}
 use Rattle.std.specs.Prelude.{codes}
 use Rattle.std.specs.Str.{is_utf8, chars}
 use lib.Utf8.{encode}
@@ -20,7 +20,7 @@ use Rattle.op_update.specs.NewEntries.{read_values, repeats}
 use Rattle.op_update.specs.Updates.{refused}
 use Rattle.op_modify.specs.ReadChanges.{is_no_change, change_of, read_each, read_changes}
 use Rattle.op_modify.specs.Modifying.{modified_as, modified_named}
-use Rattle.op_modify.specs.Renames.{moves, is_unwilling, above_in, new_name, taken_refusal, other_named, renamed_by}
+use Rattle.op_modify.specs.Renames.{moves, is_unwilling, new_name, taken_refusal, other_named, renamed_by}
 
 -- a value whose key is its octets, and one spelled in capitals
 plain_value : List ℕ → Keyed

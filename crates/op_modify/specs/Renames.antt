@@ -36,8 +36,8 @@ read_superior (Some text) = option_map (λ name. Some name) (result_ok (read_nam
 unfoldable pub read_renaming : RenameRequest → Option Renaming
 read_renaming request =
     option_and_then (λ name. option_and_then (λ rdn. option_map
-        (λ superior. record { name = name; rdn = rdn; delete_old = request.delete_old; superior = superior })
-        (read_superior request.superior)) (result_ok (read_rdn request.new_rdn))) (result_ok (read_name request.name))
+    (λ superior. record { name = name; rdn = rdn; delete_old = request.delete_old; superior = superior })
+    (read_superior request.superior)) (result_ok (read_rdn request.new_rdn))) (result_ok (read_name request.name))
 
 -- another superior than the present one is asked for
 abbrev pub moves : RdnSequence → Option RdnSequence → Bool
@@ -65,7 +65,7 @@ abbrev pub taken_refusal : List EntryInformation → Requester → Option EntryI
 taken_refusal entries who None = None
 taken_refusal entries who (Some other) =
     Some (if granted entries who other Entry DiscloseOnError then result_of code.EntryAlreadyExists
-          else result_of code.InsufficientAccessRights)
+    else result_of code.InsufficientAccessRights)
 
 -- the entry that has the name, where that is not the target's own
 abbrev pub other_named : List EntryInformation → EntryInformation → RdnSequence → Option EntryInformation

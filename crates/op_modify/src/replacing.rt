@@ -45,7 +45,12 @@ pub(crate) fn rule_refusal(
 }
 
 // Gives the place of the entry of the number to another. After the error, want of memory, the directory is as before.
-fn replace<D: Dir>(alloc: Global, dir: &mut D, number: EntryNo, entry: Entry) -> Result<(), NoMemory>
+fn replace<D: Dir>(
+    alloc: Global,
+    dir: &mut D,
+    number: EntryNo,
+    entry: Entry,
+) -> Result<(), NoMemory>
     ensures ok { OnOk result ((target : EntryInformation) → entry_of number.0 (D.rows dir.old) ≡ Some target
         → entries_of (D.rows dir.new) ≡ put_in entry (taken_out target.name (entries_of (D.rows dir.old)))) }
     ensures kept { OnErr result (D.rows dir.new ≡ D.rows dir.old) }
