@@ -17,13 +17,6 @@ find-map f p (x ∷ xs) = elim (cases_Bool (p (f x))) [
   | inr e ↦ rw e (find-map f p xs)
 ]
 
-reverse_aux-map : {A B : Type 0} (f : A → B) (xs ys : List A) → reverse_aux (map f xs) (map f ys) ≡ map f (reverse_aux xs ys)
-reverse_aux-map f [] ys = refl
-reverse_aux-map f (x ∷ xs) ys = reverse_aux-map f xs (x ∷ ys)
-
-pub reverse-map : {A B : Type 0} (f : A → B) (xs : List A) → reverse (map f xs) ≡ map f (reverse xs)
-reverse-map f xs = reverse_aux-map f xs []
-
 -- the first of two tests, asked before
 pub filter-two : {A B : Type 0} (f : A → B) (t : A → Bool) (u s : B → Bool) → ((x : A) → u (f x) ≡ t x) → (xs : List A) → filter (λ y. u y && s y) (map f xs) ≡ filter s (map f (filter t xs))
 filter-two f t u s same [] = refl
@@ -55,13 +48,6 @@ filter-like p q same [] = refl
 filter-like p q same (x ∷ xs) = rw (same x, filter-like p q same xs) refl
 
 -- ---- one or none
-
-pub any-one : {A B : Type 0} (p : B → Bool) (f : A → B) (o : Option A) → list_any p (one_or_none f o) ≡ option_map_or (λ x. p (f x)) o false
-any-one p f None = refl
-any-one p f (Some x) = elim (cases_Bool (p (f x))) [
-  | inl e ↦ rw e refl
-  | inr e ↦ rw e refl
-]
 
 pub kept-one : {A B : Type 0} (p : B → Bool) (f : A → B) (o : Option A) → option_map_or (λ x. p (f x)) o false ≡ true → filter p (one_or_none f o) ≡ one_or_none f o
 kept-one p f None e = refl

@@ -44,20 +44,6 @@ only-named view P name same (x ∷ xs) h = elim (cases_Bool (is_named name x)) [
   | inr e ↦ rw (same x, e) (only-named view P name same xs h.1)
 ]
 
-any-filter : {A : Type 0} (p : A → Bool) (xs : List A) → list_any p xs ≡ list_any (λ x. true) (filter p xs)
-any-filter p [] = refl
-any-filter p (x ∷ xs) = elim (cases_Bool (p x)) [
-  | inl e ↦ rw e refl
-  | inr e ↦ rw e (any-filter p xs)
-]
-
--- whether one passes
-pub any-named : (view : EntryInformation → Row) (P : Row → Bool) (name : RdnSequence) → ((entry : EntryInformation) → views.has_name name (view entry) ≡ is_named name entry) → (entries : List EntryInformation) → IsInOrder entries → list_any (λ row. views.has_name name row && P row) (map view entries) ≡ list_any P (one_or_none view (named_in name entries))
-any-named view P name same entries h =
-    any-filter (λ row. views.has_name name row && P row) (map view entries)
-    ∙ ap (list_any (λ row. true)) (only-named view P name same entries h)
-    ∙ sym (any-filter P (one_or_none view (named_in name entries)))
-
 -- the entries of a name
 none-named : (name : RdnSequence) (first : EntryInformation) → is_named name first ≡ true → (rest : List EntryInformation) → AllByRecursion (λ later. name_cmp first.name later.name ≡ Less) rest → filter (is_named name) rest ≡ []
 none-named name first e [] h = refl

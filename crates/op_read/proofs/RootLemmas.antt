@@ -13,7 +13,7 @@ use Rattle.ldap_msg.specs.declared.kinds.Reply.{Reply}
 use Rattle.ldap_msg.specs.declared.kinds.Reply.TheVariants as reply
 use Rattle.read_model.specs.Views.{View}
 use Rattle.read_model.specs.RootEntry.{RootAttribute, suffix_name, root_attributes, is_root_chosen, sent_root, root_entry}
-use Rattle.op_read.specs.Seeing.{view_in}
+use Rattle.op_asking.specs.Asking.{view_in}
 use Rattle.op_read.specs.Rooting.{root_sent_of, roots_with}
 use Rattle.op_read.proofs.ChoosingLemmas.{roots-one}
 
