@@ -1,12 +1,9 @@
 -- Lists of what is seen of other lists.
-use Rattle.std.proofs.Common.{◌≡◌, ◌≢◌, inl, inr, ℕ, ◌+◌, ◌≤◌, ◌<◌, ◌-◌, Bool, true, false, not, ◌&&◌, ◌||◌, List, [], ◌∷◌, ◌++◌, Option, Some, None, refl, sym, ap, ◌∙◌, map, filter, find, length, take, append_assoc, length-append, arith}
-use Rattle.std.specs.Prelude.{flat_map, reverse, is_some, ◌==◌, nat_lt, if◌then◌else◌}
+use Rattle.std.proofs.Common.{◌≡◌, inl, inr, ℕ, Bool, true, false, ◌&&◌, ◌||◌, List, [], ◌∷◌, ◌++◌, Option, Some, None, refl, sym, ap, ◌∙◌, map, filter, find}
+use Rattle.std.specs.Prelude.{flat_map}
 use Rattle.std.specs.List.{list_any, filter_map}
 use Rattle.std.specs.Option.{option_map, option_map_or}
-use Rattle.std.proofs.lemmas.Bool.{cases_Bool, ne_eqb, eqb-false, lt-ltb, le-ltb}
-use Rattle.std.proofs.lemmas.List.{append-nil, take_all}
-use Rattle.std.proofs.Math.Seq.{take-append_seam}
-use mathlib.Core.List.{reverse_aux}
+use Rattle.std.proofs.lemmas.Bool.{cases_Bool}
 use Rattle.op_read.specs.Seeing.{one_or_none}
 
 -- what is found among things seen is what is found among the things

@@ -1,5 +1,5 @@
 -- What is seen of a numbered tree, by the numbers of its entries.
-use Rattle.std.proofs.Common.{◌≡◌, ℕ, Bool, true, false, List, [], Option, Some, None, refl, sym, ap, subst, ◌∙◌, filter}
+use Rattle.std.proofs.Common.{◌≡◌, ℕ, true, false, List, [], Option, Some, None, refl, sym, ap, subst, ◌∙◌, filter}
 use Rattle.std.specs.Option.{option_map, option_and_then}
 use Rattle.dn_names.specs.Names.{RdnSequence}
 use Rattle.dir_tree.specs.Entries.{EntryInformation}

@@ -1,8 +1,8 @@
 -- The entries that a search selects, by their numbers.
-use Rattle.std.proofs.Common.{◌≡◌, ◌⊎◌, inl, inr, ℕ, Bool, true, false, ◌&&◌, List, [], ◌∷◌, ◌++◌, Option, Some, None, refl, sym, ap, ◌∙◌, map, filter, find}
-use Rattle.std.specs.Prelude.{◌==◌, flat_map, cond, is_some}
+use Rattle.std.proofs.Common.{◌≡◌, ◌⊎◌, inl, inr, ℕ, Bool, true, false, List, [], ◌∷◌, Option, Some, None, refl, sym, ap, ◌∙◌, map, filter, find}
+use Rattle.std.specs.Prelude.{◌==◌, is_some}
 use Rattle.std.specs.List.{list_any}
-use Rattle.std.specs.Option.{option_map, option_map_or}
+use Rattle.std.specs.Option.{option_map}
 use Rattle.std.proofs.lemmas.Bool.{cases_Bool}
 use Rattle.dn_names.specs.Names.{RdnSequence}
 use Rattle.dn_names.specs.NameOrder.{is_same}
