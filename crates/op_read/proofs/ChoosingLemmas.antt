@@ -1,12 +1,9 @@
 -- What of an entry is sent, text by text, value by value and attribute by attribute.
-use Rattle.std.proofs.Common.{◌≡◌, inl, inr, ℕ, ◌+◌, ◌<◌, Bool, true, false, ◌&&◌, ◌||◌, List, [], ◌∷◌, ◌++◌, refl, sym, ap, ◌∙◌, map, filter, length, take, get_or, append_assoc, arith}
+use Rattle.std.proofs.Common.{◌≡◌, inl, inr, ℕ, ◌<◌, Bool, true, false, ◌&&◌, List, [], ◌∷◌, refl, ap, ◌∙◌, map, filter, length, arith}
 use Rattle.std.specs.Prelude.{flat_map, if◌then◌else◌}
 use Rattle.std.specs.List.{list_any}
 use Rattle.std.proofs.lemmas.Bool.{cases_Bool}
-use Rattle.std.proofs.lemmas.List.{take_more, append-nil, map-append}
-use Rattle.std.proofs.lemmas.List.Folds.{list_any-append}
 use Rattle.dn_names.specs.Printing.{print_name}
-use Rattle.dir_tree.specs.Entries.{Attribute}
 use Rattle.aci_item.specs.declared.permission.Permission.TheVariants.{Read}
 use Rattle.acdf_filters.specs.Asking.{Kind}
 use Rattle.ldap_msg.specs.declared.kinds.KindValues.{KindValues}

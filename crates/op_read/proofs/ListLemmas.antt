@@ -1,12 +1,9 @@
 -- Lists of what is seen of other lists.
-use Rattle.std.proofs.Common.{◌≡◌, ◌≢◌, inl, inr, ℕ, ◌+◌, ◌≤◌, ◌<◌, ◌-◌, Bool, true, false, not, ◌&&◌, ◌||◌, List, [], ◌∷◌, ◌++◌, Option, Some, None, refl, sym, ap, ◌∙◌, map, filter, find, length, take, append_assoc, length-append, arith}
-use Rattle.std.specs.Prelude.{flat_map, reverse, is_some, ◌==◌, nat_lt, if◌then◌else◌}
+use Rattle.std.proofs.Common.{◌≡◌, inl, inr, ℕ, Bool, true, false, ◌&&◌, ◌||◌, List, [], ◌∷◌, ◌++◌, Option, Some, None, refl, sym, ap, ◌∙◌, map, filter, find}
+use Rattle.std.specs.Prelude.{flat_map}
 use Rattle.std.specs.List.{list_any, filter_map}
 use Rattle.std.specs.Option.{option_map, option_map_or}
-use Rattle.std.proofs.lemmas.Bool.{cases_Bool, ne_eqb, eqb-false, lt-ltb, le-ltb}
-use Rattle.std.proofs.lemmas.List.{append-nil, take_all}
-use Rattle.std.proofs.Math.Seq.{take-append_seam}
-use mathlib.Core.List.{reverse_aux}
+use Rattle.std.proofs.lemmas.Bool.{cases_Bool}
 use Rattle.op_read.specs.Seeing.{one_or_none}
 
 -- what is found among things seen is what is found among the things
@@ -16,13 +13,6 @@ find-map f p (x ∷ xs) = elim (cases_Bool (p (f x))) [
   | inl e ↦ rw e refl
   | inr e ↦ rw e (find-map f p xs)
 ]
-
-reverse_aux-map : {A B : Type 0} (f : A → B) (xs ys : List A) → reverse_aux (map f xs) (map f ys) ≡ map f (reverse_aux xs ys)
-reverse_aux-map f [] ys = refl
-reverse_aux-map f (x ∷ xs) ys = reverse_aux-map f xs (x ∷ ys)
-
-pub reverse-map : {A B : Type 0} (f : A → B) (xs : List A) → reverse (map f xs) ≡ map f (reverse xs)
-reverse-map f xs = reverse_aux-map f xs []
 
 -- the first of two tests, asked before
 pub filter-two : {A B : Type 0} (f : A → B) (t : A → Bool) (u s : B → Bool) → ((x : A) → u (f x) ≡ t x) → (xs : List A) → filter (λ y. u y && s y) (map f xs) ≡ filter s (map f (filter t xs))
@@ -55,13 +45,6 @@ filter-like p q same [] = refl
 filter-like p q same (x ∷ xs) = rw (same x, filter-like p q same xs) refl
 
 -- ---- one or none
-
-pub any-one : {A B : Type 0} (p : B → Bool) (f : A → B) (o : Option A) → list_any p (one_or_none f o) ≡ option_map_or (λ x. p (f x)) o false
-any-one p f None = refl
-any-one p f (Some x) = elim (cases_Bool (p (f x))) [
-  | inl e ↦ rw e refl
-  | inr e ↦ rw e refl
-]
 
 pub kept-one : {A B : Type 0} (p : B → Bool) (f : A → B) (o : Option A) → option_map_or (λ x. p (f x)) o false ≡ true → filter p (one_or_none f o) ≡ one_or_none f o
 kept-one p f None e = refl

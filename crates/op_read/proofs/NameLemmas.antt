@@ -1,8 +1,7 @@
 -- Entries by their names: an entry of a name is the only one, and names that are the same begin the same names.
-use Rattle.std.proofs.Common.{◌≡◌, inl, inr, ℕ, Bool, true, false, ◌&&◌, List, [], ◌∷◌, ◌++◌, Option, Some, None, IsTrue, refl, sym, ap, ◌∙◌, map, filter, find, length, Ordering}
-use Rattle.std.specs.Prelude.{◌==◌, ◌+◌, is_some}
-use Rattle.std.specs.List.{AllByRecursion, list_any}
-use Rattle.std.specs.Option.{option_and_then}
+use Rattle.std.proofs.Common.{◌≡◌, inl, inr, Bool, true, false, ◌&&◌, List, [], ◌∷◌, ◌++◌, refl, sym, ap, ◌∙◌, map, filter, length, Ordering}
+use Rattle.std.specs.Prelude.{◌==◌, ◌+◌}
+use Rattle.std.specs.List.{AllByRecursion}
 use Rattle.std.specs.Ordering.{is_eq}
 use Rattle.std.specs.declared.cmp.Ordering.TheVariants.{Less, Equal, Greater}
 use Rattle.std.proofs.lemmas.Bool.{cases_Bool}
@@ -11,12 +10,11 @@ use Rattle.dn_names.specs.Names.{RdnSequence}
 use Rattle.dn_names.specs.NameOrder.{name_cmp, is_same, is_prefix_of, type_and_key, types_and_keys}
 use Rattle.dn_names.proofs.Theorems.{name_cmp_total, is_same-types_and_keys, is_prefix_of-types_and_keys}
 use Rattle.dir_tree.specs.Entries.{EntryInformation}
-use Rattle.dir_tree.specs.Trees.{is_named, named_in, has_name, IsInOrder}
+use Rattle.dir_tree.specs.Trees.{is_named, named_in, IsInOrder}
 use Rattle.dir_tree.specs.Scopes.{is_child, is_within}
 use Rattle.read_model.specs.Views as views
 use Rattle.read_model.specs.Views.{Row}
 use Rattle.op_read.specs.Seeing.{one_or_none}
-use Rattle.op_read.proofs.ListLemmas.{list_any-map}
 
 is_equal : (o : Ordering) → is_eq o ≡ true → o ≡ Equal
 is_equal Less e = absurd cc
@@ -43,20 +41,6 @@ only-named view P name same (x ∷ xs) h = elim (cases_Bool (is_named name x)) [
   ]
   | inr e ↦ rw (same x, e) (only-named view P name same xs h.1)
 ]
-
-any-filter : {A : Type 0} (p : A → Bool) (xs : List A) → list_any p xs ≡ list_any (λ x. true) (filter p xs)
-any-filter p [] = refl
-any-filter p (x ∷ xs) = elim (cases_Bool (p x)) [
-  | inl e ↦ rw e refl
-  | inr e ↦ rw e (any-filter p xs)
-]
-
--- whether one passes
-pub any-named : (view : EntryInformation → Row) (P : Row → Bool) (name : RdnSequence) → ((entry : EntryInformation) → views.has_name name (view entry) ≡ is_named name entry) → (entries : List EntryInformation) → IsInOrder entries → list_any (λ row. views.has_name name row && P row) (map view entries) ≡ list_any P (one_or_none view (named_in name entries))
-any-named view P name same entries h =
-    any-filter (λ row. views.has_name name row && P row) (map view entries)
-    ∙ ap (list_any (λ row. true)) (only-named view P name same entries h)
-    ∙ sym (any-filter P (one_or_none view (named_in name entries)))
 
 -- the entries of a name
 none-named : (name : RdnSequence) (first : EntryInformation) → is_named name first ≡ true → (rest : List EntryInformation) → AllByRecursion (λ later. name_cmp first.name later.name ≡ Less) rest → filter (is_named name) rest ≡ []

@@ -1,6 +1,6 @@
 -- The root DSE, its attributes one after the other.
-use Rattle.std.proofs.Common.{◌≡◌, ℕ, Bool, true, false, List, [], ◌∷◌, ◌++◌, Option, Some, None, refl, sym, ap, ◌∙◌, map, filter, append_assoc}
-use Rattle.std.specs.Prelude.{◌==◌, flat_map}
+use Rattle.std.proofs.Common.{◌≡◌, ℕ, List, [], ◌∷◌, ◌++◌, Some, None, refl, sym, ap, ◌∙◌, append_assoc}
+use Rattle.std.specs.Prelude.{flat_map}
 use Rattle.std.proofs.lemmas.Bool.{eq-eqb}
 use Rattle.std.proofs.lemmas.List.{append-nil}
 use Rattle.dn_names.specs.Printing.{print_name}
@@ -9,11 +9,9 @@ use Rattle.dir_tree.specs.Numbered.{Numbered, entry_of, suffix_of}
 use Rattle.acdf_filters.specs.declared.asking.Requester.{Requester}
 use Rattle.ldap_msg.specs.declared.kinds.KindValues.{KindValues}
 use Rattle.ldap_msg.specs.declared.kinds.SearchRequest.{SearchRequest}
-use Rattle.ldap_msg.specs.declared.kinds.Reply.{Reply}
 use Rattle.ldap_msg.specs.declared.kinds.Reply.TheVariants as reply
-use Rattle.read_model.specs.Views.{View}
 use Rattle.read_model.specs.RootEntry.{RootAttribute, suffix_name, root_attributes, is_root_chosen, sent_root, root_entry}
-use Rattle.op_read.specs.Seeing.{view_in}
+use Rattle.op_asking.specs.Asking.{view_in}
 use Rattle.op_read.specs.Rooting.{root_sent_of, roots_with}
 use Rattle.op_read.proofs.ChoosingLemmas.{roots-one}
 

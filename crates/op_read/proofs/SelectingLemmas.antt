@@ -1,8 +1,8 @@
 -- The entries that a search selects, by their numbers.
-use Rattle.std.proofs.Common.{◌≡◌, ◌⊎◌, inl, inr, ℕ, Bool, true, false, ◌&&◌, List, [], ◌∷◌, ◌++◌, Option, Some, None, refl, sym, ap, ◌∙◌, map, filter, find}
-use Rattle.std.specs.Prelude.{◌==◌, flat_map, cond, is_some}
+use Rattle.std.proofs.Common.{◌≡◌, ◌⊎◌, inl, inr, ℕ, Bool, true, false, List, [], ◌∷◌, Option, Some, None, refl, sym, ap, ◌∙◌, map, filter, find}
+use Rattle.std.specs.Prelude.{◌==◌, is_some}
 use Rattle.std.specs.List.{list_any}
-use Rattle.std.specs.Option.{option_map, option_map_or}
+use Rattle.std.specs.Option.{option_map}
 use Rattle.std.proofs.lemmas.Bool.{cases_Bool}
 use Rattle.dn_names.specs.Names.{RdnSequence}
 use Rattle.dn_names.specs.NameOrder.{is_same}
@@ -20,7 +20,8 @@ use Rattle.read_model.specs.Views as views
 use Rattle.read_model.specs.Views.{Row, View, hidden}
 use Rattle.read_model.specs.SearchReplies.{found_replies, replies_at}
 use Rattle.read_model.specs.Selecting.{takes_in, is_shown, is_selected, selected}
-use Rattle.op_read.specs.Seeing.{view_in, row_in, one_or_none, scope_of}
+use Rattle.op_asking.specs.Asking.{view_in}
+use Rattle.op_read.specs.Seeing.{row_in, one_or_none, scope_of}
 use Rattle.op_read.specs.Sending.{shown_among}
 use Rattle.op_read.proofs.ListLemmas.{find-map, list_any-map, filter-two, filter-like, find-passes, among}
 use Rattle.op_read.proofs.NameLemmas.{named-entries, child-like, within-like}

@@ -1,15 +1,12 @@
 -- What a search sends, one entry after the other, is what it sends.
-use Rattle.std.proofs.Common.{◌≡◌, ◌≢◌, inl, inr, ℕ, ◌+◌, ◌-◌, ◌<◌, Bool, true, false, List, [], ◌∷◌, ◌++◌, Option, Some, None, refl, sym, ap, subst, ◌∙◌, map, length, append_assoc, length-append, arith}
-use Rattle.std.specs.Prelude.{◌==◌, flat_map, not, Result, Ok, Err, OnOk, OnErr}
-use Rattle.std.specs.List.{list_any}
+use Rattle.std.proofs.Common.{◌≡◌, ◌≢◌, ℕ, ◌+◌, true, List, [], ◌∷◌, ◌++◌, refl, sym, ap, ◌∙◌, map, append_assoc, length-append, arith}
+use Rattle.std.specs.Prelude.{flat_map}
 use Rattle.std.proofs.lemmas.List.{append-nil}
 use Rattle.std.proofs.lemmas.Grind.{flat_map-append}
 use Rattle.dn_names.specs.Names.{RdnSequence}
 use Rattle.ldap_msg.specs.declared.operations.ResultCode.TheVariants as code
-use Rattle.ldap_msg.specs.declared.kinds.Reply.{Reply}
 use Rattle.ldap_msg.specs.declared.kinds.Reply.TheVariants as reply
 use Rattle.ldap_msg.specs.declared.kinds.SearchRequest.{SearchRequest}
-use Rattle.ber_layout.specs.Spellings.{Extends}
 use Rattle.ldap_msg.specs.Replies.{reply_octets}
 use Rattle.read_model.specs.Views.{Row, View, result_of}
 use Rattle.read_model.specs.Choosing.{sent_entry}
@@ -17,7 +14,7 @@ use Rattle.read_model.specs.SearchReplies.{within_limit, limit_code, found_repli
 use Rattle.op_read.specs.declared.sending.Sent.{Sent}
 use Rattle.op_read.specs.declared.sending.Found.{Found}
 use Rattle.op_read.specs.declared.sending.Found.TheVariants.{Nothing, Some as FoundSome, TooMany}
-use Rattle.op_read.specs.Sending.{is_filled, entry_octets, Sends, SendsAll, Goes, IsSent, ended_by}
+use Rattle.op_read.specs.Sending.{is_filled, entry_octets, Sends, IsSent, ended_by}
 use Rattle.op_read.proofs.ListLemmas.{flat_map-map}
 
 -- with one more there are some

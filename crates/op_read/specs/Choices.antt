@@ -1,5 +1,5 @@
 -- What a selection's texts choose, read once for all entries.
-use Rattle.std.specs.Prelude.{ℕ, ◌==◌, Bool, true, false, not, List, [], ◌∷◌, if◌then◌else◌}
+use Rattle.std.specs.Prelude.{ℕ, ◌==◌, Bool, false, not, List, [], ◌∷◌, if◌then◌else◌}
 use Rattle.std.specs.List.{list_any}
 use Rattle.schema_core.specs.Attributes.{is_operational}
 use Rattle.dir_tree.specs.Entries.{Attribute}

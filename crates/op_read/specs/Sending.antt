@@ -1,6 +1,5 @@
 -- What a search sends, one entry after the other.
 use Rattle.std.specs.Prelude.{◌≡◌, ◌≢◌, ℕ, ◌+◌, Bool, true, false, List, [], ◌∷◌, ◌++◌, length, filter, flat_map}
-use Rattle.dir_tree.specs.Entries.{EntryInformation}
 use Rattle.dir_tree.specs.Numbered.{Numbered, entry_of}
 use Rattle.dn_names.specs.Names.{RdnSequence}
 use Rattle.acdf_filters.specs.declared.asking.Requester.{Requester}
@@ -9,7 +8,6 @@ use Rattle.ldap_msg.specs.declared.kinds.LdapResult.{LdapResult}
 use Rattle.ldap_msg.specs.declared.kinds.SearchRequest.{SearchRequest}
 use Rattle.ldap_msg.specs.Replies.{reply_octets}
 use Rattle.read_model.specs.Views.{Row, View, result_of}
-use Rattle.read_model.specs.Selecting.{is_shown}
 use Rattle.read_model.specs.Choosing.{sent_entry}
 use Rattle.read_model.specs.SearchReplies.{within_limit, limit_code, nothing_found}
 use Rattle.op_read.specs.declared.sending.Sent.{Sent}

@@ -9,14 +9,14 @@ ghost use Rattle.read_model.specs.Choosing.{is_chosen_by, is_chosen, is_sent, re
 ghost use Rattle.op_read.specs.Seeing.{row_in};
 ghost use Rattle.op_read.specs.Choices.{chooses, sent_of};
 
-use crate::asking::Seen;
-use crate::texts::{copied, printed};
+use crate::seen::Seen;
 use acdf_filters::Item;
 use acdf_lists::Dir;
 use aci_item::Permission;
 use dir_tree::NoMemory;
 use dn_names::Value;
 use ldap_msg::{KindValues, Reply};
+use op_asking::{copied, printed};
 use plain_values::{Octets, OneOrMany};
 use schema_core::{AttrId, attr_named, row};
 use std::alloc::Global;

@@ -9,13 +9,11 @@ ghost use Rattle.acdf_filters.specs.Asking as protected;
 ghost use Rattle.aci_item.specs.declared.permission.Permission.TheVariants as permission;
 ghost use Rattle.read_model.specs.Views.{view_of, result_of};
 ghost use Rattle.read_model.specs.CompareReplies.{has_equal, compared, readable, compared_in, compared_value, compared_kind, compare_result};
+ghost use Rattle.op_asking.specs.Asking.{view_in};
 ghost use Rattle.op_read.specs.Alike.{ComparesAlike};
-ghost use Rattle.op_read.specs.Seeing.{view_in, row_in, rows_at};
+ghost use Rattle.op_read.specs.Seeing.{row_in, rows_at};
 
-use crate::asking::{Asking, Seen};
-use crate::hiding::hidden;
-use crate::results::result_of;
-use crate::texts::read_named;
+use crate::seen::Seen;
 use acdf_filters::{Item, Requester};
 use acdf_lists::Dir;
 use aci_item::Permission;
@@ -23,6 +21,7 @@ use dir_tree::{EntryNo, NoMemory};
 use dn_names::{Dn, Value, make_value};
 use ldap_msg::{CompareRequest, LdapResult, ResultCode};
 use match_rules::PrepareFault;
+use op_asking::{Asking, find_target, hidden, read_named, result_of};
 use schema_core::{AttrId, attr_named};
 use std::alloc::{AllocError, Global};
 
@@ -74,11 +73,15 @@ fn find_readable<D: Dir>(asking: &Asking<'_, D>, name: &Dn) -> Option<EntryNo>
 {
     let tree = asking.dir.tree();
     tree.entries_form_a_tree();
-    let number = tree.find(name)?;
-    if asking.allows(number, Item::Entry, Permission::Read) {
-        Some(number)
-    } else {
-        None
+    match find_target(tree, name) {
+        Some(target) => {
+            if asking.allows(target, Item::Entry, Permission::Read) {
+                Some(target.number)
+            } else {
+                None
+            }
+        }
+        None => None,
     }
 }
 

@@ -2,16 +2,13 @@
 //! decisions.
 #![tactic(auto)]
 
-mod asking;
 mod choosing;
 mod comparing;
-mod hiding;
-mod results;
 mod root_entry;
 mod searching;
+mod seen;
 mod selecting;
 mod sending;
-mod texts;
 
 pub use comparing::compare;
 pub use searching::search;

@@ -8,22 +8,19 @@ ghost use Rattle.read_model.specs.Views.{view_of, hidden};
 ghost use Rattle.read_model.specs.Selecting.{selected};
 ghost use Rattle.read_model.specs.RootEntry.{finds_root, root_entry, root_replies};
 ghost use Rattle.read_model.specs.SearchReplies.{replies_octets, found_replies, replies_at, replies_by, search_replies};
+ghost use Rattle.op_asking.specs.Asking.{view_in};
 ghost use Rattle.op_read.specs.Alike.{SendsAlike};
-ghost use Rattle.op_read.specs.Seeing.{view_in};
 
-use crate::asking::Asking;
 use crate::choosing::{Selection, read_choices};
-use crate::hiding::hidden;
-use crate::results::result_of;
 use crate::root_entry::{finds_root, root_entry};
 use crate::sending::{Search, ended_by, put_done, put_found};
-use crate::texts::read_named;
 use acdf_filters::Requester;
 use acdf_lists::Dir;
 use dir_tree::{EntryNo, NoMemory};
 use dn_names::Dn;
 use filter_core::prepare_filter;
 use ldap_msg::{ResultCode, SearchRequest, put_reply};
+use op_asking::{Asking, hidden, read_named, result_of};
 use std::alloc::Global;
 
 /// A request to search, with the number of its message and what the control of subentries says (RFC 3672 3).

@@ -4,7 +4,7 @@ ghost use Rattle.std.specs.Prelude.{◌≡◌};
 ghost use Rattle.read_model.specs.Selecting.{is_seen, is_found};
 ghost use Rattle.op_read.specs.Seeing.{row_in, scope_of};
 
-use crate::asking::Seen;
+use crate::seen::Seen;
 use acdf_filters::Item;
 use acdf_lists::Dir;
 use aci_item::Permission;

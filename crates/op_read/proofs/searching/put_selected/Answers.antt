@@ -1,12 +1,12 @@
 -- What was sent, and how the search ended.
-use Rattle.std.proofs.Common.{◌∙◌, ◌++◌, ◌∷◌, [], List, ap, subst}
+use Rattle.std.proofs.Common.{◌∙◌, ◌++◌, ◌∷◌, [], ap, subst}
 use Rattle.std.proofs.lemmas.Result.{on_ok_weaker}
 use Rattle.ldap_msg.specs.declared.kinds.LdapResult.{LdapResult}
 use Rattle.ldap_msg.specs.declared.kinds.Reply.TheVariants as reply
 use Rattle.read_model.specs.Views.{View}
 use Rattle.read_model.specs.Selecting.{selected}
 use Rattle.read_model.specs.SearchReplies.{replies_octets}
-use Rattle.op_read.specs.Seeing.{view_in}
+use Rattle.op_asking.specs.Asking.{view_in}
 use Rattle.op_read.specs.Sending.{entry_octets, IsSent}
 use Rattle.op_read.proofs.SendingLemmas.{found-replies}
 use Rattle.op_read.proofs.SelectingLemmas.{selected-among}

@@ -1,12 +1,11 @@
-//! Who asks, and what is asked.
+//! Entries as a requester sees them.
 
-ghost use Rattle.std.specs.Prelude.{◌≡◌, Some, false};
-ghost use Rattle.std.specs.Option.{option_map_or};
-ghost use Rattle.dir_tree.specs.Numbered.{entry_of, entries_of};
+ghost use Rattle.std.specs.Prelude.{◌≡◌, Some};
+ghost use Rattle.dir_tree.specs.Numbered.{entry_of};
 ghost use Rattle.acdf_filters.specs.Asking.{protected_of};
-ghost use Rattle.acdf_filters.specs.Granted.{granted};
 ghost use Rattle.read_model.specs.Selecting.{permits_of};
-ghost use Rattle.op_read.specs.Seeing.{Knows, knows-prop, row_in};
+ghost use Rattle.op_asking.specs.Asking.{Knows, knows-prop};
+ghost use Rattle.op_read.specs.Seeing.{row_in};
 
 use acdf_filters::{Item, Membership, Requester};
 use acdf_lists::Dir;
@@ -15,15 +14,6 @@ use dir_tree::{Entry, EntryNo};
 use dn_names::Value;
 use filter_core::Allow;
 use schema_core::AttrId;
-
-/// A requester asks a directory; the groups are known in which the requester is.
-#[derive(Drop)]
-pub(crate) struct Asking<'a, D: Dir> {
-    pub(crate) dir: &'a D,
-    pub(crate) who: &'a Requester,
-    pub(crate) known: &'a [Membership],
-    ghost memberships: { Knows (D.rows dir.now) who.now known.now } by { knows-prop (D.rows dir.now) who.now known.now },
-}
 
 /// An entry of the directory, as the requester sees it.
 #[derive(Drop)]
@@ -35,20 +25,6 @@ pub(crate) struct Seen<'a, D: Dir> {
     pub(crate) entry: &'a Entry,
     ghost memberships: { Knows (D.rows dir.now) who.now known.now } by { knows-prop (D.rows dir.now) who.now known.now },
     ghost found: { entry_of number.0 (D.rows dir.now) ≡ Some entry.now },
-}
-
-impl<'a, D: Dir> Asking<'a, D> {
-    /// Whether the requester has the permission for the item of the entry of the number; false where that is not in
-    /// use.
-    pub(crate) fn allows(&self, number: EntryNo, item: Item<'_>, permission: Permission) -> bool
-        ensures exact { result ≡ option_map_or
-            (λ entry. granted (entries_of (D.rows self.now.dir.now)) self.now.who.now entry
-            (protected_of item.entry) permission)
-            (entry_of number.0 (D.rows self.now.dir.now)) false }
-    {
-        self.dir
-            .decide(self.who, self.known, number, item, permission)
-    }
 }
 
 impl<'a, D: Dir> Seen<'a, D> {
