@@ -1,11 +1,9 @@
 -- What stands aside changes nothing in force.
-use Rattle.std.proofs.Common.{◌≡◌, ℕ, Bool, true, false, ◌&&◌, List, [], refl, ap, sym, subst, ◌∙◌, inl, inr, filter, length, Option, Some, None, if◌then◌else◌}
-use Rattle.std.specs.Prelude.{flat_map, IfSome}
+use Rattle.std.proofs.Common.{◌≡◌, ℕ, Bool, true, false, ◌&&◌, List, [], refl, ap, sym, ◌∙◌, inl, inr, filter, length, Option, Some, None, if◌then◌else◌}
+use Rattle.std.specs.Prelude.{IfSome}
 use Rattle.std.specs.Option.{option_and_then}
 use Rattle.std.proofs.lemmas.Bool.{cases_Bool, cond-true, cond-false}
-use Rattle.dn_names.specs.NameOrder.{is_same}
 use Rattle.dir_tree.specs.Entries.{EntryInformation}
-use Rattle.dir_tree.specs.Trees.{put_in}
 use Rattle.dir_tree.specs.Points.{is_specific_point, is_subentry}
 use Rattle.dir_tree.specs.Scopes.{is_within}
 use Rattle.admin_scope.specs.Areas.{is_access_point, areas}

@@ -1,16 +1,16 @@
 -- Lists of numbers of subentries in force stay right for an entry, where what changes stands aside from it.
-use Rattle.std.proofs.Common.{◌≡◌, ◌≢◌, ◌⊎◌, ℕ, Bool, true, false, ◌==◌, List, [], ◌∷◌, ◌++◌, refl, ap, sym, subst, ◌∙◌, inl, inr, filter, find, Option, Some, None}
+use Rattle.std.proofs.Common.{◌≡◌, ◌≢◌, ℕ, true, ◌==◌, List, [], ◌∷◌, ◌++◌, refl, ap, sym, subst, ◌∙◌, inl, inr, find, Option, Some, None}
 use Rattle.std.specs.Prelude.{flat_map, IsSome, IfSome}
 use Rattle.std.specs.Option.{option_map}
 use Rattle.std.specs.List.{AllByRecursion}
-use Rattle.std.proofs.lemmas.Bool.{cases_Bool, cond-true, cond-false, eqb-true, ne_eqb}
+use Rattle.std.proofs.lemmas.Bool.{cases_Bool, cond-false, eqb-true, ne_eqb}
 use Rattle.dir_tree.specs.Entries.{EntryInformation}
 use Rattle.dir_tree.specs.Points.{is_subentry}
 use Rattle.dir_tree.specs.Scopes.{is_within}
 use Rattle.dir_tree.specs.Numbered.{Numbered, entries_of, entry_of, entries_at, without, IsNumberedTree}
 use Rattle.admin_scope.specs.Areas.{areas}
 use Rattle.admin_scope.specs.InForce.{reaches, in_force_at, in_force}
-use Rattle.scope_laws.specs.Aside.{IsNeverInForce, IsAside, is_point_over}
+use Rattle.scope_laws.specs.Aside.{IsNeverInForce, IsAside}
 use Rattle.scope_laws.proofs.AreaLemmas.{AreLike, are_like_itself, like-areas}
 use Rattle.scope_laws.proofs.RowLemmas.{in_force-aside}
 
