@@ -6,6 +6,7 @@ use Rattle.dn_names.specs.Names.{RdnSequence}
 use Rattle.dn_names.specs.NameOrder.{is_same}
 use Rattle.dir_tree.specs.Entries.{EntryInformation}
 use Rattle.dir_tree.specs.Trees.{put_in}
+use Rattle.dir_tree.specs.Numbered.{Numbered, entry_of, without}
 use Rattle.dir_tree.specs.Points.{is_specific_point, is_inner_point, is_access_subentry}
 use Rattle.dir_tree.specs.Scopes.{is_within, is_child}
 use Rattle.admin_scope.specs.Areas.{is_access_point}
@@ -50,3 +51,9 @@ pub record IsSamePoint (one other : EntryInformation) : Type 0 where
 -- the one is immediately below the name
 abbrev pub IsUnder : RdnSequence → EntryInformation → Type 0
 IsUnder top one = is_child top one ≡ true
+
+-- the trees are equal but for the number, whose entry was the one and is the other
+pub record IsChangeOf (id : ℕ) (rows new : List Numbered) (one other : Option EntryInformation) : Type 0 where
+  pub others : without id rows ≡ without id new
+  pub before : entry_of id rows ≡ one
+  pub after : entry_of id new ≡ other
