@@ -94,12 +94,12 @@ never_under : (entry : EntryInformation) (top : RdnSequence) → is_within top e
     → IsUnder top one → IsNeverInForce entry one
 never_under entry top outside one under = λ point within.
     false_from_ne_true (reaches point one entry) (λ e.
-      let child = and_parts (is_child point.name one) (applies point one entry) e in
-      let parts = and_parts (is_prefix_of point.name one.name) (length one.name == length point.name + 1) child.0 in
-      let own = and_parts (is_prefix_of top one.name) (length one.name == length top + 1) under in
-      let same = same_superior top point.name one.name own.0 own.1 parts.0 parts.1 in
-      let clash : false ≡ true = sym outside ∙ prefix_same top point.name entry.name same ∙ within in
-      absurd cc)
+    let child = and_parts (is_child point.name one) (applies point one entry) e in
+    let parts = and_parts (is_prefix_of point.name one.name) (length one.name == length point.name + 1) child.0 in
+    let own = and_parts (is_prefix_of top one.name) (length one.name == length top + 1) under in
+    let same = same_superior top point.name one.name own.0 own.1 parts.0 parts.1 in
+    let clash : false ≡ true = sym outside ∙ prefix_same top point.name entry.name same ∙ within in
+    absurd cc)
 
 -- entries immediately below a name that the entry is neither at nor below
 pub aside-under : (entry : EntryInformation) (top : RdnSequence) (one other : Option EntryInformation)

@@ -70,12 +70,11 @@ not_among P id rows never (other ∷ ids) live h =
         → AllByRecursion (λ other. other ≢ id) (other ∷ ids)
     by None e some h later = absurd cc
     by (Some x) e some h later =
-        let all : AllByRecursion P (x ∷ entries_at rows ids) = rw e at h in
-        (
+        let all : AllByRecursion P (x ∷ entries_at rows ids) = rw e at h in (
           (λ is.
-            let known : entry_of id rows ≡ Some x = sym (ap (λ n. entry_of n rows) is) ∙ e in
-            let none : IfSome (Some x) (λ one. P one → ⊥) = subst (λ o. IfSome o (λ one. P one → ⊥)) known never in
-            none all.0),
+              let known : entry_of id rows ≡ Some x = sym (ap (λ n. entry_of n rows) is) ∙ e in
+              let none : IfSome (Some x) (λ one. P one → ⊥) = subst (λ o. IfSome o (λ one. P one → ⊥)) known never in
+              none all.0),
           later all.1,
         )
 

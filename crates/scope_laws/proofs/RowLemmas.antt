@@ -4,7 +4,7 @@ use Rattle.std.specs.Option.{option_map}
 use Rattle.std.proofs.lemmas.Bool.{cases_Bool, cond-true, cond-false, eq-eqb}
 use Rattle.dir_tree.specs.Entries.{EntryInformation}
 use Rattle.dir_tree.specs.Trees.{is_before}
-use Rattle.dir_tree.specs.Numbered.{Numbered, entries_of, entry_of, put_row, put_entry, without, IsNumberedTree}
+use Rattle.dir_tree.specs.Numbered.{Numbered, entries_of, entry_of, put_entry, without, IsNumberedTree}
 use Rattle.dir_tree.proofs.TreeTheorems.{put_row-taken, entries_of-put_row, without-put_row}
 use Rattle.admin_scope.specs.InForce.{in_force}
 use Rattle.scope_laws.specs.Aside.{put_some, IsAside, IsChangeOf}
@@ -21,10 +21,10 @@ none_here id x rows e = elim (cases_Bool (x.id == id)) [
       absurd cc
       )
   | inr f ↦ (
-      f,
-      sym (ap (option_map (λ (row : Numbered). row.entry)) (cond-false (x.id == id) (Some x) (find (λ row. row.id == id) rows) f))
-      ∙ e,
-    )
+    f,
+    sym (ap (option_map (λ (row : Numbered). row.entry)) (cond-false (x.id == id) (Some x) (find (λ row. row.id == id) rows) f))
+        ∙ e,
+  )
 ]
 
 -- it takes nothing out
