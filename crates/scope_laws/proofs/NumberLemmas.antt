@@ -10,7 +10,7 @@ use Rattle.dir_tree.specs.Scopes.{is_within}
 use Rattle.dir_tree.specs.Numbered.{Numbered, entries_of, entry_of, entries_at, without, IsNumberedTree}
 use Rattle.admin_scope.specs.Areas.{areas}
 use Rattle.admin_scope.specs.InForce.{reaches, in_force_at, in_force}
-use Rattle.scope_laws.specs.Aside.{IsNeverInForce, IsAside, IsChangeOf}
+use Rattle.scope_laws.specs.Aside.{IsNeverInForce, IsAside, IsChangeOf, AreInForce}
 use Rattle.scope_laws.proofs.AreaLemmas.{AreLike, are_like_itself, like-areas}
 use Rattle.scope_laws.proofs.RowLemmas.{in_force-aside}
 
@@ -129,21 +129,27 @@ never_some : (entry : EntryInformation) (one : Option EntryInformation) → IfSo
 never_some entry None h = tt
 never_some entry (Some one) h = sometime-never entry one h
 
-module _ (id : ℕ) (rows new : List Numbered) (one other : Option EntryInformation) (entry : EntryInformation) (ids : List ℕ) (tree : IsNumberedTree rows) (also : IsNumberedTree new) (change : IsChangeOf id rows new one other) (aside : IsAside entry one other) (live : AllByRecursion (λ number. IsSome (entry_of number rows)) ids) (known : entries_at rows ids ≡ in_force (entries_of rows) entry) where
-  others : AllByRecursion (λ number. number ≢ id) ids
-  others =
-      not_among (IsSometimeInForce entry) id rows
-      (subst (λ (o : Option EntryInformation). IfSome o (λ subentry. IsSometimeInForce entry subentry → ⊥)) (sym change.before)
-      (never_some entry one aside.first))
-      ids live
-      (subst (λ (found : List EntryInformation). AllByRecursion (IsSometimeInForce entry) found) (sym known)
-      (all_in_force (entries_of rows) entry))
+-- so the numbers are others, and stay
+other_numbers : (id : ℕ) (rows : List Numbered) (one : Option EntryInformation) (entry : EntryInformation) (ids : List ℕ)
+    → entry_of id rows ≡ one → IfSome one (IsNeverInForce entry) → AreInForce ids rows entry
+    → AllByRecursion (λ number. number ≢ id) ids
+other_numbers id rows one entry ids before never known =
+    not_among (IsSometimeInForce entry) id rows
+    (subst (λ (o : Option EntryInformation). IfSome o (λ subentry. IsSometimeInForce entry subentry → ⊥)) (sym before)
+    (never_some entry one never))
+    ids known.live
+    (subst (λ (found : List EntryInformation). AllByRecursion (IsSometimeInForce entry) found) (sym known.exact)
+    (all_in_force (entries_of rows) entry))
 
-  pub numbers-aside : entries_at new ids ≡ in_force (entries_of new) entry
-  numbers-aside =
-      entries_at-new id rows new change.others ids others
-      ∙ known
-      ∙ in_force-aside id rows new one other entry tree also change aside
-
-  pub live-aside : AllByRecursion (λ number. IsSome (entry_of number new)) ids
-  live-aside = live-new id rows new change.others ids others live
+pub numbers-aside : (id : ℕ) (rows new : List Numbered) (one other : Option EntryInformation) (entry : EntryInformation)
+    (ids : List ℕ) → IsNumberedTree rows → IsNumberedTree new → IsChangeOf id rows new one other → IsAside entry one other
+    → AreInForce ids rows entry → AreInForce ids new entry
+numbers-aside id rows new one other entry ids tree also change aside known =
+    let others = other_numbers id rows one entry ids change.before aside.first known in
+    record {
+      exact =
+          entries_at-new id rows new change.others ids others
+          ∙ known.exact
+          ∙ in_force-aside id rows new one other entry tree also change aside;
+      live = live-new id rows new change.others ids others known.live;
+    }

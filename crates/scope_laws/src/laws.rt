@@ -1,13 +1,12 @@
 //! The laws of scope: each function computes nothing, and what it ensures is a law.
 
-ghost use Rattle.std.specs.Prelude.{◌≡◌, ℕ, false, List, Option, Some, None, IfSome, IsSome};
-ghost use Rattle.std.specs.List.{AllByRecursion};
+ghost use Rattle.std.specs.Prelude.{◌≡◌, ℕ, false, List, Option, Some, None, IfSome};
 ghost use Rattle.dn_names.specs.Names.{RdnSequence};
 ghost use Rattle.dir_tree.specs.Entries.{EntryInformation};
-ghost use Rattle.dir_tree.specs.Numbered.{Numbered, entries_of, entry_of, entries_at, put_entry, without, IsNumberedTree};
+ghost use Rattle.dir_tree.specs.Numbered.{Numbered, entries_of, entry_of, put_entry, without, IsNumberedTree};
 ghost use Rattle.dir_tree.specs.Scopes.{is_within};
 ghost use Rattle.admin_scope.specs.InForce.{in_force};
-ghost use Rattle.scope_laws.specs.Aside.{put_some, IsAside, IsBeside, IsSamePoint, IsUnder, IsChangeOf};
+ghost use Rattle.scope_laws.specs.Aside.{put_some, IsAside, IsBeside, IsSamePoint, IsUnder, IsChangeOf, AreInForce};
 
 /// What stands aside from an entry changes nothing in force for it: of entries of which one is put in, or another
 /// in its place, or none; and of two trees that are equal but for one number, which both, one or none may have.
@@ -27,15 +26,7 @@ pub fn the_numbers_in_force_stay()
     ensures exact { (id : ℕ) (rows new : List Numbered) (one other : Option EntryInformation)
         (entry : EntryInformation) (ids : List ℕ) → IsNumberedTree rows → IsNumberedTree new
         → IsChangeOf id rows new one other → IsAside entry one other
-        → AllByRecursion (λ number. IsSome (entry_of number rows)) ids
-        → entries_at rows ids ≡ in_force (entries_of rows) entry
-        → entries_at new ids ≡ in_force (entries_of new) entry }
-    ensures live { (id : ℕ) (rows new : List Numbered) (one other : Option EntryInformation)
-        (entry : EntryInformation) (ids : List ℕ) → IsNumberedTree rows → IsNumberedTree new
-        → IsChangeOf id rows new one other → IsAside entry one other
-        → AllByRecursion (λ number. IsSome (entry_of number rows)) ids
-        → entries_at rows ids ≡ in_force (entries_of rows) entry
-        → AllByRecursion (λ number. IsSome (entry_of number new)) ids }
+        → AreInForce ids rows entry → AreInForce ids new entry }
 {}
 
 /// Three ways to stand aside from an entry: ordinary entries that it is neither at nor below; one ordinary entry

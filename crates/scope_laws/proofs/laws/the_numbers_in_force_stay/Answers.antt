@@ -1,6 +1,6 @@
--- By the lemmas.
-use Rattle.scope_laws.proofs.NumberLemmas.{numbers-aside, live-aside}
+-- By the lemma.
+use Rattle.scope_laws.proofs.NumberLemmas.{numbers-aside}
 use Rattle.scope_laws.proofs.laws.the_numbers_in_force_stay.Goals as goal
 
 pub returns : goal.returns
-returns c = record { exact = numbers-aside; live = live-aside }
+returns c = record { exact = numbers-aside }
