@@ -1,0 +1,108 @@
+-- Names that are the same: what comes before them, what is below them, and what is in force under them.
+use Rattle.std.proofs.Common.{◌≡◌, ℕ, ◌+◌, Bool, true, false, ◌&&◌, ◌++◌, map, length, take, drop, refl, sym, ap, ◌∙◌, Option, Some, None}
+use Rattle.std.specs.Prelude.{◌==◌}
+use Rattle.std.specs.Cmp.{both_ways}
+use Rattle.std.specs.Option.{option_map_or}
+use Rattle.std.specs.Ordering.{is_lt, is_eq}
+use Rattle.std.specs.declared.cmp.Ordering.{Ordering}
+use Rattle.std.specs.declared.cmp.Ordering.TheVariants.{Less, Equal, Greater}
+use Rattle.std.proofs.lemmas.Cmp.{alike_right}
+use Rattle.std.proofs.lemmas.List.{length-map, map-append}
+use Rattle.dn_names.specs.Names.{RdnSequence}
+use Rattle.dn_names.specs.NameOrder.{name_cmp, is_same, is_prefix_of, type_and_key, types_and_keys}
+use Rattle.dn_names.proofs.Theorems.{name_cmp_total, is_same-types_and_keys, is_prefix_of-types_and_keys}
+use Rattle.dir_tree.specs.Entries.{EntryInformation}
+use Rattle.dir_tree.specs.Trees.{is_before}
+use Rattle.dir_tree.specs.Points.{is_access_subentry}
+use Rattle.dir_tree.specs.Scopes.{is_child}
+use Rattle.subtree_spec.specs.Subtrees.{Subtree}
+use Rattle.subtree_spec.specs.Membership.{holds_below, holds_rest}
+use Rattle.admin_scope.specs.Refinements.{holds, meets_filter}
+use Rattle.admin_scope.specs.InForce.{subtree_of_entry, subtree_holds, reaches}
+use Rattle.admin_scope.proofs.Theorems.{named-front}
+
+same_length : (x y : RdnSequence) → types_and_keys x ≡ types_and_keys y → length x ≡ length y
+same_length x y e = sym (length-map x (map type_and_key)) ∙ ap length e ∙ length-map y (map type_and_key)
+
+pub length-same : (x y : RdnSequence) → is_same x y ≡ true → length x ≡ length y
+length-same x y e = same_length x y ((is_same-types_and_keys x y).0 e)
+
+pub same_back : (x y : RdnSequence) → is_same x y ≡ true → is_same y x ≡ true
+same_back x y e = (is_same-types_and_keys y x).1 (sym ((is_same-types_and_keys x y).0 e))
+
+is_equal : (o : Ordering) → is_eq o ≡ true → o ≡ Equal
+is_equal Less e = absurd cc
+is_equal Equal e = refl
+is_equal Greater e = absurd cc
+
+-- what comes before a name comes before what is the same
+pub before_same : (x y z : RdnSequence) → is_same x y ≡ true → is_before z x ≡ is_before z y
+unfolding is_same
+before_same x y z e = ap is_lt (alike_right name_cmp_total x y z (is_equal (name_cmp x y) e))
+
+-- fronts of one name that have as many RDNs are the same
+pub same_fronts : (x y name : RdnSequence) → is_prefix_of x name ≡ true → is_prefix_of y name ≡ true → length x ≡ length y
+    → is_same x y ≡ true
+same_fronts x y name e f h =
+    let front : RdnSequence = take (length y) name in
+    (is_same-types_and_keys x y).1 (sym ((is_same-types_and_keys front x).0 (named-front (length y) name x e h))
+    ∙ (is_same-types_and_keys front y).0 (named-front (length y) name y f refl))
+
+-- what a name begins, what is the same begins
+begins : (x y name : RdnSequence) → types_and_keys x ≡ types_and_keys y → is_prefix_of x name ≡ true
+    → is_prefix_of y name ≡ true
+begins x y name e f =
+    let rest = (is_prefix_of-types_and_keys x name).0 f in
+    (is_prefix_of-types_and_keys y name).1 (rest.0, rest.1 ∙ ap (λ t. t ++ rest.0) e)
+
+begins_both : (x y name : RdnSequence) → types_and_keys x ≡ types_and_keys y → is_prefix_of x name ≡ is_prefix_of y name
+begins_both x y name e =
+    both_ways (is_prefix_of x name) (is_prefix_of y name) (begins x y name e) (begins y x name (sym e))
+
+pub prefix_same : (x y name : RdnSequence) → is_same x y ≡ true → is_prefix_of x name ≡ is_prefix_of y name
+prefix_same x y name e = begins_both x y name ((is_same-types_and_keys x y).0 e)
+
+-- a subtree holds below a name what it holds below what is the same
+holds_below-same : (subtree : Subtree) (x y name : RdnSequence) → is_same x y ≡ true
+    → holds_below subtree x name ≡ holds_below subtree y name
+unfolding holds_below
+holds_below-same subtree x y name e =
+    let same = (is_same-types_and_keys x y).0 e in
+    let joined : types_and_keys (x ++ subtree.base) ≡ types_and_keys (y ++ subtree.base) =
+    map-append (map type_and_key) x subtree.base
+    ∙ ap (λ t. t ++ types_and_keys subtree.base) same
+    ∙ sym (map-append (map type_and_key) y subtree.base) in
+    ap (λ (b : Bool). b && holds_rest subtree (drop (length x + length subtree.base) name))
+    (begins_both (x ++ subtree.base) (y ++ subtree.base) name joined)
+    ∙ ap (λ (n : ℕ). is_prefix_of (y ++ subtree.base) name && holds_rest subtree (drop (n + length subtree.base) name))
+    (same_length x y same)
+
+holds-same : (subtree : Subtree) (x y : RdnSequence) (entry : EntryInformation) → is_same x y ≡ true
+    → holds subtree x entry ≡ holds subtree y entry
+unfolding holds
+holds-same subtree x y entry e =
+    ap (λ (b : Bool). b && meets_filter subtree.filter entry) (holds_below-same subtree x y entry.name e)
+
+subtree_holds-same : (x y subentry entry : EntryInformation) → is_same x.name y.name ≡ true
+    → subtree_holds x subentry entry ≡ subtree_holds y subentry entry
+unfolding subtree_holds
+subtree_holds-same x y subentry entry e = by (subtree_of_entry subentry)
+  where
+    by : (o : Option Subtree) → option_map_or (λ subtree. holds subtree x.name entry) o false
+        ≡ option_map_or (λ subtree. holds subtree y.name entry) o false
+    by None = refl
+    by (Some subtree) = holds-same subtree x.name y.name entry e
+
+child_same : (x y : RdnSequence) (entry : EntryInformation) → is_same x y ≡ true → is_child x entry ≡ is_child y entry
+child_same x y entry e =
+    ap (λ (b : Bool). b && (length entry.name == length x + 1)) (prefix_same x y entry.name e)
+    ∙ ap (λ (n : ℕ). is_prefix_of y entry.name && (length entry.name == n + 1)) (length-same x y e)
+
+-- the same is in force under points of the same name
+pub reaches-same : (x y subentry entry : EntryInformation) → is_same x.name y.name ≡ true
+    → reaches x subentry entry ≡ reaches y subentry entry
+reaches-same x y subentry entry e =
+    ap (λ (b : Bool). b && (is_access_subentry subentry && subtree_holds x subentry entry))
+    (child_same x.name y.name subentry e)
+    ∙ ap (λ (b : Bool). is_child y.name subentry && (is_access_subentry subentry && b))
+    (subtree_holds-same x y subentry entry e)

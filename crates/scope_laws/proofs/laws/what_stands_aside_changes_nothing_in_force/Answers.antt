@@ -1,0 +1,7 @@
+-- By the lemmas.
+use Rattle.scope_laws.proofs.ForceLemmas.{in_force-put_some}
+use Rattle.scope_laws.proofs.RowLemmas.{in_force-aside}
+use Rattle.scope_laws.proofs.laws.what_stands_aside_changes_nothing_in_force.Goals as goal
+
+pub returns : goal.returns
+returns c = record { put = in_force-put_some; numbered = in_force-aside }
