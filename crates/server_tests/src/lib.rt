@@ -37,6 +37,8 @@ mod serves;
 #[cfg(test)]
 mod sets;
 #[cfg(test)]
+mod strangers;
+#[cfg(test)]
 mod subentries;
 #[cfg(test)]
 mod twins;
