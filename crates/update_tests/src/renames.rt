@@ -8,44 +8,27 @@ use std::test::Fail;
 
 const BOX: &str = "cn=box,ou=vault,dc=shop";
 
-// Who asks, for what, and the result.
-type Row = (&'static str, Renaming, &'static str);
-
-// The entry is to have this RDN, and keeps its old values.
-const fn kept(name: &'static str, rdn: &'static str) -> Renaming {
-    Renaming {
-        name,
-        rdn,
-        delete_old: false,
-        superior: None,
-    }
-}
-
-// The same below this superior.
-const fn below(name: &'static str, rdn: &'static str, superior: &'static str) -> Renaming {
-    Renaming {
-        name,
-        rdn,
-        delete_old: false,
-        superior: Some(superior),
-    }
-}
-
-// The entry is to have this RDN, and loses its old values.
-const fn moved(name: &'static str, rdn: &'static str) -> Renaming {
-    Renaming {
-        name,
-        rdn,
-        delete_old: true,
-        superior: None,
-    }
-}
+// Who asks, the name, the new RDN, whether the old value is to go, the new superior, and the result.
+type Row = (
+    &'static str,
+    &'static str,
+    &'static str,
+    bool,
+    Option<&'static str>,
+    &'static str,
+);
 
 // Each rename of the rows is refused, and leaves the entries.
 fn check_refused(rt: &impl Abort, alloc: Global, rows: &'static [Row]) -> Result<(), Fail> {
     let mut dir = directory(alloc, SHOP)?;
-    for (index, (who, renaming, want)) in rows.iter().enumerate() {
-        let found = ask_rename(alloc, &mut dir, who, renaming)?;
+    for (index, (who, name, rdn, delete_old, superior, want)) in rows.iter().enumerate() {
+        let renaming = Renaming {
+            name: *name,
+            rdn: *rdn,
+            delete_old: *delete_old,
+            superior: *superior,
+        };
+        let found = ask_rename(alloc, &mut dir, who, &renaming)?;
         assert_eq!(rt; found.as_str(), *want, "row {index}");
         let bens = shown(alloc, &dir, BEN)?;
         assert_eq!(rt; bens.as_str(), BENS, "after row {index}");
@@ -55,21 +38,28 @@ fn check_refused(rt: &impl Abort, alloc: Global, rows: &'static [Row]) -> Result
 }
 
 static UNREAD: [Row; 14] = [
-    (ANN, kept("ou", "uid=x"), "34"),
-    (ANN, kept(BEN, "uid"), "34"),
-    (ANN, kept(BEN, ""), "34"),
-    (ANN, kept(BEN, "uid=x,uid=y"), "34"),
-    (ANN, kept(BEN, "telephoneNumber=1"), "34"),
-    (ANN, below(BEN, "uid=x", "ou"), "34"),
-    (ANYONE, kept("", "uid"), "34"),
-    (ANYONE, below("", "uid=x", "="), "34"),
-    (ANN, kept("", "uid=x"), "53"),
-    (ANYONE, kept("  ", "uid=x"), "53"),
+    (ANN, "ou", "uid=x", false, None, "34"),
+    (ANN, BEN, "uid", false, None, "34"),
+    (ANN, BEN, "", false, None, "34"),
+    (ANN, BEN, "uid=x,uid=y", false, None, "34"),
+    (ANN, BEN, "telephoneNumber=1", false, None, "34"),
+    (ANN, BEN, "uid=x", false, Some("ou"), "34"),
+    (ANYONE, "", "uid", false, None, "34"),
+    (ANYONE, "", "uid=x", false, Some("="), "34"),
+    (ANN, "", "uid=x", false, None, "53"),
+    (ANYONE, "  ", "uid=x", false, None, "53"),
     // another superior, before the entry is looked for
-    (ANN, below(BEN, "uid=x", "ou=vault,dc=shop"), "53"),
-    (ANN, below(BEN, "uid=x", ""), "53"),
-    (ANYONE, below("ou=none,dc=shop", "ou=x", "dc=none"), "53"),
-    (BEN, below(BOX, "cn=x", "dc=shop"), "53"),
+    (ANN, BEN, "uid=x", false, Some("ou=vault,dc=shop"), "53"),
+    (ANN, BEN, "uid=x", false, Some(""), "53"),
+    (
+        ANYONE,
+        "ou=none,dc=shop",
+        "ou=x",
+        false,
+        Some("dc=none"),
+        "53",
+    ),
+    (BEN, BOX, "cn=x", false, Some("dc=shop"), "53"),
 ];
 
 #[test]
@@ -78,23 +68,25 @@ fn a_rename_that_cannot_be_read_is_told_so_whoever_asks(rt: HostRuntime) -> Resu
 }
 
 static HIDDEN: [Row; 7] = [
-    (ANN, kept("ou=none,dc=shop", "ou=x"), "32 dc=shop"),
-    (ANYONE, kept(BEN, "uid=x"), "50"),
-    (ANYONE, kept(BOX, "cn=x"), "32 dc=shop"),
-    (BEN, kept("dc=shop", "dc=x"), "50"),
-    (BEN, kept("cn=open,dc=shop", "cn=x"), "32 dc=shop"),
+    (ANN, "ou=none,dc=shop", "ou=x", false, None, "32 dc=shop"),
+    (ANYONE, BEN, "uid=x", false, None, "50"),
+    (ANYONE, BOX, "cn=x", false, None, "32 dc=shop"),
+    (BEN, "dc=shop", "dc=x", false, None, "50"),
+    (BEN, "cn=open,dc=shop", "cn=x", false, None, "32 dc=shop"),
     (
         BEN,
-        below("cn=none,ou=vault,dc=shop", "cn=x", "OU = Vault,dc=shop"),
+        "cn=none,ou=vault,dc=shop",
+        "cn=x",
+        false,
+        Some("OU = Vault,dc=shop"),
         "32 dc=shop",
     ),
     (
         ANN,
-        below(
-            "cn=x,cn=none,ou=vault,dc=shop",
-            "cn=x",
-            "cn=none,ou=vault,dc=shop",
-        ),
+        "cn=x,cn=none,ou=vault,dc=shop",
+        "cn=x",
+        false,
+        Some("cn=none,ou=vault,dc=shop"),
         "32 ou=vault,dc=shop",
     ),
 ];
@@ -105,20 +97,20 @@ fn an_entry_that_may_not_be_renamed_is_hidden(rt: HostRuntime) -> Result<(), Fai
 }
 
 static REFUSED: [Row; 11] = [
-    (ANN, kept("dc=shop", "dc=x"), "53"),
-    (ANN, below("dc=shop", "dc=x", ""), "53"),
-    (ANN, kept("ou=people,dc=shop", "ou=x"), "66"),
-    (ANN, kept("ou=people,dc=shop", "OU=People"), "66"),
+    (ANN, "dc=shop", "dc=x", false, None, "53"),
+    (ANN, "dc=shop", "dc=x", false, Some(""), "53"),
+    (ANN, "ou=people,dc=shop", "ou=x", false, None, "66"),
+    (ANN, "ou=people,dc=shop", "OU=People", false, None, "66"),
     // may be renamed, but not known of
-    (BEN, kept("ou=vault,dc=shop", "ou=x"), "32 dc=shop"),
+    (BEN, "ou=vault,dc=shop", "ou=x", false, None, "32 dc=shop"),
     // another entry's name, told to who may know of that entry
-    (ANN, kept(BEN, "uid=ann"), "68"),
-    (BEN, kept(BEN, "UID=Ann"), "68"),
-    (ANN, kept(BOX, "cn=safe"), "68"),
-    (BEN, kept(BOX, "cn=safe"), "50"),
+    (ANN, BEN, "uid=ann", false, None, "68"),
+    (BEN, BEN, "UID=Ann", false, None, "68"),
+    (ANN, BOX, "cn=safe", false, None, "68"),
+    (BEN, BOX, "cn=safe", false, None, "50"),
     // the rules
-    (ANN, kept(BEN, "serialNumber=1"), "65"),
-    (ANN, moved("cn=open,dc=shop", "ou=x"), "65"),
+    (ANN, BEN, "serialNumber=1", false, None, "65"),
+    (ANN, "cn=open,dc=shop", "ou=x", true, None, "65"),
 ];
 
 #[test]
@@ -126,8 +118,16 @@ fn a_rename_is_refused_by_the_first_row_of_its_table(rt: HostRuntime) -> Result<
     check_refused(&rt, rt.alloc(), &REFUSED)
 }
 
-// Who asks, for what, and the entry under its new name.
-type Done = (&'static str, Renaming, &'static str, &'static str);
+// Who asks, the name, the new RDN, whether the old value is to go, the new superior, and the entry under its new name.
+type Done = (
+    &'static str,
+    &'static str,
+    &'static str,
+    bool,
+    Option<&'static str>,
+    &'static str,
+    &'static str,
+);
 
 const TAIL: &str =
     " sn=B; telephoneNumber=+1 555 0101; mail=ben@shop.example; title=Clerk; description=Fast;";
@@ -136,81 +136,120 @@ const TAIL: &str =
 static DONE: [Done; 11] = [
     (
         BEN,
-        kept(BEN, "uid=rob"),
+        BEN,
+        "uid=rob",
+        false,
+        None,
         "uid=rob,ou=people,dc=shop",
         " objectClass=inetOrgPerson; uid=ben;rob; cn=Ben;Benjamin;",
     ),
     // the new value comes before the old one goes
     (
         BEN,
-        moved(BEN, "uid=rob"),
+        BEN,
+        "uid=rob",
+        true,
+        None,
         "uid=rob,ou=people,dc=shop",
         " objectClass=inetOrgPerson; uid=rob; cn=Ben;Benjamin;",
     ),
     (
         ANN,
-        moved(BEN, "cn=Ben"),
+        BEN,
+        "cn=Ben",
+        true,
+        None,
         "cn=Ben,ou=people,dc=shop",
         " objectClass=inetOrgPerson; cn=Ben;Benjamin;",
     ),
     (
         ANN,
-        moved(BEN, "cn=Bert"),
+        BEN,
+        "cn=Bert",
+        true,
+        None,
         "cn=Bert,ou=people,dc=shop",
         " objectClass=inetOrgPerson; cn=Ben;Benjamin;Bert;",
     ),
     // the same name in another spelling
     (
         BEN,
-        moved(BEN, "uid=BEN"),
+        BEN,
+        "uid=BEN",
+        true,
+        None,
         "uid=BEN,ou=people,dc=shop",
         " objectClass=inetOrgPerson; uid=ben; cn=Ben;Benjamin;",
     ),
     (
         BEN,
-        moved("UID=Ben,OU=People,dc=shop", "uid=ben"),
+        "UID=Ben,OU=People,dc=shop",
+        "uid=ben",
+        true,
+        None,
         "uid=ben,ou=people,dc=shop",
         " objectClass=inetOrgPerson; uid=ben; cn=Ben;Benjamin;",
     ),
     // two values, of which one is the old one
     (
         BEN,
-        moved(BEN, "uid=ben+cn=benjamin"),
+        BEN,
+        "uid=ben+cn=benjamin",
+        true,
+        None,
         "cn=benjamin+uid=ben,ou=people,dc=shop",
         " objectClass=inetOrgPerson; uid=ben; cn=Ben;Benjamin;",
     ),
     // the present superior, however it is spelled
     (
         BEN,
-        below(BEN, "uid=x", "OU = PEOPLE , DC=shop"),
+        BEN,
+        "uid=x",
+        false,
+        Some("OU = PEOPLE , DC=shop"),
         "uid=x,ou=people,dc=shop",
         " objectClass=inetOrgPerson; uid=ben;x; cn=Ben;Benjamin;",
     ),
     (
         BEN,
-        moved(BOX, "cn=lid"),
+        BOX,
+        "cn=lid",
+        true,
+        None,
         "cn=lid,ou=vault,dc=shop",
         " objectClass=device; cn=lid;",
     ),
     (
         ANN,
-        kept(BOX, "serialNumber=7"),
+        BOX,
+        "serialNumber=7",
+        false,
+        None,
         "serialNumber=7,ou=vault,dc=shop",
         " objectClass=device; cn=box; serialNumber=7;",
     ),
     (
         ANN,
-        moved("cn=keys,dc=shop", "cn=locks"),
+        "cn=keys,dc=shop",
+        "cn=locks",
+        true,
+        None,
         "cn=locks,dc=shop",
         "",
     ),
 ];
 
 fn check_done(rt: &impl Abort, alloc: Global, index: usize, row: &Done) -> Result<(), Fail> {
-    let (who, renaming, name, want) = row;
+    let (who, old_name, rdn, delete_old, superior, name, want) = row;
+    let renaming = Renaming {
+        name: *old_name,
+        rdn: *rdn,
+        delete_old: *delete_old,
+        superior: *superior,
+    };
     let mut dir = directory(alloc, SHOP)?;
     let before = count(&dir);
-    let found = ask_rename(alloc, &mut dir, who, renaming)?;
+    let found = ask_rename(alloc, &mut dir, who, &renaming)?;
     assert_eq!(rt; found.as_str(), "0", "row {index}");
     assert_eq!(rt; count(&dir), before, "row {index}");
     let entry = shown(alloc, &dir, name)?;

@@ -11,8 +11,8 @@ pub const SHOP: &str = "\
     administrativeRole: autonomousArea\n\
     subentryACI: { identificationTag \"rules\", precedence 10, authenticationLevel simple, itemOrUserFirst \
     userFirst: { userClasses { name { \"uid=ann,ou=people,dc=shop\" } }, userPermissions { { protectedItems { \
-    entry, allUserAttributeTypesAndValues, attributeType { subtreeSpecification, prescriptiveACI }, \
-    allAttributeValues { subtreeSpecification, prescriptiveACI } }, grantsAndDenials { grantAdd, \
+    entry, attributeType { subtreeSpecification, prescriptiveACI }, allAttributeValues { \
+    subtreeSpecification, prescriptiveACI }, allUserAttributeTypesAndValues }, grantsAndDenials { grantAdd, \
     grantDiscloseOnError, grantRemove, grantModify, grantRename } } } } }\n\
     \n\
     dn: cn=open,dc=shop\n\
@@ -29,8 +29,8 @@ pub const SHOP: &str = "\
     subtreeSpecification: { }\n\
     prescriptiveACI: { identificationTag \"head\", precedence 30, authenticationLevel simple, itemOrUserFirst \
     userFirst: { userClasses { name { \"uid=ann,ou=people,dc=shop\" } }, userPermissions { { protectedItems { \
-    entry, allUserAttributeTypesAndValues, attributeType { administrativeRole, entryACI }, allAttributeValues { \
-    administrativeRole, entryACI } }, grantsAndDenials { grantAdd, grantDiscloseOnError, grantRemove, \
+    entry, attributeType { administrativeRole, entryACI }, allAttributeValues { administrativeRole, entryACI }, \
+    allUserAttributeTypesAndValues }, grantsAndDenials { grantAdd, grantDiscloseOnError, grantRemove, \
     grantModify, grantRename } } } } }\n\
     \n\
     dn: cn=clerk,dc=shop\n\
