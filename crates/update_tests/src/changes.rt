@@ -25,15 +25,6 @@ pub type Attributes = &'static [(&'static str, &'static [&'static str])];
 /// Changes of an entry: 0 for an add, 1 for a delete and 2 for a replace, a type, and values.
 pub type Changes = &'static [(u8, &'static str, &'static [&'static str])];
 
-/// A rename that is asked for.
-#[derive(Clone, Copy)]
-pub struct Renaming {
-    pub name: &'static str,
-    pub rdn: &'static str,
-    pub delete_old: bool,
-    pub superior: Option<&'static str>,
-}
-
 /// What is asked for.
 #[derive(Clone, Copy)]
 pub enum Change {
@@ -43,8 +34,8 @@ pub enum Change {
     Delete(&'static str),
     /// The entry of this name is to be changed so.
     Modify(&'static str, Changes),
-    /// An entry is to have another name.
-    Rename(Renaming),
+    /// The entry of this name is to have this RDN, its old value is to go or not, and this is its superior.
+    Rename(&'static str, &'static str, bool, Option<&'static str>),
 }
 
 /// The directory of a data file.
@@ -178,17 +169,20 @@ pub fn ask_rename(
     alloc: Global,
     dir: &mut PlainDir,
     who: &str,
-    renaming: &Renaming,
+    name: &str,
+    rdn: &str,
+    delete_old: bool,
+    superior: Option<&str>,
 ) -> Result<String, Fail> {
     let who = requester(alloc, who)?;
-    let superior = match renaming.superior {
+    let superior = match superior {
         Some(superior) => Some(octets(alloc, superior)?),
         None => None,
     };
     let request = RenameRequest {
-        name: octets(alloc, renaming.name)?,
-        new_rdn: octets(alloc, renaming.rdn)?,
-        delete_old: renaming.delete_old,
+        name: octets(alloc, name)?,
+        new_rdn: octets(alloc, rdn)?,
+        delete_old,
         superior,
     };
     let refusal = rename(alloc, dir, &who, &request)?;
@@ -201,7 +195,9 @@ pub fn ask(alloc: Global, dir: &mut PlainDir, who: &str, change: Change) -> Resu
         Change::Add(name, attributes) => ask_add(alloc, dir, who, name, attributes),
         Change::Delete(name) => ask_delete(alloc, dir, who, name),
         Change::Modify(name, changes) => ask_modify(alloc, dir, who, name, changes),
-        Change::Rename(renaming) => ask_rename(alloc, dir, who, &renaming),
+        Change::Rename(name, rdn, delete_old, superior) => {
+            ask_rename(alloc, dir, who, name, rdn, delete_old, superior)
+        }
     }
 }
 
@@ -256,4 +252,17 @@ pub fn shown(alloc: Global, dir: &PlainDir, name: &str) -> Result<String, Fail> 
         tree.at(no).ok_or("no entry of the number")?,
     )?;
     Ok(out)
+}
+
+/// The entry of the name is this.
+pub fn check_entry(
+    rt: &impl Abort,
+    alloc: Global,
+    dir: &PlainDir,
+    name: &str,
+    want: &str,
+) -> Result<(), Fail> {
+    let found = shown(alloc, dir, name)?;
+    assert_eq!(rt; found.as_str(), want);
+    Ok(())
 }

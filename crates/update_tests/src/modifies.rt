@@ -1,6 +1,6 @@
 //! Modifies of a shop's entries.
 
-use crate::changes::{Changes, ask_modify, check_names, directory, shown};
+use crate::changes::{Changes, ask_modify, check_entry, check_names, directory};
 use crate::shop::{ANN, ANYONE, BEN, BENS, NAMES, SHOP};
 use std::alloc::Global;
 use std::process::Abort;
@@ -18,11 +18,10 @@ type Row = (&'static str, &'static str, Changes, &'static str);
 // Each modify of the rows is refused, and leaves the entries.
 fn check_refused(rt: &impl Abort, alloc: Global, rows: &'static [Row]) -> Result<(), Fail> {
     let mut dir = directory(alloc, SHOP)?;
-    for (index, (who, name, changes, want)) in rows.iter().enumerate() {
+    for (who, name, changes, want) in rows {
         let found = ask_modify(alloc, &mut dir, who, name, changes)?;
-        assert_eq!(rt; found.as_str(), *want, "row {index}: {name} by {who}");
-        let bens = shown(alloc, &dir, BEN)?;
-        assert_eq!(rt; bens.as_str(), BENS, "after row {index}");
+        assert_eq!(rt; found.as_str(), *want, "{name} by {who}");
+        check_entry(rt, alloc, &dir, BEN, BENS)?;
         check_names(rt, alloc, &dir, NAMES)?;
     }
     Ok(())
@@ -461,27 +460,26 @@ static DONE: [Done; 20] = [
     ),
 ];
 
-// What is shown without the first uid, where that stands in its old place.
-fn check_done(rt: &impl Abort, alloc: Global, index: usize, row: &Done) -> Result<(), Fail> {
-    let (who, changes, want) = row;
-    let mut dir = directory(alloc, SHOP)?;
-    let found = ask_modify(alloc, &mut dir, who, BEN, changes)?;
-    assert_eq!(rt; found.as_str(), "0", "row {index}");
-    let mut wanted = String::new(alloc);
-    wanted.push_str("uid=ben,ou=people,dc=shop objectClass=inetOrgPerson;")?;
-    if !want.ends_with(" uid=ben;") {
-        wanted.push_str(" uid=ben;")?;
+// Ben's entry that ends so: its uid stands in its old place, where it does not stand last.
+fn wanted(alloc: Global, end: &str) -> Result<String, Fail> {
+    let mut out = String::new(alloc);
+    out.push_str("uid=ben,ou=people,dc=shop objectClass=inetOrgPerson;")?;
+    if !end.ends_with(" uid=ben;") {
+        out.push_str(" uid=ben;")?;
     }
-    wanted.push_str(want)?;
-    let bens = shown(alloc, &dir, BEN)?;
-    assert_eq!(rt; bens.as_str(), wanted.as_str(), "row {index}");
-    check_names(rt, alloc, &dir, NAMES)
+    out.push_str(end)?;
+    Ok(out)
 }
 
 #[test]
 fn an_entry_that_may_be_modified_has_its_changes(rt: HostRuntime) -> Result<(), Fail> {
-    for (index, row) in DONE.iter().enumerate() {
-        check_done(&rt, rt.alloc(), index, row)?;
+    for (who, changes, want) in &DONE {
+        let mut dir = directory(rt.alloc(), SHOP)?;
+        let found = ask_modify(rt.alloc(), &mut dir, who, BEN, changes)?;
+        assert_eq!(rt; found.as_str(), "0", "{want} by {who}");
+        let whole = wanted(rt.alloc(), want)?;
+        check_entry(&rt, rt.alloc(), &dir, BEN, whole.as_str())?;
+        check_names(&rt, rt.alloc(), &dir, NAMES)?;
     }
     Ok(())
 }

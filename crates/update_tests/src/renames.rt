@@ -1,6 +1,6 @@
 //! Renames of a shop's entries.
 
-use crate::changes::{Renaming, ask_rename, check_names, count, directory, shown};
+use crate::changes::{ask_rename, check_entry, check_names, count, directory};
 use crate::shop::{ANN, ANYONE, BEN, BENS, NAMES, SHOP};
 use std::alloc::Global;
 use std::process::Abort;
@@ -21,17 +21,10 @@ type Row = (
 // Each rename of the rows is refused, and leaves the entries.
 fn check_refused(rt: &impl Abort, alloc: Global, rows: &'static [Row]) -> Result<(), Fail> {
     let mut dir = directory(alloc, SHOP)?;
-    for (index, (who, name, rdn, delete_old, superior, want)) in rows.iter().enumerate() {
-        let renaming = Renaming {
-            name: *name,
-            rdn: *rdn,
-            delete_old: *delete_old,
-            superior: *superior,
-        };
-        let found = ask_rename(alloc, &mut dir, who, &renaming)?;
-        assert_eq!(rt; found.as_str(), *want, "row {index}");
-        let bens = shown(alloc, &dir, BEN)?;
-        assert_eq!(rt; bens.as_str(), BENS, "after row {index}");
+    for (who, name, rdn, delete_old, superior, want) in rows {
+        let found = ask_rename(alloc, &mut dir, who, name, rdn, *delete_old, *superior)?;
+        assert_eq!(rt; found.as_str(), *want, "{name} by {who}");
+        check_entry(rt, alloc, &dir, BEN, BENS)?;
         check_names(rt, alloc, &dir, NAMES)?;
     }
     Ok(())
@@ -132,8 +125,7 @@ type Done = (
 const TAIL: &str =
     " sn=B; telephoneNumber=+1 555 0101; mail=ben@shop.example; title=Clerk; description=Fast;";
 
-// The entry of the last text's name, which says all of it but what stands in the tail, where it is Ben's.
-static DONE: [Done; 11] = [
+static DONE: [Done; 10] = [
     (
         BEN,
         BEN,
@@ -228,48 +220,36 @@ static DONE: [Done; 11] = [
         "serialNumber=7,ou=vault,dc=shop",
         " objectClass=device; cn=box; serialNumber=7;",
     ),
-    (
-        ANN,
-        "cn=keys,dc=shop",
-        "cn=locks",
-        true,
-        None,
-        "cn=locks,dc=shop",
-        "",
-    ),
 ];
 
-fn check_done(rt: &impl Abort, alloc: Global, index: usize, row: &Done) -> Result<(), Fail> {
-    let (who, old_name, rdn, delete_old, superior, name, want) = row;
-    let renaming = Renaming {
-        name: *old_name,
-        rdn: *rdn,
-        delete_old: *delete_old,
-        superior: *superior,
-    };
-    let mut dir = directory(alloc, SHOP)?;
-    let before = count(&dir);
-    let found = ask_rename(alloc, &mut dir, who, &renaming)?;
-    assert_eq!(rt; found.as_str(), "0", "row {index}");
-    assert_eq!(rt; count(&dir), before, "row {index}");
-    let entry = shown(alloc, &dir, name)?;
-    if want.is_empty() {
-        return Ok(());
+// The entry of the name that begins so, and ends as Ben's does where it is a person's.
+fn wanted(alloc: Global, name: &str, begin: &str) -> Result<String, Fail> {
+    let mut out = String::new(alloc);
+    out.push_str(name)?;
+    out.push_str(begin)?;
+    if begin.contains("inetOrgPerson") {
+        out.push_str(TAIL)?;
     }
-    let mut wanted = String::new(alloc);
-    wanted.push_str(name)?;
-    wanted.push_str(want)?;
-    if want.contains("inetOrgPerson") {
-        wanted.push_str(TAIL)?;
-    }
-    assert_eq!(rt; entry.as_str(), wanted.as_str(), "row {index}");
-    Ok(())
+    Ok(out)
 }
 
 #[test]
 fn an_entry_that_may_be_renamed_has_its_new_name(rt: HostRuntime) -> Result<(), Fail> {
-    for (index, row) in DONE.iter().enumerate() {
-        check_done(&rt, rt.alloc(), index, row)?;
+    for (who, old_name, rdn, delete_old, superior, name, want) in &DONE {
+        let mut dir = directory(rt.alloc(), SHOP)?;
+        let found = ask_rename(
+            rt.alloc(),
+            &mut dir,
+            who,
+            old_name,
+            rdn,
+            *delete_old,
+            *superior,
+        )?;
+        assert_eq!(rt; found.as_str(), "0", "{name} by {who}");
+        assert_eq!(rt; count(&dir), 11, "{name} by {who}");
+        let whole = wanted(rt.alloc(), name, want)?;
+        check_entry(&rt, rt.alloc(), &dir, name, whole.as_str())?;
     }
     Ok(())
 }

@@ -1,6 +1,6 @@
 //! Changes one after the other: each is decided over what those before it left.
 
-use crate::changes::{Attributes, Change, Renaming, ask, count, directory};
+use crate::changes::{Attributes, Change, ask, count, directory};
 use crate::sets::{ANN, ANYONE, BEN, COUNT, KIOSK, SCHOOL};
 use crate::shop;
 use std::alloc::Global;
@@ -307,12 +307,7 @@ fn a_subtree_of_classes_follows_the_classes(rt: HostRuntime) -> Result<(), Fail>
 static NAMED: [Step; 7] = [
     (
         shop::ANN,
-        Change::Rename(Renaming {
-            name: OPEN,
-            rdn: "cn=free",
-            delete_old: true,
-            superior: None,
-        }),
+        Change::Rename(OPEN, "cn=free", true, None),
         "0",
         11,
     ),
@@ -320,12 +315,7 @@ static NAMED: [Step; 7] = [
     (ANYONE, Change::Delete(shop::BEN), "50", 11),
     (
         shop::BEN,
-        Change::Rename(Renaming {
-            name: shop::BEN,
-            rdn: "uid=rob",
-            delete_old: true,
-            superior: Some("ou=people,dc=shop"),
-        }),
+        Change::Rename(shop::BEN, "uid=rob", true, Some("ou=people,dc=shop")),
         "0",
         11,
     ),
