@@ -11,6 +11,7 @@ pub mod LexesLemmas
 pub mod TextLemmas
 pub mod LookingLemmas
 pub mod NumberLemmas
+pub mod CursorLemmas
 pub mod WritingLemmas
 pub mod PutsLemmas
 pub mod PrintsLemmas

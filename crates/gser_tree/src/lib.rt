@@ -14,6 +14,6 @@ mod writing;
 
 pub use looking::{component, flag, read_tree};
 pub use part::Part;
-pub use reading::{Bad, Stop, number};
+pub use reading::{Bad, Stop, ends, number};
 pub use tree::Tree;
 pub use writing::{put_end, put_kind, put_name, put_number, put_separator, put_string};

@@ -1,13 +1,12 @@
 //! Reading values: they misfit, or they are read, and the first bad part is noted.
 
-ghost use Rattle.std.specs.Prelude.{◌≡◌, IsTrue, None, Some, option_map, length};
-ghost use Rattle.std.specs.Char.{is_ascii_digit};
-ghost use Rattle.std.specs.List.{list_all};
+ghost use Rattle.std.specs.Prelude.{◌≡◌, IsTrue, None, Some, option_map, length, nat_le};
 ghost use Rattle.gser_tree.specs.declared.reading.Stop.TheVariants.{NoMemory};
 ghost use Rattle.gser_tree.specs.Reading.{noted, is_number, at_most, number, Reads};
 ghost use Rattle.gser_tree.specs.Trees.{shape_of};
 
 use crate::tree::Tree;
+use gser_core::Cursor;
 use std::alloc::{AllocError, AllocFailed};
 
 /// Why a value is not read.
@@ -59,21 +58,24 @@ impl Bad {
     }
 }
 
-fn all_digits(octets: &[u8]) -> bool
-    ensures exact { result ≡ list_all is_ascii_digit octets.now }
+/// Whether the text ends at the cursor.
+pub fn ends(cursor: &Cursor<'_>) -> bool
+    ensures exact { result ≡ nat_le (length cursor.now.text) cursor.now.place }
 {
-    octets.iter().all(|octet| octet.is_ascii_digit())
+    match cursor.end() {
+        Ok(()) => true,
+        Err(_) => false,
+    }
 }
 
-// Whether a word is a number.
+// Whether a word is a number (RFC 3641 section 3.2): the cursor takes it whole as one.
 fn is_number(text: &str) -> bool
     ensures exact { result ≡ is_number text.now }
 {
-    match text.as_bytes() {
-        [] => false,
-        [first, rest @ ..] => {
-            first.is_ascii_digit() && all_digits(rest) && (*first != b'0' || rest.is_empty())
-        }
+    let mut cursor = Cursor::new(text);
+    match cursor.number() {
+        Ok(_) => ends(&cursor),
+        Err(_) => false,
     }
 }
 

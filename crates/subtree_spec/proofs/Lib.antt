@@ -1,4 +1,5 @@
 pub mod Examples
+pub mod OidLemmas
 pub mod PartsLemmas
 pub mod RefinementLemmas
 pub mod FrontLemmas
