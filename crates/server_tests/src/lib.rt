@@ -13,6 +13,8 @@ mod data;
 #[cfg(test)]
 mod explains;
 #[cfg(test)]
+mod hostile;
+#[cfg(test)]
 mod messages;
 #[cfg(test)]
 mod modifies;
