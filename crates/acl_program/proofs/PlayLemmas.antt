@@ -15,7 +15,7 @@ use Rattle.session_model.proofs.Theorems.{events_of}
 use Rattle.session_model.specs.Replaying.{IsReplay, replayed}
 use Rattle.session_hub.specs.declared.ended.Ended.{Ended}
 use Rattle.session_hub.specs.declared.ended.Ended.TheVariants as ended
-use Rattle.schema_rules.specs.Rules.{IsGoodTree}
+use Rattle.aci_item.specs.Rules.{IsGoodTree}
 use Rattle.session_hub.specs.Parties.{DirectoryEntries}
 use Rattle.session_hub.specs.Answering.{rules}
 use Rattle.session_hub.specs.Loops.{buffer_length, Serves, ServesAll, PlaysOut, PlayedOut, EndsFor}

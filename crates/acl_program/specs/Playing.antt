@@ -14,7 +14,7 @@ use Rattle.command_words.specs.Command.{CommandView, IsCommand}
 use Rattle.dir_tree.specs.Entries.{EntryInformation}
 use Rattle.dir_tree.specs.Numbered.{Numbered, entries_of}
 use Rattle.ldif_core.specs.WrittenFile.{written_file}
-use Rattle.schema_rules.specs.Rules.{IsGoodTree}
+use Rattle.aci_item.specs.Rules.{IsGoodTree}
 use Rattle.acl_program.specs.declared.status.Status.{Status}
 use Rattle.acl_program.specs.declared.status.Status.TheVariants.{Done, Usage, BadData, ShelfFault, SinkFault, LinkFault, TurnsSpent, NoMemory, BadScript}
 use Rattle.acl_program.specs.Lines.{line_of, replay_text, entries_after}

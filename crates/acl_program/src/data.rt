@@ -4,7 +4,7 @@ ghost use Rattle.std.specs.Prelude.{◌≡◌, IfOk, string_bytes};
 ghost use Rattle.command_words.specs.Command.{Check, Dump};
 ghost use Rattle.dir_tree.specs.Points.{access_subentries};
 ghost use Rattle.dir_tree.specs.Numbered.{entries_of};
-ghost use Rattle.schema_rules.specs.Rules.{IsGoodTree};
+ghost use Rattle.aci_item.specs.Rules.{IsGoodTree};
 ghost use Rattle.acl_program.specs.Outcomes.{Checked, Dumped, status_of, text_of};
 ghost use Rattle.acl_program.specs.Outside.{Linked, outside, written};
 ghost use Rattle.acl_program.specs.Playing.{Ends, Performs};

@@ -5,7 +5,7 @@ ghost use Rattle.std.specs.Option.{option_map};
 ghost use Rattle.command_words.specs.Command.{Replay};
 ghost use Rattle.wire_io.specs.Scripted.{fresh_link};
 ghost use Rattle.dir_tree.specs.Numbered.{entries_of};
-ghost use Rattle.schema_rules.specs.Rules.{IsGoodTree};
+ghost use Rattle.aci_item.specs.Rules.{IsGoodTree};
 ghost use Rattle.acl_program.specs.Outcomes.{Replayed, dump_text};
 ghost use Rattle.acl_program.specs.Outside.{Linked, outside, written};
 ghost use Rattle.acl_program.specs.Asked.{Replays, replay_asked};

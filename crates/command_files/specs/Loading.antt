@@ -7,7 +7,7 @@ use Rattle.wire_io.specs.declared.answers.ReadFault.TheVariants as read
 use Rattle.wire_io.specs.Files.{Files}
 use Rattle.wire_io.specs.Scripted.{LinkState, fresh_link}
 use Rattle.dir_tree.specs.Numbered.{Numbered, entries_of}
-use Rattle.schema_rules.specs.Rules.{IsGoodTree}
+use Rattle.aci_item.specs.Rules.{IsGoodTree}
 use Rattle.op_write.specs.declared.fault.LoadCause.TheVariants.{Limit}
 use Rattle.data_file.specs.declared.fault.DataCause.TheVariants as DataCause
 use Rattle.data_file.specs.declared.fault.DataFault.{DataFault}

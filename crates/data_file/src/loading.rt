@@ -2,7 +2,7 @@
 
 ghost use Rattle.std.specs.Prelude.{◌≡◌, [], Ok, IfOk, IfErr, IfSome, IfNone, OnOk};
 ghost use Rattle.dir_tree.specs.Numbered.{entries_of};
-ghost use Rattle.schema_rules.specs.Rules.{IsGoodTree};
+ghost use Rattle.aci_item.specs.Rules.{IsGoodTree};
 ghost use Rattle.ldif_core.specs.Places.{IsPlace, records_from};
 ghost use Rattle.ldif_core.specs.WrittenFile.{written_file};
 ghost use Rattle.op_write.specs.Loading.{IsLoaded, loaded_entry};

@@ -7,7 +7,7 @@ ghost use Rattle.dir_tree.specs.declared.scope.Scope.TheVariants.{Sub};
 ghost use Rattle.ldif_core.specs.Written.{AreInTable};
 ghost use Rattle.ldif_core.specs.WrittenFile.{written_file, written_record, written_records};
 ghost use Rattle.dir_tree.specs.Numbered.{entries_of};
-ghost use Rattle.schema_rules.specs.Rules.{IsGoodTree};
+ghost use Rattle.aci_item.specs.Rules.{IsGoodTree};
 ghost use Rattle.data_file.specs.Steps.{AreOfTable, text_at};
 
 use crate::fault::NoMemory;

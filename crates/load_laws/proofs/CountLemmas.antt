@@ -19,7 +19,7 @@ use Rattle.ldif_core.specs.Lines.{Line, numbered, is_continuation, unfolded, beg
 use Rattle.ldif_core.specs.Fields as field
 use Rattle.ldif_core.specs.Records.{◌>>=◌, is_blank, is_version, without_comments, without_version, attribute_lines, record_of, record_between, records}
 use Rattle.ldif_core.specs.Places.{physical_from, logical_from, content_from, body_from, records_from}
-use Rattle.schema_rules.specs.Rules.{broken_rule}
+use Rattle.aci_item.specs.Rules.{broken_rule}
 use Rattle.op_write.specs.declared.fault.LoadCause.TheVariants.{Twice, Order, Rule, Limit}
 use Rattle.op_write.specs.Loading.{RecordFault, named, loaded_value, with_new_value, with_new_kind, with_line, with_lines, with_own_values, entry_of_record, ruled, placed, loaded_entry}
 use Rattle.op_write.specs.Loading as loading

@@ -21,7 +21,7 @@ use Rattle.dir_tree.specs.EntryClasses.{has_class}
 use Rattle.dir_tree.specs.Points.{is_subentry, is_access_subentry}
 use Rattle.dir_tree.specs.Trees.{IsTree}
 use Rattle.ldif_core.specs.WrittenFile.{written_file}
-use Rattle.schema_rules.specs.Rules.{lacks_own_value, has_other_structural, breaks_classes, has_unread, has_two_values, is_misplaced, is_past_limits, broken_rule, MeetsRules, IsGoodTree}
+use Rattle.aci_item.specs.Rules.{lacks_own_value, has_other_structural, breaks_classes, has_unread, has_two_values, is_misplaced, is_past_limits, broken_rule, MeetsRules, IsGoodTree}
 use Rattle.op_write.specs.Loading.{loaded_value}
 use Rattle.op_write.specs.DataFile.{loads}
 use Rattle.load_laws.specs.Loadable.{IsLoadableValue, IsLoadable}

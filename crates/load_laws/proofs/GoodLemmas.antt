@@ -7,7 +7,7 @@ use Rattle.dir_tree.specs.Trees.{is_before, has_name, lacks_superior, put_in}
 use Rattle.ldif_core.specs.declared.types.Record.{Record}
 use Rattle.ldif_core.specs.Faults.{LineFault}
 use Rattle.ldif_core.specs.Places.{records_from}
-use Rattle.schema_rules.specs.Rules.{broken_rule, AreGood, IsGoodTree}
+use Rattle.aci_item.specs.Rules.{broken_rule, AreGood, IsGoodTree}
 use Rattle.schema_rules.proofs.Theorems.{AreGood-none, AreGood-put_in}
 use Rattle.op_write.specs.Loading.{RecordFault}
 use Rattle.op_write.specs.Loading.{entry_of_record, ruled, placed, loaded_entry}

@@ -6,7 +6,7 @@ use Rattle.dir_tree.specs.Entries.{EntryInformation}
 use Rattle.dir_tree.specs.Trees.{put_in, IsInOrder, IsRooted}
 use Rattle.ldif_core.specs.WrittenFile.{values_in, IsWritable, record_from, entry_records, written_file}
 use Rattle.ldif_core.proofs.Theorems.{file-reread}
-use Rattle.schema_rules.specs.Rules.{broken_rule, MeetsRules, IsGoodTree}
+use Rattle.aci_item.specs.Rules.{broken_rule, MeetsRules, IsGoodTree}
 use Rattle.schema_rules.proofs.Theorems.{Meets-from_broken_rule}
 use Rattle.op_write.specs.Loading.{RecordFault}
 use Rattle.op_write.specs.Loading.{◌>>=◌, placed, loaded_entry}

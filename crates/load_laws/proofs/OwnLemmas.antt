@@ -8,7 +8,7 @@ use Rattle.dn_names.specs.Printing.{print_name}
 use Rattle.dn_names.proofs.Theorems.{read_name-print_name}
 use Rattle.dir_tree.specs.Entries.{EntryInformation, values_of, has_key}
 use Rattle.ldif_core.specs.WrittenFile.{values_in, lines_from, record_from}
-use Rattle.schema_rules.specs.Rules.{lacks_own_value}
+use Rattle.aci_item.specs.Rules.{lacks_own_value}
 use Rattle.op_write.specs.Loading.{RecordFault}
 use Rattle.op_write.specs.Loading.{◌>>=◌, named, with_lines, with_pairs, with_own_values, entry_of_record}
 use Rattle.load_laws.specs.Loadable.{IsLoadable}

@@ -11,7 +11,7 @@ use Rattle.dn_names.specs.NameOrder.{is_same}
 use Rattle.dir_tree.specs.Entries.{EntryInformation}
 use Rattle.dir_tree.specs.Points.{is_access_subentry, access_subentries}
 use Rattle.dir_tree.specs.Trees.{has_name, lacks_superior, superior_name, IsInOrder, IsRooted}
-use Rattle.schema_rules.specs.Rules.{broken_rule, stands_wrong, is_misplaced, is_past_limits}
+use Rattle.aci_item.specs.Rules.{broken_rule, stands_wrong, is_misplaced, is_past_limits}
 use Rattle.schema_rules.proofs.Theorems.{nothing_found, Meets-from_broken_rule, broken_rule-from_Meets}
 use Rattle.op_write.specs.Loading.{ruled, placed}
 use Rattle.load_laws.proofs.OrderLemmas.{before_place, after_place, apart-before, superior-before, has_name-after, lacks_superior-front}

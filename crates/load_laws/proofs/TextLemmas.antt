@@ -9,7 +9,7 @@ use Rattle.dir_tree.specs.Entries.{Attribute, EntryInformation, values_of, IsGoo
 use Rattle.dir_tree.specs.EntryClasses.{object_class}
 use Rattle.ldif_core.specs.Written.{AreInTable}
 use Rattle.ldif_core.specs.WrittenFile.{TypeAndOctets, values_in, IsWritable}
-use Rattle.schema_rules.specs.Rules.{lists_none, breaks_classes}
+use Rattle.aci_item.specs.Rules.{lists_none, breaks_classes}
 use Rattle.load_laws.specs.Loadable.{IsLoadableValue, IsLoadable}
 use Rattle.load_laws.proofs.LineLemmas.{IsAttrId-from_loaded_value}
 use Rattle.load_laws.proofs.OctetLemmas.{IsBytes-print_name}

@@ -8,8 +8,8 @@ use Rattle.schema_core.specs.Classes.{Class, class_at, numbers_of, required_of, 
 use Rattle.schema_core.proofs.Theorems.{IsAttrId-from_attr_of}
 use Rattle.dir_tree.specs.Entries.{EntryInformation}
 use Rattle.ldif_core.specs.Written.{AreInTable}
-use Rattle.schema_rules.specs.Listed.{is_among, all_classes, permitted_by}
-use Rattle.schema_rules.specs.Rules.{is_permitted_besides, breaks_classes, MeetsRules, AreGood}
+use Rattle.aci_item.specs.Listed.{is_among, all_classes, permitted_by}
+use Rattle.aci_item.specs.Rules.{is_permitted_besides, breaks_classes, MeetsRules, AreGood}
 use Rattle.schema_rules.proofs.Theorems.{Meets-from_broken_rule}
 
 -- numbers that are told by names

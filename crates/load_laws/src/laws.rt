@@ -6,7 +6,7 @@ ghost use Rattle.base64.specs.GeneralPurpose.{IsBytes};
 ghost use Rattle.dir_tree.specs.Entries.{EntryInformation};
 ghost use Rattle.ldif_core.specs.Written.{AreInTable};
 ghost use Rattle.ldif_core.specs.WrittenFile.{written_file};
-ghost use Rattle.schema_rules.specs.Rules.{AreGood, IsGoodTree};
+ghost use Rattle.aci_item.specs.Rules.{AreGood, IsGoodTree};
 ghost use Rattle.op_write.specs.DataFile.{FileFault, loads};
 ghost use Rattle.load_laws.specs.Loadable.{IsLoadable};
 

@@ -8,7 +8,7 @@ use Rattle.dn_names.specs.GoodNames.{IsGoodName}
 use Rattle.dn_names.specs.declared.error.BadName.{BadName}
 use Rattle.dir_tree.specs.Entries.{EntryInformation, IsGoodAttributes}
 use Rattle.dir_tree.specs.Trees.{named_in, put_in, taken_out}
-use Rattle.schema_rules.specs.Rules.{broken_rule, AreGood, IsGoodTree}
+use Rattle.aci_item.specs.Rules.{broken_rule, AreGood, IsGoodTree}
 use Rattle.aci_item.specs.declared.permission.Permission.TheVariants.{Modify}
 use Rattle.acdf_filters.specs.declared.asking.Requester.{Requester}
 use Rattle.acdf_filters.specs.Asking.{Entry}

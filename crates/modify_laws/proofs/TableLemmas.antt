@@ -4,7 +4,7 @@ use Rattle.std.specs.List.{AllByRecursion}
 use Rattle.std.proofs.lemmas.Bool.{not-false, not_from_true}
 use Rattle.plain_values.specs.Results.{◌>>=◌}
 use Rattle.dir_tree.specs.Entries.{EntryInformation}
-use Rattle.schema_rules.specs.Rules.{IsGoodTree}
+use Rattle.aci_item.specs.Rules.{IsGoodTree}
 use Rattle.ldap_msg.specs.declared.kinds.LdapResult.{LdapResult}
 use Rattle.entry_changes.specs.Refusals.{when, first_some}
 use Rattle.op_update.specs.Adding.{rule_refusal}

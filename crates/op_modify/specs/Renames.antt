@@ -9,7 +9,7 @@ use Rattle.dn_names.specs.NameOrder.{is_same}
 use Rattle.dn_names.specs.NameText.{read_name, read_rdn}
 use Rattle.dir_tree.specs.Entries.{EntryInformation}
 use Rattle.dir_tree.specs.Trees.{named_in, has_below, superior_name, put_in, taken_out}
-use Rattle.schema_rules.specs.Rules.{broken_rule}
+use Rattle.aci_item.specs.Rules.{broken_rule}
 use Rattle.aci_item.specs.declared.permission.Permission.TheVariants.{Rename, DiscloseOnError}
 use Rattle.acdf_filters.specs.declared.asking.Requester.{Requester}
 use Rattle.acdf_filters.specs.Asking.{Entry}

@@ -4,7 +4,7 @@ use Rattle.dn_names.specs.Names.{RdnSequence}
 use Rattle.dir_tree.specs.Entries.{EntryInformation}
 use Rattle.dir_tree.specs.Trees.{has_below, put_in, taken_out}
 use Rattle.dir_tree.specs.Numbered.{Numbered, entries_of, entry_of}
-use Rattle.schema_rules.specs.Rules.{broken_rule}
+use Rattle.aci_item.specs.Rules.{broken_rule}
 use Rattle.aci_item.specs.declared.permission.Permission.TheVariants.{Rename}
 use Rattle.acdf_filters.specs.declared.asking.Requester.{Requester}
 use Rattle.acdf_filters.specs.Asking.{Entry}

@@ -4,7 +4,7 @@ ghost use Rattle.std.specs.Prelude.{◌≡◌, Some, IfOk, OnOk, OnErr};
 ghost use Rattle.dir_tree.specs.Entries.{EntryInformation};
 ghost use Rattle.dir_tree.specs.Trees.{put_in, taken_out};
 ghost use Rattle.dir_tree.specs.Numbered.{entry_of, entries_of};
-ghost use Rattle.schema_rules.specs.Rules.{broken_rule};
+ghost use Rattle.aci_item.specs.Rules.{broken_rule};
 ghost use Rattle.op_update.specs.Adding.{rule_refusal};
 ghost use Rattle.op_update.specs.Updates.{Changed, IsChanged};
 ghost use Rattle.op_modify.specs.Steps.{IsChecked};

@@ -4,7 +4,7 @@ ghost use Rattle.std.specs.Prelude.{◌≡◌, ◌≢◌, ◌||◌, not, [], Non
 ghost use Rattle.std.specs.List.{list_any};
 ghost use Rattle.dir_tree.specs.Trees.{put_in, named_in, has_name, superior_name};
 ghost use Rattle.dir_tree.specs.Numbered.{entry_of, entries_of};
-ghost use Rattle.schema_rules.specs.Rules.{broken_rule};
+ghost use Rattle.aci_item.specs.Rules.{broken_rule};
 ghost use Rattle.aci_item.specs.declared.permission.Permission.TheVariants as permission;
 ghost use Rattle.acdf_filters.specs.Asking as protected;
 ghost use Rattle.acdf_filters.specs.Granted.{granted_new};

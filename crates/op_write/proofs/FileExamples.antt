@@ -14,7 +14,7 @@ use Rattle.ldif_core.specs.Records.{without_comments, is_version, without_versio
 use Rattle.ldif_core.specs.Places.{physical_from, logical_from, content_from, body_from, records_from}
 use Rattle.ldif_core.specs.Written.{is_plain, written_value, written_entry}
 use Rattle.ldif_core.specs.WrittenFile.{written_file}
-use Rattle.schema_rules.specs.Rules.{lacks_own_value, has_other_structural, breaks_classes, has_unread, has_two_values, is_misplaced, is_past_limits, broken_rule}
+use Rattle.aci_item.specs.Rules.{lacks_own_value, has_other_structural, breaks_classes, has_unread, has_two_values, is_misplaced, is_past_limits, broken_rule}
 use Rattle.op_write.specs.declared.fault.LoadCause.TheVariants.{Order, Rule, Twice}
 use Rattle.op_write.specs.Loading.{with_lines, with_pairs, entry_of_record, placed, loaded_entry}
 use Rattle.op_write.specs.DataFile.{OfRecord, loads_after, loads}

@@ -9,7 +9,7 @@ use Rattle.dir_tree.specs.Trees.{most_entries, has_name, lacks_superior}
 use Rattle.dir_tree.specs.Refusals.{insert_refusal}
 use Rattle.dir_tree.specs.declared.refusals.InsertRefusal.{InsertRefusal}
 use Rattle.dir_tree.specs.declared.refusals.InsertRefusal.TheVariants as inserting
-use Rattle.schema_rules.specs.Rules.{broken_rule, is_past_limits}
+use Rattle.aci_item.specs.Rules.{broken_rule, is_past_limits}
 use Rattle.schema_rules.proofs.Theorems.{Meets-from_broken_rule}
 use Rattle.op_write.specs.declared.fault.LoadFault.{LoadFault}
 use Rattle.op_write.specs.declared.fault.LoadFault.TheVariants as load_fault

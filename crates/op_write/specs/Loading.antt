@@ -13,7 +13,7 @@ use Rattle.dir_tree.specs.Trees.{has_name, lacks_superior}
 use Rattle.dir_tree.specs.Numbered.{Numbered, entries_of, entry_of, put_entry}
 use Rattle.ldif_core.specs.declared.types.Record.{Record}
 use Rattle.ldif_core.specs.declared.types.RecordLine.{RecordLine}
-use Rattle.schema_rules.specs.Rules.{broken_rule}
+use Rattle.aci_item.specs.Rules.{broken_rule}
 use Rattle.op_write.specs.declared.fault.LoadCause.{LoadCause}
 use Rattle.op_write.specs.declared.fault.LoadCause.TheVariants.{Name, Kind, Value, Twice, Order, Rule, Limit}
 use Rattle.op_write.specs.declared.fault.LoadFault.{LoadFault}

@@ -8,7 +8,7 @@ ghost use Rattle.dir_tree.specs.Numbered.{entries_of, find_name};
 ghost use Rattle.dir_tree.specs.Refusals.{insert_refusal};
 ghost use Rattle.dir_tree.specs.Vacancies.{IsVacancy};
 ghost use Rattle.schema_rules.specs.Checking.{IsFor};
-ghost use Rattle.schema_rules.specs.Rules.{broken_rule};
+ghost use Rattle.aci_item.specs.Rules.{broken_rule};
 ghost use Rattle.op_write.specs.Loading.{entry_of_record, ruled, placed, loaded_entry, IsLoaded, IsLoadFault};
 ghost use Rattle.op_write.specs.Steps.{Gives};
 

@@ -10,7 +10,7 @@ use Rattle.dir_tree.specs.Numbered.{Numbered, IsNumberedTree, entries_of, entry_
 use Rattle.dir_tree.specs.Scopes.{is_child, scoped}
 use Rattle.dir_tree.specs.declared.scope.Scope.TheVariants.{One}
 use Rattle.dir_tree.proofs.TreeTheorems.{scoped-One-entries}
-use Rattle.schema_rules.specs.Rules.{stands_wrong_above}
+use Rattle.aci_item.specs.Rules.{stands_wrong_above}
 use Rattle.schema_rules.specs.Beside.{stands_wrong_below, takes_all_below, is_wrong_below}
 use Rattle.schema_rules.proofs.ListLemmas.{list_any-filter, list_any-filter_map}
 use Rattle.schema_rules.proofs.BesideLemmas.{any_beside}

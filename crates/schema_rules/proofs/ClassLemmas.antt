@@ -8,7 +8,7 @@ use Rattle.schema_core.proofs.Theorems.{with_superclasses-first}
 use Rattle.std.proofs.lemmas.Grind.{flat_map-append}
 use Rattle.std.proofs.lemmas.List.Folds.{list_any-append}
 use Rattle.dn_names.specs.Names.{Keyed}
-use Rattle.schema_rules.specs.Listed.{is_structural, are_in_line}
+use Rattle.aci_item.specs.Listed.{is_structural, are_in_line}
 use Rattle.schema_rules.specs.Classes.{classes_in, structural_in, is_apart, is_apart_from}
 use Rattle.schema_rules.proofs.ListLemmas.{list_any-filter, list_any-filter_map, list_all-filter, list_all-filter_map, list_any-same, none_passes}
 

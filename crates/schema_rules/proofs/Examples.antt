@@ -13,8 +13,8 @@ use Rattle.schema_core.specs.Superclasses.{with_superclasses}
 use Rattle.schema_core.specs.declared.kinds.Syntax.TheVariants.{Subtree, Aci}
 use Rattle.subtree_spec.specs.SubtreeText.{read_subtree}
 use Rattle.aci_item.specs.AciText.{read_item}
-use Rattle.schema_rules.specs.Listed.{are_in_line}
-use Rattle.schema_rules.specs.Rules.{broken_rule, lacks_own_value, has_other_structural, breaks_classes, is_unread, has_unread, has_two_values, is_misplaced, is_past_limits, stands_wrong, octets_in}
+use Rattle.aci_item.specs.Listed.{are_in_line}
+use Rattle.aci_item.specs.Rules.{broken_rule, lacks_own_value, has_other_structural, breaks_classes, is_unread, has_unread, has_two_values, is_misplaced, is_past_limits, stands_wrong, octets_in}
 
 -- a value of its key, which stands for its octets too
 abbrev value : String → Keyed

@@ -11,7 +11,7 @@ use Rattle.dir_tree.specs.Points.{is_point, is_subentry}
 use Rattle.dir_tree.specs.Scopes.{is_child}
 use Rattle.dir_tree.specs.Trees.{is_named, named_in, superior_name, put_in, taken_out}
 use Rattle.dir_tree.proofs.TreeTheorems.{tree-same_name}
-use Rattle.schema_rules.specs.Rules.{broken_rule, has_other_structural, is_misplaced, is_past_limits, stands_wrong, stands_wrong_above, Meets, MeetsRules, AreGood}
+use Rattle.aci_item.specs.Rules.{broken_rule, has_other_structural, is_misplaced, is_past_limits, stands_wrong, stands_wrong_above, Meets, MeetsRules, AreGood}
 use Rattle.schema_rules.proofs.ListPlaceLemmas.{stands as stands_put, all_at}
 use Rattle.schema_rules.proofs.ListTakenLemmas.{stands as stands_taken, all_filter}
 use Rattle.schema_rules.proofs.RuleLemmas.{Meets-from_broken_rule, broken_rule-from_Meets, misplaced-past, limits-past}

@@ -12,7 +12,7 @@ use Rattle.dir_tree.specs.Entries.{EntryInformation, IsGoodAttributes}
 use Rattle.dir_tree.specs.Scopes.{is_within}
 use Rattle.dir_tree.specs.Trees.{IsTree, is_named, is_below, has_name, has_below, named_in, superior_name, lacks_superior, put_in, taken_out}
 use Rattle.dir_tree.proofs.TreeTheorems.{all_under_suffix}
-use Rattle.schema_rules.specs.Rules.{broken_rule, AreGood}
+use Rattle.aci_item.specs.Rules.{broken_rule, AreGood}
 use Rattle.schema_rules.proofs.RootLemmas.{length-same, length-superior, filled, same_back, same_over, has_same}
 use Rattle.schema_rules.proofs.StayLemmas.{AreGood-put_in}
 use Rattle.schema_rules.proofs.TakenLemmas.{AreGood-taken_out}

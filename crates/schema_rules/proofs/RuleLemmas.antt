@@ -6,7 +6,7 @@ use Rattle.dn_names.specs.NameOrder.{is_same}
 use Rattle.dir_tree.specs.Entries.{EntryInformation}
 use Rattle.dir_tree.specs.Points.{is_access_subentry, access_subentries}
 use Rattle.dir_tree.specs.Trees.{superior_name}
-use Rattle.schema_rules.specs.Rules.{Rule, rules, broken_rule, Meets, is_misplaced, is_past_limits, stands_wrong}
+use Rattle.aci_item.specs.Rules.{Rule, rules, broken_rule, Meets, is_misplaced, is_past_limits, stands_wrong}
 use Rattle.schema_rules.proofs.ListPlaceLemmas.{find-past, filter-past, length-past, none_found, nothing_found}
 
 nothing : {X Y : Type 0} (f : X → Y) (found : Option X) → option_map f found ≡ None → found ≡ None

@@ -8,7 +8,7 @@ use Rattle.dn_names.specs.GoodNames.{IsGoodName}
 use Rattle.dir_tree.specs.Entries.{EntryInformation, IsGoodAttributes}
 use Rattle.dir_tree.specs.Trees.{IsTree, is_before, put_in, has_name, lacks_superior, superior_name}
 use Rattle.dir_tree.proofs.TreeTheorems.{tree-put_in}
-use Rattle.schema_rules.specs.Rules.{broken_rule, is_past_limits, MeetsRules, AreGood}
+use Rattle.aci_item.specs.Rules.{broken_rule, is_past_limits, MeetsRules, AreGood}
 use Rattle.schema_rules.proofs.ListPlaceLemmas.{stands, all_at}
 use Rattle.schema_rules.proofs.RuleLemmas.{Meets-from_broken_rule, broken_rule-past}
 use Rattle.schema_rules.proofs.RootLemmas.{superiors_apart}

@@ -10,7 +10,7 @@ use Rattle.dir_tree.specs.Entries.{EntryInformation, IsGoodAttributes}
 use Rattle.dir_tree.specs.Points.{is_access_subentry, access_subentries}
 use Rattle.dir_tree.specs.Trees.{is_before, is_named, is_below, has_below, named_in, superior_name, put_in, taken_out, IsInOrder}
 use Rattle.dir_tree.proofs.TreeTheorems.{put_in-taken_out, tree-taken_out}
-use Rattle.schema_rules.specs.Rules.{broken_rule, is_misplaced, is_past_limits, stands_wrong, MeetsRules, AreGood}
+use Rattle.aci_item.specs.Rules.{broken_rule, is_misplaced, is_past_limits, stands_wrong, MeetsRules, AreGood}
 use Rattle.schema_rules.proofs.ListPlaceLemmas.{all_at, find-past}
 use Rattle.schema_rules.proofs.ListTakenLemmas.{stands, all_filter, filter-fewer, length-fewer}
 use Rattle.schema_rules.proofs.RootLemmas.{length-same, length-superior, filled}

@@ -6,7 +6,7 @@ use Rattle.dn_names.specs.Names.{Keyed}
 use Rattle.dir_tree.specs.Entries.{Attribute, has_kind}
 use Rattle.schema_core.specs.Classes.{class_with}
 use Rattle.schema_core.specs.Superclasses.{with_superclasses}
-use Rattle.schema_rules.specs.Listed.{all_classes, is_structural, are_in_line, is_among, required_by, permitted_by}
+use Rattle.aci_item.specs.Listed.{all_classes, is_structural, are_in_line, is_among, required_by, permitted_by}
 
 -- the classes of the table that have the keys
 abbrev pub classes_in : List Keyed → List ℕ

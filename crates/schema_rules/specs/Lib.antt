@@ -1,6 +1,4 @@
 -- what public clauses cite
-pub mod Listed
-pub mod Rules
 pub mod Checking
 -- for the inside of the crate alone
 pub mod Classes

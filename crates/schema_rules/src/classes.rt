@@ -1,7 +1,7 @@
 //! Classes of the table, with their superclasses.
 
 ghost use Rattle.std.specs.Prelude.{◌≡◌};
-ghost use Rattle.schema_rules.specs.Listed.{is_structural, are_in_line};
+ghost use Rattle.aci_item.specs.Listed.{is_structural, are_in_line};
 
 use schema_core::{ClassId, ClassKind, class_kind, is_or_above};
 

@@ -6,8 +6,8 @@ ghost use Rattle.std.specs.Option.{option_map_or};
 ghost use Rattle.dir_tree.specs.Entries.{has_kind, kinds_of};
 ghost use Rattle.schema_core.specs.Classes.{class_with};
 ghost use Rattle.schema_rules.specs.Classes.{class_lacks, AreOfClasses};
-ghost use Rattle.schema_rules.specs.Listed.{all_classes, is_among, permitted_by};
-ghost use Rattle.schema_rules.specs.Rules.{lacks_required, has_unpermitted, is_permitted_besides};
+ghost use Rattle.aci_item.specs.Listed.{all_classes, is_among, permitted_by};
+ghost use Rattle.aci_item.specs.Rules.{lacks_required, has_unpermitted, is_permitted_besides};
 
 use crate::marks::{is_marked, permitted_by};
 use dir_tree::Entry;

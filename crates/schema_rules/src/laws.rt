@@ -5,7 +5,7 @@ ghost use Rattle.dn_names.specs.NameOrder.{is_same};
 ghost use Rattle.dn_names.specs.GoodNames.{IsGoodName};
 ghost use Rattle.dir_tree.specs.Entries.{EntryInformation, IsGoodAttributes};
 ghost use Rattle.dir_tree.specs.Trees.{has_name, named_in, superior_name, lacks_superior, has_below, put_in, taken_out};
-ghost use Rattle.schema_rules.specs.Rules.{broken_rule, Meets, AreGood};
+ghost use Rattle.aci_item.specs.Rules.{broken_rule, Meets, AreGood};
 
 /// No rule is broken exactly where each one is met.
 pub fn an_entry_meets_the_rules_or_breaks_one()

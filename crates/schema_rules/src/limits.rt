@@ -5,7 +5,7 @@ ghost use Rattle.std.specs.Option.{option_map, option_map_or};
 ghost use Rattle.dir_tree.specs.Numbered.{IsNumberedTree, entries_of};
 ghost use Rattle.dir_tree.specs.Points.{is_access_subentry, access_subentries};
 ghost use Rattle.schema_rules.specs.Checking.{replaced, others};
-ghost use Rattle.schema_rules.specs.Rules.{octets_in, is_past_limits};
+ghost use Rattle.aci_item.specs.Rules.{octets_in, is_past_limits};
 
 use crate::old::replaced;
 use crate::values::{MOST_OCTETS, octets_in};
@@ -19,7 +19,7 @@ const MOST_SUBENTRIES: usize = 256;
 
 /// Whether the tree is full without the entry whose place is taken, the entry is one access control subentry more than
 /// the tree may have, or its values have too many octets.
-#[tactic(auto, unfolding(crate::specs::Rules::is_past_limits))]
+#[tactic(auto, unfolding(aci_item::specs::Rules::is_past_limits))]
 pub(crate) fn is_past_limits(tree: &Tree, old: Option<EntryNo>, entry: &Entry) -> bool
     ensures exact { result ≡ is_past_limits (others (option_map (λ no. no.0) old) tree.now) entry.now }
 {

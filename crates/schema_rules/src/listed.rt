@@ -4,9 +4,9 @@ ghost use Rattle.std.specs.Prelude.{◌≡◌, false};
 ghost use Rattle.std.specs.List.{list_any};
 ghost use Rattle.std.specs.Option.{option_map_or};
 ghost use Rattle.schema_core.specs.Classes.{class_with};
-ghost use Rattle.schema_rules.specs.Listed.{is_structural};
+ghost use Rattle.aci_item.specs.Listed.{is_structural};
 ghost use Rattle.schema_rules.specs.Classes.{is_apart, is_apart_from};
-ghost use Rattle.schema_rules.specs.Rules.{lists_none, lists_unknown, lists_no_structural, lists_two_lines, lists_access_alone};
+ghost use Rattle.aci_item.specs.Rules.{lists_none, lists_unknown, lists_no_structural, lists_two_lines, lists_access_alone};
 
 use crate::classes::{are_in_line, is_structural};
 use dir_tree::Entry;

@@ -5,7 +5,7 @@ ghost use Rattle.std.specs.Prelude.{◌≡◌, ◌==◌, ◌++◌, false, get_or
 ghost use Rattle.std.specs.List.{list_any};
 ghost use Rattle.std.specs.Option.{option_map_or};
 ghost use Rattle.schema_core.specs.Classes.{class_with, required_of, allowed_of};
-ghost use Rattle.schema_rules.specs.Listed.{is_among};
+ghost use Rattle.aci_item.specs.Listed.{is_among};
 ghost use Rattle.schema_rules.specs.Classes.{class_permits, MarksAlso};
 
 use dn_names::Value;

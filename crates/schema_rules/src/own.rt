@@ -3,7 +3,7 @@
 ghost use Rattle.std.specs.Prelude.{◌≡◌, not};
 ghost use Rattle.std.specs.List.{list_any};
 ghost use Rattle.dir_tree.specs.Entries.{has_key, values_of};
-ghost use Rattle.schema_rules.specs.Rules.{lacks_own_value};
+ghost use Rattle.aci_item.specs.Rules.{lacks_own_value};
 
 use dir_tree::Entry;
 use dn_names::{Pair, Value};

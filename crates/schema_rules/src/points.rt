@@ -9,7 +9,7 @@ ghost use Rattle.dir_tree.specs.Scopes.{scoped};
 ghost use Rattle.dir_tree.specs.declared.scope.Scope.TheVariants.{One};
 ghost use Rattle.schema_rules.specs.Checking.{IsSuperior, replaced, others};
 ghost use Rattle.schema_rules.specs.Beside.{stands_wrong_below, takes_all_below, is_wrong_below};
-ghost use Rattle.schema_rules.specs.Rules.{stands_wrong, stands_wrong_above, is_misplaced};
+ghost use Rattle.aci_item.specs.Rules.{stands_wrong, stands_wrong_above, is_misplaced};
 
 use crate::old::entry_beside;
 use dir_tree::{Entry, EntryNo, Scope, Tree};
@@ -18,7 +18,7 @@ use dn_names::Dn;
 /// Whether the entry stands below a subentry, or is a subentry and stands below no administrative point; or whether one
 /// would stand so below it of those immediately below the entry whose place it takes. The second number is that of its
 /// superior.
-#[tactic(auto, unfolding(crate::specs::Rules::is_misplaced))]
+#[tactic(auto, unfolding(aci_item::specs::Rules::is_misplaced))]
 pub(crate) fn is_misplaced(
     tree: &Tree,
     old: Option<EntryNo>,

@@ -3,7 +3,7 @@
 ghost use Rattle.std.specs.Prelude.{◌≡◌, IfOk};
 ghost use Rattle.std.specs.Option.{option_map};
 ghost use Rattle.schema_rules.specs.Checking.{IsSuperior, replaced, others};
-ghost use Rattle.schema_rules.specs.Rules.{breaks_classes, broken_rule};
+ghost use Rattle.aci_item.specs.Rules.{breaks_classes, broken_rule};
 
 use crate::broken::NoMemory;
 use crate::contents::{has_unpermitted, lacks_required};
@@ -20,7 +20,7 @@ use std::alloc::Global;
 
 /// The result code of the first rule that the entry breaks in the tree, as a new one or in the place of the entry of the
 /// first number; None where it breaks none. The second number is that of its superior.
-#[tactic(auto, unfolding(crate::specs::Rules::broken_rule))]
+#[tactic(auto, unfolding(aci_item::specs::Rules::broken_rule))]
 pub(crate) fn broken_rule(
     alloc: Global,
     tree: &Tree,
@@ -53,7 +53,7 @@ pub(crate) fn broken_rule(
 }
 
 // Whether the entry's classes don't go together, or its attributes don't go with them.
-#[tactic(auto, unfolding(crate::specs::Rules::breaks_classes))]
+#[tactic(auto, unfolding(aci_item::specs::Rules::breaks_classes))]
 fn breaks_classes(entry: &Entry) -> bool
     ensures exact { result ≡ breaks_classes entry.now }
 {

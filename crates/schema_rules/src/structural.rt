@@ -4,10 +4,10 @@ ghost use Rattle.std.specs.Prelude.{◌≡◌, ◌==◌, ◌&&◌, ◌||◌, not
 ghost use Rattle.std.specs.List.{list_any, list_all};
 ghost use Rattle.std.specs.Option.{option_map, option_map_or};
 ghost use Rattle.schema_core.specs.Classes.{class_with};
-ghost use Rattle.schema_rules.specs.Listed.{is_among, is_structural};
+ghost use Rattle.aci_item.specs.Listed.{is_among, is_structural};
 ghost use Rattle.schema_rules.specs.Classes.{structural_in};
 ghost use Rattle.schema_rules.specs.Checking.{replaced};
-ghost use Rattle.schema_rules.specs.Rules.{are_among, has_other_structural};
+ghost use Rattle.aci_item.specs.Rules.{are_among, has_other_structural};
 
 use crate::classes::is_structural;
 use crate::old::replaced;
@@ -16,7 +16,7 @@ use dn_names::Value;
 use schema_core::{AttrId, ClassId, class_with};
 
 /// Whether the entry lists other structural classes than the one whose place it takes.
-#[tactic(auto, unfolding(crate::specs::Rules::has_other_structural))]
+#[tactic(auto, unfolding(aci_item::specs::Rules::has_other_structural))]
 pub(crate) fn has_other_structural(tree: &Tree, old: Option<EntryNo>, entry: &Entry) -> bool
     ensures exact { result
         ≡ has_other_structural (replaced (option_map (λ no. no.0) old) tree.now) entry.now }

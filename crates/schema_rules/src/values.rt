@@ -5,7 +5,7 @@ ghost use Rattle.std.specs.Option.{option_map_or};
 ghost use Rattle.schema_core.specs.Attributes.{is_single, syntax_of};
 ghost use Rattle.aci_item.specs.AciText.{read_item};
 ghost use Rattle.subtree_spec.specs.SubtreeText.{read_subtree};
-ghost use Rattle.schema_rules.specs.Rules.{is_unread, has_unread_of, has_unread_value, has_unread, has_two_values, octets_in};
+ghost use Rattle.aci_item.specs.Rules.{is_unread, has_unread_of, has_unread_value, has_unread, has_two_values, octets_in};
 
 use crate::broken::NoMemory;
 use dir_tree::Entry;

@@ -9,7 +9,7 @@ use Rattle.ldap_msg.specs.declared.kinds.Request.TheVariants as request
 use Rattle.ldap_msg.specs.declared.kinds.Control.{Control}
 use Rattle.ldap_msg.specs.declared.kinds.Message.{Message}
 use Rattle.ldap_msg.specs.Messages.{message_of}
-use Rattle.schema_rules.specs.Rules.{IsGoodTree}
+use Rattle.aci_item.specs.Rules.{IsGoodTree}
 use Rattle.op_update.specs.Updates.{added, deleted}
 use Rattle.op_modify.specs.Modifying.{modified}
 use Rattle.op_modify.specs.Renames.{renamed}

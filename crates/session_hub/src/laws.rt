@@ -1,7 +1,7 @@
 //! The laws of sessions in this server: a function here computes nothing, and what it ensures is a law.
 
 ghost use Rattle.std.specs.Prelude.{List};
-ghost use Rattle.schema_rules.specs.Rules.{IsGoodTree};
+ghost use Rattle.aci_item.specs.Rules.{IsGoodTree};
 ghost use Rattle.session_model.specs.Run.{Step, run};
 ghost use Rattle.session_hub.specs.Parties.{DirectoryEntries};
 ghost use Rattle.session_hub.specs.Answering.{rules};

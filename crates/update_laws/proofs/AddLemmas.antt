@@ -10,7 +10,7 @@ use Rattle.dn_names.specs.declared.error.BadName.{BadName}
 use Rattle.dn_names.proofs.Theorems.{IsGoodName-from_NameText, NameText-read_name}
 use Rattle.dir_tree.specs.Entries.{Attribute, EntryInformation}
 use Rattle.dir_tree.specs.Trees.{is_before, has_name, named_in, superior_name, lacks_superior, put_in}
-use Rattle.schema_rules.specs.Rules.{broken_rule, IsGoodTree}
+use Rattle.aci_item.specs.Rules.{broken_rule, IsGoodTree}
 use Rattle.schema_rules.proofs.Theorems.{AreGood-put_in}
 use Rattle.acdf_filters.specs.declared.asking.Requester.{Requester}
 use Rattle.acdf_filters.specs.Granted.{granted_new}

@@ -9,7 +9,7 @@ use Rattle.dn_names.specs.declared.error.BadName.{BadName}
 use Rattle.dn_names.proofs.Theorems.{is_same-types_and_keys}
 use Rattle.dir_tree.specs.Entries.{EntryInformation}
 use Rattle.dir_tree.specs.Trees.{is_named, named_in, has_below, taken_out}
-use Rattle.schema_rules.specs.Rules.{IsGoodTree}
+use Rattle.aci_item.specs.Rules.{IsGoodTree}
 use Rattle.aci_item.specs.declared.permission.Permission.TheVariants.{Remove}
 use Rattle.acdf_filters.specs.declared.asking.Requester.{Requester}
 use Rattle.acdf_filters.specs.Asking.{Entry}

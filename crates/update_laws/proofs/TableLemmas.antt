@@ -2,7 +2,7 @@
 use Rattle.std.proofs.Common.{◌≡◌, Bool, true, false, List, ◌∷◌, Option, Some, None, Result, Ok, Err, refl}
 use Rattle.plain_values.specs.Results.{◌>>=◌}
 use Rattle.dir_tree.specs.Entries.{EntryInformation}
-use Rattle.schema_rules.specs.Rules.{IsGoodTree}
+use Rattle.aci_item.specs.Rules.{IsGoodTree}
 use Rattle.ldap_msg.specs.declared.kinds.LdapResult.{LdapResult}
 use Rattle.op_update.specs.Refusals.{when, first_some}
 use Rattle.op_update.specs.Updates.{unless}

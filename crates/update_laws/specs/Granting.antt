@@ -6,7 +6,7 @@ use Rattle.dn_names.specs.Names.{RdnSequence}
 use Rattle.dn_names.specs.NameText.{read_name}
 use Rattle.dir_tree.specs.Entries.{Attribute, EntryInformation}
 use Rattle.dir_tree.specs.Trees.{named_in, has_name, has_below, superior_name}
-use Rattle.schema_rules.specs.Rules.{broken_rule}
+use Rattle.aci_item.specs.Rules.{broken_rule}
 use Rattle.aci_item.specs.declared.permission.Permission.{Permission}
 use Rattle.aci_item.specs.declared.permission.Permission.TheVariants.{Add, Remove}
 use Rattle.acdf_filters.specs.declared.asking.Requester.{Requester}

@@ -3,7 +3,7 @@
 ghost use Rattle.std.specs.Prelude.{◌≡◌, List, Some, None};
 ghost use Rattle.dir_tree.specs.Entries.{EntryInformation};
 ghost use Rattle.dir_tree.specs.Trees.{put_in, taken_out};
-ghost use Rattle.schema_rules.specs.Rules.{IsGoodTree};
+ghost use Rattle.aci_item.specs.Rules.{IsGoodTree};
 ghost use Rattle.acdf_filters.specs.declared.asking.Requester.{Requester};
 ghost use Rattle.ldap_msg.specs.declared.kinds.AddRequest.{AddRequest};
 ghost use Rattle.ldap_msg.specs.declared.kinds.DeleteRequest.{DeleteRequest};

@@ -1,6 +1,6 @@
 use Rattle.std.proofs.Common.{sym, ap, ◌∙◌, subst}
 use Rattle.dir_tree.specs.Numbered.{entries_of}
-use Rattle.schema_rules.specs.Rules.{IsGoodTree}
+use Rattle.aci_item.specs.Rules.{IsGoodTree}
 use Rattle.acl_program.specs.Outcomes.{dump_text}
 use Rattle.acl_program.specs.Outside.{written}
 use Rattle.acl_program.proofs.RunLemmas.{Played-stopped, Played-spent, Played-nothing, no_fault}

@@ -1,7 +1,7 @@
 -- The rules are those of the target's place.
 use Rattle.std.proofs.Common.{◌≡◌, ◌∙◌, Some, ap, sym}
 use Rattle.schema_rules.specs.Checking.{replaced, others}
-use Rattle.schema_rules.specs.Rules.{broken_rule}
+use Rattle.aci_item.specs.Rules.{broken_rule}
 use Rattle.op_update.specs.Adding.{rule_refusal}
 use Rattle.op_modify.proofs.ChangeLemmas.{broken_rule-beside}
 use Rattle.op_modify.proofs.replacing.rule_refusal.Goals as goal

@@ -1,6 +1,6 @@
 use Rattle.std.proofs.Common.{None}
 use Rattle.dir_tree.specs.Numbered.{entries_of}
-use Rattle.schema_rules.specs.Rules.{broken_rule}
+use Rattle.aci_item.specs.Rules.{broken_rule}
 use Rattle.op_write.proofs.PlaceLemmas.{full_breaks}
 use Rattle.op_write.proofs.load.crowded_out.Goals as goal
 

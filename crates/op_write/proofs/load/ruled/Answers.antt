@@ -1,5 +1,5 @@
 use Rattle.dir_tree.specs.Numbered.{entries_of}
-use Rattle.schema_rules.specs.Rules.{broken_rule}
+use Rattle.aci_item.specs.Rules.{broken_rule}
 use Rattle.std.proofs.Common.{None}
 use Rattle.op_write.proofs.load.ruled.Goals as goal
 

@@ -2,8 +2,8 @@
 use Rattle.std.proofs.Common.{◌≡◌, false, take, not, ◌||◌}
 use Rattle.std.specs.List.{list_any}
 use Rattle.dir_tree.specs.Entries.{kinds_of}
-use Rattle.schema_rules.specs.Listed.{is_among, permitted_by, all_classes}
-use Rattle.schema_rules.specs.Rules.{is_permitted_besides}
+use Rattle.aci_item.specs.Listed.{is_among, permitted_by, all_classes}
+use Rattle.aci_item.specs.Rules.{is_permitted_besides}
 use Rattle.schema_rules.proofs.contents.has_unpermitted.Given as goal
 
 abbrev pub invariant-loop-index : goal.invariant-loop-index

@@ -1,6 +1,6 @@
 -- What the classes permit is marked.
 use Rattle.std.proofs.Common.{◌||◌, sym, ap, ◌∙◌}
-use Rattle.schema_rules.specs.Rules.{is_permitted_besides}
+use Rattle.aci_item.specs.Rules.{is_permitted_besides}
 use Rattle.schema_rules.proofs.contents.is_permitted.Goals as goal
 
 pub returns-then-is_marked : goal.returns-then-is_marked

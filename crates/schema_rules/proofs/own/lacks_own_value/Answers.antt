@@ -1,6 +1,6 @@
 -- The pairs are those of the last RDN.
 use Rattle.std.proofs.Common.{refl}
-use Rattle.schema_rules.specs.Rules.{lacks_own_value}
+use Rattle.aci_item.specs.Rules.{lacks_own_value}
 use Rattle.schema_rules.proofs.own.lacks_own_value.Goals as goal
 
 pub returns : goal.returns

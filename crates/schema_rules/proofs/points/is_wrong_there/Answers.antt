@@ -1,7 +1,7 @@
 -- The entry of the number is the superior, where that is another than the entry whose place is taken.
 use Rattle.std.proofs.Common.{ap, ◌∙◌}
 use Rattle.std.specs.Option.{option_map}
-use Rattle.schema_rules.specs.Rules.{stands_wrong}
+use Rattle.aci_item.specs.Rules.{stands_wrong}
 use Rattle.schema_rules.proofs.BesideLemmas.{superior_beside}
 use Rattle.schema_rules.proofs.points.is_wrong_there.Goals as goal
 

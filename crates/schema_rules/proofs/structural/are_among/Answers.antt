@@ -1,6 +1,6 @@
 -- The structural classes are those that pass the test, value by value.
 use Rattle.std.proofs.Common.{◌∙◌}
-use Rattle.schema_rules.specs.Listed.{is_among}
+use Rattle.aci_item.specs.Listed.{is_among}
 use Rattle.schema_rules.specs.Classes.{structural_in}
 use Rattle.schema_rules.proofs.ClassLemmas.{all_structural}
 use Rattle.schema_rules.proofs.structural.are_among.Goals as goal

@@ -1,6 +1,6 @@
 -- One of the attributes, or none.
 use Rattle.std.proofs.Common.{sym, ◌∙◌, arith}
-use Rattle.schema_rules.specs.Rules.{has_two_values}
+use Rattle.aci_item.specs.Rules.{has_two_values}
 use Rattle.schema_rules.proofs.ListLemmas.{any_here, none_more, none_at_all}
 use Rattle.schema_rules.proofs.values.has_two_values.Goals as goal
 

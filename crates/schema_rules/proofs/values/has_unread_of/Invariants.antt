@@ -1,6 +1,6 @@
 -- None of the values so far.
 use Rattle.std.proofs.Common.{◌≡◌, drop}
-use Rattle.schema_rules.specs.Rules.{has_unread_of}
+use Rattle.aci_item.specs.Rules.{has_unread_of}
 use Rattle.schema_rules.proofs.values.has_unread_of.Given as goal
 
 abbrev pub invariant-loop-value : goal.invariant-loop-value

@@ -16,7 +16,7 @@ use Rattle.dir_tree.specs.Points.{is_point, is_subentry, is_access_subentry, acc
 use Rattle.dir_tree.specs.Trees.{most_entries, superior_name, named_in, IsTree}
 use Rattle.dir_tree.specs.Scopes.{is_child}
 use Rattle.subtree_spec.specs.SubtreeText.{read_subtree}
-use Rattle.schema_rules.specs.Listed.{all_classes, structural_classes, are_in_line, is_among, required_by, permitted_by}
+use Rattle.aci_item.specs.Listed.{all_classes, structural_classes, are_in_line, is_among, required_by, permitted_by}
 
 -- notAllowedOnRDN (67): a value of the last RDN is none of the entry's
 
