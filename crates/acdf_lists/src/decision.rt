@@ -57,7 +57,7 @@ fn weigh_inherited(question: &Question<'_>, kept: &[Kept], number: EntryNo) -> S
 
 /// Whether the requester has the permission for the item of the entry of the number (X.501 18.8): the access control
 /// decision. No memory is taken.
-pub fn decide(question: &Question<'_>, kept: &[Kept], number: EntryNo) -> bool
+pub fn decide_by(question: &Question<'_>, kept: &[Kept], number: EntryNo) -> bool
     requires known { KnowsGroups question.now }
     requires kept { IsKept kept.now question.now.tree.now }
     requires entry { entry_of number.0 question.now.tree.now ≡ Some question.now.entry.now }

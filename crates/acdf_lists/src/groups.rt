@@ -31,13 +31,19 @@ fn put_groups(alloc: Global, items: &[TaggedTuples], groups: &mut Vec<Dn>) -> Re
     Ok(())
 }
 
+/// Puts the groups that the items of an entry name among the groups, which stand in the order of names, each once. The error
+/// comes where memory is wanted.
+pub fn put_groups_of(alloc: Global, lists: &Kept, groups: &mut Vec<Dn>) -> Result<(), NoMemory> {
+    put_groups(alloc, &lists.prescriptive, groups)?;
+    put_groups(alloc, &lists.own, groups)?;
+    put_groups(alloc, &lists.below, groups)
+}
+
 /// The groups that kept items name, each once, in the order of names. The error comes where memory is wanted.
 pub(crate) fn named_groups(alloc: Global, kept: &[Kept]) -> Result<Vec<Dn>, NoMemory> {
     let mut groups = Vec::new(alloc);
     for lists in kept {
-        put_groups(alloc, &lists.prescriptive, &mut groups)?;
-        put_groups(alloc, &lists.own, &mut groups)?;
-        put_groups(alloc, &lists.below, &mut groups)?;
+        put_groups_of(alloc, lists, &mut groups)?;
     }
     Ok(groups)
 }
@@ -64,7 +70,7 @@ fn ask_groups(
 
 /// The memberships of the requester in the groups; none for an anonymous one, for which no group is looked at. The
 /// error comes where memory is wanted.
-pub(crate) fn memberships_in(
+pub fn memberships_in(
     alloc: Global,
     tree: &Tree,
     who: &Requester,

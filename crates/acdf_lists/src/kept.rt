@@ -2,7 +2,7 @@
 
 ghost use Rattle.std.specs.Prelude.{◌≡◌, map};
 ghost use Rattle.acdf_filters.specs.Weighing.{tagged_of};
-ghost use Rattle.acdf_lists.specs.Lists.{lists_at};
+ghost use Rattle.acdf_lists.specs.Lists.{lists_at, lists_of, no_lists};
 
 use acdf_filters::TaggedTuples;
 use admin_scope::AccessSubentry;
@@ -33,7 +33,9 @@ pub struct Holdings {
 }
 
 /// What is kept where no entry is. Takes no memory.
-pub(crate) fn no_lists(alloc: Global) -> Kept {
+pub fn no_lists(alloc: Global) -> Kept
+    ensures exact { lists_of result ≡ no_lists }
+{
     Kept {
         in_force: Vec::new(alloc),
         prescriptive: Vec::new(alloc),
@@ -82,7 +84,7 @@ pub(crate) fn below_at(kept: &[Kept], number: EntryNo) -> &[TaggedTuples]
 }
 
 /// The numbers of the subentries in force for the number.
-pub(crate) fn in_force_at(kept: &[Kept], number: EntryNo) -> &[EntryNo]
+pub fn in_force_at(kept: &[Kept], number: EntryNo) -> &[EntryNo]
     ensures exact { map (λ no. no.0) result.now ≡ (lists_at kept.now number.0).in_force }
 {
     match kept.get(number.0 as usize) {

@@ -15,8 +15,9 @@ use dir_tree::{Entry, EntryNo, NoMemory, Tree};
 use schema_core::AttrId;
 use std::alloc::Global;
 
-// What is kept of an entry.
-fn make_lists(
+/// What is kept of an entry, which need not be in the tree, by the subtrees of the tree's subentries. The error comes where
+/// memory is wanted.
+pub fn lists_for(
     alloc: Global,
     tree: &Tree,
     subtrees: &[AccessSubentry],
@@ -37,8 +38,8 @@ fn make_lists(
     })
 }
 
-// What is kept of the entry of the number, if there is one.
-fn make_at(
+/// What is kept of the entry of the number, if there is one. The error comes where memory is wanted.
+pub fn make_at(
     alloc: Global,
     tree: &Tree,
     subtrees: &[AccessSubentry],
@@ -49,7 +50,7 @@ fn make_at(
         → IfOk result (λ kept. AreOf tree.now entry (lists_of kept)) }
 {
     match tree.at(number) {
-        Some(entry) => make_lists(alloc, tree, subtrees, entry),
+        Some(entry) => lists_for(alloc, tree, subtrees, entry),
         None => Ok(no_lists(alloc)),
     }
 }
@@ -85,7 +86,7 @@ fn make_all(alloc: Global, tree: &Tree, subtrees: &[AccessSubentry]) -> Result<V
 }
 
 /// What is kept beside the tree. The error comes where memory is wanted.
-pub(crate) fn hold(alloc: Global, tree: &Tree) -> Result<Holdings, NoMemory>
+pub fn hold(alloc: Global, tree: &Tree) -> Result<Holdings, NoMemory>
     ensures ok { IfOk result (λ held. IsHeld held tree.now) }
 {
     let subtrees = access_subtrees(alloc, tree)?;

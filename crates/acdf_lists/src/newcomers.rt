@@ -100,7 +100,7 @@ fn weigh_above(question: &Question<'_>, kept: &[Kept]) -> Standing
 
 /// Whether the requester has the permission for the item of the entry, which is to be added (X.501 18.8): its areas begin
 /// at its superior, and its own items do not count. No memory is taken.
-pub fn decide_new(question: &Question<'_>, kept: &[Kept], subtrees: &[AccessSubentry]) -> bool
+pub fn decide_new_by(question: &Question<'_>, kept: &[Kept], subtrees: &[AccessSubentry]) -> bool
     requires known { KnowsGroups question.now }
     requires kept { IsKept kept.now question.now.tree.now }
     requires subtrees { AreSubtrees subtrees.now question.now.tree.now }

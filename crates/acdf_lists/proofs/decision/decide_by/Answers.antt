@@ -8,7 +8,7 @@ use Rattle.acdf_filters.specs.Weighing.{weighed_for, is_granted}
 use Rattle.acdf_filters.specs.declared.standing.Standing.{Standing}
 use Rattle.acdf_lists.specs.Lists.{lists_at, tuples_in, tuples_inherited}
 use Rattle.acdf_lists.proofs.KeptLemmas.{granted-kept}
-use Rattle.acdf_lists.proofs.decision.decide.Goals as goal
+use Rattle.acdf_lists.proofs.decision.decide_by.Goals as goal
 
 pub returns : goal.returns
 returns c = record {
