@@ -6,7 +6,8 @@ ghost use Rattle.acdf_filters.specs.Weighing.{AreMemberships};
 ghost use Rattle.acdf_filters.specs.Memberships.{groups_of};
 
 use crate::kept::Kept;
-use acdf_filters::{Membership, Requester, TaggedTuples, is_in_group};
+use acdf_filters::{Membership, Requester, is_in_group};
+use aci_item::AciTuple;
 use dir_tree::{NoMemory, Tree};
 use dn_names::{Dn, compare_names};
 use std::alloc::Global;
@@ -19,13 +20,11 @@ fn put_group(alloc: Global, group: &Dn, groups: &mut Vec<Dn>) -> Result<(), NoMe
     Ok(())
 }
 
-// Puts the groups of items so.
-fn put_groups(alloc: Global, items: &[TaggedTuples], groups: &mut Vec<Dn>) -> Result<(), NoMemory> {
-    for item in items {
-        for tuple in item.tuples.iter() {
-            for group in tuple.classes.groups.iter() {
-                put_group(alloc, group, groups)?;
-            }
+// Puts the groups of tuples so.
+fn put_groups(alloc: Global, tuples: &[AciTuple], groups: &mut Vec<Dn>) -> Result<(), NoMemory> {
+    for tuple in tuples {
+        for group in tuple.classes.groups.iter() {
+            put_group(alloc, group, groups)?;
         }
     }
     Ok(())
@@ -34,9 +33,9 @@ fn put_groups(alloc: Global, items: &[TaggedTuples], groups: &mut Vec<Dn>) -> Re
 /// Puts the groups that the items of an entry name among the groups, which stand in the order of names, each once. The error
 /// comes where memory is wanted.
 pub fn put_groups_of(alloc: Global, lists: &Kept, groups: &mut Vec<Dn>) -> Result<(), NoMemory> {
-    put_groups(alloc, &lists.prescriptive, groups)?;
-    put_groups(alloc, &lists.own, groups)?;
-    put_groups(alloc, &lists.below, groups)
+    put_groups(alloc, &lists.prescriptive.tuples, groups)?;
+    put_groups(alloc, &lists.own.tuples, groups)?;
+    put_groups(alloc, &lists.below.tuples, groups)
 }
 
 /// The groups that kept items name, each once, in the order of names. The error comes where memory is wanted.

@@ -1,19 +1,31 @@
 //! What is kept, made of a tree.
 
-ghost use Rattle.std.specs.Prelude.{◌≡◌, ◌+◌, ◌<◌, ℕ, Some, IfOk, OnOk, length};
+ghost use Rattle.std.specs.Prelude.{◌≡◌, map, ◌+◌, ◌<◌, ℕ, Some, IfOk, OnOk, length};
 ghost use Rattle.dir_tree.specs.Entries.{EntryInformation};
 ghost use Rattle.dir_tree.specs.Numbered.{entry_of};
 ghost use Rattle.admin_scope.specs.Finding.{AreSubtrees};
-ghost use Rattle.acdf_lists.specs.Lists.{AreOf, IsKept, IsKeptBelow, lists_of};
+ghost use Rattle.aci_item.specs.Views.{tuple_of};
+ghost use Rattle.acdf_filters.specs.Tuples.{items_in};
+ghost use Rattle.acdf_order.specs.Order.{highest_first};
+ghost use Rattle.acdf_lists.specs.Lists.{AreOf, IsKept, IsKeptBelow, lists_of, tuples_in};
 ghost use Rattle.acdf_lists.specs.Holdings.{IsHeld};
 
 use crate::groups::named_groups;
 use crate::kept::{Holdings, Kept, no_lists};
 use acdf_filters::read_items;
+use acdf_order::{OrderedTuples, order_tuples};
 use admin_scope::{AccessSubentry, access_subtrees, in_force_by};
 use dir_tree::{Entry, EntryNo, NoMemory, Tree};
 use schema_core::AttrId;
 use std::alloc::Global;
+
+// The tuples of the entry's values of the type, those of the highest precedence first.
+fn read_tuples(alloc: Global, entry: &Entry, kind: AttrId) -> Result<OrderedTuples, NoMemory>
+    ensures ok { IfOk result (λ ordered. map tuple_of ordered.tuples.items
+        ≡ highest_first (tuples_in (items_in kind.0 entry.now))) }
+{
+    order_tuples(alloc, read_items(alloc, entry, kind)?)
+}
 
 /// What is kept of an entry, which need not be in the tree, by the subtrees of the tree's subentries. The error comes where
 /// memory is wanted.
@@ -27,9 +39,9 @@ pub fn lists_for(
     ensures ok { IfOk result (λ kept. AreOf tree.now entry.now (lists_of kept)) }
 {
     let in_force = in_force_by(alloc, tree, subtrees, entry)?;
-    let prescriptive = read_items(alloc, entry, AttrId::PRESCRIPTIVE_ACI)?;
-    let own = read_items(alloc, entry, AttrId::ENTRY_ACI)?;
-    let below = read_items(alloc, entry, AttrId::SUBENTRY_ACI)?;
+    let prescriptive = read_tuples(alloc, entry, AttrId::PRESCRIPTIVE_ACI)?;
+    let own = read_tuples(alloc, entry, AttrId::ENTRY_ACI)?;
+    let below = read_tuples(alloc, entry, AttrId::SUBENTRY_ACI)?;
     Ok(Kept {
         in_force,
         prescriptive,
