@@ -25,7 +25,7 @@ lists_at-set_other kept at next id other =
     ap (λ (xs : List Lists). get_or xs id no_lists) (map-set lists_of kept at next)
     ∙ get_or-set_other (map lists_of kept) at id (lists_of next) no_lists other
 
-lists_at-set_same : (kept : List Kept) (at : ℕ) (next : Kept) → at < length kept → lists_at (set kept at next) at ≡ lists_of next
+pub lists_at-set_same : (kept : List Kept) (at : ℕ) (next : Kept) → at < length kept → lists_at (set kept at next) at ≡ lists_of next
 lists_at-set_same kept at next within =
     ap (λ (xs : List Lists). get_or xs at no_lists) (map-set lists_of kept at next)
     ∙ get_or-set_same (map lists_of kept) at (lists_of next) no_lists (subst (λ n. at < n) (sym (length-lists kept)) within)

@@ -4,3 +4,4 @@ pub mod NewcomerLemmas
 pub mod DropLemmas
 pub mod RemovalLemmas
 pub mod FreeLemmas
+pub mod Theorems

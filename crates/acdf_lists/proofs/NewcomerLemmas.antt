@@ -22,14 +22,14 @@ use Rattle.acdf_filters.specs.Standings.{initial}
 use Rattle.acdf_filters.specs.Weighing.{weighed_for, is_granted}
 use Rattle.acdf_filters.proofs.Theorems.{decided-fold}
 use Rattle.acdf_lists.specs.declared.kept.Kept.{Kept}
-use Rattle.acdf_lists.specs.Lists.{lists_at, IsKept, tuples_in, tuples_at, tuples_below}
-use Rattle.acdf_lists.proofs.KeptLemmas.{tuple_in, values_tuples, tuples-entries, tuples_at-entries, tuples_below-entry}
+use Rattle.acdf_lists.specs.Lists.{lists_at, IsKept, tuples_at, tuples_below}
+use Rattle.acdf_lists.proofs.KeptLemmas.{tuple_in, values_tuples, tuples-entries, weighed_at-entries, weighed_below-entry}
 
 -- the tuples of some subentries are folded, and then those of others
 fold_both : {S : Type 0} (f : S → AciTuple → S) (seen : S) (kept : List Kept) (xs ys : List ℕ) → fold f (fold f seen (tuples_at kept xs)) (tuples_at kept ys) ≡ fold f seen (tuples_at kept (xs ++ ys))
 fold_both f seen kept xs ys =
     sym (fold-append f seen (tuples_at kept xs) (tuples_at kept ys))
-    ∙ ap (fold f seen) (sym (flat_map-append (λ id. tuples_in (lists_at kept id).prescriptive) xs ys))
+    ∙ ap (fold f seen) (sym (flat_map-append (λ id. (lists_at kept id).prescriptive) xs ys))
 
 -- the first subentry, and the others
 applying_by-first : (rows : List Numbered) (entry point : EntryInformation) (one : AccessSubentry) (rest : List AccessSubentry) → applying_by rows entry (one ∷ rest) point ≡ applying_by rows entry (one ∷ []) point ++ applying_by rows entry rest point
@@ -77,8 +77,8 @@ granted_new-above question kept is tree subentry =
     let entry = question.entry.now in
     let above = option_map_or (listed_in subentry_aci) (named_in (superior_name entry.name) (entries_of rows)) [] in
     let others = flat_map (listed_in prescriptive_aci) (in_force (entries_of rows) entry) in
-    ap (λ (xs : List AciTuple). is_granted (fold (weighed_for question) initial xs))
-    (tuples_below-entry kept rows is tree (superior_name entry.name) ∙ ap (map tuple_in) (sym (cond-true (is_subentry entry) above others subentry)))
+    ap is_granted (weighed_below-entry question kept rows is tree (superior_name entry.name) initial
+    ∙ ap (λ listed. fold (weighed_for question) initial (map tuple_in listed)) (sym (cond-true (is_subentry entry) above others subentry)))
     ∙ decided-fold question (tuples_new (entries_of rows) entry)
 
 -- and on another entry, by the subentries that apply to it below its points
@@ -93,9 +93,8 @@ granted_new-found question kept ids is ordinary found live =
     let entry = question.entry.now in
     let above = option_map_or (listed_in subentry_aci) (named_in (superior_name entry.name) (entries_of rows)) [] in
     let others = flat_map (listed_in prescriptive_aci) (in_force (entries_of rows) entry) in
-    ap (λ (xs : List AciTuple). is_granted (fold (weighed_for question) initial xs))
-    (tuples_at-entries kept rows is ids live
-    ∙ ap (flat_map (values_tuples prescriptive_aci)) found
-    ∙ sym (tuples-entries prescriptive_aci (in_force (entries_of rows) entry))
-    ∙ ap (map tuple_in) (sym (cond-false (is_subentry entry) above others ordinary)))
+    ap is_granted (weighed_at-entries question kept rows is ids live initial
+    ∙ ap (λ entries. fold (weighed_for question) initial (flat_map (values_tuples prescriptive_aci) entries)) found
+    ∙ ap (fold (weighed_for question) initial) (sym (tuples-entries prescriptive_aci (in_force (entries_of rows) entry))
+    ∙ ap (map tuple_in) (sym (cond-false (is_subentry entry) above others ordinary))))
     ∙ decided-fold question (tuples_new (entries_of rows) entry)

@@ -130,7 +130,7 @@ module _ (number : ℕ) (old : EntryInformation) (rows : List Numbered) (tree : 
       (subst (λ (entries : List EntryInformation). AllByRecursion (λ left. is_named old.name left ≡ false) entries) (sym left_entries) (left_out old.name (entries_of rows))) there
 
   -- and where none stood below, it is neither at nor below the name
-  outside : has_below old.name (entries_of rows) ≡ false → (id : ℕ) (entry : EntryInformation) → entry_of id (without number rows) ≡ Some entry → is_within old.name entry ≡ false
+  pub outside : has_below old.name (entries_of rows) ≡ false → (id : ℕ) (entry : EntryInformation) → entry_of id (without number rows) ≡ Some entry → is_within old.name entry ≡ false
   outside alone id entry there =
       let was : entry_of id rows ≡ Some entry = sym (entry_of-other id number rows (other_number id number entry rows there)) ∙ there in
       let apart = at_number (λ left. is_below old.name left.name ≡ false) id entry rows (no_longer_below old.name (entries_of rows) alone) was in

@@ -7,15 +7,20 @@ use Rattle.dir_tree.specs.Points.{is_subentry}
 use Rattle.admin_scope.specs.InForce.{in_force}
 use Rattle.aci_item.specs.AciTuples.{AciTuple}
 use Rattle.acdf_filters.specs.Tuples.{TaggedTuples, prescriptive_aci, entry_aci, subentry_aci, items_in}
-use Rattle.acdf_filters.specs.Weighing.{tagged_of}
+use Rattle.aci_item.specs.Views.{tuple_of}
+use Rattle.acdf_order.specs.Order.{highest_first}
 use Rattle.acdf_lists.specs.declared.kept.Kept.{Kept}
 
--- the numbers of the subentries in force, and the items of the entry's own values
+-- the tuples of items
+abbrev pub tuples_in : List TaggedTuples → List AciTuple
+tuples_in items = flat_map (λ item. item.tuples) items
+
+-- the numbers of the subentries in force, and the tuples of the entry's own values
 pub record Lists : Type 0 where
   pub in_force : List ℕ
-  pub prescriptive : List TaggedTuples
-  pub own : List TaggedTuples
-  pub below : List TaggedTuples
+  pub prescriptive : List AciTuple
+  pub own : List AciTuple
+  pub below : List AciTuple
 
 -- what is kept where nothing is
 abbrev pub no_lists : Lists
@@ -25,22 +30,22 @@ no_lists = record { in_force = []; prescriptive = []; own = []; below = [] }
 abbrev pub lists_of : Kept → Lists
 lists_of kept = record {
   in_force = map (λ no. no.0) kept.in_force.items;
-  prescriptive = map tagged_of kept.prescriptive.items;
-  own = map tagged_of kept.own.items;
-  below = map tagged_of kept.below.items;
+  prescriptive = map tuple_of kept.prescriptive.tuples.items;
+  own = map tuple_of kept.own.tuples.items;
+  below = map tuple_of kept.below.tuples.items;
 }
 
 -- the lists of the number
 abbrev pub lists_at : List Kept → ℕ → Lists
 lists_at kept id = slice_index_or (map lists_of kept) id no_lists
 
--- the lists are those of the entry
+-- the lists are those of the entry, the tuples of the highest precedence first
 pub record AreOf (rows : List Numbered) (entry : EntryInformation) (lists : Lists) : Type 0 where
   pub in_force : entries_at rows lists.in_force ≡ in_force (entries_of rows) entry
   pub live : AllByRecursion (λ id. IsSome (entry_of id rows)) lists.in_force
-  pub prescriptive : lists.prescriptive ≡ items_in prescriptive_aci entry
-  pub own : lists.own ≡ items_in entry_aci entry
-  pub below : lists.below ≡ items_in subentry_aci entry
+  pub prescriptive : lists.prescriptive ≡ highest_first (tuples_in (items_in prescriptive_aci entry))
+  pub own : lists.own ≡ highest_first (tuples_in (items_in entry_aci entry))
+  pub below : lists.below ≡ highest_first (tuples_in (items_in subentry_aci entry))
 
 -- of each number that is in use its entry's lists are kept
 abbrev pub IsKept : List Kept → List Numbered → Type 0
@@ -51,18 +56,14 @@ abbrev pub IsKeptBelow : List Kept → List Numbered → Type 0
 IsKeptBelow kept rows =
     (id : ℕ) (entry : EntryInformation) → id < length kept → entry_of id rows ≡ Some entry → AreOf rows entry (lists_at kept id)
 
--- the tuples of items
-abbrev pub tuples_in : List TaggedTuples → List AciTuple
-tuples_in items = flat_map (λ item. item.tuples) items
-
--- those of the subentries of the numbers
+-- the tuples of the subentries of the numbers
 abbrev pub tuples_at : List Kept → List ℕ → List AciTuple
-tuples_at kept ids = flat_map (λ id. tuples_in (lists_at kept id).prescriptive) ids
+tuples_at kept ids = flat_map (λ id. (lists_at kept id).prescriptive) ids
 
 -- those that a subentry has from the entry of the number, if there is one
 abbrev pub tuples_below : List Kept → Option ℕ → List AciTuple
 tuples_below kept None = []
-tuples_below kept (Some id) = tuples_in (lists_at kept id).below
+tuples_below kept (Some id) = (lists_at kept id).below
 
 -- those that an entry has from others
 abbrev pub tuples_inherited : List Kept → ℕ → EntryInformation → List Numbered → List AciTuple
@@ -71,4 +72,4 @@ tuples_inherited kept id entry rows =
 
 -- all that count for the entry
 abbrev pub tuples_kept : List Kept → ℕ → EntryInformation → List Numbered → List AciTuple
-tuples_kept kept id entry rows = tuples_inherited kept id entry rows ++ tuples_in (lists_at kept id).own
+tuples_kept kept id entry rows = tuples_inherited kept id entry rows ++ (lists_at kept id).own

@@ -19,8 +19,8 @@ pub struct Inserted {
     pub held: Holdings,
 }
 
-// Takes the entry of the number out again.
-fn take_back(tree: &mut Tree, number: EntryNo)
+/// Takes the entry of the number out again, which is not refused. Takes no memory.
+pub fn take_back(tree: &mut Tree, number: EntryNo)
     requires { remove_refusal number.0 tree.old ≡ None }
     ensures { tree.new ≡ without number.0 tree.old }
 {
@@ -32,11 +32,7 @@ fn take_back(tree: &mut Tree, number: EntryNo)
 
 /// Puts the entry into the tree, and makes anew what is kept; where there is no memory for that, the entry is taken out
 /// again.
-pub(crate) fn insert_into(
-    alloc: Global,
-    tree: &mut Tree,
-    entry: Entry,
-) -> Result<Inserted, InsertRefusal>
+pub fn insert_into(alloc: Global, tree: &mut Tree, entry: Entry) -> Result<Inserted, InsertRefusal>
     requires named { entry.name ≢ [] }
     ensures ok { IfOk result (λ inserted. tree.new ≡ put_entry inserted.number.0 entry tree.old) }
     ensures held { IfOk result (λ inserted. IsHeld inserted.held tree.new) }
@@ -85,8 +81,8 @@ fn drop_everywhere(kept: &mut [Kept], number: EntryNo)
     }
 }
 
-// Keeps nothing of the number.
-fn empty_lists(alloc: Global, kept: &mut [Kept], number: EntryNo)
+/// Keeps nothing of the number. Takes no memory.
+pub fn empty_lists(alloc: Global, kept: &mut [Kept], number: EntryNo)
     ensures { (id : ℕ) → id ≢ number.0 → lists_at kept.new id ≡ lists_at kept.old id }
 {
     let index = number.0 as usize;
@@ -107,7 +103,7 @@ fn drop_subentry(subtrees: &mut Vec<AccessSubentry>, number: EntryNo)
 }
 
 /// Forgets the number of an entry that was taken out. Takes no memory.
-pub(crate) fn forget(alloc: Global, held: &mut Holdings, number: EntryNo)
+pub fn forget(alloc: Global, held: &mut Holdings, number: EntryNo)
     ensures { IsForgotten number.0 held.old held.new }
 {
     drop_subentry(&mut held.subtrees, number);

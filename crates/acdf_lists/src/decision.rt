@@ -7,10 +7,11 @@ ghost use Rattle.acdf_filters.specs.Asking.{protected_of};
 ghost use Rattle.acdf_filters.specs.Granted.{granted};
 ghost use Rattle.acdf_filters.specs.Standings.{initial};
 ghost use Rattle.acdf_filters.specs.Weighing.{KnowsGroups, weighed_for, is_granted};
-ghost use Rattle.acdf_lists.specs.Lists.{IsKept, lists_at, tuples_in, tuples_at, tuples_below, tuples_inherited, tuples_kept};
+ghost use Rattle.acdf_lists.specs.Lists.{IsKept, lists_at, tuples_at, tuples_below, tuples_inherited, tuples_kept};
 
 use crate::kept::{Kept, below_at, in_force_at, own_at, prescriptive_at};
-use acdf_filters::{Question, Standing, weigh_items};
+use acdf_filters::{Question, Standing};
+use acdf_order::weigh_in_order;
 use dir_tree::EntryNo;
 
 // The state with the tuples of the subentries of the numbers weighed.
@@ -25,7 +26,7 @@ fn weigh_subentries(
 {
     let mut now = seen;
     for number in numbers {
-        now = weigh_items(question, prescriptive_at(kept, *number), now);
+        now = weigh_in_order(question, prescriptive_at(kept, *number), now);
     }
     now
 }
@@ -37,7 +38,7 @@ fn weigh_below(question: &Question<'_>, kept: &[Kept], number: EntryNo) -> Stand
         (tuples_below kept.now (superior_of number.0 question.now.tree.now)) }
 {
     match question.tree.superior(number) {
-        Some(above) => weigh_items(question, below_at(kept, above), Standing::new()),
+        Some(above) => weigh_in_order(question, below_at(kept, above), Standing::new()),
         None => Standing::new(),
     }
 }
@@ -57,7 +58,7 @@ fn weigh_inherited(question: &Question<'_>, kept: &[Kept], number: EntryNo) -> S
 
 /// Whether the requester has the permission for the item of the entry of the number (X.501 18.8): the access control
 /// decision. No memory is taken.
-pub fn decide(question: &Question<'_>, kept: &[Kept], number: EntryNo) -> bool
+pub fn decide_by(question: &Question<'_>, kept: &[Kept], number: EntryNo) -> bool
     requires known { KnowsGroups question.now }
     requires kept { IsKept kept.now question.now.tree.now }
     requires entry { entry_of number.0 question.now.tree.now ≡ Some question.now.entry.now }
@@ -66,5 +67,5 @@ pub fn decide(question: &Question<'_>, kept: &[Kept], number: EntryNo) -> bool
 {
     question.tree.entries_form_a_tree();
     let seen = weigh_inherited(question, kept, number);
-    weigh_items(question, own_at(kept, number), seen).is_granted()
+    weigh_in_order(question, own_at(kept, number), seen).is_granted()
 }

@@ -6,7 +6,8 @@ ghost use Rattle.acdf_filters.specs.Weighing.{AreMemberships};
 ghost use Rattle.acdf_filters.specs.Memberships.{groups_of};
 
 use crate::kept::Kept;
-use acdf_filters::{Membership, Requester, TaggedTuples, is_in_group};
+use acdf_filters::{Membership, Requester, is_in_group};
+use aci_item::AciTuple;
 use dir_tree::{NoMemory, Tree};
 use dn_names::{Dn, compare_names};
 use std::alloc::Global;
@@ -19,25 +20,29 @@ fn put_group(alloc: Global, group: &Dn, groups: &mut Vec<Dn>) -> Result<(), NoMe
     Ok(())
 }
 
-// Puts the groups of items so.
-fn put_groups(alloc: Global, items: &[TaggedTuples], groups: &mut Vec<Dn>) -> Result<(), NoMemory> {
-    for item in items {
-        for tuple in item.tuples.iter() {
-            for group in tuple.classes.groups.iter() {
-                put_group(alloc, group, groups)?;
-            }
+// Puts the groups of tuples so.
+fn put_groups(alloc: Global, tuples: &[AciTuple], groups: &mut Vec<Dn>) -> Result<(), NoMemory> {
+    for tuple in tuples {
+        for group in tuple.classes.groups.iter() {
+            put_group(alloc, group, groups)?;
         }
     }
     Ok(())
+}
+
+/// Puts the groups that the items of an entry name among the groups, which stand in the order of names, each once. The error
+/// comes where memory is wanted.
+pub fn put_groups_of(alloc: Global, lists: &Kept, groups: &mut Vec<Dn>) -> Result<(), NoMemory> {
+    put_groups(alloc, &lists.prescriptive.tuples, groups)?;
+    put_groups(alloc, &lists.own.tuples, groups)?;
+    put_groups(alloc, &lists.below.tuples, groups)
 }
 
 /// The groups that kept items name, each once, in the order of names. The error comes where memory is wanted.
 pub(crate) fn named_groups(alloc: Global, kept: &[Kept]) -> Result<Vec<Dn>, NoMemory> {
     let mut groups = Vec::new(alloc);
     for lists in kept {
-        put_groups(alloc, &lists.prescriptive, &mut groups)?;
-        put_groups(alloc, &lists.own, &mut groups)?;
-        put_groups(alloc, &lists.below, &mut groups)?;
+        put_groups_of(alloc, lists, &mut groups)?;
     }
     Ok(groups)
 }
@@ -64,7 +69,7 @@ fn ask_groups(
 
 /// The memberships of the requester in the groups; none for an anonymous one, for which no group is looked at. The
 /// error comes where memory is wanted.
-pub(crate) fn memberships_in(
+pub fn memberships_in(
     alloc: Global,
     tree: &Tree,
     who: &Requester,

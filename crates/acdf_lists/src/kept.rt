@@ -1,26 +1,29 @@
 //! What is kept of an entry.
 
 ghost use Rattle.std.specs.Prelude.{◌≡◌, map};
-ghost use Rattle.acdf_filters.specs.Weighing.{tagged_of};
-ghost use Rattle.acdf_lists.specs.Lists.{lists_at};
+ghost use Rattle.aci_item.specs.Views.{tuple_of};
+ghost use Rattle.acdf_order.specs.Order.{IsHighestFirst};
+ghost use Rattle.acdf_lists.specs.Lists.{lists_at, lists_of, no_lists};
 
-use acdf_filters::TaggedTuples;
+use acdf_order::OrderedTuples;
+use aci_item::AciTuple;
 use admin_scope::AccessSubentry;
 use dir_tree::EntryNo;
 use dn_names::Dn;
 use std::alloc::Global;
 
-/// What is kept of an entry: the subentries that are in force for it, and its own access control items, split into tuples.
+/// What is kept of an entry: the subentries that are in force for it, and the tuples of its own access control
+/// items, those of the highest precedence first.
 #[derive(Drop)]
 pub struct Kept {
     /// The numbers of the access control subentries in force for an ordinary entry.
     pub in_force: Vec<EntryNo>,
-    /// The items of its prescriptiveACI values.
-    pub prescriptive: Vec<TaggedTuples>,
-    /// The items of its entryACI values.
-    pub own: Vec<TaggedTuples>,
-    /// The items of its subentryACI values.
-    pub below: Vec<TaggedTuples>,
+    /// Those of its prescriptiveACI values.
+    pub prescriptive: OrderedTuples,
+    /// Those of its entryACI values.
+    pub own: OrderedTuples,
+    /// Those of its subentryACI values.
+    pub below: OrderedTuples,
 }
 
 /// What is kept beside a tree: its access control subentries with their subtrees, what is kept of each entry, by its
@@ -33,12 +36,14 @@ pub struct Holdings {
 }
 
 /// What is kept where no entry is. Takes no memory.
-pub(crate) fn no_lists(alloc: Global) -> Kept {
+pub fn no_lists(alloc: Global) -> Kept
+    ensures exact { lists_of result ≡ no_lists }
+{
     Kept {
         in_force: Vec::new(alloc),
-        prescriptive: Vec::new(alloc),
-        own: Vec::new(alloc),
-        below: Vec::new(alloc),
+        prescriptive: OrderedTuples::new(alloc),
+        own: OrderedTuples::new(alloc),
+        below: OrderedTuples::new(alloc),
     }
 }
 
@@ -51,38 +56,41 @@ pub(crate) fn no_holdings(alloc: Global) -> Holdings {
     }
 }
 
-/// The items of the prescriptiveACI values of the number.
-pub(crate) fn prescriptive_at(kept: &[Kept], number: EntryNo) -> &[TaggedTuples]
-    ensures exact { map tagged_of result.now ≡ (lists_at kept.now number.0).prescriptive }
+/// The tuples of the prescriptiveACI values of the number.
+pub(crate) fn prescriptive_at(kept: &[Kept], number: EntryNo) -> &[AciTuple]
+    ensures exact { map tuple_of result.now ≡ (lists_at kept.now number.0).prescriptive }
+    ensures ordered { IsHighestFirst (map tuple_of result.now) }
 {
     match kept.get(number.0 as usize) {
-        Some(lists) => &lists.prescriptive,
+        Some(lists) => &lists.prescriptive.tuples,
         None => &[],
     }
 }
 
-/// The items of the entryACI values of the number.
-pub(crate) fn own_at(kept: &[Kept], number: EntryNo) -> &[TaggedTuples]
-    ensures exact { map tagged_of result.now ≡ (lists_at kept.now number.0).own }
+/// The tuples of the entryACI values of the number.
+pub(crate) fn own_at(kept: &[Kept], number: EntryNo) -> &[AciTuple]
+    ensures exact { map tuple_of result.now ≡ (lists_at kept.now number.0).own }
+    ensures ordered { IsHighestFirst (map tuple_of result.now) }
 {
     match kept.get(number.0 as usize) {
-        Some(lists) => &lists.own,
+        Some(lists) => &lists.own.tuples,
         None => &[],
     }
 }
 
-/// The items of the subentryACI values of the number.
-pub(crate) fn below_at(kept: &[Kept], number: EntryNo) -> &[TaggedTuples]
-    ensures exact { map tagged_of result.now ≡ (lists_at kept.now number.0).below }
+/// The tuples of the subentryACI values of the number.
+pub(crate) fn below_at(kept: &[Kept], number: EntryNo) -> &[AciTuple]
+    ensures exact { map tuple_of result.now ≡ (lists_at kept.now number.0).below }
+    ensures ordered { IsHighestFirst (map tuple_of result.now) }
 {
     match kept.get(number.0 as usize) {
-        Some(lists) => &lists.below,
+        Some(lists) => &lists.below.tuples,
         None => &[],
     }
 }
 
 /// The numbers of the subentries in force for the number.
-pub(crate) fn in_force_at(kept: &[Kept], number: EntryNo) -> &[EntryNo]
+pub fn in_force_at(kept: &[Kept], number: EntryNo) -> &[EntryNo]
     ensures exact { map (λ no. no.0) result.now ≡ (lists_at kept.now number.0).in_force }
 {
     match kept.get(number.0 as usize) {

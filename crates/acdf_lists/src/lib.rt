@@ -11,8 +11,12 @@ mod newcomers;
 mod plain_dir;
 mod replacing;
 
-pub use decision::decide;
+pub use changing::{Inserted, empty_lists, forget, insert_into, take_back};
+pub use decision::decide_by;
 pub use dir::Dir;
-pub use kept::Kept;
-pub use newcomers::decide_new;
+pub use groups::{memberships_in, put_groups_of};
+pub use kept::{Holdings, Kept, in_force_at, no_lists};
+pub use making::{hold, lists_for, make_at};
+pub use newcomers::decide_new_by;
 pub use plain_dir::PlainDir;
+pub use replacing::{Replaced, replace_in};

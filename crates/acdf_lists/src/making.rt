@@ -1,22 +1,35 @@
 //! What is kept, made of a tree.
 
-ghost use Rattle.std.specs.Prelude.{◌≡◌, ◌+◌, ◌<◌, ℕ, Some, IfOk, OnOk, length};
+ghost use Rattle.std.specs.Prelude.{◌≡◌, map, ◌+◌, ◌<◌, ℕ, Some, IfOk, OnOk, length};
 ghost use Rattle.dir_tree.specs.Entries.{EntryInformation};
 ghost use Rattle.dir_tree.specs.Numbered.{entry_of};
 ghost use Rattle.admin_scope.specs.Finding.{AreSubtrees};
-ghost use Rattle.acdf_lists.specs.Lists.{AreOf, IsKept, IsKeptBelow, lists_of};
+ghost use Rattle.aci_item.specs.Views.{tuple_of};
+ghost use Rattle.acdf_filters.specs.Tuples.{items_in};
+ghost use Rattle.acdf_order.specs.Order.{highest_first};
+ghost use Rattle.acdf_lists.specs.Lists.{AreOf, IsKept, IsKeptBelow, lists_of, tuples_in};
 ghost use Rattle.acdf_lists.specs.Holdings.{IsHeld};
 
 use crate::groups::named_groups;
 use crate::kept::{Holdings, Kept, no_lists};
 use acdf_filters::read_items;
+use acdf_order::{OrderedTuples, order_tuples};
 use admin_scope::{AccessSubentry, access_subtrees, in_force_by};
 use dir_tree::{Entry, EntryNo, NoMemory, Tree};
 use schema_core::AttrId;
 use std::alloc::Global;
 
-// What is kept of an entry.
-fn make_lists(
+// The tuples of the entry's values of the type, those of the highest precedence first.
+fn read_tuples(alloc: Global, entry: &Entry, kind: AttrId) -> Result<OrderedTuples, NoMemory>
+    ensures ok { IfOk result (λ ordered. map tuple_of ordered.tuples.items
+        ≡ highest_first (tuples_in (items_in kind.0 entry.now))) }
+{
+    order_tuples(alloc, read_items(alloc, entry, kind)?)
+}
+
+/// What is kept of an entry, which need not be in the tree, by the subtrees of the tree's subentries. The error comes where
+/// memory is wanted.
+pub fn lists_for(
     alloc: Global,
     tree: &Tree,
     subtrees: &[AccessSubentry],
@@ -26,9 +39,9 @@ fn make_lists(
     ensures ok { IfOk result (λ kept. AreOf tree.now entry.now (lists_of kept)) }
 {
     let in_force = in_force_by(alloc, tree, subtrees, entry)?;
-    let prescriptive = read_items(alloc, entry, AttrId::PRESCRIPTIVE_ACI)?;
-    let own = read_items(alloc, entry, AttrId::ENTRY_ACI)?;
-    let below = read_items(alloc, entry, AttrId::SUBENTRY_ACI)?;
+    let prescriptive = read_tuples(alloc, entry, AttrId::PRESCRIPTIVE_ACI)?;
+    let own = read_tuples(alloc, entry, AttrId::ENTRY_ACI)?;
+    let below = read_tuples(alloc, entry, AttrId::SUBENTRY_ACI)?;
     Ok(Kept {
         in_force,
         prescriptive,
@@ -37,8 +50,8 @@ fn make_lists(
     })
 }
 
-// What is kept of the entry of the number, if there is one.
-fn make_at(
+/// What is kept of the entry of the number, if there is one. The error comes where memory is wanted.
+pub fn make_at(
     alloc: Global,
     tree: &Tree,
     subtrees: &[AccessSubentry],
@@ -49,7 +62,7 @@ fn make_at(
         → IfOk result (λ kept. AreOf tree.now entry (lists_of kept)) }
 {
     match tree.at(number) {
-        Some(entry) => make_lists(alloc, tree, subtrees, entry),
+        Some(entry) => lists_for(alloc, tree, subtrees, entry),
         None => Ok(no_lists(alloc)),
     }
 }
@@ -85,7 +98,7 @@ fn make_all(alloc: Global, tree: &Tree, subtrees: &[AccessSubentry]) -> Result<V
 }
 
 /// What is kept beside the tree. The error comes where memory is wanted.
-pub(crate) fn hold(alloc: Global, tree: &Tree) -> Result<Holdings, NoMemory>
+pub fn hold(alloc: Global, tree: &Tree) -> Result<Holdings, NoMemory>
     ensures ok { IfOk result (λ held. IsHeld held tree.now) }
 {
     let subtrees = access_subtrees(alloc, tree)?;

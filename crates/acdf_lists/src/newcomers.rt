@@ -11,7 +11,8 @@ ghost use Rattle.acdf_filters.specs.Weighing.{KnowsGroups, weighed_for};
 ghost use Rattle.acdf_lists.specs.Lists.{IsKept, tuples_at, tuples_below};
 
 use crate::kept::{Kept, below_at, prescriptive_at};
-use acdf_filters::{Question, Standing, weigh_items};
+use acdf_filters::{Question, Standing};
+use acdf_order::weigh_in_order;
 use admin_scope::{
     AccessSubentry, PointWalk, holds_under, points, subentries_are_found_below_the_points,
 };
@@ -30,7 +31,7 @@ fn weigh_applying(
         (applying_by question.now.tree.now question.now.entry.now (subentry.now ∷ []) point.now)) }
 {
     if holds_under(question.tree, subentry, point, question.entry) {
-        weigh_items(question, prescriptive_at(kept, subentry.number), seen)
+        weigh_in_order(question, prescriptive_at(kept, subentry.number), seen)
     } else {
         seen
     }
@@ -93,14 +94,14 @@ fn weigh_above(question: &Question<'_>, kept: &[Kept]) -> Standing
         (tuples_below kept.now (find_name (superior_name question.now.entry.now.name) question.now.tree.now)) }
 {
     match above(question) {
-        Some(number) => weigh_items(question, below_at(kept, number), Standing::new()),
+        Some(number) => weigh_in_order(question, below_at(kept, number), Standing::new()),
         None => Standing::new(),
     }
 }
 
 /// Whether the requester has the permission for the item of the entry, which is to be added (X.501 18.8): its areas begin
 /// at its superior, and its own items do not count. No memory is taken.
-pub fn decide_new(question: &Question<'_>, kept: &[Kept], subtrees: &[AccessSubentry]) -> bool
+pub fn decide_new_by(question: &Question<'_>, kept: &[Kept], subtrees: &[AccessSubentry]) -> bool
     requires known { KnowsGroups question.now }
     requires kept { IsKept kept.now question.now.tree.now }
     requires subtrees { AreSubtrees subtrees.now question.now.tree.now }

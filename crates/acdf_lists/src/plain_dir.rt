@@ -7,12 +7,12 @@ ghost use Rattle.acdf_filters.specs.Granted.{granted};
 ghost use Rattle.acdf_filters.specs.Weighing.{AreMemberships};
 
 use crate::changing::{forget, insert_into};
-use crate::decision::decide;
+use crate::decision::decide_by;
 use crate::dir::Dir;
 use crate::groups::memberships_in;
 use crate::kept::{Holdings, in_force_at};
 use crate::making::hold;
-use crate::newcomers::decide_new;
+use crate::newcomers::decide_new_by;
 use crate::replacing::replace_in;
 use acdf_filters::{Item, Membership, Question, Requester};
 use aci_item::Permission;
@@ -70,7 +70,7 @@ impl PlainDir {
             tree: &self.tree,
             known,
         };
-        decide(&question, &self.held.lists, number)
+        decide_by(&question, &self.held.lists, number)
     }
 }
 
@@ -111,7 +111,7 @@ impl Dir for PlainDir {
             tree: &self.tree,
             known,
         };
-        decide_new(&question, &self.held.lists, &self.held.subtrees)
+        decide_new_by(&question, &self.held.lists, &self.held.subtrees)
     }
 
     fn memberships(&self, alloc: Global, who: &Requester) -> Result<Vec<Membership>, NoMemory> {

@@ -37,7 +37,7 @@ impl TreeReader for Holder {
 
 /// Gives the entry's place to another, and makes anew what is kept; where there is no memory for that, the tree is as
 /// it was.
-pub(crate) fn replace_in(
+pub fn replace_in(
     alloc: Global,
     tree: &mut Tree,
     no: EntryNo,

@@ -4,6 +4,6 @@ use Rattle.acdf_lists.specs.declared.kept.Kept.{Kept}
 use Rattle.acdf_lists.specs.Lists.{IsKept}
 use Rattle.acdf_lists.proofs.plain_dir.PlainDir.decide_entry.Goals as goal
 
-pub decide-requires-clause-kept : goal.decide-requires-clause-kept
-decide-requires-clause-kept c =
+pub decide_by-requires-clause-kept : goal.decide_by-requires-clause-kept
+decide_by-requires-clause-kept c =
     subst (λ (kept : List Kept). IsKept kept c.self.inside.tree) (sym c.deref.ensures.value) c.self.invariant.lists

@@ -7,7 +7,7 @@ use Rattle.acdf_filters.specs.Standings.{initial}
 use Rattle.acdf_filters.specs.Weighing.{weighed_for, is_granted}
 use Rattle.acdf_lists.specs.Lists.{tuples_at}
 use Rattle.acdf_lists.proofs.NewcomerLemmas.{granted_new-above, granted_new-found}
-use Rattle.acdf_lists.proofs.newcomers.decide_new.Goals as goal
+use Rattle.acdf_lists.proofs.newcomers.decide_new_by.Goals as goal
 
 pub returns-then-is_subentry : goal.returns-then-is_subentry
 returns-then-is_subentry c = record {

@@ -1,0 +1,4 @@
+pub mod OrderLemmas
+pub mod WeighLemmas
+pub mod Theorems
+mod Examples

@@ -1,0 +1,13 @@
+//! Tuples in the order of precedence, and their weighing, which stops at the first of a lower precedence (X.501
+//! 18.8.4).
+#![tactic(auto)]
+
+mod laws;
+mod ordering;
+mod tuples;
+mod weighing;
+
+pub use laws::the_order_of_tuples_changes_no_state;
+pub use ordering::order_tuples;
+pub use tuples::OrderedTuples;
+pub use weighing::weigh_in_order;

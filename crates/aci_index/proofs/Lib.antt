@@ -1,0 +1,5 @@
+pub mod SubtreeLemmas
+pub mod HeldLemmas
+pub mod PointLemmas
+pub mod LeafLemmas
+pub mod OwnLemmas

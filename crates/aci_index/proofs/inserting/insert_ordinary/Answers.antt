@@ -1,0 +1,61 @@
+-- The subtrees stay those of the subentries, all other lists stay right, and what was put in can be taken out again.
+use Rattle.std.proofs.Common.{◌≡◌, List, None, Some, ap, sym, subst, ◌∙◌}
+use Rattle.dir_tree.specs.Numbered.{Numbered, IsNumberedTree, put_entry, without}
+use Rattle.dir_tree.specs.Refusals.{remove_refusal}
+use Rattle.dir_tree.proofs.TreeTheorems.{without-put_row}
+use Rattle.admin_scope.specs.Finding.{AreSubtrees}
+use Rattle.scope_laws.proofs.Theorems.{change-put}
+use Rattle.acdf_lists.specs.Holdings.{IsHeld}
+use Rattle.acdf_lists.proofs.Theorems.{new_removable}
+use Rattle.aci_index.specs.Steps.{IsKeptOf}
+use Rattle.aci_index.proofs.SubtreeLemmas.{subtrees-stay}
+use Rattle.aci_index.proofs.HeldLemmas.{held-unused}
+use Rattle.aci_index.proofs.LeafLemmas.{held-put}
+use Rattle.aci_index.proofs.inserting.insert_ordinary.Goals as goal
+
+pub keep_anew-requires : goal.keep_anew-requires
+keep_anew-requires c =
+    let number = c.in_ok-number.number.0 in
+    let rows = c.args.tree.now in
+    let done = c.in_ok-number.ensures in
+    let also = subst IsNumberedTree done.ok c.entries_form_a_tree-2.ensures.exact in
+    record {
+      subtrees =
+          subst (λ (new : List Numbered). AreSubtrees c.args.held.now.subtrees.items new) (sym done.ok)
+          (subtrees-stay number rows (put_entry number c.args.entry rows) None (Some c.args.entry) c.args.held.now.subtrees.items
+          c.entries_form_a_tree.ensures.exact also (change-put number c.args.entry rows done.free) tt c.requires.ordinary c.requires.held.subtrees);
+    }
+
+pub take_back-requires : goal.take_back-requires
+take_back-requires c =
+    let number = c.in_ok-number.number.0 in
+    let done = c.in_ok-number.ensures in
+    ap (remove_refusal number) done.ok
+    ∙ new_removable number c.args.entry c.args.tree.now c.entries_form_a_tree.ensures.exact done.free done.exact
+
+pub returns-in-Ok-clause-held : goal.returns-in-Ok-clause-held
+returns-in-Ok-clause-held c =
+    let number = c.in_ok-number.number.0 in
+    let rows = c.args.tree.now in
+    let done = c.in_ok-number.ensures in
+    let made = c.keep_anew.new.held in
+    let also = subst IsNumberedTree done.ok c.entries_form_a_tree-2.ensures.exact in
+    subst (λ (new : List Numbered). IsHeld made new) (sym done.ok)
+    (held-put number c.args.entry rows c.args.held.now made c.entries_form_a_tree.ensures.exact also done.free done.exact c.requires.ordinary c.requires.held
+    c.in-Ok.ensures.others (subst (λ (new : List Numbered). IsKeptOf number made new) done.ok c.in-Ok.ensures.own))
+
+pub returns-in-Err-clause-kept : goal.returns-in-Err-clause-kept
+returns-in-Err-clause-kept c =
+    let number = c.in_ok-number.number.0 in
+    let done = c.in_ok-number.ensures in
+    c.take_back.ensures ∙ ap (without number) done.ok ∙ without-put_row number c.args.entry c.args.tree.now done.free
+
+pub returns-in-Err-clause-held : goal.returns-in-Err-clause-held
+returns-in-Err-clause-held c =
+    let number = c.in_ok-number.number.0 in
+    let rows = c.args.tree.now in
+    let done = c.in_ok-number.ensures in
+    let made = c.keep_anew.new.held in
+    let back : c.take_back.new.tree ≡ rows = c.take_back.ensures ∙ ap (without number) done.ok ∙ without-put_row number c.args.entry rows done.free in
+    subst (λ (left : List Numbered). IsHeld made left) (sym back)
+    (held-unused number rows c.args.held.now made done.free c.requires.held c.in-Err.ensures.others)

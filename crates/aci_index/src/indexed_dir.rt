@@ -1,0 +1,144 @@
+//! A directory that keeps what decisions need, and changes it by small steps.
+
+ghost use Rattle.std.specs.Prelude.{◌≡◌, Some, IfOk, map};
+ghost use Rattle.dir_tree.specs.Numbered.{entry_of, entries_of, ids_of, subentry_rows};
+ghost use Rattle.acdf_filters.specs.Asking.{protected_of};
+ghost use Rattle.acdf_filters.specs.Granted.{granted};
+ghost use Rattle.acdf_filters.specs.Weighing.{AreMemberships};
+
+use crate::inserting::insert_step;
+use crate::removing::remove_step;
+use crate::replacing::replace_step;
+use acdf_filters::{Item, Membership, Question, Requester};
+use acdf_lists::{Dir, Holdings, decide_by, decide_new_by, hold, in_force_at, memberships_in};
+use aci_item::Permission;
+use dir_tree::{Entry, EntryNo, InsertRefusal, NoMemory, RemoveRefusal, ReplaceRefusal, Tree};
+use std::alloc::Global;
+use std::marker::Model;
+
+/// A tree, and what is kept beside it. Contracts see the numbered entries.
+#[derive(Drop)]
+pub struct IndexedDir {
+    tree: Tree,
+    held: Holdings,
+}
+
+impl Model for IndexedDir {
+    ghost use Rattle.std.specs.Prelude.{List};
+    ghost use Rattle.dir_tree.specs.Numbered.{Numbered};
+    ghost use Rattle.acdf_lists.specs.Holdings.{IsHeld};
+
+    ghost Value = { List Numbered };
+
+    ghost view = { λ dir. dir.tree };
+
+    ghost invariant = { λ dir. IsHeld dir.held dir.tree };
+}
+
+impl IndexedDir {
+    /// The directory of a tree. The error comes where memory is wanted.
+    pub fn new(alloc: Global, tree: Tree) -> Result<IndexedDir, NoMemory>
+        ensures ok { IfOk result (λ dir. dir ≡ tree) }
+    {
+        let held = hold(alloc, &tree)?;
+        Ok(IndexedDir { tree, held })
+    }
+
+    /// The numbers of the access control subentries, in the order of the names.
+    pub fn subentries(&self) -> &[EntryNo]
+        ensures exact { map (λ no. no.0) result.now ≡ ids_of (subentry_rows self.now) }
+    {
+        self.tree.access_subentries()
+    }
+
+    // Whether the requester has the permission for the item of an entry, which has the number.
+    fn decide_entry(
+        &self,
+        who: &Requester,
+        known: &[Membership],
+        number: EntryNo,
+        entry: &Entry,
+        item: Item<'_>,
+        permission: Permission,
+    ) -> bool
+        requires known { AreMemberships (entries_of self.now) who.now.name known.now }
+        requires entry { entry_of number.0 self.now ≡ Some entry.now }
+        ensures exact { result ≡ granted (entries_of self.now) who.now entry.now (protected_of item.entry) permission }
+    {
+        let question = Question {
+            who,
+            entry,
+            item,
+            permission,
+            tree: &self.tree,
+            known,
+        };
+        decide_by(&question, &self.held.lists, number)
+    }
+}
+
+impl Dir for IndexedDir {
+    ghost rows = { λ dir. dir };
+
+    fn tree(&self) -> &Tree {
+        &self.tree
+    }
+
+    fn decide(
+        &self,
+        who: &Requester,
+        known: &[Membership],
+        number: EntryNo,
+        item: Item<'_>,
+        permission: Permission,
+    ) -> bool {
+        match self.tree.at(number) {
+            Some(entry) => self.decide_entry(who, known, number, entry, item, permission),
+            None => false,
+        }
+    }
+
+    fn decide_new(
+        &self,
+        who: &Requester,
+        known: &[Membership],
+        entry: &Entry,
+        item: Item<'_>,
+        permission: Permission,
+    ) -> bool {
+        let question = Question {
+            who,
+            entry,
+            item,
+            permission,
+            tree: &self.tree,
+            known,
+        };
+        decide_new_by(&question, &self.held.lists, &self.held.subtrees)
+    }
+
+    fn memberships(&self, alloc: Global, who: &Requester) -> Result<Vec<Membership>, NoMemory> {
+        memberships_in(alloc, &self.tree, who, &self.held.groups)
+    }
+
+    fn in_force(&self, number: EntryNo) -> &[EntryNo] {
+        in_force_at(&self.held.lists, number)
+    }
+
+    fn insert(&mut self, alloc: Global, entry: Entry) -> Result<EntryNo, InsertRefusal> {
+        insert_step(alloc, &mut self.tree, &mut self.held, entry)
+    }
+
+    fn remove(&mut self, alloc: Global, no: EntryNo) -> Result<Entry, RemoveRefusal> {
+        remove_step(alloc, &mut self.tree, &mut self.held, no)
+    }
+
+    fn replace(
+        &mut self,
+        alloc: Global,
+        no: EntryNo,
+        entry: Entry,
+    ) -> Result<Entry, ReplaceRefusal> {
+        replace_step(alloc, &mut self.tree, &mut self.held, no, entry)
+    }
+}

@@ -1,0 +1,89 @@
+//! What is kept, where an entry is put in.
+
+ghost use Rattle.std.specs.Prelude.{◌≡◌, ◌≢◌, ◌⊎◌, [], true, false, Some, None, IfOk, IfErr, OnOk, OnErr};
+ghost use Rattle.dir_tree.specs.Numbered.{entry_of, entries_of, put_entry};
+ghost use Rattle.dir_tree.specs.Points.{is_access_subentry};
+ghost use Rattle.dir_tree.specs.Refusals.{insert_refusal};
+ghost use Rattle.acdf_lists.specs.Holdings.{IsHeld};
+
+use crate::putting::keep_anew;
+use acdf_lists::{Holdings, insert_into, take_back};
+use dir_tree::{Entry, EntryNo, InsertRefusal, Tree};
+use std::alloc::Global;
+
+// Puts an entry that is no access control subentry into the tree: its own lists are made, and all others stay.
+fn insert_ordinary(
+    alloc: Global,
+    tree: &mut Tree,
+    held: &mut Holdings,
+    entry: Entry,
+) -> Result<EntryNo, InsertRefusal>
+    requires named { entry.name ≢ [] }
+    requires ordinary { is_access_subentry entry ≡ false }
+    requires held { IsHeld held.old tree.old }
+    ensures ok { IfOk result (λ number. tree.new ≡ put_entry number.0 entry tree.old) }
+    ensures free { IfOk result (λ number. entry_of number.0 tree.old ≡ None) }
+    ensures exact { OnOk result (insert_refusal entry.name (entries_of tree.old) ≡ None) }
+    ensures cause { IfErr result (λ refusal. (refusal ≡ InsertRefusal.NoMemory)
+        ⊎ (insert_refusal entry.name (entries_of tree.old) ≡ Some refusal)) }
+    ensures kept { OnErr result (tree.new ≡ tree.old) }
+    ensures held { IsHeld held.new tree.new }
+{
+    tree.entries_form_a_tree();
+    let number = tree.insert(entry)?;
+    tree.entries_form_a_tree();
+    match keep_anew(alloc, tree, held, number) {
+        Ok(()) => Ok(number),
+        Err(_) => {
+            take_back(tree, number);
+            Err(InsertRefusal::NoMemory)
+        }
+    }
+}
+
+// Puts an access control subentry into the tree: all that is kept is made anew.
+fn insert_subentry(
+    alloc: Global,
+    tree: &mut Tree,
+    held: &mut Holdings,
+    entry: Entry,
+) -> Result<EntryNo, InsertRefusal>
+    requires named { entry.name ≢ [] }
+    requires held { IsHeld held.old tree.old }
+    ensures ok { IfOk result (λ number. tree.new ≡ put_entry number.0 entry tree.old) }
+    ensures free { IfOk result (λ number. entry_of number.0 tree.old ≡ None) }
+    ensures exact { OnOk result (insert_refusal entry.name (entries_of tree.old) ≡ None) }
+    ensures cause { IfErr result (λ refusal. (refusal ≡ InsertRefusal.NoMemory)
+        ⊎ (insert_refusal entry.name (entries_of tree.old) ≡ Some refusal)) }
+    ensures kept { OnErr result (tree.new ≡ tree.old) }
+    ensures held { IsHeld held.new tree.new }
+{
+    let inserted = insert_into(alloc, tree, entry)?;
+    *held = inserted.held;
+    Ok(inserted.number)
+}
+
+/// Puts the entry into the tree, and changes of what is kept what concerns it. Where there is no memory for that, the entry
+/// is taken out again, and what is kept is right as before.
+pub(crate) fn insert_step(
+    alloc: Global,
+    tree: &mut Tree,
+    held: &mut Holdings,
+    entry: Entry,
+) -> Result<EntryNo, InsertRefusal>
+    requires named { entry.name ≢ [] }
+    requires held { IsHeld held.old tree.old }
+    ensures ok { IfOk result (λ number. tree.new ≡ put_entry number.0 entry tree.old) }
+    ensures free { IfOk result (λ number. entry_of number.0 tree.old ≡ None) }
+    ensures exact { OnOk result (insert_refusal entry.name (entries_of tree.old) ≡ None) }
+    ensures cause { IfErr result (λ refusal. (refusal ≡ InsertRefusal.NoMemory)
+        ⊎ (insert_refusal entry.name (entries_of tree.old) ≡ Some refusal)) }
+    ensures kept { OnErr result (tree.new ≡ tree.old) }
+    ensures held { IsHeld held.new tree.new }
+{
+    if entry.is_access_subentry() {
+        insert_subentry(alloc, tree, held, entry)
+    } else {
+        insert_ordinary(alloc, tree, held, entry)
+    }
+}

@@ -1,0 +1,11 @@
+//! A directory that keeps what decisions need (X.501 18.8), and at a write changes what the write concerns, and no more.
+#![tactic(auto)]
+
+mod indexed_dir;
+mod inserting;
+mod points;
+mod putting;
+mod removing;
+mod replacing;
+
+pub use indexed_dir::IndexedDir;

@@ -1,0 +1,46 @@
+//! What is kept, where an entry is taken out.
+
+ghost use Rattle.std.specs.Prelude.{◌≡◌, ◌⊎◌, true, false, Some, None, IfOk, IfErr, OnOk, OnErr};
+ghost use Rattle.dir_tree.specs.Numbered.{entry_of, without};
+ghost use Rattle.dir_tree.specs.Points.{is_access_subentry};
+ghost use Rattle.dir_tree.specs.Refusals.{remove_refusal};
+ghost use Rattle.acdf_lists.specs.Holdings.{IsForgotten, IsHeld};
+ghost use Rattle.aci_index.specs.Steps.{OthersStay};
+
+use acdf_lists::{Holdings, empty_lists, forget};
+use dir_tree::{Entry, EntryNo, RemoveRefusal, Tree};
+use std::alloc::Global;
+
+// Keeps nothing of the entry of the number, which was taken out.
+fn drop_kept(alloc: Global, held: &mut Holdings, number: EntryNo, entry: &Entry)
+    ensures subentry { is_access_subentry entry.now ≡ true → IsForgotten number.0 held.old held.new }
+    ensures ordinary { is_access_subentry entry.now ≡ false → OthersStay number.0 held.old held.new }
+{
+    if entry.is_access_subentry() {
+        forget(alloc, held, number);
+    } else {
+        empty_lists(alloc, &mut held.lists, number);
+    }
+}
+
+/// Takes the entry of the number out of the tree, and of what is kept what concerns it. Takes no memory.
+pub(crate) fn remove_step(
+    alloc: Global,
+    tree: &mut Tree,
+    held: &mut Holdings,
+    number: EntryNo,
+) -> Result<Entry, RemoveRefusal>
+    requires held { IsHeld held.old tree.old }
+    ensures found { IfOk result (λ entry. entry_of number.0 tree.old ≡ Some entry) }
+    ensures ok { OnOk result (tree.new ≡ without number.0 tree.old) }
+    ensures exact { OnOk result (remove_refusal number.0 tree.old ≡ None) }
+    ensures cause { IfErr result (λ refusal. remove_refusal number.0 tree.old ≡ Some refusal) }
+    ensures kept { OnErr result (tree.new ≡ tree.old) }
+    ensures held { IsHeld held.new tree.new }
+{
+    tree.entries_form_a_tree();
+    let entry = tree.remove(number)?;
+    drop_kept(alloc, held, number, &entry);
+    tree.entries_form_a_tree();
+    Ok(entry)
+}
