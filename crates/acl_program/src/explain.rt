@@ -12,7 +12,7 @@ ghost use Rattle.acl_program.specs.Playing.{Ends, Performs};
 
 use crate::status::Status;
 use crate::troubles::{print_trouble, print_usage};
-use acdf_lists::PlainDir;
+use aci_index::IndexedDir;
 use command_files::load_data;
 use dir_tree::Tree;
 use explain_text::explain_text;
@@ -77,7 +77,7 @@ fn explain_tree<K: Sink>(alloc: Global, tree: Tree, question: &AskedDecision, ou
     ensures ends { Ends (Explained (text_explained (entries_of tree) (question_view question.now)))
         (written (K.put out.old) (K.faults out.old)) result (written (K.put out.new) (K.faults out.new)) }
 {
-    match PlainDir::new(alloc, tree) {
+    match IndexedDir::new(alloc, tree) {
         Ok(dir) => print_explained(alloc, &dir, question, out),
         Err(_) => Status::NoMemory,
     }
@@ -87,7 +87,7 @@ fn explain_tree<K: Sink>(alloc: Global, tree: Tree, question: &AskedDecision, ou
 #[tactic(auto, unfolding(crate::specs::Outcomes::text_of, crate::specs::Outcomes::status_of))]
 fn print_explained<K: Sink>(
     alloc: Global,
-    dir: &PlainDir,
+    dir: &IndexedDir,
     question: &AskedDecision,
     out: &mut K,
 ) -> Status

@@ -14,7 +14,8 @@ ghost use Rattle.acl_program.specs.Playing.{Performs, Plays, Shows, Ends, dumped
 use crate::printing::print_replay;
 use crate::status::Status;
 use crate::troubles::print_trouble;
-use acdf_lists::{Dir, PlainDir};
+use acdf_lists::Dir;
+use aci_index::IndexedDir;
 use command_files::{load_data, load_script};
 use dir_tree::Tree;
 use session_hub::{Ended, serve_loop, sessions_keep_a_directory_good};
@@ -86,7 +87,7 @@ fn play<K: Sink>(
         (written (K.put out.old) (K.faults out.old)) result
         (written (K.put out.new) (K.faults out.new)) }
 {
-    match PlainDir::new(alloc, tree) {
+    match IndexedDir::new(alloc, tree) {
         Ok(dir) => play_over(alloc, dir, link, turns, dump, out),
         Err(_) => Status::NoMemory,
     }
@@ -105,7 +106,7 @@ fn dumped(tree: &Tree, dump: bool) -> Option<&Tree>
 /// tree that is left.
 fn play_over<K: Sink>(
     alloc: Global,
-    dir: PlainDir,
+    dir: IndexedDir,
     link: ScriptLink,
     turns: u64,
     dump: bool,
@@ -134,7 +135,7 @@ fn play_over<K: Sink>(
 }
 
 /// Serves the link's events over the directory, at most so many.
-fn serve(alloc: Global, dir: &mut PlainDir, link: &mut ScriptLink, turns: u64) -> Ended
+fn serve(alloc: Global, dir: &mut IndexedDir, link: &mut ScriptLink, turns: u64) -> Ended
     requires fresh { link.old ≡ fresh_link link.old.plan.to_come [] [] [] }
     requires good { IsGoodTree (entries_of dir.old) }
     ensures plays { Plays (entries_of dir.old) (entries_of dir.new) link.old.plan.to_come turns result link.new.journal }

@@ -12,7 +12,7 @@ ghost use Rattle.acl_program.specs.Serving.{NotOpened, ServeAsked, ended_text, l
 
 use crate::status::Status;
 use crate::troubles::print_trouble;
-use acdf_lists::PlainDir;
+use aci_index::IndexedDir;
 use command_files::load_data;
 use dir_tree::Tree;
 use session_hub::{Ended, serve_loop};
@@ -67,7 +67,7 @@ fn listen<K: Sink, L: Link>(
         (beside shelf (written (K.put out.new) (K.faults out.new))
         (linked (L.journal link.new) (L.plan link.new) (L.faults link.new) (L.lost link.new))) }
 {
-    match PlainDir::new(alloc, tree) {
+    match IndexedDir::new(alloc, tree) {
         Ok(dir) => listen_on(alloc, dir, asked, out, link),
         Err(_) => Status::NoMemory,
     }
@@ -76,7 +76,7 @@ fn listen<K: Sink, L: Link>(
 /// Opens the link and serves the directory over it.
 fn listen_on<K: Sink, L: Link>(
     alloc: Global,
-    dir: PlainDir,
+    dir: IndexedDir,
     asked: &Serving<'_>,
     out: &mut K,
     link: &mut L,
@@ -98,7 +98,7 @@ fn listen_on<K: Sink, L: Link>(
 /// Prints that the link is open, and then serves the directory over it.
 fn serve_opened<K: Sink, L: Link>(
     alloc: Global,
-    dir: PlainDir,
+    dir: IndexedDir,
     asked: &Serving<'_>,
     out: &mut K,
     link: &mut L,
@@ -136,7 +136,7 @@ fn listening(alloc: Global, address: &str) -> Result<String, AllocError>
 /// Serves the directory over the open link, and prints why the loop ended, where a line says that.
 fn serve_events<K: Sink, L: Link>(
     alloc: Global,
-    dir: PlainDir,
+    dir: IndexedDir,
     turns: u64,
     out: &mut K,
     link: &mut L,

@@ -1,7 +1,8 @@
 //! Changes of a directory, asked for in texts and told in texts.
 
 use acdf_filters::Requester;
-use acdf_lists::{Dir, PlainDir};
+use acdf_lists::Dir;
+use aci_index::IndexedDir;
 use aci_item::Level;
 use data_file::load;
 use dir_tree::{Entry, Scope};
@@ -39,9 +40,9 @@ pub enum Change {
 }
 
 /// The directory of a data file.
-pub fn directory(alloc: Global, text: &str) -> Result<PlainDir, Fail> {
+pub fn directory(alloc: Global, text: &str) -> Result<IndexedDir, Fail> {
     let tree = load(alloc, text.as_bytes())?;
-    let dir = PlainDir::new(alloc, tree)?;
+    let dir = IndexedDir::new(alloc, tree)?;
     Ok(dir)
 }
 
@@ -101,7 +102,7 @@ fn told(alloc: Global, refusal: &Option<LdapResult>) -> Result<String, Fail> {
 /// Asks for an entry with these attributes to be added, and tells the result.
 pub fn ask_list(
     alloc: Global,
-    dir: &mut PlainDir,
+    dir: &mut IndexedDir,
     who: &str,
     name: &str,
     attributes: Vec<KindValues>,
@@ -118,7 +119,7 @@ pub fn ask_list(
 /// The same of attributes in texts.
 pub fn ask_add(
     alloc: Global,
-    dir: &mut PlainDir,
+    dir: &mut IndexedDir,
     who: &str,
     name: &str,
     attributes: &[(&str, &[&str])],
@@ -130,7 +131,7 @@ pub fn ask_add(
 /// Asks for an entry to be deleted, and tells the result.
 pub fn ask_delete(
     alloc: Global,
-    dir: &mut PlainDir,
+    dir: &mut IndexedDir,
     who: &str,
     name: &str,
 ) -> Result<String, Fail> {
@@ -143,7 +144,7 @@ pub fn ask_delete(
 /// Asks for an entry to be changed, and tells the result.
 pub fn ask_modify(
     alloc: Global,
-    dir: &mut PlainDir,
+    dir: &mut IndexedDir,
     who: &str,
     name: &str,
     changes: &[(u8, &str, &[&str])],
@@ -167,7 +168,7 @@ pub fn ask_modify(
 /// Asks for an entry to have another name, and tells the result.
 pub fn ask_rename(
     alloc: Global,
-    dir: &mut PlainDir,
+    dir: &mut IndexedDir,
     who: &str,
     name: &str,
     rdn: &str,
@@ -190,7 +191,7 @@ pub fn ask_rename(
 }
 
 /// Asks for a change, and tells the result.
-pub fn ask(alloc: Global, dir: &mut PlainDir, who: &str, change: Change) -> Result<String, Fail> {
+pub fn ask(alloc: Global, dir: &mut IndexedDir, who: &str, change: Change) -> Result<String, Fail> {
     match change {
         Change::Add(name, attributes) => ask_add(alloc, dir, who, name, attributes),
         Change::Delete(name) => ask_delete(alloc, dir, who, name),
@@ -202,7 +203,7 @@ pub fn ask(alloc: Global, dir: &mut PlainDir, who: &str, change: Change) -> Resu
 }
 
 /// The names of the entries in their order, each ended by a semicolon.
-pub fn names(alloc: Global, dir: &PlainDir) -> Result<String, Fail> {
+pub fn names(alloc: Global, dir: &IndexedDir) -> Result<String, Fail> {
     let mut out = String::new(alloc);
     let tree = dir.tree();
     if let Some(suffix) = tree.suffix() {
@@ -216,14 +217,19 @@ pub fn names(alloc: Global, dir: &PlainDir) -> Result<String, Fail> {
 }
 
 /// These are the names of the entries.
-pub fn check_names(rt: &impl Abort, alloc: Global, dir: &PlainDir, want: &str) -> Result<(), Fail> {
+pub fn check_names(
+    rt: &impl Abort,
+    alloc: Global,
+    dir: &IndexedDir,
+    want: &str,
+) -> Result<(), Fail> {
     let found = names(alloc, dir)?;
     assert_eq!(rt; found.as_str(), want);
     Ok(())
 }
 
 /// How many entries there are.
-pub fn count(dir: &PlainDir) -> usize {
+pub fn count(dir: &IndexedDir) -> usize {
     dir.tree().len()
 }
 
@@ -241,7 +247,7 @@ fn put_entry(alloc: Global, out: &mut String, entry: &Entry) -> Result<(), Fail>
 }
 
 /// The entry of the name.
-pub fn shown(alloc: Global, dir: &PlainDir, name: &str) -> Result<String, Fail> {
+pub fn shown(alloc: Global, dir: &IndexedDir, name: &str) -> Result<String, Fail> {
     let mut out = String::new(alloc);
     let tree = dir.tree();
     let name = parse(alloc, name.as_bytes())?;
@@ -255,7 +261,7 @@ pub fn shown(alloc: Global, dir: &PlainDir, name: &str) -> Result<String, Fail> 
 }
 
 /// How many octets the values of the type have together in the entry of the name.
-pub fn octets_in(alloc: Global, dir: &PlainDir, name: &str, kind: &str) -> Result<usize, Fail> {
+pub fn octets_in(alloc: Global, dir: &IndexedDir, name: &str, kind: &str) -> Result<usize, Fail> {
     let tree = dir.tree();
     let name = parse(alloc, name.as_bytes())?;
     let no = tree.find(&name).ok_or("no entry of the name")?;
@@ -271,7 +277,7 @@ pub fn octets_in(alloc: Global, dir: &PlainDir, name: &str, kind: &str) -> Resul
 pub fn check_entry(
     rt: &impl Abort,
     alloc: Global,
-    dir: &PlainDir,
+    dir: &IndexedDir,
     name: &str,
     want: &str,
 ) -> Result<(), Fail> {

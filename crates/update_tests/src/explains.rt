@@ -2,7 +2,7 @@
 
 use crate::changes::{Changes, ask_modify, directory};
 use crate::shop::{ANN, BEN, SHOP};
-use acdf_lists::PlainDir;
+use aci_index::IndexedDir;
 use explain_text::explain_text;
 use question_words::read_question;
 use std::alloc::Global;
@@ -22,7 +22,7 @@ type Question = (&'static str, &'static str, &'static str, &'static str);
 type Row = (&'static str, Changes, Question, &'static str);
 
 // The explanation of the decision on the question.
-fn explained(alloc: Global, dir: &PlainDir, question: &Question) -> Result<String, Fail> {
+fn explained(alloc: Global, dir: &IndexedDir, question: &Question) -> Result<String, Fail> {
     let (who, target, item, permission) = question;
     let asked = read_question(alloc, who, target, item, permission)?.ok_or("no question")?;
     let item = asked.item.item();
@@ -41,7 +41,7 @@ fn explained(alloc: Global, dir: &PlainDir, question: &Question) -> Result<Strin
 fn check_explained(
     rt: &impl Abort,
     alloc: Global,
-    dir: &PlainDir,
+    dir: &IndexedDir,
     question: &Question,
     want: &str,
 ) -> Result<(), Fail> {

@@ -5,7 +5,7 @@ use crate::changes::{
 };
 use crate::sets::{ANN, ANYONE, COUNT, SCHOOL};
 use crate::shop::{self, SHOP};
-use acdf_lists::PlainDir;
+use aci_index::IndexedDir;
 use std::alloc::Global;
 use std::test::Fail;
 
@@ -172,7 +172,7 @@ const ONE: &str = "cn=one,dc=crowd";
 const TWO: &str = "cn=two,dc=crowd";
 
 // A suffix with 255 access control subentries and two that are none.
-fn crowd_and_two(alloc: Global) -> Result<PlainDir, Fail> {
+fn crowd_and_two(alloc: Global) -> Result<IndexedDir, Fail> {
     let text = crowd(alloc, 255)?;
     let mut dir = directory(alloc, text.as_str())?;
     let _one = ask_add(alloc, &mut dir, ANYONE, ONE, &PLAIN)?;

@@ -1,0 +1,255 @@
+//! Writes of every kind, one after the other, to both directories.
+
+use crate::directories::{Attributes, entry, kept, kept_at, number, said, tree};
+use acdf_lists::{Dir, PlainDir};
+use aci_index::IndexedDir;
+use std::alloc::Global;
+use std::process::Abort;
+use std::test::Fail;
+
+/// What is written.
+#[derive(Clone, Copy)]
+enum Write {
+    /// An entry of this name comes in.
+    Insert(&'static str, Attributes),
+    /// The entry of the name goes.
+    Remove(&'static str),
+    /// An entry of the second name takes the place of that of the first.
+    Replace(&'static str, &'static str, Attributes),
+}
+
+fn insert<D: Dir>(
+    alloc: Global,
+    dir: &mut D,
+    name: &str,
+    attributes: Attributes,
+) -> Result<(), Fail> {
+    let entry = entry(alloc, name, attributes)?;
+    if entry.name().len() == 0 {
+        return Err(Fail::from("no name"));
+    }
+    let _number = dir.insert(alloc, entry)?;
+    Ok(())
+}
+
+// Writes to the directory.
+fn write<D: Dir>(alloc: Global, dir: &mut D, what: Write) -> Result<(), Fail> {
+    match what {
+        Write::Insert(name, attributes) => insert(alloc, dir, name, attributes),
+        Write::Remove(name) => {
+            let number = number(alloc, dir.tree(), name)?;
+            let _entry = dir.remove(alloc, number)?;
+            Ok(())
+        }
+        Write::Replace(name, new, attributes) => {
+            let number = number(alloc, dir.tree(), name)?;
+            let _entry = dir.replace(alloc, number, entry(alloc, new, attributes)?)?;
+            Ok(())
+        }
+    }
+}
+
+// Both directories keep the same, and what the entries say.
+fn check_alike(
+    rt: &impl Abort,
+    alloc: Global,
+    plain: &PlainDir,
+    indexed: &IndexedDir,
+    after: &str,
+) -> Result<(), Fail> {
+    let want = said(alloc, plain.tree())?;
+    let found = kept(alloc, plain)?;
+    assert_eq!(rt; found.as_str(), want.as_str(), "plain, {after}");
+    let found = kept(alloc, indexed)?;
+    assert_eq!(rt; found.as_str(), want.as_str(), "indexed, {after}");
+    Ok(())
+}
+
+// A subentry that takes in all below its point.
+const ALL: Attributes = &[
+    ("objectClass", "subentry"),
+    ("objectClass", "accessControlSubentry"),
+    ("subtreeSpecification", "{ }"),
+];
+
+// One that takes in what has the class.
+const WITH_UID: Attributes = &[
+    ("objectClass", "subentry"),
+    ("objectClass", "accessControlSubentry"),
+    (
+        "subtreeSpecification",
+        "{ specificationFilter item:uidObject }",
+    ),
+];
+
+// One that takes in what is below its point, without the point.
+const BELOW: Attributes = &[
+    ("objectClass", "subentry"),
+    ("objectClass", "accessControlSubentry"),
+    ("subtreeSpecification", "{ minimum 1 }"),
+];
+
+// One that is not for access control.
+const OTHER: Attributes = &[("objectClass", "subentry"), ("subtreeSpecification", "{ }")];
+
+const AUTONOMOUS: Attributes = &[
+    ("objectClass", "organizationalUnit"),
+    ("administrativeRole", "autonomousArea"),
+];
+
+const SPECIFIC: Attributes = &[
+    ("objectClass", "organizationalUnit"),
+    ("administrativeRole", "accessControlSpecificArea"),
+];
+
+const INNER: Attributes = &[
+    ("objectClass", "organizationalUnit"),
+    ("administrativeRole", "accessControlInnerArea"),
+];
+
+const UNIT: Attributes = &[("objectClass", "organizationalUnit")];
+
+const DEVICE: Attributes = &[("objectClass", "device")];
+
+const DEVICE_WITH_UID: Attributes = &[("objectClass", "device"), ("objectClass", "uidObject")];
+
+static ENTRIES: [(&str, Attributes); 7] = [
+    ("ou=u", AUTONOMOUS),
+    ("cn=top,ou=u", ALL),
+    ("cn=uid,ou=u", WITH_UID),
+    ("ou=a,ou=u", UNIT),
+    ("ou=b,ou=a,ou=u", UNIT),
+    ("cn=d,ou=b,ou=a,ou=u", DEVICE),
+    ("cn=e,ou=u", DEVICE),
+];
+
+const A: &str = "ou=a,ou=u";
+
+const B: &str = "ou=b,ou=a,ou=u";
+
+const D: &str = "cn=d,ou=b,ou=a,ou=u";
+
+const DEEP: &str = "cn=deep,ou=b,ou=a,ou=u";
+
+const LOW: &str = "cn=low,ou=b,ou=a,ou=u";
+
+const MORE: &str = "cn=more,ou=a,ou=u";
+
+// What is written, a name, and the subentries in force for its entry then.
+static WRITES: [(Write, &str, &str); 26] = [
+    // entries
+    (
+        Write::Insert("cn=f,ou=a,ou=u", DEVICE),
+        "cn=f,ou=a,ou=u",
+        "cn=top,ou=u ",
+    ),
+    (
+        Write::Replace(D, D, DEVICE_WITH_UID),
+        D,
+        "cn=top,ou=u cn=uid,ou=u ",
+    ),
+    (Write::Replace(D, D, DEVICE), D, "cn=top,ou=u "),
+    (
+        Write::Replace("cn=e,ou=u", "cn=g,ou=u", DEVICE_WITH_UID),
+        "cn=g,ou=u",
+        "cn=top,ou=u cn=uid,ou=u ",
+    ),
+    (Write::Remove("cn=f,ou=a,ou=u"), D, "cn=top,ou=u "),
+    // points
+    (Write::Insert("ou=h,ou=u", SPECIFIC), "ou=h,ou=u", ""),
+    (
+        Write::Replace("ou=h,ou=u", "ou=i,ou=u", INNER),
+        "ou=i,ou=u",
+        "cn=top,ou=u ",
+    ),
+    (
+        Write::Replace("ou=i,ou=u", "ou=j,ou=u", SPECIFIC),
+        "ou=j,ou=u",
+        "",
+    ),
+    (
+        Write::Remove("ou=j,ou=u"),
+        "cn=g,ou=u",
+        "cn=top,ou=u cn=uid,ou=u ",
+    ),
+    // a subentry below what is no point yet, and then is one
+    (Write::Insert(MORE, ALL), D, "cn=top,ou=u "),
+    (
+        Write::Replace(A, A, INNER),
+        D,
+        "cn=more,ou=a,ou=u cn=top,ou=u ",
+    ),
+    (Write::Replace(A, A, SPECIFIC), D, "cn=more,ou=a,ou=u "),
+    (Write::Replace(B, B, INNER), D, "cn=more,ou=a,ou=u "),
+    // subentries
+    (
+        Write::Insert(DEEP, ALL),
+        D,
+        "cn=deep,ou=b,ou=a,ou=u cn=more,ou=a,ou=u ",
+    ),
+    (Write::Replace(DEEP, DEEP, BELOW), B, "cn=more,ou=a,ou=u "),
+    (
+        Write::Replace(DEEP, LOW, BELOW),
+        D,
+        "cn=low,ou=b,ou=a,ou=u cn=more,ou=a,ou=u ",
+    ),
+    (Write::Replace(LOW, LOW, DEVICE), LOW, "cn=more,ou=a,ou=u "),
+    (Write::Replace(LOW, LOW, ALL), LOW, ""),
+    (
+        Write::Replace(D, D, DEVICE_WITH_UID),
+        D,
+        "cn=low,ou=b,ou=a,ou=u cn=more,ou=a,ou=u ",
+    ),
+    (Write::Remove(LOW), D, "cn=more,ou=a,ou=u "),
+    // the suffix loses its role, and has it again
+    (Write::Replace("ou=u", "ou=u", UNIT), "cn=g,ou=u", ""),
+    (
+        Write::Replace("ou=u", "OU=U", AUTONOMOUS),
+        "cn=g,ou=u",
+        "cn=top,ou=u cn=uid,ou=u ",
+    ),
+    // a subentry that is not for access control any more, and one below it that goes
+    (
+        Write::Replace("cn=top,ou=u", "cn=top,ou=u", OTHER),
+        "cn=g,ou=u",
+        "cn=uid,ou=u ",
+    ),
+    (Write::Remove(MORE), D, ""),
+    (Write::Replace(A, A, UNIT), D, "cn=uid,ou=u "),
+    (Write::Replace(D, D, DEVICE), D, ""),
+];
+
+#[test]
+fn after_each_write_both_directories_keep_what_the_entries_say(
+    rt: HostRuntime,
+) -> Result<(), Fail> {
+    let alloc = rt.alloc();
+    let mut plain = PlainDir::new(alloc, tree(alloc, &ENTRIES)?)?;
+    let mut indexed = IndexedDir::new(alloc, tree(alloc, &ENTRIES)?)?;
+    for (what, name, want) in &WRITES {
+        write(alloc, &mut plain, *what)?;
+        write(alloc, &mut indexed, *what)?;
+        check_alike(&rt, alloc, &plain, &indexed, name)?;
+        let found = kept_at(alloc, &indexed, number(alloc, indexed.tree(), name)?)?;
+        assert_eq!(rt; found.as_str(), *want, "in force for {name}");
+    }
+    Ok(())
+}
+
+#[test]
+fn the_access_control_subentries_are_listed_in_the_order_of_names(
+    rt: HostRuntime,
+) -> Result<(), Fail> {
+    let alloc = rt.alloc();
+    let mut dir = IndexedDir::new(alloc, tree(alloc, &ENTRIES)?)?;
+    write(alloc, &mut dir, Write::Insert("cn=first,ou=u", ALL))?;
+    write(alloc, &mut dir, Write::Insert("cn=other,ou=u", OTHER))?;
+    let mut found = String::new(alloc);
+    for number in dir.subentries() {
+        let entry = dir.tree().at(*number).ok_or("no entry of the number")?;
+        dn_names::print(alloc, entry.name(), &mut found)?;
+        found.push(' ')?;
+    }
+    assert_eq!(rt; found.as_str(), "cn=first,ou=u cn=top,ou=u cn=uid,ou=u ");
+    Ok(())
+}
