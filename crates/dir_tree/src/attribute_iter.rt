@@ -3,12 +3,12 @@
 ghost use Rattle.std.specs.Prelude.{◌≡◌};
 ghost use Rattle.dir_tree.specs.Rows.{attributes_of};
 
-use crate::values::Values;
 use dn_names::Value;
 use indexmap::IndexMap;
 use indexmap::map::Iter;
 use schema_core::AttrId;
 use std::marker::Model;
+use value_lists::Values;
 
 /// The attributes of an entry, each as its type and its values, the earlier ones first. Contracts see the attributes
 /// that are left.

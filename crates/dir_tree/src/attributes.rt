@@ -1,15 +1,15 @@
 //! The attributes of an entry, kept by their types.
 
 ghost use Rattle.std.specs.Prelude.{◌≡◌, ◌++◌, [], ◌∷◌, true, false, nat_lt, filter, map, length, IfOk, OnOk, OnErr};
-ghost use Rattle.dir_tree.specs.Entries.{has_kind};
+ghost use Rattle.dir_tree.specs.Entries.{values_of, has_key, has_kind};
 ghost use Rattle.dir_tree.specs.Changes.{put_value, set_in, cut_attribute, is_filled, other_attributes};
 ghost use Rattle.dir_tree.specs.Rows.{attributes_of};
 
-use crate::values::{Values, copy_values, drop_key};
 use dn_names::Value;
 use indexmap::IndexMap;
 use schema_core::AttrId;
 use std::alloc::{AllocError, Global};
+use value_lists::Values;
 
 /// Puts the value last of its type, and a new type last.
 pub(crate) fn put_value(
@@ -82,6 +82,16 @@ pub(crate) fn has_kind(attributes: &IndexMap<AttrId, Values>, kind: AttrId) -> b
     attributes.contains_key(&kind)
 }
 
+/// Whether a value of the type has the key.
+pub(crate) fn has_value(attributes: &IndexMap<AttrId, Values>, kind: AttrId, key: &[u8]) -> bool
+    ensures exact { result ≡ has_key key.now (values_of kind.0 (attributes_of attributes.now.entries)) }
+{
+    match attributes.get(&kind) {
+        Some(values) => values.has_key(key),
+        None => false,
+    }
+}
+
 /// Gives the attribute of the type these values; a new one comes last.
 pub(crate) fn set_values(
     attributes: &mut IndexMap<AttrId, Values>,
@@ -103,7 +113,7 @@ pub(crate) fn cut_values(attributes: &mut IndexMap<AttrId, Values>, kind: AttrId
 {
     let alloc = *attributes.allocator();
     if let Some(values) = attributes.get_mut(&kind) {
-        drop_key(values, alloc, key);
+        values.drop_key(alloc, key);
     }
 }
 
@@ -139,7 +149,7 @@ pub(crate) fn copy_attributes(
 {
     let mut copies = IndexMap::with_capacity(alloc, attributes.len())?;
     for (kind, values) in attributes.iter() {
-        put_attribute(&mut copies, *kind, copy_values(alloc, values.as_slice())?)?;
+        put_attribute(&mut copies, *kind, values.copy(alloc)?)?;
     }
     Ok(copies)
 }

@@ -10,15 +10,15 @@ ghost use Rattle.dir_tree.specs.Points.{is_point, is_subentry, is_access_subentr
 
 use crate::attribute_iter::Attributes;
 use crate::attributes::{
-    copy_attributes, cut_values, drop_empty, drop_kind, has_kind, put_value, set_values,
+    copy_attributes, cut_values, drop_empty, drop_kind, has_kind, has_value, put_value, set_values,
 };
 use crate::classes::is_any_kind_of;
-use crate::values::{Values, has_key};
 use dn_names::{Dn, Value};
 use indexmap::IndexMap;
 use schema_core::AttrId;
 use std::alloc::{AllocError, Global};
 use std::marker::Model;
+use value_lists::Values;
 
 /// No memory was left.
 pub type NoMemory = AllocError;
@@ -89,7 +89,7 @@ impl Entry {
     pub fn has_value(&self, kind: AttrId, key: &[u8]) -> bool
         ensures exact { result ≡ has_key key.now (values_of kind.0 self.now.attributes) }
     {
-        has_key(self.values(kind), key)
+        has_value(&self.attributes, kind, key)
     }
 
     /// The number of attributes.
@@ -116,7 +116,7 @@ impl Entry {
             added ≡ not (has_key value.key (values_of kind.0 self.old.attributes))) }
         ensures err { OnErr result (self.new ≡ self.old) }
     {
-        if has_key(self.values(kind), value.key()) {
+        if has_value(&self.attributes, kind, value.key()) {
             return Ok(false);
         }
         put_value(&mut self.attributes, kind, value)?;
@@ -131,7 +131,9 @@ impl Entry {
         ensures ok { OnOk result (self.new ≡ with_values kind.0 values.items self.old) }
         ensures err { OnErr result (self.new ≡ self.old) }
     {
-        set_values(&mut self.attributes, kind, Values::from_vec(values))?;
+        let alloc = *self.attributes.allocator();
+        let values = Values::from_vec(alloc, values)?;
+        set_values(&mut self.attributes, kind, values)?;
         Ok(())
     }
 
@@ -141,7 +143,7 @@ impl Entry {
         ensures exact { self.new ≡ without_value kind.0 key.now self.old }
         ensures found { result ≡ has_key key.now (values_of kind.0 self.old.attributes) }
     {
-        let found = has_key(self.values(kind), key);
+        let found = has_value(&self.attributes, kind, key);
         cut_values(&mut self.attributes, kind, key);
         drop_empty(&mut self.attributes);
         found

@@ -20,7 +20,6 @@ mod subentries;
 mod tree;
 mod tree_laws;
 mod vacancy;
-mod values;
 mod walk;
 
 pub use attribute_iter::Attributes;

@@ -20,5 +20,5 @@ loop-kind-preserved c =
     ∙ c.loop-kind.invariant in
     ap (λ done. done ++ attributes_of c.next.new.self) c.in_ok-put_attribute.ensures.ok
     ∙ append-copy (attributes_of c.args.attributes.now.entries) (attributes_of c.loop-kind.copies.entries)
-    (attributes_of c.next.new.self) c.in-Some.kind.now.0 c.in-Some.values.now c.in_ok-copy_values.field-0 so_far
-    (c.in_ok-copy_values.ensures.ok ∙ c.as_slice.ensures.exact)
+    (attributes_of c.next.new.self) c.in-Some.kind.now.0 c.in-Some.values.now c.in_ok-copy.field-0 so_far
+    c.in_ok-copy.ensures.ok

@@ -7,8 +7,8 @@ use Rattle.dir_tree.proofs.attributes.cut_values.Goals as goal
 pub returns-in-Some : goal.returns-in-Some
 returns-in-Some c = record {
   exact =
-      ap attributes_of (c.get_mut.follows.holds c.drop_key.new.values).0
-      ∙ cut-set_value c.args.kind c.args.key.now c.in-Some.values.now c.drop_key.new.values
+      ap attributes_of (c.get_mut.follows.holds c.drop_key.new.self).0
+      ∙ cut-set_value c.args.kind c.args.key.now c.in-Some.values.now c.drop_key.new.self
       c.args.attributes.now.entries c.get_mut.ensures.unique c.in-Some.ensures.value c.drop_key.ensures.exact;
 }
 

@@ -4,5 +4,5 @@ use Rattle.dir_tree.proofs.entry.Entry.set_values.Goals as goal
 
 pub invariant_of-self-2 : goal.invariant_of-self-2
 invariant_of-self-2 c =
-    rw (c.in_ok-set_values.ensures.ok, c.from_vec.ensures.exact)
+    rw (c.in_ok-set_values.ensures.ok, c.in_ok-values.ensures.ok)
     (good-set_in _ _ _ c.requires.filled c.requires.distinct c.self.invariant)

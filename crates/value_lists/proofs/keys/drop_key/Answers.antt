@@ -2,7 +2,7 @@
 use Rattle.std.proofs.Common.{not, rules}
 use Rattle.std.specs.Str.{bytes_eq}
 use Rattle.std.proofs.lemmas.Fn.{filter_same}
-use Rattle.dir_tree.proofs.values.drop_key.Goals as goal
+use Rattle.value_lists.proofs.keys.drop_key.Goals as goal
 
 pub returns : goal.returns
 returns c = record {

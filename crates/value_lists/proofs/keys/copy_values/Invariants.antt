@@ -1,6 +1,6 @@
 -- The values so far are copied.
 use Rattle.std.proofs.Common.{◌≡◌, take}
-use Rattle.dir_tree.proofs.values.copy_values.Given as goal
+use Rattle.value_lists.proofs.keys.copy_values.Given as goal
 
 abbrev pub invariant-loop-value : goal.invariant-loop-value
 invariant-loop-value l = l.copies.items ≡ take l.value-index l.values
