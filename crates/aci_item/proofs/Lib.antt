@@ -18,5 +18,6 @@ pub mod OnlyLemmas
 pub mod PartOnly
 pub mod SubtreeOnly
 pub mod ItemOnly
+pub mod ItemNested
 pub mod RoundTrip
 mod Examples
