@@ -18,5 +18,7 @@ pub mod OnlyLemmas
 pub mod PartOnly
 pub mod SubtreeOnly
 pub mod ItemOnly
+pub mod NestedLemmas
+pub mod ItemNested
 pub mod RoundTrip
 mod Examples

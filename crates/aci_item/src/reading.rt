@@ -1,6 +1,6 @@
 //! Items from their texts.
 
-ghost use Rattle.std.specs.Prelude.{◌≡◌, ◌≤◌, None, Err, codes, map, option_map, IfOk, string_bytes};
+ghost use Rattle.std.specs.Prelude.{◌≡◌, ◌≤◌, None, Ok, Err, codes, map, option_map, IfOk, string_bytes};
 ghost use Rattle.plain_values.specs.Answers.{Answers};
 ghost use Rattle.gser_tree.specs.Shapes.{Shape, nest};
 ghost use Rattle.gser_tree.specs.TextOf.{IsTextOf};
@@ -9,6 +9,7 @@ ghost use Rattle.gser_tree.specs.Reading.{Reads, optional};
 ghost use Rattle.gser_tree.specs.Writing.{text_of};
 ghost use Rattle.subtree_spec.specs.declared.error.BadText.TheVariants as fault;
 ghost use Rattle.subtree_spec.specs.SubtreeText.{there, judged, fault_of};
+ghost use Rattle.aci_item.specs.Items.{Item};
 ghost use Rattle.aci_item.specs.ItemPrinted.{print_item_permission, print_user_permission};
 ghost use Rattle.aci_item.specs.AciText.{sorted_set, classes, items, precedence, item_permission, user_permission, item_first, user_first, first, tag, aci_item, AciText, read_item};
 ghost use Rattle.aci_item.specs.Views.{classes_of, items_of, item_permission_of, user_permission_of, first_of, item_of_code};
@@ -300,6 +301,7 @@ fn item(alloc: Global, tree: &Tree, bad: &mut Bad) -> Result<AciItem, Stop>
 /// subtree of users with a refinement, a name that is none. `NoMemory` may come in place of any answer.
 pub fn read(alloc: Global, text: &[u8]) -> Result<AciItem, BadText>
     ensures ok { IfOk result (λ item. AciText (item_of_code item) text.now) }
+    ensures given { (item : Item) → AciText item text.now → Answers item_of_code fault_of result (Ok item) }
     ensures only { (shape : Shape) → IsTextOf shape text.now → nest shape ≤ 100
         → Answers item_of_code fault_of result (judged (aci_item shape None)) }
     ensures outside { ((shape : Shape) → IsTextOf shape text.now → ⊥)
