@@ -30,7 +30,7 @@ fn check_texts(
 }
 
 // A text, and the full spelling of its item, which is read as the same item.
-static SPELLINGS: [(&str, &str); 17] = [
+static SPELLINGS: [(&str, &str); 24] = [
     (
         "{ identificationTag \"t\", precedence 10, authenticationLevel basicLevels:{ level none }, itemOrUserFirst userFirst:{ userClasses { allUsers NULL }, userPermissions { } } }",
         "{ identificationTag \"t\", precedence 10, authenticationLevel basicLevels:{ level none }, itemOrUserFirst userFirst:{ userClasses { allUsers NULL }, userPermissions { } } }",
@@ -99,6 +99,34 @@ static SPELLINGS: [(&str, &str); 17] = [
         "{ identificationTag \"t\", precedence 10, authenticationLevel basicLevels:{ level none }, itemOrUserFirst userFirst:{ userClasses { subtree { { minimum 1 }, { }, { base \"ou=a\" }, { minimum 0 } } }, userPermissions { } } }",
         "{ identificationTag \"t\", precedence 10, authenticationLevel basicLevels:{ level none }, itemOrUserFirst userFirst:{ userClasses { subtree { { base \"ou=a\" }, { minimum 1 }, { } } }, userPermissions { } } }",
     ),
+    (
+        "{   identificationTag   \"t\"  ,   precedence   10  ,   authenticationLevel   basicLevels  :  {   level   none   }  ,   itemOrUserFirst   userFirst  :  {   userClasses   {   allUsers   NULL   }  ,   userPermissions   {   }   }   }   ",
+        "{ identificationTag \"t\", precedence 10, authenticationLevel basicLevels:{ level none }, itemOrUserFirst userFirst:{ userClasses { allUsers NULL }, userPermissions { } } }",
+    ),
+    (
+        "{ identificationTag \"t\", precedence 10, authenticationLevel basicLevels:{ level none }, itemOrUserFirst userFirst:{ userClasses { allUsers NULL }, userPermissions { { protectedItems { entry NULL }, grantsAndDenials { denyRead, grantRead } } } } }",
+        "{ identificationTag \"t\", precedence 10, authenticationLevel basicLevels:{ level none }, itemOrUserFirst userFirst:{ userClasses { allUsers NULL }, userPermissions { { protectedItems { entry NULL }, grantsAndDenials { grantRead, denyRead } } } } }",
+    ),
+    (
+        "{ identificationTag \"t\", precedence 10, authenticationLevel basicLevels:{ level none }, itemOrUserFirst userFirst:{ userClasses { allUsers NULL }, userPermissions { { protectedItems { entry NULL }, grantsAndDenials { denyRead, denyRead } } } } }",
+        "{ identificationTag \"t\", precedence 10, authenticationLevel basicLevels:{ level none }, itemOrUserFirst userFirst:{ userClasses { allUsers NULL }, userPermissions { { protectedItems { entry NULL }, grantsAndDenials { denyRead } } } } }",
+    ),
+    (
+        "{identificationTag \"t\",precedence 10,authenticationLevel simple,itemOrUserFirst itemFirst:{protectedItems {entry},itemPermissions {{precedence 0,userClasses {thisEntry},grantsAndDenials {denyAdd}}}}}",
+        "{ identificationTag \"t\", precedence 10, authenticationLevel basicLevels:{ level simple }, itemOrUserFirst itemFirst:{ protectedItems { entry NULL }, itemPermissions { { precedence 0, userClasses { thisEntry NULL }, grantsAndDenials { denyAdd } } } } }",
+    ),
+    (
+        "{ identificationTag \"t\", precedence 10, authenticationLevel basicLevels:{ level none }, itemOrUserFirst userFirst:{ userClasses { allUsers NULL }, userPermissions { { protectedItems { attributeType { 2.5.4.20, TelephoneNumber } }, grantsAndDenials { } } } } }",
+        "{ identificationTag \"t\", precedence 10, authenticationLevel basicLevels:{ level none }, itemOrUserFirst userFirst:{ userClasses { allUsers NULL }, userPermissions { { protectedItems { attributeType { telephoneNumber } }, grantsAndDenials { } } } } }",
+    ),
+    (
+        "{ identificationTag \"t\", precedence 10, authenticationLevel basicLevels:{ level none }, itemOrUserFirst userFirst:{ userClasses { subtree { { base \"ou=a\", specificExclusions { chopAfter:\"cn=y\", chopBefore:\"cn=x\" }, minimum 1, maximum 2147483647 } } }, userPermissions { } } }",
+        "{ identificationTag \"t\", precedence 10, authenticationLevel basicLevels:{ level none }, itemOrUserFirst userFirst:{ userClasses { subtree { { base \"ou=a\", specificExclusions { chopBefore:\"cn=x\", chopAfter:\"cn=y\" }, minimum 1, maximum 2147483647 } } }, userPermissions { } } }",
+    ),
+    (
+        "{ identificationTag \"Zoë\", precedence 10, authenticationLevel none, itemOrUserFirst userFirst:{ userClasses { allUsers NULL }, userPermissions { } } }",
+        "{ identificationTag \"Zoë\", precedence 10, authenticationLevel basicLevels:{ level none }, itemOrUserFirst userFirst:{ userClasses { allUsers NULL }, userPermissions { } } }",
+    ),
 ];
 
 #[test]
@@ -117,7 +145,7 @@ fn the_full_spelling_is_read_as_itself(rt: HostRuntime) -> Result<(), Fail> {
 }
 
 // A text that is refused, and why: the place is that of the first octet of the part that breaks its rule.
-static REFUSALS: [(&str, &str); 33] = [
+static REFUSALS: [(&str, &str); 53] = [
     (
         "{identificationTag \"t\",precedence 10,authenticationLevel none,itemOrUserFirst userFirst:{userClasses{allUsers},userPermissions{}}}",
         "Text",
@@ -173,7 +201,7 @@ static REFUSALS: [(&str, &str); 33] = [
         "Text",
     ),
     (
-        "{ identificationTag \"t\", precedence 10, authenticationLevel basicLevels:{ level none }, itemOrUserFirst userFirst:{ userClasses { allUsers NULL }, userPermissions { { protectedItems { rangeOfValues present:cn }, grantsAndDenials { } } } } }",
+        "{ identificationTag \"t\", precedence 10, authenticationLevel basicLevels:{ level none }, itemOrUserFirst userFirst:{ userClasses { allUsers NULL }, userPermissions { { protectedItems { rangeOfValues item:present:cn }, grantsAndDenials { } } } } }",
         "Text",
     ),
     (
@@ -243,6 +271,86 @@ static REFUSALS: [(&str, &str); 33] = [
     (
         "{ identificationTag \"t\", precedence 10, authenticationLevel basicLevels:{ level none }, itemOrUserFirst userFirst:{ userClasses { subtree { { base \"zz=a\", specificationFilter item:person } } }, userPermissions { } } }",
         "Part 147",
+    ),
+    (
+        "{ identificationTag \"t\", precedence 10, authenticationLevel basicLevels:{ level none }, itemOrUserFirst userFirst:{ userClasses { allUsers NULL }, userPermissions { { protectedItems { maxValueCount { { type cn, maxCount 1 } } }, grantsAndDenials { } } } } }",
+        "Text",
+    ),
+    (
+        "{ identificationTag \"t\", precedence 10, authenticationLevel basicLevels:{ level none }, itemOrUserFirst userFirst:{ userClasses { allUsers NULL }, userPermissions { { protectedItems { restrictedBy { { type cn, valuesIn sn } } }, grantsAndDenials { } } } } }",
+        "Text",
+    ),
+    (
+        "{ identificationTag \"t\", precedence 10, authenticationLevel basicLevels:{ level none }, itemOrUserFirst userFirst:{ userClasses { allUsers NULL }, userPermissions { { protectedItems { contexts { { contextType 2.5.31.0, contextValues { \"en\" } } } }, grantsAndDenials { } } } } }",
+        "Text",
+    ),
+    (
+        "{ identificationTag \"t\", precedence 10, authenticationLevel basicLevels:{ level none }, itemOrUserFirst userFirst:{ userClasses { allUsers NULL }, userPermissions { { protectedItems { classes item:person }, grantsAndDenials { } } } } }",
+        "Text",
+    ),
+    (
+        "{ identificationTag \"t\", precedence 10, authenticationLevel basicLevels:{ level none, localQualifier 1 }, itemOrUserFirst userFirst:{ userClasses { allUsers NULL }, userPermissions { } } }",
+        "Text",
+    ),
+    (
+        "{ identificationTag \"t\", precedence 10, authenticationLevel basicLevels:{ level none, signed FALSE }, itemOrUserFirst userFirst:{ userClasses { allUsers NULL }, userPermissions { } } }",
+        "Text",
+    ),
+    (
+        "{ identificationTag \"t\", precedence 10, authenticationLevel basicLevels:{ }, itemOrUserFirst userFirst:{ userClasses { allUsers NULL }, userPermissions { } } }",
+        "Text",
+    ),
+    (
+        "{ precedence 10, identificationTag \"t\", authenticationLevel none, itemOrUserFirst userFirst:{ userClasses { allUsers NULL }, userPermissions { } } }",
+        "Text",
+    ),
+    (
+        "{ identificationTag \"t\", precedence -1, authenticationLevel none, itemOrUserFirst userFirst:{ userClasses { allUsers NULL }, userPermissions { } } }",
+        "Text",
+    ),
+    (
+        "{ identificationTag \"t\", precedence 10, authenticationLevel basicLevels:{ level none }, itemOrUserFirst userFirst:{ userClasses { allUsers NULL }, userPermissions { } } } }",
+        "Text",
+    ),
+    (
+        "{ identificationTag \"t\", precedence 10, authenticationLevel basicLevels:{ level none }, itemOrUserFirst userFirst:{ userClasses { allUsers NULL, }, userPermissions { } } }",
+        "Text",
+    ),
+    (
+        "{ identificationTag \"t\", precedence 10, authenticationLevel basicLevels:{ level none }, itemOrUserFirst userFirst:{ userClasses { allUsers NULL }, userPermissions { { protectedItems { entry NULL }, grantsAndDenials { grantRead } } } }",
+        "Text",
+    ),
+    (
+        "{ identificationTag \"t\", precedence\t10, authenticationLevel basicLevels:{ level none }, itemOrUserFirst userFirst:{ userClasses { allUsers NULL }, userPermissions { } } }",
+        "Text",
+    ),
+    (
+        "{ identificationTag \"t\", precedence 10, authenticationLevel basicLevels:{ level none }, itemOrUserFirst userFirst:{ userClasses { allUsers NULL }, userPermissions { { protectedItems { allAttributeValues { sn, nosuch } }, grantsAndDenials { } } } } }",
+        "Part 209",
+    ),
+    (
+        "{ identificationTag \"t\", precedence 10, authenticationLevel basicLevels:{ level none }, itemOrUserFirst userFirst:{ userClasses { allUsers NULL }, userPermissions { { protectedItems { selfValue { 1.2.3 } }, grantsAndDenials { } } } } }",
+        "Part 196",
+    ),
+    (
+        "{ identificationTag \"t\", precedence 10, authenticationLevel basicLevels:{ level none }, itemOrUserFirst userFirst:{ userClasses { userGroup { { dn \"cn=g\" }, { dn \"zz=g\" } } }, userPermissions { } } }",
+        "Part 162",
+    ),
+    (
+        "{ identificationTag \"t\", precedence 10, authenticationLevel basicLevels:{ level none }, itemOrUserFirst userFirst:{ userClasses { subtree { { minimum 2147483648 } } }, userPermissions { } } }",
+        "Part 150",
+    ),
+    (
+        "{ identificationTag \"t\", precedence 10, authenticationLevel basicLevels:{ level none }, itemOrUserFirst userFirst:{ userClasses { subtree { { specificExclusions { chopBefore:\"zz=a\" } } } }, userPermissions { } } }",
+        "Part 174",
+    ),
+    (
+        "{ identificationTag \"t\", precedence 10, authenticationLevel basicLevels:{ level none }, itemOrUserFirst itemFirst:{ protectedItems { entry }, itemPermissions { { precedence 256, userClasses { allUsers }, grantsAndDenials { denyRead } } } } }",
+        "Part 173",
+    ),
+    (
+        "{ identificationTag \"t\", precedence 10, authenticationLevel basicLevels:{ level none }, itemOrUserFirst userFirst:{ userClasses { allUsers NULL }, userPermissions { { protectedItems { attributeType { nosuch }, attributeValue { { type c, value \"abc\" } } }, grantsAndDenials { } } } } }",
+        "Part 200",
     ),
 ];
 
