@@ -201,7 +201,7 @@ static REFUSALS: [(&str, &str); 53] = [
         "Text",
     ),
     (
-        "{ identificationTag \"t\", precedence 10, authenticationLevel basicLevels:{ level none }, itemOrUserFirst userFirst:{ userClasses { allUsers NULL }, userPermissions { { protectedItems { rangeOfValues present:cn }, grantsAndDenials { } } } } }",
+        "{ identificationTag \"t\", precedence 10, authenticationLevel basicLevels:{ level none }, itemOrUserFirst userFirst:{ userClasses { allUsers NULL }, userPermissions { { protectedItems { rangeOfValues item:present:cn }, grantsAndDenials { } } } } }",
         "Text",
     ),
     (
@@ -281,7 +281,7 @@ static REFUSALS: [(&str, &str); 53] = [
         "Text",
     ),
     (
-        "{ identificationTag \"t\", precedence 10, authenticationLevel basicLevels:{ level none }, itemOrUserFirst userFirst:{ userClasses { allUsers NULL }, userPermissions { { protectedItems { contexts { { contextType 1.2.3 } } }, grantsAndDenials { } } } } }",
+        "{ identificationTag \"t\", precedence 10, authenticationLevel basicLevels:{ level none }, itemOrUserFirst userFirst:{ userClasses { allUsers NULL }, userPermissions { { protectedItems { contexts { { contextType 2.5.31.0, contextValues { \"en\" } } } }, grantsAndDenials { } } } } }",
         "Text",
     ),
     (
