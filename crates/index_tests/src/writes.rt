@@ -33,7 +33,7 @@ fn insert<D: Dir>(
 }
 
 // Writes to the directory.
-fn write<D: Dir>(alloc: Global, dir: &mut D, what: Write) -> Result<(), Fail> {
+fn make_write<D: Dir>(alloc: Global, dir: &mut D, what: Write) -> Result<(), Fail> {
     match what {
         Write::Insert(name, attributes) => insert(alloc, dir, name, attributes),
         Write::Remove(name) => {
@@ -127,7 +127,7 @@ const A: &str = "ou=a,ou=u";
 
 const B: &str = "ou=b,ou=a,ou=u";
 
-const D: &str = "cn=d,ou=b,ou=a,ou=u";
+const LEAF: &str = "cn=d,ou=b,ou=a,ou=u";
 
 const DEEP: &str = "cn=deep,ou=b,ou=a,ou=u";
 
@@ -144,17 +144,17 @@ static WRITES: [(Write, &str, &str); 26] = [
         "cn=top,ou=u ",
     ),
     (
-        Write::Replace(D, D, DEVICE_WITH_UID),
-        D,
+        Write::Replace(LEAF, LEAF, DEVICE_WITH_UID),
+        LEAF,
         "cn=top,ou=u cn=uid,ou=u ",
     ),
-    (Write::Replace(D, D, DEVICE), D, "cn=top,ou=u "),
+    (Write::Replace(LEAF, LEAF, DEVICE), LEAF, "cn=top,ou=u "),
     (
         Write::Replace("cn=e,ou=u", "cn=g,ou=u", DEVICE_WITH_UID),
         "cn=g,ou=u",
         "cn=top,ou=u cn=uid,ou=u ",
     ),
-    (Write::Remove("cn=f,ou=a,ou=u"), D, "cn=top,ou=u "),
+    (Write::Remove("cn=f,ou=a,ou=u"), LEAF, "cn=top,ou=u "),
     // points
     (Write::Insert("ou=h,ou=u", SPECIFIC), "ou=h,ou=u", ""),
     (
@@ -173,34 +173,34 @@ static WRITES: [(Write, &str, &str); 26] = [
         "cn=top,ou=u cn=uid,ou=u ",
     ),
     // a subentry below what is no point yet, and then is one
-    (Write::Insert(MORE, ALL), D, "cn=top,ou=u "),
+    (Write::Insert(MORE, ALL), LEAF, "cn=top,ou=u "),
     (
         Write::Replace(A, A, INNER),
-        D,
+        LEAF,
         "cn=more,ou=a,ou=u cn=top,ou=u ",
     ),
-    (Write::Replace(A, A, SPECIFIC), D, "cn=more,ou=a,ou=u "),
-    (Write::Replace(B, B, INNER), D, "cn=more,ou=a,ou=u "),
+    (Write::Replace(A, A, SPECIFIC), LEAF, "cn=more,ou=a,ou=u "),
+    (Write::Replace(B, B, INNER), LEAF, "cn=more,ou=a,ou=u "),
     // subentries
     (
         Write::Insert(DEEP, ALL),
-        D,
+        LEAF,
         "cn=deep,ou=b,ou=a,ou=u cn=more,ou=a,ou=u ",
     ),
     (Write::Replace(DEEP, DEEP, BELOW), B, "cn=more,ou=a,ou=u "),
     (
         Write::Replace(DEEP, LOW, BELOW),
-        D,
+        LEAF,
         "cn=low,ou=b,ou=a,ou=u cn=more,ou=a,ou=u ",
     ),
     (Write::Replace(LOW, LOW, DEVICE), LOW, "cn=more,ou=a,ou=u "),
     (Write::Replace(LOW, LOW, ALL), LOW, ""),
     (
-        Write::Replace(D, D, DEVICE_WITH_UID),
-        D,
+        Write::Replace(LEAF, LEAF, DEVICE_WITH_UID),
+        LEAF,
         "cn=low,ou=b,ou=a,ou=u cn=more,ou=a,ou=u ",
     ),
-    (Write::Remove(LOW), D, "cn=more,ou=a,ou=u "),
+    (Write::Remove(LOW), LEAF, "cn=more,ou=a,ou=u "),
     // the suffix loses its role, and has it again
     (Write::Replace("ou=u", "ou=u", UNIT), "cn=g,ou=u", ""),
     (
@@ -214,9 +214,9 @@ static WRITES: [(Write, &str, &str); 26] = [
         "cn=g,ou=u",
         "cn=uid,ou=u ",
     ),
-    (Write::Remove(MORE), D, ""),
-    (Write::Replace(A, A, UNIT), D, "cn=uid,ou=u "),
-    (Write::Replace(D, D, DEVICE), D, ""),
+    (Write::Remove(MORE), LEAF, ""),
+    (Write::Replace(A, A, UNIT), LEAF, "cn=uid,ou=u "),
+    (Write::Replace(LEAF, LEAF, DEVICE), LEAF, ""),
 ];
 
 #[test]
@@ -227,8 +227,8 @@ fn after_each_write_both_directories_keep_what_the_entries_say(
     let mut plain = PlainDir::new(alloc, tree(alloc, &ENTRIES)?)?;
     let mut indexed = IndexedDir::new(alloc, tree(alloc, &ENTRIES)?)?;
     for (what, name, want) in &WRITES {
-        write(alloc, &mut plain, *what)?;
-        write(alloc, &mut indexed, *what)?;
+        make_write(alloc, &mut plain, *what)?;
+        make_write(alloc, &mut indexed, *what)?;
         check_alike(&rt, alloc, &plain, &indexed, name)?;
         let found = kept_at(alloc, &indexed, number(alloc, indexed.tree(), name)?)?;
         assert_eq!(rt; found.as_str(), *want, "in force for {name}");
@@ -242,8 +242,8 @@ fn the_access_control_subentries_are_listed_in_the_order_of_names(
 ) -> Result<(), Fail> {
     let alloc = rt.alloc();
     let mut dir = IndexedDir::new(alloc, tree(alloc, &ENTRIES)?)?;
-    write(alloc, &mut dir, Write::Insert("cn=first,ou=u", ALL))?;
-    write(alloc, &mut dir, Write::Insert("cn=other,ou=u", OTHER))?;
+    make_write(alloc, &mut dir, Write::Insert("cn=first,ou=u", ALL))?;
+    make_write(alloc, &mut dir, Write::Insert("cn=other,ou=u", OTHER))?;
     let mut found = String::new(alloc);
     for number in dir.subentries() {
         let entry = dir.tree().at(*number).ok_or("no entry of the number")?;
