@@ -11,4 +11,5 @@ pub mod Weighing
 pub mod Memberships
 -- for the inside of the crate alone
 pub mod LastFilters
+pub mod Named
 pub mod Standings

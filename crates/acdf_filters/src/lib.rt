@@ -6,6 +6,7 @@ mod asking;
 mod covering;
 mod laws;
 mod members;
+mod named;
 mod question;
 mod reading;
 mod standing;
@@ -18,6 +19,7 @@ pub use laws::{
     an_unseen_subtree_changes_no_decision, the_running_state_is_that_of_the_six_filters,
 };
 pub use members::memberships;
+pub use named::NamedRequester;
 pub use question::{Membership, Question};
 pub use reading::read_items;
 pub use standing::Standing;

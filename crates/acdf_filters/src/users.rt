@@ -39,15 +39,15 @@ fn has_name(group: &Entry, kind: AttrId, name: &Dn) -> bool
         .any(|value| is_key(name, value.key()))
 }
 
-// Whether the name is among the members of the group.
-fn has_member(group: &Entry, name: &Dn) -> bool
+/// Whether the name is among the members of the group.
+pub(crate) fn has_member(group: &Entry, name: &Dn) -> bool
     ensures exact { result ≡ has_member name.now group.now }
 {
     has_name(group, AttrId::MEMBER, name) || has_name(group, AttrId::UNIQUE_MEMBER, name)
 }
 
-// The entry of the name.
-fn entry_named<'a>(tree: &'a Tree, name: &Dn) -> Option<&'a Entry>
+/// The entry of the name.
+pub(crate) fn entry_named<'a>(tree: &'a Tree, name: &Dn) -> Option<&'a Entry>
     ensures exact { option_map (λ entry. entry.now) result ≡ named_in name.now (entries_of tree.now) }
 {
     tree.entries_form_a_tree();

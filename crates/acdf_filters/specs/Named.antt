@@ -1,0 +1,9 @@
+-- The key of a requester's name, where it was made.
+use Rattle.std.specs.Prelude.{◌≡◌, Option, Some, None}
+use Rattle.dn_names.specs.Names.{Keyed, RdnSequence}
+use Rattle.dn_names.specs.Printing.{name_key}
+
+-- what was made, if anything, is a value with the key of the name
+abbrev pub IsKeyOf : RdnSequence → Option Keyed → Type 0
+IsKeyOf name None = Unit {0}
+IsKeyOf name (Some value) = value.key ≡ name_key name
