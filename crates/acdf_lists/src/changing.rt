@@ -32,7 +32,11 @@ pub fn take_back(tree: &mut Tree, number: EntryNo)
 
 /// Puts the entry into the tree, and makes anew what is kept; where there is no memory for that, the entry is taken out
 /// again.
-pub fn insert_into(alloc: Global, tree: &mut Tree, entry: Entry) -> Result<Inserted, InsertRefusal>
+pub(crate) fn insert_into(
+    alloc: Global,
+    tree: &mut Tree,
+    entry: Entry,
+) -> Result<Inserted, InsertRefusal>
     requires named { entry.name ≢ [] }
     ensures ok { IfOk result (λ inserted. tree.new ≡ put_entry inserted.number.0 entry tree.old) }
     ensures held { IfOk result (λ inserted. IsHeld inserted.held tree.new) }

@@ -11,7 +11,7 @@ mod newcomers;
 mod plain_dir;
 mod replacing;
 
-pub use changing::{Inserted, empty_lists, forget, insert_into, take_back};
+pub use changing::{empty_lists, forget, take_back};
 pub use decision::decide_by;
 pub use dir::Dir;
 pub use groups::{memberships_in, put_groups_of};

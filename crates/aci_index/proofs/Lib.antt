@@ -3,3 +3,8 @@ pub mod HeldLemmas
 pub mod PointLemmas
 pub mod LeafLemmas
 pub mod OwnLemmas
+pub mod ReachLemmas
+pub mod AroundLemmas
+pub mod NumberLemmas
+pub mod AnewLemmas
+pub mod StandLemmas

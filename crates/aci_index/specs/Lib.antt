@@ -1,2 +1,3 @@
 -- for the inside of the crate alone
 pub mod Steps
+pub mod Reach

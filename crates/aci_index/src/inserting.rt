@@ -6,8 +6,9 @@ ghost use Rattle.dir_tree.specs.Points.{is_access_subentry};
 ghost use Rattle.dir_tree.specs.Refusals.{insert_refusal};
 ghost use Rattle.acdf_lists.specs.Holdings.{IsHeld};
 
-use crate::putting::keep_anew;
-use acdf_lists::{Holdings, insert_into, take_back};
+use crate::anew::{make_anew_with_room, put_anew};
+use crate::putting::{keep_anew, make_lists};
+use acdf_lists::{Holdings, take_back};
 use dir_tree::{Entry, EntryNo, InsertRefusal, Tree};
 use std::alloc::Global;
 
@@ -41,7 +42,40 @@ fn insert_ordinary(
     }
 }
 
-// Puts an access control subentry into the tree: all that is kept is made anew.
+// Puts an access control subentry into the tree: the lists of the entries at and below its superior are made anew, and all
+// others stay.
+fn insert_around(
+    alloc: Global,
+    tree: &mut Tree,
+    held: &mut Holdings,
+    entry: Entry,
+) -> Result<EntryNo, InsertRefusal>
+    requires named { entry.name ≢ [] }
+    requires held { IsHeld held.old tree.old }
+    ensures ok { IfOk result (λ number. tree.new ≡ put_entry number.0 entry tree.old) }
+    ensures free { IfOk result (λ number. entry_of number.0 tree.old ≡ None) }
+    ensures exact { OnOk result (insert_refusal entry.name (entries_of tree.old) ≡ None) }
+    ensures cause { IfErr result (λ refusal. (refusal ≡ InsertRefusal.NoMemory)
+        ⊎ (insert_refusal entry.name (entries_of tree.old) ≡ Some refusal)) }
+    ensures kept { OnErr result (tree.new ≡ tree.old) }
+    ensures held { IsHeld held.new tree.new }
+{
+    tree.entries_form_a_tree();
+    let number = tree.insert(entry)?;
+    tree.entries_form_a_tree();
+    match make_anew_with_room(alloc, tree, held, number) {
+        Ok(anew) => {
+            put_anew(held, anew);
+            Ok(number)
+        }
+        Err(_) => {
+            take_back(tree, number);
+            Err(InsertRefusal::NoMemory)
+        }
+    }
+}
+
+// Puts an access control subentry into the tree, and the groups that its items name among those known.
 fn insert_subentry(
     alloc: Global,
     tree: &mut Tree,
@@ -58,9 +92,10 @@ fn insert_subentry(
     ensures kept { OnErr result (tree.new ≡ tree.old) }
     ensures held { IsHeld held.new tree.new }
 {
-    let inserted = insert_into(alloc, tree, entry)?;
-    *held = inserted.held;
-    Ok(inserted.number)
+    match make_lists(alloc, tree, held, &entry) {
+        Ok(_) => insert_around(alloc, tree, held, entry),
+        Err(_) => Err(InsertRefusal::NoMemory),
+    }
 }
 
 /// Puts the entry into the tree, and changes of what is kept what concerns it. Where there is no memory for that, the entry

@@ -1,6 +1,7 @@
 //! A directory that keeps what decisions need (X.501 18.8), and at a write changes what the write concerns, and no more.
 #![tactic(auto)]
 
+mod anew;
 mod indexed_dir;
 mod inserting;
 mod points;

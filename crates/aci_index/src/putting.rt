@@ -38,8 +38,23 @@ pub(crate) fn put_own(held: &mut Holdings, number: EntryNo, lists: Kept)
     put_lists(&mut held.lists, number, lists);
 }
 
-/// Makes the lists of an entry that has the number, or is to have it: all memory that they need is then taken. The groups
-/// that its items name are then among those known.
+/// Makes the lists of an entry, which need not be in the tree. The groups that its items name are then among those known.
+pub(crate) fn make_lists(
+    alloc: Global,
+    tree: &Tree,
+    held: &mut Holdings,
+    entry: &Entry,
+) -> Result<Kept, NoMemory>
+    requires subtrees { AreSubtrees held.old.subtrees.items tree.now }
+    ensures ok { IfOk result (λ lists. AreOf tree.now entry.now (lists_of lists)) }
+    ensures stay { AllStay held.old held.new }
+{
+    let lists = lists_for(alloc, tree, &held.subtrees, entry)?;
+    put_groups_of(alloc, &lists, &mut held.groups)?;
+    Ok(lists)
+}
+
+/// Makes the lists of an entry that has the number, or is to have it, and room for them: no more memory is needed then.
 pub(crate) fn make_ready(
     alloc: Global,
     tree: &Tree,
@@ -52,8 +67,7 @@ pub(crate) fn make_ready(
     ensures room { OnOk result (number.0 < length held.new.lists.items) }
     ensures stay { AllStay held.old held.new }
 {
-    let lists = lists_for(alloc, tree, &held.subtrees, entry)?;
-    put_groups_of(alloc, &lists, &mut held.groups)?;
+    let lists = make_lists(alloc, tree, held, entry)?;
     make_room(alloc, &mut held.lists, number.0 as usize + 1)?;
     Ok(lists)
 }

@@ -1,0 +1,20 @@
+-- What comes, goes or changes immediately below a name stands aside from all entries that are not at or below that name.
+use Rattle.std.proofs.Common.{◌≡◌, ◌≢◌, ◌+◌, ◌==◌, true, false, [], length, sym, ◌∙◌, Some, None}
+use Rattle.std.proofs.lemmas.Bool.{and_parts}
+use Rattle.dn_names.specs.NameOrder.{is_prefix_of}
+use Rattle.dir_tree.specs.Entries.{EntryInformation}
+use Rattle.scope_laws.specs.Aside.{IsAside}
+use Rattle.scope_laws.proofs.Theorems.{aside-under}
+use Rattle.aci_index.proofs.ReachLemmas.{IsApart, child_under}
+
+-- one that is put in
+pub apart-put : (one entry : EntryInformation) → one.name ≢ [] → IsApart one entry → IsAside entry None (Some one)
+apart-put one entry filled h =
+    aside-under entry h.top None (Some one) h.outside tt (child_under h.top one filled h.superior)
+
+-- no entry is apart from itself
+pub apart-itself : (one : EntryInformation) → one.name ≢ [] → IsApart one one → ⊥
+apart-itself one filled h =
+    let parts = and_parts (is_prefix_of h.top one.name) (length one.name == length h.top + 1) (child_under h.top one filled h.superior) in
+    let clash : true ≡ false = sym parts.0 ∙ h.outside in
+    absurd cc

@@ -1,0 +1,31 @@
+-- Numbers below a bound: of the entries that are reached, and of those after a change.
+use Rattle.std.proofs.Common.{◌≡◌, inl, inr, ℕ, ◌<◌, List, [], ◌∷◌, filter, subst, ap, sym, refl, Option, Some, None, ◌≤◌, arith}
+use Rattle.std.specs.List.{AllByRecursion}
+use Rattle.std.proofs.lemmas.Bool.{cases_Bool}
+use Rattle.dir_tree.specs.Entries.{EntryInformation}
+use Rattle.dir_tree.specs.Numbered.{Numbered, ids_of, entry_of}
+use Rattle.dir_tree.specs.Scopes.{is_within, in_scope, scoped}
+use Rattle.dir_tree.specs.declared.scope.Scope.TheVariants.{Sub}
+
+-- the numbers of all rows are below the bound
+abbrev pub AreBelow : ℕ → List Numbered → Type 0
+AreBelow bound rows = AllByRecursion (λ row. row.id < bound) rows
+
+pub below-more : (bound more : ℕ) (rows : List Numbered) → bound ≤ more → AreBelow bound rows → AreBelow more rows
+below-more bound more [] e h = tt
+below-more bound more (x ∷ rows) e h = (let less = h.0 in omega arith, below-more bound more rows e h.1)
+
+below_kept : (bound : ℕ) (base : EntryInformation) (rows : List Numbered) → AreBelow bound rows → AllByRecursion (λ id. id < bound) (ids_of (filter (λ row. is_within base.name row.entry) rows))
+below_kept bound base [] h = tt
+below_kept bound base (x ∷ rows) h = elim (cases_Bool (is_within base.name x.entry)) [
+  | inl e ↦ rw e (h.0, below_kept bound base rows h.1)
+  | inr e ↦ rw e (below_kept bound base rows h.1)
+]
+
+-- so are those that a scope takes in
+pub below-scoped : (bound top : ℕ) (rows : List Numbered) → AreBelow bound rows → AllByRecursion (λ id. id < bound) (scoped Sub top rows)
+below-scoped bound top rows h = by (entry_of top rows) refl
+  where
+    by : (o : Option EntryInformation) → entry_of top rows ≡ o → AllByRecursion (λ id. id < bound) (scoped Sub top rows)
+    by None e = subst (λ (ids : List ℕ). AllByRecursion (λ id. id < bound) ids) (sym (ap (λ o. in_scope Sub top o rows) e)) tt
+    by (Some base) e = subst (λ (ids : List ℕ). AllByRecursion (λ id. id < bound) ids) (sym (ap (λ o. in_scope Sub top o rows) e)) (below_kept bound base rows h)

@@ -1,0 +1,49 @@
+-- What was made is that of the tree, all else stands aside, and what was put in can be taken out again.
+use Rattle.std.proofs.Common.{◌≡◌, List, None, Some, ap, sym, subst, ◌∙◌}
+use Rattle.dir_tree.specs.Numbered.{Numbered, IsNumberedTree, put_entry, without}
+use Rattle.dir_tree.specs.Refusals.{remove_refusal}
+use Rattle.dir_tree.proofs.TreeTheorems.{without-put_row}
+use Rattle.scope_laws.proofs.Theorems.{change-put}
+use Rattle.acdf_lists.specs.Holdings.{IsHeld}
+use Rattle.acdf_lists.proofs.Theorems.{new_removable}
+use Rattle.aci_index.specs.Reach.{IsAnew}
+use Rattle.aci_index.proofs.HeldLemmas.{held-same}
+use Rattle.aci_index.proofs.AnewLemmas.{held-anew}
+use Rattle.aci_index.proofs.StandLemmas.{stand-put}
+use Rattle.aci_index.proofs.inserting.insert_around.Goals as goal
+
+pub take_back-requires : goal.take_back-requires
+take_back-requires c =
+    let number = c.in_ok-number.number.0 in
+    let done = c.in_ok-number.ensures in
+    ap (remove_refusal number) done.ok
+    ∙ new_removable number c.args.entry c.args.tree.now c.entries_form_a_tree.ensures.exact done.free done.exact
+
+pub returns-in-Ok-clause-held : goal.returns-in-Ok-clause-held
+returns-in-Ok-clause-held c =
+    let number = c.in_ok-number.number.0 in
+    let rows = c.args.tree.now in
+    let entry = c.args.entry in
+    let done = c.in_ok-number.ensures in
+    let anew = c.in-Ok.anew in
+    let also = subst IsNumberedTree done.ok c.entries_form_a_tree-2.ensures.exact in
+    let before = held-same rows c.args.held.now c.make_anew_with_room.new.held c.requires.held c.in-Ok.ensures.stay in
+    subst (λ (new : List Numbered). IsHeld c.put_anew.new.held new) (sym done.ok)
+    (held-anew number rows (put_entry number entry rows) None (Some entry) c.make_anew_with_room.new.held c.put_anew.new.held anew
+    c.entries_form_a_tree.ensures.exact also (change-put number entry rows done.free) (stand-put number entry rows also done.free c.requires.named)
+    before (subst (IsAnew number anew) done.ok c.in-Ok.ensures.ok) c.in-Ok.ensures.room c.put_anew.ensures.exact)
+
+pub returns-in-Err-clause-kept : goal.returns-in-Err-clause-kept
+returns-in-Err-clause-kept c =
+    let number = c.in_ok-number.number.0 in
+    let done = c.in_ok-number.ensures in
+    c.take_back.ensures ∙ ap (without number) done.ok ∙ without-put_row number c.args.entry c.args.tree.now done.free
+
+pub returns-in-Err-clause-held : goal.returns-in-Err-clause-held
+returns-in-Err-clause-held c =
+    let number = c.in_ok-number.number.0 in
+    let rows = c.args.tree.now in
+    let done = c.in_ok-number.ensures in
+    let back : c.take_back.new.tree ≡ rows = c.take_back.ensures ∙ ap (without number) done.ok ∙ without-put_row number c.args.entry rows done.free in
+    subst (λ (left : List Numbered). IsHeld c.make_anew_with_room.new.held left) (sym back)
+    (held-same rows c.args.held.now c.make_anew_with_room.new.held c.requires.held c.in-Err.ensures.stay)

@@ -1,0 +1,117 @@
+//! The lists of the entries that a new access control subentry reaches, made of the tree and put.
+
+ghost use Rattle.std.specs.Prelude.{◌≡◌, IfOk, length, fold};
+ghost use Rattle.std.specs.List.{AllByRecursion};
+ghost use Rattle.dir_tree.specs.Scopes.{scoped};
+ghost use Rattle.dir_tree.specs.declared.scope.Scope.TheVariants.{Sub};
+ghost use Rattle.admin_scope.specs.Finding.{AreSubtrees};
+ghost use Rattle.aci_index.specs.Steps.{AllStay};
+ghost use Rattle.aci_index.specs.Reach.{HaveRoom, IsAnew, IsPut, IsRemade, numbers_of, put_one, top_of};
+
+use crate::putting::make_room;
+use acdf_lists::{Holdings, Kept, make_at};
+use admin_scope::{AccessSubentry, access_subtrees};
+use dir_tree::{EntryNo, NoMemory, Scope, Tree};
+use std::alloc::Global;
+
+/// The lists of a number, made anew.
+#[derive(Drop)]
+pub(crate) struct Remade {
+    pub number: EntryNo,
+    pub lists: Kept,
+}
+
+/// The subtrees of a tree, and the lists of the entries that are reached.
+#[derive(Drop)]
+pub(crate) struct Anew {
+    pub subtrees: Vec<AccessSubentry>,
+    pub lists: Vec<Remade>,
+}
+
+// The superior of the number, or the number itself where it has none.
+fn top(tree: &Tree, number: EntryNo) -> EntryNo
+    ensures exact { result.0 ≡ top_of number.0 tree.now }
+{
+    match tree.superior(number) {
+        Some(above) => above,
+        None => number,
+    }
+}
+
+// The lists of the number.
+fn remake(
+    alloc: Global,
+    tree: &Tree,
+    subtrees: &[AccessSubentry],
+    number: EntryNo,
+) -> Result<Remade, NoMemory>
+    requires subtrees { AreSubtrees subtrees.now tree.now }
+    ensures number { IfOk result (λ one. one.number.0 ≡ number.0) }
+    ensures lists { IfOk result (λ one. IsRemade tree.now one) }
+{
+    let lists = make_at(alloc, tree, subtrees, number)?;
+    Ok(Remade { number, lists })
+}
+
+// The lists of the entries at and below the top.
+fn remake_below(
+    alloc: Global,
+    tree: &Tree,
+    subtrees: &[AccessSubentry],
+    top: EntryNo,
+) -> Result<Vec<Remade>, NoMemory>
+    requires subtrees { AreSubtrees subtrees.now tree.now }
+    ensures numbers { IfOk result (λ list. numbers_of list.items ≡ scoped Sub top.0 tree.now) }
+    ensures lists { IfOk result (λ list. AllByRecursion (IsRemade tree.now) list.items) }
+{
+    let mut list = Vec::new(alloc);
+    for number in tree.below(top, Scope::Sub) {
+        list.push(remake(alloc, tree, subtrees, number)?)?;
+    }
+    Ok(list)
+}
+
+/// The subtrees, and the lists of the entries at and below the superior of the number. The error comes where memory is
+/// wanted.
+pub(crate) fn make_anew(alloc: Global, tree: &Tree, number: EntryNo) -> Result<Anew, NoMemory>
+    ensures ok { IfOk result (λ anew. IsAnew number.0 anew tree.now) }
+{
+    let subtrees = access_subtrees(alloc, tree)?;
+    let lists = remake_below(alloc, tree, &subtrees, top(tree, number))?;
+    Ok(Anew { subtrees, lists })
+}
+
+/// Makes the same, with room for the lists of all numbers of the tree.
+pub(crate) fn make_anew_with_room(
+    alloc: Global,
+    tree: &Tree,
+    held: &mut Holdings,
+    number: EntryNo,
+) -> Result<Anew, NoMemory>
+    ensures ok { IfOk result (λ anew. IsAnew number.0 anew tree.now) }
+    ensures room { IfOk result (λ anew. HaveRoom anew.lists.items (length held.new.lists.items)) }
+    ensures stay { AllStay held.old held.new }
+{
+    let anew = make_anew(alloc, tree, number)?;
+    make_room(alloc, &mut held.lists, tree.bound())?;
+    Ok(anew)
+}
+
+// Puts the lists in place of those that the numbers have.
+fn put_all(kept: &mut [Kept], list: Vec<Remade>)
+    requires room { HaveRoom list.items (length kept.old) }
+    ensures exact { kept.new ≡ fold put_one kept.old list.items }
+{
+    for one in list {
+        kept[one.number.0 as usize] = one.lists;
+    }
+}
+
+/// Puts what was made in place of what is kept. Takes no memory.
+pub(crate) fn put_anew(held: &mut Holdings, anew: Anew)
+    requires room { HaveRoom anew.lists.items (length held.old.lists.items) }
+    ensures exact { IsPut anew held.old held.new }
+{
+    held.subtrees = anew.subtrees;
+    put_all(&mut held.lists, anew.lists);
+}
