@@ -31,8 +31,8 @@ fn put_groups(alloc: Global, items: &[TaggedTuples], groups: &mut Vec<Dn>) -> Re
     Ok(())
 }
 
-/// Puts the groups that the items of an entry name among the groups, which stand in the order of names, each once. The error
-/// comes where memory is wanted.
+/// Puts the groups that the items of an entry name among the groups, which stand in the order of names, each once. The
+/// error comes where memory is wanted.
 pub fn put_groups_of(alloc: Global, lists: &Kept, groups: &mut Vec<Dn>) -> Result<(), NoMemory> {
     put_groups(alloc, &lists.prescriptive, groups)?;
     put_groups(alloc, &lists.own, groups)?;

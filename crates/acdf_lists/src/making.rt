@@ -15,8 +15,8 @@ use dir_tree::{Entry, EntryNo, NoMemory, Tree};
 use schema_core::AttrId;
 use std::alloc::Global;
 
-/// What is kept of an entry, which need not be in the tree, by the subtrees of the tree's subentries. The error comes where
-/// memory is wanted.
+/// What is kept of an entry, which need not be in the tree, by the subtrees of the tree's subentries. The error comes
+/// where memory is wanted.
 pub fn lists_for(
     alloc: Global,
     tree: &Tree,
