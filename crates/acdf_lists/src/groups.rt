@@ -6,7 +6,7 @@ ghost use Rattle.acdf_filters.specs.Weighing.{AreMemberships};
 ghost use Rattle.acdf_filters.specs.Memberships.{groups_of};
 
 use crate::kept::Kept;
-use acdf_filters::{Membership, Requester, is_in_group};
+use acdf_filters::{Membership, NamedRequester, Requester};
 use aci_item::AciTuple;
 use dir_tree::{NoMemory, Tree};
 use dn_names::{Dn, compare_names};
@@ -30,8 +30,8 @@ fn put_groups(alloc: Global, tuples: &[AciTuple], groups: &mut Vec<Dn>) -> Resul
     Ok(())
 }
 
-/// Puts the groups that the items of an entry name among the groups, which stand in the order of names, each once. The error
-/// comes where memory is wanted.
+/// Puts the groups that the items of an entry name among the groups, which stand in the order of names, each once. The
+/// error comes where memory is wanted.
 pub fn put_groups_of(alloc: Global, lists: &Kept, groups: &mut Vec<Dn>) -> Result<(), NoMemory> {
     put_groups(alloc, &lists.prescriptive.tuples, groups)?;
     put_groups(alloc, &lists.own.tuples, groups)?;
@@ -58,10 +58,11 @@ fn ask_groups(
     ensures groups { IfOk result (λ known. groups_of known.items ≡ groups.now) }
 {
     let mut known = Vec::new(alloc);
+    let mut named = NamedRequester::new(name);
     for group in groups {
         known.push(Membership {
             group: group.copy(alloc)?,
-            member: is_in_group(tree, name, group),
+            member: named.is_in_group(alloc, tree, group)?,
         })?;
     }
     Ok(known)

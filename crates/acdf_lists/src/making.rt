@@ -27,8 +27,8 @@ fn read_tuples(alloc: Global, entry: &Entry, kind: AttrId) -> Result<OrderedTupl
     order_tuples(alloc, read_items(alloc, entry, kind)?)
 }
 
-/// What is kept of an entry, which need not be in the tree, by the subtrees of the tree's subentries. The error comes where
-/// memory is wanted.
+/// What is kept of an entry, which need not be in the tree, by the subtrees of the tree's subentries. The error comes
+/// where memory is wanted.
 pub fn lists_for(
     alloc: Global,
     tree: &Tree,

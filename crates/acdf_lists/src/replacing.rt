@@ -27,7 +27,7 @@ struct Holder {
 impl TreeReader for Holder {
     ghost use Rattle.acdf_lists.specs.Holdings.{IsHeld};
 
-    ghost has_read = { λ holder rows. IsHeld holder.held rows };
+    ghost has_read = { λ before holder rows. IsHeld holder.held rows };
 
     fn read(&mut self, tree: &Tree) -> Result<(), NoMemory> {
         self.held = hold(self.alloc, tree)?;

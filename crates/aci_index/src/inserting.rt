@@ -42,8 +42,8 @@ fn insert_ordinary(
     }
 }
 
-// Puts an access control subentry into the tree: the lists of the entries at and below its superior are made anew, and all
-// others stay.
+// Puts an access control subentry into the tree: the lists of the entries at and below its superior are made anew, and
+// all others stay.
 fn insert_around(
     alloc: Global,
     tree: &mut Tree,
@@ -98,8 +98,8 @@ fn insert_subentry(
     }
 }
 
-/// Puts the entry into the tree, and changes of what is kept what concerns it. Where there is no memory for that, the entry
-/// is taken out again, and what is kept is right as before.
+/// Puts the entry into the tree, and changes of what is kept what concerns it. Where there is no memory for that, the
+/// entry is taken out again, and what is kept is right as before.
 pub(crate) fn insert_step(
     alloc: Global,
     tree: &mut Tree,

@@ -1,4 +1,4 @@
-//! A directory that keeps what decisions need (X.501 18.8), and at a write changes what the write concerns, and no more.
+//! A directory that keeps what decisions need (X.501 18.8), and at a write changes little of it.
 #![tactic(auto)]
 
 mod anew;

@@ -38,7 +38,8 @@ pub(crate) fn put_own(held: &mut Holdings, number: EntryNo, lists: Kept)
     put_lists(&mut held.lists, number, lists);
 }
 
-/// Makes the lists of an entry, which need not be in the tree. The groups that its items name are then among those known.
+/// Makes the lists of an entry, which need not be in the tree. The groups that its items name are then among those
+/// known.
 pub(crate) fn make_lists(
     alloc: Global,
     tree: &Tree,

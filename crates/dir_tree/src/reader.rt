@@ -10,11 +10,12 @@ pub trait TreeReader {
     ghost use Rattle.std.specs.Prelude.{List};
     ghost use Rattle.dir_tree.specs.Numbered.{Numbered};
 
-    ghost has_read: { Self → List Numbered → Type 0 };
+    // the reader before, and after, and the tree that it read
+    ghost has_read: { Self → Self → List Numbered → Type 0 };
 
     /// Reads the tree. The error comes where memory is wanted.
     fn read(&mut self, tree: &Tree) -> Result<(), NoMemory>
-        ensures ok { OnOk result (has_read self.new tree.now) };
+        ensures ok { OnOk result (has_read self.old self.new tree.now) };
 }
 
 /// Nothing is made of the tree. Takes no memory.
@@ -22,7 +23,7 @@ pub trait TreeReader {
 pub(crate) struct Unread;
 
 impl TreeReader for Unread {
-    ghost has_read = { λ reader rows. Unit {0} };
+    ghost has_read = { λ before reader rows. Unit {0} };
 
     fn read(&mut self, _tree: &Tree) -> Result<(), NoMemory> {
         Ok(())

@@ -59,7 +59,7 @@ impl Tree {
         ensures kept { OnErr result (self.new ≡ self.old) }
 
         // What the reader made is of the tree as it is now.
-        ensures read { OnOk result (R.has_read reader.new self.new) }
+        ensures read { OnOk result (R.has_read reader.old reader.new self.new) }
     {
         match self.replaceable(no, entry.name()) {
             Ok(()) => {
@@ -135,7 +135,7 @@ impl Tree {
         ensures found { IfOk result (λ old. entry_of no.0 self.old ≡ Some old) }
         ensures ok { OnOk result (self.new ≡ put_entry no.0 entry (without no.0 self.old)) }
         ensures kept { OnErr result (self.new ≡ self.old) }
-        ensures read { OnOk result (R.has_read reader.new self.new) }
+        ensures read { OnOk result (R.has_read reader.old reader.new self.new) }
     {
         if self.is_called(no, entry.name()) {
             self.change_here(no, entry, reader)
@@ -167,7 +167,7 @@ impl Tree {
         ensures found { IfOk result (λ old. entry_of no.0 self.old ≡ Some old) }
         ensures ok { OnOk result (self.new ≡ put_entry no.0 entry (without no.0 self.old)) }
         ensures kept { OnErr result (self.new ≡ self.old) }
-        ensures read { OnOk result (R.has_read reader.new self.new) }
+        ensures read { OnOk result (R.has_read reader.old reader.new self.new) }
     {
         let numbers = relisted(&self.slots, &self.subentries, &entry, no)?;
         let numbers = replace(&mut self.subentries, numbers);
@@ -195,7 +195,7 @@ impl Tree {
         ensures found { IfOk result (λ old. entry_of no.0 self.old ≡ Some old) }
         ensures ok { OnOk result (self.new ≡ put_entry no.0 entry (without no.0 self.old)) }
         ensures kept { OnErr result (self.new ≡ self.old) }
-        ensures read { OnOk result (R.has_read reader.new self.new) }
+        ensures read { OnOk result (R.has_read reader.old reader.new self.new) }
     {
         let path = copy_path(entry.name())?;
         let mut places = copy_places(&self.places)?;
