@@ -1,5 +1,5 @@
 -- The key of the value that a printed name is.
-use Rattle.std.proofs.Common.{◌≡◌, List, ℕ, Option, Some, [], ◌++◌, refl, sym, ap, ◌∙◌}
+use Rattle.std.proofs.Common.{◌≡◌, List, ℕ, Option, Some, refl, sym, ap, ◌∙◌}
 use Rattle.std.specs.Option.{option_map, option_and_then}
 use Rattle.std.proofs.lemmas.Option.{same_Some}
 use Rattle.schema_core.specs.declared.kinds.Syntax.{Syntax}
@@ -7,7 +7,6 @@ use Rattle.schema_core.specs.declared.kinds.Syntax.TheVariants.{Name}
 use Rattle.schema_core.specs.Attributes.{attributes, syntax_of}
 use Rattle.dn_names.specs.Names.{Keyed, RdnSequence}
 use Rattle.dn_names.specs.GoodNames.{IsGoodName}
-use Rattle.dn_names.specs.NameText.{read_name}
 use Rattle.dn_names.specs.NameValues.{value_key, value_of, read_key}
 use Rattle.dn_names.specs.Printing.{print_name, name_key}
 use Rattle.dn_names.proofs.Theorems.{read_name-print_name}

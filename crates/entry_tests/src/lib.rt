@@ -9,6 +9,8 @@ mod fixtures;
 #[cfg(test)]
 mod keys;
 #[cfg(test)]
+mod many;
+#[cfg(test)]
 mod names;
 #[cfg(test)]
 mod paths;
