@@ -1,0 +1,3 @@
+pub mod SampleFile
+pub mod SampleEvents
+pub mod Counting
