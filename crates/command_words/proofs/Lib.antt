@@ -1,12 +1,12 @@
-mod Equals
 mod Numbers
 mod Addresses
-mod Scans
+mod Rows
 mod Tables
-mod Roles
-mod Lines
-mod Sayings
-mod Commands
-mod Texts
-pub mod Theorems
-mod Examples
+mod Rules
+mod Steps
+mod Words
+mod Uses
+mod Walks
+mod Options
+mod Sound
+mod Complete

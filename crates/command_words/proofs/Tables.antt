@@ -8,7 +8,6 @@ use Rattle.command_words.specs.declared.table.CommandName.TheVariants as command
 use Rattle.command_words.specs.declared.table.OptionName.{OptionName}
 use Rattle.command_words.specs.declared.table.OptionName.TheVariants as options
 use Rattle.command_words.specs.Table.{Row, row_of, option_word, command_named, option_named, all_commands}
-use Rattle.command_words.specs.Reading.{split_at_equals}
 
 -- an element that passes
 pub record Found {X : Type 0} (test : X → Bool) (xs : List X) (x : X) : Type 0 where
@@ -78,14 +77,3 @@ command_named-complete commands.Check = refl
 command_named-complete commands.Dump = refl
 command_named-complete commands.Explain = refl
 command_named-complete commands.Sample = refl
-
--- names are not empty and have no `=`
-pub option_word-some : (name : OptionName) → option_word name ≢ []
-option_word-some options.Sessions empty = cc
-option_word-some options.Turns empty = cc
-option_word-some options.Dump empty = cc
-
-pub option_word-no_equals : (name : OptionName) → split_at_equals (option_word name) ≡ None
-option_word-no_equals options.Sessions = refl
-option_word-no_equals options.Turns = refl
-option_word-no_equals options.Dump = refl
