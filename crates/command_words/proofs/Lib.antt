@@ -10,3 +10,9 @@ mod Walks
 mod Options
 mod Sound
 mod Complete
+mod Sayings
+mod Defaults
+mod Strict
+mod Said
+mod Commands
+pub mod Theorems

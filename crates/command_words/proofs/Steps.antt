@@ -136,7 +136,7 @@ dashed-turn row waiting rows pending x xs parts found cut is = record {
   leaves = dashed-walk row waiting rows pending x xs ∙ ap (λ (p : Text × Option Text). dashed_walk row waiting rows pending (45 ∷ 45 ∷ x ∷ xs) p (arg_by_long (rules row) p.0)) cut ∙ ap (dashed_walk row waiting rows pending (45 ∷ 45 ∷ x ∷ xs) parts) is;
 }
 
-nothing-more : (kinds : Kinds) → or_else kinds [] ≡ kinds
+pub nothing-more : (kinds : Kinds) → or_else kinds [] ≡ kinds
 nothing-more [] = refl
 nothing-more (k ∷ kinds) = refl
 

@@ -39,7 +39,7 @@ command_named-sound word name given =
     (bytes_eq-Decides word (row_of name).name).0 found.passes
 
 -- nothing is of an empty list
-none-contained : {X : Type 0} (x : X) → Contains [] x → ⊥
+pub none-contained : {X : Type 0} (x : X) → Contains [] x → ⊥
 none-contained x contained = omega (arith, contained.1)
 
 -- nor is another option of two
@@ -54,7 +54,7 @@ not_of_two one other name not_one not_other contained = among contained.0 contai
 not_of_serve : Contains (row_of commands.Serve).options options.Dump → ⊥
 not_of_serve = not_of_two options.Sessions options.Turns options.Dump (λ same. cc) (λ same. cc)
 
-not_of_replay : Contains (row_of commands.Replay).options options.Sessions → ⊥
+pub not_of_replay : Contains (row_of commands.Replay).options options.Sessions → ⊥
 not_of_replay = not_of_two options.Dump options.Turns options.Sessions (λ same. cc) (λ same. cc)
 
 -- each option of a command is found by its name

@@ -56,7 +56,7 @@ kept_of-more sought [] text = refl
 kept_of-more sought (first ∷ texts) text = ap Some (sym (map-append (shown sought) (first ∷ texts) (text ∷ [])))
 
 -- things of one name are one
-same-id : (own other : Sought) → bytes_eq (id_of own) (id_of other) ≡ true → own ≡ other
+pub same-id : (own other : Sought) → bytes_eq (id_of own) (id_of other) ≡ true → own ≡ other
 same-id Operands Operands is = refl
 same-id Operands (Arguments options.Sessions) is = absurd (cc)
 same-id Operands (Arguments options.Turns) is = absurd (cc)
