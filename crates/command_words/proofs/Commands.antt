@@ -1,15 +1,20 @@
 -- What clap's matches say is what the words ask for, and its errors come where they ask for nothing.
-use Rattle.std.proofs.Common.{◌≡◌, ◌∙◌, ◌≤◌, ◌<◌, ℕ, zero, suc, Bool, true, false, cond, eqb, List, [], ◌∷◌, length, get_or, map, Option, Some, None, option_map, refl, sym, ap, subst, arith}
-use Rattle.std.specs.Prelude.{Contains, IfSome}
+use Rattle.std.proofs.Common.{◌≡◌, ◌≢◌, ◌∙◌, ◌≤◌, ◌<◌, inl, inr, ℕ, zero, suc, Bool, true, false, cond, eqb, List, [], ◌∷◌, ◌++◌, length, get_or, map, Option, Some, None, option_map, refl, sym, ap, subst, arith}
+use Rattle.std.specs.Prelude.{Contains, IfSome, String, string_bytes}
+use Rattle.std.proofs.lemmas.List.{map-append}
+use Rattle.std.proofs.lemmas.Str.{IsUtf8-string_bytes}
 use Rattle.std.specs.List.{AllByRecursion}
 use Rattle.std.specs.Str.{IsUtf8}
 use Rattle.std.proofs.lemmas.Bool.{eqb-true, eq-eqb}
 use Rattle.std.proofs.lemmas.Option.{same_Some, cond_some}
-use Rattle.clap.specs.Walk.{Row as Kept, Text, all_of, idle, nothing_held, rows_after, rows_of}
+use Rattle.clap.specs.Walk.{Row as Kept, Rule, Text, all_of, idle, nothing_held, rows_after, rows_of}
 use Rattle.clap.specs.Matches.{found_of}
-use Rattle.clap.specs.Simple.{App, built, matches_of, names_of}
-use Rattle.clap.specs.Kinds.{Kinds, or_else}
-use Rattle.clap.specs.Faults.{built_fault, check_fault, fault_of, settle_fault, walk_fault}
+use Rattle.clap.specs.Simple.{App, HasMatchesOf, Shape, built, is_simple, matches_of, names_of, new_app, on_top, with_rule}
+use Rattle.clap.specs.Kinds.{HasKind, Kinds, or_else}
+use Rattle.clap.specs.Values.{kind_of}
+use Rattle.clap.specs.declared.error.Error.{Error}
+use Rattle.clap.specs.declared.error.kind.ErrorKind.TheVariants.{OutOfMemory}
+use Rattle.clap.specs.Faults.{built_fault, check_fault, fault_of, is_simple_and_free, settle_fault, walk_fault}
 use Rattle.clap.specs.declared.parser.matches.ArgMatches.{ArgMatches}
 use Rattle.clap.proofs.FaultLemmas.{leaf_fault}
 use Rattle.command_words.specs.declared.table.CommandName.{CommandName}
@@ -20,10 +25,11 @@ use Rattle.command_words.specs.declared.command.Command.{Command}
 use Rattle.command_words.specs.Table.{Row, row_of, option_word, takes_argument, command_named}
 use Rattle.command_words.specs.Line.{Line, IsLine, line_words, texts_of}
 use Rattle.command_words.specs.Command.{CommandView, IsCommand, Says, view}
-use Rattle.command_words.specs.Parser.{app_for, id_of, kept_in}
+use Rattle.command_words.specs.Parser.{app_for, app_with, id_of, kept_in, operand_rule, option_rule}
 use Rattle.command_words.specs.Asked.{IsAsked, IsRead, IsReading, Parses, kept_count, kept_said, said_by}
+use Rattle.command_words.proofs.Numbers.{both_pass}
 use Rattle.command_words.proofs.Tables.{command_named-sound, command_named-complete, option_named-complete}
-use Rattle.command_words.proofs.Rules.{app, built-is, by-id, option_by, rules, shape}
+use Rattle.command_words.proofs.Rules.{app, built-is, is-simple, by-id, option_by, rules, shape}
 use Rattle.command_words.proofs.Steps.{at, nothing-more}
 use Rattle.command_words.proofs.Uses.{Holds, holds-nothing}
 use Rattle.command_words.proofs.Walks.{end, end_rows, total}
@@ -204,3 +210,29 @@ empty-reading text (x ∷ xs) empty = absurd (omega (arith, empty))
 pub found-is : (words : List Text) (read : Option Command) → IsReading words (option_map view read) → IfSome read (λ command. IsCommand words (view command))
 found-is words None is = tt
 found-is words (Some command) is = is.found (view command) refl
+
+-- all words of the program are UTF-8
+pub all-utf8 : {Z : Type 0} (words : List (String Z)) → AllByRecursion IsUtf8 (map string_bytes words)
+all-utf8 [] = tt
+all-utf8 (word ∷ words) = (IsUtf8-string_bytes word, all-utf8 words)
+
+-- one more option of the parser
+pub app-more : (name : Text) (options : List OptionName) (option : OptionName) → with_rule (app_with name options) (option_rule option) ≡ app_with name (options ++ option ∷ [])
+app-more name options option = ap (λ (rules : List Rule). on_top (λ (shape : Shape). record shape { no_binary_name = true; disable_help_flag = true; rules = operand_rule ∷ rules; }) (new_app name)) (sym (map-append option_rule options (option ∷ [])))
+
+-- the parser's answers, for a parser that is the command's
+pub matches-parse : (name : CommandName) (parser : App) (words : List Text) (matches : ArgMatches) → AllByRecursion IsUtf8 words → parser ≡ app_for (row_of name) → (is_simple_and_free parser ≡ true → fault_of parser words ≡ []) → HasMatchesOf parser words matches
+    → Parses name words (Some matches)
+matches-parse name parser words matches utf8 is none has =
+    let own = app_for (row_of name) in
+    let free = is-simple name in
+    let simple = (both_pass (is_simple own) _ free).0 in
+    matches-read name words matches utf8 (subst (λ (one : App). is_simple_and_free one ≡ true → fault_of one words ≡ []) is none free) (subst (λ (one : App). HasMatchesOf one words matches) is has simple).0
+
+pub error-parse : (name : CommandName) (parser : App) (words : List Text) (error : Error) → parser ≡ app_for (row_of name) → (is_simple_and_free parser ≡ true → HasKind (fault_of parser words) error) → kind_of error ≢ OutOfMemory → Parses name words None
+error-parse name parser words error is fails other =
+    error-read name words (λ none. by (subst (λ (kinds : Kinds). HasKind kinds error) none (subst (λ (one : App). is_simple_and_free one ≡ true → HasKind (fault_of one words) error) is fails (is-simple name))))
+  where
+    by : HasKind [] error → ⊥
+    by (inl memory) = other memory
+    by (inr among) = among
