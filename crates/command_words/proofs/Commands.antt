@@ -6,10 +6,10 @@ use Rattle.std.proofs.lemmas.Str.{IsUtf8-string_bytes}
 use Rattle.std.specs.List.{AllByRecursion}
 use Rattle.std.specs.Str.{IsUtf8}
 use Rattle.std.proofs.lemmas.Bool.{eqb-true, eq-eqb}
-use Rattle.std.proofs.lemmas.Option.{same_Some, cond_some}
+use Rattle.std.proofs.lemmas.Option.{same_Some}
 use Rattle.clap.specs.Walk.{Row as Kept, Rule, Text, all_of, idle, nothing_held, rows_after, rows_of}
 use Rattle.clap.specs.Matches.{found_of}
-use Rattle.clap.specs.Simple.{App, HasMatchesOf, Shape, built, is_simple, matches_of, names_of, new_app, on_top, with_rule}
+use Rattle.clap.specs.Simple.{App, HasMatchesOf, Shape, is_simple, matches_of, names_of, new_app, on_top, with_rule}
 use Rattle.clap.specs.Kinds.{HasKind, Kinds, or_else}
 use Rattle.clap.specs.Values.{kind_of}
 use Rattle.clap.specs.declared.error.Error.{Error}
@@ -22,20 +22,20 @@ use Rattle.command_words.specs.declared.table.OptionName.{OptionName}
 use Rattle.command_words.specs.declared.table.Sought.{Sought}
 use Rattle.command_words.specs.declared.table.Sought.TheVariants.{Operands, Arguments}
 use Rattle.command_words.specs.declared.command.Command.{Command}
-use Rattle.command_words.specs.Table.{Row, row_of, option_word, takes_argument, command_named}
-use Rattle.command_words.specs.Line.{Line, IsLine, line_words, texts_of}
-use Rattle.command_words.specs.Command.{CommandView, IsCommand, Says, view}
+use Rattle.command_words.specs.Table.{row_of, option_word, command_named}
+use Rattle.command_words.specs.Line.{line_words, texts_of}
+use Rattle.command_words.specs.Command.{CommandView, IsCommand, view}
 use Rattle.command_words.specs.Parser.{app_for, app_with, id_of, kept_in, operand_rule, option_rule}
 use Rattle.command_words.specs.Asked.{IsAsked, IsRead, IsReading, Parses, kept_count, kept_said, said_by}
 use Rattle.command_words.proofs.Numbers.{both_pass}
 use Rattle.command_words.proofs.Tables.{command_named-sound, command_named-complete, option_named-complete}
 use Rattle.command_words.proofs.Rules.{app, built-is, is-simple, by-id, option_by, rules, shape}
 use Rattle.command_words.proofs.Steps.{at, nothing-more}
-use Rattle.command_words.proofs.Uses.{Holds, holds-nothing}
+use Rattle.command_words.proofs.Uses.{holds-nothing}
 use Rattle.command_words.proofs.Walks.{end, end_rows, total}
-use Rattle.command_words.proofs.Sound.{IsReadable, Lined, sound}
-use Rattle.command_words.proofs.Complete.{IsFindable, Passed, complete}
-use Rattle.command_words.proofs.Sayings.{Taken, command_said-sound, command_said-complete, line_said}
+use Rattle.command_words.proofs.Sound.{IsReadable, sound}
+use Rattle.command_words.proofs.Complete.{IsFindable, complete}
+use Rattle.command_words.proofs.Sayings.{Taken, command_said-sound, command_said-complete}
 use Rattle.command_words.proofs.Defaults.{all-defaults-pass, check-passes, defaulted}
 use Rattle.command_words.proofs.Strict.{said-items}
 use Rattle.command_words.proofs.Said.{count-same, kept_at_end, said-same}
@@ -218,7 +218,7 @@ all-utf8 (word ∷ words) = (IsUtf8-string_bytes word, all-utf8 words)
 
 -- one more option of the parser
 pub app-more : (name : Text) (options : List OptionName) (option : OptionName) → with_rule (app_with name options) (option_rule option) ≡ app_with name (options ++ option ∷ [])
-app-more name options option = ap (λ (rules : List Rule). on_top (λ (shape : Shape). record shape { no_binary_name = true; disable_help_flag = true; rules = operand_rule ∷ rules; }) (new_app name)) (sym (map-append option_rule options (option ∷ [])))
+app-more name options option = ap (λ (rules : List Rule). on_top (λ (shape : Shape). record shape { no_binary_name = true; disable_help_flag = true; rules = operand_rule ∷ rules }) (new_app name)) (sym (map-append option_rule options (option ∷ [])))
 
 -- the parser's answers, for a parser that is the command's
 pub matches-parse : (name : CommandName) (parser : App) (words : List Text) (matches : ArgMatches) → AllByRecursion IsUtf8 words → parser ≡ app_for (row_of name) → (is_simple_and_free parser ≡ true → fault_of parser words ≡ []) → HasMatchesOf parser words matches

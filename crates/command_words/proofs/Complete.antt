@@ -1,10 +1,10 @@
 -- The words of a line have no fault, and the rows keep its texts.
-use Rattle.std.proofs.Common.{◌≡◌, ◌∙◌, ◌≤◌, ◌+◌, ℕ, suc, Bool, true, false, List, [], ◌∷◌, ◌++◌, length, get_or, Option, Some, None, refl, sym, ap, subst, arith}
-use Rattle.std.specs.Prelude.{Contains, IsTrue, codes, flat_map}
+use Rattle.std.proofs.Common.{◌≡◌, ◌∙◌, ◌≤◌, Bool, true, false, List, [], ◌∷◌, ◌++◌, length, Option, Some, None, refl, sym, ap, subst, arith}
+use Rattle.std.specs.Prelude.{Contains, codes, flat_map}
 use Rattle.std.specs.List.{AllByRecursion}
 use Rattle.std.specs.Option.{option_map_or}
 use Rattle.std.proofs.lemmas.List.{append-nil, append_assoc, length-append}
-use Rattle.clap.specs.Walk.{Row as Kept, Rule, Text, Waiting, Walk, idle, option as awaits, positional, arg_by_id, used, used_by_id, has_row}
+use Rattle.clap.specs.Walk.{Row as Kept, Rule, Text, Waiting, Walk, idle, option as awaits, arg_by_id, used, used_by_id}
 use Rattle.clap.specs.Kinds.{Kinds, or_else}
 use Rattle.clap.specs.Lexer.{name_and_value}
 use Rattle.clap.specs.Faults.{use_fault, walk_fault}

@@ -1,7 +1,7 @@
 -- What the defaults at the end of a parse change: a flag that isn't given is kept as `false`.
-use Rattle.std.proofs.Common.{◌≡◌, ◌∙◌, ◌||◌, ℕ, Bool, true, false, cond, List, [], ◌∷◌, map, length, Option, Some, None, is_some, true≢false, refl, sym, ap, subst}
+use Rattle.std.proofs.Common.{◌≡◌, ◌∙◌, ◌||◌, ℕ, Bool, true, false, cond, List, [], ◌∷◌, map, length, Option, is_some, true≢false, refl, sym, ap, subst}
 use Rattle.std.specs.Prelude.{bytes_eq, codes, fold, slice_get}
-use Rattle.clap.specs.Walk.{Row as Kept, Rule, Text, all_of, has_row, with_default}
+use Rattle.clap.specs.Walk.{Row as Kept, Text, all_of, has_row, with_default}
 use Rattle.clap.specs.Kinds.{Kinds, or_else}
 use Rattle.clap.specs.Faults.{check_fault, default_fault, defaults_fault}
 use Rattle.clap.specs.declared.builder.value_parser.Reading.TheVariants.{AsWritten}

@@ -5,14 +5,15 @@ mod Tables
 mod Rules
 mod Steps
 mod Words
+mod Options
 mod Uses
 mod Walks
-mod Options
 mod Sound
 mod Complete
 mod Sayings
 mod Defaults
-mod Strict
 mod Said
+mod Strict
 mod Commands
 pub mod Theorems
+mod Examples

@@ -1,8 +1,8 @@
 -- What a word that begins with two dashes and goes on is for a row: an option in one of its spellings, or nothing.
-use Rattle.std.proofs.Common.{◌≡◌, ◌∙◌, ℕ, Bool, true, false, List, [], ◌∷◌, ◌++◌, Option, Some, None, option_map, refl, sym, ap}
+use Rattle.std.proofs.Common.{◌≡◌, ◌∙◌, Bool, true, false, ◌∷◌, ◌++◌, Option, Some, None, option_map, refl, sym, ap}
 use Rattle.std.specs.Prelude.{Contains}
 use Rattle.clap.specs.Lexer.{name_and_value}
-use Rattle.clap.specs.Walk.{Rule, Text, arg_by_long}
+use Rattle.clap.specs.Walk.{Text, arg_by_long}
 use Rattle.command_words.specs.declared.table.OptionName.{OptionName}
 use Rattle.command_words.specs.Table.{Row, option_word, option_named, takes_argument}
 use Rattle.command_words.proofs.Rules.{option, option_by, rules, by-long}

@@ -1,8 +1,8 @@
 -- What a use of an argument leaves of what is kept, by the argument's name.
-use Rattle.std.proofs.Common.{◌≡◌, ◌∙◌, ◌||◌, ℕ, Bool, true, false, cond, List, [], ◌∷◌, ◌++◌, Option, Some, None, option_map, is_some, refl, sym, ap, subst}
+use Rattle.std.proofs.Common.{◌≡◌, ◌∙◌, ◌||◌, Bool, true, false, cond, List, [], ◌∷◌, ◌++◌, Option, Some, None, option_map, is_some, refl, sym, ap}
 use Rattle.std.specs.Prelude.{bytes_eq, find}
 use Rattle.std.proofs.lemmas.Slice.Eq.{bytes_eq-Decides}
-use Rattle.clap.specs.Walk.{Row, Text, all_of, at_row, has_row, with_values, without}
+use Rattle.clap.specs.Walk.{Row, Text, all_of, has_row, with_values, without}
 use Rattle.clap.specs.declared.builder.value_parser.Reading.{Reading}
 use Rattle.clap.specs.declared.parser.matches.ValueSource.{ValueSource}
 

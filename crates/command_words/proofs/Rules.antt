@@ -1,9 +1,9 @@
 -- The parser of a command as clap builds it: its arguments, and what is found among them.
-use Rattle.std.proofs.Common.{◌≡◌, ◌∙◌, ◌||◌, ◌&&◌, not, is_some, ℕ, Bool, true, false, cond, List, [], ◌∷◌, map, Option, Some, None, option_map, refl, sym, ap}
-use Rattle.std.specs.Prelude.{bytes_eq, codes, find, Contains}
+use Rattle.std.proofs.Common.{◌≡◌, ◌∙◌, ◌||◌, ◌&&◌, not, is_some, ℕ, Bool, true, false, cond, List, [], ◌∷◌, map, Some, None, option_map, refl, sym, ap}
+use Rattle.std.specs.Prelude.{bytes_eq, codes, find}
 use Rattle.std.proofs.lemmas.Slice.Eq.{bytes_eq-Decides}
 use Rattle.clap.specs.Simple.{App, Shape, new_rule, new_shape, built}
-use Rattle.clap.specs.Walk.{Rule, Text, arg_by_id, arg_by_index, arg_by_long, arg_by_short, has_long, has_short}
+use Rattle.clap.specs.Walk.{Rule, Text, arg_by_id, arg_by_long, arg_by_short, has_long, has_short}
 use Rattle.clap.specs.Faults.{is_simple_and_free}
 use Rattle.clap.specs.declared.builder.action.ArgAction.TheVariants.{Set, SetTrue, Append}
 use Rattle.clap.specs.declared.builder.value_parser.ValueParser.TheVariants as vp

@@ -1,5 +1,5 @@
 -- What is kept of a line says what its texts say.
-use Rattle.std.proofs.Common.{◌≡◌, ◌∙◌, ℕ, Bool, true, false, List, [], ◌∷◌, length, Option, Some, None, is_some, refl, sym, ap}
+use Rattle.std.proofs.Common.{◌≡◌, ◌∙◌, ℕ, true, false, List, length, Option, is_some, refl, ap}
 use Rattle.std.specs.Prelude.{slice_get}
 use Rattle.clap.specs.Walk.{Row as Kept, all_of, with_default}
 use Rattle.command_words.specs.declared.table.CommandName.{CommandName}
@@ -11,7 +11,7 @@ use Rattle.command_words.specs.Table.{Row, row_of, option_word}
 use Rattle.command_words.specs.Line.{Line, texts_of}
 use Rattle.command_words.specs.Parser.{id_of, is_set, kept_text}
 use Rattle.command_words.specs.Asked.{command_said, kept_count, kept_said}
-use Rattle.command_words.proofs.Rules.{operand, option_by, rules}
+use Rattle.command_words.proofs.Rules.{option_by}
 use Rattle.command_words.proofs.Uses.{Holds, kept_of}
 use Rattle.command_words.proofs.Sayings.{line_said}
 use Rattle.command_words.proofs.Defaults.{IsWritten, defaulted, flag-set, operand-default, value-default, written-count, written-default, written-text}

@@ -1,19 +1,19 @@
 -- Words without a fault are a line, of which the rows keep the texts. An option's value may be `-` there.
 use Rattle.std.proofs.Common.{◌≡◌, ◌∙◌, ℕ, Bool, true, false, List, [], ◌∷◌, ◌++◌, Option, Some, None, refl, sym, ap, subst}
-use Rattle.std.specs.Prelude.{Contains, IsTrue, codes, flat_map}
+use Rattle.std.specs.Prelude.{Contains, codes, flat_map}
 use Rattle.std.specs.List.{AllByRecursion}
 use Rattle.std.specs.Str.{IsUtf8}
 use Rattle.std.proofs.lemmas.List.{append-nil, append_assoc}
-use Rattle.clap.specs.Walk.{Row as Kept, Text, Waiting, Walk, idle, option as awaits, positional, arg_by_id, used, used_by_id, Rule}
+use Rattle.clap.specs.Walk.{Row as Kept, Text, Waiting, option as awaits, arg_by_id, used, used_by_id, Rule}
 use Rattle.clap.specs.Faults.{use_fault, walk_fault}
 use Rattle.std.specs.Option.{option_map_or}
 use Rattle.command_words.specs.declared.table.OptionName.{OptionName}
 use Rattle.command_words.specs.declared.table.Sought.{Sought}
 use Rattle.command_words.specs.declared.table.Sought.TheVariants.{Operands, Arguments}
-use Rattle.command_words.specs.Table.{Row, option_word, option_named, takes_argument}
+use Rattle.command_words.specs.Table.{Row, option_word, takes_argument}
 use Rattle.command_words.specs.Line.{Item, Operand, Flag, Joined, Apart, Line, is_operand, item_texts, item_words, line_words, long, rest_texts, rest_words, texts_of}
 use Rattle.command_words.proofs.Rules.{option_by, rules}
-use Rattle.command_words.proofs.Steps.{IsBare, Pending, at, free, owed, settle, awaited-turn, delimiter-turn, flag-turn, joined-turn, operand-turn, option-turn, short-refused, unknown-refused, valued-refused}
+use Rattle.command_words.proofs.Steps.{Pending, at, free, owed, settle, awaited-turn, delimiter-turn, flag-turn, joined-turn, operand-turn, option-turn, short-refused, unknown-refused, valued-refused}
 use Rattle.command_words.proofs.Words.{Form, Plain, Delimiter, Long, Short, form_of}
 use Rattle.command_words.proofs.Options.{Finds, Kind, Unknown, Valued, Opened, Assigned, Flagged, kind_of}
 use Rattle.command_words.proofs.Uses.{Given, Holds, holds-same, with_item, operand-holds, value-holds, flag-holds, value-absent, flag-absent, joined-gives, apart-gives}
@@ -43,7 +43,7 @@ put-first row words given rows item is lined = record {
   words_are = ap (λ (later : List Text). item_words item ++ later) lined.words_are ∙ sym (append_assoc (item_words item) (flat_map item_words lined.line.items) (rest_words lined.line.rest));
   are = (is, lined.are);
   holds = holds-same rows _ _ (λ sought. append_assoc (given sought) (item_texts sought item) (texts_of sought lined.line)
-  ∙ ap (λ (more : List Text). given sought ++ more) (sym (append_assoc (item_texts sought item) (flat_map (item_texts sought) lined.line.items) (rest_texts sought lined.line.rest)))) lined.holds;
+      ∙ ap (λ (more : List Text). given sought ++ more) (sym (append_assoc (item_texts sought item) (flat_map (item_texts sought) lined.line.items) (rest_texts sought lined.line.rest)))) lined.holds;
 }
 
 nothing-given : (sought : Sought) → texts_of sought (record { items = []; rest = None }) ≡ []

@@ -4,10 +4,10 @@ use Rattle.std.specs.Prelude.{bytes_eq, codes, slice_get}
 use Rattle.std.specs.Str.{chars}
 use Rattle.clap.specs.Lexer.{long_of, short_of, name_and_value}
 use Rattle.std.proofs.lemmas.Slice.Eq.{bytes_eq-Decides}
-use Rattle.clap.specs.Walk.{Held, Outcome, Rule, Step, Text, Waiting, Walk, idle, option as awaits, positional, positional_held, is_pending, pushed, after_flag, after_step, arg_by_id, arg_by_long, long_met, long_word, settled_rows, takes_values, used, walked, word_met}
+use Rattle.clap.specs.Walk.{Held, Rule, Text, Waiting, Walk, idle, option as awaits, positional, positional_held, is_pending, pushed, after_flag, after_step, arg_by_id, arg_by_long, long_met, settled_rows, used, walked}
 use Rattle.clap.specs.Walk.{Row as Kept}
 use Rattle.clap.specs.Kinds.{Kinds, or_else}
-use Rattle.clap.specs.Faults.{bundle_fault, flags_fault, long_fault, positional_fault, settle_fault, step_fault, turn_fault, use_fault, word_fault}
+use Rattle.clap.specs.Faults.{bundle_fault, flags_fault, long_fault, positional_fault, settle_fault, step_fault, turn_fault, use_fault}
 use Rattle.clap.specs.declared.error.kind.ErrorKind.{ErrorKind}
 use Rattle.clap.specs.declared.error.kind.ErrorKind.TheVariants as kind
 use Rattle.command_words.specs.Table.{Row}

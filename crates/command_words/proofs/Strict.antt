@@ -1,5 +1,5 @@
 -- A line that says a command has no option with the value `-`, since each such value is a number.
-use Rattle.std.proofs.Common.{◌≡◌, ◌∙◌, ℕ, Bool, true, false, eqb, ◌&&◌, List, [], ◌∷◌, ◌++◌, refl, sym, ap, subst, arith}
+use Rattle.std.proofs.Common.{◌≡◌, ◌∙◌, ℕ, Bool, true, false, eqb, ◌&&◌, List, [], ◌∷◌, ◌++◌, refl, sym, ap, subst}
 use Rattle.std.specs.Prelude.{Contains, flat_map}
 use Rattle.std.specs.Char.{is_ascii_digit}
 use Rattle.std.specs.List.{AllByRecursion, list_all}
@@ -9,12 +9,11 @@ use Rattle.command_words.specs.declared.table.CommandName.{CommandName}
 use Rattle.command_words.specs.declared.table.CommandName.TheVariants as commands
 use Rattle.command_words.specs.declared.table.OptionName.{OptionName}
 use Rattle.command_words.specs.declared.table.OptionName.TheVariants as options
-use Rattle.command_words.specs.declared.table.Sought.TheVariants.{Operands, Arguments}
+use Rattle.command_words.specs.declared.table.Sought.TheVariants.{Arguments}
 use Rattle.command_words.specs.Table.{Row, row_of, takes_argument, is_same_option}
 use Rattle.command_words.specs.Line.{Item, Operand, Flag, Joined, Apart, Line, IsItem, begins_with_dash, item_texts, texts_of}
 use Rattle.command_words.specs.Number.{IsNumber, SaysNumber}
-use Rattle.command_words.specs.Command.{CommandView, Serve, Replay, Check, Dump, Explain, Sample, Says}
-use Rattle.command_words.proofs.Numbers.{both_pass}
+use Rattle.command_words.specs.Command.{CommandView, Serve, Replay, Says}
 use Rattle.command_words.proofs.Tables.{none-contained, not_of_replay}
 use Rattle.command_words.proofs.Sound.{IsLoose}
 

@@ -1,16 +1,13 @@
 -- What the words so far have given, and rows that keep it.
-use Rattle.std.proofs.Common.{◌≡◌, ◌∙◌, ◌≤◌, ◌&&◌, ℕ, Bool, true, false, cond, List, [], ◌∷◌, ◌++◌, length, map, Option, Some, None, is_some, refl, sym, ap, subst, arith}
+use Rattle.std.proofs.Common.{◌≡◌, ◌∙◌, ◌≤◌, ◌&&◌, Bool, true, false, cond, List, [], ◌∷◌, ◌++◌, length, map, Option, Some, None, is_some, refl, sym, ap, subst, arith}
 use Rattle.std.specs.Prelude.{bytes_eq, codes}
 use Rattle.std.proofs.lemmas.List.{append-nil, map-append}
-use Rattle.std.proofs.lemmas.Slice.Eq.{bytes_eq-Decides}
-use Rattle.clap.specs.Walk.{Row as Kept, Text, all_of, has_row, used, with_values, without}
-use Rattle.clap.specs.Kinds.{Kinds, or_else}
+use Rattle.clap.specs.Walk.{Row as Kept, Text, all_of, has_row, used, with_values}
+use Rattle.clap.specs.Kinds.{or_else}
 use Rattle.clap.specs.Faults.{use_fault}
-use Rattle.clap.specs.declared.builder.value_parser.Reading.{Reading}
 use Rattle.clap.specs.declared.builder.value_parser.Reading.TheVariants.{AsWritten}
 use Rattle.clap.specs.declared.error.kind.ErrorKind.{ErrorKind}
 use Rattle.clap.specs.declared.error.kind.ErrorKind.TheVariants as kind
-use Rattle.clap.specs.declared.parser.matches.ValueSource.{ValueSource}
 use Rattle.clap.specs.declared.parser.matches.ValueSource.TheVariants.{CommandLine}
 use Rattle.command_words.specs.declared.table.OptionName.{OptionName}
 use Rattle.command_words.specs.declared.table.OptionName.TheVariants as options
@@ -181,7 +178,7 @@ value-holds rows given name value item takes gives holds absent =
     let own : shown (Arguments name) value ≡ value = rw takes refl in
     record {
       fits = λ sought. subst (λ (base : List Kept). all_of (id_of sought) (with_values (option_word name) AsWritten CommandLine (value ∷ []) base) ≡ kept_of sought (with_item item given sought)) (sym (without-absent (option_word name) rows absent))
-      (subst (λ (text : Text). all_of (id_of sought) (with_values (option_word name) AsWritten CommandLine (text ∷ []) rows) ≡ kept_of sought (with_item item given sought)) own (use-fits rows given (Arguments name) value item holds.fits gives sought));
+          (subst (λ (text : Text). all_of (id_of sought) (with_values (option_word name) AsWritten CommandLine (text ∷ []) rows) ≡ kept_of sought (with_item item given sought)) own (use-fits rows given (Arguments name) value item holds.fits gives sought));
       once = use-once rows given (Arguments name) value item holds gives (none-given rows given (Arguments name) holds absent);
     }
 
@@ -192,6 +189,6 @@ flag-holds rows given name takes holds absent =
     let own : shown (Arguments name) [] ≡ codes "true" = rw takes refl in
     record {
       fits = λ sought. subst (λ (base : List Kept). all_of (id_of sought) (with_values (option_word name) AsWritten CommandLine (codes "true" ∷ []) base) ≡ kept_of sought (with_item (Flag name) given sought)) (sym (without-absent (option_word name) rows absent))
-      (subst (λ (text : Text). all_of (id_of sought) (with_values (option_word name) AsWritten CommandLine (text ∷ []) rows) ≡ kept_of sought (with_item (Flag name) given sought)) own (use-fits rows given (Arguments name) [] (Flag name) holds.fits (flag-gives name) sought));
+          (subst (λ (text : Text). all_of (id_of sought) (with_values (option_word name) AsWritten CommandLine (text ∷ []) rows) ≡ kept_of sought (with_item (Flag name) given sought)) own (use-fits rows given (Arguments name) [] (Flag name) holds.fits (flag-gives name) sought));
       once = use-once rows given (Arguments name) [] (Flag name) holds (flag-gives name) (none-given rows given (Arguments name) holds absent);
     }

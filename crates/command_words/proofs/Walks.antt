@@ -1,19 +1,17 @@
 -- The walk over the words of a command: its fault and the rows that it leaves, word by word.
-use Rattle.std.proofs.Common.{◌≡◌, ◌∙◌, ℕ, Bool, true, false, List, [], ◌∷◌, ◌++◌, Option, Some, None, refl, sym, ap, ap₂, subst}
+use Rattle.std.proofs.Common.{◌≡◌, ◌∙◌, true, false, List, [], ◌∷◌, ◌++◌, Option, Some, refl, sym, ap, ap₂, subst}
 use Rattle.std.specs.Prelude.{codes, fold}
 use Rattle.std.specs.Option.{option_map_or}
 use Rattle.std.proofs.lemmas.List.{append-nil, append_assoc}
-use Rattle.clap.specs.Walk.{Row as Kept, Rule, Text, Waiting, Walk, arg_by_id, settled_rows, used, walked}
+use Rattle.clap.specs.Walk.{Row as Kept, Rule, Text, Waiting, Walk, arg_by_id, settled_rows, walked}
 use Rattle.clap.specs.Kinds.{Kinds, or_else}
 use Rattle.clap.specs.Faults.{settle_fault, turn_fault, use_fault, walk_fault}
-use Rattle.clap.specs.declared.error.kind.ErrorKind.{ErrorKind}
-use Rattle.command_words.specs.declared.table.OptionName.{OptionName}
 use Rattle.command_words.specs.declared.table.Sought.{Sought}
 use Rattle.command_words.specs.declared.table.Sought.TheVariants.{Operands, Arguments}
 use Rattle.command_words.specs.Table.{Row}
-use Rattle.command_words.specs.Line.{Item, Operand, item_texts, rest_texts}
-use Rattle.command_words.proofs.Rules.{operand, option_by, rules, shape}
-use Rattle.command_words.proofs.Steps.{Pending, Refused, Turns, at, held_at, owed, settle, trailing-turn}
+use Rattle.command_words.specs.Line.{Operand, item_texts, rest_texts}
+use Rattle.command_words.proofs.Rules.{option_by, rules, shape}
+use Rattle.command_words.proofs.Steps.{Pending, Refused, Turns, at, owed, settle, trailing-turn}
 use Rattle.command_words.proofs.Uses.{Given, Holds, holds-same, operand-holds, with_item}
 
 -- where the walk ends

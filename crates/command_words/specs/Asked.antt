@@ -1,5 +1,5 @@
 -- What the kept texts of a command say, and what a reading of words has to give.
-use Rattle.std.specs.Prelude.{◌≡◌, ℕ, Bool, List, [], ◌∷◌, length, Option, Some, None, option_map, ◌==◌, if◌then◌else◌}
+use Rattle.std.specs.Prelude.{◌≡◌, ℕ, Bool, List, length, Option, Some, None, option_map, ◌==◌, if◌then◌else◌}
 pub use Rattle.plain_values.specs.Options.{◌>>=◌}
 use Rattle.clap.specs.declared.parser.matches.ArgMatches.{ArgMatches}
 use Rattle.command_words.specs.declared.table.CommandName.{CommandName}

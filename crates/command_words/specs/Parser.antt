@@ -1,5 +1,5 @@
 -- What clap is told of a command, and what it keeps of the words: texts under the name of what was sought.
-use Rattle.std.specs.Prelude.{ℕ, Bool, true, false, List, [], ◌∷◌, Option, Some, None, codes, map, option_and_then, slice_get, bytes_eq}
+use Rattle.std.specs.Prelude.{ℕ, Bool, true, false, List, ◌∷◌, Option, Some, None, codes, map, option_and_then, slice_get, bytes_eq}
 use Rattle.clap.specs.Simple.{App, new_app, new_rule, on_top}
 use Rattle.clap.specs.Walk.{Rule, all_of, rows_of}
 use Rattle.clap.specs.Matches.{found_of}
@@ -30,7 +30,7 @@ option_rule name = option_rule_by (takes_argument name) (option_word name)
 
 -- a parser of operands and these options, with nothing of its own
 abbrev pub app_with : List ℕ → List OptionName → App
-app_with name options = on_top (λ shape. record shape { no_binary_name = true; disable_help_flag = true; rules = operand_rule ∷ map option_rule options; }) (new_app name)
+app_with name options = on_top (λ shape. record shape { no_binary_name = true; disable_help_flag = true; rules = operand_rule ∷ map option_rule options }) (new_app name)
 
 -- the parser of a row
 abbrev pub app_for : Row → App

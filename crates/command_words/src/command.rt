@@ -68,10 +68,7 @@ pub enum Command<'a> {
 /// A number stands in one to twenty decimal digits, and is below 2^64; an address is `127.0.0.1:` and a port
 /// in one to five decimal digits, from 1 to 65,535. An `AllocError` comes where memory is wanted, and says
 /// nothing of the words.
-pub fn read_words<'a>(
-    alloc: Global,
-    words: &'a [String],
-) -> Result<Option<Command<'a>>, AllocError>
+pub fn read_words<'a>(alloc: Global, words: &'a [String]) -> Result<Option<Command<'a>>, AllocError>
     ensures found { IfOk result (λ read. IfSome read (λ command. IsCommand (map string_bytes words.entry.now) (view command))) }
     ensures only { IfOk result (λ read. (asked : CommandView) → IsCommand (map string_bytes words.entry.now) asked
         → option_map view read ≡ Some asked) }
@@ -80,10 +77,7 @@ pub fn read_words<'a>(
 }
 
 /// The same by the first word and the others.
-fn read_first<'a>(
-    alloc: Global,
-    words: &'a [String],
-) -> Result<Option<Command<'a>>, AllocError>
+fn read_first<'a>(alloc: Global, words: &'a [String]) -> Result<Option<Command<'a>>, AllocError>
     ensures { IfOk result (λ read. IsReading (map string_bytes words.entry.now) (option_map view read)) }
 {
     match words.split_first() {

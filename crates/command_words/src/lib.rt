@@ -3,8 +3,10 @@
 
 mod address;
 mod command;
+mod laws;
 mod number;
 mod parser;
 mod table;
 
 pub use command::{Command, read_words};
+pub use laws::words_have_one_command;

@@ -1,4 +1,4 @@
-use Rattle.std.proofs.Common.{◌≡◌, codes, sym, ap, ◌∙◌}
+use Rattle.std.proofs.Common.{codes, sym, ap, ◌∙◌}
 use Rattle.clap.specs.Matches.{found_of}
 use Rattle.clap.specs.Walk.{all_of, rows_of}
 use Rattle.clap.proofs.WalkLemmas.{raw_values-rows}
