@@ -22,19 +22,20 @@ use Rattle.command_words.specs.declared.table.OptionName.{OptionName}
 use Rattle.command_words.specs.declared.table.Sought.{Sought}
 use Rattle.command_words.specs.declared.table.Sought.TheVariants.{Operands, Arguments}
 use Rattle.command_words.specs.declared.command.Command.{Command}
-use Rattle.command_words.specs.Table.{row_of, option_word, command_named}
+use Rattle.command_words.specs.Table.{row_of, command_named}
 use Rattle.command_words.specs.Line.{line_words, texts_of}
 use Rattle.command_words.specs.Command.{CommandView, IsCommand, view}
 use Rattle.command_words.specs.Parser.{app_for, app_with, id_of, kept_in, operand_rule, option_rule}
 use Rattle.command_words.specs.Asked.{IsAsked, IsRead, IsReading, Parses, kept_count, kept_said, said_by}
 use Rattle.command_words.proofs.Numbers.{both_pass}
 use Rattle.command_words.proofs.Tables.{command_named-sound, command_named-complete, option_named-complete}
-use Rattle.command_words.proofs.Rules.{app, built-is, is-simple, by-id, option_by, rules, shape}
+use Rattle.command_words.proofs.Rules.{app, built-is, is-simple, rules, shape}
 use Rattle.command_words.proofs.Steps.{at, nothing-more}
 use Rattle.command_words.proofs.Uses.{holds-nothing}
 use Rattle.command_words.proofs.Walks.{end, end_rows, total}
-use Rattle.command_words.proofs.Sound.{IsReadable, sound}
-use Rattle.command_words.proofs.Complete.{IsFindable, complete}
+use Rattle.command_words.proofs.Options.{IsReadable}
+use Rattle.command_words.proofs.Sound.{sound}
+use Rattle.command_words.proofs.Complete.{complete}
 use Rattle.command_words.proofs.Sayings.{Taken, command_said-sound, command_said-complete}
 use Rattle.command_words.proofs.Defaults.{all-defaults-pass, check-passes, defaulted}
 use Rattle.command_words.proofs.Strict.{said-items}
@@ -66,10 +67,7 @@ matches-are name words = ap {B = Sought → Option (List Text)} (λ (own : App) 
 
 -- the rows of the table
 rows-readable : (name : CommandName) → IsReadable (row_of name)
-rows-readable name = record { by_id = λ option of_row takes. by-id (row_of name) option (option_named-complete name option of_row) ∙ ap (λ (b : Bool). Some (option_by b (option_word option))) takes }
-
-rows-findable : (name : CommandName) → IsFindable (row_of name)
-rows-findable name = record { named = option_named-complete name; by_id = (rows-readable name).by_id }
+rows-readable name = record { named = option_named-complete name }
 
 -- a fact of each, of some, and of one
 each : {X : Type 0} (P : X → Type 0) (xs : List X) → ((x : X) → P x) → AllByRecursion P xs
@@ -127,7 +125,7 @@ kept-only name words asked is =
     let row = row_of name in
     let line = is.line in
     let once : (option : OptionName) → Contains row.options option → length (texts_of (Arguments option) line) ≤ 1 = λ option of_row. at_one (λ (own : OptionName). length (texts_of (Arguments own) line) ≤ 1) row.options option is.is_line.once of_row in
-    let passed = complete row (rows-findable name) line.items line.rest is.is_line.items false [] None (λ sought. []) refl holds-nothing once in
+    let passed = complete row (rows-readable name) line.items line.rest is.is_line.items false [] None (λ sought. []) refl holds-nothing once in
     let rows = left name (line_words line) in
     let taken : Taken row line = record { operands = is.is_line.operands; once = is.is_line.once } in
     let said = counted-said name (kept_at_end row rows) asked (count-same row rows line passed.holds ∙ is.is_line.operands) (said-same name rows line passed.holds ∙ command_said-complete name line asked taken is.says) in

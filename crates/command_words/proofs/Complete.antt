@@ -1,30 +1,26 @@
 -- The words of a line have no fault, and the rows keep its texts.
 use Rattle.std.proofs.Common.{◌≡◌, ◌∙◌, ◌≤◌, Bool, true, false, List, [], ◌∷◌, ◌++◌, length, Option, Some, None, refl, sym, ap, subst, arith}
-use Rattle.std.specs.Prelude.{Contains, codes, flat_map}
+use Rattle.std.specs.Prelude.{Contains, codes}
 use Rattle.std.specs.List.{AllByRecursion}
 use Rattle.std.specs.Option.{option_map_or}
-use Rattle.std.proofs.lemmas.List.{append-nil, append_assoc, length-append}
-use Rattle.clap.specs.Walk.{Row as Kept, Rule, Text, Waiting, Walk, idle, option as awaits, arg_by_id, used, used_by_id}
+use Rattle.std.proofs.lemmas.List.{length-append}
+use Rattle.clap.specs.Walk.{Row as Kept, Rule, Text, Waiting, Walk, idle, option as awaits, used, used_by_id}
 use Rattle.clap.specs.Kinds.{Kinds, or_else}
 use Rattle.clap.specs.Lexer.{name_and_value}
 use Rattle.clap.specs.Faults.{use_fault, walk_fault}
 use Rattle.command_words.specs.declared.table.OptionName.{OptionName}
-use Rattle.command_words.specs.declared.table.OptionName.TheVariants as options
 use Rattle.command_words.specs.declared.table.Sought.{Sought}
-use Rattle.command_words.specs.declared.table.Sought.TheVariants.{Operands, Arguments}
-use Rattle.command_words.specs.Table.{Row, option_word, option_named, takes_argument, is_same_option}
-use Rattle.command_words.specs.Line.{Item, Operand, Flag, Joined, Apart, Line, IsItem, begins_with_dash, is_operand, item_texts, item_words, line_words, long, rest_texts, rest_words, texts_of}
-use Rattle.command_words.proofs.Rules.{option_by, rules}
+use Rattle.command_words.specs.declared.table.Sought.TheVariants.{Arguments}
+use Rattle.command_words.specs.Table.{Row, option_word}
+use Rattle.command_words.specs.Line.{Item, Operand, Flag, Joined, Apart, Line, IsItem, begins_with_dash, is_operand, item_texts, item_words, line_words, long, texts_of}
+use Rattle.command_words.proofs.Tables.{same_option}
+use Rattle.command_words.proofs.Rules.{option_by}
 use Rattle.command_words.proofs.Steps.{Pending, Turns, at, free, owed, settle, awaited-turn, delimiter-turn, flag-turn, joined-turn, operand-turn, option-turn}
 use Rattle.command_words.proofs.Words.{operand-bare, option_word-begins, option_word-parts, option_word-whole}
-use Rattle.command_words.proofs.Options.{Finds, finds}
+use Rattle.command_words.proofs.Options.{Finds, IsReadable, finds, value-by-id}
+use Rattle.command_words.proofs.Lines.{own-texts-put, put, texts-empty, texts-put, words-put}
 use Rattle.command_words.proofs.Uses.{Given, Holds, absent-row, holds-same, with_item, operand-holds, value-holds, flag-holds, value-passes, flag-passes, joined-gives, apart-gives}
 use Rattle.command_words.proofs.Walks.{end_rows, end_rows-more, pass-both, total, total-more, trailing-holds, trailing-passes}
-
--- each option of the row is found
-pub record IsFindable (row : Row) : Type 0 where
-  pub named : (name : OptionName) → Contains row.options name → option_named row (option_word name) ≡ Some name
-  pub by_id : (name : OptionName) → Contains row.options name → takes_argument name ≡ true → arg_by_id (rules row) (option_word name) ≡ Some (option_by true (option_word name))
 
 -- the words have no fault, and the rows hold what is given
 pub record Passed (row : Row) (walk : Walk) (words : List Text) (given : Given) : Type 0 where
@@ -72,15 +68,6 @@ value-turn row waiting rows pending name value own =
 abbrev OnceIn : Row → Given → Line → Type 0
 OnceIn row given line = (name : OptionName) → Contains row.options name → length (given (Arguments name) ++ texts_of (Arguments name) line) ≤ 1
 
-abbrev put : Item → Line → Line
-put item line = record { items = item ∷ line.items; rest = line.rest }
-
--- what an item and the line after it give
-texts-put : (given : Given) (item : Item) (line : Line) (sought : Sought) → with_item item given sought ++ texts_of sought line ≡ given sought ++ texts_of sought (put item line)
-texts-put given item line sought =
-    append_assoc (given sought) (item_texts sought item) (texts_of sought line)
-    ∙ ap (λ (more : List Text). given sought ++ more) (sym (append_assoc (item_texts sought item) (flat_map (item_texts sought) line.items) (rest_texts sought line.rest)))
-
 once-put : (row : Row) (given : Given) (item : Item) (line : Line) → OnceIn row given (put item line) → OnceIn row (with_item item given) line
 once-put row given item line once name of_row = subst (λ (texts : List Text). length texts ≤ 1) (sym (texts-put given item line (Arguments name))) (once name of_row)
 
@@ -93,26 +80,17 @@ no-more (first ∷ before) now later text is once =
 not-before : (row : Row) (given : Given) (item : Item) (line : Line) (name : OptionName) (text : Text) → item_texts (Arguments name) item ≡ text ∷ [] → Contains row.options name → OnceIn row given (put item line) → given (Arguments name) ≡ []
 not-before row given item line name text is of_row once =
     no-more (given (Arguments name)) (item_texts (Arguments name) item) (texts_of (Arguments name) line) text is
-    (subst (λ (texts : List Text). length (given (Arguments name) ++ texts) ≤ 1) (append_assoc (item_texts (Arguments name) item) (flat_map (item_texts (Arguments name)) line.items) (rest_texts (Arguments name) line.rest)) (once name of_row))
-
-same-option : (name : OptionName) → is_same_option name name ≡ true
-same-option options.Sessions = refl
-same-option options.Turns = refl
-same-option options.Dump = refl
+    (subst (λ (texts : List Text). length (given (Arguments name) ++ texts) ≤ 1) (own-texts-put item line (Arguments name)) (once name of_row))
 
 -- a line of these items
 abbrev Complete : Row → List Item → Option (List Text) → Type 0
 Complete row items rest = (after_operand : Bool) (rows : List Kept) (pending : Pending) (given : Given) → owed row rows pending ≡ [] → Holds (settle row rows pending) given → OnceIn row given (record { items = items; rest = rest })
     → Passed row (at (free after_operand) false rows pending) (line_words (record { items = items; rest = rest })) (λ sought. given sought ++ texts_of sought (record { items = items; rest = rest }))
 
-nothing-given : (sought : Sought) → texts_of sought (record { items = []; rest = None }) ≡ []
-nothing-given Operands = refl
-nothing-given (Arguments name) = refl
-
 no-items : (row : Row) (rest : Option (List Text)) → Complete row [] rest
 unfolding walk_fault
 no-items row None after_operand rows pending given none holds once =
-    passed-same row _ [] given _ (λ sought. sym (ap (λ (more : List Text). given sought ++ more) (nothing-given sought) ∙ append-nil (given sought))) (record { none = none; holds = holds })
+    passed-same row _ [] given _ (λ sought. texts-empty given sought) (record { none = none; holds = holds })
 no-items row (Some words) after_operand rows pending given none holds once =
     let waiting = free after_operand in
     passed-more row _ _ (codes "--") words _ _ (delimiter-turn row waiting rows pending) refl
@@ -121,14 +99,14 @@ no-items row (Some words) after_operand rows pending given none holds once =
 not-dashed : (word : Text) → begins_with_dash word ≡ false → is_operand word ≡ true
 not-dashed word undashed = rw undashed refl
 
-module _ (row : Row) (findable : IsFindable row) (items : List Item) (rest : Option (List Text)) (later : Complete row items rest) where
+module _ (row : Row) (readable : IsReadable row) (items : List Item) (rest : Option (List Text)) (later : Complete row items rest) where
   abbrev line : Line
   line = record { items = items; rest = rest }
 
   -- the words of an item, and of the line after it
   from-item : (walk : Walk) (item : Item) (given : Given) → Passed row walk (item_words item ++ line_words line) (λ sought. with_item item given sought ++ texts_of sought line) → Passed row walk (line_words (put item line)) (λ sought. given sought ++ texts_of sought (put item line))
   from-item walk item given passed =
-      subst (λ (words : List Text). Passed row walk words (λ sought. given sought ++ texts_of sought (put item line))) (sym (append_assoc (item_words item) (flat_map item_words items) (rest_words rest)))
+      subst (λ (words : List Text). Passed row walk words (λ sought. given sought ++ texts_of sought (put item line))) (sym (words-put item line))
       (passed-same row walk _ _ _ (λ sought. texts-put given item line sought) passed)
 
   item-more : (item : Item) → IsItem row item → Complete row (item ∷ items) rest
@@ -138,24 +116,24 @@ module _ (row : Row) (findable : IsFindable row) (items : List Item) (rest : Opt
       (later true base (Some (codes "operands", word ∷ [])) (with_item (Operand word) given) refl (operand-holds base given word holds) (once-put row given (Operand word) line once)))
   item-more (Flag name) is after_operand rows pending given none holds once =
       let base = settle row rows pending in
-      let own = finds row name false is.0 (findable.named name is.0) is.1 in
-      let gives : item_texts (Arguments name) (Flag name) ≡ [] ∷ [] = rw (same-option name) refl in
+      let own = finds row name false is.0 (readable.named name is.0) is.1 in
+      let gives : item_texts (Arguments name) (Flag name) ≡ [] ∷ [] = rw (same_option name) refl in
       let absent = absent-row base given (Arguments name) holds (not-before row given (Flag name) line name [] gives is.0 once) in
       from-item _ (Flag name) given (passed-more row _ _ (long name) _ _ _ (set-turn row (free after_operand) rows pending name own) (pass-both _ _ none (flag-passes (option_word name) base absent))
       (later false (used (option_by false (option_word name)) [] base) None (with_item (Flag name) given) refl (flag-holds base given name is.1 holds absent) (once-put row given (Flag name) line once)))
   item-more (Joined name value) is after_operand rows pending given none holds once =
       let base = settle row rows pending in
-      let own = finds row name true is.0 (findable.named name is.0) is.1 in
-      let gives : item_texts (Arguments name) (Joined name value) ≡ value ∷ [] = rw (same-option name) refl in
+      let own = finds row name true is.0 (readable.named name is.0) is.1 in
+      let gives : item_texts (Arguments name) (Joined name value) ≡ value ∷ [] = rw (same_option name) refl in
       let absent = absent-row base given (Arguments name) holds (not-before row given (Joined name value) line name value gives is.0 once) in
       from-item _ (Joined name value) given (passed-more row _ _ (long name ++ 61 ∷ value) _ _ _ (value-turn row (free after_operand) rows pending name value own) (pass-both _ _ none (value-passes (option_word name) value base absent))
       (later false (used (option_by true (option_word name)) (value ∷ []) base) None (with_item (Joined name value) given) refl (value-holds base given name value (Joined name value) is.1 (joined-gives name value) holds absent) (once-put row given (Joined name value) line once)))
   item-more (Apart name value) is after_operand rows pending given none holds once =
       let base = settle row rows pending in
       let id = option_word name in
-      let own = finds row name true is.0 (findable.named name is.0) is.1 in
-      let found = findable.by_id name is.0 is.1 in
-      let gives : item_texts (Arguments name) (Apart name value) ≡ value ∷ [] = rw (same-option name) refl in
+      let own = finds row name true is.0 (readable.named name is.0) is.1 in
+      let found = value-by-id row readable name own in
+      let gives : item_texts (Arguments name) (Apart name value) ≡ value ∷ [] = rw (same_option name) refl in
       let absent = absent-row base given (Arguments name) holds (not-before row given (Apart name value) line name value gives is.0 once) in
       let pending_none : owed row base (Some (id, value ∷ [])) ≡ [] = ap (λ (rule : Option Rule). option_map_or (λ (one : Rule). use_fault false one (value ∷ []) base) rule []) found ∙ value-passes id value base absent in
       let pending_holds : Holds (settle row base (Some (id, value ∷ []))) (with_item (Apart name value) given) =
@@ -166,6 +144,6 @@ module _ (row : Row) (findable : IsFindable row) (items : List Item) (rest : Opt
       (later false base (Some (id, value ∷ [])) (with_item (Apart name value) given) pending_none pending_holds (once-put row given (Apart name value) line once))))
 
 -- the words of each line pass
-pub complete : (row : Row) → IsFindable row → (items : List Item) (rest : Option (List Text)) → AllByRecursion (IsItem row) items → Complete row items rest
-complete row findable [] rest are = no-items row rest
-complete row findable (item ∷ items) rest are = item-more row findable items rest (complete row findable items rest are.1) item are.0
+pub complete : (row : Row) → IsReadable row → (items : List Item) (rest : Option (List Text)) → AllByRecursion (IsItem row) items → Complete row items rest
+complete row readable [] rest are = no-items row rest
+complete row readable (item ∷ items) rest are = item-more row readable items rest (complete row readable items rest are.1) item are.0

@@ -7,6 +7,7 @@ mod Steps
 mod Words
 mod Options
 mod Uses
+mod Lines
 mod Walks
 mod Sound
 mod Complete

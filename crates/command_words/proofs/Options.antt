@@ -2,12 +2,16 @@
 use Rattle.std.proofs.Common.{◌≡◌, ◌∙◌, Bool, true, false, ◌∷◌, ◌++◌, Option, Some, None, option_map, refl, sym, ap}
 use Rattle.std.specs.Prelude.{Contains}
 use Rattle.clap.specs.Lexer.{name_and_value}
-use Rattle.clap.specs.Walk.{Text, arg_by_long}
+use Rattle.clap.specs.Walk.{Text, arg_by_id, arg_by_long}
 use Rattle.command_words.specs.declared.table.OptionName.{OptionName}
 use Rattle.command_words.specs.Table.{Row, option_word, option_named, takes_argument}
-use Rattle.command_words.proofs.Rules.{option, option_by, rules, by-long}
+use Rattle.command_words.proofs.Rules.{option, option_by, rules, by-id, by-long}
 use Rattle.command_words.proofs.Tables.{Named, option_named-sound}
 use Rattle.command_words.proofs.Words.{Cut, Whole, Parts, cut_of}
+
+-- each option of the row is found by its name
+pub record IsReadable (row : Row) : Type 0 where
+  pub named : (name : OptionName) → Contains row.options name → option_named row (option_word name) ≡ Some name
 
 -- clap finds this option by its long name
 pub record Finds (row : Row) (takes : Bool) (name : OptionName) : Type 0 where
@@ -28,6 +32,10 @@ finds row name takes of_row named takes_is = record {
   takes_is = takes_is;
   found = by-long row (option_word name) ∙ ap (option_map option) named ∙ ap (λ (own : Bool). Some (option_by own (option_word name))) takes_is;
 }
+
+-- and by its own
+pub value-by-id : (row : Row) → IsReadable row → (name : OptionName) → Finds row true name → arg_by_id (rules row) (option_word name) ≡ Some (option_by true (option_word name))
+value-by-id row readable name own = by-id row name (readable.named name own.of_row) ∙ ap (λ (takes : Bool). Some (option_by takes (option_word name))) own.takes_is
 
 named-back : (row : Row) (text : Text) (name : OptionName) → text ≡ option_word name → option_named row text ≡ Some name → option_named row (option_word name) ≡ Some name
 named-back row text name is named = ap (option_named row) (sym is) ∙ named

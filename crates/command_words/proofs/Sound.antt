@@ -1,22 +1,20 @@
 -- Words without a fault are a line, of which the rows keep the texts. An option's value may be `-` there.
 use Rattle.std.proofs.Common.{◌≡◌, ◌∙◌, ℕ, Bool, true, false, List, [], ◌∷◌, ◌++◌, Option, Some, None, refl, sym, ap, subst}
-use Rattle.std.specs.Prelude.{Contains, codes, flat_map}
+use Rattle.std.specs.Prelude.{Contains, codes}
 use Rattle.std.specs.List.{AllByRecursion}
 use Rattle.std.specs.Str.{IsUtf8}
-use Rattle.std.proofs.lemmas.List.{append-nil, append_assoc}
-use Rattle.clap.specs.Walk.{Row as Kept, Text, Waiting, option as awaits, arg_by_id, used, used_by_id, Rule}
+use Rattle.clap.specs.Walk.{Row as Kept, Text, Waiting, option as awaits, used, used_by_id, Rule}
 use Rattle.clap.specs.Faults.{use_fault, walk_fault}
 use Rattle.std.specs.Option.{option_map_or}
 use Rattle.command_words.specs.declared.table.OptionName.{OptionName}
-use Rattle.command_words.specs.declared.table.Sought.{Sought}
-use Rattle.command_words.specs.declared.table.Sought.TheVariants.{Operands, Arguments}
 use Rattle.command_words.specs.Table.{Row, option_word, takes_argument}
-use Rattle.command_words.specs.Line.{Item, Operand, Flag, Joined, Apart, Line, is_operand, item_texts, item_words, line_words, long, rest_texts, rest_words, texts_of}
-use Rattle.command_words.proofs.Rules.{option_by, rules}
+use Rattle.command_words.specs.Line.{Item, Operand, Flag, Joined, Apart, Line, is_operand, item_words, line_words, long, rest_texts, texts_of}
+use Rattle.command_words.proofs.Rules.{option_by}
 use Rattle.command_words.proofs.Steps.{Pending, at, free, owed, settle, awaited-turn, delimiter-turn, flag-turn, joined-turn, operand-turn, option-turn, short-refused, unknown-refused, valued-refused}
 use Rattle.command_words.proofs.Words.{Form, Plain, Delimiter, Long, Short, form_of}
-use Rattle.command_words.proofs.Options.{Finds, Kind, Unknown, Valued, Opened, Assigned, Flagged, kind_of}
+use Rattle.command_words.proofs.Options.{Finds, IsReadable, value-by-id, Kind, Unknown, Valued, Opened, Assigned, Flagged, kind_of}
 use Rattle.command_words.proofs.Uses.{Given, Holds, holds-same, with_item, operand-holds, value-holds, flag-holds, value-absent, flag-absent, joined-gives, apart-gives}
+use Rattle.command_words.proofs.Lines.{put, texts-empty, texts-put, words-put}
 use Rattle.command_words.proofs.Walks.{both-pass, end_rows, end_rows-more, passes, refused-fails, total, trailing-holds, trailing-owed, unvalued-fails}
 
 -- an item of a line, where an option's value may be `-`
@@ -33,29 +31,21 @@ pub record Lined (row : Row) (words : List Text) (given : Given) (rows : List Ke
   pub are : AllByRecursion (IsLoose row) line.items
   pub holds : Holds rows (λ sought. given sought ++ texts_of sought line)
 
-abbrev put : Item → Line → Line
-put item line = record { items = item ∷ line.items; rest = line.rest }
-
 -- an item before a line
 put-first : (row : Row) (words : List Text) (given : Given) (rows : List Kept) (item : Item) → IsLoose row item → Lined row words (with_item item given) rows → Lined row (item_words item ++ words) given rows
 put-first row words given rows item is lined = record {
   line = put item lined.line;
-  words_are = ap (λ (later : List Text). item_words item ++ later) lined.words_are ∙ sym (append_assoc (item_words item) (flat_map item_words lined.line.items) (rest_words lined.line.rest));
+  words_are = ap (λ (later : List Text). item_words item ++ later) lined.words_are ∙ sym (words-put item lined.line);
   are = (is, lined.are);
-  holds = holds-same rows _ _ (λ sought. append_assoc (given sought) (item_texts sought item) (texts_of sought lined.line)
-      ∙ ap (λ (more : List Text). given sought ++ more) (sym (append_assoc (item_texts sought item) (flat_map (item_texts sought) lined.line.items) (rest_texts sought lined.line.rest)))) lined.holds;
+  holds = holds-same rows _ _ (λ sought. texts-put given item lined.line sought) lined.holds;
 }
-
-nothing-given : (sought : Sought) → texts_of sought (record { items = []; rest = None }) ≡ []
-nothing-given Operands = refl
-nothing-given (Arguments name) = refl
 
 no-words : (row : Row) (given : Given) (rows : List Kept) → Holds rows given → Lined row [] given rows
 no-words row given rows holds = record {
   line = record { items = []; rest = None };
   words_are = refl;
   are = tt;
-  holds = holds-same rows given _ (λ sought. sym (ap (λ (more : List Text). given sought ++ more) (nothing-given sought) ∙ append-nil (given sought))) holds;
+  holds = holds-same rows given _ (λ sought. texts-empty given sought) holds;
 }
 
 rest-line : (row : Row) (words : List Text) (given : Given) (rows : List Kept) → Holds rows (λ sought. given sought ++ rest_texts sought (Some words)) → Lined row (codes "--" ∷ words) given rows
@@ -80,14 +70,10 @@ abbrev Awaited : Row → List Text → Type 0
 Awaited row words = (name : OptionName) (rows : List Kept) (given : Given) → Finds row true name → Holds rows given → total row (at (awaits (option_word name)) false rows (Some (option_word name, []))) words ≡ []
     → Lined row (long name ∷ words) given (end_rows row (at (awaits (option_word name)) false rows (Some (option_word name, []))) words)
 
--- each option of the row is found by its name
-pub record IsReadable (row : Row) : Type 0 where
-  pub by_id : (name : OptionName) → Contains row.options name → takes_argument name ≡ true → arg_by_id (rules row) (option_word name) ≡ Some (option_by true (option_word name))
-
 -- an option's value that is pending
 pub settles-value : (row : Row) → IsReadable row → (name : OptionName) (rows : List Kept) (given : Given) (value : Text) → Finds row true name → Holds rows given → Settles row rows (Some (option_word name, value ∷ [])) (with_item (Apart name value) given)
 settles-value row readable name rows given value own holds none =
-    let found = readable.by_id name own.of_row own.takes_is in
+    let found = value-by-id row readable name own in
     let fault = sym (ap (λ (rule : Option Rule). option_map_or (λ (one : Rule). use_fault false one (value ∷ []) rows) rule []) found) ∙ none in
     subst (λ (rule : Option Rule). Holds (used_by_id rule (value ∷ []) rows) (with_item (Apart name value) given)) (sym found)
     (value-holds rows given name value (Apart name value) own.takes_is (apart-gives name value) holds (value-absent (option_word name) value rows fault))
@@ -160,7 +146,7 @@ module _ (row : Row) (readable : IsReadable row) (words : List Text) (later : Fr
   awaited-more : (word : Text) → Form word → Awaited row (word ∷ words)
   awaited-more word (Plain bare is) name rows given own holds none =
       let id = option_word name in
-      let turns = awaited-turn row id rows word bare (readable.by_id name own.of_row own.takes_is) in
+      let turns = awaited-turn row id rows word bare (value-by-id row readable name own) in
       let passed = passes row _ _ word words _ turns none in
       let settles : Settles row rows (Some (id, word ∷ [])) (with_item (Apart name word) given) = settles-value row readable name rows given word own holds in
       let lined = later false rows (Some (id, word ∷ [])) (with_item (Apart name word) given) settles passed.later in
@@ -170,10 +156,10 @@ module _ (row : Row) (readable : IsReadable row) (words : List Text) (later : Fr
       let waiting = awaits id in
       let turns = delimiter-turn row waiting rows (Some (id, [])) in
       let passed = passes row _ _ (codes "--") words _ turns (ap (λ (own : Text). total row (at waiting false rows (Some (id, []))) (own ∷ words)) (sym is) ∙ none) in
-      absurd (unvalued-fails row id rows (readable.by_id name own.of_row own.takes_is) (trailing-owed row waiting rows (Some (id, [])) words passed.later))
+      absurd (unvalued-fails row id rows (value-by-id row readable name own) (trailing-owed row waiting rows (Some (id, [])) words passed.later))
   awaited-more word (Long x xs is) name rows given own holds none =
       let id = option_word name in
-      absurd (unvalued-fails row id rows (readable.by_id name own.of_row own.takes_is)
+      absurd (unvalued-fails row id rows (value-by-id row readable name own)
       (dashed-owed (awaits id) rows (Some (id, [])) x xs (ap (λ (own : Text). total row (at (awaits id) false rows (Some (id, []))) (own ∷ words)) (sym is) ∙ none) (kind_of row (x ∷ xs))))
   awaited-more word (Short x c xs is other first) name rows given own holds none =
       let id = option_word name in
@@ -184,7 +170,7 @@ pub sound : (row : Row) → IsReadable row → (words : List Text) → AllByRecu
 unfolding walk_fault
 sound row readable [] utf8 = (
   λ after_operand rows pending given settles none. no-words row given _ (settles none),
-  λ name rows given own holds none. absurd (unvalued-fails row (option_word name) rows (readable.by_id name own.of_row own.takes_is) none),
+  λ name rows given own holds none. absurd (unvalued-fails row (option_word name) rows (value-by-id row readable name own) none),
 )
 sound row readable (word ∷ words) utf8 =
     let later = sound row readable words utf8.1 in

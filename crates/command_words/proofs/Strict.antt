@@ -10,11 +10,11 @@ use Rattle.command_words.specs.declared.table.CommandName.TheVariants as command
 use Rattle.command_words.specs.declared.table.OptionName.{OptionName}
 use Rattle.command_words.specs.declared.table.OptionName.TheVariants as options
 use Rattle.command_words.specs.declared.table.Sought.TheVariants.{Arguments}
-use Rattle.command_words.specs.Table.{Row, row_of, takes_argument, is_same_option}
+use Rattle.command_words.specs.Table.{Row, row_of, takes_argument}
 use Rattle.command_words.specs.Line.{Item, Operand, Flag, Joined, Apart, Line, IsItem, begins_with_dash, item_texts, texts_of}
 use Rattle.command_words.specs.Number.{IsNumber, SaysNumber}
 use Rattle.command_words.specs.Command.{CommandView, Serve, Replay, Says}
-use Rattle.command_words.proofs.Tables.{none-contained, not_of_replay}
+use Rattle.command_words.proofs.Tables.{none-contained, not_of_replay, same_option}
 use Rattle.command_words.proofs.Sound.{IsLoose}
 
 -- a text has no `-` at its front
@@ -58,17 +58,12 @@ all-later (text ∷ front) back all = all-later front back all.1
 abbrev Values : Row → List Item → Type 0
 Values row items = (option : OptionName) → Contains row.options option → takes_argument option ≡ true → AllByRecursion Undashed (flat_map (item_texts (Arguments option)) items)
 
-same-option : (option : OptionName) → is_same_option option option ≡ true
-same-option options.Sessions = refl
-same-option options.Turns = refl
-same-option options.Dump = refl
-
 strict-item : (row : Row) (item : Item) (items : List Item) → IsLoose row item → Values row (item ∷ items) → IsItem row item
 strict-item row (Operand word) items is values = is
 strict-item row (Flag name) items is values = is
 strict-item row (Joined name text) items is values = is
 strict-item row (Apart name text) items is values =
-    let own : item_texts (Arguments name) (Apart name text) ≡ text ∷ [] = rw (same-option name) refl in
+    let own : item_texts (Arguments name) (Apart name text) ≡ text ∷ [] = rw (same_option name) refl in
     let all = subst (λ (texts : List (List ℕ)). AllByRecursion Undashed (texts ++ flat_map (item_texts (Arguments name)) items)) own (values name is.0 is.1) in
     (is.0, is.1, all.0)
 

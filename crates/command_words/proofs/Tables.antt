@@ -7,7 +7,7 @@ use Rattle.command_words.specs.declared.table.CommandName.{CommandName}
 use Rattle.command_words.specs.declared.table.CommandName.TheVariants as commands
 use Rattle.command_words.specs.declared.table.OptionName.{OptionName}
 use Rattle.command_words.specs.declared.table.OptionName.TheVariants as options
-use Rattle.command_words.specs.Table.{Row, row_of, option_word, command_named, option_named, all_commands}
+use Rattle.command_words.specs.Table.{Row, row_of, option_word, command_named, option_named, all_commands, is_same_option}
 
 -- an element that passes
 pub record Found {X : Type 0} (test : X → Bool) (xs : List X) (x : X) : Type 0 where
@@ -77,3 +77,9 @@ command_named-complete commands.Check = refl
 command_named-complete commands.Dump = refl
 command_named-complete commands.Explain = refl
 command_named-complete commands.Sample = refl
+
+-- an option is the same as itself
+pub same_option : (name : OptionName) → is_same_option name name ≡ true
+same_option options.Sessions = refl
+same_option options.Turns = refl
+same_option options.Dump = refl

@@ -69,8 +69,9 @@ pub enum Command<'a> {
 /// in one to five decimal digits, from 1 to 65,535. An `AllocError` comes where memory is wanted, and says
 /// nothing of the words.
 pub fn read_words<'a>(alloc: Global, words: &'a [String]) -> Result<Option<Command<'a>>, AllocError>
-    ensures found { IfOk result (λ read. IfSome read (λ command. IsCommand (map string_bytes words.entry.now) (view command))) }
-    ensures only { IfOk result (λ read. (asked : CommandView) → IsCommand (map string_bytes words.entry.now) asked
+    ensures found { IfOk result (λ read. IfSome read (λ command.
+        IsCommand (map string_bytes words.now) (view command))) }
+    ensures only { IfOk result (λ read. (asked : CommandView) → IsCommand (map string_bytes words.now) asked
         → option_map view read ≡ Some asked) }
 {
     read_first(alloc, words)
@@ -78,7 +79,7 @@ pub fn read_words<'a>(alloc: Global, words: &'a [String]) -> Result<Option<Comma
 
 /// The same by the first word and the others.
 fn read_first<'a>(alloc: Global, words: &'a [String]) -> Result<Option<Command<'a>>, AllocError>
-    ensures { IfOk result (λ read. IsReading (map string_bytes words.entry.now) (option_map view read)) }
+    ensures { IfOk result (λ read. IsReading (map string_bytes words.now) (option_map view read)) }
 {
     match words.split_first() {
         Some((first, words)) => read_rest(alloc, first.as_str(), words),
@@ -92,7 +93,7 @@ fn read_rest<'a>(
     first: &str,
     words: &'a [String],
 ) -> Result<Option<Command<'a>>, AllocError>
-    ensures { IfOk result (λ read. IsReading (first.now ∷ map string_bytes words.entry.now) (option_map view read)) }
+    ensures { IfOk result (λ read. IsReading (first.now ∷ map string_bytes words.now) (option_map view read)) }
 {
     match CommandName::named(first) {
         Some(command) => read_line(alloc, command, words),
@@ -106,7 +107,7 @@ fn read_line<'a>(
     command: CommandName,
     words: &'a [String],
 ) -> Result<Option<Command<'a>>, AllocError>
-    ensures { IfOk result (λ read. IsRead command (map string_bytes words.entry.now) (option_map view read)) }
+    ensures { IfOk result (λ read. IsRead command (map string_bytes words.now) (option_map view read)) }
 {
     match parse(alloc, command, words)? {
         Some(matches) => Ok(read_matches(command, &matches)),

@@ -5,5 +5,6 @@ ghost use Rattle.command_words.specs.Command.{CommandView, IsCommand};
 
 /// Words are one command at most.
 pub fn words_have_one_command()
-    ensures { (words : List (List ℕ)) (one other : CommandView) → IsCommand words one → IsCommand words other → one ≡ other }
+    ensures { (words : List (List ℕ)) (one other : CommandView) → IsCommand words one → IsCommand words other
+        → one ≡ other }
 {}

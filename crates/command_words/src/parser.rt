@@ -55,7 +55,7 @@ pub fn parse<'a>(
     command: CommandName,
     words: &'a [String],
 ) -> Result<Option<ArgMatches<'a>>, AllocError>
-    ensures { IfOk result (Parses command (map string_bytes words.entry.now)) }
+    ensures { IfOk result (Parses command (map string_bytes words.now)) }
 {
     match parser(alloc, command)?.try_get_matches_from(words) {
         Ok(matches) => Ok(Some(matches)),
