@@ -110,6 +110,12 @@ pub Runs-performed :
 unfolding Runs Performs
 Runs-performed words asked before after status is performs = (performs.0, performs.1 words is, performs.2, performs.3)
 
+-- there was no memory to read them
+pub Runs-unread : (words : List (List ℕ)) (before after : Outside) → after.shelf.faults ≡ before.shelf.faults → after.out ≡ before.out → after.link ≡ before.link → Runs words before NoMemory after
+unfolding Runs Comes Links
+Runs-unread words before after stays out same =
+    (OutOfMemory, stays, Ends-no_memory OutOfMemory before.out after.out 0 (ap (λ written. written.put) out ∙ appended-none before.out.put) (ap (λ written. written.faults) out), same)
+
 -- they ask for nothing
 pub Runs-usage :
     (words : List (List ℕ)) (before after : Outside) (status : Status)

@@ -96,9 +96,10 @@ fn run_words<H: Shelf, K: Sink, L: Link>(
         (linked (L.journal link.new) (L.plan link.new) (L.faults link.new) (L.lost link.new))) }
     ensures kept { H.files shelf.new ≡ H.files shelf.old }
 {
-    match read_words(words) {
-        Some(command) => perform(alloc, command, shelf, out, link),
-        None => print_usage(out),
+    match read_words(alloc, words) {
+        Ok(Some(command)) => perform(alloc, command, shelf, out, link),
+        Ok(None) => print_usage(out),
+        Err(_) => Status::NoMemory,
     }
 }
 

@@ -1,146 +1,236 @@
--- The command of a line and of words: the function against the relation.
-use Rattle.std.proofs.Common.{◌≡◌, ℕ, ◌≤◌, Bool, true, false, sym, cond, eqb, leb, List, [], ◌∷◌, length, map, Option, Some, None, option_map, option_and_then, refl, ap, subst, ◌∙◌, arith}
-use Rattle.std.specs.Prelude.{IfSome}
-use Rattle.std.specs.List.{AllByRecursion, list_all}
-use Rattle.std.proofs.lemmas.Bool.{eqb-true, eq-eqb, leb-true, le-leb}
-use Rattle.std.proofs.lemmas.Option.{cond_some}
+-- What clap's matches say is what the words ask for, and its errors come where they ask for nothing.
+use Rattle.std.proofs.Common.{◌≡◌, ◌≢◌, ◌∙◌, ◌≤◌, ◌<◌, inl, inr, ℕ, zero, suc, Bool, true, false, cond, eqb, List, [], ◌∷◌, ◌++◌, length, get_or, map, Option, Some, None, option_map, refl, sym, ap, subst, arith}
+use Rattle.std.specs.Prelude.{Contains, IfSome, String, string_bytes}
+use Rattle.std.proofs.lemmas.List.{map-append}
+use Rattle.std.proofs.lemmas.Str.{IsUtf8-string_bytes}
+use Rattle.std.specs.List.{AllByRecursion}
+use Rattle.std.specs.Str.{IsUtf8}
+use Rattle.std.proofs.lemmas.Bool.{eqb-true, eq-eqb}
+use Rattle.std.proofs.lemmas.Option.{same_Some}
+use Rattle.clap.specs.Walk.{Row as Kept, Rule, Text, all_of, idle, nothing_held, rows_after, rows_of}
+use Rattle.clap.specs.Matches.{found_of}
+use Rattle.clap.specs.Simple.{App, HasMatchesOf, Shape, is_simple, matches_of, names_of, new_app, on_top, with_rule}
+use Rattle.clap.specs.Kinds.{HasKind, Kinds, or_else}
+use Rattle.clap.specs.Values.{kind_of}
+use Rattle.clap.specs.declared.error.Error.{Error}
+use Rattle.clap.specs.declared.error.kind.ErrorKind.TheVariants.{OutOfMemory}
+use Rattle.clap.specs.Faults.{built_fault, check_fault, fault_of, is_simple_and_free, settle_fault, walk_fault}
+use Rattle.clap.specs.declared.parser.matches.ArgMatches.{ArgMatches}
+use Rattle.clap.proofs.FaultLemmas.{leaf_fault}
 use Rattle.command_words.specs.declared.table.CommandName.{CommandName}
-use Rattle.command_words.specs.declared.table.Place.TheVariants.{BeforeDelimiter}
+use Rattle.command_words.specs.declared.table.OptionName.{OptionName}
+use Rattle.command_words.specs.declared.table.Sought.{Sought}
 use Rattle.command_words.specs.declared.table.Sought.TheVariants.{Operands, Arguments}
-use Rattle.command_words.specs.Table.{Row, row_of, command_named}
-use Rattle.command_words.specs.Line.{Line, IsLine, line_words, texts_of}
-use Rattle.command_words.specs.Command.{CommandView, IsCommand, view}
 use Rattle.command_words.specs.declared.command.Command.{Command}
-use Rattle.command_words.specs.Reading.{line_from, is_line, line_of, text_in, command_said, command_of}
-use Rattle.command_words.specs.Scan.{has_line}
-use Rattle.command_words.proofs.Numbers.{both_pass, passes_both, and_then-some}
+use Rattle.command_words.specs.Table.{row_of, command_named}
+use Rattle.command_words.specs.Line.{line_words, texts_of}
+use Rattle.command_words.specs.Command.{CommandView, IsCommand, view}
+use Rattle.command_words.specs.Parser.{app_for, app_with, id_of, kept_in, operand_rule, option_rule}
+use Rattle.command_words.specs.Asked.{IsAsked, IsRead, IsReading, Parses, kept_count, kept_said, said_by}
+use Rattle.command_words.proofs.Numbers.{both_pass}
 use Rattle.command_words.proofs.Tables.{command_named-sound, command_named-complete, option_named-complete}
-use Rattle.command_words.proofs.Lines.{IsReadable, line_from-sound, line_from-complete}
-use Rattle.command_words.proofs.Sayings.{command_said-sound, command_said-complete}
+use Rattle.command_words.proofs.Rules.{app, built-is, is-simple, rules, shape}
+use Rattle.command_words.proofs.Steps.{at, nothing-more}
+use Rattle.command_words.proofs.Uses.{holds-nothing}
+use Rattle.command_words.proofs.Walks.{end, end_rows, total}
+use Rattle.command_words.proofs.Options.{IsReadable}
+use Rattle.command_words.proofs.Sound.{sound}
+use Rattle.command_words.proofs.Complete.{complete}
+use Rattle.command_words.proofs.Sayings.{Taken, command_said-sound, command_said-complete}
+use Rattle.command_words.proofs.Defaults.{all-defaults-pass, check-passes, defaulted}
+use Rattle.command_words.proofs.Strict.{said-items}
+use Rattle.command_words.proofs.Said.{count-same, kept_at_end, said-same}
 
--- the test of each element, and the fact
-all_short : {X : Type 0} (size : X → ℕ) (xs : List X) → list_all (λ x. leb (size x) 1) xs ≡ true → AllByRecursion (λ x. size x ≤ 1) xs
-all_short size [] passed = tt
-all_short size (x ∷ xs) passed =
-    let both = both_pass (leb (size x) 1) (list_all (λ x. leb (size x) 1) xs) passed in
-    (leb-true (size x) 1 both.0, all_short size xs both.1)
+-- the rows that a walk over a command's words leaves, and its fault
+abbrev pub left : CommandName → List Text → List Kept
+left name words = end_rows (row_of name) (at idle false [] None) words
 
-short_all : {X : Type 0} (size : X → ℕ) (xs : List X) → AllByRecursion (λ x. size x ≤ 1) xs → list_all (λ x. leb (size x) 1) xs ≡ true
-short_all size [] all = refl
-short_all size (x ∷ xs) all = passes_both (leb (size x) 1) _ (le-leb (size x) 1 all.0) (short_all size xs all.1)
+abbrev pub fault : CommandName → List Text → Kinds
+fault name words = total (row_of name) (at idle false [] None) words
 
--- a line that the row takes
-record Taken (row : Row) (line : Line) : Type 0 where
-  operands : length (texts_of Operands line) ≡ row.operands
-  once : AllByRecursion (λ name. length (texts_of (Arguments name) line) ≤ 1) row.options
+-- clap's fault is that of the walk
+pub fault-is : (name : CommandName) (words : List Text) → fault_of (app_for (row_of name)) words ≡ fault name words
+fault-is name words =
+    let row = row_of name in
+    let walk = walk_fault (shape row) [] (at idle false [] None) words in
+    let settled = settle_fault (rules row) false (end row (at idle false [] None) words).held in
+    let checked = check_fault (shape row) (defaulted row (left name words)) false in
+    ap (λ (own : App). built_fault own nothing_held words) (built-is name)
+    ∙ leaf_fault (app row) nothing_held words refl
+    ∙ ap (λ (kinds : Kinds). or_else walk (or_else settled (or_else kinds checked))) (all-defaults-pass row (left name words))
+    ∙ ap (λ (kinds : Kinds). or_else walk (or_else settled kinds)) (check-passes name (defaulted row (left name words)))
+    ∙ ap (or_else walk) (nothing-more settled)
 
-is_line-sound : (row : Row) (line : Line) → is_line row line ≡ true → Taken row line
-unfolding is_line
-is_line-sound row line passed =
-    let both = both_pass (eqb (length (texts_of Operands line)) row.operands) (list_all (λ name. leb (length (texts_of (Arguments name) line)) 1) row.options) passed in
-    record { operands = eqb-true _ _ both.0; once = all_short (λ name. length (texts_of (Arguments name) line)) row.options both.1 }
-
-is_line-complete : (row : Row) (line : Line) → IsLine row line → is_line row line ≡ true
-unfolding is_line
-is_line-complete row line is =
-    passes_both (eqb (length (texts_of Operands line)) row.operands) _ (eq-eqb _ _ is.operands) (short_all (λ name. length (texts_of (Arguments name) line)) row.options is.once)
-
--- a line of the words that the row takes
-pub record LineOf (row : Row) (words : List (List ℕ)) (line : Line) : Type 0 where
-  pub words_are : words ≡ line_words line
-  pub is_line : IsLine row line
-
-checked-line : (row : Row) (found : Option Line) (line : Line) → option_and_then (λ (line : Line). cond (is_line row line) (Some line) None) found ≡ Some line → (found ≡ Some line) × (is_line row line ≡ true)
-checked-line row None line given = absurd (cc)
-checked-line row (Some found) line given =
-    let tests = cond_some (is_line row found) found line given in
-    (ap Some tests.1, subst (λ (other : Line). is_line row other ≡ true) tests.1 tests.0)
-
-pub line_of-sound : (row : Row) (words : List (List ℕ)) (line : Line) → line_of row words ≡ Some line → LineOf row words line
-unfolding line_of
-line_of-sound row words line given =
-    let tests = checked-line row (line_from row BeforeDelimiter words) line given in
-    let written = line_from-sound row words BeforeDelimiter line tt tests.0 in
-    let taken = is_line-sound row line tests.1 in
-    record { words_are = written.words_are; is_line = record { items = written.items; operands = taken.operands; once = taken.once } }
-
-pub line_of-complete : (row : Row) → IsReadable row → (line : Line) → IsLine row line → line_of row (line_words line) ≡ Some line
-unfolding line_of
-line_of-complete row readable line is =
-    rw (line_from-complete row readable line.items line.rest is.items, is_line-complete row line is) refl
+-- and clap's rows are those of the walk with the defaults
+pub matches-are : (name : CommandName) (words : List Text) → (λ (sought : Sought). all_of (id_of sought) (matches_of (app_for (row_of name)) words)) ≡ kept_at_end (row_of name) (left name words)
+matches-are name words = ap {B = Sought → Option (List Text)} (λ (own : App) (sought : Sought). all_of (id_of sought) (rows_after own.top.rules (names_of own) words)) (built-is name)
 
 -- the rows of the table
-pub rows-readable : (name : CommandName) → IsReadable (row_of name)
+rows-readable : (name : CommandName) → IsReadable (row_of name)
 rows-readable name = record { named = option_named-complete name }
 
--- the words of a command
-pub command_of-is : (words : List (List ℕ)) (asked : CommandView) → command_of words ≡ Some asked → IsCommand words asked
-unfolding command_of
-command_of-is [] asked given = absurd (cc)
-command_of-is (word ∷ words) asked given =
-    let named = and_then-some (λ (name : CommandName). option_and_then (λ (line : Line). command_said name (text_in (Some line))) (line_of (row_of name) words)) (command_named word) asked given in
-    let name = named.0 in
-    let read = and_then-some (λ (line : Line). command_said name (text_in (Some line))) (line_of (row_of name) words) asked named.2 in
-    let line = line_of-sound (row_of name) words read.0 read.1 in
-    let first : word ≡ (row_of name).name = command_named-sound word name named.1 in
+-- a fact of each, of some, and of one
+each : {X : Type 0} (P : X → Type 0) (xs : List X) → ((x : X) → P x) → AllByRecursion P xs
+each P [] all = tt
+each P (x ∷ xs) all = (all x, each P xs all)
+
+at_one : {X : Type 0} (P : X → Type 0) (xs : List X) (x : X) → AllByRecursion P xs → Contains xs x → P x
+at_one P [] x all contained = absurd (omega (arith, contained.1))
+at_one P (y ∷ ys) x all contained = by contained.0 contained.1 contained.2 (at_one P ys x all.1)
+  where
+    by : (i : ℕ) → i < suc (length ys) → get_or (y ∷ ys) i x ≡ x → (Contains ys x → P x) → P x
+    by zero below is later = subst P is all.0
+    by (suc i) below is later = later (i, omega (arith, below), is)
+
+-- what the command's operands say
+said-counted : (name : CommandName) (kept : Sought → Option (List Text)) (asked : CommandView) → said_by name kept ≡ Some asked → (kept_count (kept Operands) ≡ (row_of name).operands) × (kept_said name kept ≡ Some asked)
+unfolding said_by
+said-counted name kept asked given = by (eqb (kept_count (kept Operands)) (row_of name).operands) refl given
+  where
+    by : (b : Bool) → eqb (kept_count (kept Operands)) (row_of name).operands ≡ b → cond b (kept_said name kept) None ≡ Some asked → (kept_count (kept Operands) ≡ (row_of name).operands) × (kept_said name kept ≡ Some asked)
+    by true is said = (eqb-true _ _ is, said)
+    by false is said = absurd (cc)
+
+counted-said : (name : CommandName) (kept : Sought → Option (List Text)) (asked : CommandView) → kept_count (kept Operands) ≡ (row_of name).operands → kept_said name kept ≡ Some asked → said_by name kept ≡ Some asked
+unfolding said_by
+counted-said name kept asked count said = ap (λ (b : Bool). cond b (kept_said name kept) None) (eq-eqb _ _ count) ∙ said
+
+-- words without a fault ask for what is kept of them
+pub kept-found : (name : CommandName) (words : List Text) (asked : CommandView) → AllByRecursion IsUtf8 words → fault name words ≡ [] → said_by name (kept_at_end (row_of name) (left name words)) ≡ Some asked → IsAsked name words asked
+kept-found name words asked utf8 none given =
+    let row = row_of name in
+    let rows = left name words in
+    let lined = (sound row (rows-readable name) words utf8).0 false [] None (λ sought. []) (λ _. holds-nothing) none in
+    let line = lined.line in
+    let parts = said-counted name (kept_at_end row rows) asked given in
+    let taken : Taken row line = record {
+      operands = sym (count-same row rows line lined.holds) ∙ parts.0;
+      once = each (λ (option : OptionName). length (texts_of (Arguments option) line) ≤ 1) row.options (λ option. lined.holds.once option);
+    } in
+    let says = command_said-sound name line asked taken (sym (said-same name rows line lined.holds) ∙ parts.1) in
     record {
-      name = name;
-      line = read.0;
-      words_are = ap (λ (own : List ℕ). own ∷ words) first ∙ ap (λ (later : List (List ℕ)). (row_of name).name ∷ later) line.words_are;
-      is_line = line.is_line;
-      says = command_said-sound name read.0 asked line.is_line read.2;
+      line = line;
+      words_are = lined.words_are;
+      is_line = record { items = said-items name line asked lined.are says; operands = taken.operands; once = taken.once };
+      says = says;
     }
 
--- the command by its name and a line, if the words are one
-abbrev pub said_of : CommandName → Option Line → Option CommandView
-said_of name found = option_and_then (λ (line : Line). command_said name (text_in (Some line))) found
+-- words that ask for a command have no fault, and what is kept of them says it
+pub record Asked (name : CommandName) (words : List Text) (asked : CommandView) : Type 0 where
+  pub none : fault name words ≡ []
+  pub said : said_by name (kept_at_end (row_of name) (left name words)) ≡ Some asked
 
-pub command_of-more : (word : List ℕ) (words : List (List ℕ)) → command_of (word ∷ words) ≡ option_and_then (λ (name : CommandName). said_of name (line_of (row_of name) words)) (command_named word)
-unfolding command_of
-command_of-more word words = refl
+pub kept-only : (name : CommandName) (words : List Text) (asked : CommandView) → IsAsked name words asked → Asked name words asked
+kept-only name words asked is =
+    let row = row_of name in
+    let line = is.line in
+    let once : (option : OptionName) → Contains row.options option → length (texts_of (Arguments option) line) ≤ 1 = λ option of_row. at_one (λ (own : OptionName). length (texts_of (Arguments own) line) ≤ 1) row.options option is.is_line.once of_row in
+    let passed = complete row (rows-readable name) line.items line.rest is.is_line.items false [] None (λ sought. []) refl holds-nothing once in
+    let rows = left name (line_words line) in
+    let taken : Taken row line = record { operands = is.is_line.operands; once = is.is_line.once } in
+    let said = counted-said name (kept_at_end row rows) asked (count-same row rows line passed.holds ∙ is.is_line.operands) (said-same name rows line passed.holds ∙ command_said-complete name line asked taken is.says) in
+    subst (λ (all : List Text). Asked name all asked) (sym is.words_are) (record { none = passed.none; said = said })
 
-pub command_of-empty : command_of [] ≡ None
-unfolding command_of
-command_of-empty = refl
+-- what matches say, and what an error says
+pub matches-read : (name : CommandName) (words : List Text) (matches : ArgMatches) → AllByRecursion IsUtf8 words → fault_of (app_for (row_of name)) words ≡ [] → rows_of (found_of matches) ≡ matches_of (app_for (row_of name)) words
+    → Parses name words (Some matches)
+matches-read name words matches utf8 none are =
+    let kept : kept_in matches ≡ kept_at_end (row_of name) (left name words) = ap {B = Sought → Option (List Text)} (λ (rows : List Kept) (sought : Sought). all_of (id_of sought) rows) are ∙ matches-are name words in
+    subst (λ (own : Sought → Option (List Text)). IsRead name words (said_by name own)) (sym kept) (record {
+      found = λ asked given. kept-found name words asked utf8 (sym (fault-is name words) ∙ none) given;
+      only = λ asked is. (kept-only name words asked is).said;
+    })
 
-pub command_of-named : (word : List ℕ) (words : List (List ℕ)) (name : CommandName) → command_named word ≡ Some name → command_of (word ∷ words) ≡ said_of name (line_of (row_of name) words)
-command_of-named word words name named =
-    command_of-more word words ∙ ap (option_and_then (λ (name : CommandName). said_of name (line_of (row_of name) words))) named
+pub error-read : (name : CommandName) (words : List Text) → (fault_of (app_for (row_of name)) words ≡ [] → ⊥) → Parses name words None
+error-read name words fails = record {
+  found = λ asked given. absurd (cc);
+  only = λ asked is. absurd (fails (fault-is name words ∙ (kept-only name words asked is).none));
+}
 
-pub command_of-unnamed : (word : List ℕ) (words : List (List ℕ)) → command_named word ≡ None → command_of (word ∷ words) ≡ None
-command_of-unnamed word words none =
-    command_of-more word words ∙ ap (option_and_then (λ (name : CommandName). said_of name (line_of (row_of name) words))) none
+-- words of one command at most
+pub asked-once : (name : CommandName) (words : List Text) (one other : CommandView) → IsAsked name words one → IsAsked name words other → one ≡ other
+asked-once name words one other is is_other = same_Some one other (sym (kept-only name words one is).said ∙ (kept-only name words other is_other).said)
 
-pub command_of-reads : (words : List (List ℕ)) (asked : CommandView) → IsCommand words asked → command_of words ≡ Some asked
-command_of-reads words asked is =
-    let rest = line_words is.line in
-    ap command_of is.words_are
-    ∙ command_of-named (row_of is.name).name rest is.name (command_named-complete is.name)
-    ∙ ap (said_of is.name) (line_of-complete (row_of is.name) (rows-readable is.name) is.line is.is_line)
-    ∙ command_said-complete is.name is.line asked is.is_line is.says
+-- a command that words are, by its name and the other words
+pub record Named (first : Text) (words : List Text) (asked : CommandView) : Type 0 where
+  pub name : CommandName
+  pub named : command_named first ≡ Some name
+  pub is : IsAsked name words asked
 
--- words that are a line, and words that are none
-pub said-taken : (name : CommandName) (words : List (List ℕ)) → has_line (row_of name) (line_from (row_of name) BeforeDelimiter words) ≡ true → command_said name (text_in (line_from (row_of name) BeforeDelimiter words)) ≡ said_of name (line_of (row_of name) words)
-unfolding line_of is_line
-said-taken name words taken =
-    elim (line_from (row_of name) BeforeDelimiter words) as (λ (found : Option Line). has_line (row_of name) found ≡ true → command_said name (text_in found) ≡ said_of name (option_and_then (λ (line : Line). cond (is_line (row_of name) line) (Some line) None) found)) [
-      | None ↦ λ none. absurd (cc)
-      | Some line ↦ λ passed. sym (ap (λ (b : Bool). said_of name (cond b (Some line) None)) passed)
-    ] taken
+abbrev head_of : Text → List Text → Text
+head_of none [] = none
+head_of none (first ∷ words) = first
 
-pub said-none : (name : CommandName) (words : List (List ℕ)) → has_line (row_of name) (line_from (row_of name) BeforeDelimiter words) ≡ false → said_of name (line_of (row_of name) words) ≡ None
-unfolding line_of is_line
-said-none name words fails =
-    elim (line_from (row_of name) BeforeDelimiter words) as (λ (found : Option Line). has_line (row_of name) found ≡ false → said_of name (option_and_then (λ (line : Line). cond (is_line (row_of name) line) (Some line) None) found) ≡ None) [
-      | None ↦ λ none. refl
-      | Some line ↦ λ failed. ap (λ (b : Bool). said_of name (cond b (Some line) None)) failed
-    ] fails
+abbrev tail_of : List Text → List Text
+tail_of [] = []
+tail_of (first ∷ words) = words
+
+pub command-named : (first : Text) (words : List Text) (asked : CommandView) → IsCommand (first ∷ words) asked → Named first words asked
+command-named first words asked is =
+    let same : first ≡ (row_of is.name).name = ap (head_of first) is.words_are in
+    record {
+      name = is.name;
+      named = ap command_named same ∙ command_named-complete is.name;
+      is = record { line = is.line; words_are = ap tail_of is.words_are; is_line = is.is_line; says = is.says };
+    }
+
+named-command : (first : Text) (words : List Text) (name : CommandName) (asked : CommandView) → command_named first ≡ Some name → IsAsked name words asked → IsCommand (first ∷ words) asked
+named-command first words name asked named is = record {
+  name = name;
+  line = is.line;
+  words_are = ap (λ (own : Text). own ∷ words) (command_named-sound first name named) ∙ ap (λ (later : List Text). (row_of name).name ∷ later) is.words_are;
+  is_line = is.is_line;
+  says = is.says;
+}
+
+-- all words, by the command that the first names
+pub named-reading : (first : Text) (words : List Text) (name : CommandName) (read : Option CommandView) → command_named first ≡ Some name → IsRead name words read → IsReading (first ∷ words) read
+named-reading first words name read named is = record {
+  found = λ asked given. named-command first words name asked named (is.found asked given);
+  only = λ asked command. only asked (command-named first words asked command);
+}
+  where
+    only : (asked : CommandView) → Named first words asked → read ≡ Some asked
+    only asked own = is.only asked (subst (λ (other : CommandName). IsAsked other words asked) (same_Some own.name name (sym own.named ∙ named)) own.is)
+
+pub unnamed-reading : (first : Text) (words : List Text) → command_named first ≡ None → IsReading (first ∷ words) None
+unnamed-reading first words none = record {
+  found = λ asked given. absurd (cc);
+  only = λ asked command. absurd (let some : None ≡ Some (command-named first words asked command).name = sym none ∙ (command-named first words asked command).named in cc);
+}
+
+-- no words
+pub empty-reading : {X : Type 0} (text : X → Text) (xs : List X) → length xs ≡ 0 → IsReading (map text xs) None
+empty-reading text [] empty = record { found = λ asked given. absurd (cc); only = λ asked is. absurd (let words : [] ≡ (row_of is.name).name ∷ line_words is.line = is.words_are in cc) }
+empty-reading text (x ∷ xs) empty = absurd (omega (arith, empty))
 
 -- what is read is what the words are
-pub found-is : (words : List (List ℕ)) (read : Option Command) → option_map view read ≡ command_of words → IfSome read (λ command. IsCommand words (view command))
-found-is words None exact = tt
-found-is words (Some command) exact = command_of-is words (view command) (sym exact)
+pub found-is : (words : List Text) (read : Option Command) → IsReading words (option_map view read) → IfSome read (λ command. IsCommand words (view command))
+found-is words None is = tt
+found-is words (Some command) is = is.found (view command) refl
 
-pub no-words-none : {X : Type 0} (view : X → List ℕ) (xs : List X) → length xs ≡ 0 → command_of (map view xs) ≡ None
-no-words-none view [] empty = command_of-empty
-no-words-none view (x ∷ xs) empty = absurd (omega (arith, empty))
+-- all words of the program are UTF-8
+pub all-utf8 : {Z : Type 0} (words : List (String Z)) → AllByRecursion IsUtf8 (map string_bytes words)
+all-utf8 [] = tt
+all-utf8 (word ∷ words) = (IsUtf8-string_bytes word, all-utf8 words)
+
+-- one more option of the parser
+pub app-more : (name : Text) (options : List OptionName) (option : OptionName) → with_rule (app_with name options) (option_rule option) ≡ app_with name (options ++ option ∷ [])
+app-more name options option = ap (λ (rules : List Rule). on_top (λ (shape : Shape). record shape { no_binary_name = true; disable_help_flag = true; rules = operand_rule ∷ rules }) (new_app name)) (sym (map-append option_rule options (option ∷ [])))
+
+-- the parser's answers, for a parser that is the command's
+pub matches-parse : (name : CommandName) (parser : App) (words : List Text) (matches : ArgMatches) → AllByRecursion IsUtf8 words → parser ≡ app_for (row_of name) → (is_simple_and_free parser ≡ true → fault_of parser words ≡ []) → HasMatchesOf parser words matches
+    → Parses name words (Some matches)
+matches-parse name parser words matches utf8 is none has =
+    let own = app_for (row_of name) in
+    let free = is-simple name in
+    let simple = (both_pass (is_simple own) _ free).0 in
+    matches-read name words matches utf8 (subst (λ (one : App). is_simple_and_free one ≡ true → fault_of one words ≡ []) is none free) (subst (λ (one : App). HasMatchesOf one words matches) is has simple).0
+
+pub error-parse : (name : CommandName) (parser : App) (words : List Text) (error : Error) → parser ≡ app_for (row_of name) → (is_simple_and_free parser ≡ true → HasKind (fault_of parser words) error) → kind_of error ≢ OutOfMemory → Parses name words None
+error-parse name parser words error is fails other =
+    error-read name words (λ none. by (subst (λ (kinds : Kinds). HasKind kinds error) none (subst (λ (one : App). is_simple_and_free one ≡ true → HasKind (fault_of one words) error) is fails (is-simple name))))
+  where
+    by : HasKind [] error → ⊥
+    by (inl memory) = other memory
+    by (inr among) = among

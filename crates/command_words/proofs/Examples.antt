@@ -1,153 +1,165 @@
--- The definitions on known command lines.
-use Rattle.std.proofs.Common.{◌≡◌, true, false, [], ◌∷◌, Some, None, refl}
-use Rattle.std.specs.Prelude.{codes}
+-- The definitions on known command lines: what clap keeps of the words after a command's name, and what that says.
+use Rattle.std.proofs.Common.{◌≡◌, true, false, cond, ℕ, List, [], ◌∷◌, length, Option, Some, None, refl}
+use Rattle.std.specs.Prelude.{codes, ◌==◌}
+use Rattle.clap.specs.Walk.{all_of}
+use Rattle.clap.specs.Simple.{matches_of}
+use Rattle.clap.specs.Faults.{fault_of}
+use Rattle.clap.proofs.OnLiterals.{clap_on_literals}
+use Rattle.command_words.specs.declared.table.CommandName.{CommandName}
+use Rattle.command_words.specs.declared.table.CommandName.TheVariants as commands
+use Rattle.command_words.specs.Table.{row_of}
 use Rattle.command_words.specs.Number.{number_of, number_within}
 use Rattle.command_words.specs.Address.{is_address, address_of}
-use Rattle.command_words.specs.Command.{Serve, Replay, Check, Dump, Explain, Sample}
-use Rattle.command_words.specs.Reading.{option_role, dashed_role, role_of, line_from, is_line, line_of, command_said, command_of}
+use Rattle.command_words.specs.Command.{CommandView, Serve, Replay, Check, Dump, Explain, Sample}
+use Rattle.command_words.specs.Parser.{app_for, id_of}
+use Rattle.command_words.specs.Asked.{command_said, said_by}
+
+-- what the words after a command's name ask for, by clap's matches, where it has no fault
+abbrev read : CommandName → List (List ℕ) → Option CommandView
+read name words = cond (length (fault_of (app_for (row_of name)) words) == 0) (said_by name (λ sought. all_of (id_of sought) (matches_of (app_for (row_of name)) words))) None
 
 -- `replay d s`
-two_operands : command_of (codes "replay" ∷ codes "d" ∷ codes "s" ∷ []) ≡ Some (Replay (codes "d") (codes "s") 1000000000000 false)
-unfolding option_role dashed_role role_of line_from is_line line_of command_said command_of
+two_operands : read commands.Replay (codes "d" ∷ codes "s" ∷ []) ≡ Some (Replay (codes "d") (codes "s") 1000000000000 false)
+unfolding clap_on_literals command_said said_by
 two_operands = refl
 
 -- `replay --turns 007 d s`
-apart : command_of (codes "replay" ∷ codes "--turns" ∷ codes "007" ∷ codes "d" ∷ codes "s" ∷ []) ≡ Some (Replay (codes "d") (codes "s") 7 false)
-unfolding option_role dashed_role role_of line_from is_line line_of command_said command_of number_of
+apart : read commands.Replay (codes "--turns" ∷ codes "007" ∷ codes "d" ∷ codes "s" ∷ []) ≡ Some (Replay (codes "d") (codes "s") 7 false)
+unfolding clap_on_literals command_said said_by number_of
 apart = refl
 
 -- `replay d --turns=0 -- -s`
-joined : command_of (codes "replay" ∷ codes "d" ∷ codes "--turns=0" ∷ codes "--" ∷ codes "-s" ∷ []) ≡ Some (Replay (codes "d") (codes "-s") 0 false)
-unfolding option_role dashed_role role_of line_from is_line line_of command_said command_of number_of
+joined : read commands.Replay (codes "d" ∷ codes "--turns=0" ∷ codes "--" ∷ codes "-s" ∷ []) ≡ Some (Replay (codes "d") (codes "-s") 0 false)
+unfolding clap_on_literals command_said said_by number_of
 joined = refl
 
 -- `replay - s`, where `-` is an operand
-dash : command_of (codes "replay" ∷ codes "-" ∷ codes "s" ∷ []) ≡ Some (Replay (codes "-") (codes "s") 1000000000000 false)
-unfolding option_role dashed_role role_of line_from is_line line_of command_said command_of
+dash : read commands.Replay (codes "-" ∷ codes "s" ∷ []) ≡ Some (Replay (codes "-") (codes "s") 1000000000000 false)
+unfolding clap_on_literals command_said said_by
 dash = refl
 
 -- `replay d s --turns -`
-dash_as_argument : command_of (codes "replay" ∷ codes "d" ∷ codes "s" ∷ codes "--turns" ∷ codes "-" ∷ []) ≡ None
-unfolding option_role dashed_role role_of line_from is_line line_of command_said command_of
+dash_as_argument : read commands.Replay (codes "d" ∷ codes "s" ∷ codes "--turns" ∷ codes "-" ∷ []) ≡ None
+unfolding clap_on_literals command_said said_by number_of
 dash_as_argument = refl
 
 -- `replay d s --turns=-1`
-below_zero : command_of (codes "replay" ∷ codes "d" ∷ codes "s" ∷ codes "--turns=-1" ∷ []) ≡ None
-unfolding option_role dashed_role role_of line_from is_line line_of command_said command_of number_of
+below_zero : read commands.Replay (codes "d" ∷ codes "s" ∷ codes "--turns=-1" ∷ []) ≡ None
+unfolding clap_on_literals command_said said_by number_of
 below_zero = refl
 
 -- `replay d s --turns 1 --turns 1`
-given_twice : command_of (codes "replay" ∷ codes "d" ∷ codes "s" ∷ codes "--turns" ∷ codes "1" ∷ codes "--turns" ∷ codes "1" ∷ []) ≡ None
-unfolding option_role dashed_role role_of line_from is_line line_of command_said command_of
+given_twice : read commands.Replay (codes "d" ∷ codes "s" ∷ codes "--turns" ∷ codes "1" ∷ codes "--turns" ∷ codes "1" ∷ []) ≡ None
+unfolding clap_on_literals command_said said_by
 given_twice = refl
 
 -- `replay d s --help`
-unknown_option : command_of (codes "replay" ∷ codes "d" ∷ codes "s" ∷ codes "--help" ∷ []) ≡ None
-unfolding option_role dashed_role role_of line_from is_line line_of command_said command_of
+unknown_option : read commands.Replay (codes "d" ∷ codes "s" ∷ codes "--help" ∷ []) ≡ None
+unfolding clap_on_literals command_said said_by
 unknown_option = refl
 
 -- `replay --dump d s`
-dumped : command_of (codes "replay" ∷ codes "--dump" ∷ codes "d" ∷ codes "s" ∷ []) ≡ Some (Replay (codes "d") (codes "s") 1000000000000 true)
-unfolding option_role dashed_role role_of line_from is_line line_of command_said command_of
+dumped : read commands.Replay (codes "--dump" ∷ codes "d" ∷ codes "s" ∷ []) ≡ Some (Replay (codes "d") (codes "s") 1000000000000 true)
+unfolding clap_on_literals command_said said_by
 dumped = refl
 
 -- `replay d s --turns 7 --dump`
-dumped_last : command_of (codes "replay" ∷ codes "d" ∷ codes "s" ∷ codes "--turns" ∷ codes "7" ∷ codes "--dump" ∷ []) ≡ Some (Replay (codes "d") (codes "s") 7 true)
-unfolding option_role dashed_role role_of line_from is_line line_of command_said command_of number_of
+dumped_last : read commands.Replay (codes "d" ∷ codes "s" ∷ codes "--turns" ∷ codes "7" ∷ codes "--dump" ∷ []) ≡ Some (Replay (codes "d") (codes "s") 7 true)
+unfolding clap_on_literals command_said said_by number_of
 dumped_last = refl
 
 -- `replay d -- --dump`
-dump_as_operand : command_of (codes "replay" ∷ codes "d" ∷ codes "--" ∷ codes "--dump" ∷ []) ≡ Some (Replay (codes "d") (codes "--dump") 1000000000000 false)
-unfolding option_role dashed_role role_of line_from is_line line_of command_said command_of
+dump_as_operand : read commands.Replay (codes "d" ∷ codes "--" ∷ codes "--dump" ∷ []) ≡ Some (Replay (codes "d") (codes "--dump") 1000000000000 false)
+unfolding clap_on_literals command_said said_by
 dump_as_operand = refl
 
 -- `replay d s --dump=1`
-dump_with_value : command_of (codes "replay" ∷ codes "d" ∷ codes "s" ∷ codes "--dump=1" ∷ []) ≡ None
-unfolding option_role dashed_role role_of line_from is_line line_of command_said command_of
+dump_with_value : read commands.Replay (codes "d" ∷ codes "s" ∷ codes "--dump=1" ∷ []) ≡ None
+unfolding clap_on_literals command_said said_by
 dump_with_value = refl
 
 -- `replay d s --dump=`
-dump_with_nothing : command_of (codes "replay" ∷ codes "d" ∷ codes "s" ∷ codes "--dump=" ∷ []) ≡ None
-unfolding option_role dashed_role role_of line_from is_line line_of command_said command_of
+dump_with_nothing : read commands.Replay (codes "d" ∷ codes "s" ∷ codes "--dump=" ∷ []) ≡ None
+unfolding clap_on_literals command_said said_by
 dump_with_nothing = refl
 
 -- `replay --dump d s --dump`
-dumped_twice : command_of (codes "replay" ∷ codes "--dump" ∷ codes "d" ∷ codes "s" ∷ codes "--dump" ∷ []) ≡ None
-unfolding option_role dashed_role role_of line_from is_line line_of command_said command_of
+dumped_twice : read commands.Replay (codes "--dump" ∷ codes "d" ∷ codes "s" ∷ codes "--dump" ∷ []) ≡ None
+unfolding clap_on_literals command_said said_by
 dumped_twice = refl
 
 -- `replay d s --turns --dump`
-dump_for_turns : command_of (codes "replay" ∷ codes "d" ∷ codes "s" ∷ codes "--turns" ∷ codes "--dump" ∷ []) ≡ None
-unfolding option_role dashed_role role_of line_from is_line line_of command_said command_of
+dump_for_turns : read commands.Replay (codes "d" ∷ codes "s" ∷ codes "--turns" ∷ codes "--dump" ∷ []) ≡ None
+unfolding clap_on_literals command_said said_by
 dump_for_turns = refl
 
 -- `check d`
-checked : command_of (codes "check" ∷ codes "d" ∷ []) ≡ Some (Check (codes "d"))
-unfolding option_role dashed_role role_of line_from is_line line_of command_said command_of
+checked : read commands.Check (codes "d" ∷ []) ≡ Some (Check (codes "d"))
+unfolding clap_on_literals command_said said_by
 checked = refl
 
 -- `check -- -d`
-checked_after : command_of (codes "check" ∷ codes "--" ∷ codes "-d" ∷ []) ≡ Some (Check (codes "-d"))
-unfolding option_role dashed_role role_of line_from is_line line_of command_said command_of
+checked_after : read commands.Check (codes "--" ∷ codes "-d" ∷ []) ≡ Some (Check (codes "-d"))
+unfolding clap_on_literals command_said said_by
 checked_after = refl
 
 -- `check d s`
-check_of_two : command_of (codes "check" ∷ codes "d" ∷ codes "s" ∷ []) ≡ None
-unfolding option_role dashed_role role_of line_from is_line line_of command_said command_of
+check_of_two : read commands.Check (codes "d" ∷ codes "s" ∷ []) ≡ None
+unfolding clap_on_literals command_said said_by
 check_of_two = refl
 
 -- `check d --dump`, whose option is none of the command
-check_dumped : command_of (codes "check" ∷ codes "d" ∷ codes "--dump" ∷ []) ≡ None
-unfolding option_role dashed_role role_of line_from is_line line_of command_said command_of
+check_dumped : read commands.Check (codes "d" ∷ codes "--dump" ∷ []) ≡ None
+unfolding clap_on_literals command_said said_by
 check_dumped = refl
 
 -- `dump d`
-dump_command : command_of (codes "dump" ∷ codes "d" ∷ []) ≡ Some (Dump (codes "d"))
-unfolding option_role dashed_role role_of line_from is_line line_of command_said command_of
+dump_command : read commands.Dump (codes "d" ∷ []) ≡ Some (Dump (codes "d"))
+unfolding clap_on_literals command_said said_by
 dump_command = refl
 
 -- `dump`
-dump_of_nothing : command_of (codes "dump" ∷ []) ≡ None
-unfolding option_role dashed_role role_of line_from is_line line_of command_said command_of
+dump_of_nothing : read commands.Dump [] ≡ None
+unfolding clap_on_literals command_said said_by
 dump_of_nothing = refl
 
 -- `dump --turns=1 d`
-dump_turned : command_of (codes "dump" ∷ codes "--turns=1" ∷ codes "d" ∷ []) ≡ None
-unfolding option_role dashed_role role_of line_from is_line line_of command_said command_of
+dump_turned : read commands.Dump (codes "--turns=1" ∷ codes "d" ∷ []) ≡ None
+unfolding clap_on_literals command_said said_by
 dump_turned = refl
 
 -- `serve d 127.0.0.1:389 --sessions=3`
-served : command_of (codes "serve" ∷ codes "d" ∷ codes "127.0.0.1:389" ∷ codes "--sessions=3" ∷ []) ≡ Some (Serve (codes "d") (codes "127.0.0.1:389") 3 1000000000000)
-unfolding option_role dashed_role role_of line_from is_line line_of command_said command_of number_of number_within is_address address_of
+served : read commands.Serve (codes "d" ∷ codes "127.0.0.1:389" ∷ codes "--sessions=3" ∷ []) ≡ Some (Serve (codes "d") (codes "127.0.0.1:389") 3 1000000000000)
+unfolding clap_on_literals command_said said_by number_of number_within is_address address_of
 served = refl
 
 -- `serve d 127.0.0.1:0`
-served_at_zero : command_of (codes "serve" ∷ codes "d" ∷ codes "127.0.0.1:0" ∷ []) ≡ None
-unfolding option_role dashed_role role_of line_from is_line line_of command_said command_of number_of number_within is_address address_of
+served_at_zero : read commands.Serve (codes "d" ∷ codes "127.0.0.1:0" ∷ []) ≡ None
+unfolding clap_on_literals command_said said_by number_of number_within is_address address_of
 served_at_zero = refl
 
 -- `serve d 127.0.0.1:389 --dump`, whose option is none of the command
-serve_dumped : command_of (codes "serve" ∷ codes "d" ∷ codes "127.0.0.1:389" ∷ codes "--dump" ∷ []) ≡ None
-unfolding option_role dashed_role role_of line_from is_line line_of command_said command_of
+serve_dumped : read commands.Serve (codes "d" ∷ codes "127.0.0.1:389" ∷ codes "--dump" ∷ []) ≡ None
+unfolding clap_on_literals command_said said_by
 serve_dumped = refl
 
 -- `explain d anonymous dc=t entry Read`
-explained : command_of (codes "explain" ∷ codes "d" ∷ codes "anonymous" ∷ codes "dc=t" ∷ codes "entry" ∷ codes "Read" ∷ []) ≡ Some (Explain (codes "d") (codes "anonymous") (codes "dc=t") (codes "entry") (codes "Read"))
-unfolding option_role dashed_role role_of line_from is_line line_of command_said command_of
+explained : read commands.Explain (codes "d" ∷ codes "anonymous" ∷ codes "dc=t" ∷ codes "entry" ∷ codes "Read" ∷ []) ≡ Some (Explain (codes "d") (codes "anonymous") (codes "dc=t") (codes "entry") (codes "Read"))
+unfolding clap_on_literals command_said said_by
 explained = refl
 
 -- `explain d anonymous dc=t entry`
-explain_of_four : command_of (codes "explain" ∷ codes "d" ∷ codes "anonymous" ∷ codes "dc=t" ∷ codes "entry" ∷ []) ≡ None
-unfolding option_role dashed_role role_of line_from is_line line_of command_said command_of
+explain_of_four : read commands.Explain (codes "d" ∷ codes "anonymous" ∷ codes "dc=t" ∷ codes "entry" ∷ []) ≡ None
+unfolding clap_on_literals command_said said_by
 explain_of_four = refl
 
 -- `sample 20000` and `sample 20001`
-sampled : command_of (codes "sample" ∷ codes "20000" ∷ []) ≡ Some (Sample 20000)
-unfolding option_role dashed_role role_of line_from is_line line_of command_said command_of number_of number_within
+sampled : read commands.Sample (codes "20000" ∷ []) ≡ Some (Sample 20000)
+unfolding clap_on_literals command_said said_by number_of number_within
 sampled = refl
 
-sample_too_great : command_of (codes "sample" ∷ codes "20001" ∷ []) ≡ None
-unfolding option_role dashed_role role_of line_from is_line line_of command_said command_of number_of number_within
+sample_too_great : read commands.Sample (codes "20001" ∷ []) ≡ None
+unfolding clap_on_literals command_said said_by number_of number_within
 sample_too_great = refl
 
 -- the least and the greatest port, and what is none

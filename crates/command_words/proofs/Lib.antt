@@ -1,12 +1,20 @@
-mod Equals
 mod Numbers
 mod Addresses
-mod Scans
+mod Rows
 mod Tables
-mod Roles
+mod Rules
+mod Steps
+mod Words
+mod Options
+mod Uses
 mod Lines
+mod Walks
+mod Sound
+mod Complete
 mod Sayings
+mod Defaults
+mod Said
+mod Strict
 mod Commands
-mod Texts
 pub mod Theorems
 mod Examples

@@ -1,19 +1,29 @@
 -- What a line of each command says: the function against the relation.
 use Rattle.std.proofs.Common.{◌≡◌, ℕ, ◌≤◌, Bool, eqb, List, [], ◌∷◌, length, Option, Some, option_map, is_some, sym, refl, ap, subst, ◌∙◌, arith}
 use Rattle.std.specs.Prelude.{slice_get}
+use Rattle.std.specs.List.{AllByRecursion}
 use Rattle.std.proofs.lemmas.Option.{same_Some}
 use Rattle.command_words.specs.declared.table.CommandName.{CommandName}
 use Rattle.command_words.specs.declared.table.CommandName.TheVariants as commands
 use Rattle.command_words.specs.declared.table.OptionName.TheVariants as options
 use Rattle.command_words.specs.declared.table.Sought.TheVariants.{Operands, Arguments}
-use Rattle.command_words.specs.Table.{row_of}
-use Rattle.command_words.specs.Line.{Line, IsLine, texts_of}
+use Rattle.command_words.specs.Table.{Row, row_of}
+use Rattle.command_words.specs.Line.{Line, texts_of}
 use Rattle.command_words.specs.Number.{number_said, number_within}
 use Rattle.command_words.specs.Address.{address_of}
 use Rattle.command_words.specs.Command.{CommandView, Serve, Replay, Check, Dump, Explain, Sample, Says, default_sessions, default_turns}
-use Rattle.command_words.specs.Reading.{text_in, command_said, ◌>>=◌}
+use Rattle.command_words.specs.Asked.{command_said, ◌>>=◌}
 use Rattle.command_words.proofs.Numbers.{and_then-some, number_said-sound, number_said-complete, number_within-sound, number_within-complete}
 use Rattle.command_words.proofs.Addresses.{address_of-sound, address_of-complete}
+
+-- a line has as many operands as the row wants, and each of its options once at most
+pub record Taken (row : Row) (line : Line) : Type 0 where
+  pub operands : length (texts_of Operands line) ≡ row.operands
+  pub once : AllByRecursion (λ name. length (texts_of (Arguments name) line) ≤ 1) row.options
+
+-- what the texts of a line say
+abbrev pub line_said : CommandName → Line → Option CommandView
+line_said name line = command_said name (λ sought index. slice_get (texts_of sought line) index) (λ option. is_some (slice_get (texts_of (Arguments option) line) 0))
 
 -- as many texts as are counted
 alone : (operands : List (List ℕ)) → length operands ≡ 1 → (text : List ℕ) × (operands ≡ text ∷ [])
@@ -93,7 +103,7 @@ serve_numbered data_file address sessions turns = do
   number ← number_said default_sessions (slice_get sessions 0)
   serve_heard data_file address number turns
 
-serve-sound : (line : Line) (asked : CommandView) → IsLine (row_of commands.Serve) line → serve_said (texts_of Operands line) (texts_of (Arguments options.Sessions) line) (texts_of (Arguments options.Turns) line) ≡ Some asked → Says commands.Serve line asked
+serve-sound : (line : Line) (asked : CommandView) → Taken (row_of commands.Serve) line → serve_said (texts_of Operands line) (texts_of (Arguments options.Sessions) line) (texts_of (Arguments options.Turns) line) ≡ Some asked → Says commands.Serve line asked
 serve-sound line asked is given =
     let sessions = texts_of (Arguments options.Sessions) line in
     let turns = texts_of (Arguments options.Turns) line in
@@ -118,7 +128,7 @@ serve-complete line data_file address number events says =
     ∙ ap (λ (found : Option ℕ). found >>= (λ (own : ℕ). serve_heard data_file address own turns)) (number_said-complete default_sessions sessions number says.2)
     ∙ ap (λ (found : Option ℕ). found >>= (λ (own : ℕ). Some (Serve data_file address number own))) (number_said-complete default_turns turns events says.3)
 
-replay-sound : (line : Line) (asked : CommandView) → IsLine (row_of commands.Replay) line → replay_said (texts_of Operands line) (texts_of (Arguments options.Turns) line) (is_some (slice_get (texts_of (Arguments options.Dump) line) 0)) ≡ Some asked → Says commands.Replay line asked
+replay-sound : (line : Line) (asked : CommandView) → Taken (row_of commands.Replay) line → replay_said (texts_of Operands line) (texts_of (Arguments options.Turns) line) (is_some (slice_get (texts_of (Arguments options.Dump) line) 0)) ≡ Some asked → Says commands.Replay line asked
 replay-sound line asked is given =
     let turns = texts_of (Arguments options.Turns) line in
     let dumps = texts_of (Arguments options.Dump) line in
@@ -131,7 +141,7 @@ replay-sound line asked is given =
       once-is_some dumps is.once.0,
     )
 
-replay-complete : (line : Line) (data_file script : List ℕ) (events : ℕ) (dump : Bool) → IsLine (row_of commands.Replay) line → Says commands.Replay line (Replay data_file script events dump) → replay_said (texts_of Operands line) (texts_of (Arguments options.Turns) line) (is_some (slice_get (texts_of (Arguments options.Dump) line) 0)) ≡ Some (Replay data_file script events dump)
+replay-complete : (line : Line) (data_file script : List ℕ) (events : ℕ) (dump : Bool) → Taken (row_of commands.Replay) line → Says commands.Replay line (Replay data_file script events dump) → replay_said (texts_of Operands line) (texts_of (Arguments options.Turns) line) (is_some (slice_get (texts_of (Arguments options.Dump) line) 0)) ≡ Some (Replay data_file script events dump)
 replay-complete line data_file script events dump is says =
     let turns = texts_of (Arguments options.Turns) line in
     let dumps = texts_of (Arguments options.Dump) line in
@@ -139,12 +149,12 @@ replay-complete line data_file script events dump is says =
     ∙ ap (λ (found : Option ℕ). found >>= (λ (own : ℕ). Some (Replay data_file script own (is_some (slice_get dumps 0))))) (number_said-complete default_turns turns events says.1)
     ∙ ap (λ (own : Bool). Some (Replay data_file script events own)) (once-is_some dumps is.once.0 ∙ sym says.2)
 
-explain-sound : (line : Line) (asked : CommandView) → IsLine (row_of commands.Explain) line → explain_said (texts_of Operands line) ≡ Some asked → Says commands.Explain line asked
+explain-sound : (line : Line) (asked : CommandView) → Taken (row_of commands.Explain) line → explain_said (texts_of Operands line) ≡ Some asked → Says commands.Explain line asked
 explain-sound line asked is given =
     let own = five (texts_of Operands line) is.operands in
     subst (Says commands.Explain line) (same_Some (Explain own.first own.second own.third own.fourth own.fifth) asked (sym (ap explain_said own.are) ∙ given)) own.are
 
-sample-sound : (line : Line) (asked : CommandView) → IsLine (row_of commands.Sample) line → sample_said (texts_of Operands line) ≡ Some asked → Says commands.Sample line asked
+sample-sound : (line : Line) (asked : CommandView) → Taken (row_of commands.Sample) line → sample_said (texts_of Operands line) ≡ Some asked → Says commands.Sample line asked
 sample-sound line asked is given =
     let own = alone (texts_of Operands line) is.operands in
     let counted = and_then-some (λ (count : ℕ). Some (Sample count)) (number_within 20 1 20000 own.0) asked (sym (ap sample_said own.1) ∙ given) in
@@ -161,7 +171,7 @@ file-sound name made line asked one says given =
     subst (Says name line) (same_Some (made own.0) asked (sym (ap (λ (texts : List (List ℕ)). option_map made (slice_get texts 0)) own.1) ∙ given)) (says own.0 own.1)
 
 -- what a line of a command says: one case a command
-pub command_said-sound : (name : CommandName) (line : Line) (asked : CommandView) → IsLine (row_of name) line → command_said name (text_in (Some line)) ≡ Some asked → Says name line asked
+pub command_said-sound : (name : CommandName) (line : Line) (asked : CommandView) → Taken (row_of name) line → line_said name line ≡ Some asked → Says name line asked
 unfolding command_said
 command_said-sound commands.Serve line asked is given = serve-sound line asked is given
 command_said-sound commands.Replay line asked is given = replay-sound line asked is given
@@ -170,7 +180,7 @@ command_said-sound commands.Dump line asked is given = file-sound commands.Dump 
 command_said-sound commands.Explain line asked is given = explain-sound line asked is given
 command_said-sound commands.Sample line asked is given = sample-sound line asked is given
 
-pub command_said-complete : (name : CommandName) (line : Line) (asked : CommandView) → IsLine (row_of name) line → Says name line asked → command_said name (text_in (Some line)) ≡ Some asked
+pub command_said-complete : (name : CommandName) (line : Line) (asked : CommandView) → Taken (row_of name) line → Says name line asked → line_said name line ≡ Some asked
 unfolding command_said
 command_said-complete commands.Serve line (Serve data_file address number events) is says = serve-complete line data_file address number events says
 command_said-complete commands.Replay line (Replay data_file script events dump) is says = replay-complete line data_file script events dump is says

@@ -1,5 +1,5 @@
 -- What is found in the tables of commands and options, and that each name is found.
-use Rattle.std.proofs.Common.{◌≡◌, ◌≢◌, ◌<◌, ℕ, zero, suc, Bool, true, false, cond, List, [], ◌∷◌, get_or, Some, None, refl, subst, arith}
+use Rattle.std.proofs.Common.{◌≡◌, ◌≢◌, ◌<◌, ℕ, zero, suc, Bool, true, false, cond, List, [], ◌∷◌, get_or, Some, refl, subst, arith}
 use Rattle.std.specs.Prelude.{Contains, find, bytes_eq}
 use Rattle.std.proofs.lemmas.Option.{same_Some}
 use Rattle.std.proofs.lemmas.Slice.Eq.{bytes_eq-Decides}
@@ -7,8 +7,7 @@ use Rattle.command_words.specs.declared.table.CommandName.{CommandName}
 use Rattle.command_words.specs.declared.table.CommandName.TheVariants as commands
 use Rattle.command_words.specs.declared.table.OptionName.{OptionName}
 use Rattle.command_words.specs.declared.table.OptionName.TheVariants as options
-use Rattle.command_words.specs.Table.{Row, row_of, option_word, command_named, option_named, all_commands}
-use Rattle.command_words.specs.Reading.{split_at_equals}
+use Rattle.command_words.specs.Table.{Row, row_of, option_word, command_named, option_named, all_commands, is_same_option}
 
 -- an element that passes
 pub record Found {X : Type 0} (test : X → Bool) (xs : List X) (x : X) : Type 0 where
@@ -40,7 +39,7 @@ command_named-sound word name given =
     (bytes_eq-Decides word (row_of name).name).0 found.passes
 
 -- nothing is of an empty list
-none-contained : {X : Type 0} (x : X) → Contains [] x → ⊥
+pub none-contained : {X : Type 0} (x : X) → Contains [] x → ⊥
 none-contained x contained = omega (arith, contained.1)
 
 -- nor is another option of two
@@ -55,7 +54,7 @@ not_of_two one other name not_one not_other contained = among contained.0 contai
 not_of_serve : Contains (row_of commands.Serve).options options.Dump → ⊥
 not_of_serve = not_of_two options.Sessions options.Turns options.Dump (λ same. cc) (λ same. cc)
 
-not_of_replay : Contains (row_of commands.Replay).options options.Sessions → ⊥
+pub not_of_replay : Contains (row_of commands.Replay).options options.Sessions → ⊥
 not_of_replay = not_of_two options.Dump options.Turns options.Sessions (λ same. cc) (λ same. cc)
 
 -- each option of a command is found by its name
@@ -79,13 +78,8 @@ command_named-complete commands.Dump = refl
 command_named-complete commands.Explain = refl
 command_named-complete commands.Sample = refl
 
--- names are not empty and have no `=`
-pub option_word-some : (name : OptionName) → option_word name ≢ []
-option_word-some options.Sessions empty = cc
-option_word-some options.Turns empty = cc
-option_word-some options.Dump empty = cc
-
-pub option_word-no_equals : (name : OptionName) → split_at_equals (option_word name) ≡ None
-option_word-no_equals options.Sessions = refl
-option_word-no_equals options.Turns = refl
-option_word-no_equals options.Dump = refl
+-- an option is the same as itself
+pub same_option : (name : OptionName) → is_same_option name name ≡ true
+same_option options.Sessions = refl
+same_option options.Turns = refl
+same_option options.Dump = refl

@@ -1,18 +1,15 @@
--- What crates above may cite: the reading of words is exact against what words are.
-use Rattle.std.proofs.Common.{◌≡◌, ℕ, List, Some, sym, ◌∙◌}
+-- What crates above may cite: words are one command at most.
+use Rattle.std.proofs.Common.{◌≡◌, ◌∙◌, ℕ, List, [], ◌∷◌, sym, subst}
 use Rattle.std.proofs.lemmas.Option.{same_Some}
+use Rattle.command_words.specs.declared.table.CommandName.{CommandName}
 use Rattle.command_words.specs.Command.{CommandView, IsCommand}
-use Rattle.command_words.specs.Reading.{command_of}
-use Rattle.command_words.proofs.Commands.{command_of-is, command_of-reads}
-
--- the command that is read is one that the words are
-pub command_of-sound : (words : List (List ℕ)) (asked : CommandView) → command_of words ≡ Some asked → IsCommand words asked
-command_of-sound = command_of-is
-
--- a command that the words are is read
-pub command_of-complete : (words : List (List ℕ)) (asked : CommandView) → IsCommand words asked → command_of words ≡ Some asked
-command_of-complete = command_of-reads
+use Rattle.command_words.specs.Asked.{IsAsked}
+use Rattle.command_words.proofs.Commands.{Named, asked-once, command-named}
 
 -- words are one command at most
 pub IsCommand-unique : (words : List (List ℕ)) (one other : CommandView) → IsCommand words one → IsCommand words other → one ≡ other
-IsCommand-unique words one other is is_other = same_Some one other (sym (command_of-reads words one is) ∙ command_of-reads words other is_other)
+IsCommand-unique [] one other is is_other = absurd (cc)
+IsCommand-unique (first ∷ words) one other is is_other = by (command-named first words one is) (command-named first words other is_other)
+  where
+    by : Named first words one → Named first words other → one ≡ other
+    by own theirs = asked-once own.name words one other own.is (subst (λ (name : CommandName). IsAsked name words other) (same_Some theirs.name own.name (sym theirs.named ∙ own.named)) theirs.is)

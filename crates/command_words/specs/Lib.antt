@@ -4,6 +4,6 @@ pub mod Line
 pub mod Number
 pub mod Address
 pub mod Command
-pub mod Reading
 -- for the inside of the crate alone
-pub mod Scan
+pub mod Parser
+pub mod Asked

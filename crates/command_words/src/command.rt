@@ -1,14 +1,16 @@
 //! The commands, and the words that ask for them.
 
-ghost use Rattle.std.specs.Prelude.{◌≡◌, ◌∷◌, map, option_map, string_bytes, Some, IfSome};
+ghost use Rattle.std.specs.Prelude.{◌≡◌, ◌∷◌, map, option_map, string_bytes, Some, IfOk, IfSome};
 ghost use Rattle.command_words.specs.Command.{CommandView, IsCommand, view};
-ghost use Rattle.command_words.specs.Reading.{line_read, text_in, command_said, command_of};
-ghost use Rattle.command_words.specs.Table.{row_of};
+ghost use Rattle.command_words.specs.Parser.{kept_in};
+ghost use Rattle.command_words.specs.Asked.{IsRead, IsReading, kept_said, said_by};
 
 use crate::address::address_of;
 use crate::number::{number_said, number_within};
-use crate::scan::{has_line, has_option, text_in};
-use crate::table::{CommandName, OptionName, Place, Sought};
+use crate::parser::{is_set, kept_count, kept_text, parse};
+use crate::table::{CommandName, OptionName, Sought};
+use clap::ArgMatches;
+use std::alloc::{AllocError, Global};
 
 /// After how many connections the serving ends where `--sessions` isn't given: it never does.
 const DEFAULT_SESSIONS: u64 = 0;
@@ -64,73 +66,91 @@ pub enum Command<'a> {
 /// at most once, as `--name text`, `--name=text` or, for one without an argument, `--name`; words after
 /// `--` are operands, and so is `-` alone (POSIX.1, Utility Syntax Guidelines; GNU's long options).
 /// A number stands in one to twenty decimal digits, and is below 2^64; an address is `127.0.0.1:` and a port
-/// in one to five decimal digits, from 1 to 65,535. Reading takes no memory.
-pub fn read_words(words: &[String]) -> Option<Command<'_>>
-    ensures exact { option_map view result ≡ command_of (map string_bytes words.now) }
-    ensures found { IfSome result (λ command. IsCommand (map string_bytes words.now) (view command)) }
-    ensures only { (asked : CommandView) → IsCommand (map string_bytes words.now) asked
-        → option_map view result ≡ Some asked }
+/// in one to five decimal digits, from 1 to 65,535. An `AllocError` comes where memory is wanted, and says
+/// nothing of the words.
+pub fn read_words<'a>(alloc: Global, words: &'a [String]) -> Result<Option<Command<'a>>, AllocError>
+    ensures found { IfOk result (λ read. IfSome read (λ command.
+        IsCommand (map string_bytes words.now) (view command))) }
+    ensures only { IfOk result (λ read. (asked : CommandView) → IsCommand (map string_bytes words.now) asked
+        → option_map view read ≡ Some asked) }
 {
-    read_first(words)
+    read_first(alloc, words)
 }
 
 /// The same by the first word and the others.
-fn read_first(words: &[String]) -> Option<Command<'_>>
-    ensures { option_map view result ≡ command_of (map string_bytes words.now) }
+fn read_first<'a>(alloc: Global, words: &'a [String]) -> Result<Option<Command<'a>>, AllocError>
+    ensures { IfOk result (λ read. IsReading (map string_bytes words.now) (option_map view read)) }
 {
-    let (first, words) = words.split_first()?;
-    read_rest(first.as_str(), words)
+    match words.split_first() {
+        Some((first, words)) => read_rest(alloc, first.as_str(), words),
+        None => Ok(None),
+    }
 }
 
 /// The same by the command that the first word names.
-fn read_rest<'a>(first: &str, words: &'a [String]) -> Option<Command<'a>>
-    ensures { option_map view result ≡ command_of (first.now ∷ map string_bytes words.now) }
+fn read_rest<'a>(
+    alloc: Global,
+    first: &str,
+    words: &'a [String],
+) -> Result<Option<Command<'a>>, AllocError>
+    ensures { IfOk result (λ read. IsReading (first.now ∷ map string_bytes words.now) (option_map view read)) }
 {
-    let command = CommandName::named(first)?;
-    if has_line(command, words) {
-        read_line(command, words)
+    match CommandName::named(first) {
+        Some(command) => read_line(alloc, command, words),
+        None => Ok(None),
+    }
+}
+
+/// What the words after a command's name ask for.
+fn read_line<'a>(
+    alloc: Global,
+    command: CommandName,
+    words: &'a [String],
+) -> Result<Option<Command<'a>>, AllocError>
+    ensures { IfOk result (λ read. IsRead command (map string_bytes words.now) (option_map view read)) }
+{
+    match parse(alloc, command, words)? {
+        Some(matches) => Ok(read_matches(command, &matches)),
+        None => Ok(None),
+    }
+}
+
+/// What the matches say, where they have as many operands as the command wants.
+#[tactic(auto, unfolding(crate::specs::Asked::said_by))]
+fn read_matches<'a>(command: CommandName, matches: &ArgMatches<'a>) -> Option<Command<'a>>
+    ensures { option_map view result ≡ said_by command (kept_in matches.now) }
+{
+    if kept_count(matches, Sought::Operands) == command.operands() {
+        read_kept(command, matches)
     } else {
         None
     }
 }
 
-/// What a line of a command says.
-#[tactic(auto, unfolding(crate::specs::Reading::command_said))]
-fn read_line(command: CommandName, words: &[String]) -> Option<Command<'_>>
-    ensures { option_map view result
-        ≡ command_said command (text_in (line_read (row_of command) (map string_bytes words.now))) }
+/// What the matches of a command say.
+fn read_kept<'a>(command: CommandName, matches: &ArgMatches<'a>) -> Option<Command<'a>>
+    ensures { option_map view result ≡ kept_said command (kept_in matches.now) }
 {
     match command {
-        CommandName::Serve => read_serve(words),
-        CommandName::Replay => read_replay(words),
-        CommandName::Check => read_check(words),
-        CommandName::Dump => read_dump(words),
-        CommandName::Explain => read_explain(words),
-        CommandName::Sample => read_sample(words),
+        CommandName::Serve => read_serve(matches),
+        CommandName::Replay => read_replay(matches),
+        CommandName::Check => read_check(matches),
+        CommandName::Dump => read_dump(matches),
+        CommandName::Explain => read_explain(matches),
+        CommandName::Sample => read_sample(matches),
     }
 }
 
-#[tactic(auto, unfolding(crate::specs::Reading::command_said))]
-fn read_serve(words: &[String]) -> Option<Command<'_>>
-    ensures { option_map view result
-        ≡ command_said CommandName.Serve (text_in (line_read (row_of CommandName.Serve) (map string_bytes words.now))) }
+#[tactic(auto, unfolding(crate::specs::Asked::command_said))]
+fn read_serve<'a>(matches: &ArgMatches<'a>) -> Option<Command<'a>>
+    ensures { option_map view result ≡ kept_said CommandName.Serve (kept_in matches.now) }
 {
-    let data = text_in(CommandName::Serve, words, Sought::Operands, 0)?;
-    let address = text_in(CommandName::Serve, words, Sought::Operands, 1)?;
+    let data = kept_text(matches, Sought::Operands, 0)?;
+    let address = kept_text(matches, Sought::Operands, 1)?;
     let address = address_of(address)?;
-    let sessions = text_in(
-        CommandName::Serve,
-        words,
-        Sought::Arguments(OptionName::Sessions),
-        0,
-    );
+    let sessions = kept_text(matches, Sought::Arguments(OptionName::Sessions), 0);
     let sessions = number_said(sessions, DEFAULT_SESSIONS)?;
-    let turns = text_in(
-        CommandName::Serve,
-        words,
-        Sought::Arguments(OptionName::Turns),
-        0,
-    );
+    let turns = kept_text(matches, Sought::Arguments(OptionName::Turns), 0);
     let turns = number_said(turns, DEFAULT_TURNS)?;
     Some(Command::Serve {
         data,
@@ -140,21 +160,15 @@ fn read_serve(words: &[String]) -> Option<Command<'_>>
     })
 }
 
-#[tactic(auto, unfolding(crate::specs::Reading::command_said))]
-fn read_replay(words: &[String]) -> Option<Command<'_>>
-    ensures { option_map view result
-        ≡ command_said CommandName.Replay (text_in (line_read (row_of CommandName.Replay) (map string_bytes words.now))) }
+#[tactic(auto, unfolding(crate::specs::Asked::command_said))]
+fn read_replay<'a>(matches: &ArgMatches<'a>) -> Option<Command<'a>>
+    ensures { option_map view result ≡ kept_said CommandName.Replay (kept_in matches.now) }
 {
-    let data = text_in(CommandName::Replay, words, Sought::Operands, 0)?;
-    let script = text_in(CommandName::Replay, words, Sought::Operands, 1)?;
-    let turns = text_in(
-        CommandName::Replay,
-        words,
-        Sought::Arguments(OptionName::Turns),
-        0,
-    );
+    let data = kept_text(matches, Sought::Operands, 0)?;
+    let script = kept_text(matches, Sought::Operands, 1)?;
+    let turns = kept_text(matches, Sought::Arguments(OptionName::Turns), 0);
     let turns = number_said(turns, DEFAULT_TURNS)?;
-    let dump = has_option(CommandName::Replay, words, OptionName::Dump);
+    let dump = is_set(matches, OptionName::Dump);
     Some(Command::Replay {
         data,
         script,
@@ -163,34 +177,31 @@ fn read_replay(words: &[String]) -> Option<Command<'_>>
     })
 }
 
-#[tactic(auto, unfolding(crate::specs::Reading::command_said))]
-fn read_check(words: &[String]) -> Option<Command<'_>>
-    ensures { option_map view result
-        ≡ command_said CommandName.Check (text_in (line_read (row_of CommandName.Check) (map string_bytes words.now))) }
+#[tactic(auto, unfolding(crate::specs::Asked::command_said))]
+fn read_check<'a>(matches: &ArgMatches<'a>) -> Option<Command<'a>>
+    ensures { option_map view result ≡ kept_said CommandName.Check (kept_in matches.now) }
 {
-    let data = text_in(CommandName::Check, words, Sought::Operands, 0)?;
+    let data = kept_text(matches, Sought::Operands, 0)?;
     Some(Command::Check { data })
 }
 
-#[tactic(auto, unfolding(crate::specs::Reading::command_said))]
-fn read_dump(words: &[String]) -> Option<Command<'_>>
-    ensures { option_map view result
-        ≡ command_said CommandName.Dump (text_in (line_read (row_of CommandName.Dump) (map string_bytes words.now))) }
+#[tactic(auto, unfolding(crate::specs::Asked::command_said))]
+fn read_dump<'a>(matches: &ArgMatches<'a>) -> Option<Command<'a>>
+    ensures { option_map view result ≡ kept_said CommandName.Dump (kept_in matches.now) }
 {
-    let data = text_in(CommandName::Dump, words, Sought::Operands, 0)?;
+    let data = kept_text(matches, Sought::Operands, 0)?;
     Some(Command::Dump { data })
 }
 
-#[tactic(auto, unfolding(crate::specs::Reading::command_said))]
-fn read_explain(words: &[String]) -> Option<Command<'_>>
-    ensures { option_map view result
-        ≡ command_said CommandName.Explain (text_in (line_read (row_of CommandName.Explain) (map string_bytes words.now))) }
+#[tactic(auto, unfolding(crate::specs::Asked::command_said))]
+fn read_explain<'a>(matches: &ArgMatches<'a>) -> Option<Command<'a>>
+    ensures { option_map view result ≡ kept_said CommandName.Explain (kept_in matches.now) }
 {
-    let data = text_in(CommandName::Explain, words, Sought::Operands, 0)?;
-    let who = text_in(CommandName::Explain, words, Sought::Operands, 1)?;
-    let target = text_in(CommandName::Explain, words, Sought::Operands, 2)?;
-    let item = text_in(CommandName::Explain, words, Sought::Operands, 3)?;
-    let permission = text_in(CommandName::Explain, words, Sought::Operands, 4)?;
+    let data = kept_text(matches, Sought::Operands, 0)?;
+    let who = kept_text(matches, Sought::Operands, 1)?;
+    let target = kept_text(matches, Sought::Operands, 2)?;
+    let item = kept_text(matches, Sought::Operands, 3)?;
+    let permission = kept_text(matches, Sought::Operands, 4)?;
     Some(Command::Explain {
         data,
         who,
@@ -200,12 +211,11 @@ fn read_explain(words: &[String]) -> Option<Command<'_>>
     })
 }
 
-#[tactic(auto, unfolding(crate::specs::Reading::command_said))]
-fn read_sample(words: &[String]) -> Option<Command<'_>>
-    ensures { option_map view result
-        ≡ command_said CommandName.Sample (text_in (line_read (row_of CommandName.Sample) (map string_bytes words.now))) }
+#[tactic(auto, unfolding(crate::specs::Asked::command_said))]
+fn read_sample<'a>(matches: &ArgMatches<'a>) -> Option<Command<'a>>
+    ensures { option_map view result ≡ kept_said CommandName.Sample (kept_in matches.now) }
 {
-    let count = text_in(CommandName::Sample, words, Sought::Operands, 0)?;
+    let count = kept_text(matches, Sought::Operands, 0)?;
     let count = number_within(20, 1, 20_000, count)?;
     Some(Command::Sample { count })
 }

@@ -1,13 +1,12 @@
-//! The words of the program: which command they ask for, read by hand and without memory.
+//! The words of the program: which command they ask for, read with clap.
 #![tactic(auto)]
 
 mod address;
 mod command;
 mod laws;
 mod number;
-mod role;
-mod scan;
+mod parser;
 mod table;
 
 pub use command::{Command, read_words};
-pub use laws::{reading_is_complete, reading_is_sound, words_have_one_command};
+pub use laws::words_have_one_command;

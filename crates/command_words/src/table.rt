@@ -1,7 +1,7 @@
-//! The table of commands and options, and what the reading of a line keeps.
+//! The table of commands and options, and what a line is read for.
 
 ghost use Rattle.std.specs.Prelude.{◌≡◌};
-ghost use Rattle.command_words.specs.Table.{row_of, all_commands, command_named, option_named, option_word, takes_argument, is_same_option};
+ghost use Rattle.command_words.specs.Table.{row_of, all_commands, command_named, option_word, takes_argument};
 
 /// The commands of the program.
 #[derive(Clone, Copy, Debug, Drop)]
@@ -20,15 +20,6 @@ pub enum OptionName {
     Sessions,
     Turns,
     Dump,
-}
-
-/// Where in a line a word stands: before the delimiter `--`, after an option whose argument it must be,
-/// or after the delimiter.
-#[derive(Clone, Copy, Debug, Drop)]
-pub enum Place {
-    BeforeDelimiter,
-    Awaiting(OptionName),
-    AfterDelimiter,
 }
 
 /// What a line is read for: its operands, or the arguments of an option.
@@ -100,16 +91,6 @@ impl CommandName {
             CommandName::Sample => &[],
         }
     }
-
-    /// The option of this command that has a name.
-    pub fn option_named(self, word: &str) -> Option<OptionName>
-        ensures { result ≡ option_named (row_of self) word.now }
-    {
-        self.options()
-            .iter()
-            .copied()
-            .find(|name| word == name.word())
-    }
 }
 
 impl OptionName {
@@ -131,17 +112,6 @@ impl OptionName {
             OptionName::Sessions => true,
             OptionName::Turns => true,
             OptionName::Dump => false,
-        }
-    }
-
-    pub fn is(self, other: OptionName) -> bool
-        ensures { result ≡ is_same_option self other }
-    {
-        match (self, other) {
-            (OptionName::Sessions, OptionName::Sessions) => true,
-            (OptionName::Turns, OptionName::Turns) => true,
-            (OptionName::Dump, OptionName::Dump) => true,
-            _ => false,
         }
     }
 }

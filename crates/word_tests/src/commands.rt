@@ -15,7 +15,7 @@ fn words_of(alloc: Global, line: &str) -> Result<Vec<String>, AllocError> {
 
 // What words ask for, in one line: each text between brackets.
 fn answer(alloc: Global, words: &[String]) -> Result<String, AllocError> {
-    match read_words(words) {
+    match read_words(alloc, words)? {
         Some(
             Command::Serve {
                 data,
