@@ -13,7 +13,7 @@ use ldap_msg::{
 use op_modify::{modify, rename};
 use op_update::{add, delete};
 use plain_values::{Octets, OneOrMany};
-use schema_core::row;
+use schema_core::{attr, row};
 use std::alloc::Global;
 use std::process::Abort;
 use std::str;
@@ -252,6 +252,19 @@ pub fn shown(alloc: Global, dir: &PlainDir, name: &str) -> Result<String, Fail> 
         tree.at(no).ok_or("no entry of the number")?,
     )?;
     Ok(out)
+}
+
+/// How many octets the values of the type have together in the entry of the name.
+pub fn octets_in(alloc: Global, dir: &PlainDir, name: &str, kind: &str) -> Result<usize, Fail> {
+    let tree = dir.tree();
+    let name = parse(alloc, name.as_bytes())?;
+    let no = tree.find(&name).ok_or("no entry of the name")?;
+    let entry = tree.at(no).ok_or("no entry of the number")?;
+    let mut octets: usize = 0;
+    for value in entry.values(attr(kind).ok_or("no such type")?) {
+        octets = value.octets().len().saturating_add(octets);
+    }
+    Ok(octets)
 }
 
 /// The entry of the name is this.
