@@ -1,5 +1,5 @@
-//! Tests of changes of a directory that requests ask for: tables of adds, deletes, modifies and renames by several requesters, with the
-//! result of each and the entries that it leaves.
+//! Tests of changes of a directory that requests ask for: tables of adds, deletes, modifies and renames by several
+//! requesters, with the result of each, the entries that it leaves, and how decisions are explained over them.
 #![tactic(auto)]
 
 #[cfg(test)]
@@ -8,6 +8,8 @@ mod adds;
 mod changes;
 #[cfg(test)]
 mod deletes;
+#[cfg(test)]
+mod explains;
 #[cfg(test)]
 mod limits;
 #[cfg(test)]
