@@ -304,6 +304,73 @@ fn a_subtree_of_classes_follows_the_classes(rt: HostRuntime) -> Result<(), Fail>
     check_steps(&rt, rt.alloc(), shop::SHOP, &CLASSES)
 }
 
+// Denies to all that the entry is modified.
+const NO_MORE: &str = "{ identificationTag \"no more\", precedence 255, authenticationLevel none, \
+    itemOrUserFirst userFirst: { userClasses { allUsers }, userPermissions { { protectedItems { entry }, \
+    grantsAndDenials { denyModify } } } } }";
+
+static BEFORE: [Step; 6] = [
+    // what is Ann's is what has no password by its classes
+    (
+        shop::ANN,
+        Change::Modify(
+            "cn=head,dc=shop",
+            &[(
+                2,
+                "subtreeSpecification",
+                &["{ specificationFilter not:item:simpleSecurityObject }"],
+            )],
+        ),
+        "0",
+        11,
+    ),
+    (
+        shop::ANN,
+        Change::Modify(
+            shop::BEN,
+            &[
+                (0, "objectClass", &["simpleSecurityObject"]),
+                (0, "userPassword", &["x"]),
+                (1, "title", &[]),
+            ],
+        ),
+        "0",
+        11,
+    ),
+    // and Ben's entry is hers no longer, also to take the class away
+    (
+        shop::ANN,
+        Change::Modify(shop::BEN, &[(1, "objectClass", &["simpleSecurityObject"])]),
+        "50",
+        11,
+    ),
+    // her own, with an item that counts from then on
+    (
+        shop::ANN,
+        Change::Modify(
+            shop::ANN,
+            &[
+                (0, "entryACI", &[NO_MORE]),
+                (0, "mail", &["ann@shop.example"]),
+            ],
+        ),
+        "0",
+        11,
+    ),
+    (
+        shop::ANN,
+        Change::Modify(shop::ANN, &[(1, "entryACI", &[])]),
+        "50",
+        11,
+    ),
+    (shop::ANN, Change::Delete(shop::ANN), "0", 10),
+];
+
+#[test]
+fn a_modify_is_decided_by_the_entry_before_its_changes(rt: HostRuntime) -> Result<(), Fail> {
+    check_steps(&rt, rt.alloc(), shop::SHOP, &BEFORE)
+}
+
 static NAMED: [Step; 7] = [
     (
         shop::ANN,
