@@ -22,7 +22,7 @@ type Question = (&'static str, &'static str, &'static str, &'static str);
 type Row = (&'static str, Changes, Question, &'static str);
 
 // The explanation of the decision on the question.
-fn explained(alloc: Global, dir: &PlainDir, question: &Question) -> Result<String, Fail> {
+fn explained(alloc: Global, dir: &PlainDir, question: Question) -> Result<String, Fail> {
     let (who, target, item, permission) = question;
     let asked = read_question(alloc, who, target, item, permission)?.ok_or("no question")?;
     let item = asked.item.item();
@@ -42,7 +42,7 @@ fn check_explained(
     rt: &impl Abort,
     alloc: Global,
     dir: &PlainDir,
-    question: &Question,
+    question: Question,
     want: &str,
 ) -> Result<(), Fail> {
     let found = explained(alloc, dir, question)?;
@@ -56,7 +56,7 @@ fn check_rows(rt: &impl Abort, alloc: Global, rows: &'static [Row]) -> Result<()
     for (name, changes, question, want) in rows {
         let found = ask_modify(alloc, &mut dir, ANN, name, changes)?;
         assert_eq!(rt; found.as_str(), "0", "{name}");
-        check_explained(rt, alloc, &dir, question, want)?;
+        check_explained(rt, alloc, &dir, *question, want)?;
     }
     Ok(())
 }
