@@ -158,12 +158,24 @@ fn take_and_put(alloc: Global, dir: &mut IndexedDir, name: &str) -> Result<(), F
     Ok(())
 }
 
-// The entry of the name: what the directory keeps of it, and what the entries say.
-fn both_at(alloc: Global, dir: &IndexedDir, name: &str) -> Result<(String, String), Fail> {
+// Whether the directory keeps of the entry of the name what the entries say.
+fn agrees(alloc: Global, dir: &IndexedDir, name: &str) -> Result<bool, Fail> {
     let number = number(alloc, dir.tree(), name)?;
     let found = kept_at(alloc, dir, number)?;
     let want = said_at(alloc, dir.tree(), number)?;
-    Ok((found, want))
+    Ok(found.as_str() == want.as_str())
+}
+
+// How many of so many people the directory keeps another list of than the entries say.
+fn wrong(alloc: Global, dir: &IndexedDir, people: usize) -> Result<usize, Fail> {
+    let mut count = 0;
+    for index in 0..people {
+        let name = person(alloc, index)?;
+        if !agrees(alloc, dir, name.as_str())? {
+            count += 1;
+        }
+    }
+    Ok(count)
 }
 
 // The lists of the others are not made again: that would be 800,000,000 lists.
@@ -175,18 +187,9 @@ fn a_write_makes_the_lists_of_its_entry_alone(rt: HostRuntime) -> Result<(), Fai
         let name = person(alloc, index)?;
         take_and_put(alloc, &mut dir, name.as_str())?;
     }
-    for index in 0..100 {
-        let name = person(alloc, index)?;
-        let (found, want) = both_at(alloc, &dir, name.as_str())?;
-        assert_eq!(rt; found.as_str(), want.as_str(), "{}", name.as_str());
-    }
-    let (found, want) = both_at(alloc, &dir, "ou=open,dc=town")?;
-    assert_eq!(rt;
-        (found.as_str(), want.as_str()),
-        (
-            "cn=all,dc=town cn=half,dc=town ",
-            "cn=all,dc=town cn=half,dc=town "
-        )
-    );
+    assert_eq!(rt; wrong(alloc, &dir, 100)?, 0);
+    let unit = number(alloc, dir.tree(), "ou=open,dc=town")?;
+    let found = kept_at(alloc, &dir, unit)?;
+    assert_eq!(rt; found.as_str(), "cn=all,dc=town cn=half,dc=town ");
     Ok(())
 }

@@ -141,7 +141,37 @@ pub fn ask_delete(
     told(alloc, &refusal)
 }
 
-/// Asks for an entry to be changed, and tells the result.
+/// A change of this operation with values of a type.
+pub fn value_change(
+    alloc: Global,
+    operation: u8,
+    kind: &str,
+    texts: &[&str],
+) -> Result<ValueChange, Fail> {
+    Ok(ValueChange {
+        operation,
+        body: kind_values(alloc, kind, texts)?,
+    })
+}
+
+/// Asks for an entry to be changed so, and tells the result.
+pub fn ask_changes(
+    alloc: Global,
+    dir: &mut IndexedDir,
+    who: &str,
+    name: &str,
+    changes: Vec<ValueChange>,
+) -> Result<String, Fail> {
+    let who = requester(alloc, who)?;
+    let request = ModifyRequest {
+        name: octets(alloc, name)?,
+        changes: OneOrMany::from_vec(changes),
+    };
+    let refusal = modify(alloc, dir, &who, &request)?;
+    told(alloc, &refusal)
+}
+
+/// The same of changes in texts.
 pub fn ask_modify(
     alloc: Global,
     dir: &mut IndexedDir,
@@ -149,20 +179,11 @@ pub fn ask_modify(
     name: &str,
     changes: &[(u8, &str, &[&str])],
 ) -> Result<String, Fail> {
-    let who = requester(alloc, who)?;
     let mut list = Vec::new(alloc);
     for (operation, kind, texts) in changes {
-        list.push(ValueChange {
-            operation: *operation,
-            body: kind_values(alloc, kind, texts)?,
-        })?;
+        list.push(value_change(alloc, *operation, kind, texts)?)?;
     }
-    let request = ModifyRequest {
-        name: octets(alloc, name)?,
-        changes: OneOrMany::from_vec(list),
-    };
-    let refusal = modify(alloc, dir, &who, &request)?;
-    told(alloc, &refusal)
+    ask_changes(alloc, dir, who, name, list)
 }
 
 /// Asks for an entry to have another name, and tells the result.

@@ -16,14 +16,15 @@ const DELETE: u8 = 1;
 const REPLACE: u8 = 2;
 
 // The words of a question: who asks, the entry, what of it, and the permission.
-type Question = (&'static str, &'static str, &'static str, &'static str);
+#[derive(Clone, Copy)]
+struct Question(&'static str, &'static str, &'static str, &'static str);
 
 // The entry that Ann changes, the changes, a question, and how the decision on it is explained then.
 type Row = (&'static str, Changes, Question, &'static str);
 
 // The explanation of the decision on the question.
-fn explained(alloc: Global, dir: &IndexedDir, question: &Question) -> Result<String, Fail> {
-    let (who, target, item, permission) = question;
+fn explained(alloc: Global, dir: &IndexedDir, question: Question) -> Result<String, Fail> {
+    let Question(who, target, item, permission) = question;
     let asked = read_question(alloc, who, target, item, permission)?.ok_or("no question")?;
     let item = asked.item.item();
     let text = explain_text(
@@ -37,26 +38,27 @@ fn explained(alloc: Global, dir: &IndexedDir, question: &Question) -> Result<Str
     Ok(text)
 }
 
-// This is the explanation.
-fn check_explained(
-    rt: &impl Abort,
+// The same after Ann's changes of the entry of the name, which must be done.
+fn explained_after(
     alloc: Global,
-    dir: &IndexedDir,
-    question: &Question,
-    want: &str,
-) -> Result<(), Fail> {
-    let found = explained(alloc, dir, question)?;
-    assert_eq!(rt; found.as_str(), want);
-    Ok(())
+    dir: &mut IndexedDir,
+    name: &str,
+    changes: &[(u8, &str, &[&str])],
+    question: Question,
+) -> Result<String, Fail> {
+    let found = ask_modify(alloc, dir, ANN, name, changes)?;
+    if found.as_str() != "0" {
+        return Err(Fail::from("the modify was refused"));
+    }
+    explained(alloc, dir, question)
 }
 
 // Each modify of the rows is done, after those before it, and the decision is explained so then.
 fn check_rows(rt: &impl Abort, alloc: Global, rows: &'static [Row]) -> Result<(), Fail> {
     let mut dir = directory(alloc, SHOP)?;
     for (name, changes, question, want) in rows {
-        let found = ask_modify(alloc, &mut dir, ANN, name, changes)?;
-        assert_eq!(rt; found.as_str(), "0", "{name}");
-        check_explained(rt, alloc, &dir, question, want)?;
+        let text = explained_after(alloc, &mut dir, name, changes, *question)?;
+        assert_eq!(rt; text.as_str(), *want, "{name}");
     }
     Ok(())
 }
@@ -67,9 +69,9 @@ const VAULT: &str = "ou=vault,dc=shop";
 
 const BOX: &str = "cn=box,ou=vault,dc=shop";
 
-const MAY_SEE_BEN: Question = ("anonymous", BEN, "entry", "Browse");
+const MAY_SEE_BEN: Question = Question("anonymous", BEN, "entry", "Browse");
 
-const MAY_SEE_BOX: Question = ("anonymous", BOX, "entry", "Browse");
+const MAY_SEE_BOX: Question = Question("anonymous", BOX, "entry", "Browse");
 
 // Ben is seen by what is open to all, beside five tuples of the clerk's and one of the head's.
 const BEN_IS_SEEN: &str =
@@ -124,9 +126,9 @@ const MAILS: &str = "{ identificationTag \"mails\", precedence 20, authenticatio
     allUsers }, grantsAndDenials { denyAdd } }, { userClasses { name { \"uid=ben,ou=people,dc=shop\" } }, \
     grantsAndDenials { grantAdd } } } } }";
 
-const MAY_ADD_MAIL: Question = (BEN, BEN, "type:mail", "Add");
+const MAY_ADD_MAIL: Question = Question(BEN, BEN, "type:mail", "Add");
 
-const MAY_REMOVE_ANN: Question = (BEN, ANN, "entry", "Remove");
+const MAY_REMOVE_ANN: Question = Question(BEN, ANN, "entry", "Remove");
 
 static ITEMS: [Row; 6] = [
     // the clerk's item has a tuple on addresses, without Add
@@ -185,7 +187,7 @@ fn a_decision_is_explained_by_a_changed_item(rt: HostRuntime) -> Result<(), Fail
     check_rows(&rt, rt.alloc(), &ITEMS)
 }
 
-const MAY_CHANGE_BOX: Question = (BEN, BOX, "entry", "Modify");
+const MAY_CHANGE_BOX: Question = Question(BEN, BOX, "entry", "Modify");
 
 // The box is Ben's to change by the keys.
 const BOX_IS_BENS: &str = "subentry cn=head,dc=shop\nsubentry cn=keys,dc=shop\n\

@@ -1,7 +1,8 @@
 //! How long a value of an add or of a modify may be, and how many access control subentries there may be.
 
 use crate::changes::{
-    Changes, ask_add, ask_list, ask_modify, count, directory, kind_values, octets_in,
+    Changes, ask_add, ask_changes, ask_list, ask_modify, count, directory, kind_values, octets_in,
+    value_change,
 };
 use crate::sets::{ANN, ANYONE, COUNT, SCHOOL};
 use crate::shop::{self, SHOP};
@@ -65,11 +66,11 @@ fn change_answer(
 ) -> Result<(String, usize), Fail> {
     let mut dir = directory(alloc, SHOP)?;
     let description = long(alloc, len)?;
-    let changes: [(u8, &str, &[&str]); 2] = [
-        (operation, "description", &[description.as_str()]),
-        (ADD, kind, &[text]),
-    ];
-    let found = ask_modify(alloc, &mut dir, shop::ANN, shop::BEN, &changes)?;
+    let mut list = Vec::new(alloc);
+    let long = value_change(alloc, operation, "description", &[description.as_str()])?;
+    list.push(long)?;
+    list.push(value_change(alloc, ADD, kind, &[text])?)?;
+    let found = ask_changes(alloc, &mut dir, shop::ANN, shop::BEN, list)?;
     Ok((found, octets_in(alloc, &dir, shop::BEN, "description")?))
 }
 
