@@ -142,4 +142,4 @@ Performs-unsampled count line cause before after status bad ends stays same =
 pub summary_is : (entries : ℕ) (sent : List ℕ) (rows : List Numbered) (count : ℕ) → entries ≡ length rows → sent ≡ sample_replies (entries_of rows) count
     → summary entries sent ≡ sample_text (entries_of rows) count
 summary_is entries sent rows count as_many is =
-    ap (λ number. summary number sent) (as_many ∙ sym (length-map (λ row. row.entry) rows)) ∙ ap (summary (length (entries_of rows))) is
+    ap (λ number. summary number sent) (as_many ∙ sym (length-map rows (λ row. row.entry))) ∙ ap (summary (length (entries_of rows))) is
