@@ -1,6 +1,6 @@
 -- Where the words are a command, and its files are known and accepted, its outcome is due: no other comes, but for want of
 -- memory.
-use Rattle.std.proofs.Common.{◌≡◌, ℕ, Bool, true, false, List, [], Option, Some, None, refl, sym, ap, ◌∙◌, subst, arith, inl, inr, ◌⊎◌}
+use Rattle.std.proofs.Common.{◌≡◌, ℕ, Bool, true, false, List, [], Option, Some, None, Ok, Err, refl, sym, ap, ◌∙◌, subst, arith, inl, inr, ◌⊎◌}
 use Rattle.plain_values.specs.Counts.{Rose}
 use Rattle.script_text.specs.declared.event.ScriptEvent.{ScriptEvent}
 use Rattle.script_text.proofs.Theorems.{IsScript-read, IsFirstBadLine-read}
@@ -11,11 +11,13 @@ use Rattle.command_words.proofs.Theorems.{IsCommand-unique}
 use Rattle.question_words.specs.Questions.{Question}
 use Rattle.question_words.specs.Reading.{question_of}
 use Rattle.dir_tree.specs.Entries.{EntryInformation}
-use Rattle.op_write.specs.DataFile.{FileCause}
-use Rattle.acl_program.specs.Outcomes.{Outcome, NoCommand, NoFile, BadDataLine, BadLine, Checked, Dumped, Replayed, Served, Explained, OutOfMemory, status_of}
+use Rattle.op_write.specs.DataFile.{FileCause, loads}
+use Rattle.sample_input.specs.SampleFile.{sample_file}
+use Rattle.acl_program.specs.Outcomes.{Outcome, NoCommand, NoFile, BadDataLine, BadLine, Checked, Dumped, Replayed, Served, Explained, Sampled, OutOfMemory, status_of}
 use Rattle.acl_program.specs.declared.status.Status.TheVariants.{Done, NoMemory}
 use Rattle.acl_program.specs.Outside.{Linked}
 use Rattle.acl_program.specs.Explaining.{Explains, text_explained}
+use Rattle.acl_program.specs.Sampling.{Samples, RefusesSample, sample_text}
 use Rattle.acl_program.specs.Serving.{ServeAsked, ServeEnd, LoopEnded}
 use Rattle.acl_program.proofs.ServeLemmas.{served_done}
 use Rattle.command_files.specs.Accepting.{IsUnread, IsGoodData, IsBadData, IsGoodScript, IsBadScript, HoldsOf, HoldsIn, IsTold}
@@ -99,12 +101,18 @@ module _ (words : List (List ℕ)) (files : Option Files) (before after : ℕ) (
       known_read files name (IsGoodData entries) before after known still (subst (λ file. IsUnread files file before after) same lacks.unread)
 
   -- and accepted
-  accepts_data : (line : ℕ) (cause : FileCause) → RefusesData words files line cause → ⊥
+  accepts_file : (line : ℕ) (cause : FileCause) → RefusesData words files line cause → ⊥
   unfolding AsksData
-  accepts_data line cause refuses =
+  accepts_file line cause refuses =
       let same : refuses.data_file ≡ name = same_data refuses.asked.0 refuses.data_file refuses.asked.1 refuses.asked.2 in
       let both = both_in files name (IsGoodData entries) (IsBadData line cause) known (subst (λ file. HoldsIn files file (IsBadData line cause)) same refuses.bad) in
       good_not_refused entries line cause both.0 both.1 both.2
+
+  -- a sample isn't asked for
+  accepts_data : (line : ℕ) (cause : FileCause) → RefusesData words files line cause ⊎ RefusesSample words line cause → ⊥
+  accepts_data line cause (inl refuses) = accepts_file line cause refuses
+  accepts_data line cause (inr refuses) =
+      let same : None ≡ Some name = ap (λ command. data_of command) (same_command (Sample refuses.count) refuses.asked) ∙ names in cc
 
   -- with these entries
   has_entries : (found : List EntryInformation) (other : CommandView) (file : List ℕ) → IsCommand words other → data_of other ≡ Some file → HoldsIn files file (IsGoodData found) → found ≡ entries
@@ -133,6 +141,10 @@ module _ (words : List (List ℕ)) (files : Option Files) (before after : ℕ) (
   unfolding kind_of
   not_explain text differ explains = one_kind words (Explain explains.data_file explains.who explains.target explains.item explains.permission) asked explains.asked is differ
 
+  not_sample : (text : List ℕ) → (5 ≡ kind_of asked → ⊥) → Samples words text → ⊥
+  unfolding kind_of
+  not_sample text differ samples = one_kind words (Sample samples.count) asked samples.asked is differ
+
 -- a data file was to be checked
 module _ (words : List (List ℕ)) (files : Option Files) (before after : ℕ) (name : List ℕ) (entries : List EntryInformation)
     (is : IsCommand words (Check name)) (known : IsTold files name (IsGoodData entries)) (still : Rose before after → ⊥) where
@@ -152,6 +164,7 @@ module _ (words : List (List ℕ)) (files : Option Files) (before after : ℕ) (
       absurd (not_replay words files before after (Check name) is name refl tt entries known still comes.0.script turns dump found (λ e. omega (arith, e)) comes.0.asked)
   check_due (Served asks end) comes = absurd (not_serve words files before after (Check name) is name refl tt entries known still asks (λ e. omega (arith, e)) comes.0)
   check_due (Explained text) comes = absurd (not_explain words files before after (Check name) is name refl tt entries known still text (λ e. omega (arith, e)) comes.0)
+  check_due (Sampled text) comes = absurd (not_sample words files before after (Check name) is name refl tt entries known still text (λ e. omega (arith, e)) comes.0)
   check_due OutOfMemory comes = inl refl
 
 -- a data file was to be put again
@@ -173,6 +186,7 @@ module _ (words : List (List ℕ)) (files : Option Files) (before after : ℕ) (
       absurd (not_replay words files before after (Dump name) is name refl tt entries known still comes.0.script turns dump found (λ e. omega (arith, e)) comes.0.asked)
   dump_due (Served asks end) comes = absurd (not_serve words files before after (Dump name) is name refl tt entries known still asks (λ e. omega (arith, e)) comes.0)
   dump_due (Explained text) comes = absurd (not_explain words files before after (Dump name) is name refl tt entries known still text (λ e. omega (arith, e)) comes.0)
+  dump_due (Sampled text) comes = absurd (not_sample words files before after (Dump name) is name refl tt entries known still text (λ e. omega (arith, e)) comes.0)
   dump_due OutOfMemory comes = inl refl
 
 -- the parts of a replay
@@ -238,6 +252,7 @@ module _ (words : List (List ℕ)) (files : Option Files) (before after : ℕ) (
       inr (cc (played_is, turns_is, dump_is, found_is))
   replay_due (Served asks end) comes = absurd (not_serve words files before after (Replay name script turns dump) is name refl tt entries known still asks (λ e. omega (arith, e)) comes.0)
   replay_due (Explained text) comes = absurd (not_explain words files before after (Replay name script turns dump) is name refl tt entries known still text (λ e. omega (arith, e)) comes.0)
+  replay_due (Sampled text) comes = absurd (not_sample words files before after (Replay name script turns dump) is name refl tt entries known still text (λ e. omega (arith, e)) comes.0)
   replay_due OutOfMemory comes = inl refl
 
 -- the status of want of memory, and that of serving
@@ -272,6 +287,8 @@ module _ (words : List (List ℕ)) (files : Option Files) (before after : ℕ) (
   serve_due (Served other end) comes links = served_done other end old new no_fault hears links
   serve_due (Explained text) comes links =
       absurd (not_explain words files before after (Serve name asks.address asks.sessions asks.turns) is name refl tt asks.entries known still text (λ e. omega (arith, e)) comes.0)
+  serve_due (Sampled text) comes links =
+      absurd (not_sample words files before after (Serve name asks.address asks.sessions asks.turns) is name refl tt asks.entries known still text (λ e. omega (arith, e)) comes.0)
   serve_due OutOfMemory comes links = inl refl
 
 -- one question over the same entries has one text
@@ -316,7 +333,67 @@ module _ (words : List (List ℕ)) (files : Option Files) (before after : ℕ) (
   explain_due (Served asks end) comes =
       absurd (not_serve words files before after explanation due.asked due.data_file refl (due.question, due.asks) due.entries due.good still asks (λ e. omega (arith, e)) comes.0)
   explain_due (Explained other) comes = inr (ap Explained (same_explained other comes.0))
+  explain_due (Sampled other) comes =
+      absurd (not_sample words files before after explanation due.asked due.data_file refl (due.question, due.asks) due.entries due.good still other (λ e. omega (arith, e)) comes.0)
   explain_due OutOfMemory comes = inl refl
+
+-- how many persons a sample has
+count_of : CommandView → ℕ
+count_of (Serve data_file address sessions turns) = 0
+count_of (Replay data_file script turns dump) = 0
+count_of (Check data_file) = 0
+count_of (Dump data_file) = 0
+count_of (Explain data_file who target item permission) = 0
+count_of (Sample count) = count
+
+-- a sample was to be made
+module _ (words : List (List ℕ)) (files : Option Files) (before after : ℕ) (text : List ℕ) (due : Samples words text) where
+  -- words for a sample ask for no other command, and for no data file
+  only_sample : (other : CommandView) → IsCommand words other → other ≡ Sample due.count
+  only_sample other is = IsCommand-unique words other (Sample due.count) is due.asked
+
+  other_kind : (other : CommandView) → IsCommand words other → (kind_of other ≡ 5 → ⊥) → ⊥
+  unfolding kind_of
+  other_kind other is differ = differ (ap kind_of (only_sample other is))
+
+  no_data : (data_file : List ℕ) → AsksData words data_file → ⊥
+  unfolding AsksData
+  no_data data_file asks = let same : Some data_file ≡ None = sym asks.2 ∙ ap (λ command. data_of command) (only_sample asks.0 asks.1) in cc
+
+  -- its file is accepted
+  accepts_sample : (line : ℕ) (cause : FileCause) → RefusesData words files line cause ⊎ RefusesSample words line cause → ⊥
+  unfolding count_of
+  accepts_sample line cause (inl refuses) = no_data refuses.data_file refuses.asked
+  accepts_sample line cause (inr refuses) =
+      let counts : refuses.count ≡ due.count = ap count_of (only_sample (Sample refuses.count) refuses.asked) in
+      let clash : Ok due.entries ≡ Err (record { line = line; cause = cause }) = sym due.loaded ∙ ap (λ count. loads (sample_file count)) (sym counts) ∙ refuses.bad in cc
+
+  -- a sample of so many persons has one text
+  same_sample : (other : List ℕ) → Samples words other → other ≡ text
+  unfolding count_of
+  same_sample other found =
+      let counts : found.count ≡ due.count = ap count_of (only_sample (Sample found.count) found.asked) in
+      let loaded : Ok found.entries ≡ Ok due.entries = sym found.loaded ∙ ap (λ count. loads (sample_file count)) counts ∙ due.loaded in
+      let entries : found.entries ≡ due.entries = cc in
+      found.is ∙ ap (λ count. sample_text found.entries count) counts ∙ ap (λ all. sample_text all due.count) entries ∙ sym due.is
+
+  sample_due : (outcome : Outcome) → Comes words files before after outcome → (outcome ≡ OutOfMemory) ⊎ (outcome ≡ Sampled text)
+  unfolding Comes IsNoCommand kind_of
+  sample_due NoCommand comes = absurd (comes.0 (Sample due.count) due.asked tt)
+  sample_due NoFile (inl lacks) = absurd (no_data lacks.data_file lacks.asked)
+  sample_due NoFile (inr lacks) = absurd (other_kind (Replay lacks.asked.data_file lacks.script lacks.turns lacks.dump) lacks.asked.asked (λ e. omega (arith, e)))
+  sample_due (BadDataLine line cause) comes = absurd (accepts_sample line cause comes.0)
+  sample_due (BadLine line) comes =
+      absurd (other_kind (Replay comes.0.asked.data_file comes.0.script comes.0.turns comes.0.dump) comes.0.asked.asked (λ e. omega (arith, e)))
+  sample_due (Checked found) comes = absurd (other_kind (Check comes.0.data_file) comes.0.asked (λ e. omega (arith, e)))
+  sample_due (Dumped found) comes = absurd (other_kind (Dump comes.0.data_file) comes.0.asked (λ e. omega (arith, e)))
+  sample_due (Replayed events turns dump found) comes =
+      absurd (other_kind (Replay comes.0.asked.data_file comes.0.script turns dump) comes.0.asked.asked (λ e. omega (arith, e)))
+  sample_due (Served asks end) comes = absurd (other_kind (Serve comes.0.data_file asks.address asks.sessions asks.turns) comes.0.asked (λ e. omega (arith, e)))
+  sample_due (Explained other) comes =
+      absurd (other_kind (Explain comes.0.data_file comes.0.who comes.0.target comes.0.item comes.0.permission) comes.0.asked (λ e. omega (arith, e)))
+  sample_due (Sampled other) comes = inr (ap Sampled (same_sample other comes.0))
+  sample_due OutOfMemory comes = inl refl
 
 -- an outcome that is want of memory, or the one that is due, has its status
 as_status : (outcome due : Outcome) → (outcome ≡ OutOfMemory) ⊎ (outcome ≡ due) → (status_of outcome ≡ NoMemory) ⊎ (status_of outcome ≡ status_of due)
@@ -344,4 +421,6 @@ due_comes words files before after old new outcome (Served asks end) is still co
     (serve_due words files before after is.1 asks old new is.2 is.3 still is.4 is.5 outcome comes links))
 due_comes words files before after old new outcome (Explained text) is still comes links =
     as_status outcome (Explained text) (explain_due words files before after text is still outcome comes)
+due_comes words files before after old new outcome (Sampled text) is still comes links =
+    as_status outcome (Sampled text) (sample_due words files before after text is outcome comes)
 due_comes words files before after old new outcome OutOfMemory is still comes links = absurd is

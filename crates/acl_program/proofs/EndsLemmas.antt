@@ -10,7 +10,7 @@ use Rattle.session_hub.specs.declared.ended.Ended.TheVariants as ended
 use Rattle.session_hub.specs.Loops.{buffer_length}
 use Rattle.acl_program.specs.declared.status.Status.{Status}
 use Rattle.acl_program.specs.declared.status.Status.TheVariants.{Done, Usage, BadData, ShelfFault, SinkFault, LinkFault, TurnsSpent, NoMemory, BadScript}
-use Rattle.acl_program.specs.Outcomes.{Outcome, NoCommand, NoFile, BadDataLine, BadLine, Checked, Dumped, Replayed, Served, Explained, OutOfMemory, text_of, status_of, settled}
+use Rattle.acl_program.specs.Outcomes.{Outcome, NoCommand, NoFile, BadDataLine, BadLine, Checked, Dumped, Replayed, Served, Explained, Sampled, OutOfMemory, text_of, status_of, settled}
 use Rattle.acl_program.specs.Outside.{Written}
 use Rattle.acl_program.specs.Running.{PutsFront}
 use Rattle.acl_program.specs.Serving.{ServeEnd, NotBegun, NotOpened, NotServed, LoopEnded, serve_status}
@@ -41,6 +41,7 @@ status_of-not_sink (Dumped entries) is = cc
 status_of-not_sink (Replayed events turns dump entries) is = done_or_spent-not_sink (nat_lt (length (pieces buffer_length events)) turns) is
 status_of-not_sink (Served asked end) is = serve-not_sink end is
 status_of-not_sink (Explained text) is = cc
+status_of-not_sink (Sampled text) is = cc
 status_of-not_sink OutOfMemory is = cc
 
 -- the whole text is a front of it

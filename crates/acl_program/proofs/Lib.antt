@@ -8,5 +8,6 @@ mod OutcomeLemmas
 mod DueLemmas
 mod PerformLemmas
 mod ExplainLemmas
+mod SampleLemmas
 mod RunLemmas
 mod TwinReplays

@@ -10,8 +10,9 @@ use Rattle.op_write.specs.DataFile.{FileCause}
 use Rattle.acl_program.specs.declared.status.Status.{Status}
 use Rattle.acl_program.specs.declared.status.Status.TheVariants.{Done, Usage, BadData, ShelfFault, SinkFault, LinkFault, TurnsSpent, NoMemory, BadScript}
 use Rattle.acl_program.specs.Outside.{Linked, Outside}
-use Rattle.acl_program.specs.Outcomes.{Outcome, NoCommand, NoFile, BadDataLine, BadLine, Checked, Dumped, Replayed, Served, Explained, OutOfMemory, status_of}
+use Rattle.acl_program.specs.Outcomes.{Outcome, NoCommand, NoFile, BadDataLine, BadLine, Checked, Dumped, Replayed, Served, Explained, Sampled, OutOfMemory, status_of}
 use Rattle.acl_program.specs.Causes.{IsNoCommand, AsksServing, AsksServe, LacksData, LacksScript, RefusesData, RefusesScript, Comes, Links}
+use Rattle.acl_program.specs.Sampling.{RefusesSample}
 use Rattle.acl_program.specs.Running.{Puts, IsCause, EndsAtFaults}
 use Rattle.acl_program.specs.Playing.{Ends}
 use Rattle.acl_program.specs.Serving.{ServeAsked}
@@ -45,11 +46,13 @@ usage_comes words files before after (Dumped entries) is comes = absurd (cc)
 usage_comes words files before after (Replayed events turns dump entries) is comes = absurd (not_replayed Usage events turns dump entries is (λ e. cc) (λ e. cc))
 usage_comes words files before after (Served asked end) is comes = absurd (serve_not Usage end is (λ e. cc) (λ e. cc) (λ e. cc) (λ e. cc))
 usage_comes words files before after (Explained text) is comes = absurd (cc)
+usage_comes words files before after (Sampled text) is comes = absurd (cc)
 usage_comes words files before after OutOfMemory is comes = absurd (cc)
 
 -- what came, by the status of the outcome
 data_cause : (words : List (List ℕ)) (files : Option Files) (before after : ℕ) (outcome : Outcome)
-    → BadData ≡ status_of outcome → Comes words files before after outcome → (line : ℕ) × (cause : FileCause) × RefusesData words files line cause
+    → BadData ≡ status_of outcome → Comes words files before after outcome
+    → (line : ℕ) × (cause : FileCause) × (RefusesData words files line cause ⊎ RefusesSample words line cause)
 unfolding status_of Comes
 data_cause words files before after NoCommand is comes = absurd (cc)
 data_cause words files before after NoFile is comes = absurd (cc)
@@ -60,6 +63,7 @@ data_cause words files before after (Dumped entries) is comes = absurd (cc)
 data_cause words files before after (Replayed events turns dump entries) is comes = absurd (not_replayed BadData events turns dump entries is (λ e. cc) (λ e. cc))
 data_cause words files before after (Served asked end) is comes = absurd (serve_not BadData end is (λ e. cc) (λ e. cc) (λ e. cc) (λ e. cc))
 data_cause words files before after (Explained text) is comes = absurd (cc)
+data_cause words files before after (Sampled text) is comes = absurd (cc)
 data_cause words files before after OutOfMemory is comes = absurd (cc)
 
 shelf_cause : (words : List (List ℕ)) (files : Option Files) (before after : ℕ) (outcome : Outcome)
@@ -74,6 +78,7 @@ shelf_cause words files before after (Dumped entries) is comes = absurd (cc)
 shelf_cause words files before after (Replayed events turns dump entries) is comes = absurd (not_replayed ShelfFault events turns dump entries is (λ e. cc) (λ e. cc))
 shelf_cause words files before after (Served asked end) is comes = absurd (serve_not ShelfFault end is (λ e. cc) (λ e. cc) (λ e. cc) (λ e. cc))
 shelf_cause words files before after (Explained text) is comes = absurd (cc)
+shelf_cause words files before after (Sampled text) is comes = absurd (cc)
 shelf_cause words files before after OutOfMemory is comes = absurd (cc)
 
 script_cause : (words : List (List ℕ)) (files : Option Files) (before after : ℕ) (outcome : Outcome)
@@ -88,6 +93,7 @@ script_cause words files before after (Dumped entries) is comes = absurd (cc)
 script_cause words files before after (Replayed events turns dump entries) is comes = absurd (not_replayed BadScript events turns dump entries is (λ e. cc) (λ e. cc))
 script_cause words files before after (Served asked end) is comes = absurd (serve_not BadScript end is (λ e. cc) (λ e. cc) (λ e. cc) (λ e. cc))
 script_cause words files before after (Explained text) is comes = absurd (cc)
+script_cause words files before after (Sampled text) is comes = absurd (cc)
 script_cause words files before after OutOfMemory is comes = absurd (cc)
 
 -- a data file is to be served
@@ -108,6 +114,7 @@ link_cause words files before after old new (Dumped entries) is comes links = ab
 link_cause words files before after old new (Replayed events turns dump entries) is comes links = absurd (not_replayed LinkFault events turns dump entries is (λ e. cc) (λ e. cc))
 link_cause words files before after old new (Served asked end) is comes links = (serving_asked words files asked comes.0, fault_rose asked old new end is links)
 link_cause words files before after old new (Explained text) is comes links = absurd (cc)
+link_cause words files before after old new (Sampled text) is comes links = absurd (cc)
 link_cause words files before after old new OutOfMemory is comes links = absurd (cc)
 
 -- words that ask for nothing to be served leave the link as it is
@@ -123,6 +130,7 @@ link_stays words files before after old new (Dumped entries) other comes links =
 link_stays words files before after old new (Replayed events turns dump entries) other comes links = links
 link_stays words files before after old new (Served asked end) other comes links = absurd (other (serving_asked words files asked comes.0))
 link_stays words files before after old new (Explained text) other comes links = links
+link_stays words files before after old new (Sampled text) other comes links = links
 link_stays words files before after old new OutOfMemory other comes links = links
 
 -- the cause of each status
@@ -154,6 +162,7 @@ count_stays words files before after (Dumped entries) status is other comes = co
 count_stays words files before after (Replayed events turns dump entries) status is other comes = comes.1
 count_stays words files before after (Served asked end) status is other comes = comes.1
 count_stays words files before after (Explained text) status is other comes = comes.1
+count_stays words files before after (Sampled text) status is other comes = comes.1
 count_stays words files before after OutOfMemory status is other comes = comes
 
 -- the link's count is as it was where its fault isn't answered, and memory was there
@@ -169,6 +178,7 @@ link_count_stays (Dumped entries) old new status is not_fault not_memory links =
 link_count_stays (Replayed events turns dump entries) old new status is not_fault not_memory links = ap (λ link. link.faults) links
 link_count_stays (Served asked end) old new status is not_fault not_memory links = serve_count_stays asked old new end status is not_fault not_memory links
 link_count_stays (Explained text) old new status is not_fault not_memory links = ap (λ link. link.faults) links
+link_count_stays (Sampled text) old new status is not_fault not_memory links = ap (λ link. link.faults) links
 link_count_stays OutOfMemory old new status is not_fault not_memory links = ap (λ link. link.faults) links
 
 module _ (words : List (List ℕ)) (before after : Outside) (outcome : Outcome)

@@ -7,7 +7,7 @@ use Rattle.dir_tree.specs.Numbered.{entries_of}
 use Rattle.acl_program.specs.declared.status.Status.{Status}
 use Rattle.command_files.specs.declared.loading.Trouble.{Trouble}
 use Rattle.command_files.specs.declared.loading.Trouble.TheVariants as trouble
-use Rattle.acl_program.specs.Outcomes.{Outcome, NoCommand, NoFile, BadDataLine, BadLine, Checked, Dumped, Replayed, Served, Explained, OutOfMemory}
+use Rattle.acl_program.specs.Outcomes.{Outcome, NoCommand, NoFile, BadDataLine, BadLine, Checked, Dumped, Replayed, Served, Explained, Sampled, OutOfMemory}
 use Rattle.command_files.specs.Accepting.{IsUnread}
 use Rattle.acl_program.specs.Causes.{AsksData, Comes, Links, data_of}
 use Rattle.acl_program.specs.Outside.{Linked, Outside}
@@ -28,7 +28,7 @@ unfolding LoadsData Comes AsksData
 data_refused asked name files before after trouble.NoFile names loads =
     λ words is. inl (record { data_file = name; asked = (asked, is, names); unread = loads })
 data_refused asked name files before after (trouble.BadData line cause) names loads =
-    λ words is. (record { data_file = name; asked = (asked, is, names); bad = loads.0 }, loads.1)
+    λ words is. (inl (record { data_file = name; asked = (asked, is, names); bad = loads.0 }), loads.1)
 data_refused asked name files before after (trouble.BadLine line) names loads = absurd loads
 data_refused asked name files before after trouble.NoMemory names loads = λ words is. loads
 
@@ -115,6 +115,7 @@ replay_comes name asked rows files before middle after (Replayed events turns du
     )
 replay_comes name asked rows files before middle after (Served other end) over loads comes = absurd comes
 replay_comes name asked rows files before middle after (Explained text) over loads comes = absurd comes
+replay_comes name asked rows files before middle after (Sampled text) over loads comes = absurd comes
 replay_comes name asked rows files before middle after OutOfMemory over loads comes = λ words is. comes ∙ loads.2
 
 -- a replay leaves the link as it is
@@ -129,6 +130,7 @@ links_replay asked files middle after (Dumped found) old new comes same = absurd
 links_replay asked files middle after (Replayed events turns dumped found) old new comes same = same
 links_replay asked files middle after (Served other end) old new comes same = absurd comes
 links_replay asked files middle after (Explained text) old new comes same = absurd comes
+links_replay asked files middle after (Sampled text) old new comes same = absurd comes
 links_replay asked files middle after OutOfMemory old new comes same = same
 
 -- a replay after its data file was loaded, from the shelf as it then was

@@ -24,7 +24,7 @@ use Rattle.acl_program.specs.Playing.{Plays, journal_text}
 use Rattle.acl_program.proofs.JournalLemmas.{journal_text-sessions, steps_of_events-steps, length-stopped}
 
 -- the sessions of a journal that heard a replay's events
-heard_is : (t : DirectoryEntries) (events : List ScriptEvent) (turns : ℕ) (journal : List Item) → IsReplay rules t (journal_steps journal) journal
+pub heard_is : (t : DirectoryEntries) (events : List ScriptEvent) (turns : ℕ) (journal : List Item) → IsReplay rules t (journal_steps journal) journal
     → steps_of (heard journal) ≡ heard_of events turns → run rules t (journal_steps journal) ≡ replay_of t events turns
 heard_is t events turns journal replay is =
     replay.same ∙ ap (λ steps. replayed rules t steps) (events_of journal ∙ sym (steps_of_events-steps (heard journal)) ∙ ap steps_of_events is)
@@ -41,26 +41,26 @@ unfolding entries_after
 left_of_heard t left events turns journal replay leaves is = leaves ∙ ap (λ u. u.tree) (heard_is t events turns journal replay is)
 
 -- a front as long as the turns is what is heard
-front_heard : (turns : ℕ) (all steps rest : List Event) → all ≡ steps ++ rest → length steps ≡ turns → (steps ≡ take turns all) × (turns ≤ length all)
+pub front_heard : (turns : ℕ) (all steps rest : List Event) → all ≡ steps ++ rest → length steps ≡ turns → (steps ≡ take turns all) × (turns ≤ length all)
 front_heard turns all steps rest is as_long =
     let front : take (length steps) (steps ++ rest) ≡ steps = take-append_seam steps rest in
     let whole : length all ≡ length (steps ++ rest) = ap length is in
     (sym front ∙ ap (λ count. take count (steps ++ rest)) as_long ∙ ap (λ list. take turns list) (sym is), omega (arith, whole, as_long, length-append steps rest))
 
 -- all of them are heard where there are no more than turns
-all_heard : (turns : ℕ) (all steps rest : List Event) → all ≡ steps ++ rest → rest ≡ [] → length steps < turns → (steps ≡ take turns all) × (length all < turns)
+pub all_heard : (turns : ℕ) (all steps rest : List Event) → all ≡ steps ++ rest → rest ≡ [] → length steps < turns → (steps ≡ take turns all) × (length all < turns)
 all_heard turns all steps rest is none short =
     let same : all ≡ steps = is ∙ ap (λ back. steps ++ back) none ∙ append-nil steps in
     let long : length all ≡ length steps = ap length same in
     (sym same ∙ sym (take_all turns all (omega arith)), omega arith)
 
 -- what is left of a script that came to its end
-none_left : (len : ℕ) (left : List ScriptEvent) → left ≡ [] → pieces len left ≡ []
+pub none_left : (len : ℕ) (left : List ScriptEvent) → left ≡ [] → pieces len left ≡ []
 unfolding pieces
 none_left len left none = ap (pieces len) none
 
 -- no connection is on hold before anything was done
-not_held : (c : ℕ) → is_held c [] ≡ false
+pub not_held : (c : ℕ) → is_held c [] ≡ false
 unfolding is_held hold_after_all
 not_held c = refl
 

@@ -4,7 +4,7 @@ use Rattle.wire_io.specs.Files.{Files}
 use Rattle.dir_tree.specs.Entries.{EntryInformation}
 use Rattle.command_files.specs.Accepting.{IsUnread, HoldsIn, IsBadScript, IsGoodScript}
 use Rattle.acl_program.specs.declared.status.Status.{Status}
-use Rattle.acl_program.specs.Outcomes.{Outcome, NoCommand, NoFile, BadDataLine, BadLine, Checked, Dumped, Replayed, Served, Explained, OutOfMemory}
+use Rattle.acl_program.specs.Outcomes.{Outcome, NoCommand, NoFile, BadDataLine, BadLine, Checked, Dumped, Replayed, Served, Explained, Sampled, OutOfMemory}
 use Rattle.acl_program.specs.Outside.{Outside}
 use Rattle.acl_program.specs.Playing.{Ends}
 
@@ -31,6 +31,7 @@ ReplayComes asked files before after (Replayed events turns dumped found) =
     (turns ≡ asked.turns) × (dumped ≡ asked.dump) × (found ≡ asked.entries) × HoldsIn files asked.script (IsGoodScript events) × (after ≡ before)
 ReplayComes asked files before after (Served other end) = ⊥
 ReplayComes asked files before after (Explained text) = ⊥
+ReplayComes asked files before after (Sampled text) = ⊥
 ReplayComes asked files before after OutOfMemory = after ≡ before
 
 -- a replay came to some outcome, whose text was put

@@ -13,19 +13,20 @@ use Rattle.question_words.specs.Reading.{question_of}
 use Rattle.dir_tree.specs.Entries.{EntryInformation}
 use Rattle.op_write.specs.DataFile.{FileCause}
 use Rattle.command_files.specs.Accepting.{IsUnread, HoldsIn, IsTold, IsGoodData, IsBadData, IsGoodScript, IsBadScript}
-use Rattle.acl_program.specs.Outcomes.{Outcome, NoCommand, NoFile, BadDataLine, BadLine, Checked, Dumped, Replayed, Served, Explained, OutOfMemory}
+use Rattle.acl_program.specs.Outcomes.{Outcome, NoCommand, NoFile, BadDataLine, BadLine, Checked, Dumped, Replayed, Served, Explained, Sampled, OutOfMemory}
 use Rattle.acl_program.specs.Outside.{Linked}
 use Rattle.acl_program.specs.Explaining.{Explains}
+use Rattle.acl_program.specs.Sampling.{Samples, RefusesSample}
 use Rattle.acl_program.specs.Serving.{ServeAsked, LoopEnded, LinkServes}
 
--- the command is done: an explanation where its words are a question; samples aren't yet
+-- the command is done: an explanation where its words are a question
 abbrev pub IsPerformed : CommandView → Type 0
 IsPerformed (Serve data_file address sessions turns) = Unit {0}
 IsPerformed (Replay data_file script turns dump) = Unit {0}
 IsPerformed (Check data_file) = Unit {0}
 IsPerformed (Dump data_file) = Unit {0}
 IsPerformed (Explain data_file who target item permission) = (question : Question) × (question_of who target item permission ≡ Some question)
-IsPerformed (Sample count) = ⊥
+IsPerformed (Sample count) = Unit {0}
 
 -- the words ask for nothing that is done
 unfoldable pub IsNoCommand : List (List ℕ) → Type 0
@@ -107,13 +108,14 @@ pub record AsksServe (words : List (List ℕ)) (files : Option Files) (asks : Se
 unfoldable pub Comes : List (List ℕ) → Option Files → ℕ → ℕ → Outcome → Type 0
 Comes words files before after NoCommand = IsNoCommand words × (after ≡ before)
 Comes words files before after NoFile = LacksData words files before after ⊎ LacksScript words files before after
-Comes words files before after (BadDataLine line cause) = RefusesData words files line cause × (after ≡ before)
+Comes words files before after (BadDataLine line cause) = (RefusesData words files line cause ⊎ RefusesSample words line cause) × (after ≡ before)
 Comes words files before after (BadLine line) = RefusesScript words files line × (after ≡ before)
 Comes words files before after (Checked entries) = AsksAlone Check words files entries × (after ≡ before)
 Comes words files before after (Dumped entries) = AsksAlone Dump words files entries × (after ≡ before)
 Comes words files before after (Replayed events turns dump entries) = AsksBoth words files events turns dump entries × (after ≡ before)
 Comes words files before after (Served asks end) = AsksServe words files asks × (after ≡ before)
 Comes words files before after (Explained text) = Explains words (HoldsIn files) text × (after ≡ before)
+Comes words files before after (Sampled text) = Samples words text × (after ≡ before)
 Comes words files before after OutOfMemory = after ≡ before
 
 -- what each outcome says of the link: all leave it as it was but serving
@@ -127,6 +129,7 @@ Links (Dumped entries) before after = after ≡ before
 Links (Replayed events turns dump entries) before after = after ≡ before
 Links (Served asks end) before after = LinkServes asks end before after
 Links (Explained text) before after = after ≡ before
+Links (Sampled text) before after = after ≡ before
 Links OutOfMemory before after = after ≡ before
 
 -- Stop was heard in this call, where the link tells its journal
@@ -134,7 +137,7 @@ unfoldable pub HearsStop : Option (List Item) → Option (List Item) → Type 0
 HearsStop before after = (begun : List Item) × (added : List Item) × (before ≡ Some begun) × (after ≡ Some (begun ++ added)) × (was_stopped added ≡ true)
 
 -- the outcome that is due where the words are a command whose files the shelf tells, and which are accepted; serving is
--- done where the link didn't fail and gave Stop
+-- done where the link didn't fail and gave Stop, and a sample reads no file
 unfoldable pub IsDue : List (List ℕ) → Option Files → Linked → Linked → Outcome → Type 0
 IsDue words files old new NoCommand = ⊥
 IsDue words files old new NoFile = ⊥
@@ -149,4 +152,5 @@ IsDue words files old new (Served asks end) =
     (end ≡ LoopEnded ended.Stopped) × (data_file : List ℕ) × IsCommand words (Serve data_file asks.address asks.sessions asks.turns)
     × IsTold files data_file (IsGoodData asks.entries) × (Rose old.faults new.faults → ⊥) × HearsStop old.journal new.journal
 IsDue words files old new (Explained text) = Explains words (IsTold files) text
+IsDue words files old new (Sampled text) = Samples words text
 IsDue words files old new OutOfMemory = ⊥

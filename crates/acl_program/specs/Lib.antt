@@ -3,6 +3,7 @@ pub mod Outside
 pub mod Lines
 pub mod Serving
 pub mod Explaining
+pub mod Sampling
 pub mod Outcomes
 pub mod Causes
 pub mod Running

@@ -20,7 +20,8 @@ use Rattle.acl_program.specs.Serving.{ServeAsked, ServeEnd, serve_text, serve_st
 
 -- no command is asked for; a file wasn't read; the data file's first bad line, and why; a script's first bad line; a data
 -- file was checked, or put again; a script was replayed for so many turns, and the tree put after it if that was asked
--- for; a data file was served over the link; a decision was explained; memory ran out before anything was printed
+-- for; a data file was served over the link; a decision was explained; a sample was made and served; memory ran out before
+-- anything was printed
 pub data Outcome : Type 0 where
   NoCommand : Outcome
   NoFile : Outcome
@@ -31,6 +32,7 @@ pub data Outcome : Type 0 where
   Replayed : (events : List ScriptEvent) (turns : ℕ) (dump : Bool) (entries : List EntryInformation) → Outcome
   Served : (asked : ServeAsked) (end : ServeEnd) → Outcome
   Explained : (text : List ℕ) → Outcome
+  Sampled : (text : List ℕ) → Outcome
   OutOfMemory : Outcome
 
 -- the words for what is wrong with a line
@@ -70,6 +72,7 @@ text_of (Dumped entries) = written_file entries
 text_of (Replayed events turns dump entries) = replay_text entries events turns ++ dump_text dump (entries_after entries events turns)
 text_of (Served asked end) = serve_text asked.address end
 text_of (Explained text) = text
+text_of (Sampled text) = text
 text_of OutOfMemory = []
 
 -- how it ends, where all is printed: a replay is done where Stop was heard, which comes after the script's pieces
@@ -83,6 +86,7 @@ status_of (Dumped entries) = Done
 status_of (Replayed events turns dump entries) = if nat_lt (length (pieces buffer_length events)) turns then Done else TurnsSpent
 status_of (Served asked end) = serve_status end
 status_of (Explained text) = Done
+status_of (Sampled text) = Done
 status_of OutOfMemory = NoMemory
 
 -- the number that the program exits with

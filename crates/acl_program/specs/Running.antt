@@ -8,6 +8,7 @@ use Rattle.acl_program.specs.Outside.{Outside}
 use Rattle.acl_program.specs.Outcomes.{Outcome, text_of, status_of}
 use Rattle.op_write.specs.DataFile.{FileCause}
 use Rattle.acl_program.specs.Causes.{Comes, Links, AsksServing, LacksData, LacksScript, RefusesData, RefusesScript}
+use Rattle.acl_program.specs.Sampling.{RefusesSample}
 
 -- a front of the text was put
 abbrev pub PutsFront : Option (List ℕ) → List ℕ → Option (List ℕ) → Type 0
@@ -32,7 +33,7 @@ EndsAs outcome status = (status ≡ NoMemory) ⊎ (status ≡ status_of outcome)
 
 -- what came where it ended with one of these statuses
 unfoldable pub IsCause : List (List ℕ) → Outside → Outside → Status → Type 0
-IsCause words before after BadData = (line : ℕ) × (cause : FileCause) × RefusesData words before.shelf.files line cause
+IsCause words before after BadData = (line : ℕ) × (cause : FileCause) × (RefusesData words before.shelf.files line cause ⊎ RefusesSample words line cause)
 IsCause words before after ShelfFault = LacksData words before.shelf.files before.shelf.faults after.shelf.faults ⊎ LacksScript words before.shelf.files before.shelf.faults after.shelf.faults
 IsCause words before after BadScript = (line : ℕ) × RefusesScript words before.shelf.files line
 IsCause words before after Done = Unit {0}

@@ -7,6 +7,7 @@ mod explain;
 mod printing;
 mod program;
 mod replay;
+mod sample;
 mod serve;
 mod status;
 mod troubles;

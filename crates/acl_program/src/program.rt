@@ -8,11 +8,13 @@ ghost use Rattle.acl_program.specs.Outside.{linked, outside};
 ghost use Rattle.acl_program.specs.Running.{Prints, EndsAs, IsCause, EndsAtFaults};
 ghost use Rattle.acl_program.specs.Playing.{Runs, Performs};
 ghost use Rattle.acl_program.specs.Twins.{PrintsAlike};
+ghost use Rattle.acl_program.specs.Sampling.{IsFew};
 ghost use Rattle.command_words.specs.Command.{view};
 
 use crate::data::{check, dump};
 use crate::explain::{Explaining, explain};
 use crate::replay::{Asked, replay};
+use crate::sample::sample;
 use crate::serve::{Serving, serve};
 use crate::status::Status;
 use crate::troubles::print_usage;
@@ -27,7 +29,9 @@ use wire_io::{Link, Shelf, Sink};
 /// the script file, serves its events as those of a link's connections, at most N of them, and puts one line for each
 /// connection: its number, what was sent to it, and whether it was hung up; with `--dump` the tree follows as a data
 /// file. `explain DATA WHO TARGET ITEM PERMISSION` loads the data file and puts one access control decision over it, filter
-/// by filter. These leave the link as it is.
+/// by filter. `sample N` makes a data file of N persons, half of whom access control hides, serves one connection that
+/// searches for each of them, and puts how many entries there are, how many were sent, and how many replies say that there
+/// is no such object. These leave the link as it is.
 ///
 /// `serve DATA ADDRESS [--sessions N] [--turns N]` loads the data file, opens the link at the address, puts `listening
 /// ADDRESS`, and serves the link's connections until it gives Stop, at most N events. Where the link fails it puts `link
@@ -103,7 +107,7 @@ fn run_words<H: Shelf, K: Sink, L: Link>(
     }
 }
 
-/// Does what a command asks for. Samples aren't done yet.
+/// Does what a command asks for.
 #[tactic(auto, unfolding(crate::specs::Playing::Performs))]
 fn perform<H: Shelf, K: Sink, L: Link>(
     alloc: Global,
@@ -112,6 +116,7 @@ fn perform<H: Shelf, K: Sink, L: Link>(
     out: &mut K,
     link: &mut L,
 ) -> Status
+    requires few { IsFew (view command) }
     ensures performs { Performs (view command.entry)
         (outside (H.files shelf.old) (H.faults shelf.old) (K.put out.old) (K.faults out.old)
         (linked (L.journal link.old) (L.plan link.old) (L.faults link.old) (L.lost link.old))) result
@@ -173,6 +178,6 @@ fn perform<H: Shelf, K: Sink, L: Link>(
             shelf,
             out,
         ),
-        Command::Sample { .. } => print_usage(out),
+        Command::Sample { count } => sample(alloc, count, out),
     }
 }

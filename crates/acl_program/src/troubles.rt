@@ -52,7 +52,12 @@ fn print_data_fault<K: Sink>(out: &mut K) -> Status
 
 /// Prints the number of a data file's bad line, and its cause.
 #[tactic(auto, unfolding(crate::specs::Outcomes::text_of, crate::specs::Outcomes::status_of))]
-fn print_bad_data<K: Sink>(alloc: Global, line: u64, cause: DataCause, out: &mut K) -> Status
+pub(crate) fn print_bad_data<K: Sink>(
+    alloc: Global,
+    line: u64,
+    cause: DataCause,
+    out: &mut K,
+) -> Status
     ensures ends { Ends (BadDataLine line (cause_of cause)) (written (K.put out.old) (K.faults out.old)) result
         (written (K.put out.new) (K.faults out.new)) }
 {

@@ -33,6 +33,8 @@ mod rooms;
 #[cfg(test)]
 mod runs;
 #[cfg(test)]
+mod samples;
+#[cfg(test)]
 mod selections;
 #[cfg(test)]
 mod serves;

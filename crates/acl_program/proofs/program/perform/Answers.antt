@@ -1,6 +1,4 @@
-use Rattle.std.proofs.Common.{refl}
-use Rattle.acl_program.specs.Outside.{outside, linked}
-use Rattle.acl_program.proofs.RunLemmas.{Performs-undone}
+use Rattle.acl_program.specs.Outside.{linked}
 use Rattle.acl_program.proofs.program.perform.Goals as goal
 
 -- each command does what it is asked for
@@ -19,7 +17,9 @@ returns-in-Dump-clause-performs g c = rw c.in-Dump.is (c.dump.ensures.performs (
 pub returns-in-Explain-clause-performs : goal.returns-in-Explain-clause-performs
 returns-in-Explain-clause-performs g c = rw c.in-Explain.is (c.explain.ensures.performs (linked _ _ _ _))
 
--- samples aren't done
+-- a sample has no more persons than its words may ask for
+pub sample-requires : goal.sample-requires
+sample-requires g c = record { few = rw c.in-Sample.is at c.requires.few }
+
 pub returns-in-Sample-clause-performs : goal.returns-in-Sample-clause-performs
-returns-in-Sample-clause-performs g c = rw c.in-Sample.is
-    (Performs-undone _ (outside _ _ _ _ (linked _ _ _ _)) (outside _ _ _ _ (linked _ _ _ _)) _ (λ performed. performed) c.print_usage.ensures.ends refl refl)
+returns-in-Sample-clause-performs g c = rw c.in-Sample.is (c.sample.ensures.performs _ _ (linked _ _ _ _))

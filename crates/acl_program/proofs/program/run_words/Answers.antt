@@ -1,7 +1,12 @@
 use Rattle.std.proofs.Common.{refl}
 use Rattle.acl_program.specs.Outside.{outside, linked}
 use Rattle.acl_program.proofs.RunLemmas.{Runs-performed, Runs-unread, Runs-usage}
+use Rattle.acl_program.proofs.SampleLemmas.{few_of}
 use Rattle.acl_program.proofs.program.run_words.Goals as goal
+
+-- a command asks for no more persons than it may
+pub perform-requires : goal.perform-requires
+perform-requires g c = record { few = few_of _ _ (rw c.in-Ok-Some.field-0-is at c.in-Ok-Some.ensures.found) }
 
 -- the words ask for a command
 pub returns-in-Ok-Some-clause-runs : goal.returns-in-Ok-Some-clause-runs

@@ -1,0 +1,130 @@
+//! The command `sample`: a data file made in memory, half of which is hidden, and one connection that searches for each of
+//! its persons.
+
+ghost use Rattle.std.specs.Prelude.{◌≡◌, ◌≤◌, [], ℕ, Option, Ok, IfErr, IfOk, OnOk, string_bytes};
+ghost use Rattle.command_words.specs.Command.{Sample};
+ghost use Rattle.data_file.specs.Files.{IsDataFault};
+ghost use Rattle.dir_tree.specs.Numbered.{entries_of};
+ghost use Rattle.op_write.specs.DataFile.{loads};
+ghost use Rattle.sample_input.specs.SampleFile.{sample_file};
+ghost use Rattle.sample_input.specs.SampleEvents.{sample_events};
+ghost use Rattle.wire_io.specs.Files.{Files};
+ghost use Rattle.wire_io.specs.Journal.{taken_of};
+ghost use Rattle.wire_io.specs.Scripted.{fresh_link};
+ghost use Rattle.acl_program.specs.Outcomes.{Sampled};
+ghost use Rattle.acl_program.specs.Outside.{Linked, outside, written};
+ghost use Rattle.acl_program.specs.Playing.{Ends, Performs};
+ghost use Rattle.acl_program.specs.Sampling.{sample_text, sample_replies, summary};
+
+use crate::status::Status;
+use crate::troubles::print_bad_data;
+use acdf_lists::{Dir, PlainDir};
+use data_file::{DataFault, load};
+use dir_tree::{NoMemory, Tree};
+use sample_input::{count_found, sample_events, sample_file};
+use session_hub::{Ended, serve_loop};
+use std::alloc::{AllocError, Global};
+use wire_io::{ScriptLink, Sink, write_all};
+
+/// How many events are heard at most.
+const TURNS: u64 = 1_000_000_000_000;
+
+/// The number of the connection.
+const CONNECTION: u32 = 1;
+
+/// Makes a sample of so many persons, serves its connection, and prints how many entries it has, how many were sent and how
+/// many replies say that there is no such object.
+pub(crate) fn sample<K: Sink>(alloc: Global, count: u64, out: &mut K) -> Status
+    requires few { count ≤ 20000 }
+    ensures performs { (files : Option Files) (faults : ℕ) (link : Linked) → Performs (Sample count)
+        (outside files faults (K.put out.old) (K.faults out.old) link) result
+        (outside files faults (K.put out.new) (K.faults out.new) link) }
+{
+    let count = count as u32;
+    match load_sample(alloc, count) {
+        Ok(tree) => sample_over(alloc, tree, count, out),
+        Err(DataFault::Bad { line, cause }) => print_bad_data(alloc, line, cause, out),
+        Err(DataFault::NoMemory) => Status::NoMemory,
+    }
+}
+
+/// The tree of the sample's data file, which is loaded as any other.
+fn load_sample(alloc: Global, count: u32) -> Result<Tree, DataFault>
+    ensures ok { IfOk result (λ tree. loads (sample_file count) ≡ Ok (entries_of tree)) }
+    ensures bad { IfErr result (λ fault. IsDataFault fault (loads (sample_file count))) }
+{
+    match sample_file(alloc, count) {
+        Ok(text) => load(alloc, text.as_bytes()),
+        Err(_) => Err(DataFault::NoMemory),
+    }
+}
+
+/// The link of the sample's events.
+fn sample_link(alloc: Global, count: u32) -> Result<ScriptLink, NoMemory>
+    requires few { count ≤ 20000 }
+    ensures fresh { IfOk result (λ link. link ≡ fresh_link (sample_events count) [] [] []) }
+{
+    let events = sample_events(alloc, count)?;
+    let (failing, later, gone) = (Vec::new(alloc), Vec::new(alloc), Vec::new(alloc));
+    Ok(ScriptLink::new(alloc, events, failing, later, gone))
+}
+
+/// The same over the tree.
+#[tactic(auto, unfolding(crate::specs::Outcomes::text_of, crate::specs::Outcomes::status_of))]
+fn sample_over<K: Sink>(alloc: Global, tree: Tree, count: u32, out: &mut K) -> Status
+    requires few { count ≤ 20000 }
+    ensures ends { Ends (Sampled (sample_text (entries_of tree) count))
+        (written (K.put out.old) (K.faults out.old)) result (written (K.put out.new) (K.faults out.new)) }
+{
+    let Ok(text) = sample_text(alloc, tree, count) else {
+        return Status::NoMemory;
+    };
+    let put = write_all(out, text.as_bytes());
+    Status::Done.after(put)
+}
+
+/// The text of the sample over its tree.
+fn sample_text(alloc: Global, tree: Tree, count: u32) -> Result<String, NoMemory>
+    requires few { count ≤ 20000 }
+    ensures exact { IfOk result (λ text. string_bytes text ≡ sample_text (entries_of tree) count) }
+{
+    let dir = PlainDir::new(alloc, tree)?;
+    let link = sample_link(alloc, count)?;
+    served_text(alloc, dir, link)
+}
+
+/// Serves the link over the directory, and gives the summary of what was sent to its connection.
+fn served_text(alloc: Global, dir: PlainDir, link: ScriptLink) -> Result<String, NoMemory>
+    ensures sends { (count : ℕ) → link ≡ fresh_link (sample_events count) [] [] [] → IfOk result
+        (λ text. string_bytes text ≡ sample_text (entries_of dir) count) }
+{
+    let mut dir = dir;
+    let mut link = link;
+    let entries = dir.tree().len();
+    serve_sample(alloc, &mut dir, &mut link)?;
+    summary(alloc, entries, link.said_of(CONNECTION))
+}
+
+/// Serves the link's events over the directory.
+fn serve_sample(alloc: Global, dir: &mut PlainDir, link: &mut ScriptLink) -> Result<(), NoMemory>
+    ensures sends { (count : ℕ) → link.old ≡ fresh_link (sample_events count) [] [] [] → OnOk result
+        (taken_of 1 link.new.journal ≡ sample_replies (entries_of dir.old) count) }
+{
+    match serve_loop(alloc, dir, link, TURNS) {
+        Ended::Stopped => Ok(()),
+        Ended::TurnsSpent => Ok(()),
+        Ended::LinkFault => Err(AllocError),
+        Ended::NoMemory => Err(AllocError),
+    }
+}
+
+/// The summary of the replies that were sent.
+#[tactic(auto, unfolding(crate::specs::Sampling::summary))]
+fn summary(alloc: Global, entries: usize, replies: &[u8]) -> Result<String, AllocError>
+    ensures { IfOk result (λ text. string_bytes text ≡ summary entries replies.now) }
+{
+    let counts = count_found(alloc, replies)?;
+    let found = counts.found;
+    let hidden = counts.hidden;
+    format!(in alloc; "entries {entries}\nfound {found}\nhidden {hidden}\n")
+}
