@@ -18,7 +18,8 @@ ghost use Rattle.acl_program.specs.Sampling.{sample_text, sample_replies, summar
 
 use crate::status::Status;
 use crate::troubles::print_bad_data;
-use acdf_lists::{Dir, PlainDir};
+use acdf_lists::Dir;
+use aci_index::IndexedDir;
 use data_file::{DataFault, load};
 use dir_tree::{NoMemory, Tree};
 use sample_input::{count_found, sample_events, sample_file};
@@ -88,13 +89,13 @@ fn sample_text(alloc: Global, tree: Tree, count: u32) -> Result<String, NoMemory
     requires few { count ≤ 20000 }
     ensures exact { IfOk result (λ text. string_bytes text ≡ sample_text (entries_of tree) count) }
 {
-    let dir = PlainDir::new(alloc, tree)?;
+    let dir = IndexedDir::new(alloc, tree)?;
     let link = sample_link(alloc, count)?;
     served_text(alloc, dir, link)
 }
 
 /// Serves the link over the directory, and gives the summary of what was sent to its connection.
-fn served_text(alloc: Global, dir: PlainDir, link: ScriptLink) -> Result<String, NoMemory>
+fn served_text(alloc: Global, dir: IndexedDir, link: ScriptLink) -> Result<String, NoMemory>
     ensures sends { (count : ℕ) → link ≡ fresh_link (sample_events count) [] [] [] → IfOk result
         (λ text. string_bytes text ≡ sample_text (entries_of dir) count) }
 {
@@ -106,7 +107,7 @@ fn served_text(alloc: Global, dir: PlainDir, link: ScriptLink) -> Result<String,
 }
 
 /// Serves the link's events over the directory.
-fn serve_sample(alloc: Global, dir: &mut PlainDir, link: &mut ScriptLink) -> Result<(), NoMemory>
+fn serve_sample(alloc: Global, dir: &mut IndexedDir, link: &mut ScriptLink) -> Result<(), NoMemory>
     ensures sends { (count : ℕ) → link.old ≡ fresh_link (sample_events count) [] [] [] → OnOk result
         (taken_of 1 link.new.journal ≡ sample_replies (entries_of dir.old) count) }
 {
