@@ -4,7 +4,7 @@ ghost use Rattle.std.specs.Prelude.{◌≡◌, ◌||◌, IfOk};
 ghost use Rattle.dn_names.specs.Printing.{name_key};
 ghost use Rattle.dir_tree.specs.Entries.{values_of, has_key};
 ghost use Rattle.dir_tree.specs.Numbered.{entries_of};
-ghost use Rattle.acdf_filters.specs.Users.{has_member, is_in_group};
+ghost use Rattle.acdf_filters.specs.Users.{member, unique_member, has_member, is_in_group};
 
 use crate::users::{entry_named, has_member};
 use dir_tree::{Entry, NoMemory, Tree};
@@ -46,8 +46,8 @@ impl<'a> NamedRequester<'a> {
     /// a member gives none. The error comes where memory is wanted, which only a group of many members takes, and only
     /// the first time.
     pub fn is_in_group(&mut self, alloc: Global, tree: &Tree, group: &Dn) -> Result<bool, NoMemory>
-        ensures exact { IfOk result (λ member.
-            member ≡ is_in_group (entries_of tree.now) self.old group.now) }
+        ensures exact { IfOk result (λ found.
+            found ≡ is_in_group (entries_of tree.now) self.old group.now) }
         ensures kept { self.new ≡ self.old }
     {
         match entry_named(tree, group) {
@@ -58,7 +58,7 @@ impl<'a> NamedRequester<'a> {
 
     // Whether the requester is among the members of the group.
     fn is_member(&mut self, alloc: Global, group: &Entry) -> Result<bool, NoMemory>
-        ensures exact { IfOk result (λ member. member ≡ has_member self.old group.now) }
+        ensures exact { IfOk result (λ found. found ≡ has_member self.old group.now) }
         ensures kept { self.new ≡ self.old }
     {
         if has_few(group) {
@@ -96,8 +96,8 @@ fn has_few(group: &Entry) -> bool {
 
 // Whether one of the group's members has the key.
 fn has_member_key(group: &Entry, key: &[u8]) -> bool
-    ensures exact { result ≡ (has_key key.now (values_of 14 group.now.attributes)
-        || has_key key.now (values_of 21 group.now.attributes)) }
+    ensures exact { result ≡ (has_key key.now (values_of member group.now.attributes)
+        || has_key key.now (values_of unique_member group.now.attributes)) }
 {
     group.has_value(AttrId::MEMBER, key) || group.has_value(AttrId::UNIQUE_MEMBER, key)
 }
