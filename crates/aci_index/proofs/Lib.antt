@@ -8,3 +8,4 @@ pub mod AroundLemmas
 pub mod NumberLemmas
 pub mod AnewLemmas
 pub mod StandLemmas
+pub mod ReplacedLemmas

@@ -4,19 +4,20 @@ use Rattle.dir_tree.specs.Entries.{EntryInformation}
 use Rattle.dir_tree.specs.Numbered.{Numbered, IsNumberedTree, entry_of, put_entry}
 use Rattle.scope_laws.proofs.Theorems.{change-put}
 use Rattle.aci_index.specs.Reach.{reached}
+use Rattle.aci_index.specs.declared.anew.Reach.TheVariants.{Around}
 use Rattle.aci_index.proofs.ReachLemmas.{IsApart, unreached-around}
 use Rattle.aci_index.proofs.AroundLemmas.{apart-put, apart-itself}
 use Rattle.aci_index.proofs.AnewLemmas.{StandAside}
 
 -- the entry of a number is one
-same_entry : (id number : ℕ) (one entry : EntryInformation) (rows : List Numbered) → entry_of id rows ≡ Some one → entry_of number rows ≡ Some entry → number ≡ id → entry ≡ one
+pub same_entry : (id number : ℕ) (one entry : EntryInformation) (rows : List Numbered) → entry_of id rows ≡ Some one → entry_of number rows ≡ Some entry → number ≡ id → entry ≡ one
 same_entry id number one entry rows known there e =
     let same : Some entry ≡ Some one = sym there ∙ ap (λ (n : ℕ). entry_of n rows) e ∙ known in
     cc
 
 -- from an entry that is put in
 pub stand-put : (id : ℕ) (one : EntryInformation) (rows : List Numbered) → IsNumberedTree (put_entry id one rows) → entry_of id rows ≡ None → one.name ≢ []
-    → StandAside id (reached id (put_entry id one rows)) (put_entry id one rows) None (Some one)
+    → StandAside id (reached Around id (put_entry id one rows)) (put_entry id one rows) None (Some one)
 stand-put id one rows also free filled number entry there others =
     let known = (change-put id one rows free).after in
     let apart = unreached-around id one number entry (put_entry id one rows) also known there others in (

@@ -1,5 +1,5 @@
--- Whose lists are made anew where an access control subentry is put in (X.501 14.3 and 18.3).
-use Rattle.std.specs.Prelude.{◌≡◌, ◌<◌, ℕ, List, map, fold, Some, unwrap_or, slice_set}
+-- Whose lists are made anew where a write may change those of other entries (X.501 14.3 and 18.3).
+use Rattle.std.specs.Prelude.{◌≡◌, ◌<◌, ℕ, List, map, fold, Some, unwrap_or, slice_set, if◌then◌else◌}
 use Rattle.std.specs.List.{AllByRecursion}
 use Rattle.dir_tree.specs.Entries.{EntryInformation}
 use Rattle.dir_tree.specs.Numbered.{Numbered, entry_of, superior_of}
@@ -9,16 +9,28 @@ use Rattle.admin_scope.specs.Finding.{AreSubtrees}
 use Rattle.acdf_lists.specs.declared.kept.Kept.{Kept}
 use Rattle.acdf_lists.specs.declared.kept.Holdings.{Holdings}
 use Rattle.acdf_lists.specs.Lists.{AreOf, lists_of}
+use Rattle.aci_index.specs.Steps.{are_ordinary}
+use Rattle.aci_index.specs.declared.anew.Reach.{Reach}
+use Rattle.aci_index.specs.declared.anew.Reach.TheVariants.{Below, Around}
 use Rattle.aci_index.specs.declared.anew.Remade.{Remade}
 use Rattle.aci_index.specs.declared.anew.Anew.{Anew}
 
--- the superior of the entry of the number, or the entry itself where it has none
-abbrev pub top_of : ℕ → List Numbered → ℕ
-top_of id rows = unwrap_or (superior_of id rows) id
+-- what an entry reaches that takes another's place: more where one of the two is an access control subentry
+abbrev pub reach_of : EntryInformation → EntryInformation → Reach
+reach_of old one = if are_ordinary old one then Below else Around
+
+-- the entry of the number, or its superior, if it has one, where those around it are reached
+abbrev pub top_of : Reach → ℕ → List Numbered → ℕ
+top_of Below id rows = id
+top_of Around id rows = unwrap_or (superior_of id rows) id
 
 -- the numbers of the entries that are reached: at and below the top
-abbrev pub reached : ℕ → List Numbered → List ℕ
-reached id rows = scoped Sub (top_of id rows) rows
+abbrev pub reached : Reach → ℕ → List Numbered → List ℕ
+reached reach id rows = scoped Sub (top_of reach id rows) rows
+
+-- all numbers of the entries have one of so many places
+abbrev pub AreBelow : ℕ → List Numbered → Type 0
+AreBelow bound rows = AllByRecursion (λ row. row.id < bound) rows
 
 -- the lists that were made of a number are those of its entry
 abbrev pub IsRemade : List Numbered → Remade → Type 0
@@ -30,9 +42,9 @@ abbrev pub numbers_of : List Remade → List ℕ
 numbers_of list = map (λ one. one.number.0) list
 
 -- the subtrees are those of the entries, and the lists those of the entries that are reached
-pub record IsAnew (id : ℕ) (anew : Anew) (rows : List Numbered) : Type 0 where
+pub record IsAnew (reach : Reach) (id : ℕ) (anew : Anew) (rows : List Numbered) : Type 0 where
   pub subtrees : AreSubtrees anew.subtrees.items rows
-  pub numbers : numbers_of anew.lists.items ≡ reached id rows
+  pub numbers : numbers_of anew.lists.items ≡ reached reach id rows
   pub lists : AllByRecursion (IsRemade rows) anew.lists.items
 
 -- each number has one of so many places

@@ -1,7 +1,8 @@
-//! The lists of the entries that a new access control subentry reaches, made of the tree and put.
+//! The lists of the entries that a write reaches, made of the tree and put.
 
-ghost use Rattle.std.specs.Prelude.{◌≡◌, IfOk, length, fold};
+ghost use Rattle.std.specs.Prelude.{◌≡◌, IfOk, length, fold, unwrap_or};
 ghost use Rattle.std.specs.List.{AllByRecursion};
+ghost use Rattle.dir_tree.specs.Numbered.{superior_of};
 ghost use Rattle.dir_tree.specs.Scopes.{scoped};
 ghost use Rattle.dir_tree.specs.declared.scope.Scope.TheVariants.{Sub};
 ghost use Rattle.admin_scope.specs.Finding.{AreSubtrees};
@@ -13,6 +14,15 @@ use acdf_lists::{Holdings, Kept, make_at};
 use admin_scope::{AccessSubentry, access_subtrees};
 use dir_tree::{EntryNo, NoMemory, Scope, Tree};
 use std::alloc::Global;
+
+/// Which lists a write may change.
+#[derive(Clone, Copy, Drop)]
+pub(crate) enum Reach {
+    /// Those of its entry, and of the entries below it.
+    Below,
+    /// Those of the entries at and below the superior of its entry, or at and below its entry where it has none.
+    Around,
+}
 
 /// The lists of a number, made anew.
 #[derive(Drop)]
@@ -28,13 +38,31 @@ pub(crate) struct Anew {
     pub lists: Vec<Remade>,
 }
 
+/// Nothing made.
+pub(crate) fn no_anew(alloc: Global) -> Anew {
+    Anew {
+        subtrees: Vec::new(alloc),
+        lists: Vec::new(alloc),
+    }
+}
+
 // The superior of the number, or the number itself where it has none.
-fn top(tree: &Tree, number: EntryNo) -> EntryNo
-    ensures exact { result.0 ≡ top_of number.0 tree.now }
+fn superior_or_itself(tree: &Tree, number: EntryNo) -> EntryNo
+    ensures exact { result.0 ≡ unwrap_or (superior_of number.0 tree.now) number.0 }
 {
     match tree.superior(number) {
         Some(above) => above,
         None => number,
+    }
+}
+
+// The number at and below which the lists are that a write of the number may change.
+fn top(tree: &Tree, number: EntryNo, reach: Reach) -> EntryNo
+    ensures exact { result.0 ≡ top_of reach number.0 tree.now }
+{
+    match reach {
+        Reach::Below => number,
+        Reach::Around => superior_or_itself(tree, number),
     }
 }
 
@@ -71,13 +99,17 @@ fn remake_below(
     Ok(list)
 }
 
-/// The subtrees, and the lists of the entries at and below the superior of the number. The error comes where memory is
-/// wanted.
-pub(crate) fn make_anew(alloc: Global, tree: &Tree, number: EntryNo) -> Result<Anew, NoMemory>
-    ensures ok { IfOk result (λ anew. IsAnew number.0 anew tree.now) }
+/// The subtrees, and the lists that a write of the number may change. The error comes where memory is wanted.
+pub(crate) fn make_anew(
+    alloc: Global,
+    tree: &Tree,
+    number: EntryNo,
+    reach: Reach,
+) -> Result<Anew, NoMemory>
+    ensures ok { IfOk result (λ anew. IsAnew reach number.0 anew tree.now) }
 {
     let subtrees = access_subtrees(alloc, tree)?;
-    let lists = remake_below(alloc, tree, &subtrees, top(tree, number))?;
+    let lists = remake_below(alloc, tree, &subtrees, top(tree, number, reach))?;
     Ok(Anew { subtrees, lists })
 }
 
@@ -87,12 +119,13 @@ pub(crate) fn make_anew_with_room(
     tree: &Tree,
     held: &mut Holdings,
     number: EntryNo,
+    reach: Reach,
 ) -> Result<Anew, NoMemory>
-    ensures ok { IfOk result (λ anew. IsAnew number.0 anew tree.now) }
+    ensures ok { IfOk result (λ anew. IsAnew reach number.0 anew tree.now) }
     ensures room { IfOk result (λ anew. HaveRoom anew.lists.items (length held.new.lists.items)) }
     ensures stay { AllStay held.old held.new }
 {
-    let anew = make_anew(alloc, tree, number)?;
+    let anew = make_anew(alloc, tree, number, reach)?;
     make_room(alloc, &mut held.lists, tree.bound())?;
     Ok(anew)
 }

@@ -1,4 +1,4 @@
-//! Which changes of an entry leave the lists of all others.
+//! Which lists an entry changes that takes another's place.
 
 ghost use Rattle.std.specs.Prelude.{◌≡◌, false};
 ghost use Rattle.std.specs.Option.{option_map_or};
@@ -6,8 +6,10 @@ ghost use Rattle.dir_tree.specs.Entries.{has_key, values_of};
 ghost use Rattle.dir_tree.specs.Numbered.{entry_of};
 ghost use Rattle.dir_tree.specs.Points.{administrative_role, is_specific_point, is_inner_point};
 ghost use Rattle.admin_scope.specs.Areas.{is_access_point};
+ghost use Rattle.aci_index.specs.Reach.{reach_of};
 ghost use Rattle.aci_index.specs.Steps.{are_alike, are_ordinary, has_same_roles, is_same_point, is_own_change};
 
+use crate::anew::Reach;
 use dir_tree::{Entry, EntryNo, Tree};
 use dn_names::same;
 use schema_core::AttrId;
@@ -86,5 +88,26 @@ pub(crate) fn changes_own(tree: &Tree, number: EntryNo, entry: &Entry) -> bool
     match tree.at(number) {
         Some(old) => is_own_change(old, entry),
         None => false,
+    }
+}
+
+// What the one reaches in place of the other.
+fn reach_of(old: &Entry, one: &Entry) -> Reach
+    ensures exact { result ≡ reach_of old.now one.now }
+{
+    if are_ordinary(old, one) {
+        Reach::Below
+    } else {
+        Reach::Around
+    }
+}
+
+/// What the entry reaches in place of that of the number. Nothing takes the place of a number that is not in use.
+pub(crate) fn reach_at(tree: &Tree, number: EntryNo, entry: &Entry) -> Reach
+    ensures exact { result ≡ option_map_or (λ old. reach_of old entry.now) (entry_of number.0 tree.now) Reach.Around }
+{
+    match tree.at(number) {
+        Some(old) => reach_of(old, entry),
+        None => Reach::Around,
     }
 }

@@ -4,14 +4,17 @@ ghost use Rattle.std.specs.Prelude.{◌≡◌, ◌<◌, ◌⊎◌, true, false, 
 ghost use Rattle.std.specs.Option.{option_map_or};
 ghost use Rattle.dir_tree.specs.Numbered.{entry_of, put_entry, without};
 ghost use Rattle.dir_tree.specs.Refusals.{replace_refusal};
+ghost use Rattle.admin_scope.specs.Finding.{AreSubtrees};
 ghost use Rattle.acdf_lists.specs.Lists.{AreOf, lists_of};
 ghost use Rattle.acdf_lists.specs.Holdings.{IsHeld};
-ghost use Rattle.aci_index.specs.Steps.{is_own_change};
+ghost use Rattle.aci_index.specs.Reach.{AreBelow};
+ghost use Rattle.aci_index.specs.Steps.{AllStay, is_own_change};
 
-use crate::points::changes_own;
-use crate::putting::{make_ready, put_own};
-use acdf_lists::{Holdings, Kept, replace_in};
-use dir_tree::{Entry, EntryNo, ReplaceRefusal, Tree};
+use crate::anew::{Anew, Reach, make_anew, no_anew, put_anew};
+use crate::points::{changes_own, reach_at};
+use crate::putting::{make_lists, make_ready, make_room, put_own};
+use acdf_lists::{Holdings, Kept};
+use dir_tree::{Entry, EntryNo, NoMemory, ReplaceRefusal, Tree, TreeReader};
 use std::alloc::Global;
 
 // Gives the entry's place to another, and puts the other's lists, for which there is room. Takes no memory for them.
@@ -66,7 +69,75 @@ fn replace_own(
     }
 }
 
-// Gives the entry's place to another: all that is kept is made anew.
+// Makes the lists that the number's new entry changes, of the tree that it reads.
+#[derive(Drop)]
+struct Remaker {
+    alloc: Global,
+    number: EntryNo,
+    reach: Reach,
+    anew: Anew,
+}
+
+impl TreeReader for Remaker {
+    ghost use Rattle.aci_index.specs.Reach.{IsAnew};
+
+    ghost has_read = { λ before remaker rows. IsAnew before.reach before.number.0 remaker.anew rows };
+
+    fn read(&mut self, tree: &Tree) -> Result<(), NoMemory> {
+        self.anew = make_anew(self.alloc, tree, self.number, self.reach)?;
+        Ok(())
+    }
+}
+
+// Makes room for the lists of all numbers, and puts the groups that the entry's items name among those known.
+fn make_all_ready(
+    alloc: Global,
+    tree: &Tree,
+    held: &mut Holdings,
+    entry: &Entry,
+) -> Result<(), NoMemory>
+    requires subtrees { AreSubtrees held.old.subtrees.items tree.now }
+    ensures room { OnOk result (AreBelow (length held.new.lists.items) tree.now) }
+    ensures stay { AllStay held.old held.new }
+{
+    let _lists = make_lists(alloc, tree, held, entry)?;
+    make_room(alloc, &mut held.lists, tree.bound())?;
+    Ok(())
+}
+
+// Gives the entry's place to another: the lists that it reaches are made of the tree as it then is, and put, for which
+// there is room. Takes no memory after the tree has changed for good.
+fn replace_reached(
+    alloc: Global,
+    tree: &mut Tree,
+    held: &mut Holdings,
+    number: EntryNo,
+    entry: Entry,
+) -> Result<Entry, ReplaceRefusal>
+    requires held { IsHeld held.old tree.old }
+    requires room { AreBelow (length held.old.lists.items) tree.old }
+    ensures found { IfOk result (λ old. entry_of number.0 tree.old ≡ Some old) }
+    ensures ok { OnOk result (tree.new ≡ put_entry number.0 entry (without number.0 tree.old)) }
+    ensures exact { OnOk result (replace_refusal number.0 entry.name tree.old ≡ None) }
+    ensures cause { IfErr result (λ refusal. (refusal ≡ ReplaceRefusal.NoMemory)
+        ⊎ (replace_refusal number.0 entry.name tree.old ≡ Some refusal)) }
+    ensures kept { OnErr result (tree.new ≡ tree.old) }
+    ensures held { IsHeld held.new tree.new }
+{
+    let mut remaker = Remaker {
+        alloc,
+        number,
+        reach: reach_at(tree, number, &entry),
+        anew: no_anew(alloc),
+    };
+    tree.entries_form_a_tree();
+    let old = tree.replace_read(number, entry, &mut remaker)?;
+    tree.entries_form_a_tree();
+    put_anew(held, remaker.anew);
+    Ok(old)
+}
+
+// Gives the entry's place to another that changes more lists than its own.
 fn replace_other(
     alloc: Global,
     tree: &mut Tree,
@@ -83,9 +154,10 @@ fn replace_other(
     ensures kept { OnErr result (tree.new ≡ tree.old) }
     ensures held { IsHeld held.new tree.new }
 {
-    let replaced = replace_in(alloc, tree, number, entry)?;
-    *held = replaced.held;
-    Ok(replaced.old)
+    match make_all_ready(alloc, tree, held, &entry) {
+        Ok(()) => replace_reached(alloc, tree, held, number, entry),
+        Err(_) => Err(ReplaceRefusal::NoMemory),
+    }
 }
 
 /// Gives the entry's place to another, and changes of what is kept what concerns the two. Where there is no memory for

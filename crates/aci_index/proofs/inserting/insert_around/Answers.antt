@@ -7,6 +7,7 @@ use Rattle.scope_laws.proofs.Theorems.{change-put}
 use Rattle.acdf_lists.specs.Holdings.{IsHeld}
 use Rattle.acdf_lists.proofs.Theorems.{new_removable}
 use Rattle.aci_index.specs.Reach.{IsAnew}
+use Rattle.aci_index.specs.declared.anew.Reach.TheVariants.{Around}
 use Rattle.aci_index.proofs.HeldLemmas.{held-same}
 use Rattle.aci_index.proofs.AnewLemmas.{held-anew}
 use Rattle.aci_index.proofs.StandLemmas.{stand-put}
@@ -29,9 +30,9 @@ returns-in-Ok-clause-held c =
     let also = subst IsNumberedTree done.ok c.entries_form_a_tree-2.ensures.exact in
     let before = held-same rows c.args.held.now c.make_anew_with_room.new.held c.requires.held c.in-Ok.ensures.stay in
     subst (λ (new : List Numbered). IsHeld c.put_anew.new.held new) (sym done.ok)
-    (held-anew number rows (put_entry number entry rows) None (Some entry) c.make_anew_with_room.new.held c.put_anew.new.held anew
+    (held-anew Around number rows (put_entry number entry rows) None (Some entry) c.make_anew_with_room.new.held c.put_anew.new.held anew
     c.entries_form_a_tree.ensures.exact also (change-put number entry rows done.free) (stand-put number entry rows also done.free c.requires.named)
-    before (subst (IsAnew number anew) done.ok c.in-Ok.ensures.ok) c.in-Ok.ensures.room c.put_anew.ensures.exact)
+    before (subst (IsAnew Around number anew) done.ok c.in-Ok.ensures.ok) c.in-Ok.ensures.room c.put_anew.ensures.exact)
 
 pub returns-in-Err-clause-kept : goal.returns-in-Err-clause-kept
 returns-in-Err-clause-kept c =

@@ -1,0 +1,31 @@
+-- What was made is of the tree as it is now, and all that is not reached stands aside.
+use Rattle.std.proofs.Common.{List, sym, subst}
+use Rattle.dir_tree.specs.Numbered.{Numbered, IsNumberedTree}
+use Rattle.acdf_lists.specs.Holdings.{IsHeld}
+use Rattle.aci_index.specs.Reach.{IsAnew}
+use Rattle.aci_index.proofs.ReplacedLemmas.{room-replaced, held-replaced}
+use Rattle.aci_index.proofs.replacing.replace_reached.Goals as goal
+
+pub put_anew-requires : goal.put_anew-requires
+put_anew-requires c =
+    let number = c.args.number.0 in
+    let rows = c.args.tree.now in
+    let done = c.in_ok-old.ensures in
+    let reach = c.reach_at.result in
+    let anew = c.replace_read.new.reader.anew in
+    room-replaced number c.in_ok-old.old c.args.entry rows c.entries_form_a_tree.ensures.exact done.found done.exact
+    reach _ anew c.requires.room (subst (IsAnew reach number anew) done.ok done.read)
+
+pub returns-clause-held : goal.returns-clause-held
+returns-clause-held c =
+    let number = c.args.number.0 in
+    let rows = c.args.tree.now in
+    let done = c.in_ok-old.ensures in
+    let reach = c.reach_at.result in
+    let anew = c.replace_read.new.reader.anew in
+    let made = c.put_anew.new.held in
+    let also = subst IsNumberedTree done.ok c.entries_form_a_tree-2.ensures.exact in
+    subst (λ (new : List Numbered). IsHeld made new) (sym done.ok)
+    (held-replaced number c.in_ok-old.old c.args.entry rows c.entries_form_a_tree.ensures.exact done.found done.exact
+    reach c.args.held.now made anew also c.reach_at.ensures.exact c.requires.held c.requires.room
+    (subst (IsAnew reach number anew) done.ok done.read) c.put_anew.ensures.exact)
