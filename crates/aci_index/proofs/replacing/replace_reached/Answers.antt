@@ -1,4 +1,3 @@
--- What was made is of the tree as it is now, and all that is not reached stands aside.
 use Rattle.std.proofs.Common.{List, sym, subst}
 use Rattle.dir_tree.specs.Numbered.{Numbered, IsNumberedTree}
 use Rattle.acdf_lists.specs.Holdings.{IsHeld}
@@ -6,6 +5,7 @@ use Rattle.aci_index.specs.Reach.{IsAnew}
 use Rattle.aci_index.proofs.ReplacedLemmas.{room-replaced, held-replaced}
 use Rattle.aci_index.proofs.replacing.replace_reached.Goals as goal
 
+-- there is room for what was made
 pub put_anew-requires : goal.put_anew-requires
 put_anew-requires c =
     let number = c.args.number.0 in
@@ -13,9 +13,13 @@ put_anew-requires c =
     let done = c.in_ok-old.ensures in
     let reach = c.reach_at.result in
     let anew = c.replace_read.new.reader.anew in
-    room-replaced number c.in_ok-old.old c.args.entry rows c.entries_form_a_tree.ensures.exact done.found done.exact
-    reach _ anew c.requires.room (subst (IsAnew reach number anew) done.ok done.read)
+    record {
+      room =
+          room-replaced number c.in_ok-old.old c.args.entry rows c.entries_form_a_tree.ensures.exact done.found done.exact
+          reach _ anew c.requires.room (subst (IsAnew reach number anew) done.ok done.read);
+    }
 
+-- what was made is of the tree as it is now, and all that is not reached stands aside
 pub returns-clause-held : goal.returns-clause-held
 returns-clause-held c =
     let number = c.args.number.0 in
