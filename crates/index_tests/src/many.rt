@@ -69,7 +69,7 @@ fn browsable(dir: &IndexedDir, number: EntryNo, times: usize) -> usize {
     let mut count = 0;
     for _ in 0..times {
         if dir.decide(&who, known, number, Item::Entry, Permission::Browse) {
-            count += 1;
+            count = count.saturating_add(1);
         }
     }
     count
@@ -172,7 +172,7 @@ fn wrong(alloc: Global, dir: &IndexedDir, people: usize) -> Result<usize, Fail> 
     for index in 0..people {
         let name = person(alloc, index)?;
         if !agrees(alloc, dir, name.as_str())? {
-            count += 1;
+            count = count.saturating_add(1);
         }
     }
     Ok(count)
