@@ -66,7 +66,7 @@ fn browsable(dir: &IndexedDir, number: EntryNo, times: usize) -> usize {
         level: Level::Anyone,
     };
     let known: &[Membership] = &[];
-    let mut count = 0;
+    let mut count: usize = 0;
     for _ in 0..times {
         if dir.decide(&who, known, number, Item::Entry, Permission::Browse) {
             count = count.saturating_add(1);
@@ -168,7 +168,7 @@ fn agrees(alloc: Global, dir: &IndexedDir, name: &str) -> Result<bool, Fail> {
 
 // How many of so many people the directory keeps another list of than the entries say.
 fn wrong(alloc: Global, dir: &IndexedDir, people: usize) -> Result<usize, Fail> {
-    let mut count = 0;
+    let mut count: usize = 0;
     for index in 0..people {
         let name = person(alloc, index)?;
         if !agrees(alloc, dir, name.as_str())? {
