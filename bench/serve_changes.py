@@ -67,7 +67,7 @@ def main():
                 for name in names:
                     ask(connection, request(name), kind)
                 spent = (seconds_of(pid) - before) / asked.changes
-                print(f"{what}: {spent * 1000:.2f} ms")
+                print(f"{what}: {spent * 1e6:.1f} us")
     return 0
 
 
