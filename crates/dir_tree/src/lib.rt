@@ -37,5 +37,5 @@ pub use tree_laws::{
     a_change_leaves_a_tree, all_but_the_suffix_have_superiors, entries_change_as_rows_do,
     numbers_stand_for_entries, putting_in_undoes_taking_out, scopes_take_in_what_is_below,
 };
-pub use vacancy::Vacancy;
+pub use vacancy::{MOST_ENTRIES, Vacancy};
 pub use walk::Walk;

@@ -39,7 +39,17 @@ impl Tree {
             ⊎ (replace_refusal no.0 entry.name self.old ≡ Some refusal)) }
         ensures kept { OnErr result (self.new ≡ self.old) }
     {
-        self.replace_read(no, entry, &mut Unread)
+        match self.replaceable(no, entry.name()) {
+            Ok(()) => {
+                let mut entry = entry;
+                entry.fit();
+                match self.change(no, entry) {
+                    Ok(old) => Ok(old),
+                    Err(_) => Err(ReplaceRefusal::NoMemory),
+                }
+            }
+            Err(refusal) => Err(refusal),
+        }
     }
 
     /// Gives the entry's place to another, as `replace` does, and lets the reader read the tree as it then is. Where the
@@ -65,7 +75,7 @@ impl Tree {
             Ok(()) => {
                 let mut entry = entry;
                 entry.fit();
-                match self.change(no, entry, reader) {
+                match self.change_read(no, entry, reader) {
                     Ok(old) => Ok(old),
                     Err(_) => Err(ReplaceRefusal::NoMemory),
                 }
@@ -125,7 +135,21 @@ impl Tree {
     }
 
     // Gives the place of the entry of the number to another.
-    fn change<R: TreeReader>(
+    fn change(&mut self, no: EntryNo, entry: Entry) -> Result<Entry, AllocError>
+        requires may { IsReplaceable no.0 entry.name self.old }
+        ensures found { IfOk result (λ old. entry_of no.0 self.old ≡ Some old) }
+        ensures ok { OnOk result (self.new ≡ put_entry no.0 entry (without no.0 self.old)) }
+        ensures kept { OnErr result (self.new ≡ self.old) }
+    {
+        if self.is_called(no, entry.name()) {
+            self.change_here(no, entry, &mut Unread)
+        } else {
+            self.change_path(no, entry)
+        }
+    }
+
+    // Gives the place of the entry of the number to another, and lets the reader read.
+    fn change_read<R: TreeReader>(
         &mut self,
         no: EntryNo,
         entry: Entry,
@@ -140,7 +164,7 @@ impl Tree {
         if self.is_called(no, entry.name()) {
             self.change_here(no, entry, reader)
         } else {
-            self.change_path(no, entry, reader)
+            self.change_path_read(no, entry, reader)
         }
     }
 
@@ -182,9 +206,26 @@ impl Tree {
         }
     }
 
-    // Gives the place of the entry of the number to one of another name: its path key comes into a copy
-    // of the map before the old one goes.
-    fn change_path<R: TreeReader>(
+    // Gives the place of the entry of the number to one of another name: its path key comes in before the old one goes.
+    fn change_path(&mut self, no: EntryNo, entry: Entry) -> Result<Entry, AllocError>
+        requires may { IsReplaceable no.0 entry.name self.old }
+        requires called { option_map_or (λ old. is_same entry.name old.name) (entry_of no.0 self.old) false ≡ false }
+        ensures found { IfOk result (λ old. entry_of no.0 self.old ≡ Some old) }
+        ensures ok { OnOk result (self.new ≡ put_entry no.0 entry (without no.0 self.old)) }
+        ensures kept { OnErr result (self.new ≡ self.old) }
+    {
+        let path = copy_path(entry.name())?;
+        let numbers = relisted(&self.slots, &self.subentries, &entry, no)?;
+        self.places.insert(path, no.0)?;
+        self.subentries = numbers;
+        let old = replace_entry(&mut self.slots, no.0, entry);
+        let _number = self.places.remove(old.name().path().as_slice());
+        Ok(old)
+    }
+
+    // Gives the place of the entry of the number to one of another name, and lets the reader read: its path key comes
+    // into a copy of the map before the old one goes, so that all can be put back without memory.
+    fn change_path_read<R: TreeReader>(
         &mut self,
         no: EntryNo,
         entry: Entry,

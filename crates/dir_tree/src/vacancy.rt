@@ -9,7 +9,8 @@ use crate::tree::Tree;
 use dn_names::Dn;
 use std::marker::Model;
 
-const MOST_ENTRIES: usize = 200_000;
+/// The most entries of a tree.
+pub const MOST_ENTRIES: usize = 200_000;
 
 /// Where an entry may be put in. Contracts see the number of its superior.
 #[derive(Debug, Drop)]

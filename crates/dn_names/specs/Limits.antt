@@ -5,6 +5,6 @@ use Rattle.std.specs.Prelude.{ℕ}
 abbrev pub most_rdns : ℕ
 most_rdns = 64
 
--- the most octets of a value in a name
+-- the most octets of a value, in a name or of an attribute
 abbrev pub most_octets : ℕ
 most_octets = 65536

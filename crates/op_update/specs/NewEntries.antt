@@ -6,15 +6,12 @@ use Rattle.plain_values.specs.Results.{◌>>=◌}
 use Rattle.schema_core.specs.Attributes.{attr_of}
 use Rattle.dn_names.specs.Names.{Keyed, RdnSequence}
 use Rattle.dn_names.specs.NameValues.{value_of}
+use Rattle.dn_names.specs.Limits.{most_octets}
 use Rattle.dir_tree.specs.Entries.{Attribute, EntryInformation, kinds_of, is_match}
 use Rattle.op_write.specs.Loading.{with_own_values}
 use Rattle.ldap_msg.specs.declared.operations.ResultCode.{ResultCode}
 use Rattle.ldap_msg.specs.declared.operations.ResultCode.TheVariants as code
 use Rattle.ldap_msg.specs.declared.kinds.KindValues.{KindValues}
-
--- how many octets a value has at most
-abbrev pub most_octets : ℕ
-most_octets = 65536
 
 -- the value, where the octets are one and not too many
 abbrev pub fitting : List ℕ → Option Keyed → Result Keyed ResultCode

@@ -12,15 +12,13 @@ ghost use Rattle.op_update.specs.Steps.{entry_from, IsPut, IsNewEntry};
 use crate::fault::Fault;
 use crate::twice::repeats;
 use dir_tree::{Entry, NoMemory};
-use dn_names::{Dn, Value, make_value};
+use dn_names::{Dn, MOST_OCTETS, Value, make_value};
 use ldap_msg::{KindValues, ResultCode};
 use match_rules::PrepareFault;
 use op_write::add_own_values;
 use plain_values::Octets;
 use schema_core::{AttrId, attr_named};
 use std::alloc::Global;
-
-const MOST_OCTETS: usize = 65_536;
 
 /// A type and values of it as a request gives them, read: in the order of the request, and some of them may match.
 #[derive(Drop)]

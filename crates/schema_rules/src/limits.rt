@@ -5,14 +5,12 @@ ghost use Rattle.std.specs.Option.{option_map, option_map_or};
 ghost use Rattle.dir_tree.specs.Numbered.{IsNumberedTree, entries_of};
 ghost use Rattle.dir_tree.specs.Points.{is_access_subentry, access_subentries};
 ghost use Rattle.schema_rules.specs.Checking.{replaced, others};
-ghost use Rattle.aci_item.specs.Rules.{octets_in, is_past_limits};
+ghost use Rattle.dir_tree.specs.Trees.{most_entries};
+ghost use Rattle.aci_item.specs.Rules.{most_subentries, most_octets_in, octets_in, is_past_limits};
 
 use crate::old::replaced;
 use crate::values::{MOST_OCTETS, octets_in};
-use dir_tree::{Entry, EntryNo, Tree};
-
-/// How many entries a tree has at most.
-const MOST_ENTRIES: usize = 200_000;
+use dir_tree::{Entry, EntryNo, MOST_ENTRIES, Tree};
 
 /// How many access control subentries a tree has at most.
 const MOST_SUBENTRIES: usize = 256;
@@ -28,7 +26,7 @@ pub(crate) fn is_past_limits(tree: &Tree, old: Option<EntryNo>, entry: &Entry) -
 
 // Whether as many entries stand beside the one whose place is taken as a tree may have.
 fn is_full(tree: &Tree, old: Option<EntryNo>) -> bool
-    ensures exact { result ≡ nat_le 200000 (length (others (option_map (λ no. no.0) old) tree.now)) }
+    ensures exact { result ≡ nat_le most_entries (length (others (option_map (λ no. no.0) old) tree.now)) }
 {
     count_beside(tree, old) >= MOST_ENTRIES
 }
@@ -47,7 +45,7 @@ fn count_beside(tree: &Tree, old: Option<EntryNo>) -> usize
 fn is_subentry_too_many(tree: &Tree, old: Option<EntryNo>, entry: &Entry) -> bool
     ensures exact { result
         ≡ (is_access_subentry entry.now
-        && nat_le 256 (access_subentries (others (option_map (λ no. no.0) old) tree.now))) }
+        && nat_le most_subentries (access_subentries (others (option_map (λ no. no.0) old) tree.now))) }
 {
     is_full_of_subentries(tree, old) && entry.is_access_subentry()
 }
@@ -55,7 +53,7 @@ fn is_subentry_too_many(tree: &Tree, old: Option<EntryNo>, entry: &Entry) -> boo
 // Whether as many access control subentries stand beside the entry whose place is taken as a tree may have.
 fn is_full_of_subentries(tree: &Tree, old: Option<EntryNo>) -> bool
     ensures exact { result
-        ≡ nat_le 256 (access_subentries (others (option_map (λ no. no.0) old) tree.now)) }
+        ≡ nat_le most_subentries (access_subentries (others (option_map (λ no. no.0) old) tree.now)) }
 {
     subentries_beside(tree, old) >= MOST_SUBENTRIES
 }
@@ -92,7 +90,7 @@ fn takes_subentry(tree: &Tree, old: Option<EntryNo>) -> bool
 
 // Whether the entry's values have more octets than they may.
 fn is_too_large(entry: &Entry) -> bool
-    ensures exact { result ≡ nat_lt 67108864 (octets_in entry.now) }
+    ensures exact { result ≡ nat_lt most_octets_in (octets_in entry.now) }
 {
     octets_in(entry) > MOST_OCTETS
 }
