@@ -7,5 +7,4 @@ pub mod WeighLemmas
 pub mod DecisionLaw
 pub mod UnseenLaw
 pub mod Theorems
-pub mod FoldLemmas
 mod Examples

@@ -5,7 +5,6 @@
 mod asking;
 mod covering;
 mod laws;
-mod members;
 mod named;
 mod question;
 mod reading;
@@ -18,10 +17,9 @@ pub use covering::{covers, is_explicit};
 pub use laws::{
     an_unseen_subtree_changes_no_decision, the_running_state_is_that_of_the_six_filters,
 };
-pub use members::memberships;
 pub use named::NamedRequester;
 pub use question::{Membership, Question};
 pub use reading::read_items;
 pub use standing::Standing;
-pub use users::{class_of, is_in_group, listed_class};
-pub use weighing::{TaggedTuples, weigh, weigh_items, weigh_tuples};
+pub use users::{class_of, listed_class};
+pub use weighing::{TaggedTuples, weigh};

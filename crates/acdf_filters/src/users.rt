@@ -57,9 +57,9 @@ pub(crate) fn entry_named<'a>(tree: &'a Tree, name: &Dn) -> Option<&'a Entry>
     }
 }
 
-/// Whether the name is a member of the group of this name: an absent group has no members, and a group that is a member
-/// gives none. No memory is taken.
-pub fn is_in_group(tree: &Tree, name: &Dn, group: &Dn) -> bool
+// Whether the name is a member of the group of this name: an absent group has no members, and a group that is a member
+// gives none. No memory is taken.
+fn is_in_group(tree: &Tree, name: &Dn, group: &Dn) -> bool
     ensures exact { result ≡ is_in_group (entries_of tree.now) name.now group.now }
 {
     match entry_named(tree, group) {

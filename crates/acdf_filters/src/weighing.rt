@@ -1,10 +1,9 @@
 //! Tuples, weighed one after the other.
 
-ghost use Rattle.std.specs.Prelude.{◌≡◌, map, fold};
-ghost use Rattle.std.specs.List.{flat_map};
+ghost use Rattle.std.specs.Prelude.{◌≡◌};
 ghost use Rattle.aci_item.specs.Views.{tuple_of};
 ghost use Rattle.acdf_filters.specs.Standings.{with_one};
-ghost use Rattle.acdf_filters.specs.Weighing.{KnowsGroups, asked_of, asked_ranks, alone_at, by_class, with_class_of, with_item_of, with_permission_of, weighed_for, tagged_of};
+ghost use Rattle.acdf_filters.specs.Weighing.{KnowsGroups, asked_of, asked_ranks, alone_at, by_class, with_class_of, with_item_of, with_permission_of, weighed_for};
 
 use crate::covering::{covers, is_explicit};
 use crate::question::Question;
@@ -113,28 +112,4 @@ pub fn weigh(question: &Question<'_>, tuple: &AciTuple, seen: Standing) -> Stand
     } else {
         weigh_permission(question, tuple, seen)
     }
-}
-
-/// The state with tuples weighed one after the other. No memory is taken.
-pub fn weigh_tuples(question: &Question<'_>, tuples: &[AciTuple], seen: Standing) -> Standing
-    requires { KnowsGroups question.now }
-    ensures exact { result ≡ fold (weighed_for question.now) seen (map tuple_of tuples.now) }
-{
-    let mut now = seen;
-    for tuple in tuples {
-        now = weigh(question, tuple, now);
-    }
-    now
-}
-
-/// The state with the tuples of items weighed one after the other. No memory is taken.
-pub fn weigh_items(question: &Question<'_>, items: &[TaggedTuples], seen: Standing) -> Standing
-    requires { KnowsGroups question.now }
-    ensures exact { result ≡ fold (weighed_for question.now) seen (flat_map (λ item. item.tuples) (map tagged_of items.now)) }
-{
-    let mut now = seen;
-    for item in items {
-        now = weigh_tuples(question, &item.tuples, now);
-    }
-    now
 }
