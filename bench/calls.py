@@ -17,32 +17,27 @@ CRATES = HERE.parent / "crates"
 
 
 class Program(NamedTuple):
-    """What a program names, what that stands on besides, and the program's own files."""
+    """What a program names, and the program's own files."""
 
     named: tuple
-    below: tuple
     files: dict
 
 
 PROGRAMS = {
     "messages": Program(
         ("ldap_msg",),
-        ("ldap_filter", "ber_layout", "ber_core", "plain_values"),
         {"src/main.rt": "messages.txt"},
     ),
     "names": Program(
         ("dn_names", "match_rules"),
-        ("schema_core", "regular_text", "plain_values"),
         {"src/main.rt": "names.txt"},
     ),
     "subtrees": Program(
         ("subtree_spec",),
-        ("gser_tree", "dn_names", "match_rules", "schema_core", "regular_text", "plain_values"),
         {"src/main.rt": "subtrees.txt"},
     ),
     "trees": Program(
         ("ldif_core", "dir_tree", "dn_names"),
-        ("match_rules", "schema_core", "regular_text", "plain_values"),
         {
             "src/main.rt": "trees.txt",
             "proofs/read_all/Invariants.antt": "trees_places.txt",
@@ -51,12 +46,22 @@ PROGRAMS = {
 }
 
 
+def used_by(names, lines):
+    """The lines of the crates of these names and of all that they stand on."""
+    named = {line.split(":")[0]: line for line in lines if ":" in line and not line.startswith("#")}
+    used, left = {}, list(names)
+    while left:
+        name = left.pop()
+        if name in named and name not in used:
+            used[name] = named[name]
+            left += named[name].split(":")[1].split()
+    return used
+
+
 def make_repository(folder, program):
     """Puts the crates, their list and the program into a folder; gives the program's own."""
-    used = program.named + program.below
-    lines = (HERE.parent / "crates.txt").read_text().splitlines()
-    chosen = [line for line in lines if line.split(":")[0] in used]
-    chosen.append("bench_calls: " + " ".join(program.named))
+    used = used_by(program.named, (HERE.parent / "crates.txt").read_text().splitlines())
+    chosen = [*used.values(), "bench_calls: " + " ".join(program.named)]
     folder.mkdir(parents=True, exist_ok=True)
     (folder / "crates.txt").write_text("\n".join(chosen) + "\n")
     for crate in used:
