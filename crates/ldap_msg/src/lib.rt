@@ -13,6 +13,7 @@ mod reading;
 mod replies;
 mod requests;
 mod results;
+mod room;
 mod search;
 mod writing;
 

@@ -15,6 +15,7 @@ use crate::controls::controls;
 use crate::kinds::{KindValues, LdapResult, NoMemory, Reply};
 use crate::operations::Response;
 use crate::reading::MAX_ID;
+use crate::room::reply_room;
 use ber_layout::{
     Laid, ReadFault, any, enclose, ignored, integer, is_further_but, list, optional_octets,
     put_element, put_list, put_number, put_optional, required, tagged,
@@ -127,6 +128,7 @@ pub fn put_reply(out: &mut Vec<u8>, id: u32, reply: &Reply) -> Result<(), NoMemo
     ensures ok { OnOk result (out.new.items ≡ out.old.items ++ reply_octets id reply.now) }
     ensures err { OnErr result (out.new.items ≡ out.old.items) }
 {
+    out.reserve(reply_room(reply))?;
     let before = out.len();
     match put_message(out, id, reply) {
         Ok(()) => Ok(()),
