@@ -1,6 +1,6 @@
 //! Script files: their events, and the first bad line of other texts.
 
-use script_text::{Head, Recording, read_script};
+use script_text::{EventKind, Head, Recording, read_script};
 use std::alloc::{AllocError, Global};
 use std::test::*;
 
@@ -140,10 +140,11 @@ static OTHER_TEXTS: [(&str, &str, &str); 32] = [
 
 // The line that is the text of an event, with its octets in lower case.
 fn put_event(out: &mut String, head: Head, octets: &[u8]) -> Result<(), AllocError> {
-    match head {
-        Head::Opened(number) => write!(out, "open {number}\n"),
-        Head::Ended(number) => write!(out, "end {number}\n"),
-        Head::Bytes(number) => {
+    let number = head.conn;
+    match head.kind {
+        EventKind::Opened => write!(out, "open {number}\n"),
+        EventKind::Ended => write!(out, "end {number}\n"),
+        EventKind::Bytes => {
             write!(out, "send {number} ")?;
             for octet in octets {
                 write!(out, "{octet:02x}")?;

@@ -3,10 +3,12 @@ use Rattle.std.proofs.Common.{◌≡◌, ℕ, suc, ◌+◌, ◌-◌, ◌<◌, �
 use Rattle.std.proofs.lemmas.List.{drop_more, drop_all, take_all, take-append-le, drop-append-le, drop-drop, length-drop}
 use Rattle.std.proofs.lemmas.List.Sums.{sum_by-cons}
 use Rattle.script_text.specs.declared.event.ScriptEvent.{ScriptEvent}
+use Rattle.script_text.specs.declared.event.ScriptEvent.TheVariants as event
 use Rattle.script_text.specs.declared.recording.Head.{Head}
-use Rattle.script_text.specs.declared.recording.Head.TheVariants.{Opened, Bytes, Ended}
+use Rattle.script_text.specs.declared.recording.EventKind.{EventKind}
+use Rattle.script_text.specs.declared.recording.EventKind.TheVariants.{Opened, Bytes, Ended}
 use Rattle.script_text.specs.declared.recording.Row.{Row}
-use Rattle.script_text.specs.Recording.{event_with, head_of, events_from, IsPacked}
+use Rattle.script_text.specs.Recording.{event_by, event_with, head_of, octets_in, events_from, IsPacked}
 
 -- no octets are left where they are counted and there are none
 nil-counted : (octets : List ℕ) → 0 ≡ length octets → octets ≡ []
@@ -80,10 +82,20 @@ recorded-none place start rows rows' octets events same past was =
     sym was ∙ events-none place rows (drop start octets) outside
 
 -- an event has the head that it is made with
+head_of-event_by : (kind : EventKind) (conn : ℕ) (octets : List ℕ) → head_of (event_by kind conn octets) ≡ record { kind = kind; conn = conn }
+head_of-event_by Opened conn octets = refl
+head_of-event_by Bytes conn octets = refl
+head_of-event_by Ended conn octets = refl
+
+-- the head is that of its event
 pub head_of-event_with : (head : Head) (octets : List ℕ) → head_of (event_with head octets) ≡ head
-head_of-event_with (Opened conn) octets = refl
-head_of-event_with (Bytes conn) octets = refl
-head_of-event_with (Ended conn) octets = refl
+head_of-event_with head octets = head_of-event_by head.kind head.conn octets
+
+-- an event is that of its head with its octets
+pub event_with-head_of : (event : ScriptEvent) → event_with (head_of event) (octets_in event) ≡ event
+event_with-head_of (event.Opened conn) = refl
+event_with-head_of (event.Bytes conn octets) = refl
+event_with-head_of (event.Ended conn) = refl
 
 -- there are as many events as rows
 events-length : (rows : List Row) (octets : List ℕ) → length (events_from rows octets) ≡ length rows

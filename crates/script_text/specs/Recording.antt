@@ -3,20 +3,25 @@ use Rattle.std.specs.Prelude.{◌≡◌, ◌≤◌, ◌+◌, ℕ, List, [], ◌�
 use Rattle.script_text.specs.declared.event.ScriptEvent.{ScriptEvent}
 use Rattle.script_text.specs.declared.event.ScriptEvent.TheVariants as event
 use Rattle.script_text.specs.declared.recording.Head.{Head}
-use Rattle.script_text.specs.declared.recording.Head.TheVariants.{Opened, Bytes, Ended}
+use Rattle.script_text.specs.declared.recording.EventKind.{EventKind}
+use Rattle.script_text.specs.declared.recording.EventKind.TheVariants.{Opened, Bytes, Ended}
 use Rattle.script_text.specs.declared.recording.Row.{Row}
+
+-- the event of a kind, of the connection, with the octets
+abbrev pub event_by : EventKind → ℕ → List ℕ → ScriptEvent
+event_by Opened conn octets = event.Opened conn
+event_by Bytes conn octets = event.Bytes conn octets
+event_by Ended conn octets = event.Ended conn
 
 -- the event of a head with the octets
 abbrev pub event_with : Head → List ℕ → ScriptEvent
-event_with (Opened conn) octets = event.Opened conn
-event_with (Bytes conn) octets = event.Bytes conn octets
-event_with (Ended conn) octets = event.Ended conn
+event_with head octets = event_by head.kind head.conn octets
 
 -- what an event is, without its octets
 abbrev pub head_of : ScriptEvent → Head
-head_of (event.Opened conn) = Opened conn
-head_of (event.Bytes conn octets) = Bytes conn
-head_of (event.Ended conn) = Ended conn
+head_of (event.Opened conn) = record { kind = Opened; conn = conn }
+head_of (event.Bytes conn octets) = record { kind = Bytes; conn = conn }
+head_of (event.Ended conn) = record { kind = Ended; conn = conn }
 
 -- the octets of an event
 abbrev pub octets_in : ScriptEvent → List ℕ

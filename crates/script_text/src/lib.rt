@@ -11,5 +11,5 @@ mod words;
 
 pub use event::{ScriptEvent, ScriptFault};
 pub use laws::{lines_are_cut, lines_are_texts, scripts_are_read};
-pub use recording::{Head, Recording};
+pub use recording::{EventKind, Head, Recording};
 pub use script::read_script;

@@ -1,21 +1,52 @@
 //! Events one after another, with their octets in one piece of memory.
 
 ghost use Rattle.std.specs.Prelude.{◌≡◌, ◌++◌, ◌∷◌, [], length, take, drop, OnOk, OnErr};
-ghost use Rattle.script_text.specs.Recording.{event_with, octets_in, first_head, first_octets, without_first};
+ghost use Rattle.script_text.specs.Recording.{event_with, head_of, octets_in, first_head, first_octets, without_first};
 
 use crate::event::ScriptEvent;
 use std::alloc::{AllocError, Global};
 use std::marker::Model;
 
+/// What happens to a connection.
+#[derive(Clone, Copy, Debug)]
+pub enum EventKind {
+    /// It is opened.
+    Opened,
+    /// Octets come on it.
+    Bytes,
+    /// The other side ends it.
+    Ended,
+}
+
 /// What an event is, without its octets.
 #[derive(Clone, Copy, Debug)]
-pub enum Head {
-    /// The connection is opened.
-    Opened(u32),
-    /// Octets come on the connection.
-    Bytes(u32),
-    /// The other side ends the connection.
-    Ended(u32),
+pub struct Head {
+    pub kind: EventKind,
+    pub conn: u32,
+}
+
+impl ScriptEvent {
+    /// What the event is.
+    pub fn head(&self) -> Head
+        ensures exact { result ≡ head_of self.now }
+    {
+        let (kind, conn) = match self {
+            ScriptEvent::Opened(conn) => (EventKind::Opened, *conn),
+            ScriptEvent::Bytes(conn, _) => (EventKind::Bytes, *conn),
+            ScriptEvent::Ended(conn) => (EventKind::Ended, *conn),
+        };
+        Head { kind, conn }
+    }
+
+    /// The octets of the event, none where it has none.
+    pub fn octets(&self) -> &[u8]
+        ensures exact { result.now ≡ octets_in self.now }
+    {
+        match self {
+            ScriptEvent::Bytes(_, octets) => octets.as_slice(),
+            ScriptEvent::Opened(_) | ScriptEvent::Ended(_) => &[],
+        }
+    }
 }
 
 /// The head of an event, and how many octets it has.
@@ -103,11 +134,7 @@ impl Recording {
         ensures ok { OnOk result (self.new ≡ self.old ++ event.now ∷ []) }
         ensures err { OnErr result (self.new ≡ self.old) }
     {
-        match event {
-            ScriptEvent::Opened(conn) => self.add(Head::Opened(*conn), &[]),
-            ScriptEvent::Bytes(conn, octets) => self.add(Head::Bytes(*conn), octets.as_slice()),
-            ScriptEvent::Ended(conn) => self.add(Head::Ended(*conn), &[]),
-        }
+        self.add(event.head(), event.octets())
     }
 
     /// Adds an event with the head and the octets, which are none but of `Bytes`, at the end.
@@ -127,9 +154,9 @@ impl Recording {
 fn octets_of<'a>(row: &Row, octets: &'a [u8]) -> &'a [u8]
     ensures exact { result.now ≡ octets_in (event_with row.now.head (take row.now.size octets.now)) }
 {
-    match row.head {
-        Head::Bytes(_) => front(octets, row.size),
-        Head::Opened(_) | Head::Ended(_) => &[],
+    match row.head.kind {
+        EventKind::Bytes => front(octets, row.size),
+        EventKind::Opened | EventKind::Ended => &[],
     }
 }
 

@@ -2,6 +2,7 @@
 use Rattle.std.proofs.Common.{◌≡◌, ℕ, List, [], ◌∷◌, ◌++◌, nat_eq, refl, ap, sym, ◌∙◌, subst, false, Some, None, if◌then◌else◌}
 use Rattle.std.specs.Ordering.{nat_cmp}
 use Rattle.std.specs.BTreeMap.{BTreeMap, get}
+use Rattle.script_text.specs.declared.recording.EventKind.TheVariants as kind
 use Rattle.wire_io.specs.declared.journal.Event.TheVariants.{Opened, Bytes, Ended, Ready, Idle, Stop}
 use Rattle.wire_io.specs.declared.journal.Item.{Item}
 use Rattle.wire_io.specs.declared.journal.Item.TheVariants.{Heard, OpenedAt, Taken, Later, Gone, Held, Released, HungUp}
@@ -82,19 +83,19 @@ IsTracked-quiet {journal} {grown} {peers} {opened} item quiet grows tracked =
 
 -- the quiet item of a note
 pub IsTracked-noted :
-    {journal grown : List Item} {peers : BTreeMap ℕ Peer} {opened : List ℕ} (noted : Note) (octets : List ℕ)
-    → IsQuietNote noted → grown ≡ journal ++ item_of noted octets → IsTracked journal peers opened → IsTracked grown peers opened
-IsTracked-noted (note.Opened conn) octets quiet grows tracked = absurd quiet
-IsTracked-noted (note.Bytes conn) octets quiet grows tracked = IsTracked-quiet (Heard (Bytes conn octets)) tt grows tracked
-IsTracked-noted (note.Ended conn) octets quiet grows tracked = IsTracked-quiet (Heard (Ended conn)) tt grows tracked
-IsTracked-noted (note.Ready conn) octets quiet grows tracked = IsTracked-quiet (Heard (Ready conn)) tt grows tracked
-IsTracked-noted (note.Taken conn) octets quiet grows tracked = absurd quiet
-IsTracked-noted (note.Later conn) octets quiet grows tracked = IsTracked-quiet (Later conn) tt grows tracked
-IsTracked-noted (note.Gone conn) octets quiet grows tracked = IsTracked-quiet (Gone conn) tt grows tracked
-IsTracked-noted (note.Held conn) octets quiet grows tracked = absurd quiet
-IsTracked-noted (note.Released conn) octets quiet grows tracked = absurd quiet
-IsTracked-noted (note.HungUp conn) octets quiet grows tracked = absurd quiet
-IsTracked-noted note.Apart octets quiet grows tracked = absurd quiet
+    {journal grown : List Item} {peers : BTreeMap ℕ Peer} {opened : List ℕ} (noted : Note) (conn : ℕ) (octets : List ℕ)
+    → IsQuietNote noted → grown ≡ journal ++ item_of noted conn octets → IsTracked journal peers opened → IsTracked grown peers opened
+IsTracked-noted (note.Came kind.Opened) conn octets quiet grows tracked = absurd quiet
+IsTracked-noted (note.Came kind.Bytes) conn octets quiet grows tracked = IsTracked-quiet (Heard (Bytes conn octets)) tt grows tracked
+IsTracked-noted (note.Came kind.Ended) conn octets quiet grows tracked = IsTracked-quiet (Heard (Ended conn)) tt grows tracked
+IsTracked-noted note.Ready conn octets quiet grows tracked = IsTracked-quiet (Heard (Ready conn)) tt grows tracked
+IsTracked-noted note.Taken conn octets quiet grows tracked = absurd quiet
+IsTracked-noted note.Later conn octets quiet grows tracked = IsTracked-quiet (Later conn) tt grows tracked
+IsTracked-noted note.Gone conn octets quiet grows tracked = IsTracked-quiet (Gone conn) tt grows tracked
+IsTracked-noted note.Held conn octets quiet grows tracked = absurd quiet
+IsTracked-noted note.Released conn octets quiet grows tracked = absurd quiet
+IsTracked-noted note.HungUp conn octets quiet grows tracked = absurd quiet
+IsTracked-noted note.Apart conn octets quiet grows tracked = absurd quiet
 
 -- a connection that was opened
 pub IsTracked-opened :

@@ -4,30 +4,31 @@ ghost use Rattle.std.specs.Prelude.{◌≡◌, ◌<◌, ◌≤◌, ◌++◌, ◌
 ghost use Rattle.wire_io.specs.Log.{apart_in, item_of};
 
 use crate::Item;
+use script_text::EventKind;
 use std::alloc::{AllocError, Global};
 use std::marker::Model;
 
-/// What an item is, without its octets.
+/// What an item is, without its connection and its octets.
 #[derive(Clone, Copy, Debug)]
 pub(crate) enum Note {
-    Opened(u32),
-    Bytes(u32),
-    Ended(u32),
-    Ready(u32),
-    Taken(u32),
-    Later(u32),
-    Gone(u32),
-    Held(u32),
-    Released(u32),
-    HungUp(u32),
-    // the item is kept apart
+    // an event of a script
+    Came(EventKind),
+    Ready,
+    Taken,
+    Later,
+    Gone,
+    Held,
+    Released,
+    HungUp,
+    // the item is kept apart, and the row's connection is 0
     Apart,
 }
 
-/// A note, and how many octets its item has.
+/// A note, the connection of its item, and how many octets that has.
 #[derive(Clone, Copy, Debug)]
 pub(crate) struct NoteRow {
     pub(crate) note: Note,
+    pub(crate) conn: u32,
     pub(crate) size: usize,
 }
 
@@ -75,15 +76,15 @@ impl Log {
     }
 
     /// Adds the item of the note with the octets, for which there is room.
-    pub(crate) fn put(&mut self, note: Note, octets: &[u8])
+    pub(crate) fn put(&mut self, note: Note, conn: u32, octets: &[u8])
         requires rows { 0 < self.old.spare_rows }
         requires octets { length octets.now ≤ self.old.spare_octets }
         requires whole { apart_in note ≡ 0 }
-        ensures exact { self.new.items ≡ self.old.items ++ item_of note octets.now }
+        ensures exact { self.new.items ≡ self.old.items ++ item_of note conn octets.now }
     {
         let size = octets.len();
         self.octets.extend_from_slice(octets).unwrap();
-        self.rows.push(NoteRow { note, size }).unwrap();
+        self.rows.push(NoteRow { note, conn, size }).unwrap();
     }
 
     /// Adds an item that is kept apart. The error comes for want of memory alone.
@@ -93,8 +94,8 @@ impl Log {
     {
         self.rows.reserve(1)?;
         self.apart.push(item)?;
-        let note = Note::Apart;
-        self.rows.push(NoteRow { note, size: 0 }).unwrap();
+        let (note, conn, size) = (Note::Apart, 0, 0);
+        self.rows.push(NoteRow { note, conn, size }).unwrap();
         Ok(())
     }
 }

@@ -1,7 +1,7 @@
 //! The events of a script that are still to come.
 
 ghost use Rattle.std.specs.Prelude.{◌≡◌, ◌<◌, ◌++◌, min, take, drop, length, Some};
-ghost use Rattle.script_text.specs.Recording.{first_head, first_octets, head_of, octets_in, without_first};
+ghost use Rattle.script_text.specs.Recording.{first_head, first_octets, without_first};
 ghost use Rattle.script_text.specs.Script.{AreFilled};
 ghost use Rattle.wire_io.specs.Answers.{HeardFits};
 ghost use Rattle.wire_io.specs.Playing.{first_conn, front_turn, next_turn, holds_of, left_by};
@@ -10,7 +10,7 @@ ghost use Rattle.wire_io.specs.Telling.{event_of};
 use crate::copying::copy_front;
 use crate::tracked_journal::TrackedJournal;
 use crate::{Heard, ScriptEvent};
-use script_text::{Head, Recording};
+use script_text::{EventKind, Head, Recording};
 use std::alloc::Global;
 use std::marker::Model;
 
@@ -81,7 +81,7 @@ impl Script {
         ensures exact { result ≡ first_conn self.now }
     {
         match self.first() {
-            Some(Head::Opened(conn) | Head::Bytes(conn) | Head::Ended(conn)) => Some(conn),
+            Some(head) => Some(head.conn),
             None => None,
         }
     }
@@ -95,11 +95,13 @@ impl Script {
         ensures exact { event_of buf.new result ≡ (front_turn (length buf.old) self.now).event }
         ensures left { left_by result (length buf.old) self.now ≡ (front_turn (length buf.old) self.now).left }
     {
-        match self.first() {
-            Some(Head::Opened(conn)) => Heard::Opened(conn),
-            Some(Head::Bytes(conn)) => Heard::Bytes(conn, copy_octets(self.octets(), buf)),
-            Some(Head::Ended(conn)) => Heard::Ended(conn),
-            None => Heard::Stop,
+        let Some(head) = self.first() else {
+            return Heard::Stop;
+        };
+        match head.kind {
+            EventKind::Opened => Heard::Opened(head.conn),
+            EventKind::Bytes => Heard::Bytes(head.conn, copy_octets(self.octets(), buf)),
+            EventKind::Ended => Heard::Ended(head.conn),
         }
     }
 
@@ -143,7 +145,7 @@ fn first_of(listed: &[ScriptEvent], place: usize, recorded: &Recording) -> Optio
     ensures exact { result ≡ first_head (drop place listed.now ++ recorded.now) }
 {
     match listed.get(place) {
-        Some(event) => Some(head_of(event)),
+        Some(event) => Some(event.head()),
         None => recorded.first(),
     }
 }
@@ -153,29 +155,8 @@ fn octets_of_first<'a>(listed: &'a [ScriptEvent], place: usize, recorded: &'a Re
     ensures exact { result.now ≡ first_octets (drop place listed.now ++ recorded.now) }
 {
     match listed.get(place) {
-        Some(event) => octets_in(event),
+        Some(event) => event.octets(),
         None => recorded.octets(),
-    }
-}
-
-/// What the event is.
-fn head_of(event: &ScriptEvent) -> Head
-    ensures exact { result ≡ head_of event.now }
-{
-    match event {
-        ScriptEvent::Opened(conn) => Head::Opened(*conn),
-        ScriptEvent::Bytes(conn, _) => Head::Bytes(*conn),
-        ScriptEvent::Ended(conn) => Head::Ended(*conn),
-    }
-}
-
-/// The octets of the event.
-fn octets_in(event: &ScriptEvent) -> &[u8]
-    ensures exact { result.now ≡ octets_in event.now }
-{
-    match event {
-        ScriptEvent::Bytes(_, octets) => octets.as_slice(),
-        ScriptEvent::Opened(_) | ScriptEvent::Ended(_) => &[],
     }
 }
 

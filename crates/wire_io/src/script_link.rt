@@ -235,13 +235,13 @@ impl Link for ScriptLink {
         let call = self.writes;
         self.writes = raised(call);
         if self.later.contains(&call) {
-            if self.journal.note(Note::Later(conn), &[]).is_err() {
+            if self.journal.note(Note::Later, conn, &[]).is_err() {
                 return Took::NoMemory;
             }
             return Took::Later;
         }
         if self.gone.contains(&call) {
-            if self.journal.note(Note::Gone(conn), &[]).is_err() {
+            if self.journal.note(Note::Gone, conn, &[]).is_err() {
                 return Took::NoMemory;
             }
             self.lost = raised(self.lost);

@@ -13,6 +13,7 @@ use crate::peers::{Peer, add_peer, set_hung_up, set_on_hold, take};
 use crate::rising::{in_order, number_at};
 use crate::{Event, Heard, Item};
 use plain_values::Text;
+use script_text::EventKind;
 use std::alloc::{AllocError, Global};
 use std::collections::BTreeMap;
 use std::marker::Model;
@@ -103,7 +104,7 @@ impl TrackedJournal {
         self.log.reserve(octets.len())?;
         add_peer(self.alloc, &mut self.peers, conn)?;
         take(&mut self.peers, conn, octets)?;
-        self.log.put(Note::Taken(conn), octets);
+        self.log.put(Note::Taken, conn, octets);
         Ok(())
     }
 
@@ -115,7 +116,7 @@ impl TrackedJournal {
         self.log.reserve(0)?;
         add_peer(self.alloc, &mut self.peers, conn)?;
         set_on_hold(&mut self.peers, conn, true);
-        self.log.put(Note::Held(conn), &[]);
+        self.log.put(Note::Held, conn, &[]);
         Ok(())
     }
 
@@ -127,7 +128,7 @@ impl TrackedJournal {
         self.log.reserve(0)?;
         add_peer(self.alloc, &mut self.peers, conn)?;
         set_on_hold(&mut self.peers, conn, false);
-        self.log.put(Note::Released(conn), &[]);
+        self.log.put(Note::Released, conn, &[]);
         Ok(())
     }
 
@@ -139,7 +140,7 @@ impl TrackedJournal {
         self.log.reserve(0)?;
         add_peer(self.alloc, &mut self.peers, conn)?;
         set_hung_up(&mut self.peers, conn);
-        self.log.put(Note::HungUp(conn), &[]);
+        self.log.put(Note::HungUp, conn, &[]);
         Ok(())
     }
 
@@ -150,18 +151,18 @@ impl TrackedJournal {
     {
         self.log.reserve(0)?;
         self.opened.push(conn)?;
-        self.log.put(Note::Opened(conn), &[]);
+        self.log.put(Note::Came(EventKind::Opened), conn, &[]);
         Ok(())
     }
 
     /// An item that says nothing of what was opened, taken, held or hung up, with its octets.
-    pub(crate) fn note(&mut self, note: Note, octets: &[u8]) -> Result<(), AllocError>
+    pub(crate) fn note(&mut self, note: Note, conn: u32, octets: &[u8]) -> Result<(), AllocError>
         requires { IsQuietNote note }
-        ensures ok { OnOk result (self.new ≡ self.old ++ item_of note octets.now) }
+        ensures ok { OnOk result (self.new ≡ self.old ++ item_of note conn octets.now) }
         ensures err { OnErr result (self.new ≡ self.old) }
     {
         self.log.reserve(octets.len())?;
-        self.log.put(note, octets);
+        self.log.put(note, conn, octets);
         Ok(())
     }
 
@@ -198,9 +199,11 @@ impl TrackedJournal {
     {
         match heard {
             Heard::Opened(conn) => self.opened(conn),
-            Heard::Bytes(conn, count) => self.note(Note::Bytes(conn), buf.split_at(count).0),
-            Heard::Ended(conn) => self.note(Note::Ended(conn), &[]),
-            Heard::Ready(conn) => self.note(Note::Ready(conn), &[]),
+            Heard::Bytes(conn, count) => {
+                self.note(Note::Came(EventKind::Bytes), conn, buf.split_at(count).0)
+            }
+            Heard::Ended(conn) => self.note(Note::Came(EventKind::Ended), conn, &[]),
+            Heard::Ready(conn) => self.note(Note::Ready, conn, &[]),
             Heard::Idle => self.note_apart(Item::Heard(Event::Idle)),
             Heard::Stop => self.note_apart(Item::Heard(Event::Stop)),
         }
