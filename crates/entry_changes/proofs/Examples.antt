@@ -9,7 +9,7 @@ use Rattle.aci_item.specs.declared.permission.Permission.TheVariants.{Add, Remov
 use Rattle.acdf_filters.specs.Asking.{Kind, Value}
 use Rattle.ldap_msg.specs.declared.operations.ResultCode.TheVariants as code
 use Rattle.entry_changes.specs.declared.kind.ChangeKind.TheVariants as change_kind
-use Rattle.entry_changes.specs.Refusals.{when, first_some}
+use Rattle.plain_values.specs.Refusals.{when, first_some}
 use Rattle.entry_changes.specs.Changes.{Asks, add_refusal, delete_refusal, replace_refusal, left_by, changed_by}
 use Rattle.entry_changes.specs.Renaming.{gone_pairs, without_pairs, renamed_entry}
 

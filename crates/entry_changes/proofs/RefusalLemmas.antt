@@ -13,7 +13,7 @@ use Rattle.entry_changes.specs.declared.kind.ChangeKind.{ChangeKind}
 use Rattle.entry_changes.specs.declared.kind.ChangeKind.TheVariants as change_kind
 use Rattle.entry_changes.specs.declared.fault.ChangeFault.{ChangeFault}
 use Rattle.entry_changes.specs.declared.fault.ChangeFault.TheVariants as fault
-use Rattle.entry_changes.specs.Refusals.{when, first_some}
+use Rattle.plain_values.specs.Refusals.{when, first_some}
 use Rattle.entry_changes.specs.Changes.{Asks, Modification, are_none, exists_already, add_value_refusal, add_refusal, delete_value_refusal, delete_refusal, refusal_by, change_refusal, changed, changed_by, cause_of}
 use Rattle.entry_changes.specs.Effects.{has_any_key, IsAdmitted}
 

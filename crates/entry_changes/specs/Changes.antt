@@ -17,7 +17,7 @@ use Rattle.entry_changes.specs.declared.kind.ChangeKind.{ChangeKind}
 use Rattle.entry_changes.specs.declared.kind.ChangeKind.TheVariants as change_kind
 use Rattle.entry_changes.specs.declared.fault.ChangeFault.{ChangeFault}
 use Rattle.entry_changes.specs.declared.fault.ChangeFault.TheVariants as fault
-use Rattle.entry_changes.specs.Refusals.{when, first_some}
+use Rattle.plain_values.specs.Refusals.{when, first_some}
 
 -- what the requester has the permission for, of one entry
 abbrev pub Asks : Type 0

@@ -1,5 +1,4 @@
 -- what public clauses cite
-pub mod Refusals
 pub mod Changes
 pub mod Renaming
 -- for the inside of the crate alone

@@ -3,7 +3,7 @@
 ghost use Rattle.std.specs.Prelude.{◌≡◌, ◌++◌, [], map};
 ghost use Rattle.dir_tree.specs.Entries.{has_key};
 ghost use Rattle.acdf_filters.specs.Asking.{protected_of};
-ghost use Rattle.entry_changes.specs.Refusals.{first_some};
+ghost use Rattle.plain_values.specs.Refusals.{first_some};
 ghost use Rattle.entry_changes.specs.Changes.{are_none, withheld, exists_already, add_value_refusal, add_refusal, delete_value_refusal, delete_refusal, has_octets, goes_refusal, comes_refusal, replace_refusal, change_refusal};
 
 use crate::ask::Ask;

@@ -6,7 +6,7 @@ use Rattle.plain_values.specs.Results.{◌>>=◌}
 use Rattle.dir_tree.specs.Entries.{EntryInformation}
 use Rattle.aci_item.specs.Rules.{IsGoodTree}
 use Rattle.ldap_msg.specs.declared.kinds.LdapResult.{LdapResult}
-use Rattle.entry_changes.specs.Refusals.{when, first_some}
+use Rattle.plain_values.specs.Refusals.{when, first_some}
 use Rattle.op_update.specs.Adding.{rule_refusal}
 use Rattle.op_update.specs.Updates.{unless}
 

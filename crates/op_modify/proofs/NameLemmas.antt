@@ -8,7 +8,7 @@ use Rattle.dir_tree.specs.Numbered.{Numbered, IsNumberedTree, entries_of, entry_
 use Rattle.dir_tree.specs.declared.number.EntryNo.{EntryNo}
 use Rattle.dir_tree.proofs.TreeTheorems.{entry_of-found}
 use Rattle.acdf_filters.specs.declared.asking.Requester.{Requester}
-use Rattle.entry_changes.specs.Refusals.{first_some}
+use Rattle.plain_values.specs.Refusals.{first_some}
 use Rattle.ldap_msg.specs.declared.operations.ResultCode.TheVariants as code
 use Rattle.ldap_msg.specs.declared.kinds.LdapResult.{LdapResult}
 use Rattle.read_model.specs.Views.{result_of}

@@ -14,7 +14,7 @@ use Rattle.aci_item.specs.declared.permission.Permission.TheVariants.{Rename, Di
 use Rattle.acdf_filters.specs.declared.asking.Requester.{Requester}
 use Rattle.acdf_filters.specs.Asking.{Entry}
 use Rattle.acdf_filters.specs.Granted.{granted}
-use Rattle.entry_changes.specs.Refusals.{when, first_some}
+use Rattle.plain_values.specs.Refusals.{when, first_some}
 use Rattle.entry_changes.specs.Renaming.{renamed_entry}
 use Rattle.ldap_msg.specs.declared.operations.ResultCode.TheVariants as code
 use Rattle.ldap_msg.specs.declared.kinds.LdapResult.{LdapResult}

@@ -9,7 +9,7 @@ use Rattle.aci_item.specs.declared.permission.Permission.TheVariants.{Rename}
 use Rattle.acdf_filters.specs.declared.asking.Requester.{Requester}
 use Rattle.acdf_filters.specs.Asking.{Entry}
 use Rattle.acdf_filters.specs.Granted.{granted}
-use Rattle.entry_changes.specs.Refusals.{when}
+use Rattle.plain_values.specs.Refusals.{when}
 use Rattle.ldap_msg.specs.declared.operations.ResultCode.TheVariants as code
 use Rattle.ldap_msg.specs.declared.kinds.LdapResult.{LdapResult}
 use Rattle.read_model.specs.Views.{view_of, hidden, result_of}

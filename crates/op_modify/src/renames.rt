@@ -4,7 +4,7 @@ ghost use Rattle.std.specs.Prelude.{◌≡◌, ◌++◌, Some, None, IfOk, OnErr
 ghost use Rattle.dir_tree.specs.Trees.{named_in};
 ghost use Rattle.dir_tree.specs.Numbered.{entry_of, entries_of};
 ghost use Rattle.read_model.specs.Views.{result_of};
-ghost use Rattle.entry_changes.specs.Refusals.{first_some};
+ghost use Rattle.plain_values.specs.Refusals.{first_some};
 ghost use Rattle.entry_changes.specs.Renaming.{renamed_entry};
 ghost use Rattle.op_update.specs.Updates.{IsChanged};
 ghost use Rattle.op_modify.specs.Renames.{new_name, other_named, taken_refusal, renamed_as, renamed_target, renamed_by, renamed};

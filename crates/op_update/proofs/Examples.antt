@@ -20,7 +20,7 @@ use Rattle.acdf_filters.specs.Asking.{Protected, Entry, Kind, Value}
 use Rattle.ldap_msg.specs.declared.operations.ResultCode.TheVariants as code
 use Rattle.ldap_msg.specs.declared.kinds.KindValues.{KindValues}
 use Rattle.read_model.specs.Views.{result_of}
-use Rattle.op_update.specs.Refusals.{when, first_some}
+use Rattle.plain_values.specs.Refusals.{when, first_some}
 use Rattle.op_update.specs.NewEntries.{read_values, read_each, read_attributes, repeats, new_entry}
 use Rattle.op_update.specs.Adding.{refuses_entry, rule_refusal}
 use Rattle.op_update.specs.Updates.{refused, unless, deleted_named, added_named}

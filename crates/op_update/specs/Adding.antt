@@ -15,7 +15,7 @@ use Rattle.acdf_filters.specs.Granted.{granted, granted_new}
 use Rattle.ldap_msg.specs.declared.operations.ResultCode.TheVariants as code
 use Rattle.ldap_msg.specs.declared.kinds.LdapResult.{LdapResult}
 use Rattle.read_model.specs.Views.{view_of, no_such_object, result_of}
-use Rattle.op_update.specs.Refusals.{when, first_some}
+use Rattle.plain_values.specs.Refusals.{when, first_some}
 
 -- what is answered where another entry has the name: as where there is none, if it may neither be known of nor be added
 abbrev pub there_already : List EntryInformation → Requester → RdnSequence → EntryInformation → LdapResult

@@ -12,7 +12,7 @@ use Rattle.ldap_msg.specs.declared.operations.ResultCode.TheVariants as code
 use Rattle.ldap_msg.specs.declared.kinds.LdapResult.{LdapResult}
 use Rattle.read_model.specs.Views.{view_of, hidden, result_of}
 use Rattle.op_asking.specs.Targets.{is_suffix, not_leaf}
-use Rattle.op_update.specs.Refusals.{when, first_some}
+use Rattle.plain_values.specs.Refusals.{when, first_some}
 
 -- the table, over the entry that has the name
 abbrev pub delete_rows : List EntryInformation → Requester → RdnSequence → EntryInformation → List (Option LdapResult)

@@ -1,5 +1,4 @@
 -- what public clauses cite
-pub mod Refusals
 pub mod Deleting
 pub mod NewEntries
 pub mod Reading

@@ -4,7 +4,7 @@ use Rattle.plain_values.specs.Results.{◌>>=◌}
 use Rattle.dir_tree.specs.Entries.{EntryInformation}
 use Rattle.aci_item.specs.Rules.{IsGoodTree}
 use Rattle.ldap_msg.specs.declared.kinds.LdapResult.{LdapResult}
-use Rattle.op_update.specs.Refusals.{when, first_some}
+use Rattle.plain_values.specs.Refusals.{when, first_some}
 use Rattle.op_update.specs.Updates.{unless}
 
 -- a table that refuses nothing has a first row that doesn't

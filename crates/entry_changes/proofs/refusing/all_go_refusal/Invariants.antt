@@ -1,6 +1,6 @@
 -- What refuses the values that are left refuses all: none of the others is refused.
 use Rattle.std.proofs.Common.{◌≡◌, map, drop}
-use Rattle.entry_changes.specs.Refusals.{first_some}
+use Rattle.plain_values.specs.Refusals.{first_some}
 use Rattle.entry_changes.specs.Changes.{goes_refusal}
 use Rattle.entry_changes.proofs.refusing.all_go_refusal.Given as goal
 
