@@ -3,7 +3,8 @@
 
 ghost use Rattle.std.specs.Prelude.{◌≡◌, ◌≤◌, [], ℕ, Option, Ok, IfErr, IfOk, OnOk, string_bytes};
 ghost use Rattle.command_words.specs.Command.{Sample};
-ghost use Rattle.data_file.specs.Files.{IsDataFault};
+ghost use Rattle.plain_values.specs.Answers.{IsFaultOf};
+ghost use Rattle.data_file.specs.Files.{fault_of};
 ghost use Rattle.dir_tree.specs.Numbered.{entries_of};
 ghost use Rattle.op_write.specs.DataFile.{loads};
 ghost use Rattle.sample_input.specs.SampleFile.{sample_file};
@@ -52,7 +53,7 @@ pub(crate) fn sample<K: Sink>(alloc: Global, count: u64, out: &mut K) -> Status
 /// The tree of the sample's data file, which is loaded as any other.
 fn load_sample(alloc: Global, count: u32) -> Result<Tree, DataFault>
     ensures ok { IfOk result (λ tree. loads (sample_file count) ≡ Ok (entries_of tree)) }
-    ensures bad { IfErr result (λ fault. IsDataFault fault (loads (sample_file count))) }
+    ensures bad { IfErr result (λ fault. IsFaultOf (fault_of fault) (loads (sample_file count))) }
 {
     match sample_file(alloc, count) {
         Ok(text) => load(alloc, text.as_bytes()),

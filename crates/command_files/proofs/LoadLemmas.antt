@@ -17,7 +17,8 @@ use Rattle.op_write.specs.DataFile.{OfRecord, loads}
 use Rattle.data_file.specs.declared.fault.DataCause.TheVariants as DataCause
 use Rattle.data_file.specs.declared.fault.DataFault.{DataFault}
 use Rattle.data_file.specs.declared.fault.DataFault.TheVariants as loading
-use Rattle.data_file.specs.Files.{IsDataFault, cause_of}
+use Rattle.plain_values.specs.Answers.{IsFaultOf}
+use Rattle.data_file.specs.Files.{cause_of, fault_of}
 use Rattle.command_files.specs.Accepting.{HoldsOf, HoldsIn, IsUnread, IsBadData, IsGoodData, IsBadScript, IsGoodScript, most_data, most_script}
 use Rattle.command_files.specs.Loading.{LoadsScript, LoadsData, ReadsScript, ReadsData, data_trouble_of_file, trouble_of_data, trouble_of_file, trouble_of_script}
 
@@ -118,7 +119,7 @@ LoadsData-refused T files name before after read.NoMemory cause = cause
 
 -- the text isn't accepted
 pub ReadsData-refused :
-    (content : List ℕ) (fault : DataFault) → length content ≤ most_data → IsDataFault fault (loads content) → ReadsData content (Err (trouble_of_data fault))
+    (content : List ℕ) (fault : DataFault) → length content ≤ most_data → IsFaultOf (fault_of fault) (loads content) → ReadsData content (Err (trouble_of_data fault))
 unfolding ReadsData IsBadData
 ReadsData-refused content (loading.Bad line cause) short is = inl (short, is)
 ReadsData-refused content loading.NoMemory short is = tt

@@ -10,13 +10,16 @@ use Rattle.ldif_core.specs.declared.types.Record.{Record}
 use Rattle.ldif_core.specs.declared.types.BadLine.{BadLine}
 use Rattle.ldif_core.specs.declared.types.BadLine.TheVariants as reading
 use Rattle.ldif_core.specs.Faults.{LineFault}
-use Rattle.ldif_core.specs.Places.{records_from, IsNext, IsBadAt}
+use Rattle.ldif_core.specs.Faults as ldif
+use Rattle.ldif_core.specs.Records.{first_of}
+use Rattle.ldif_core.specs.Places.{records_from, IsNext}
 use Rattle.op_write.specs.Loading.{◌>>=◌, loaded_entry, IsLoaded}
-use Rattle.op_write.specs.DataFile.{FileFault, in_file, record_entry, loads_after, loads_records, loads, file_start}
+use Rattle.op_write.specs.DataFile.{FileFault, line_fault, in_file, record_entry, loads_after, loads_records, loads, file_start}
 use Rattle.data_file.specs.declared.fault.DataFault.{DataFault}
 use Rattle.data_file.specs.declared.fault.DataFault.TheVariants.{Bad, NoMemory}
-use Rattle.data_file.specs.Files.{IsDataFault, cause_of}
-use Rattle.data_file.specs.Steps.{of_line, IsRefused, IsStep}
+use Rattle.plain_values.specs.Answers.{IsFaultOf}
+use Rattle.data_file.specs.Files.{fault_of, cause_of}
+use Rattle.data_file.specs.Steps.{of_line, IsStep}
 
 -- loading goes on after a record
 loads_after-record : (old new : List Numbered) (given : Record) (rest : List (Result Record LineFault)) → IsLoaded old given new
@@ -38,23 +41,29 @@ unfolding loads_after
 loads_after-end text from rows none = ap (λ records. loads_after (entries_of rows) records) none
 
 -- a bad line is the fault of the file
-pub IsDataFault-line : (text : List ℕ) (from : Position) (entries : List EntryInformation) (bad : BadLine) → IsBadAt text from bad
-    → IsDataFault (of_line bad) (loads_after entries (records_from text from))
+loads_after-line : (entries : List EntryInformation) (records : List (Result Record LineFault)) (bad : LineFault) → first_of records ≡ Err bad
+    → loads_after entries records ≡ Err (line_fault bad)
 unfolding loads_after
-IsDataFault-line text from entries (reading.Bad line cause) is = ap (λ records. loads_after entries records) is.1
-IsDataFault-line text from entries reading.NoMemory is = tt
+loads_after-line entries [] bad is = absurd cc
+loads_after-line entries (Ok given ∷ rest) bad is = absurd cc
+loads_after-line entries (Err other ∷ rest) bad is = let same : other ≡ bad = cc in ap (λ fault. Err (line_fault fault)) same
 
-pub IsDataFault-record : (fault : DataFault) (text : List ℕ) (from to : Position) (entries : List EntryInformation) (given : Record) → IsNext text from given to
-    → IsRefused fault (in_file (loaded_entry entries given)) → IsDataFault fault (loads_after entries (records_from text from))
+pub fault-line : (text : List ℕ) (from : Position) (entries : List EntryInformation) (bad : BadLine) → IsFaultOf (ldif.fault_of bad) (first_of (records_from text from))
+    → IsFaultOf (fault_of (of_line bad)) (loads_after entries (records_from text from))
+fault-line text from entries (reading.Bad line cause) is = loads_after-line entries (records_from text from) (ldif.Bad line cause) is
+fault-line text from entries reading.NoMemory is = tt
+
+pub fault-record : (fault : DataFault) (text : List ℕ) (from to : Position) (entries : List EntryInformation) (given : Record) → IsNext text from given to
+    → IsFaultOf (fault_of fault) (in_file (loaded_entry entries given)) → IsFaultOf (fault_of fault) (loads_after entries (records_from text from))
 unfolding loads_after
-IsDataFault-record (Bad line cause) text from to entries given next is =
+fault-record (Bad line cause) text from to entries given next is =
     ap (λ records. loads_after entries records) next.record_read
     ∙ ap (λ found. found >>= λ entry. loads_after (put_in entry entries) (records_from text to)) is
-IsDataFault-record NoMemory text from to entries given next is = tt
+fault-record NoMemory text from to entries given next is = tt
 
 -- the fault that goes out is the one that came
 pub fault-same : {T : Type 0} (out : Result T DataFault) (fault came : DataFault) (whole : Result (List EntryInformation) FileFault) → out ≡ Err fault → fault ≡ came
-    → IsDataFault came whole → IfErr out (λ bad. IsDataFault bad whole)
+    → IsFaultOf (fault_of came) whole → IfErr out (λ bad. IsFaultOf (fault_of bad) whole)
 fault-same out fault came whole is same says = rw is (rw same says)
 
 -- entries among which one was put are not none
@@ -93,10 +102,10 @@ loads-none text [] none is = ap loads_records ((given_none [] (records_from text
 loads-none text (row ∷ rows) none is = absurd (omega arith)
 
 -- the fault of the records is that of the file
-pub IsDataFault-loads : (fault : DataFault) (text : List ℕ) → IsDataFault fault (loads_after [] (records_from text file_start)) → IsDataFault fault (loads text)
+pub fault-loads : (fault : DataFault) (text : List ℕ) → IsFaultOf (fault_of fault) (loads_after [] (records_from text file_start)) → IsFaultOf (fault_of fault) (loads text)
 unfolding loads loads_after
-IsDataFault-loads NoMemory text is = tt
-IsDataFault-loads (Bad line cause) text is = by (records_from text file_start) is
+fault-loads NoMemory text is = tt
+fault-loads (Bad line cause) text is = by (records_from text file_start) is
   where
     by : (records : List (Result Record LineFault)) → loads_after [] records ≡ Err (record { line = line; cause = cause_of cause }) → loads_records records ≡ Err (record { line = line; cause = cause_of cause })
     by [] e = absurd cc

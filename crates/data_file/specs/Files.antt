@@ -1,6 +1,5 @@
 -- What loading a data file answers.
-use Rattle.std.specs.Prelude.{◌≡◌, List, Result, Err}
-use Rattle.dir_tree.specs.Entries.{EntryInformation}
+use Rattle.std.specs.Prelude.{Option, Some, None}
 use Rattle.op_write.specs.DataFile.{FileCause, OfLine, OfRecord, FileFault}
 use Rattle.data_file.specs.declared.fault.DataCause.{DataCause}
 use Rattle.data_file.specs.declared.fault.DataCause.TheVariants.{Line, Record}
@@ -12,7 +11,7 @@ abbrev pub cause_of : DataCause → FileCause
 cause_of (Line cause) = OfLine cause
 cause_of (Record cause) = OfRecord cause
 
--- the fault is that of loading; want of memory may come anywhere
-abbrev pub IsDataFault : DataFault → Result (List EntryInformation) FileFault → Type 0
-IsDataFault (Bad line cause) loading = loading ≡ Err (record { line = line; cause = cause_of cause })
-IsDataFault NoMemory loading = Unit {0}
+-- the fault of the file that an answer tells; want of memory is none
+abbrev pub fault_of : DataFault → Option FileFault
+fault_of (Bad line cause) = Some (record { line = line; cause = cause_of cause })
+fault_of NoMemory = None

@@ -1,6 +1,6 @@
 -- How a file is loaded record by record: what one step does, and what a fault of the crates below is here; and how one
 -- is written, entry by entry.
-use Rattle.std.specs.Prelude.{◌≡◌, ℕ, List, [], Result, Err}
+use Rattle.std.specs.Prelude.{ℕ, List, []}
 use Rattle.std.specs.List.{AllByRecursion}
 use Rattle.std.specs.Option.{option_map_or}
 use Rattle.dir_tree.specs.Entries.{EntryInformation}
@@ -15,11 +15,9 @@ use Rattle.ldif_core.specs.WrittenFile.{written_record}
 use Rattle.op_write.specs.declared.fault.LoadFault.{LoadFault}
 use Rattle.op_write.specs.declared.fault.LoadFault.TheVariants as loading
 use Rattle.op_write.specs.Loading.{IsLoaded}
-use Rattle.op_write.specs.DataFile.{FileFault}
 use Rattle.data_file.specs.declared.fault.DataCause.TheVariants.{Line, Record as OfRecord}
 use Rattle.data_file.specs.declared.fault.DataFault.{DataFault}
 use Rattle.data_file.specs.declared.fault.DataFault.TheVariants.{Bad, NoMemory}
-use Rattle.data_file.specs.Files.{cause_of}
 
 -- the fault of the file, by that of a line
 abbrev pub of_line : BadLine → DataFault
@@ -30,11 +28,6 @@ of_line reading.NoMemory = NoMemory
 abbrev pub of_record : LoadFault → DataFault
 of_record (loading.Bad line cause) = Bad line (OfRecord cause)
 of_record loading.NoMemory = NoMemory
-
--- the fault is that of loading a record; want of memory may come anywhere
-abbrev pub IsRefused : DataFault → Result EntryInformation FileFault → Type 0
-IsRefused (Bad line cause) loading = loading ≡ Err (record { line = line; cause = cause_of cause })
-IsRefused NoMemory loading = Unit {0}
 
 -- the first record from one place on was loaded, and the other place stands after it
 pub record IsStep (text : List ℕ) (from : Position) (old : List Numbered) (to : Position) (new : List Numbered) : Type 0 where

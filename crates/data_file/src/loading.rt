@@ -7,8 +7,9 @@ ghost use Rattle.ldif_core.specs.Places.{IsPlace, records_from};
 ghost use Rattle.ldif_core.specs.WrittenFile.{written_file};
 ghost use Rattle.op_write.specs.Loading.{IsLoaded, loaded_entry};
 ghost use Rattle.op_write.specs.DataFile.{loads, loads_after, file_start, in_file};
-ghost use Rattle.data_file.specs.Files.{IsDataFault};
-ghost use Rattle.data_file.specs.Steps.{IsStep, IsRefused, of_line, of_record};
+ghost use Rattle.plain_values.specs.Answers.{IsFaultOf};
+ghost use Rattle.data_file.specs.Files.{fault_of};
+ghost use Rattle.data_file.specs.Steps.{IsStep, of_line, of_record};
 
 use crate::fault::{DataCause, DataFault};
 use dir_tree::Tree;
@@ -25,7 +26,7 @@ pub fn load(alloc: Global, text: &[u8]) -> Result<Tree, DataFault>
     ensures good { IfOk result (λ tree. IsGoodTree (entries_of tree)) }
     ensures again { IfOk result (λ tree.
         loads (written_file (entries_of tree)) ≡ Ok (entries_of tree)) }
-    ensures bad { IfErr result (λ fault. IsDataFault fault (loads text.now)) }
+    ensures bad { IfErr result (λ fault. IsFaultOf (fault_of fault) (loads text.now)) }
 {
     let mut tree = Tree::new(alloc);
     load_all(alloc, text, &mut tree)?;
@@ -47,7 +48,7 @@ fn load_all(alloc: Global, text: &[u8], tree: &mut Tree) -> Result<(), DataFault
     ensures ok { OnOk result (
         loads_after [] (records_from text.now file_start) ≡ Ok (entries_of tree.new)) }
     ensures bad { IfErr result (λ fault.
-        IsDataFault fault (loads_after [] (records_from text.now file_start))) }
+        IsFaultOf (fault_of fault) (loads_after [] (records_from text.now file_start))) }
 {
     let mut at = Position { offset: 0, line: 1 };
     while let Some(next) = load_next(alloc, text, at, tree)? {
@@ -69,11 +70,11 @@ fn load_next(
     ensures end { IfOk result (λ next. IfNone next (records_from text.now at ≡ [])) }
     ensures kept { IfOk result (λ next. IfNone next (tree.new ≡ tree.old)) }
     ensures bad { IfErr result (λ fault.
-        IsDataFault fault (loads_after (entries_of tree.old) (records_from text.now at))) }
+        IsFaultOf (fault_of fault) (loads_after (entries_of tree.old) (records_from text.now at))) }
 {
     match next_record(alloc, text, at) {
         Ok(Some((given, to))) => {
-            load_one(alloc, &given, tree)?;
+            load_one(alloc, given, tree)?;
             Ok(Some(to))
         }
         Ok(None) => Ok(None),
@@ -82,10 +83,10 @@ fn load_next(
 }
 
 // Loads a record.
-fn load_one(alloc: Global, given: &Record, tree: &mut Tree) -> Result<(), DataFault>
-    ensures ok { OnOk result (IsLoaded tree.old given.now tree.new) }
+fn load_one(alloc: Global, given: Record, tree: &mut Tree) -> Result<(), DataFault>
+    ensures ok { OnOk result (IsLoaded tree.old given tree.new) }
     ensures bad { IfErr result (λ fault.
-        IsRefused fault (in_file (loaded_entry (entries_of tree.old) given.now))) }
+        IsFaultOf (fault_of fault) (in_file (loaded_entry (entries_of tree.old) given))) }
 {
     match load_record(alloc, tree, given) {
         Ok(()) => Ok(()),

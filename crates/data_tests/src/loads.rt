@@ -12,7 +12,7 @@ use std::test::Fail;
 
 // Loads the records of a file in order, up to the first fault.
 fn load_all(alloc: Global, tree: &mut Tree, text: &[u8]) -> Result<Result<(), LoadFault>, BadLine> {
-    for record in &read_all(alloc, text)? {
+    for record in read_all(alloc, text)? {
         if let Err(fault) = load_record(alloc, tree, record) {
             return Ok(Err(fault));
         }
@@ -232,7 +232,7 @@ static OCTETS: [(usize, &str); 3] = [(0, "loaded"), (65_536, "loaded"), (65_537,
 fn answer_of(alloc: Global, count: usize) -> Result<String, Fail> {
     let mut tree = Tree::new(alloc);
     let record = with_password(alloc, count)?;
-    told(alloc, load_record(alloc, &mut tree, &record))
+    told(alloc, load_record(alloc, &mut tree, record))
 }
 
 #[test]

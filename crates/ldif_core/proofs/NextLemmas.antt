@@ -1,14 +1,16 @@
 -- Lemmas on the next record from a place on.
 use Rattle.std.proofs.Common.{◌≡◌, ℕ, ◌<◌, ◌≤◌, sym, ◌∙◌, ap, arith, false, List, [], ◌∷◌, Option, Some, None, Result, Ok, Err}
-use Rattle.std.specs.Prelude.{IfNone, IfSome, IfErr}
+use Rattle.std.specs.Prelude.{IfNone, IfSome}
 use Rattle.ldif_core.specs.declared.types.Position.{Position}
 use Rattle.ldif_core.specs.declared.types.Record.{Record}
 use Rattle.ldif_core.specs.declared.types.BadLine.{BadLine}
 use Rattle.ldif_core.specs.declared.types.BadLine.TheVariants as bad_line
+use Rattle.plain_values.specs.Answers.{IsFaultOf}
+use Rattle.ldif_core.specs.Faults.{fault_of}
 use Rattle.ldif_core.specs.Lines.{Line}
-use Rattle.ldif_core.specs.Records.{record_of, records}
-use Rattle.ldif_core.specs.Places.{IsPlace, IsLinesAfter, IsNext, IsBadAt, content_from, records_from}
-use Rattle.ldif_core.specs.Steps.{ahead, is_blank_ahead, before_blank, after_blank, IsFault}
+use Rattle.ldif_core.specs.Records.{record_of, records, first_of}
+use Rattle.ldif_core.specs.Places.{IsPlace, IsLinesAfter, IsNext, content_from, records_from}
+use Rattle.ldif_core.specs.Steps.{ahead, is_blank_ahead, before_blank, after_blank}
 use Rattle.ldif_core.proofs.ContentLemmas.{body-later}
 use Rattle.ldif_core.proofs.RecordLemmas.{records-first, records-nil}
 use Rattle.ldif_core.proofs.AfterLemmas.{after_both}
@@ -45,15 +47,11 @@ IsNext-read text from at to line first found start is filled good rest later pla
 }
 
 -- it is bad
-pub IsBadAt-read : (text : List ℕ) (from at : Position) (line : Option Line) (first : Line) (bad : BadLine) → records_from text from ≡ records (ahead line (content_from text at)) → line ≡ Some first → is_blank_ahead line ≡ false
-    → IsFault bad (record_of first (before_blank (content_from text at))) → IsBadAt text from bad
-IsBadAt-read text from at line first (bad_line.Bad number cause) start is filled fault =
-    (records (after_blank (content_from text at)), records-start text from at line first start is filled ∙ ap (λ front. front ∷ records (after_blank (content_from text at))) fault)
-IsBadAt-read text from at line first bad_line.NoMemory start is filled fault = tt
-
--- the same of an answer
-pub bad-same : {A : Type 0} (text : List ℕ) (from : Position) (result : Result A BadLine) (found given : BadLine) → result ≡ Err found → found ≡ given → IsBadAt text from given → IfErr result (λ bad. IsBadAt text from bad)
-bad-same text from result found given answered same is = rw (answered, same) is
+pub first_of-bad : (text : List ℕ) (from at : Position) (line : Option Line) (first : Line) (bad : BadLine) → records_from text from ≡ records (ahead line (content_from text at)) → line ≡ Some first → is_blank_ahead line ≡ false
+    → IsFaultOf (fault_of bad) (record_of first (before_blank (content_from text at))) → IsFaultOf (fault_of bad) (first_of (records_from text from))
+first_of-bad text from at line first (bad_line.Bad number cause) start is filled fault =
+    ap first_of (records-start text from at line first start is filled ∙ ap (λ front. front ∷ records (after_blank (content_from text at))) fault)
+first_of-bad text from at line first bad_line.NoMemory start is filled fault = tt
 
 -- a place after a line that was read is later
 pub later-than : (line : Option Line) (first : Line) (from at to : ℕ) → line ≡ Some first → IfSome line (λ _. from < at) → at ≤ to → from < to

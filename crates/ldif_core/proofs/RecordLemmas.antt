@@ -8,11 +8,12 @@ use Rattle.std.proofs.lemmas.List.Splits.{slice_split-cons_yes, slice_split-cons
 use Rattle.ldif_core.specs.declared.types.RecordLine.{RecordLine}
 use Rattle.ldif_core.specs.declared.types.BadLine.{BadLine}
 use Rattle.ldif_core.specs.declared.types.BadLine.TheVariants as bad_line
-use Rattle.ldif_core.specs.Faults.{LineFault, Bad}
+use Rattle.plain_values.specs.Answers.{IsFaultOf}
+use Rattle.ldif_core.specs.Faults.{LineFault, Bad, fault_of}
 use Rattle.ldif_core.specs.Lines.{Line}
 use Rattle.ldif_core.specs.Fields.{attribute_line, name_line}
 use Rattle.ldif_core.specs.Records.{◌>>=◌, is_blank, attribute_lines, record_of, record_between, records}
-use Rattle.ldif_core.specs.Steps.{ahead, ends_ahead, before_blank, after_blank, after_these, IsFault}
+use Rattle.ldif_core.specs.Steps.{ahead, ends_ahead, before_blank, after_blank, after_these}
 use Rattle.ldif_core.proofs.LogicalLemmas.{choose, other_choice}
 
 -- the lines before the first empty one and after it, by the first line
@@ -88,15 +89,15 @@ lines-bad : (line : Line) (rest : List Line) (bad : LineFault) → attribute_lin
 unfolding attribute_lines
 lines-bad line rest bad is = ap (λ reading. reading >>= λ found. attribute_lines rest >>= λ others. Ok (found ∷ others)) is
 
-pub lines-fault : (found : List RecordLine) (line : Line) (rest : List Line) (bad : BadLine) → IsFault bad (attribute_line line) → IsFault bad (after_these found (attribute_lines (line ∷ rest)))
+pub lines-fault : (found : List RecordLine) (line : Line) (rest : List Line) (bad : BadLine) → IsFaultOf (fault_of bad) (attribute_line line) → IsFaultOf (fault_of bad) (after_these found (attribute_lines (line ∷ rest)))
 lines-fault found line rest (bad_line.Bad number cause) is = ap (after_these found) (lines-bad line rest (Bad number cause) is)
 lines-fault found line rest bad_line.NoMemory is = tt
 
 -- a fault of what a call answered
-pub fault-same : {A B : Type 0} (result : Result A BadLine) (found given : BadLine) (reading : Result B LineFault) → result ≡ Err found → found ≡ given → IsFault given reading → IfErr result (λ bad. IsFault bad reading)
+pub fault-same : {A B : Type 0} (result : Result A BadLine) (found given : BadLine) (reading : Result B LineFault) → result ≡ Err found → found ≡ given → IsFaultOf (fault_of given) reading → IfErr result (λ bad. IsFaultOf (fault_of bad) reading)
 fault-same result found given reading answered same is = rw (answered, same) is
 
-pub fault-of : {A : Type 0} (bad : BadLine) (reading whole : Result A LineFault) → whole ≡ reading → IsFault bad reading → IsFault bad whole
+pub fault-of : {A : Type 0} (bad : BadLine) (reading whole : Result A LineFault) → whole ≡ reading → IsFaultOf (fault_of bad) reading → IsFaultOf (fault_of bad) whole
 fault-of (bad_line.Bad number cause) reading whole same is = same ∙ is
 fault-of bad_line.NoMemory reading whole same is = tt
 
@@ -113,15 +114,15 @@ pub record-good : (first : Line) (rest : List Line) (alone : Bool) (name : List 
 record-good first rest alone name lines is good others =
     record-name first rest alone name is good ∙ ap (λ reading. reading >>= λ lines. Ok (record { line = first.number; name = name; lines = lines })) others
 
-pub record-fault_name : (first : Line) (rest : List Line) (alone : Bool) (bad : BadLine) → (length rest == 0) ≡ alone → IsFault bad (name_line alone first) → IsFault bad (record_of first rest)
+pub record-fault_name : (first : Line) (rest : List Line) (alone : Bool) (bad : BadLine) → (length rest == 0) ≡ alone → IsFaultOf (fault_of bad) (name_line alone first) → IsFaultOf (fault_of bad) (record_of first rest)
 unfolding record_of
 record-fault_name first rest alone (bad_line.Bad number cause) is fault =
     ap (λ single. name_line single first >>= λ name. attribute_lines rest >>= λ lines. Ok (record { line = first.number; name = name; lines = lines })) is
     ∙ ap (λ reading. reading >>= λ name. attribute_lines rest >>= λ lines. Ok (record { line = first.number; name = name; lines = lines })) fault
 record-fault_name first rest alone bad_line.NoMemory is fault = tt
 
-pub record-fault_line : (first : Line) (rest : List Line) (alone : Bool) (name : List ℕ) (bad : BadLine) → (length rest == 0) ≡ alone → name_line alone first ≡ Ok name → IsFault bad (attribute_lines rest)
-    → IsFault bad (record_of first rest)
+pub record-fault_line : (first : Line) (rest : List Line) (alone : Bool) (name : List ℕ) (bad : BadLine) → (length rest == 0) ≡ alone → name_line alone first ≡ Ok name → IsFaultOf (fault_of bad) (attribute_lines rest)
+    → IsFaultOf (fault_of bad) (record_of first rest)
 record-fault_line first rest alone name (bad_line.Bad number cause) is good fault =
     record-name first rest alone name is good ∙ ap (λ reading. reading >>= λ lines. Ok (record { line = first.number; name = name; lines = lines })) fault
 record-fault_line first rest alone name bad_line.NoMemory is good fault = tt
@@ -195,9 +196,9 @@ rest-step line this rest next whole is says same was = was ∙ after-some line t
 
 -- a bad line
 pub lines-stop : (found : List RecordLine) (line : Option Line) (this : Line) (rest : List Line) (bad : BadLine) (whole : Result (List RecordLine) LineFault)
-    → line ≡ Some this → is_blank this ≡ false → IsFault bad (attribute_line this)
+    → line ≡ Some this → is_blank this ≡ false → IsFaultOf (fault_of bad) (attribute_line this)
     → after_these found (attribute_lines (before_blank (ahead line rest))) ≡ whole
-    → IsFault bad whole
+    → IsFaultOf (fault_of bad) whole
 lines-stop found line this rest bad whole is says fault was =
     fault-of bad _ whole (sym was ∙ ap (λ lines. after_these found (attribute_lines lines)) (before-some line this rest is says))
     (lines-fault found this (before_blank rest) bad fault)

@@ -1,11 +1,9 @@
 -- What a data file says from a place on: its lines, and its records, each with the place after it.
-use Rattle.std.specs.Prelude.{◌≡◌, ℕ, ◌+◌, ◌<◌, ◌≤◌, ◌==◌, if◌then◌else◌, List, ◌∷◌, ◌++◌, length, drop, Result, Ok, Err}
+use Rattle.std.specs.Prelude.{◌≡◌, ℕ, ◌+◌, ◌<◌, ◌≤◌, ◌==◌, if◌then◌else◌, List, ◌∷◌, ◌++◌, length, drop, Result, Ok}
 use Rattle.std.specs.Str.Lines.{lines}
 use Rattle.ldif_core.specs.declared.types.Position.{Position}
 use Rattle.ldif_core.specs.declared.types.Record.{Record}
-use Rattle.ldif_core.specs.declared.types.BadLine.{BadLine}
-use Rattle.ldif_core.specs.declared.types.BadLine.TheVariants as bad_line
-use Rattle.ldif_core.specs.Faults.{LineFault, Bad}
+use Rattle.ldif_core.specs.Faults.{LineFault}
 use Rattle.ldif_core.specs.Lines.{Line, numbered, logical}
 use Rattle.ldif_core.specs.Records.{without_comments, without_version, records}
 
@@ -51,9 +49,3 @@ pub record IsNext (text : List ℕ) (from : Position) (first : Record) (to : Pos
   pub later : from.offset < to.offset
   pub place : IsPlace text to
   pub passed : IsLinesAfter text from to
-
--- the first record from the place on is bad for this; want of memory may come anywhere
-abbrev pub IsBadAt : List ℕ → Position → BadLine → Type 0
-IsBadAt text from (bad_line.Bad line cause) =
-    (rest : List (Result Record LineFault)) × (records_from text from ≡ Err (Bad line cause) ∷ rest)
-IsBadAt text from bad_line.NoMemory = Unit {0}

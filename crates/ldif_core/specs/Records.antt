@@ -1,5 +1,5 @@
 -- The records of a data file (RFC 2849, ldif-content): lines between empty ones, read line by line.
-use Rattle.std.specs.Prelude.{◌==◌, not, Bool, if◌then◌else◌, List, [], ◌∷◌, length, filter, codes, Option, Some, None, Result, Ok}
+use Rattle.std.specs.Prelude.{◌==◌, not, Bool, if◌then◌else◌, List, [], ◌∷◌, length, filter, codes, Option, Some, None, Result, Ok, Err}
 use Rattle.std.specs.List.{filter_map, slice_split}
 use Rattle.std.specs.Str.{bytes_eq}
 pub use Rattle.plain_values.specs.Results.{◌>>=◌}
@@ -48,3 +48,9 @@ record_between (first ∷ rest) = Some (record_of first rest)
 -- the records of lines that are no comments
 unfoldable pub records : List Line → List (Result Record LineFault)
 records lines = filter_map record_between (slice_split is_blank lines)
+
+-- the first of them, if there is one, or its first bad line
+abbrev pub first_of : List (Result Record LineFault) → Result (Option Record) LineFault
+first_of [] = Ok None
+first_of (Ok first ∷ rest) = Ok (Some first)
+first_of (Err bad ∷ rest) = Err bad

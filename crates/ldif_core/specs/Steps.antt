@@ -1,11 +1,9 @@
--- How a record is read step by step: what is left of the lines, and what a call answers for it.
+-- How a record is read step by step: what is left of the lines.
 use Rattle.std.specs.Prelude.{◌≡◌, ℕ, ◌<◌, ◌≤◌, if◌then◌else◌, Bool, true, false, List, [], ◌∷◌, ◌++◌, Option, Some, None, Result, Ok, Err, IfSome, IfNone}
 use Rattle.ldif_core.specs.declared.types.Position.{Position}
 use Rattle.ldif_core.specs.declared.fields.Parts.{Parts}
 use Rattle.ldif_core.specs.declared.types.RecordLine.{RecordLine}
-use Rattle.ldif_core.specs.declared.types.BadLine.{BadLine}
-use Rattle.ldif_core.specs.declared.types.BadLine.TheVariants as bad_line
-use Rattle.ldif_core.specs.Faults.{LineFault, Bad}
+use Rattle.ldif_core.specs.Faults.{LineFault}
 use Rattle.ldif_core.specs.Lines.{Line, is_continuation}
 use Rattle.ldif_core.specs.Fields.{Field}
 use Rattle.ldif_core.specs.Records.{is_blank, is_version}
@@ -60,16 +58,6 @@ after_blank (line ∷ rest) = if is_blank line then rest else after_blank rest
 abbrev pub after_these : List RecordLine → Result (List RecordLine) LineFault → Result (List RecordLine) LineFault
 after_these found (Ok others) = Ok (found ++ others)
 after_these found (Err bad) = Err bad
-
--- the fault is that of reading; want of memory may come anywhere
-abbrev pub IsFault : {A : Type 0} → BadLine → Result A LineFault → Type 0
-IsFault (bad_line.Bad line cause) reading = reading ≡ Err (Bad line cause)
-IsFault bad_line.NoMemory reading = Unit {0}
-
--- what a call answered is what reading gives, unless memory ran out
-abbrev pub Gives : {A : Type 0} → Result A BadLine → Result A LineFault → Type 0
-Gives (Ok value) reading = reading ≡ Ok value
-Gives (Err bad) reading = IsFault bad reading
 
 -- the field that the program holds as parts of a line
 abbrev pub field_in : Parts → Field

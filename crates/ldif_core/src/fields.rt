@@ -2,8 +2,10 @@
 
 ghost use Rattle.std.specs.Prelude.{◌≡◌, IfOk};
 ghost use Rattle.std.specs.Option.{option_map};
+ghost use Rattle.plain_values.specs.Answers.{Answers};
 ghost use Rattle.ldif_core.specs.Fields.{after_spaces, field_after, field_of, decoded, value_of, attribute_line, name_line};
-ghost use Rattle.ldif_core.specs.Steps.{Gives, field_in};
+ghost use Rattle.ldif_core.specs.Faults.{fault_of};
+ghost use Rattle.ldif_core.specs.Steps.{field_in};
 
 use crate::kinds::{is_changetype, is_dn, is_kind};
 use crate::lines::begins_with;
@@ -96,7 +98,7 @@ fn value(alloc: Global, field: Parts<'_>) -> Result<Option<Octets>, NoMemory>
 
 /// What an attribute line says, or why it is bad.
 pub(crate) fn attribute_line(alloc: Global, line: &Unfolded<'_>) -> Result<RecordLine, BadLine>
-    ensures { Gives result (attribute_line line.now) }
+    ensures { Answers (λ read. read) fault_of result (attribute_line line.now) }
 {
     let number = line.number();
     let Some(field) = field(line.octets()) else {
@@ -129,7 +131,7 @@ pub(crate) fn attribute_line(alloc: Global, line: &Unfolded<'_>) -> Result<Recor
 /// The name that the first line of a record says, or why the line is bad; `alone` says that the record has no other
 /// line.
 pub(crate) fn name_line(alloc: Global, alone: bool, line: &Unfolded<'_>) -> Result<Octets, BadLine>
-    ensures { Gives result (name_line alone line.now) }
+    ensures { Answers (λ name. name) fault_of result (name_line alone line.now) }
 {
     let number = line.number();
     let Some(field) = field(line.octets()) else {

@@ -1,9 +1,11 @@
 //! Records, read one by one.
 
 ghost use Rattle.std.specs.Prelude.{◌≡◌, ◌≤◌, [], ◌∷◌, false, Ok, IfOk, IfErr, IfSome, IfNone, List, ℕ};
-ghost use Rattle.ldif_core.specs.Records.{attribute_lines, record_of, records, is_blank};
-ghost use Rattle.ldif_core.specs.Places.{IsPlace, IsLinesAfter, IsNext, IsBadAt, content_from, records_from};
-ghost use Rattle.ldif_core.specs.Steps.{IsFault, ahead, before_blank, after_blank};
+ghost use Rattle.plain_values.specs.Answers.{IsFaultOf};
+ghost use Rattle.ldif_core.specs.Faults.{fault_of};
+ghost use Rattle.ldif_core.specs.Records.{attribute_lines, record_of, records, first_of, is_blank};
+ghost use Rattle.ldif_core.specs.Places.{IsPlace, IsLinesAfter, IsNext, content_from, records_from};
+ghost use Rattle.ldif_core.specs.Steps.{ahead, before_blank, after_blank};
 
 use crate::content::{ends, first_filled, next_content};
 use crate::fields::{attribute_line, name_line};
@@ -24,7 +26,7 @@ fn attribute_lines<'a>(
         (ahead first.entry (content_from text.now from))) ≡ Ok read.0) }
     ensures rest { IfOk result (λ read. after_blank
         (ahead first.entry (content_from text.now from)) ≡ content_from text.now read.1) }
-    ensures bad { IfErr result (λ bad. IsFault bad (attribute_lines (before_blank
+    ensures bad { IfErr result (λ bad. IsFaultOf (fault_of bad) (attribute_lines (before_blank
         (ahead first.entry (content_from text.now from))))) }
     ensures after { IfOk result (λ read. from.offset ≤ read.1.offset) }
     ensures place { IfOk result (λ read. IsPlace text.now read.1) }
@@ -56,7 +58,7 @@ fn record_after(
     ensures rest { IfOk result (λ read.
         after_blank (content_from text.now from) ≡ content_from text.now read.1) }
     ensures bad { IfErr result (λ bad.
-        IsFault bad (record_of first.now (before_blank (content_from text.now from)))) }
+        IsFaultOf (fault_of bad) (record_of first.now (before_blank (content_from text.now from)))) }
     ensures after { IfOk result (λ read. from.offset ≤ read.1.offset) }
     ensures place { IfOk result (λ read. IsPlace text.now read.1) }
     ensures passed { IfOk result (λ read. IsLinesAfter text.now from read.1) }
@@ -86,7 +88,8 @@ pub fn next_record(
     requires { IsPlace text.now from }
     ensures ok { IfOk result (λ next. IfSome next (λ read. IsNext text.now from read.0 read.1)) }
     ensures empty { IfOk result (λ next. IfNone next (records_from text.now from ≡ [])) }
-    ensures bad { IfErr result (λ bad. IsBadAt text.now from bad) }
+    ensures bad { IfErr result (λ bad.
+        IsFaultOf (fault_of bad) (first_of (records_from text.now from))) }
 {
     let (line, at) = first_filled(alloc, text, from)?;
     let Some(first) = line else {

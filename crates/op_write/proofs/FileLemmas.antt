@@ -7,10 +7,10 @@ use Rattle.dir_tree.specs.Numbered.{Numbered, entries_of}
 use Rattle.dir_tree.proofs.TreeTheorems.{entries_of-put_row}
 use Rattle.ldif_core.specs.declared.types.Record.{Record}
 use Rattle.ldif_core.specs.Faults.{LineFault}
-use Rattle.ldif_core.specs.Faults as reading
+use Rattle.ldif_core.specs.Records.{first_of}
 use Rattle.ldif_core.specs.Places.{records_from}
 use Rattle.op_write.specs.Loading.{◌>>=◌}
-use Rattle.op_write.specs.DataFile.{in_file, record_entry, loads_after, loads_records, file_start, loads}
+use Rattle.op_write.specs.DataFile.{in_file, line_fault, record_entry, loads_after, loads_records, file_start, loads}
 use Rattle.op_write.specs.Laws.{PutsItsEntryIn, GoesOnAfterARecord, GoesOnWhereLoaded, EndsAtABadRecord, EndsAtABadLine, EndsWithItsEntries, BeginsWithoutEntries, IsBadWithoutARecord}
 
 -- a record that is loaded puts its entry in
@@ -37,8 +37,14 @@ ends_at_a_bad_record entries text from to given fault next bad =
     after_first entries (records_from text from) (Ok given) (records_from text to) next.record_read
     ∙ ap (λ loading. in_file loading >>= λ entry. loads_after (put_in entry entries) (records_from text to)) bad
 
+ends_at_first : (entries : List EntryInformation) (given : List (Result Record LineFault)) (bad : LineFault) → first_of given ≡ Err bad → loads_after entries given ≡ Err (line_fault bad)
+unfolding loads_after
+ends_at_first entries [] bad is = absurd cc
+ends_at_first entries (Ok first ∷ rest) bad is = absurd cc
+ends_at_first entries (Err other ∷ rest) bad is = let same : other ≡ bad = cc in ap (λ fault. Err (line_fault fault)) same
+
 pub ends_at_a_bad_line : EndsAtABadLine
-ends_at_a_bad_line entries text from line cause bad = after_first entries (records_from text from) (Err (reading.Bad line cause)) bad.0 bad.1
+ends_at_a_bad_line entries text from bad is = ends_at_first entries (records_from text from) bad is
 
 pub ends_with_its_entries : EndsWithItsEntries
 unfolding loads_after

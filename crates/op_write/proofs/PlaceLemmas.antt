@@ -11,10 +11,11 @@ use Rattle.dir_tree.specs.declared.refusals.InsertRefusal.{InsertRefusal}
 use Rattle.dir_tree.specs.declared.refusals.InsertRefusal.TheVariants as inserting
 use Rattle.aci_item.specs.Rules.{broken_rule, is_past_limits}
 use Rattle.schema_rules.proofs.Theorems.{Meets-from_broken_rule}
+use Rattle.plain_values.specs.Answers.{IsFaultOf}
 use Rattle.op_write.specs.declared.fault.LoadFault.{LoadFault}
 use Rattle.op_write.specs.declared.fault.LoadFault.TheVariants as load_fault
 use Rattle.op_write.specs.declared.fault.LoadCause.TheVariants.{Twice, Order}
-use Rattle.op_write.specs.Loading.{RecordFault, Bad, ruled, placed, IsLoadFault}
+use Rattle.op_write.specs.Loading.{RecordFault, Bad, ruled, placed, fault_of}
 
 -- an entry may join the entries but for the rules
 pub record MayJoin (entries : List EntryInformation) (entry : EntryInformation) : Type 0 where
@@ -100,7 +101,7 @@ pub placed-good : (entries : List EntryInformation) (line : ℕ) (entry : EntryI
 placed-good entries line entry may good = placed-ruled entries line entry may ∙ ap (ruled line entry) good
 
 pub placed-fault : (entries : List EntryInformation) (line : ℕ) (entry : EntryInformation) (fault : LoadFault) → MayJoin entries entry
-    → IsLoadFault fault (ruled line entry (broken_rule None entries entry)) → IsLoadFault fault (placed entries line entry)
+    → IsFaultOf (fault_of fault) (ruled line entry (broken_rule None entries entry)) → IsFaultOf (fault_of fault) (placed entries line entry)
 placed-fault entries line entry load_fault.NoMemory may is = tt
 placed-fault entries line entry (load_fault.Bad number cause) may is = placed-ruled entries line entry may ∙ is
 

@@ -5,11 +5,10 @@ use Rattle.dir_tree.specs.Trees.{put_in}
 use Rattle.dir_tree.specs.Numbered.{Numbered, entries_of}
 use Rattle.ldif_core.specs.declared.types.Position.{Position}
 use Rattle.ldif_core.specs.declared.types.Record.{Record}
-use Rattle.ldif_core.specs.declared.types.BadLine.TheVariants as bad_line
-use Rattle.ldif_core.specs.Faults as reading
-use Rattle.ldif_core.specs.declared.types.LineCause.{LineCause}
+use Rattle.ldif_core.specs.Faults.{LineFault}
 use Rattle.ldif_core.specs.declared.types.LineCause.TheVariants.{Syntax}
-use Rattle.ldif_core.specs.Places.{IsNext, IsBadAt, records_from}
+use Rattle.ldif_core.specs.Records.{first_of}
+use Rattle.ldif_core.specs.Places.{IsNext, records_from}
 use Rattle.op_write.specs.Loading.{◌>>=◌, RecordFault, loaded_entry, IsLoaded}
 use Rattle.op_write.specs.DataFile.{OfLine, record_fault, line_fault, record_entry, loads_after, file_start, loads}
 
@@ -39,8 +38,8 @@ EndsAtABadRecord =
 -- the fault of a line is that of the file
 abbrev pub EndsAtABadLine : Type 0
 EndsAtABadLine =
-    (entries : List EntryInformation) (text : List ℕ) (from : Position) (line : ℕ) (cause : LineCause) → IsBadAt text from (bad_line.Bad line cause)
-    → loads_after entries (records_from text from) ≡ Err (line_fault (reading.Bad line cause))
+    (entries : List EntryInformation) (text : List ℕ) (from : Position) (bad : LineFault) → first_of (records_from text from) ≡ Err bad
+    → loads_after entries (records_from text from) ≡ Err (line_fault bad)
 
 -- where no record is left, the entries are those of the file
 abbrev pub EndsWithItsEntries : Type 0

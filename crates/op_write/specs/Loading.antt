@@ -23,6 +23,11 @@ use Rattle.op_write.specs.declared.fault.LoadFault.TheVariants as load_fault
 pub data RecordFault : Type 0 where
   Bad : (line : ℕ) (cause : LoadCause) → RecordFault
 
+-- the fault of the record that an answer tells; want of memory is none
+abbrev pub fault_of : LoadFault → Option RecordFault
+fault_of (load_fault.Bad line cause) = Some (Bad line cause)
+fault_of load_fault.NoMemory = None
+
 -- the name, where reading gave one that isn't empty
 abbrev pub named : ℕ → Result RdnSequence BadName → Result RdnSequence RecordFault
 named line (Ok []) = Err (Bad line Name)
@@ -90,8 +95,3 @@ pub record IsLoaded (old : List Numbered) (given : Record) (new : List Numbered)
   pub loaded : loaded_entry (entries_of old) given ≡ Ok entry
   pub free : entry_of id old ≡ None
   pub added : new ≡ put_entry id entry old
-
--- the fault is that of loading; want of memory may come anywhere
-abbrev pub IsLoadFault : LoadFault → Result EntryInformation RecordFault → Type 0
-IsLoadFault (load_fault.Bad line cause) loading = loading ≡ Err (Bad line cause)
-IsLoadFault load_fault.NoMemory loading = Unit {0}

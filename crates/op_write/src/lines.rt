@@ -3,8 +3,9 @@
 ghost use Rattle.std.specs.Prelude.{◌≡◌, Some, Ok, IfErr, OnOk};
 ghost use Rattle.schema_core.specs.Attributes.{IsAttrId};
 ghost use Rattle.dn_names.specs.NameText.{read_name};
-ghost use Rattle.op_write.specs.Loading.{named, loaded_value, with_new_kind, with_new_value, with_line, with_lines};
-ghost use Rattle.op_write.specs.Steps.{IsFault, Gives, value_or_fault};
+ghost use Rattle.plain_values.specs.Answers.{Answers, IsFaultOf};
+ghost use Rattle.op_write.specs.Loading.{fault_of, named, loaded_value, with_new_kind, with_new_value, with_line, with_lines};
+ghost use Rattle.op_write.specs.Steps.{value_or_fault};
 
 use crate::fault::{LoadCause, LoadFault, bad_at};
 use dir_tree::Entry;
@@ -18,7 +19,7 @@ const MOST_OCTETS: usize = 65_536;
 
 /// The name that the octets of the `dn` line are. `Name` comes exactly where they are none, or the empty one.
 pub(crate) fn named(alloc: Global, line: u64, octets: &[u8]) -> Result<Dn, LoadFault>
-    ensures exact { Gives result (named line (read_name octets.now)) }
+    ensures exact { Answers (λ name. name) fault_of result (named line (read_name octets.now)) }
 {
     match parse(alloc, octets) {
         Ok(name) => not_empty(line, name),
@@ -29,7 +30,7 @@ pub(crate) fn named(alloc: Global, line: u64, octets: &[u8]) -> Result<Dn, LoadF
 
 // The name, where it isn't empty.
 fn not_empty(line: u64, name: Dn) -> Result<Dn, LoadFault>
-    ensures exact { Gives result (named line (Ok name)) }
+    ensures exact { Answers (λ name. name) fault_of result (named line (Ok name)) }
 {
     if name.len() == 0 {
         Err(bad_at(line, LoadCause::Name))
@@ -39,18 +40,19 @@ fn not_empty(line: u64, name: Dn) -> Result<Dn, LoadFault>
 }
 
 // The value of the line, of the type. `Value` comes exactly where it is not of the syntax, or too long.
-fn value_of(alloc: Global, kind: AttrId, line: &RecordLine) -> Result<Value, LoadFault>
+fn value_of(alloc: Global, kind: AttrId, line: RecordLine) -> Result<Value, LoadFault>
     requires { IsAttrId kind.0 }
-    ensures exact { Gives result (value_or_fault line.now.line (loaded_value kind.0 line.now.value)) }
+    ensures exact { Answers (λ value. value) fault_of result
+        (value_or_fault line.line (loaded_value kind.0 line.value)) }
 {
+    let number = line.line;
     if line.value.len() > MOST_OCTETS {
-        return Err(bad_at(line.line, LoadCause::Value));
+        return Err(bad_at(number, LoadCause::Value));
     }
-    let octets = line.value.as_slice().to_vec(alloc)?;
-    match make_value(alloc, kind, octets) {
+    match make_value(alloc, kind, line.value.into_vec()) {
         Ok(value) => Ok(value),
         Err(PrepareFault::NoMemory) => Err(LoadFault::NoMemory),
-        Err(PrepareFault::NotOfSyntax) => Err(bad_at(line.line, LoadCause::Value)),
+        Err(PrepareFault::NotOfSyntax) => Err(bad_at(number, LoadCause::Value)),
     }
 }
 
@@ -58,7 +60,7 @@ fn value_of(alloc: Global, kind: AttrId, line: &RecordLine) -> Result<Value, Loa
 fn add_value(entry: &mut Entry, line: u64, kind: AttrId, value: Value) -> Result<(), LoadFault>
     ensures ok { OnOk result (with_new_value entry.old line kind.0 (Some value) ≡ Ok entry.new) }
     ensures bad { IfErr result (λ fault.
-        IsFault fault (with_new_value entry.old line kind.0 (Some value))) }
+        IsFaultOf (fault_of fault) (with_new_value entry.old line kind.0 (Some value))) }
 {
     if entry.push(kind, value)? {
         Ok(())
@@ -71,22 +73,23 @@ fn add_value(entry: &mut Entry, line: u64, kind: AttrId, value: Value) -> Result
 fn add_of_kind(
     alloc: Global,
     entry: &mut Entry,
-    line: &RecordLine,
+    line: RecordLine,
     kind: AttrId,
 ) -> Result<(), LoadFault>
     requires { IsAttrId kind.0 }
-    ensures ok { OnOk result (with_new_kind entry.old line.now (Some kind.0) ≡ Ok entry.new) }
+    ensures ok { OnOk result (with_new_kind entry.old line (Some kind.0) ≡ Ok entry.new) }
     ensures bad { IfErr result (λ fault.
-        IsFault fault (with_new_kind entry.old line.now (Some kind.0))) }
+        IsFaultOf (fault_of fault) (with_new_kind entry.old line (Some kind.0))) }
 {
+    let number = line.line;
     let value = value_of(alloc, kind, line)?;
-    add_value(entry, line.line, kind, value)
+    add_value(entry, number, kind, value)
 }
 
 // Adds what an attribute line says.
-fn add_line(alloc: Global, entry: &mut Entry, line: &RecordLine) -> Result<(), LoadFault>
-    ensures ok { OnOk result (with_line entry.old line.now ≡ Ok entry.new) }
-    ensures bad { IfErr result (λ fault. IsFault fault (with_line entry.old line.now)) }
+fn add_line(alloc: Global, entry: &mut Entry, line: RecordLine) -> Result<(), LoadFault>
+    ensures ok { OnOk result (with_line entry.old line ≡ Ok entry.new) }
+    ensures bad { IfErr result (λ fault. IsFaultOf (fault_of fault) (with_line entry.old line)) }
 {
     match attr_named(line.kind.as_slice()) {
         Some(kind) => add_of_kind(alloc, entry, line, kind),
@@ -99,10 +102,11 @@ fn add_line(alloc: Global, entry: &mut Entry, line: &RecordLine) -> Result<(), L
 pub(crate) fn add_lines(
     alloc: Global,
     entry: &mut Entry,
-    lines: &[RecordLine],
+    lines: Vec<RecordLine>,
 ) -> Result<(), LoadFault>
-    ensures ok { OnOk result (with_lines entry.old lines.now ≡ Ok entry.new) }
-    ensures bad { IfErr result (λ fault. IsFault fault (with_lines entry.old lines.now)) }
+    ensures ok { OnOk result (with_lines entry.old lines.items ≡ Ok entry.new) }
+    ensures bad { IfErr result (λ fault.
+        IsFaultOf (fault_of fault) (with_lines entry.old lines.items)) }
 {
     for line in lines {
         add_line(alloc, entry, line)?;

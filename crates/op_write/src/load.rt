@@ -9,8 +9,8 @@ ghost use Rattle.dir_tree.specs.Refusals.{insert_refusal};
 ghost use Rattle.dir_tree.specs.Vacancies.{IsVacancy};
 ghost use Rattle.schema_rules.specs.Checking.{IsFor};
 ghost use Rattle.aci_item.specs.Rules.{broken_rule};
-ghost use Rattle.op_write.specs.Loading.{entry_of_record, ruled, placed, loaded_entry, IsLoaded, IsLoadFault};
-ghost use Rattle.op_write.specs.Steps.{Gives};
+ghost use Rattle.op_write.specs.Loading.{entry_of_record, ruled, placed, loaded_entry, IsLoaded, fault_of};
+ghost use Rattle.plain_values.specs.Answers.{Answers, IsFaultOf};
 
 use crate::fault::{LoadCause, LoadFault, bad_at};
 use crate::lines::{add_lines, named};
@@ -21,12 +21,12 @@ use schema_rules::{Broken, check_entry, check_entry_below};
 use std::alloc::Global;
 
 // The entry of a record, wherever it will stand.
-fn entry_of_record(alloc: Global, given: &Record) -> Result<Entry, LoadFault>
-    ensures exact { Gives result (entry_of_record given.now) }
+fn entry_of_record(alloc: Global, given: Record) -> Result<Entry, LoadFault>
+    ensures exact { Answers (λ entry. entry) fault_of result (entry_of_record given) }
 {
     let name = named(alloc, given.line, given.name.as_slice())?;
     let mut entry = Entry::new(alloc, name)?;
-    add_lines(alloc, &mut entry, given.lines.as_slice())?;
+    add_lines(alloc, &mut entry, given.lines.into_vec())?;
     add_own_values(alloc, &mut entry)?;
     Ok(entry)
 }
@@ -34,7 +34,7 @@ fn entry_of_record(alloc: Global, given: &Record) -> Result<Entry, LoadFault>
 // The fault of an entry that breaks a rule: what goes past a limit is told apart.
 fn fault_of(line: u64, broken: Broken) -> LoadFault
     ensures exact { (entry : EntryInformation) (code : Option ℕ) → IsFor broken code
-        → IsLoadFault result (ruled line entry code) }
+        → IsFaultOf (fault_of result) (ruled line entry code) }
 {
     match broken {
         Broken::Rule(11) => bad_at(line, LoadCause::Limit),
@@ -54,7 +54,7 @@ fn ruled(
     requires { option_map (λ no. no.0) superior ≡ find_name (superior_name entry.now.name) tree.now }
     ensures ok { OnOk result (broken_rule None (entries_of tree.now) entry.now ≡ None) }
     ensures bad { IfErr result (λ fault.
-        IsLoadFault fault (ruled line entry.now (broken_rule None (entries_of tree.now) entry.now))) }
+        IsFaultOf (fault_of fault) (ruled line entry.now (broken_rule None (entries_of tree.now) entry.now))) }
 {
     match check_entry_below(alloc, tree, superior, entry) {
         Ok(()) => Ok(()),
@@ -65,7 +65,7 @@ fn ruled(
 // The fault of an entry that a full tree would take otherwise: the limit, where it breaks no other rule.
 fn crowded_out(alloc: Global, tree: &Tree, line: u64, entry: &Entry) -> LoadFault
     requires { nat_le most_entries (length (entries_of tree.now)) ≡ true }
-    ensures bad { IsLoadFault result
+    ensures bad { IsFaultOf (fault_of result)
         (ruled line entry.now (broken_rule None (entries_of tree.now) entry.now)) }
 {
     match check_entry(alloc, tree, None, entry) {
@@ -83,7 +83,7 @@ fn refused(
     refusal: InsertRefusal,
 ) -> LoadFault
     requires { insert_refusal entry.now.name (entries_of tree.now) ≡ Some refusal }
-    ensures exact { IsLoadFault result (placed (entries_of tree.now) line entry.now) }
+    ensures exact { IsFaultOf (fault_of result) (placed (entries_of tree.now) line entry.now) }
 {
     match refusal {
         InsertRefusal::NameTaken => bad_at(line, LoadCause::Twice),
@@ -98,7 +98,7 @@ fn placed(alloc: Global, tree: &Tree, line: u64, entry: &Entry) -> Result<Vacanc
     ensures vacant { IfOk result (λ vacancy. IsVacancy vacancy entry.now.name tree.now) }
     ensures ok { OnOk result (placed (entries_of tree.now) line entry.now ≡ Ok entry.now) }
     ensures bad { IfErr result (λ fault.
-        IsLoadFault fault (placed (entries_of tree.now) line entry.now)) }
+        IsFaultOf (fault_of fault) (placed (entries_of tree.now) line entry.now)) }
 {
     match tree.vacancy(entry.name()) {
         Ok(vacancy) => match ruled(alloc, tree, line, vacancy.superior(), entry) {
@@ -114,13 +114,15 @@ fn placed(alloc: Global, tree: &Tree, line: u64, entry: &Entry) -> Result<Vacanc
 /// `Name` is tried, then `Kind`, `Value` and `Twice` for one line after another, and then `Twice`, `Order`, `Rule` and
 /// `Limit` for the entry; `Name` and these four are told at the `dn` line. After any error, of which `NoMemory` may
 /// come in place of any answer, the tree is as before.
-pub fn load_record(alloc: Global, tree: &mut Tree, given: &Record) -> Result<(), LoadFault>
-    ensures ok { OnOk result (IsLoaded tree.old given.now tree.new) }
-    ensures bad { IfErr result (λ fault. IsLoadFault fault (loaded_entry (entries_of tree.old) given.now)) }
+pub fn load_record(alloc: Global, tree: &mut Tree, given: Record) -> Result<(), LoadFault>
+    ensures ok { OnOk result (IsLoaded tree.old given tree.new) }
+    ensures bad { IfErr result (λ fault.
+        IsFaultOf (fault_of fault) (loaded_entry (entries_of tree.old) given)) }
     ensures err { OnErr result (tree.new ≡ tree.old) }
 {
+    let line = given.line;
     let entry = entry_of_record(alloc, given)?;
-    let vacancy = placed(alloc, tree, given.line, &entry)?;
+    let vacancy = placed(alloc, tree, line, &entry)?;
     tree.insert_at(vacancy, entry)?;
     Ok(())
 }

@@ -1,7 +1,7 @@
 use Rattle.std.proofs.Common.{◌≡◌, ◌≢◌, length, arith}
 use Rattle.std.proofs.lemmas.Result.{err_from_is_err_and}
 use Rattle.dir_tree.specs.Numbered.{entries_of}
-use Rattle.data_file.proofs.LoadLemmas.{IsDataFault-loads, fault-same, loads-some, loads-none}
+use Rattle.data_file.proofs.LoadLemmas.{fault-loads, fault-same, loads-some, loads-none}
 use Rattle.data_file.proofs.loading.load.Goals as goal
 
 -- the first bad line
@@ -9,7 +9,7 @@ pub returns-in_err-load_all-clause-bad : goal.returns-in_err-load_all-clause-bad
 returns-in_err-load_all-clause-bad c =
     let fault = err_from_is_err_and c.from_residual.result c.from_residual.ensures.1 in
     fault-same c.from_residual.result fault.0 c.in_err-load_all.field-0.0 _ fault.1 fault.2
-    (IsDataFault-loads c.in_err-load_all.field-0.0 c.args.text.now c.in_err-load_all.ensures.bad)
+    (fault-loads c.in_err-load_all.field-0.0 c.args.text.now c.in_err-load_all.ensures.bad)
 
 -- no record
 pub returns-then-len-eq0-clause-bad : goal.returns-then-len-eq0-clause-bad

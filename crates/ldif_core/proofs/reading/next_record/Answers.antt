@@ -1,5 +1,6 @@
 use Rattle.std.proofs.lemmas.Result.{err_from_is_err_and}
-use Rattle.ldif_core.proofs.NextLemmas.{records-none, IsNext-read, IsBadAt-read, bad-same, later-than}
+use Rattle.ldif_core.proofs.RecordLemmas.{fault-same}
+use Rattle.ldif_core.proofs.NextLemmas.{records-none, IsNext-read, first_of-bad, later-than}
 use Rattle.ldif_core.proofs.reading.next_record.Goals as goal
 
 -- no line is left
@@ -11,8 +12,8 @@ returns-in_default-clause-empty c =
 pub returns-in_err-record-clause-bad : goal.returns-in_err-record-clause-bad
 returns-in_err-record-clause-bad c =
     let fault = err_from_is_err_and c.from_residual-in_err-record.result c.from_residual-in_err-record.ensures.1 in
-    bad-same c.args.text.now c.args.from c.from_residual-in_err-record.result fault.0 c.in_err-record.field-0.0 fault.1 fault.2
-    (IsBadAt-read c.args.text.now c.args.from c.in_ok-line.at c.in_ok-line.line c.in-Some.first _ c.in_ok-line.ensures.exact c.in-Some.is c.in_ok-line.ensures.filled c.in_err-record.ensures.bad)
+    fault-same c.from_residual-in_err-record.result fault.0 c.in_err-record.field-0.0 _ fault.1 fault.2
+    (first_of-bad c.args.text.now c.args.from c.in_ok-line.at c.in_ok-line.line c.in-Some.first _ c.in_ok-line.ensures.exact c.in-Some.is c.in_ok-line.ensures.filled c.in_err-record.ensures.bad)
 
 -- all are good
 pub returns-clause-ok : goal.returns-clause-ok
