@@ -2,7 +2,7 @@
 use crate::reading::read_all;
 use dir_tree::{Entry, Scope, Tree};
 use dn_names::print;
-use ldif_core::{BadLine, Record, RecordLine, RecordLines};
+use ldif_core::{BadLine, KindText, Record, RecordLine, RecordLines};
 use op_write::{LoadFault, load_record};
 use plain_values::Octets;
 use schema_core::row;
@@ -204,7 +204,7 @@ fn long_line(alloc: Global, line: u64, kind: &str, count: usize) -> Result<Recor
     }
     Ok(RecordLine {
         line,
-        kind: Octets::from_vec(kind.as_bytes().to_vec(alloc)?),
+        kind: KindText::from_slice(alloc, kind.as_bytes())?,
         value: Octets::from_vec(value),
     })
 }
@@ -214,7 +214,7 @@ fn with_password(alloc: Global, count: usize) -> Result<Record, Fail> {
     let mut lines = Vec::new(alloc);
     lines.push(RecordLine {
         line: 8,
-        kind: Octets::from_vec(b"objectClass".to_vec(alloc)?),
+        kind: KindText::from_slice(alloc, b"objectClass")?,
         value: Octets::from_vec(b"domain".to_vec(alloc)?),
     })?;
     lines.push(long_line(alloc, 9, "userPassword", count)?)?;

@@ -7,6 +7,7 @@ ghost use Rattle.ldif_core.specs.Fields.{after_spaces, field_after, field_of, de
 ghost use Rattle.ldif_core.specs.Faults.{fault_of};
 ghost use Rattle.ldif_core.specs.Steps.{field_in};
 
+use crate::kind_text::KindText;
 use crate::kinds::{is_changetype, is_dn, is_kind};
 use crate::lines::begins_with;
 use crate::types::{BadLine, LineCause, NoMemory, RecordLine};
@@ -119,7 +120,7 @@ pub(crate) fn attribute_line(alloc: Global, line: &Unfolded<'_>) -> Result<Recor
             cause: LineCause::Base64,
         });
     };
-    let kind = Octets::from_vec(field.kind.to_vec(alloc)?);
+    let kind = KindText::from_slice(alloc, field.kind)?;
     let read = RecordLine {
         line: number,
         kind,

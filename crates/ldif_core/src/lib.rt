@@ -3,6 +3,7 @@
 
 mod content;
 mod fields;
+mod kind_text;
 mod kinds;
 mod laws;
 mod lines;
@@ -11,6 +12,7 @@ mod types;
 mod unfolded;
 mod writing;
 
+pub use kind_text::KindText;
 pub use laws::{
     a_written_file_is_read_again, a_written_line_is_of_one_value,
     base64_is_padded_and_leaves_no_bits, the_types_of_a_record_have_their_form,

@@ -3,6 +3,7 @@
 ghost use Rattle.std.specs.Prelude.{◌≡◌};
 ghost use Rattle.ldif_core.specs.declared.types.BadLine.TheVariants.{NoMemory};
 
+use crate::kind_text::KindText;
 use plain_values::Octets;
 use std::alloc::{AllocError, AllocFailed};
 use std::marker::Model;
@@ -24,7 +25,7 @@ pub struct Position {
 #[derive(Debug, Drop)]
 pub struct RecordLine {
     pub line: u64,
-    pub kind: Octets,
+    pub kind: KindText,
     pub value: Octets,
 }
 
