@@ -1,0 +1,5 @@
+pub mod TestLemmas
+pub mod EachLemmas
+pub mod FilterLemmas
+pub mod MapLemmas
+pub mod Theorems
