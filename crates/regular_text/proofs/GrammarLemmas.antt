@@ -1,7 +1,7 @@
 -- Either and Then without needless parts name the same texts, and has_empty is exact.
 use Rattle.std.proofs.Common.{◌≡◌, ℕ, Bool, true, false, ◌⊎◌, inl, inr, List, [], ◌∷◌, ◌++◌, refl, sym, subst}
-use Rattle.std.specs.Prelude.{◌&&◌, ◌||◌}
-use Rattle.std.proofs.lemmas.Bool.{false≢true}
+use Rattle.std.specs.Prelude.{◌||◌}
+use Rattle.std.proofs.lemmas.Bool.{false≢true, and_parts, and_from, or_right}
 use Rattle.regular_text.specs.Grammar.{Grammar, Matches}
 use Rattle.regular_text.specs.Grammar.Grammar.{Never, Nothing, One, Either, Then, Many}
 use Rattle.regular_text.specs.Derivative.{has_empty, either, then_next}
@@ -36,21 +36,9 @@ or_cases : (a b : Bool) → (a || b) ≡ true → (a ≡ true) ⊎ (b ≡ true)
 or_cases true b e = inl refl
 or_cases false b e = inr e
 
-and_parts : (a b : Bool) → (a && b) ≡ true → (a ≡ true) × (b ≡ true)
-and_parts true b e = (refl, e)
-and_parts false b e = absurd (false≢true e)
-
 or_left : (a b : Bool) → a ≡ true → (a || b) ≡ true
 or_left true b e = refl
 or_left false b e = absurd (false≢true e)
-
-or_right : (a b : Bool) → b ≡ true → (a || b) ≡ true
-or_right true b e = refl
-or_right false b e = e
-
-and_both : (a b : Bool) → a ≡ true → b ≡ true → (a && b) ≡ true
-and_both true b e f = f
-and_both false b e f = absurd (false≢true e)
 
 -- the two parts of an empty text are empty
 pub both_nil : (front rest : List ℕ) → [] ≡ front ++ rest → (front ≡ []) × (rest ≡ [])
@@ -78,7 +66,7 @@ has_empty-matches class (Either a b) (inl m) = or_left (has_empty a) (has_empty 
 has_empty-matches class (Either a b) (inr m) = or_right (has_empty a) (has_empty b) (has_empty-matches class b m)
 has_empty-matches class (Then a b) (front, rest, e, m, n) =
     let both = both_nil front rest e in
-    and_both (has_empty a) (has_empty b)
+    and_from (has_empty a) (has_empty b)
     (has_empty-matches class a (subst (λ (t : List ℕ). Matches class a t) both.0 m))
     (has_empty-matches class b (subst (λ (t : List ℕ). Matches class b t) both.1 n))
 has_empty-matches class (Many a) m = refl
