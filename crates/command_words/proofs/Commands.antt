@@ -5,7 +5,7 @@ use Rattle.std.proofs.lemmas.List.{map-append}
 use Rattle.std.proofs.lemmas.Str.{IsUtf8-string_bytes}
 use Rattle.std.specs.List.{AllByRecursion}
 use Rattle.std.specs.Str.{IsUtf8}
-use Rattle.std.proofs.lemmas.Bool.{eqb-true, eq-eqb}
+use Rattle.std.proofs.lemmas.Bool.{eqb-true, eq-eqb, and_parts}
 use Rattle.std.proofs.lemmas.Option.{same_Some}
 use Rattle.clap.specs.Walk.{Row as Kept, Rule, Text, all_of, idle, nothing_held, rows_after, rows_of}
 use Rattle.clap.specs.Matches.{found_of}
@@ -27,7 +27,6 @@ use Rattle.command_words.specs.Line.{line_words, texts_of}
 use Rattle.command_words.specs.Command.{CommandView, IsCommand, view}
 use Rattle.command_words.specs.Parser.{app_for, app_with, id_of, kept_in, operand_rule, option_rule}
 use Rattle.command_words.specs.Asked.{IsAsked, IsRead, IsReading, Parses, kept_count, kept_said, said_by}
-use Rattle.command_words.proofs.Numbers.{both_pass}
 use Rattle.command_words.proofs.Tables.{command_named-sound, command_named-complete, option_named-complete}
 use Rattle.command_words.proofs.Rules.{app, built-is, is-simple, rules, shape}
 use Rattle.command_words.proofs.Steps.{at, nothing-more}
@@ -224,7 +223,7 @@ pub matches-parse : (name : CommandName) (parser : App) (words : List Text) (mat
 matches-parse name parser words matches utf8 is none has =
     let own = app_for (row_of name) in
     let free = is-simple name in
-    let simple = (both_pass (is_simple own) _ free).0 in
+    let simple = (and_parts (is_simple own) _ free).0 in
     matches-read name words matches utf8 (subst (λ (one : App). is_simple_and_free one ≡ true → fault_of one words ≡ []) is none free) (subst (λ (one : App). HasMatchesOf one words matches) is has simple).0
 
 pub error-parse : (name : CommandName) (parser : App) (words : List Text) (error : Error) → parser ≡ app_for (row_of name) → (is_simple_and_free parser ≡ true → HasKind (fault_of parser words) error) → kind_of error ≢ OutOfMemory → Parses name words None

@@ -1,6 +1,6 @@
 -- Numbers among the words: the function, the relation, and what std's `parse` gives.
 use Rattle.std.proofs.Common.{◌≡◌, ℕ, ◌<◌, ◌≤◌, ◌^◌, Bool, true, false, ltb, leb, ◌&&◌, List, [], ◌∷◌, length, slice_get, cond, Option, Some, None, Result, Ok, Err, option_and_then, sym, refl, subst, arith, rules}
-use Rattle.std.proofs.lemmas.Bool.{ltb-true, lt-ltb, leb-true, le-leb}
+use Rattle.std.proofs.lemmas.Bool.{ltb-true, lt-ltb, leb-true, le-leb, and_parts, and_from}
 use Rattle.std.proofs.lemmas.Option.{same_Some, cond_some}
 use Rattle.std.proofs.lemmas.Str.Parse.{IsNumeralModel, numerals_by_value, parse_digits}
 use Rattle.std.specs.Char.{is_ascii_digit}
@@ -9,15 +9,6 @@ use Rattle.std.specs.Result.{result_ok}
 use Rattle.std.specs.Str.Parse.{digits_value, ParsesUnsigned}
 use Rattle.command_words.specs.Number.{IsNumber, IsNumberWithin, SaysNumber, has_form, number_of, number_said, number_within, value_within}
 
--- two tests that both pass
-pub both_pass : (a b : Bool) → (a && b) ≡ true → (a ≡ true) × (b ≡ true)
-both_pass true b passed = (refl, passed)
-both_pass false b passed = absurd (cc)
-
-pub passes_both : (a b : Bool) → a ≡ true → b ≡ true → (a && b) ≡ true
-passes_both true b first second = second
-passes_both false b first second = absurd (cc)
-
 record Form (text : List ℕ) : Type 0 where
   some : 1 ≤ length text
   short : length text ≤ 20
@@ -25,8 +16,8 @@ record Form (text : List ℕ) : Type 0 where
 
 form_of : (text : List ℕ) → has_form text ≡ true → Form text
 form_of text has =
-    let outer = both_pass _ _ has in
-    let inner = both_pass (leb (length text) 20) (list_all is_ascii_digit text) outer.1 in
+    let outer = and_parts _ _ has in
+    let inner = and_parts (leb (length text) 20) (list_all is_ascii_digit text) outer.1 in
     record { some = leb-true 1 (length text) outer.0; short = leb-true (length text) 20 inner.0; digits = inner.1 }
 
 -- the function gives what the relation says
@@ -34,7 +25,7 @@ pub number_of-sound : (text : List ℕ) (value : ℕ) → number_of text ≡ Som
 unfolding number_of
 number_of-sound text value given =
     let tests = cond_some (has_form text && ltb (digits_value 10 text) (2 ^ 64)) (digits_value 10 text) value given in
-    let parts = both_pass (has_form text) (ltb (digits_value 10 text) (2 ^ 64)) tests.0 in
+    let parts = and_parts (has_form text) (ltb (digits_value 10 text) (2 ^ 64)) tests.0 in
     let form = form_of text parts.0 in
     let below : digits_value 10 text < 2 ^ 64 = ltb-true _ _ parts.1 in
     record { digits = form.digits; some = form.some; short = form.short; exact = tests.1; small = subst (λ (n : ℕ). n < 2 ^ 64) tests.1 below }
@@ -43,7 +34,7 @@ number_of-sound text value given =
 pub number_of-complete : (text : List ℕ) (value : ℕ) → IsNumber text value → number_of text ≡ Some value
 unfolding number_of
 number_of-complete text value is =
-    let form : has_form text ≡ true = passes_both (leb 1 (length text)) _ (le-leb _ _ is.some) (passes_both (leb (length text) 20) _ (le-leb _ _ is.short) is.digits) in
+    let form : has_form text ≡ true = and_from (leb 1 (length text)) _ (le-leb _ _ is.some) (and_from (leb (length text) 20) _ (le-leb _ _ is.short) is.digits) in
     let below : ltb (digits_value 10 text) (2 ^ 64) ≡ true = lt-ltb _ _ (subst (λ (n : ℕ). n < 2 ^ 64) (sym is.exact) is.small) in
     rw (form, below, is.exact) refl
 
@@ -87,7 +78,7 @@ number_within-sound digits least greatest text value given =
     let fits = some_of (leb (length text) digits) (option_and_then (value_within least greatest) (number_of text)) value given in
     let read = and_then-some (value_within least greatest) (number_of text) value fits.1 in
     let tests = cond_some (leb least read.0 && leb read.0 greatest) read.0 value read.2 in
-    let both = both_pass (leb least read.0) (leb read.0 greatest) tests.0 in
+    let both = and_parts (leb least read.0) (leb read.0 greatest) tests.0 in
     subst (IsNumberWithin digits least greatest text) tests.1 (record {
       number = number_of-sound text read.0 read.1;
       short = leb-true (length text) digits fits.0;

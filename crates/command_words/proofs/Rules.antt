@@ -1,7 +1,8 @@
 -- The parser of a command as clap builds it: its arguments, and what is found among them.
-use Rattle.std.proofs.Common.{◌≡◌, ◌∙◌, ◌||◌, ◌&&◌, not, is_some, ℕ, Bool, true, false, cond, List, [], ◌∷◌, map, Some, None, option_map, refl, sym, ap}
+use Rattle.std.proofs.Common.{◌≡◌, ◌∙◌, ◌&&◌, not, is_some, ℕ, Bool, true, false, cond, List, [], ◌∷◌, map, Some, None, option_map, refl, sym, ap}
 use Rattle.std.specs.Prelude.{bytes_eq, codes, find}
 use Rattle.std.proofs.lemmas.Slice.Eq.{bytes_eq-Decides}
+use Rattle.std.proofs.Math.Bool.{or-false}
 use Rattle.clap.specs.Simple.{App, Shape, new_rule, new_shape, built}
 use Rattle.clap.specs.Walk.{Rule, Text, arg_by_id, arg_by_long, arg_by_short, has_long, has_short}
 use Rattle.clap.specs.Faults.{is_simple_and_free}
@@ -98,19 +99,15 @@ bytes_eq-back one other = elim (bytes_eq one other) as (λ (b : Bool). bytes_eq 
   ] refl
 ] refl
 
-or_none : (b : Bool) → (b || false) ≡ b
-or_none true = refl
-or_none false = refl
-
 id-is : (text : Text) (name : OptionName) → bytes_eq (option name).id text ≡ bytes_eq text (option_word name)
 id-is text options.Sessions = bytes_eq-back (option_word options.Sessions) text
 id-is text options.Turns = bytes_eq-back (option_word options.Turns) text
 id-is text options.Dump = bytes_eq-back (option_word options.Dump) text
 
 long-is : (text : Text) (name : OptionName) → has_long (option name) text ≡ bytes_eq text (option_word name)
-long-is text options.Sessions = or_none _ ∙ bytes_eq-back (option_word options.Sessions) text
-long-is text options.Turns = or_none _ ∙ bytes_eq-back (option_word options.Turns) text
-long-is text options.Dump = or_none _ ∙ bytes_eq-back (option_word options.Dump) text
+long-is text options.Sessions = or-false _ ∙ bytes_eq-back (option_word options.Sessions) text
+long-is text options.Turns = or-false _ ∙ bytes_eq-back (option_word options.Turns) text
+long-is text options.Dump = or-false _ ∙ bytes_eq-back (option_word options.Dump) text
 
 -- by its long name an option of the row is found, and nothing else
 pub by-long : (row : Row) (text : Text) → arg_by_long (rules row) text ≡ option_map option (option_named row text)
