@@ -3,6 +3,7 @@ use Rattle.std.proofs.Common.{◌≡◌, Bool, true, false, ◌&&◌, List, [], 
 use Rattle.std.specs.Prelude.{⊤, unwrap_or, option_map, flat_map}
 use Rattle.std.proofs.lemmas.Bool.{cases_Bool}
 use Rattle.std.proofs.lemmas.Grind.{reverse_onto}
+use Rattle.base_laws.proofs.Theorems.{filter-filter, reverse-filter}
 use Rattle.dn_names.specs.NameOrder.{is_same, is_prefix_of}
 use Rattle.dn_names.proofs.Theorems.{is_same-types_and_keys}
 use Rattle.dir_tree.specs.Entries.{EntryInformation}
@@ -11,7 +12,6 @@ use Rattle.dir_tree.specs.Points.{is_specific_point}
 use Rattle.dir_tree.specs.Scopes.{is_within}
 use Rattle.admin_scope.specs.Areas.{line_of, is_access_point, points_from, to_specific, areas}
 use Rattle.scope_laws.specs.Aside.{is_point_over}
-use Rattle.scope_laws.proofs.ListLemmas.{filter-filter, reverse-filter}
 use Rattle.scope_laws.proofs.PlaceLemmas.{before_same}
 
 -- two points over the entry, of one place and one kind

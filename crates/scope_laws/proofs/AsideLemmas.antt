@@ -3,6 +3,7 @@ use Rattle.std.proofs.Common.{◌≡◌, ℕ, ◌+◌, Bool, true, false, ◌&&�
 use Rattle.std.specs.Prelude.{IfSome, ◌==◌}
 use Rattle.std.specs.Option.{option_and_then}
 use Rattle.std.proofs.lemmas.Bool.{cond-false, and_parts, and_left, eqb-true, false_from_ne_true}
+use Rattle.base_laws.proofs.Theorems.{and_middle}
 use Rattle.dn_names.specs.Names.{RdnSequence}
 use Rattle.dn_names.specs.NameOrder.{is_same, is_prefix_of}
 use Rattle.dir_tree.specs.Entries.{EntryInformation}
@@ -14,14 +15,9 @@ use Rattle.admin_scope.proofs.Theorems.{prefix_chain}
 use Rattle.scope_laws.specs.Aside.{is_point_over, point_over, IsNeverInForce, IsAside, IsBeside, IsSamePoint, IsUnder}
 use Rattle.scope_laws.proofs.PlaceLemmas.{length-same, prefix_same, same_fronts}
 
-middle : (a b c : Bool) → b ≡ false → (a && (b && c)) ≡ false
-middle true true c e = absurd cc
-middle true false c e = refl
-middle false b c e = refl
-
 -- no access control subentry is in force
 never_ordinary : (entry one : EntryInformation) → is_access_subentry one ≡ false → IsNeverInForce entry one
-never_ordinary entry one e = λ point within. middle (is_child point.name one) (is_access_subentry one) (subtree_holds point one entry) e
+never_ordinary entry one e = λ point within. and_middle (is_child point.name one) (is_access_subentry one) (subtree_holds point one entry) e
 
 -- an entry that the other is not below is no point over it
 not_over : (entry one : EntryInformation) → is_within one.name entry ≡ false → point_over entry one ≡ None

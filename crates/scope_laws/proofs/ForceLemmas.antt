@@ -3,13 +3,14 @@ use Rattle.std.proofs.Common.{◌≡◌, ℕ, Bool, true, false, ◌&&◌, List,
 use Rattle.std.specs.Prelude.{IfSome}
 use Rattle.std.specs.Option.{option_and_then}
 use Rattle.std.proofs.lemmas.Bool.{cases_Bool, cond-true, cond-false}
+use Rattle.std.proofs.lemmas.List.Elements.{filter_agree}
 use Rattle.dir_tree.specs.Entries.{EntryInformation}
 use Rattle.dir_tree.specs.Points.{is_specific_point, is_subentry}
 use Rattle.dir_tree.specs.Scopes.{is_within}
 use Rattle.admin_scope.specs.Areas.{is_access_point, areas}
 use Rattle.admin_scope.specs.InForce.{reaches, in_force_at, in_force}
 use Rattle.scope_laws.specs.Aside.{put_some, is_point_over, point_over, IsNeverInForce, IsAside}
-use Rattle.scope_laws.proofs.ListLemmas.{filter_like, filter-put_some}
+use Rattle.scope_laws.proofs.ListLemmas.{filter-put_some}
 use Rattle.scope_laws.proofs.PlaceLemmas.{same_fronts, reaches-same}
 use Rattle.scope_laws.proofs.AreaLemmas.{IsLike, AreLike, are_like_itself, like-put_in, like-areas, like-flat_map}
 
@@ -83,7 +84,7 @@ in_force_at-put : (entry : EntryInformation) (one other : Option EntryInformatio
     → in_force_at entry x (put_some one entries) ≡ in_force_at entry y (put_some other entries)
 in_force_at-put entry one other entries h k x y like =
     filter-put_some (λ subentry. reaches x subentry entry) one entries (never entry x one like.first h)
-    ∙ filter_like (λ subentry. reaches x subentry entry) (λ subentry. reaches y subentry entry)
+    ∙ filter_agree (λ subentry. reaches x subentry entry) (λ subentry. reaches y subentry entry)
     (λ subentry. reaches-same x y subentry entry like.named) entries
     ∙ sym (filter-put_some (λ subentry. reaches y subentry entry) other entries (never entry y other like.second k))
 

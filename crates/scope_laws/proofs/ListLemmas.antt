@@ -1,37 +1,10 @@
 -- Entries put in, and filters of them.
-use Rattle.std.proofs.Common.{◌≡◌, ◌⊎◌, Bool, true, false, ◌&&◌, List, [], ◌∷◌, ◌++◌, refl, ap, sym, ◌∙◌, inl, inr, append-nil, filter, reverse, Option, Some, None}
+use Rattle.std.proofs.Common.{◌≡◌, ◌⊎◌, Bool, true, false, List, [], ◌∷◌, refl, ap, inl, inr, filter, Option, Some, None}
 use Rattle.std.specs.Prelude.{IfSome}
 use Rattle.std.proofs.lemmas.Bool.{cases_Bool}
-use Rattle.std.proofs.lemmas.Grind.{reverse_onto}
-use Rattle.std.proofs.lemmas.List.Elements.{filter-append}
 use Rattle.dir_tree.specs.Entries.{EntryInformation}
 use Rattle.dir_tree.specs.Trees.{is_before, put_in}
 use Rattle.scope_laws.specs.Aside.{put_some}
-
--- two filters are one
-pub filter-filter : {A : Type 0} (p q : A → Bool) (xs : List A) → filter p (filter q xs) ≡ filter (λ x. q x && p x) xs
-filter-filter p q [] = refl
-filter-filter p q (x ∷ xs) = elim (cases_Bool (q x)) [
-  | inl e ↦ rw (e, filter-filter p q xs) refl
-  | inr e ↦ rw e (filter-filter p q xs)
-]
-
--- tests that agree leave the same
-pub filter_like : {A : Type 0} (p q : A → Bool) → ((x : A) → p x ≡ q x) → (xs : List A) → filter p xs ≡ filter q xs
-filter_like p q h [] = refl
-filter_like p q h (x ∷ xs) = rw (h x, filter_like p q h xs) refl
-
--- the elements that are left, last first
-pub reverse-filter : {A : Type 0} (q : A → Bool) (xs : List A) → reverse (filter q xs) ≡ filter q (reverse xs)
-reverse-filter q [] = refl
-reverse-filter q (x ∷ xs) =
-    by (cases_Bool (q x)) (reverse-filter q xs)
-    ∙ sym (ap (filter q) (reverse_onto xs x []) ∙ filter-append q (reverse xs) (x ∷ []))
-  where
-    by : ((q x ≡ true) ⊎ (q x ≡ false)) → reverse (filter q xs) ≡ filter q (reverse xs)
-        → reverse (filter q (x ∷ xs)) ≡ filter q (reverse xs) ++ filter q (x ∷ [])
-    by (inl e) later = rw e (reverse_onto (filter q xs) x [] ∙ ap (λ front. front ++ x ∷ []) later)
-    by (inr e) later = rw e (later ∙ sym (append-nil (filter q (reverse xs))))
 
 -- an entry that fails the test is put in unseen
 filter-put_in : (p : EntryInformation → Bool) (one : EntryInformation) (entries : List EntryInformation) → p one ≡ false

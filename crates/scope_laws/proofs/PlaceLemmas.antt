@@ -3,11 +3,10 @@ use Rattle.std.proofs.Common.{◌≡◌, ℕ, ◌+◌, Bool, true, false, ◌&&�
 use Rattle.std.specs.Prelude.{◌==◌}
 use Rattle.std.specs.Cmp.{both_ways}
 use Rattle.std.specs.Option.{option_map_or}
-use Rattle.std.specs.Ordering.{is_lt, is_eq}
-use Rattle.std.specs.declared.cmp.Ordering.{Ordering}
-use Rattle.std.specs.declared.cmp.Ordering.TheVariants.{Less, Equal, Greater}
+use Rattle.std.specs.Ordering.{is_lt}
 use Rattle.std.proofs.lemmas.Cmp.{alike_right}
 use Rattle.std.proofs.lemmas.List.{length-map, map-append}
+use Rattle.base_laws.proofs.Theorems.{is_equal}
 use Rattle.dn_names.specs.Names.{RdnSequence}
 use Rattle.dn_names.specs.NameOrder.{name_cmp, is_same, is_prefix_of, type_and_key, types_and_keys}
 use Rattle.dn_names.proofs.Theorems.{name_cmp_total, is_same-types_and_keys, is_prefix_of-types_and_keys}
@@ -29,11 +28,6 @@ length-same x y e = same_length x y ((is_same-types_and_keys x y).0 e)
 
 pub same_back : (x y : RdnSequence) → is_same x y ≡ true → is_same y x ≡ true
 same_back x y e = (is_same-types_and_keys y x).1 (sym ((is_same-types_and_keys x y).0 e))
-
-is_equal : (o : Ordering) → is_eq o ≡ true → o ≡ Equal
-is_equal Less e = absurd cc
-is_equal Equal e = refl
-is_equal Greater e = absurd cc
 
 -- what comes before a name comes before what is the same
 pub before_same : (x y z : RdnSequence) → is_same x y ≡ true → is_before z x ≡ is_before z y
