@@ -1,6 +1,6 @@
 -- What the items' answers say of a filter: its truth, where they are asked with permission, and no less where not.
 use Rattle.std.proofs.Common.{◌≡◌, Bool, true, false, ◌&&◌, List, [], ◌∷◌, refl, sym, ap, ◌∙◌, inl, inr, if◌then◌else◌}
-use Rattle.std.proofs.lemmas.Bool.{false≢true}
+use Rattle.std.proofs.lemmas.Bool.{false≢true, and_parts, and_from, or_right, or_left, or_cases}
 use Rattle.std.specs.List.{list_any}
 use Rattle.dir_tree.specs.Entries.{EntryInformation, values_of}
 use Rattle.ldap_filter.specs.Filters.{Filter, Filters}
@@ -14,7 +14,6 @@ use Rattle.filter_core.specs.Tests.{Test, test_of}
 use Rattle.filter_core.specs.Tests.Test.{Nothing, IsThere, HasValue}
 use Rattle.filter_core.specs.Truths.{Permits, is_true, matches, has_match, test_truth, truth, truths}
 use Rattle.filter_core.specs.Walks.{answer, turned, asks_all_of_and, asks_all_of_or, join, joined}
-use Rattle.filter_core.proofs.BoolLemmas.{or_true, or_left, or_right, and_true, both_true}
 use Rattle.filter_core.proofs.JoinLemmas.{answer-all_of, answer-any_of, answer-negated}
 
 -- ---- with permission
@@ -47,10 +46,10 @@ mutual
 
 join-weaker : (every one first other second : Bool) → (one ≡ true → first ≡ true) → (other ≡ true → second ≡ true) → join every one other ≡ true → join every first second ≡ true
 join-weaker true one first other second so also holds =
-    let parts = and_true one other holds in
-    both_true first second (so parts.0) (also parts.1)
+    let parts = and_parts one other holds in
+    and_from first second (so parts.0) (also parts.1)
 join-weaker false one first other second so also holds =
-    elim (or_true one other holds) [
+    elim (or_cases one other holds) [
       | inl here ↦ or_left first second (so here)
       | inr later ↦ or_right first second (also later)
     ]
@@ -87,8 +86,8 @@ found_so false false holds = holds
 list_any-weaker : {A : Type 0} (one other : A → Bool) (items : List A) → list_any (λ item. one item && other item) items ≡ true → list_any one items ≡ true
 list_any-weaker one other [] holds = holds
 list_any-weaker one other (item ∷ items) holds =
-    elim (or_true (one item && other item) _ holds) [
-      | inl here ↦ or_left (one item) _ (and_true (one item) (other item) here).0
+    elim (or_cases (one item && other item) _ holds) [
+      | inl here ↦ or_left (one item) _ (and_parts (one item) (other item) here).0
       | inr later ↦ or_right (one item) _ (list_any-weaker one other items later)
     ]
 

@@ -1,4 +1,3 @@
-pub mod BoolLemmas
 pub mod SubstringsLemmas
 pub mod JoinLemmas
 pub mod JudgingLemmas

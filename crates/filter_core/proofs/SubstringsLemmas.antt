@@ -1,11 +1,11 @@
 -- The test of parts by cuts says that the key has the parts.
 use Rattle.std.proofs.Common.{◌≡◌, ◌↔◌, ℕ, Bool, true, false, List, [], ◌∷◌, ◌++◌, refl, sym, ap, ◌∙◌, inl, inr, subst}
-use Rattle.std.proofs.lemmas.Bool.{false≢true}
+use Rattle.std.proofs.lemmas.Bool.{false≢true, and_parts, and_from, or_right, or_left, or_cases}
 use Rattle.std.proofs.lemmas.Slice.Eq.{bytes_eq-Decides}
 use Rattle.std.specs.List.{list_any}
+use Rattle.base_laws.proofs.Theorems.{list_any-map}
 use Rattle.match_rules.specs.Substrings.{InOrder, IsSubstring}
 use Rattle.filter_core.specs.Substrings.{Cut, cuts, begins_with, are_in_order, ends_with, is_substring}
-use Rattle.filter_core.proofs.BoolLemmas.{or_true, or_left, or_right, and_true, both_true, list_any-map}
 
 -- one octet more at the front of a cut
 abbrev further : ℕ → Cut → Cut
@@ -15,15 +15,15 @@ further octet cut = record { front = octet ∷ cut.front; rest = cut.rest }
 cut_found : (test : Cut → Bool) (text : List ℕ) → list_any test (cuts text) ≡ true
     → (cut : Cut) × (text ≡ cut.front ++ cut.rest) × (test cut ≡ true)
 cut_found test [] found =
-    elim (or_true (test (record { front = []; rest = [] })) false found) [
+    elim (or_cases (test (record { front = []; rest = [] })) false found) [
       | inl here ↦ (record { front = []; rest = [] }, refl, here)
       | inr never ↦ absurd (false≢true never)
     ]
 cut_found test (octet ∷ octets) found =
-    elim (or_true (test (record { front = []; rest = octet ∷ octets })) _ found) [
+    elim (or_cases (test (record { front = []; rest = octet ∷ octets })) _ found) [
       | inl here ↦ (record { front = []; rest = octet ∷ octets }, refl, here)
       | inr later ↦
-          let further_on = cut_found (λ cut. test (further octet cut)) octets (sym (list_any-map test (further octet) (cuts octets)) ∙ later) in
+          let further_on = cut_found (λ cut. test (further octet cut)) octets (sym (list_any-map (further octet) test (cuts octets)) ∙ later) in
           (further octet further_on.0, ap (λ rest. octet ∷ rest) further_on.1, further_on.2)
     ]
 
@@ -34,7 +34,7 @@ cut_finds test [] [] holds = or_left (test (record { front = []; rest = [] })) f
 cut_finds test [] (octet ∷ octets) holds = or_left (test (record { front = []; rest = octet ∷ octets })) _ holds
 cut_finds test (octet ∷ front) rest holds =
     or_right (test (record { front = []; rest = octet ∷ (front ++ rest) })) _
-    (list_any-map test (further octet) (cuts (front ++ rest)) ∙ cut_finds (λ cut. test (further octet cut)) front rest holds)
+    (list_any-map (further octet) test (cuts (front ++ rest)) ∙ cut_finds (λ cut. test (further octet cut)) front rest holds)
 
 -- ---- a text that begins with octets
 
@@ -42,13 +42,13 @@ begins_found : (octets : List ℕ) (test : List ℕ → Bool) (text : List ℕ) 
     → (rest : List ℕ) × (text ≡ octets ++ rest) × (test rest ≡ true)
 begins_found octets test text found =
     let cut = cut_found _ text found in
-    let parts = and_true _ _ cut.2 in
+    let parts = and_parts _ _ cut.2 in
     let same : octets ≡ cut.0.front = (bytes_eq-Decides octets cut.0.front).0 parts.0 in
     (cut.0.rest, cut.1 ∙ ap (λ front. front ++ cut.0.rest) (sym same), parts.1)
 
 begins_finds : (octets : List ℕ) (test : List ℕ → Bool) (rest : List ℕ) → test rest ≡ true → begins_with octets test (octets ++ rest) ≡ true
 begins_finds octets test rest holds =
-    cut_finds _ octets rest (both_true _ _ ((bytes_eq-Decides octets octets).1 refl) holds)
+    cut_finds _ octets rest (and_from _ _ ((bytes_eq-Decides octets octets).1 refl) holds)
 
 -- ---- parts in order
 
@@ -71,13 +71,13 @@ ends_found : (middle : List (List ℕ)) (last text : List ℕ) → ends_with mid
     → (between : List ℕ) × (text ≡ between ++ last) × InOrder middle between
 ends_found middle last text found =
     let cut = cut_found _ text found in
-    let parts = and_true _ _ cut.2 in
+    let parts = and_parts _ _ cut.2 in
     let same : last ≡ cut.0.rest = (bytes_eq-Decides last cut.0.rest).0 parts.0 in
     (cut.0.front, cut.1 ∙ ap (λ rest. cut.0.front ++ rest) (sym same), order_found middle cut.0.front parts.1)
 
 ends_finds : (middle : List (List ℕ)) (last between : List ℕ) → InOrder middle between → ends_with middle last (between ++ last) ≡ true
 ends_finds middle last between order =
-    cut_finds _ between last (both_true _ _ ((bytes_eq-Decides last last).1 refl) (order_finds middle between order))
+    cut_finds _ between last (and_from _ _ ((bytes_eq-Decides last last).1 refl) (order_finds middle between order))
 
 -- ---- all parts
 
