@@ -5,6 +5,7 @@ use Rattle.std.proofs.lemmas.Bool.{cond-true}
 use Rattle.std.proofs.lemmas.Bool.Decides.{nat_tests}
 use Rattle.std.specs.Option.{option_map, option_and_then}
 use Rattle.std.specs.List.{AllByRecursion}
+use Rattle.base_laws.proofs.Theorems.{all_map, all_push}
 use Rattle.dn_names.specs.declared.error.BadName.{BadName}
 use Rattle.dn_names.specs.declared.error.BadName.TheVariants.{Part, TooMany}
 use Rattle.dn_names.specs.Names.{TypeAndValue, RdnSequence}
@@ -13,8 +14,7 @@ use Rattle.dn_names.specs.Resolving.{pair_meaning, put_pair, or_part, and_then, 
 use Rattle.dn_names.specs.GoodNames.{IsInTableOrder}
 use Rattle.dn_names.specs.GoodPlaces.{Placed, placed_from, placed_pairs, LacksKind, IsGoodPlace, IsFirstBad}
 use Rattle.dn_names.proofs.PutPairLemmas.{put_pair-less, put_pair-same, put_pair-more}
-use Rattle.dn_names.proofs.OrderedLemmas.{which_first, all_map, put_pair-all, put_pair-ordered, put_pair-parts}
-use Rattle.dn_names.proofs.GoodNameLemmas.{all_push}
+use Rattle.dn_names.proofs.OrderedLemmas.{which_first, put_pair-all, put_pair-ordered, put_pair-parts}
 
 -- no pair of these is of the type
 abbrev Lacks : ℕ → List TypeAndValue → Type 0

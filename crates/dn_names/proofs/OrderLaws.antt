@@ -6,6 +6,7 @@ use Rattle.std.specs.declared.cmp.Ordering.TheVariants.{Less, Equal, Greater}
 use Rattle.std.specs.Cmp.{IsTotalOrder, nat_cmp_is, nat_cmp_total, on_total, then_total}
 use Rattle.std.specs.Cmp.Lexicographic.{slice_cmp, lists_total, on_texts}
 use Rattle.std.proofs.lemmas.List.{map-id, take-map, take-append-drop, take_at, map-append, length-map}
+use Rattle.base_laws.proofs.Theorems.{both_equal}
 use Rattle.dn_names.specs.Names.{TypeAndValue, RdnSequence}
 use Rattle.dn_names.specs.NameOrder.{pair_cmp, rdn_cmp, name_cmp, is_same, is_prefix_of, type_and_key, types_and_keys}
 use Rattle.dn_names.proofs.OrderedLemmas.{which_first}
@@ -17,12 +18,6 @@ pair_total = then_total (on_total (λ (p : TypeAndValue). p.kind) nat_cmp_total)
 pub name_cmp_total : IsTotalOrder name_cmp
 unfolding name_cmp
 name_cmp_total = lists_total (lists_total pair_total)
-
--- what ties the whole ties both parts
-pub both_equal : (a b : Ordering) → ordering_then a b ≡ Equal → (a ≡ Equal) × (b ≡ Equal)
-both_equal Less b e = absurd cc
-both_equal Equal b e = (refl, e)
-both_equal Greater b e = absurd cc
 
 -- lists that tie are the same in what ties their elements
 pub equal_same : {A B : Type 0} (R : A → A → Ordering) (f : A → B) → ((x y : A) → R x y ≡ Equal → f x ≡ f y) → (xs ys : List A) → slice_cmp R xs ys ≡ Equal → map f xs ≡ map f ys

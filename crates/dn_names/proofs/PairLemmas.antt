@@ -5,6 +5,7 @@ use Rattle.std.specs.List.{AllByRecursion, prefix_len, take_while}
 use Rattle.std.proofs.lemmas.List.{take_at}
 use Rattle.std.proofs.lemmas.Bool.{false≢true, cond-false, cond-true}
 use Rattle.std.proofs.lemmas.Bool.Decides.{nat_tests}
+use Rattle.base_laws.proofs.Theorems.{all_append}
 use Rattle.regular_text.proofs.Theorems.{has_empty-Matches, Matches-AllByRecursion}
 use Rattle.dn_names.specs.declared.classes.Class.{Class}
 use Rattle.dn_names.specs.declared.classes.Class.TheVariants.{Dot}
@@ -77,10 +78,6 @@ pair_clean m pair text h =
 size_before : (front rest : List ℕ) → AllByRecursion (λ x. (x == 61) ≡ false) front → kind_size (front ++ 61 ∷ rest) ≡ length front
 size_before [] rest h = refl
 size_before (x ∷ front) rest h = rw h.0 (let more = size_before front rest h.1 in rw more (omega arith))
-
-all_append : (P : ℕ → Type 0) (xs ys : List ℕ) → AllByRecursion P xs → AllByRecursion P ys → AllByRecursion P (xs ++ ys)
-all_append P [] ys a b = b
-all_append P (x ∷ xs) ys a b = (a.0, all_append P xs ys a.1 b)
 
 spaces_no_equals : (text : List ℕ) → AreSpaces text → AllByRecursion (λ x. (x == 61) ≡ false) text
 spaces_no_equals [] h = tt

@@ -3,7 +3,7 @@ use Rattle.std.proofs.Common.{◌≡◌, ℕ, suc, ◌+◌, ◌<◌, Bool, true,
 use Rattle.std.specs.Prelude.{◌==◌, ◌&&◌, if◌then◌else◌, cond}
 use Rattle.std.specs.List.{position_or_len}
 use Rattle.std.proofs.lemmas.List.{drop_more}
-use Rattle.std.proofs.lemmas.Bool.{false≢true, cond-false, cond-true}
+use Rattle.std.proofs.lemmas.Bool.{false≢true, cond-false, cond-true, and_parts, and_from, not-true}
 use Rattle.std.proofs.lemmas.Bool.Decides.{nat_tests}
 use Rattle.dn_names.specs.Spelling.{IsJoined}
 use Rattle.dn_names.specs.Reading.{is_mark, escapes_next, put_front, parts_from, mark_from, marks_from}
@@ -13,32 +13,20 @@ abbrev pub is_clean : ℕ → Bool → List ℕ → Bool
 is_clean mark escaped [] = not escaped
 is_clean mark escaped (x ∷ xs) = not (is_mark mark escaped x) && is_clean mark (escapes_next escaped x) xs
 
-pub and_parts : (a b : Bool) → (a && b) ≡ true → (a ≡ true) × (b ≡ true)
-and_parts true b e = (refl, e)
-and_parts false b e = absurd (false≢true e)
-
-pub and_both : (a b : Bool) → a ≡ true → b ≡ true → (a && b) ≡ true
-and_both true b e f = f
-and_both false b e f = absurd (false≢true e)
-
-not_true : (b : Bool) → not b ≡ true → b ≡ false
-not_true true e = absurd (false≢true e)
-not_true false e = refl
-
 -- clean texts in a row are a clean text
 pub is_clean-append : (mark : ℕ) (escaped : Bool) (xs ys : List ℕ) → is_clean mark escaped xs ≡ true → is_clean mark false ys ≡ true → is_clean mark escaped (xs ++ ys) ≡ true
 is_clean-append mark false [] ys e f = f
 is_clean-append mark true [] ys e f = absurd (false≢true e)
 is_clean-append mark escaped (x ∷ xs) ys e f =
     let both = and_parts (not (is_mark mark escaped x)) (is_clean mark (escapes_next escaped x) xs) e in
-    and_both (not (is_mark mark escaped x)) (is_clean mark (escapes_next escaped x) (xs ++ ys)) both.0 (is_clean-append mark (escapes_next escaped x) xs ys both.1 f)
+    and_from (not (is_mark mark escaped x)) (is_clean mark (escapes_next escaped x) (xs ++ ys)) both.0 (is_clean-append mark (escapes_next escaped x) xs ys both.1 f)
 
 -- a clean text is one part
 pub parts_from-clean : (mark : ℕ) (escaped : Bool) (text : List ℕ) → is_clean mark escaped text ≡ true → parts_from mark escaped text ≡ text ∷ []
 parts_from-clean mark escaped [] e = refl
 parts_from-clean mark escaped (x ∷ xs) e =
     let both = and_parts (not (is_mark mark escaped x)) (is_clean mark (escapes_next escaped x) xs) e in
-    cond-false (is_mark mark escaped x) ([] ∷ parts_from mark false xs) (put_front x (parts_from mark (escapes_next escaped x) xs)) (not_true (is_mark mark escaped x) both.0)
+    cond-false (is_mark mark escaped x) ([] ∷ parts_from mark false xs) (put_front x (parts_from mark (escapes_next escaped x) xs)) (not-true (is_mark mark escaped x) both.0)
     ∙ ap (put_front x) (parts_from-clean mark (escapes_next escaped x) xs both.1)
 
 same_octet : (mark : ℕ) → (mark == mark) ≡ true
@@ -51,7 +39,7 @@ parts_from-append mark false [] rest e =
     cond-true (mark == mark) ([] ∷ parts_from mark false rest) (put_front mark (parts_from mark (escapes_next false mark) rest)) (same_octet mark)
 parts_from-append mark escaped (x ∷ xs) rest e =
     let both = and_parts (not (is_mark mark escaped x)) (is_clean mark (escapes_next escaped x) xs) e in
-    cond-false (is_mark mark escaped x) ([] ∷ parts_from mark false (xs ++ mark ∷ rest)) (put_front x (parts_from mark (escapes_next escaped x) (xs ++ mark ∷ rest))) (not_true (is_mark mark escaped x) both.0)
+    cond-false (is_mark mark escaped x) ([] ∷ parts_from mark false (xs ++ mark ∷ rest)) (put_front x (parts_from mark (escapes_next escaped x) (xs ++ mark ∷ rest))) (not-true (is_mark mark escaped x) both.0)
     ∙ ap (put_front x) (parts_from-append mark (escapes_next escaped x) xs rest both.1)
 
 -- joined texts are taken apart, where each is clean

@@ -8,10 +8,11 @@ use Rattle.std.specs.Cmp.{nat_cmp_is}
 use Rattle.std.specs.Cmp.Lexicographic.{slice_cmp}
 use Rattle.std.proofs.lemmas.List.{map-id, take-append-drop}
 use Rattle.std.proofs.lemmas.Grind.{flat_map-append}
+use Rattle.base_laws.proofs.Theorems.{both_equal}
 use Rattle.dn_names.specs.Names.{TypeAndValue, RdnSequence}
 use Rattle.dn_names.specs.NameOrder.{pair_cmp, rdn_cmp, name_cmp, is_same, is_prefix_of}
 use Rattle.dn_names.specs.PathKeys.{escape, pair_part, rdn_part, path_key}
-use Rattle.dn_names.proofs.OrderLaws.{both_equal, equal_same, nat_equal}
+use Rattle.dn_names.proofs.OrderLaws.{equal_same, nat_equal}
 
 -- parts that end by themselves: what stands behind them counts only where they tie
 abbrev Embeds : {A : Type 0} → (A → A → Ordering) → (A → List ℕ) → Type 0

@@ -5,7 +5,7 @@ use Rattle.std.specs.List.{AllByRecursion, list_all}
 use Rattle.std.specs.Option.{option_map_or}
 use Rattle.std.specs.Str.{is_utf8}
 use Rattle.std.proofs.lemmas.List.{append-nil}
-use Rattle.std.proofs.lemmas.Bool.{cond-false}
+use Rattle.std.proofs.lemmas.Bool.{cond-false, and_parts}
 use Rattle.std.proofs.lemmas.Bool.Decides.{nat_tests}
 use Rattle.std.proofs.lemmas.Str.{IsUtf8-append, IsUtf8-nil, IsUtf8-from_ascii, IsUtf8-from_is_utf8, encode_ascii}
 use Rattle.std.proofs.lemmas.Str.Ascii.{IsAscii-nil, IsAscii-cons}
@@ -15,7 +15,6 @@ use Rattle.dn_names.specs.declared.printing.Shown.TheVariants.{Octets}
 use Rattle.dn_names.specs.Classes.{class_of}
 use Rattle.dn_names.specs.Names.{TypeAndValue, RdnSequence, IsTextRdn, IsTextName}
 use Rattle.dn_names.specs.Printing.{is_escaped, print_octet, is_empty, print_from, print_value, join_from, print_pair, print_rdn, shown_of, print_by, print_name}
-use Rattle.dn_names.proofs.PartsLemmas.{and_parts}
 use Rattle.dn_names.proofs.NamingTextLemmas.{row_passes, ascii_all, below}
 
 all_cond : (b : Bool) (xs ys : List ℕ) → AllByRecursion (λ x. 128 ≤ x) xs → AllByRecursion (λ x. 128 ≤ x) ys → AllByRecursion (λ x. 128 ≤ x) (cond b xs ys)

@@ -4,10 +4,11 @@ use Rattle.std.specs.Prelude.{◌==◌, ◌&&◌, ◌||◌, nat_le, if◌then◌
 use Rattle.std.specs.Char.{is_ascii_alphabetic, is_ascii_alphanumeric}
 use Rattle.std.specs.Option.{option_map, option_map_or, option_and_then}
 use Rattle.std.specs.List.{AllByRecursion, list_all}
-use Rattle.std.proofs.lemmas.Bool.{false≢true, cond-false}
+use Rattle.std.proofs.lemmas.Bool.{false≢true, cond-false, and_parts}
 use Rattle.std.proofs.lemmas.Bool.Decides.{nat_tests}
 use Rattle.std.proofs.lemmas.List.{append-nil, length-map, length-reverse, reverse-reverse}
 use Rattle.std.proofs.lemmas.Option.{slice_get_within}
+use Rattle.base_laws.proofs.Theorems.{all_push}
 use Rattle.regular_text.specs.Grammar.{Matches}
 use Rattle.regular_text.specs.Grammar.Grammar.{One, Many}
 use Rattle.schema_core.specs.Attributes.{Attribute, attributes, attribute_at, name_of, is_naming, syntax_of, IsAttrId}
@@ -23,9 +24,8 @@ use Rattle.dn_names.specs.Resolving.{naming_value, pair_meaning, put_pair, add_p
 use Rattle.dn_names.specs.NameText.{NameText}
 use Rattle.dn_names.specs.Printing.{print_value, join_from, print_pair, print_rdn, shown_of, print_by, print_name}
 use Rattle.dn_names.specs.GoodNames.{IsGoodPair, IsInTableOrder, IsGoodRdn, IsGoodName}
-use Rattle.dn_names.proofs.PartsLemmas.{and_parts}
 use Rattle.dn_names.proofs.OrderedLemmas.{put_pair-last}
-use Rattle.dn_names.proofs.GoodNameLemmas.{all_reverse, all_push}
+use Rattle.dn_names.proofs.GoodNameLemmas.{all_reverse}
 use Rattle.dn_names.proofs.ResolveLemmas.{rdn_from-add}
 use Rattle.dn_names.proofs.PrintedLemmas.{value_printed}
 
