@@ -3,10 +3,11 @@ use Rattle.std.proofs.Common.{◌≡◌, ℕ, zero, suc, ◌+◌, ◌<◌, nat_l
 use Rattle.std.specs.List.{AllByRecursion, list_any}
 use Rattle.std.specs.Str.{bytes_eq}
 use Rattle.std.proofs.lemmas.Bool.Decides.{nat_tests}
+use Rattle.std.proofs.lemmas.Bool.{or_left, or_right}
 use Rattle.dn_names.specs.Names.{Keyed}
 use Rattle.value_lists.specs.Orders.{key_at, place_after, IsOrder}
 use Rattle.value_lists.proofs.OrderLemmas.{AreInOrder-filter}
-use Rattle.value_lists.proofs.PlaceLemmas.{or_cases, or_first, or_second}
+use Rattle.value_lists.proofs.PlaceLemmas.{or_cases}
 
 -- one value less
 length-without : (values : List Keyed) (place : ℕ) → place < length values → suc (length (remove values place)) ≡ length values
@@ -67,8 +68,8 @@ any-without place other wanted (next ∷ places) apart is e =
     (place == next)
     (λ same. or_cases (other == next) (list_any (λ next. other == next) places) e (λ here. absurd (grind (arith, nat_tests))) rest)
     (λ differs. or_cases (other == next) (list_any (λ next. other == next) places) e
-    (λ here. or_first (wanted == place_after place next) (list_any (λ next. wanted == next) left) (grind (arith, nat_tests)))
-    (λ later. or_second (wanted == place_after place next) (list_any (λ next. wanted == next) left) (rest later)))
+    (λ here. or_left (wanted == place_after place next) (list_any (λ next. wanted == next) left) (grind (arith, nat_tests)))
+    (λ later. or_right (wanted == place_after place next) (list_any (λ next. wanted == next) left) (rest later)))
 
 -- the places after, without the one, are those of the values that are left
 pub IsOrder-without : (values : List Keyed) (places : List ℕ) (place : ℕ) → place < length values → IsOrder values places → IsOrder (remove values place) (map (place_after place) (other_places place places))
