@@ -1,6 +1,7 @@
 -- Weighing tuples one after the other decides as the six filters do.
 use Rattle.std.proofs.Common.{◌≡◌, ℕ, ◌≤◌, Bool, ◌&&◌, List, [], ◌∷◌, refl, sym, ap, ◌∙◌, arith, map, filter}
 use Rattle.std.specs.Prelude.{fold, if◌then◌else◌}
+use Rattle.base_laws.proofs.Theorems.{filter-filter}
 use Rattle.dir_tree.specs.Numbered.{entries_of}
 use Rattle.acdf_filters.specs.declared.question.Question.{Question}
 use Rattle.acdf_filters.specs.declared.standing.Standing.{Standing}
@@ -14,7 +15,6 @@ use Rattle.acdf_filters.specs.Standings.{initial, standing}
 use Rattle.acdf_filters.specs.Tuples.{Listed}
 use Rattle.acdf_filters.specs.Users.{listed_ranks}
 use Rattle.acdf_filters.specs.Weighing.{passes, weighed, keys_of, asked_of, weighed_for, is_granted}
-use Rattle.acdf_filters.proofs.ListLemmas.{filter-filter}
 use Rattle.acdf_filters.proofs.StandingLaw.{fold-weighed}
 
 -- ranks are at most 3

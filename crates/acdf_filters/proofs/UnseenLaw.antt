@@ -5,6 +5,7 @@ use Rattle.std.specs.List.{AllByRecursion, list_any}
 use Rattle.std.specs.Option.{option_map_or}
 use Rattle.std.proofs.lemmas.Bool.{cases_Bool, both_ways, or_parts, false_from_ne_true, not-false}
 use Rattle.std.proofs.lemmas.List.{take-append-drop, map-append}
+use Rattle.base_laws.proofs.Theorems.{all_map, all_append, all_filter, none_passes, map-agree, find-filter}
 use Rattle.dn_names.specs.Names.{RdnSequence}
 use Rattle.dn_names.specs.NameOrder.{is_same, is_prefix_of, types_and_keys, type_and_key}
 use Rattle.dn_names.proofs.Theorems.{is_same-types_and_keys, is_prefix_of-types_and_keys}
@@ -24,7 +25,7 @@ use Rattle.acdf_filters.specs.Users.{has_member, is_in_group, is_in_groups, rank
 use Rattle.acdf_filters.specs.Filters.{Placed, decided}
 use Rattle.acdf_filters.specs.Granted.{placed, granted, granted_new}
 use Rattle.acdf_filters.specs.Unseen.{names_group, names_group_in, has_group, IsApart}
-use Rattle.acdf_filters.proofs.ListLemmas.{all_map, all_append, all_filter, all_flat_map, all_flat_map_of, none_pass, map-agree, list_any-agree, find-filter}
+use Rattle.acdf_filters.proofs.ListLemmas.{all_flat_map, all_flat_map_of, list_any-agree}
 
 -- a name begins with what a name that is the same begins with
 prefix_like : (top name other : RdnSequence) → is_prefix_of top other ≡ true → is_same name other ≡ true → is_prefix_of top name ≡ true
@@ -70,7 +71,7 @@ is_in_groups-without top entries name groups e =
     list_any-agree (is_in_group (without_subtree top entries) name) (is_in_group entries name) groups
     (all_map (λ group. is_prefix_of top group ≡ false) (λ group. is_in_group (without_subtree top entries) name group ≡ is_in_group entries name group)
     (λ group outside. ap (λ found. option_map_or (has_member name) found false) (named-without top group entries outside))
-    groups (none_pass (is_prefix_of top) groups e))
+    groups (none_passes (is_prefix_of top) groups e))
 
 -- so a requester is in the same classes
 ranks_of-without : (top : RdnSequence) (entries : List EntryInformation) (entry : EntryInformation) (classes : UserClasses) (name : Option RdnSequence) → list_any (is_prefix_of top) classes.groups ≡ false
@@ -132,17 +133,17 @@ NamesNone top xs = AllByRecursion (λ x. names_group top x ≡ false) xs
 prescriptive_none : (top : RdnSequence) (e : EntryInformation) → has_group top e ≡ false → NamesNone top (listed_in prescriptive_aci e)
 prescriptive_none top e h =
     let parts = or_parts (names_group_in top prescriptive_aci e) (names_group_in top entry_aci e || names_group_in top subentry_aci e) h in
-    none_pass (names_group top) (listed_in prescriptive_aci e) parts.0
+    none_passes (names_group top) (listed_in prescriptive_aci e) parts.0
 
 own_none : (top : RdnSequence) (e : EntryInformation) → has_group top e ≡ false → NamesNone top (listed_in entry_aci e)
 own_none top e h =
     let parts = or_parts (names_group_in top prescriptive_aci e) (names_group_in top entry_aci e || names_group_in top subentry_aci e) h in
-    none_pass (names_group top) (listed_in entry_aci e) (or_parts (names_group_in top entry_aci e) (names_group_in top subentry_aci e) parts.1).0
+    none_passes (names_group top) (listed_in entry_aci e) (or_parts (names_group_in top entry_aci e) (names_group_in top subentry_aci e) parts.1).0
 
 below_none : (top : RdnSequence) (e : EntryInformation) → has_group top e ≡ false → NamesNone top (listed_in subentry_aci e)
 below_none top e h =
     let parts = or_parts (names_group_in top prescriptive_aci e) (names_group_in top entry_aci e || names_group_in top subentry_aci e) h in
-    none_pass (names_group top) (listed_in subentry_aci e) (or_parts (names_group_in top entry_aci e) (names_group_in top subentry_aci e) parts.1).1
+    none_passes (names_group top) (listed_in subentry_aci e) (or_parts (names_group_in top entry_aci e) (names_group_in top subentry_aci e) parts.1).1
 
 inherited_none : (top : RdnSequence) (entries : List EntryInformation) (entry : EntryInformation) → AllByRecursion (λ e. has_group top e ≡ false) entries → NamesNone top (inherited entries entry)
 unfolding inherited
