@@ -4,7 +4,8 @@ use Rattle.std.specs.Prelude.{flat_map, IsSome}
 use Rattle.std.specs.List.{AllByRecursion}
 use Rattle.std.specs.Option.{option_map, option_map_or, option_and_then}
 use Rattle.std.proofs.lemmas.Bool.{cases_Bool}
-use Rattle.std.proofs.lemmas.List.Elements.{filter_map-append}
+use Rattle.std.proofs.lemmas.List.Elements.{filter_map-append, filter_agree}
+use Rattle.base_laws.proofs.Theorems.{filter-filter, all_append}
 use Rattle.dir_tree.specs.Entries.{EntryInformation}
 use Rattle.dir_tree.specs.Points.{is_subentry, is_access_subentry}
 use Rattle.dir_tree.specs.Numbered.{Numbered, ids_of, entries_of, entry_of, entries_at, subentry_rows, IsNumberedTree}
@@ -16,7 +17,7 @@ use Rattle.admin_scope.specs.Areas.{areas}
 use Rattle.admin_scope.specs.InForce.{subtree_of_entry, subtree_holds, reaches, in_force_at, in_force}
 use Rattle.admin_scope.specs.Walking.{walk_of}
 use Rattle.admin_scope.specs.Finding.{stands, holds_under, applying, numbers_at, subtree_at, holds_read, AreSubtrees, holds_by, applying_by, numbers_by}
-use Rattle.admin_scope.proofs.ListLemmas.{filter-filter, filter_like, flat_map-agree, all-append}
+use Rattle.admin_scope.proofs.ListLemmas.{flat_map-agree}
 use Rattle.admin_scope.proofs.WalkLemmas.{live-stands, areas-gathered}
 
 -- the entries of the numbers that pass are the entries that pass
@@ -46,7 +47,7 @@ entries_at-numbers_at rows tree entry point id e =
     ∙ entries_at-filter rows (λ subentry. holds_under point subentry entry) (ids_of (subentry_rows rows))
     ∙ ap (filter (λ subentry. holds_under point subentry entry)) (entries_at-kept is_access_subentry rows tree.distinct)
     ∙ filter-filter (λ subentry. holds_under point subentry entry) is_access_subentry (entries_of rows)
-    ∙ filter_like (λ subentry. is_access_subentry subentry && holds_under point subentry entry) (λ subentry. reaches point subentry entry)
+    ∙ filter_agree (λ subentry. is_access_subentry subentry && holds_under point subentry entry) (λ subentry. reaches point subentry entry)
     (λ subentry. and_turned (is_access_subentry subentry) (is_child point.name subentry) (subtree_holds point subentry entry)) (entries_of rows)
 
 -- under all
@@ -103,7 +104,7 @@ live-numbers_at rows entry id = by (entry_of id rows)
 
 pub live-flat_map : (rows : List Numbered) (entry : EntryInformation) (ids : List ℕ) → AllByRecursion (λ id. IsSome (entry_of id rows)) (flat_map (numbers_at rows entry) ids)
 live-flat_map rows entry [] = tt
-live-flat_map rows entry (id ∷ ids) = all-append _ _ _ (live-numbers_at rows entry id) (live-flat_map rows entry ids)
+live-flat_map rows entry (id ∷ ids) = all_append _ _ _ (live-numbers_at rows entry id) (live-flat_map rows entry ids)
 
 pub live-found : (rows : List Numbered) (entry : EntryInformation) (ids points : List ℕ) → ids ≡ flat_map (numbers_at rows entry) points → AllByRecursion (λ id. IsSome (entry_of id rows)) ids
 live-found rows entry ids points e =

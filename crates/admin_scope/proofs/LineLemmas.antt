@@ -5,12 +5,13 @@ use Rattle.std.specs.List.{AllByRecursion}
 use Rattle.std.specs.declared.cmp.Ordering.TheVariants.{Less}
 use Rattle.std.proofs.lemmas.Bool.{cases_Bool, cases_lt, le-leb, lt-leb, and_left, and_right, false_from_ne_true}
 use Rattle.std.proofs.lemmas.List.{reverse-append}
+use Rattle.std.proofs.lemmas.List.Elements.{filter_agree}
+use Rattle.base_laws.proofs.Theorems.{all_map, filter-none}
 use Rattle.dn_names.specs.Names.{RdnSequence}
 use Rattle.dn_names.specs.NameOrder.{name_cmp, is_same, is_prefix_of}
 use Rattle.dir_tree.specs.Entries.{EntryInformation}
 use Rattle.dir_tree.specs.Trees.{is_named, named_in, IsInOrder}
 use Rattle.admin_scope.specs.Areas.{line_of}
-use Rattle.admin_scope.proofs.ListLemmas.{all_from, filter_none, filter_like}
 use Rattle.admin_scope.proofs.FrontLemmas.{length-front, longer_front, length-named, front-named, named-front}
 
 -- the entries of the fronts of at most so many RDNs, the longest first
@@ -24,7 +25,7 @@ is_front_upto len name entry = is_prefix_of entry.name name && nat_le (length en
 
 -- those that come after a front are longer fronts, or none
 later_fronts : (len : ℕ) (name : RdnSequence) (x : EntryInformation) → is_prefix_of x.name name ≡ true → len ≤ length x.name → (entries : List EntryInformation) → AllByRecursion (λ later. name_cmp x.name later.name ≡ Less) entries → AllByRecursion (λ later. is_front_upto len name later ≡ false) entries
-later_fronts len name x e h entries after = all_from _ _ each entries after
+later_fronts len name x e h entries after = all_map _ _ each entries after
   where
     each : (y : EntryInformation) → name_cmp x.name y.name ≡ Less → is_front_upto len name y ≡ false
     each y less = elim (cases_Bool (is_prefix_of y.name name)) [
@@ -51,8 +52,8 @@ front_more len name (x ∷ xs) h o = by (cases_Bool (is_prefix_of x.name name)) 
         let more = le-leb (length x.name) (suc len) (omega arith) in
         let less = lt-leb (length x.name) len (omega arith) in
         let named = named-front (suc len) name x.name e is in
-        let none = filter_none (is_front_upto (suc len) name) xs (later_fronts (suc len) name x e (omega arith) xs o.0) in
-        let none_before = filter_none (is_front_upto len name) xs (later_fronts len name x e (omega arith) xs o.0) in
+        let none = filter-none (is_front_upto (suc len) name) xs (later_fronts (suc len) name x e (omega arith) xs o.0) in
+        let none_before = filter-none (is_front_upto len name) xs (later_fronts len name x e (omega arith) xs o.0) in
         rw (e, more, less, named, none, none_before) refl
 
     past : is_prefix_of x.name name ≡ true → suc len < length x.name → Later → Goal
@@ -86,7 +87,7 @@ reverse-option None = refl
 reverse-option (Some x) = refl
 
 reverse_upto : (len : ℕ) (name : RdnSequence) (entries : List EntryInformation) → len ≤ length name → IsInOrder entries → AllByRecursion (λ entry. entry.name ≢ []) entries → reverse (filter (is_front_upto len name) entries) ≡ line_up len name entries
-reverse_upto zero name entries h o filled = ap reverse (filter_none (is_front_upto 0 name) entries (all_from _ _ each entries filled))
+reverse_upto zero name entries h o filled = ap reverse (filter-none (is_front_upto 0 name) entries (all_map _ _ each entries filled))
   where
     each : (y : EntryInformation) → y.name ≢ [] → is_front_upto 0 name y ≡ false
     each y some = and_right (is_prefix_of y.name name) (nat_le (length y.name) 0) (lt-leb (length y.name) 0 (long y.name some))
@@ -103,7 +104,7 @@ reverse_upto (suc len) name entries h o filled =
 -- from the name upwards the line is that of its fronts
 pub reverse-line_of : (name : RdnSequence) (entries : List EntryInformation) → IsInOrder entries → AllByRecursion (λ entry. entry.name ≢ []) entries → reverse (line_of name entries) ≡ line_up (length name) name entries
 reverse-line_of name entries o filled =
-    ap reverse (filter_like (λ entry. is_prefix_of entry.name name) (is_front_upto (length name) name) each entries)
+    ap reverse (filter_agree (λ entry. is_prefix_of entry.name name) (is_front_upto (length name) name) each entries)
     ∙ reverse_upto (length name) name entries (omega arith) o filled
   where
     each : (y : EntryInformation) → is_prefix_of y.name name ≡ is_front_upto (length name) name y

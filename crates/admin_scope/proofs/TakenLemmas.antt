@@ -2,7 +2,8 @@
 use Rattle.std.proofs.Common.{◌≡◌, Bool, true, false, not, ◌&&◌, List, [], ◌∷◌, ◌++◌, refl, ap, sym, ◌∙◌, filter, reverse, if◌then◌else◌}
 use Rattle.std.specs.Prelude.{unwrap_or, flat_map}
 use Rattle.std.proofs.lemmas.Bool.{false_from_ne_true, not-false}
-use Rattle.std.proofs.lemmas.List.Elements.{filter-append}
+use Rattle.std.proofs.lemmas.List.Elements.{filter-append, filter_agree}
+use Rattle.base_laws.proofs.Theorems.{all_true, filter-filter_kept, filter-filter}
 use Rattle.dn_names.specs.Names.{RdnSequence}
 use Rattle.dn_names.specs.NameOrder.{is_same, is_prefix_of}
 use Rattle.dn_names.proofs.Theorems.{is_same-types_and_keys, is_prefix_of-types_and_keys}
@@ -12,7 +13,7 @@ use Rattle.dir_tree.specs.Points.{is_subentry}
 use Rattle.dir_tree.specs.Scopes.{is_within}
 use Rattle.admin_scope.specs.Areas.{line_of, is_access_point, to_specific, areas}
 use Rattle.admin_scope.specs.InForce.{reaches, in_force_at, in_force}
-use Rattle.admin_scope.proofs.ListLemmas.{all_true, filter-filter, filter-filter_kept, filter_like, flat_map-agree}
+use Rattle.admin_scope.proofs.ListLemmas.{flat_map-agree}
 
 -- two filters come in either order
 and_swap : (a b : Bool) → (a && b) ≡ (b && a)
@@ -23,7 +24,7 @@ and_swap false false = refl
 
 filter-swap : {A : Type 0} (p q : A → Bool) (xs : List A) → filter p (filter q xs) ≡ filter q (filter p xs)
 filter-swap p q xs =
-    filter-filter p q xs ∙ filter_like (λ x. q x && p x) (λ x. p x && q x) (λ x. and_swap (q x) (p x)) xs ∙ sym (filter-filter q p xs)
+    filter-filter p q xs ∙ filter_agree (λ x. q x && p x) (λ x. p x && q x) (λ x. and_swap (q x) (p x)) xs ∙ sym (filter-filter q p xs)
 
 -- a filter of many lists
 filter-flat_map : {A B : Type 0} (p : B → Bool) (f : A → List B) (xs : List A) → filter p (flat_map f xs) ≡ flat_map (λ x. filter p (f x)) xs

@@ -2,6 +2,7 @@
 use Rattle.std.proofs.Common.{◌≡◌, Bool, true, false, not, ◌&&◌, List, [], ap, sym, ◌∙◌, filter, reverse, if◌then◌else◌}
 use Rattle.std.specs.Prelude.{unwrap_or, flat_map}
 use Rattle.std.proofs.lemmas.Bool.{false_from_ne_true, not-false}
+use Rattle.base_laws.proofs.Theorems.{all_true, all_map, none_passes, filter-filter_kept, and_middle}
 use Rattle.dn_names.specs.Names.{RdnSequence}
 use Rattle.dn_names.specs.NameOrder.{is_prefix_of}
 use Rattle.dir_tree.specs.Entries.{EntryInformation}
@@ -9,7 +10,7 @@ use Rattle.dir_tree.specs.Points.{is_subentry, is_access_subentry}
 use Rattle.dir_tree.specs.Scopes.{is_within, is_child}
 use Rattle.admin_scope.specs.Areas.{line_of, is_access_point, to_specific, areas, without_subtree, has_within}
 use Rattle.admin_scope.specs.InForce.{subtree_holds, reaches, in_force_at, in_force}
-use Rattle.admin_scope.proofs.ListLemmas.{all_true, all_from, none_passes, filter-filter_kept, flat_map-agree, and_middle}
+use Rattle.admin_scope.proofs.ListLemmas.{flat_map-agree}
 use Rattle.admin_scope.proofs.PrefixLemmas.{prefix_chain}
 
 -- no entry of a subtree stands above a name outside it
@@ -30,7 +31,7 @@ areas-without top entries entry outside =
 in_force_at-without : (top : RdnSequence) (entries : List EntryInformation) (entry point : EntryInformation) → has_within is_access_subentry top entries ≡ false → in_force_at entry point (without_subtree top entries) ≡ in_force_at entry point entries
 in_force_at-without top entries entry point none =
     filter-filter_kept (λ subentry. reaches point subentry entry) (λ other. not (is_within top other)) entries
-    (all_from _ _ apart entries (none_passes (λ other. is_within top other && is_access_subentry other) entries none))
+    (all_map _ _ apart entries (none_passes (λ other. is_within top other && is_access_subentry other) entries none))
   where
     second : (a b : Bool) → a ≡ true → (a && b) ≡ false → b ≡ false
     second true b e f = f
