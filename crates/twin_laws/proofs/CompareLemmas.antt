@@ -1,6 +1,7 @@
 -- What a compare is answered over a view without rows that show nothing: what it is answered over the view.
 use Rattle.std.proofs.Common.{◌≡◌, ℕ, false, List, [], ◌∷◌, Option, Some, None, Result, Ok, Err, refl, ap, ◌∙◌, filter}
 use Rattle.std.proofs.lemmas.Bool.{and_right}
+use Rattle.base_laws.proofs.Theorems.{filter-filter_kept}
 use Rattle.schema_core.specs.Attributes.{attr_of}
 use Rattle.dn_names.specs.Names.{Keyed, RdnSequence}
 use Rattle.dn_names.specs.declared.error.BadName.{BadName}
@@ -12,7 +13,6 @@ use Rattle.ldap_msg.specs.declared.kinds.CompareRequest.{CompareRequest}
 use Rattle.read_model.specs.Views.{Row, View, has_name}
 use Rattle.read_model.specs.CompareReplies.{readable, compared_in, compared_value, compared_kind, compared_by, compare_result}
 use Rattle.twin_laws.specs.Twins.{rows_outside}
-use Rattle.twin_laws.proofs.ListLemmas.{filter-left}
 use Rattle.twin_laws.proofs.SeenLemmas.{IsHidden, AreHidden, none_out, is_left, hidden-outside}
 
 -- what a compare is answered stays
@@ -25,7 +25,7 @@ compared_in-outside top view h name kind asserted (row ∷ rows) = refl
 readable-outside : (top : RdnSequence) (view : View) → AreHidden top view → (name : RdnSequence)
     → filter (readable name) (rows_outside top view) ≡ filter (readable name) view
 readable-outside top view h name =
-    filter-left (readable name) (is_left top) view (none_out top (readable name) view unread h)
+    filter-filter_kept (readable name) (is_left top) view (none_out top (readable name) view unread h)
   where
     unread : (row : Row) → IsHidden row → readable name row ≡ false
     unread row hides = and_right (has_name name row) (row.allows Entry Read) hides.read

@@ -5,6 +5,7 @@ use Rattle.std.specs.List.{AllByRecursion, list_any, filter_map}
 use Rattle.std.specs.Option.{option_map, option_map_or}
 use Rattle.std.proofs.lemmas.Bool.{or_parts, or_from}
 use Rattle.std.proofs.lemmas.List.Folds.{list_any-append}
+use Rattle.base_laws.proofs.Theorems.{all_filter}
 use Rattle.dn_names.specs.Names.{Keyed, RdnSequence}
 use Rattle.dn_names.specs.NameOrder.{is_prefix_of}
 use Rattle.dir_tree.specs.Entries.{EntryInformation, values_of}
@@ -16,7 +17,6 @@ use Rattle.aci_item.specs.AciTuples.{AciTuple, split_first, tuples_of_item}
 use Rattle.acdf_filters.specs.Tuples.{Listed, tagged, prescriptive_aci, entry_aci, subentry_aci, items_in, listed_by}
 use Rattle.acdf_filters.specs.Unseen as tuples
 use Rattle.twin_laws.specs.Groups.{groups_of, names_group, names_group_in, lists_group}
-use Rattle.twin_laws.proofs.ListLemmas.{all_filter}
 
 -- a tuple names no group at or below the name
 abbrev NamesNone : RdnSequence → AciTuple → Type 0

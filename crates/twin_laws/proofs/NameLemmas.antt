@@ -1,11 +1,10 @@
 -- Names at or below a name, and outside.
-use Rattle.std.proofs.Common.{◌≡◌, ◌≤◌, ◌+◌, true, false, ◌∙◌, ap, sym, length, map, nat_lt, arith, length-append}
+use Rattle.std.proofs.Common.{◌≡◌, true, false, ◌∙◌, sym, length, nat_lt, arith}
 use Rattle.std.proofs.lemmas.Bool.{false_from_ne_true, both_ways, and_parts, ltb-true}
-use Rattle.std.proofs.lemmas.List.{length-map}
 use Rattle.dn_names.specs.Names.{RdnSequence}
-use Rattle.dn_names.specs.NameOrder.{is_same, is_prefix_of, types_and_keys, type_and_key}
+use Rattle.dn_names.specs.NameOrder.{is_same, is_prefix_of}
 use Rattle.dn_names.proofs.Theorems.{is_same-types_and_keys, is_prefix_of-types_and_keys}
-use Rattle.admin_scope.proofs.Theorems.{prefix_chain}
+use Rattle.admin_scope.proofs.Theorems.{prefix_chain, length-front}
 use Rattle.dir_tree.specs.Trees.{is_below}
 
 -- a name is below what the same name is below
@@ -42,18 +41,9 @@ pub below_within : (top base name : RdnSequence) → is_prefix_of top base ≡ t
 below_within top base name e outside =
     false_from_ne_true (is_prefix_of base name) (λ f. both_ways (is_prefix_of top name) outside (prefix_chain top base name e f))
 
--- a front is no longer
-pub prefix_length : (front name : RdnSequence) → is_prefix_of front name ≡ true → length front ≤ length name
-prefix_length front name e =
-    let begins = (is_prefix_of-types_and_keys front name).0 e in
-    let size : length name ≡ length front + length begins.0 =
-    sym (length-map name (map type_and_key)) ∙ ap length begins.1 ∙ length-append (types_and_keys front) begins.0
-    ∙ ap (λ n. n + length begins.0) (length-map front (map type_and_key)) in
-    omega (arith, size)
-
 -- what is above a name is not below it
 pub above_outside : (base top : RdnSequence) → is_below base top ≡ true → is_prefix_of top base ≡ false
 above_outside base top e =
     let parts = and_parts (is_prefix_of base top) (nat_lt (length base) (length top)) e in
     let longer = ltb-true (length base) (length top) parts.1 in
-    false_from_ne_true (is_prefix_of top base) (λ f. let shorter = prefix_length top base f in omega (arith, longer, shorter))
+    false_from_ne_true (is_prefix_of top base) (λ f. let shorter = length-front top base f in omega (arith, longer, shorter))

@@ -2,6 +2,7 @@
 use Rattle.std.proofs.Common.{◌≡◌, inl, inr, ℕ, ◌==◌, Bool, true, false, ◌&&◌, List, [], ◌∷◌, Option, Result, Ok, Err, refl, sym, ap, ◌∙◌, if◌then◌else◌}
 use Rattle.std.specs.List.{list_any}
 use Rattle.std.proofs.lemmas.Bool.{cases_Bool, and_left, and_right, not-false}
+use Rattle.base_laws.proofs.Theorems.{all_map, all_filter, list_any-none, filter-none, filter-filter_kept}
 use Rattle.dn_names.specs.Names.{RdnSequence}
 use Rattle.dn_names.specs.declared.error.BadName.{BadName}
 use Rattle.dn_names.specs.NameOrder.{is_prefix_of}
@@ -20,7 +21,7 @@ use Rattle.read_model.specs.Selecting.{takes_in, is_seen, permits_of, is_selecte
 use Rattle.read_model.specs.RootEntry.{root_entry, root_replies}
 use Rattle.read_model.specs.SearchReplies.{nothing_found, found_replies, replies_at, replies_by, search_replies}
 use Rattle.twin_laws.specs.Twins.{rows_outside}
-use Rattle.twin_laws.proofs.ListLemmas.{all_from, all_filter, list_any-none, filter-none, filter-left, list_any-left}
+use Rattle.twin_laws.proofs.ListLemmas.{list_any-left}
 use Rattle.twin_laws.proofs.NameLemmas.{same_outside, same_within, below_within}
 use Rattle.twin_laws.proofs.SeenLemmas.{IsHiddenWithin, AreHidden, none_out, is_left, is_known_as, refused, matched_name-outside, discloses-outside, hidden-outside}
 
@@ -51,7 +52,7 @@ pub selected-outside : (top : RdnSequence) (view : View) → AreHidden top view
     → selected (rows_outside top view) request subentries base ≡ selected view request subentries base
 unfolding selected
 selected-outside top view h request subentries base =
-    filter-left (is_selected request subentries base) (is_left top) view
+    filter-filter_kept (is_selected request subentries base) (is_left top) view
     (none_out top (is_selected request subentries base) view
     (λ row hides. unbrowsed request subentries base row hides.browsed) h)
 
@@ -81,7 +82,7 @@ selected_none : (top : RdnSequence) (view : View) → AreHidden top view
 unfolding selected is_selected
 selected_none top view h request subentries base e =
     filter-none (is_selected request subentries base) view
-    (all_from (IsHiddenWithin top) (λ row. is_selected request subentries base row ≡ false) fails view h)
+    (all_map (IsHiddenWithin top) (λ row. is_selected request subentries base row ≡ false) fails view h)
   where
     untaken : (row : Row) → takes_in request.scope base row.entry ≡ false → is_selected request subentries base row ≡ false
     untaken row f = and_left (takes_in request.scope base row.entry) (is_shown request subentries row) f
@@ -96,7 +97,7 @@ selected_none top view h request subentries base e =
 discloses_none : (top : RdnSequence) (view : View) → AreHidden top view → (base : RdnSequence) → is_prefix_of top base ≡ true
     → discloses view base ≡ false
 discloses_none top view h base e =
-    list_any-none (is_known_as base) view (all_from (IsHiddenWithin top) (λ row. is_known_as base row ≡ false) fails view h)
+    list_any-none (is_known_as base) view (all_map (IsHiddenWithin top) (λ row. is_known_as base row ≡ false) fails view h)
   where
     fails : (row : Row) → IsHiddenWithin top row → is_known_as base row ≡ false
     fails row hides = elim (cases_Bool (is_within top row.entry)) [
@@ -147,7 +148,7 @@ replies_at-outside top view h request subentries base = elim (cases_Bool (is_pre
     there : is_prefix_of top base ≡ false → list_any (has_name base) (rows_outside top view) ≡ list_any (has_name base) view
     there e =
         list_any-left (has_name base) (is_left top) view
-        (all_from (IsHiddenWithin top) (λ row. is_left top row ≡ false → has_name base row ≡ false)
+        (all_map (IsHiddenWithin top) (λ row. is_left top row ≡ false → has_name base row ≡ false)
         (λ row hides f. same_outside top base row.entry.name e (not-false (is_within top row.entry) f)) view h)
 
     elsewhere : is_prefix_of top base ≡ false

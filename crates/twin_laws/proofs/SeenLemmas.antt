@@ -4,6 +4,7 @@ use Rattle.std.proofs.Common.{◌≡◌, inl, inr, Bool, true, false, not, ◌&&
 use Rattle.std.specs.List.{AllByRecursion}
 use Rattle.std.specs.Option.{option_map_or}
 use Rattle.std.proofs.lemmas.Bool.{and_cases, and_right, or_parts, not-false, both_ways}
+use Rattle.base_laws.proofs.Theorems.{all_map, none_passes, reverse-filter}
 use Rattle.dn_names.specs.Names.{RdnSequence}
 use Rattle.dn_names.proofs.Theorems.{all_reverse}
 use Rattle.dir_tree.specs.Trees.{is_below}
@@ -14,7 +15,7 @@ use Rattle.ldap_msg.specs.declared.operations.ResultCode.TheVariants as code
 use Rattle.ldap_msg.specs.declared.kinds.LdapResult.{LdapResult}
 use Rattle.read_model.specs.Views.{Row, View, has_name, is_disclosed, matched_name, result_of, result_with, discloses, hidden}
 use Rattle.twin_laws.specs.Twins.{is_shown, shows_within, rows_outside}
-use Rattle.twin_laws.proofs.ListLemmas.{all_from, none_passes, list_any-left, find-left, reverse-filter}
+use Rattle.twin_laws.proofs.ListLemmas.{list_any-left, find-left}
 
 -- the row may not be browsed, read or known of
 pub record IsHidden (row : Row) : Type 0 where
@@ -42,7 +43,7 @@ AreHidden top view = AllByRecursion (IsHiddenWithin top) view
 
 pub AreHidden-from_shows_within : (top : RdnSequence) (view : View) → shows_within top view ≡ false → AreHidden top view
 AreHidden-from_shows_within top view e =
-    all_from (λ row. (is_within top row.entry && is_shown row) ≡ false) (IsHiddenWithin top) hides view
+    all_map (λ row. (is_within top row.entry && is_shown row) ≡ false) (IsHiddenWithin top) hides view
     (none_passes (λ row. is_within top row.entry && is_shown row) view e)
   where
     hides : (row : Row) → (is_within top row.entry && is_shown row) ≡ false → IsHiddenWithin top row
@@ -55,7 +56,7 @@ AreHidden-from_shows_within top view e =
 pub none_out : (top : RdnSequence) (test : Row → Bool) (view : View) → ((row : Row) → IsHidden row → test row ≡ false)
     → AreHidden top view → AllByRecursion (λ row. not (is_within top row.entry) ≡ false → test row ≡ false) view
 none_out top test view f h =
-    all_from (IsHiddenWithin top) (λ row. not (is_within top row.entry) ≡ false → test row ≡ false)
+    all_map (IsHiddenWithin top) (λ row. not (is_within top row.entry) ≡ false → test row ≡ false)
     (λ row hides e. f row (hides (not-false (is_within top row.entry) e))) view h
 
 -- the rows that are left

@@ -4,10 +4,11 @@ use Rattle.std.specs.List.{AllByRecursion}
 use Rattle.std.specs.Ordering.{ordering_reverse}
 use Rattle.std.specs.declared.cmp.Ordering.TheVariants.{Less, Greater}
 use Rattle.std.proofs.lemmas.Bool.{cases_Bool, and_parts, ltb-true, not-false}
+use Rattle.base_laws.proofs.Theorems.{all_true, all_filter}
 use Rattle.dn_names.specs.Names.{RdnSequence}
 use Rattle.dn_names.specs.NameOrder.{name_cmp, is_prefix_of}
 use Rattle.dn_names.proofs.Theorems.{name_cmp_total, name_cmp-prefix}
-use Rattle.admin_scope.proofs.Theorems.{prefix_chain, in_force-without}
+use Rattle.admin_scope.proofs.Theorems.{prefix_chain, in_force-without, length-front}
 use Rattle.dir_tree.specs.Entries.{EntryInformation}
 use Rattle.dir_tree.specs.Trees.{is_named, named_in, is_below, IsTree}
 use Rattle.dir_tree.specs.Scopes.{is_within}
@@ -22,8 +23,8 @@ use Rattle.read_model.specs.Selecting.{selected}
 use Rattle.read_model.specs.SearchReplies.{replies_at, search_replies}
 use Rattle.read_model.specs.CompareReplies.{compare_result}
 use Rattle.twin_laws.specs.Twins.{is_below_suffix, rows_outside, IsUnseen, AreTwins}
-use Rattle.twin_laws.proofs.ListLemmas.{all_filter, all_any, find-left}
-use Rattle.twin_laws.proofs.NameLemmas.{same_outside, above_outside, prefix_length}
+use Rattle.twin_laws.proofs.ListLemmas.{find-left}
+use Rattle.twin_laws.proofs.NameLemmas.{same_outside, above_outside}
 use Rattle.twin_laws.proofs.ViewLemmas.{access_none, view_of-without}
 use Rattle.twin_laws.proofs.SeenLemmas.{AreHidden, AreHidden-from_shows_within, matched_name-outside, hidden-outside}
 use Rattle.twin_laws.proofs.SearchLemmas.{FirstIsLeft, hidden-within, replies_at-within, selected-outside, search_replies-outside}
@@ -125,7 +126,7 @@ named_in-without : (top name : RdnSequence) (entries : List EntryInformation) �
     → named_in name (without_subtree top entries) ≡ named_in name entries
 named_in-without top name entries outside =
     find-left (is_named name) (λ entry. not (is_within top entry)) entries
-    (all_any (λ entry. not (is_within top entry) ≡ false → is_named name entry ≡ false)
+    (all_true (λ entry. not (is_within top entry) ≡ false → is_named name entry ≡ false)
     (λ entry e. same_outside top name entry.name outside (not-false (is_within top entry) e)) entries)
 
 pub named_in-twins : (who : Requester) (one other : List EntryInformation) (top : RdnSequence) → AreTwins who one other top
@@ -151,7 +152,7 @@ none_above top first within [] sorted above = above
 none_above top first within (later ∷ rest) sorted above =
     let parts = and_parts (is_prefix_of later.name top) (nat_lt (length later.name) (length top)) above in
     let shorter = ltb-true (length later.name) (length top) parts.1 in
-    let longer = prefix_length top first.name within in
+    let longer = length-front top first.name within in
     let front = prefix_chain later.name top first.name parts.0 within in
     let before : name_cmp later.name first.name ≡ Less =
     name_cmp-prefix later.name first.name front (omega (arith, shorter, longer)) in

@@ -2,6 +2,7 @@
 use Rattle.std.proofs.Common.{◌≡◌, inl, inr, Bool, true, false, not, ◌&&◌, List, ap, ◌∙◌}
 use Rattle.std.specs.List.{list_any}
 use Rattle.std.proofs.lemmas.Bool.{and_cases, and_left, and_right, not-true}
+use Rattle.base_laws.proofs.Theorems.{all_map, map-agree}
 use std.Path.{fun_ext}
 use Rattle.dn_names.specs.Names.{RdnSequence}
 use Rattle.dir_tree.specs.Entries.{EntryInformation}
@@ -17,7 +18,7 @@ use Rattle.acdf_filters.proofs.Theorems.{granted-without}
 use Rattle.read_model.specs.Views.{Row, view_of}
 use Rattle.twin_laws.specs.Groups.{lists_group}
 use Rattle.twin_laws.specs.Twins.{rows_outside, IsUnseen}
-use Rattle.twin_laws.proofs.ListLemmas.{all_from, list_any-from, all_left, map-agree, filter-map}
+use Rattle.twin_laws.proofs.ListLemmas.{list_any-from, all_left, filter-map}
 use Rattle.twin_laws.proofs.GroupLemmas.{lists_group-none}
 
 -- no access control subentry, where there is no subentry
@@ -75,7 +76,7 @@ pub view_of-without : (who : Requester) (top : RdnSequence) (entries : List Entr
 view_of-without who top entries h =
     let apart = IsApart-from_IsUnseen who top entries h in
     map-agree (row_of (without_subtree top entries) who) (row_of entries who) (without_subtree top entries)
-    (all_from (λ entry. (not (is_within top entry) ≡ true) × (has_group top entry ≡ false))
+    (all_map (λ entry. (not (is_within top entry) ≡ true) × (has_group top entry ≡ false))
     (λ entry. row_of (without_subtree top entries) who entry ≡ row_of entries who entry)
     (λ entry left. row_of-without who top entries entry apart (not-true (is_within top entry) left.0) left.1)
     (without_subtree top entries) (all_left (λ entry. not (is_within top entry)) (has_group top) entries apart.groups))
