@@ -1,4 +1,3 @@
-pub mod FrontLemmas
 pub mod NearestLemmas
 pub mod CandidateLemmas
 pub mod MappedLemmas

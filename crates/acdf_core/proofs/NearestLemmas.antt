@@ -7,6 +7,7 @@ use Rattle.std.specs.declared.cmp.Ordering.TheVariants.{Less}
 use Rattle.std.proofs.lemmas.Bool.{cases_Bool, cases_eq, and_parts, and_from, and_cases, le-leb, ltb-true, lt-ltb}
 use Rattle.std.proofs.lemmas.List.{reverse-append}
 use Rattle.std.proofs.lemmas.List.Folds.{find-append}
+use Rattle.base_laws.proofs.Theorems.{all_map, all_true}
 use Rattle.dn_names.specs.Names.{RdnSequence}
 use Rattle.dn_names.specs.NameOrder.{name_cmp, is_prefix_of}
 use Rattle.dir_tree.specs.Entries.{EntryInformation}
@@ -14,11 +15,11 @@ use Rattle.dir_tree.specs.Numbered.{Numbered, entries_of, entry_of, find_name, f
 use Rattle.dir_tree.proofs.TreeTheorems.{entry_of-found}
 use Rattle.dir_tree.specs.Trees.{is_named, named_in, is_below, IsInOrder}
 use Rattle.dir_tree.specs.declared.number.EntryNo.{EntryNo}
+use Rattle.admin_scope.proofs.Theorems.{longer_front, length-named, front-named, named-front}
 use Rattle.acdf_filters.specs.declared.asking.Requester.{Requester}
 use Rattle.acdf_filters.specs.Granted.{is_disclosed, matched}
 use Rattle.acdf_core.specs.Nearest.{IsEntryOf}
 use Rattle.acdf_core.specs.Fronts.{where_passes, NonePasses}
-use Rattle.acdf_core.proofs.FrontLemmas.{longer_front, length-named, front-named, named-front}
 
 -- the last that passes
 abbrev last_passing : {A : Type 0} → (A → Bool) → List A → Option A
@@ -33,15 +34,6 @@ last_passing-none test (x ∷ xs) h =
     last_passing-later test x xs
     ∙ ap (λ o. option_or o (find test (x ∷ []))) (last_passing-none test xs h.1)
     ∙ rw h.0 refl
-
--- one fact of each, from another
-all_from : {A : Type 0} (P Q : A → Type 0) → ((x : A) → P x → Q x) → (xs : List A) → AllByRecursion P xs → AllByRecursion Q xs
-all_from P Q f [] h = tt
-all_from P Q f (x ∷ xs) h = (f x h.0, all_from P Q f xs h.1)
-
-all_true : {A : Type 0} (P : A → Type 0) → ((x : A) → P x) → (xs : List A) → AllByRecursion P xs
-all_true P f [] = tt
-all_true P f (x ∷ xs) = (f x, all_true P f xs)
 
 -- the entry stands above the name, and passes
 abbrev passes_above : (EntryInformation → Bool) → RdnSequence → EntryInformation → Bool
@@ -70,7 +62,7 @@ none_above test name y h = elim (cases_Bool (is_below y.name name)) [
 none-ended : (test : EntryInformation → Bool) (name : RdnSequence) (entries : List EntryInformation) → NonePasses test 0 name entries → last_passing (passes_above test name) entries ≡ None
 none-ended test name entries h =
     last_passing-none (passes_above test name) entries
-    (all_from (λ y. is_below y.name name ≡ true → 0 ≤ length y.name → test y ≡ false) (λ y. passes_above test name y ≡ false)
+    (all_map (λ y. is_below y.name name ≡ true → 0 ≤ length y.name → test y ≡ false) (λ y. passes_above test name y ≡ false)
     (λ y hidden. none_above test name y (λ below. hidden below (omega arith))) entries h)
 
 -- an entry of so many RDNs at least, or of one more
