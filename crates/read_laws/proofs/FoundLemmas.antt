@@ -1,15 +1,7 @@
 -- What is found in a list, seen among the rows that are made of it.
-use Rattle.std.proofs.Common.{◌≡◌, inl, inr, Bool, true, List, [], ◌∷◌, Some, refl, sym, ap, ◌∙◌, map, find}
+use Rattle.std.proofs.Common.{◌≡◌, inl, inr, Bool, true, List, [], ◌∷◌, Some, refl, ap, ◌∙◌, map, find}
 use Rattle.std.specs.List.{list_any}
 use Rattle.std.proofs.lemmas.Bool.{cases_Bool}
-
--- what is found passes
-pub find-passes : {A : Type 0} (p : A → Bool) (xs : List A) (y : A) → find p xs ≡ Some y → p y ≡ true
-find-passes p [] y e = absurd cc
-find-passes p (x ∷ xs) y e = elim (cases_Bool (p x)) [
-  | inl g ↦ (let is : Some x ≡ Some y = rw g at e in let same : x ≡ y = cc in ap p (sym same) ∙ g)
-  | inr g ↦ find-passes p xs y (rw g at e)
-]
 
 -- what is found is one of the list: where its row passes a test, a row does
 pub any-found : {A B : Type 0} (p : A → Bool) (f : A → B) (q : B → Bool) (y : A) → q (f y) ≡ true → (xs : List A)

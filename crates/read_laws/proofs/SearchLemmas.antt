@@ -3,6 +3,7 @@ use Rattle.std.proofs.Common.{◌≡◌, ◌≢◌, ◌⊎◌, inl, inr, ℕ, �
 use Rattle.std.specs.Prelude.{nat_lt}
 use Rattle.std.specs.List.{AllByRecursion, list_any}
 use Rattle.std.proofs.lemmas.Bool.{cases_Bool}
+use Rattle.base_laws.proofs.Theorems.{find-passes}
 use Rattle.dn_names.specs.Names.{RdnSequence}
 use Rattle.dir_tree.specs.Entries.{EntryInformation}
 use Rattle.dir_tree.specs.Trees.{is_named, named_in}
@@ -20,7 +21,7 @@ use Rattle.read_model.specs.Selecting.{selected}
 use Rattle.read_model.specs.Choosing.{sent_entry}
 use Rattle.read_model.specs.SearchReplies.{within_limit, limit_code, found_replies, replies_at, replies_by, search_replies}
 use Rattle.read_laws.specs.Complete.{HasKnownBase, is_entry, EndsWith}
-use Rattle.read_laws.proofs.FoundLemmas.{find-passes, any-found}
+use Rattle.read_laws.proofs.FoundLemmas.{any-found}
 
 -- a search that succeeds, or sends as many entries as its limit lets it
 abbrev pub Succeeds : List Reply → Type 0
