@@ -1,6 +1,7 @@
 -- Leaving out a subtree changes no bind with a name outside it.
-use Rattle.std.proofs.Common.{◌≡◌, inl, inr, ℕ, ◌==◌, Bool, false, not, List, [], ◌∷◌, Option, Result, Ok, Err, IfOk, true, refl, ap, ◌∙◌, filter, find, if◌then◌else◌}
-use Rattle.std.proofs.lemmas.Bool.{cases_Bool, both_ways, false_from_ne_true, not-false}
+use Rattle.std.proofs.Common.{◌≡◌, ℕ, ◌==◌, false, not, List, [], ◌∷◌, Option, Result, Ok, Err, IfOk, true, refl, ap, ◌∙◌, if◌then◌else◌}
+use Rattle.std.proofs.lemmas.Bool.{both_ways, false_from_ne_true, not-false}
+use Rattle.base_laws.proofs.Theorems.{find-filter}
 use Rattle.dn_names.specs.Names.{RdnSequence}
 use Rattle.dn_names.specs.declared.error.BadName.{BadName}
 use Rattle.dn_names.specs.NameOrder.{is_same, is_prefix_of}
@@ -16,14 +17,6 @@ use Rattle.ldap_msg.specs.declared.kinds.Auth.TheVariants.{Simple, Other}
 use Rattle.ldap_msg.specs.declared.kinds.BindRequest.{BindRequest}
 use Rattle.op_bind.specs.declared.binds.Bound.{Bound}
 use Rattle.op_bind.specs.Binds.{ended, bound_found, bound_named, bound_text, bound_auth, bind_answer}
-
--- what is found where nothing that passes was left out
-find-filter : {A : Type 0} (p q : A → Bool) → ((x : A) → q x ≡ false → p x ≡ false) → (xs : List A) → find p (filter q xs) ≡ find p xs
-find-filter p q h [] = refl
-find-filter p q h (x ∷ xs) = elim (cases_Bool (q x)) [
-  | inl e ↦ rw (e, find-filter p q h xs) refl
-  | inr e ↦ (let out = h x e in rw (e, out) (find-filter p q h xs))
-]
 
 -- a name begins with what a name that is the same begins with
 prefix_like : (top name other : RdnSequence) → is_prefix_of top other ≡ true → is_same name other ≡ true → is_prefix_of top name ≡ true
