@@ -1,12 +1,14 @@
 -- What is seen of a numbered tree, by the names of its entries.
-use Rattle.std.proofs.Common.{◌≡◌, inl, inr, ℕ, Bool, true, false, ◌&&◌, ◌||◌, List, [], ◌∷◌, Option, Some, None, refl, sym, ap, subst, ◌∙◌, map, find, Ordering}
+use Rattle.std.proofs.Common.{◌≡◌, inl, inr, ℕ, Bool, true, false, ◌&&◌, List, [], ◌∷◌, Option, Some, None, refl, sym, ap, subst, ◌∙◌, map, find}
 use Rattle.std.specs.Prelude.{reverse}
 use Rattle.std.specs.List.{AllByRecursion, list_any}
 use Rattle.std.specs.Option.{option_map, option_map_or, option_and_then}
 use Rattle.std.specs.Ordering.{is_eq}
-use Rattle.std.specs.declared.cmp.Ordering.TheVariants.{Less, Equal, Greater}
+use Rattle.std.specs.declared.cmp.Ordering.TheVariants.{Less}
 use Rattle.std.proofs.lemmas.Bool.{cases_Bool, eq-eqb}
+use Rattle.std.proofs.Math.Bool.{or-false}
 use mathlib.Core.List.{reverse_aux}
+use Rattle.base_laws.proofs.Theorems.{is_equal, find-map, list_any-map}
 use Rattle.dn_names.specs.Names.{RdnSequence}
 use Rattle.dn_names.specs.NameOrder.{name_cmp, is_same}
 use Rattle.dn_names.specs.Printing.{print_name, print_by}
@@ -30,13 +32,6 @@ use Rattle.op_asking.specs.Nearest.{nearest_name, without_object}
 
 -- ---- lists of what is seen of other lists
 
-find-map : {A B : Type 0} (f : A → B) (p : B → Bool) (xs : List A) → find p (map f xs) ≡ option_map f (find (λ x. p (f x)) xs)
-find-map f p [] = refl
-find-map f p (x ∷ xs) = elim (cases_Bool (p (f x))) [
-  | inl e ↦ rw e refl
-  | inr e ↦ rw e (find-map f p xs)
-]
-
 reverse_aux-map : {A B : Type 0} (f : A → B) (xs ys : List A) → reverse_aux (map f xs) (map f ys) ≡ map f (reverse_aux xs ys)
 reverse_aux-map f [] ys = refl
 reverse_aux-map f (x ∷ xs) ys = reverse_aux-map f xs (x ∷ ys)
@@ -44,16 +39,7 @@ reverse_aux-map f (x ∷ xs) ys = reverse_aux-map f xs (x ∷ ys)
 reverse-map : {A B : Type 0} (f : A → B) (xs : List A) → reverse (map f xs) ≡ map f (reverse xs)
 reverse-map f xs = reverse_aux-map f xs []
 
-list_any-map : {A B : Type 0} (f : A → B) (p : B → Bool) (xs : List A) → list_any p (map f xs) ≡ list_any (λ x. p (f x)) xs
-list_any-map f p [] = refl
-list_any-map f p (x ∷ xs) = ap (λ b. p (f x) || b) (list_any-map f p xs)
-
 -- ---- the one entry of a name
-
-is_equal : (o : Ordering) → is_eq o ≡ true → o ≡ Equal
-is_equal Less e = absurd cc
-is_equal Equal e = refl
-is_equal Greater e = absurd cc
 
 -- what comes later than an entry of the name has another
 later-other : (name : RdnSequence) (first later : EntryInformation) → is_named name first ≡ true → name_cmp first.name later.name ≡ Less → is_named name later ≡ false
@@ -63,10 +49,6 @@ later-other name first later e h = ap is_eq (name_cmp_total.congr name first.nam
 none-later : (test : EntryInformation → Bool) (name : RdnSequence) (first : EntryInformation) → is_named name first ≡ true → (rest : List EntryInformation) → AllByRecursion (λ later. name_cmp first.name later.name ≡ Less) rest → list_any (λ entry. is_named name entry && test entry) rest ≡ false
 none-later test name first e [] h = refl
 none-later test name first e (x ∷ rest) h = rw (later-other name first x e h.0) (none-later test name first e rest h.1)
-
-or-false : (b : Bool) → (b || false) ≡ b
-or-false true = refl
-or-false false = refl
 
 -- whether an entry of the name passes a test: the one that is found
 any-named : (test : EntryInformation → Bool) (name : RdnSequence) (entries : List EntryInformation) → IsInOrder entries → list_any (λ entry. is_named name entry && test entry) entries ≡ option_map_or test (named_in name entries) false
