@@ -7,8 +7,8 @@ use Rattle.std.proofs.lemmas.Bool.Decides.{nat_tests}
 use Rattle.std.proofs.lemmas.List.Elements.{All-head, All-tail, All-weaker}
 use Rattle.std.proofs.lemmas.List.Sums.{AllPass-from_list_all, list_all-from_AllPass}
 use Rattle.std.proofs.lemmas.List.Splits.{slice_split_none, slice_split_at, join_with_byte-slice_split}
+use Rattle.std.proofs.lemmas.Bool.{and_parts}
 use Rattle.schema_core.specs.Oid.{IsNumber, IsDottedOid, is_number, is_dotted_oid, parts}
-use Rattle.schema_core.proofs.NamingLemmas.{and_true}
 
 -- a digit is what the test of digits passes
 digit_passes : (c : ℕ) → IsAsciiDigit c → is_ascii_digit c ≡ true
@@ -42,11 +42,11 @@ number_passes digits number =
 -- what passes the test of numbers is a number
 passes_number : (digits : List ℕ) → is_number digits ≡ true → IsNumber digits
 passes_number digits passes =
-    let front = (and_true _ _ passes).0 in
+    let front = (and_parts _ _ passes).0 in
     record {
-      some = passes_some (length digits) (and_true _ _ front).0;
-      all = All-weaker _ _ passes_digit digits (AllPass-from_list_all is_ascii_digit digits (and_true _ _ front).1);
-      no_leading_zero = alone_zero (length digits) (slice_index digits 0) (and_true _ _ passes).1;
+      some = passes_some (length digits) (and_parts _ _ front).0;
+      all = All-weaker _ _ passes_digit digits (AllPass-from_list_all is_ascii_digit digits (and_parts _ _ front).1);
+      no_leading_zero = alone_zero (length digits) (slice_index digits 0) (and_parts _ _ passes).1;
     }
 
 -- no digit is a dot
@@ -87,8 +87,8 @@ is_dotted_oid-from text dotted =
 pub IsDottedOid-from : (text : List ℕ) → is_dotted_oid text ≡ true → IsDottedOid text
 unfolding is_dotted_oid
 IsDottedOid-from text passes =
-    let two = (and_true _ _ passes).0 in
-    let every = (and_true _ _ passes).1 in (
+    let two = (and_parts _ _ passes).0 in
+    let every = (and_parts _ _ passes).1 in (
       parts text,
       pass_two (length (parts text)) two,
       All-weaker _ _ passes_number (parts text) (AllPass-from_list_all is_number (parts text) every),

@@ -3,10 +3,11 @@ use Rattle.std.proofs.Common.{◌≡◌, ℕ, zero, suc, ◌+◌, ◌<◌, Bool,
 use Rattle.std.proofs.lemmas.List.Quantifiers.{position-Some}
 use Rattle.std.proofs.lemmas.Option.{slice_get-map, slice_get_cases, slice_get_within}
 use Rattle.std.proofs.lemmas.Bool.Decides.{nat_tests}
+use Rattle.std.proofs.lemmas.Bool.{and_parts}
 use Rattle.std.specs.List.{position_or_len, list_any}
 use Rattle.schema_core.specs.Naming.{Named, are_alike, are_distinct}
 use Rattle.schema_core.proofs.TableLemmas.{position_within}
-use Rattle.schema_core.proofs.NamingLemmas.{names_row, alike, list_any_get, and_true}
+use Rattle.schema_core.proofs.NamingLemmas.{names_row, alike, list_any_get}
 
 -- a row that a later one is like is not among distinct rows
 no_later :
@@ -19,7 +20,7 @@ no_later named text row rows n x distinct there names_it names_this =
     let like : list_any (are_alike (named row)) (map named rows) ≡ true =
     list_any_get (are_alike (named row)) (map named rows) n (named x) there'
     (alike (named row) (named x) text names_this names_it) in
-    let none : not (list_any (are_alike (named row)) (map named rows)) ≡ true = (and_true _ _ distinct).0 in
+    let none : not (list_any (are_alike (named row)) (map named rows)) ≡ true = (and_parts _ _ distinct).0 in
     let never : not true ≡ true = ap not (sym like) ∙ none in
     cc
 
@@ -34,7 +35,7 @@ prefix_at named text (row ∷ rows) zero x distinct there names_it =
     let hit : names_row text (named row) ≡ true = ap (λ r. names_row text (named r)) same ∙ names_it in
     ap (λ b. cond (not b) (1 + position_or_len (λ row. names_row text (named row)) rows) 0) hit
 prefix_at named text (row ∷ rows) (suc n) x distinct there names_it =
-    let rest = prefix_at named text rows n x (and_true _ _ distinct).1 there names_it in
+    let rest = prefix_at named text rows n x (and_parts _ _ distinct).1 there names_it in
     passed (names_row text (named row)) refl rest
   where
     passed : (b : Bool) → names_row text (named row) ≡ b

@@ -2,8 +2,8 @@
 use Rattle.std.proofs.Common.{◌≡◌, ℕ, zero, suc, ◌+◌, ◌<◌, Bool, true, ◌&&◌, List, [], ◌∷◌, slice_get, Option, Some, None, nat_lt, refl, arith}
 use Rattle.std.specs.Option.{option_map_or, option_and_then}
 use Rattle.std.proofs.lemmas.Bool.Decides.{nat_tests}
+use Rattle.std.proofs.lemmas.Bool.{and_parts}
 use Rattle.schema_core.specs.Classes.{Class, classes, class_of, superior_of}
-use Rattle.schema_core.proofs.NamingLemmas.{and_true}
 
 -- from a place on, each row's superior stands before the row
 superiors_stand_before : ℕ → List Class → Bool
@@ -41,10 +41,10 @@ unfolding superiors_stand_before
 superior_before place [] n superior order is = cc
 superior_before place (row ∷ rows) zero superior order is =
     below_here superior place
-    (one_before (class_of row.superior) superior place (and_true _ _ order).0 is)
+    (one_before (class_of row.superior) superior place (and_parts _ _ order).0 is)
 superior_before place (row ∷ rows) (suc n) superior order is =
     below_next superior place n
-    (superior_before (place + 1) rows n superior (and_true _ _ order).1 is)
+    (superior_before (place + 1) rows n superior (and_parts _ _ order).1 is)
 
 pub superior_of_below : (number superior : ℕ) → superior_of number ≡ Some superior → superior < number
 superior_of_below number superior is =

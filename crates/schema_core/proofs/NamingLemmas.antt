@@ -1,19 +1,10 @@
 -- A text names at most one of the rows that are distinct.
-use Rattle.std.proofs.Common.{◌≡◌, ℕ, zero, suc, Bool, true, false, ◌&&◌, ◌||◌, List, [], ◌∷◌, slice_get, Some, refl, ap, sym, ◌∙◌, inl, inr}
-use Rattle.std.proofs.lemmas.Bool.{or_cases}
+use Rattle.std.proofs.Common.{◌≡◌, ℕ, zero, suc, Bool, true, List, [], ◌∷◌, slice_get, Some, ap, sym, ◌∙◌, inl, inr}
+use Rattle.std.proofs.lemmas.Bool.{or_cases, and_parts, or_left, or_right}
 use Rattle.std.proofs.lemmas.Slice.Eq.{bytes_eq-Decides}
 use Rattle.std.specs.List.{list_any, list_all}
 use Rattle.std.specs.Str.{bytes_eq, str_to_ascii_lowercase as lower}
 use Rattle.schema_core.specs.Naming.{Named, is_same_name, is_named, are_alike}
-
--- either side of a choice that is true makes it true
-pub or_left : (x y : Bool) → x ≡ true → (x || y) ≡ true
-or_left true y h = refl
-or_left false y h = cc
-
-pub or_right : (x y : Bool) → y ≡ true → (x || y) ≡ true
-or_right true y h = refl
-or_right false y h = h
 
 -- the name is the text but for case, as an equation
 pub same_name : (name text : List ℕ) → is_same_name name text ≡ true → lower name ≡ lower text
@@ -82,16 +73,11 @@ list_any_get p (y ∷ ys) zero x there passes =
     let same : y ≡ x = cc in or_left _ _ (ap p same ∙ passes)
 list_any_get p (y ∷ ys) (suc n) x there passes = or_right _ _ (list_any_get p ys n x there passes)
 
--- both sides of a conjunction that is true are true
-pub and_true : (x y : Bool) → (x && y) ≡ true → (x ≡ true) × (y ≡ true)
-and_true true y both = (refl, both)
-and_true false y both = cc
-
 -- each element of a list that passes as a whole passes
 pub list_all_get :
     {X : Type 0} (p : X → Bool) (xs : List X) (n : ℕ) (x : X)
     → list_all p xs ≡ true → slice_get xs n ≡ Some x → p x ≡ true
 list_all_get p [] n x every there = cc
 list_all_get p (y ∷ ys) zero x every there =
-    let same : y ≡ x = cc in ap p (sym same) ∙ (and_true _ _ every).0
-list_all_get p (y ∷ ys) (suc n) x every there = list_all_get p ys n x (and_true _ _ every).1 there
+    let same : y ≡ x = cc in ap p (sym same) ∙ (and_parts _ _ every).0
+list_all_get p (y ∷ ys) (suc n) x every there = list_all_get p ys n x (and_parts _ _ every).1 there

@@ -6,9 +6,10 @@ use Rattle.std.specs.Option.{option_or}
 use Rattle.std.specs.Str.{str_to_ascii_lowercase as lower}
 use Rattle.std.proofs.lemmas.Bool.Decides.{nat_tests}
 use Rattle.std.proofs.lemmas.List.Elements.{All-head}
+use Rattle.std.proofs.lemmas.Bool.{and_parts}
 use Rattle.schema_core.specs.Naming.{Named, is_same_name, is_keystring}
 use Rattle.schema_core.specs.Oid.{IsNumber, is_dotted_oid, names, oid_among, oid_of}
-use Rattle.schema_core.proofs.NamingLemmas.{same_name, and_true}
+use Rattle.schema_core.proofs.NamingLemmas.{same_name}
 use Rattle.schema_core.proofs.DottedLemmas.{IsDottedOid-from}
 
 -- the lower case of a letter is the lower case of no digit
@@ -24,7 +25,7 @@ keystring_or_digit :
 keystring_or_digit [] digit rest key numeric same = cc
 keystring_or_digit (letter ∷ more) digit rest key numeric same =
     let first : to_ascii_lowercase letter ≡ to_ascii_lowercase digit = cc in
-    letter_or_digit letter digit (and_true _ _ key).0 numeric first
+    letter_or_digit letter digit (and_parts _ _ key).0 numeric first
 
 -- a number begins with a digit
 number_first : (number : List ℕ) → IsNumber number → (digit : ℕ) × (rest : List ℕ) × (number ≡ digit ∷ rest) × IsAsciiDigit digit
@@ -52,13 +53,13 @@ none_dotted :
     → IsAsciiDigit digit → oid_among rows (digit ∷ rest) ≡ None
 none_dotted [] digit rest keys numeric = refl
 none_dotted (row ∷ rows) digit rest keys numeric =
-    missed (is_same_name row.name (digit ∷ rest)) refl (none_dotted rows digit rest (and_true _ _ keys).1 numeric)
+    missed (is_same_name row.name (digit ∷ rest)) refl (none_dotted rows digit rest (and_parts _ _ keys).1 numeric)
   where
     missed : (b : Bool) → is_same_name row.name (digit ∷ rest) ≡ b → oid_among rows (digit ∷ rest) ≡ None
         → option_map (λ found. found.oid)
         (cond b (Some row) (find (λ found. is_same_name found.name (digit ∷ rest)) rows)) ≡ None
     missed true hit none =
-        absurd (keystring_or_digit row.name digit rest (and_true _ _ keys).0 numeric (same_name row.name (digit ∷ rest) hit))
+        absurd (keystring_or_digit row.name digit rest (and_parts _ _ keys).0 numeric (same_name row.name (digit ∷ rest) hit))
     missed false miss none = none
 
 -- the object identifier that is found among dotted ones is dotted
@@ -67,14 +68,14 @@ among_dotted :
     → oid_among rows text ≡ Some oid → is_dotted_oid oid ≡ true
 among_dotted [] text oid dotted found = cc
 among_dotted (row ∷ rows) text oid dotted found =
-    asked (is_same_name row.name text) (among_dotted rows text oid (and_true _ _ dotted).1) found
+    asked (is_same_name row.name text) (among_dotted rows text oid (and_parts _ _ dotted).1) found
   where
     asked : (b : Bool)
         → (oid_among rows text ≡ Some oid → is_dotted_oid oid ≡ true)
         → option_map (λ found. found.oid) (cond b (Some row) (find (λ found. is_same_name found.name text) rows)) ≡ Some oid
         → is_dotted_oid oid ≡ true
     asked true later found =
-        let same : row.oid ≡ oid = cc in ap is_dotted_oid (sym same) ∙ (and_true _ _ dotted).0
+        let same : row.oid ≡ oid = cc in ap is_dotted_oid (sym same) ∙ (and_parts _ _ dotted).0
     asked false later found = later found
 
 -- what stands for a text is dotted, whether a name's or the text itself

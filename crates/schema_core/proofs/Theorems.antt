@@ -3,11 +3,12 @@ use Rattle.std.proofs.Common.{◌≡◌, ℕ, true, List, [], Option, Some, None
 use Rattle.std.specs.Option.{option_map_or}
 use Rattle.std.specs.Str.{bytes_eq}
 use Rattle.std.proofs.lemmas.Option.{slice_get_cases}
+use Rattle.std.proofs.lemmas.Bool.{or_left}
 use Rattle.schema_core.specs.Attributes.{Attribute, attributes, IsAttrId, attribute_at, attr_of, NamesAttribute, name_of}
 use Rattle.schema_core.specs.Classes.{Class, classes, IsClassId, class_at, class_of, class_with, NamesClass}
 use Rattle.schema_core.specs.Naming.{is_named, is_keystring}
 use Rattle.schema_core.specs.Oid.{is_dotted_oid, oid_of, named_attribute, named_class}
-use Rattle.schema_core.proofs.NamingLemmas.{from_same_name, or_left, list_all_get}
+use Rattle.schema_core.proofs.NamingLemmas.{from_same_name, list_all_get}
 use Rattle.schema_core.proofs.TableLemmas.{position_within}
 use Rattle.schema_core.proofs.FoundLemmas.{position_names, names_position}
 use Rattle.schema_core.proofs.NormalLemmas as normal
