@@ -1,7 +1,6 @@
 -- Either and Then without needless parts name the same texts, and has_empty is exact.
-use Rattle.std.proofs.Common.{◌≡◌, ℕ, Bool, true, false, ◌⊎◌, inl, inr, List, [], ◌∷◌, ◌++◌, refl, sym, subst}
-use Rattle.std.specs.Prelude.{◌||◌}
-use Rattle.std.proofs.lemmas.Bool.{false≢true, and_parts, and_from, or_right}
+use Rattle.std.proofs.Common.{◌≡◌, ℕ, true, ◌⊎◌, inl, inr, List, [], ◌∷◌, ◌++◌, refl, sym, subst}
+use Rattle.std.proofs.lemmas.Bool.{false≢true, and_parts, and_from, or_right, or_left, or_cases}
 use Rattle.regular_text.specs.Grammar.{Grammar, Matches}
 use Rattle.regular_text.specs.Grammar.Grammar.{Never, Nothing, One, Either, Then, Many}
 use Rattle.regular_text.specs.Derivative.{has_empty, either, then_next}
@@ -31,14 +30,6 @@ pub matches-then : {K : Type 0} (class : ℕ → K) (a b : Grammar K) (text : Li
 matches-then class Never b text m = absurd m
 matches-then class Nothing b text m = ([], text, refl, refl, m)
 matches-then class a b text m = m
-
-or_cases : (a b : Bool) → (a || b) ≡ true → (a ≡ true) ⊎ (b ≡ true)
-or_cases true b e = inl refl
-or_cases false b e = inr e
-
-or_left : (a b : Bool) → a ≡ true → (a || b) ≡ true
-or_left true b e = refl
-or_left false b e = absurd (false≢true e)
 
 -- the two parts of an empty text are empty
 pub both_nil : (front rest : List ℕ) → [] ≡ front ++ rest → (front ≡ []) × (rest ≡ [])
