@@ -2,6 +2,7 @@
 use Rattle.std.proofs.Common.{inl, inr, ◌≡◌, ℕ, Bool, true, false, cond, eqb, List, [], ◌∷◌, ◌++◌, length, Option, Some, None, refl, sym, ap, subst, ◌∙◌, ◌<◌}
 use Rattle.std.specs.Prelude.{not}
 use Rattle.std.proofs.lemmas.Bool.{eq-eqb, ne_eqb, eqb-false}
+use Rattle.std.proofs.lemmas.Option.{same_Some}
 use Rattle.ber_core.specs.Element.{Elem, IsHeader}
 use Rattle.ber_layout.specs.Pieces.{Piece, ◌>>=◌, piece_at, tagged_at}
 use Rattle.ber_layout.specs.Flags.{IsFlag, flag_of}
@@ -30,9 +31,6 @@ pub record Read {A : Type 0} (Next : List ℕ → Type 0) (value : A) (answer : 
   pub next : Next rest
   pub found : answer ≡ Some (record { value = value; rest = rest })
 
-some_is : {A : Type 0} (x y : A) → Some x ≡ Some y → x ≡ y
-some_is x y e = cc
-
 -- ---- any element
 
 pub any_sound : (bytes : List ℕ) (found : Component (ℕ × List ℕ)) → any_of bytes ≡ Some found
@@ -44,7 +42,7 @@ any_sound bytes found e =
     let made : Component (ℕ × List ℕ) = record { value = (a.0.tag, a.0.content); rest = a.0.rest } in
     let stands : Stands made.value.0 (λ (value : ℕ × List ℕ) (content : List ℕ). value.1 ≡ content) bytes made =
     record { content = a.0.content; front = takes.front; element = takes.element; inner = refl; joins = takes.joins; shorter = takes.shorter } in
-    subst (λ (f : Component (ℕ × List ℕ)). Stands f.value.0 (λ (value : ℕ × List ℕ) (content : List ℕ). value.1 ≡ content) bytes f) (some_is made found a.2) stands
+    subst (λ (f : Component (ℕ × List ℕ)). Stands f.value.0 (λ (value : ℕ × List ℕ) (content : List ℕ). value.1 ≡ content) bytes f) (same_Some made found a.2) stands
 
 pub any_again : (tag : ℕ) (content front rest : List ℕ) → Elem tag content front → any_of (front ++ rest) ≡ Some (record { value = (tag, content); rest = rest })
 unfolding any_of
@@ -64,7 +62,7 @@ required_sound {A} tag reader Inner inner bytes found e =
     let element : Elem tag a.0.content tagged.0.front = subst (λ (t : ℕ). Elem t a.0.content tagged.0.front) tagged.1 tagged.0.element in
     let stands : Stands tag Inner bytes made =
     record { content = a.0.content; front = tagged.0.front; element = element; inner = inner a.0.content b.0 b.1; joins = tagged.0.joins; shorter = tagged.0.shorter } in
-    subst (Stands tag Inner bytes) (some_is made found b.2) stands
+    subst (Stands tag Inner bytes) (same_Some made found b.2) stands
 
 pub required_again : {A : Type 0} (tag : ℕ) (reader : List ℕ → Option A) (value : A) (content front rest : List ℕ)
     → Elem tag content front → reader content ≡ Some value → required_of tag reader (front ++ rest) ≡ Some (record { value = value; rest = rest })
@@ -101,10 +99,10 @@ optional_by {A} true tag reader Inner Next inner bytes found e =
     let a = bind_some (required_of tag reader bytes) (λ (f : Component A). Some (record { value = Some f.value; rest = f.rest })) found e in
     let made : Component (Option A) = record { value = Some a.0.value; rest = a.0.rest } in
     let stands = required_sound tag reader Inner inner bytes a.0 a.1 in
-    subst (λ (f : Component (Option A)). Next f.rest → MayFollow tag Inner Next f.value bytes) (some_is made found a.2) (λ next. follows tag Inner Next bytes a.0 stands next)
+    subst (λ (f : Component (Option A)). Next f.rest → MayFollow tag Inner Next f.value bytes) (same_Some made found a.2) (λ next. follows tag Inner Next bytes a.0 stands next)
 optional_by {A} false tag reader Inner Next inner bytes found e =
     let made : Component (Option A) = record { value = None; rest = bytes } in
-    subst (λ (f : Component (Option A)). Next f.rest → MayFollow tag Inner Next f.value bytes) (some_is made found e) (λ next. next)
+    subst (λ (f : Component (Option A)). Next f.rest → MayFollow tag Inner Next f.value bytes) (same_Some made found e) (λ next. next)
 
 pub optional_sound : {A : Type 0} (tag : ℕ) (reader : List ℕ → Option A) (Inner : A → List ℕ → Type 0) (Next : List ℕ → Type 0)
     → ((content : List ℕ) (value : A) → reader content ≡ Some value → Inner value content)
@@ -130,7 +128,7 @@ optional_some tag reader value content front rest e reads =
 
 pub flag_sound : (content : List ℕ) (flag : Bool) → flag_of content ≡ Some flag → IsFlag flag content
 flag_sound [] flag e = absurd cc
-flag_sound (octet ∷ []) flag e = record { octet = octet; alone = refl; says = sym (some_is (not (eqb octet 0)) flag e) }
+flag_sound (octet ∷ []) flag e = record { octet = octet; alone = refl; says = sym (same_Some (not (eqb octet 0)) flag e) }
 flag_sound (octet ∷ other ∷ octets) flag e = absurd cc
 
 pub flag_again : (flag : Bool) (content : List ℕ) → IsFlag flag content → flag_of content ≡ Some flag
@@ -147,7 +145,7 @@ marked_by true tag Next bytes found e next =
     mark_follows tag Next found.value bytes (follows tag IsFlag Next bytes found (required_sound tag flag_of IsFlag flag_sound bytes found e) next)
 marked_by false tag Next bytes found e next =
     let made : Component Bool = record { value = false; rest = bytes } in
-    subst (λ (f : Component Bool). Next f.rest → MarkFollows tag Next f.value bytes) (some_is made found e) (λ stays. inl stays) next
+    subst (λ (f : Component Bool). Next f.rest → MarkFollows tag Next f.value bytes) (same_Some made found e) (λ stays. inl stays) next
 
 pub marked_sound : (tag : ℕ) (Next : List ℕ → Type 0) (bytes : List ℕ) (found : Component Bool) → marked_of tag bytes ≡ Some found
     → Next found.rest → MarkFollows tag Next found.value bytes

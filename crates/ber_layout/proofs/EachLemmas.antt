@@ -1,12 +1,10 @@
 -- Elements of one tag: those that are read stand there, those that stand there are read, and one step of a loop.
 use Rattle.std.proofs.Common.{◌≡◌, ℕ, zero, suc, ◌<◌, ◌≤◌, Bool, true, false, cond, List, [], ◌∷◌, ◌++◌, length, Option, Some, None, refl, sym, ap, subst, ◌∙◌, arith, append_assoc}
+use Rattle.std.proofs.lemmas.Option.{same_Some}
 use Rattle.ber_layout.specs.Pieces.{◌>>=◌}
 use Rattle.ber_layout.specs.Components.{EachFollows, Component, begins, before, behind, required_of, each_from, each_of}
 use Rattle.ber_layout.proofs.StepLemmas.{bind_some}
 use Rattle.ber_layout.proofs.ComponentLemmas.{Stands, Read, follows, required_sound, required_again, begins_by}
-
-some_is : {A : Type 0} (x y : A) → Some x ≡ Some y → x ≡ y
-some_is x y e = cc
 
 -- ---- what is read stands there
 
@@ -14,7 +12,7 @@ each_end : {A : Type 0} (tag : ℕ) (Inner : A → List ℕ → Type 0) (Next : 
     → Some (record { value = []; rest = bytes }) ≡ Some found → Next found.rest → EachFollows tag Inner Next found.value bytes
 each_end {A} tag Inner Next bytes found e =
     let made : Component (List A) = record { value = []; rest = bytes } in
-    subst (λ (f : Component (List A)). Next f.rest → EachFollows tag Inner Next f.value bytes) (some_is made found e) (λ next. next)
+    subst (λ (f : Component (List A)). Next f.rest → EachFollows tag Inner Next f.value bytes) (same_Some made found e) (λ next. next)
 
 each_more : {A : Type 0} (tag : ℕ) (Inner : A → List ℕ → Type 0) (Next : List ℕ → Type 0) (bytes : List ℕ) (first : Component A) (others found : Component (List A))
     → Stands tag Inner bytes first → before first.value others ≡ found → (Next others.rest → EachFollows tag Inner Next others.value first.rest)
@@ -33,7 +31,7 @@ each_by : {A : Type 0} (test : Bool) (tag : ℕ) (reader : List ℕ → Option A
 each_by {A} true tag reader Inner Next inner rest_of others_stand bytes found e =
     let a = bind_some (required_of tag reader bytes) (λ (f : Component A). (rest_of f.rest >>= λ (others : Component (List A)). Some (before f.value others))) found e in
     let b = bind_some (rest_of a.0.rest) (λ (others : Component (List A)). Some (before a.0.value others)) found a.2 in
-    each_more tag Inner Next bytes a.0 b.0 found (required_sound tag reader Inner inner bytes a.0 a.1) (some_is (before a.0.value b.0) found b.2) (others_stand a.0.rest b.0 b.1)
+    each_more tag Inner Next bytes a.0 b.0 found (required_sound tag reader Inner inner bytes a.0 a.1) (same_Some (before a.0.value b.0) found b.2) (others_stand a.0.rest b.0 b.1)
 each_by {A} false tag reader Inner Next inner rest_of others_stand bytes found e = each_end tag Inner Next bytes found e
 
 none_by : {A : Type 0} (test : Bool) (tag : ℕ) (Inner : A → List ℕ → Type 0) (Next : List ℕ → Type 0) (bytes : List ℕ) (found : Component (List A))

@@ -1,8 +1,9 @@
 -- What is read of a layout is what the octets say, and what they say by a clear layout is read.
 use Rattle.std.proofs.Common.{◌≡◌, ℕ, ◌^◌, ◌<◌, ◌%◌, Bool, true, false, cond, eqb, leb, ltb, List, [], ◌∷◌, length, Option, Some, None, refl, sym, ap, subst, ◌∙◌}
-use Rattle.std.specs.Prelude.{◌&&◌, ◌||◌, not}
-use Rattle.std.proofs.lemmas.Bool.{and_parts, eqb-true, ltb-true, eqb-false, ne_eqb}
+use Rattle.std.specs.Prelude.{◌&&◌, not}
+use Rattle.std.proofs.lemmas.Bool.{and_parts, eqb-true, ltb-true, eqb-false, ne_eqb, not-true, not-false, or_parts}
 use Rattle.std.proofs.lemmas.List.{nil_from_length}
+use Rattle.std.proofs.lemmas.Option.{same_Some}
 use Rattle.ber_core.specs.Element.{Elem}
 use Rattle.ber_layout.specs.Pieces.{ArePieces, IsFurther, ◌>>=◌, number_in, any_tag, other_than, are_pieces}
 use Rattle.ber_layout.specs.Flags.{flag_of}
@@ -19,12 +20,9 @@ pub record Sound {B : Type 0} (l : Layout) (make : Value l → Option B) (bytes 
   pub says : Says l value bytes
   pub made : make value ≡ Some answer
 
-some_is : {A : Type 0} (x y : A) → Some x ≡ Some y → x ≡ y
-some_is x y e = cc
-
 -- the value itself
 plain : (l : Layout) (bytes : List ℕ) (value : Value l) → Sound l (λ (v : Value l). Some v) bytes value → Says l value bytes
-plain l bytes value sound = subst (λ (v : Value l). Says l v bytes) (some_is sound.value value sound.made) sound.says
+plain l bytes value sound = subst (λ (v : Value l). Says l v bytes) (same_Some sound.value value sound.made) sound.says
 
 pub sound_into : {B : Type 0} (l : Layout) (make : Value l → Option B) (bytes : List ℕ) (answer : B) → reads_into l make bytes ≡ Some answer → Sound l make bytes answer
 unfolding reads_into
@@ -82,25 +80,13 @@ reads_sound l value bytes e = plain l bytes value (sound_into l Some bytes value
 
 -- ---- octets of a layout don't begin with a tag that it may not begin with
 
-not_true : (b : Bool) → not b ≡ true → b ≡ false
-not_true true e = absurd cc
-not_true false e = refl
-
-not_false : (b : Bool) → not b ≡ false → b ≡ true
-not_false true e = refl
-not_false false e = absurd cc
-
-or_false : (a b : Bool) → (a || b) ≡ false → (a ≡ false) × (b ≡ false)
-or_false true b e = absurd cc
-or_false false b e = (refl, e)
-
 turned_test : (a b : ℕ) → eqb a b ≡ false → eqb b a ≡ false
 turned_test a b differ = ne_eqb b a (λ same. eqb-false a b differ (sym same))
 
 pieces_not : (tag : ℕ) (pieces : List (List ℕ)) (bytes : List ℕ) → ArePieces (other_than tag) pieces bytes → begins tag bytes ≡ false
 pieces_not tag [] bytes are = ap (begins tag) are
 pieces_not tag (piece ∷ pieces) bytes are =
-    let differ : eqb tag are.0.tag ≡ false = turned_test are.0.tag tag (not_true (eqb are.0.tag tag) are.0.allows) in
+    let differ : eqb tag are.0.tag ≡ false = turned_test are.0.tag tag (not-true (eqb are.0.tag tag) are.0.allows) in
     ap (begins tag) are.1.1 ∙ begins_not tag are.0.tag are.0.content piece are.1.0 are.0.element differ
 
 pub not_begins : (tag : ℕ) (l : Layout) (value : Value l) (bytes : List ℕ) → may_begin tag l ≡ false → Says l value bytes → begins tag bytes ≡ false
@@ -112,19 +98,19 @@ not_begins tag Flag value bytes not_there says = absurd cc
 not_begins tag End value bytes not_there says = ap (begins tag) says
 not_begins tag Further value bytes not_there says = absurd cc
 not_begins tag (FurtherBut other) value bytes not_there says =
-    let same : other ≡ tag = sym (eqb-true tag other (not_false (eqb tag other) not_there)) in
+    let same : other ≡ tag = sym (eqb-true tag other (not-false (eqb tag other) not_there)) in
     subst (λ (t : ℕ). IsFurther (other_than t) bytes → begins tag bytes ≡ false) (sym same) (λ is. pieces_not tag is.pieces bytes is.are) says
 not_begins tag (AnyElement next) value bytes not_there says = absurd cc
 not_begins tag (Then other inner next) value bytes not_there says =
     ap (begins tag) says.joins ∙ begins_not tag other says.content says.front says.rest says.element not_there
 not_begins tag (Maybe other inner next) value bytes not_there says =
-    let both = or_false (eqb tag other) (may_begin tag next) not_there in
+    let both = or_parts (eqb tag other) (may_begin tag next) not_there in
     may_not value.0 tag other (Says inner) (Says next value.1) bytes both.0 (not_begins tag next value.1 bytes both.1) says
 not_begins tag (Marked other next) value bytes not_there says =
-    let both = or_false (eqb tag other) (may_begin tag next) not_there in
+    let both = or_parts (eqb tag other) (may_begin tag next) not_there in
     mark_not value.0 tag other (Says next value.1) bytes both.0 (not_begins tag next value.1 bytes both.1) says
 not_begins tag (Each other inner next) value bytes not_there says =
-    let both = or_false (eqb tag other) (may_begin tag next) not_there in
+    let both = or_parts (eqb tag other) (may_begin tag next) not_there in
     each_not value.0 tag other (Says inner) (Says next value.1) bytes both.0 (not_begins tag next value.1 bytes both.1) says
 
 -- ---- what the octets say is read
@@ -161,14 +147,14 @@ complete_into {B} (Maybe tag inner next) clear make value bytes says =
     let second = and_parts (not (may_begin tag next)) (is_clear inner && is_clear next) first.1 in
     let both = and_parts (is_clear inner) (is_clear next) second.1 in
     let read = optional_again value.0 tag (reads_into inner Some) (Says inner) (Says next value.1)
-    (λ rest. not_begins tag next value.1 rest (not_true (may_begin tag next) second.0))
+    (λ rest. not_begins tag next value.1 rest (not-true (may_begin tag next) second.0))
     (λ part content. complete_into inner both.0 (λ (v : Value inner). Some v) part content) bytes says in
     ap (λ (o : Option (Component (Option (Value inner)))). o >>= λ (f : Component (Option (Value inner))). reads_into next (λ (v : Value next). make (f.value, v)) f.rest) read.found
     ∙ complete_into next both.1 (λ (v : Value next). make (value.0, v)) value.1 read.rest read.next
 complete_into {B} (Marked tag next) clear make value bytes says =
     let first = and_parts (not (eqb (tag % 32) 31)) (not (may_begin tag next) && is_clear next) clear in
     let second = and_parts (not (may_begin tag next)) (is_clear next) first.1 in
-    let read = marked_again value.0 tag (Says next value.1) (λ rest. not_begins tag next value.1 rest (not_true (may_begin tag next) second.0)) bytes says in
+    let read = marked_again value.0 tag (Says next value.1) (λ rest. not_begins tag next value.1 rest (not-true (may_begin tag next) second.0)) bytes says in
     ap (λ (o : Option (Component Bool)). o >>= λ (f : Component Bool). reads_into next (λ (v : Value next). make (f.value, v)) f.rest) read.found
     ∙ complete_into next second.1 (λ (v : Value next). make (value.0, v)) value.1 read.rest read.next
 complete_into {B} (Each tag inner next) clear make value bytes says =
@@ -176,7 +162,7 @@ complete_into {B} (Each tag inner next) clear make value bytes says =
     let second = and_parts (not (may_begin tag next)) (is_clear inner && is_clear next) first.1 in
     let both = and_parts (is_clear inner) (is_clear next) second.1 in
     let read = each_again value.0 tag (reads_into inner Some) (Says inner) (Says next value.1)
-    (λ rest. not_begins tag next value.1 rest (not_true (may_begin tag next) second.0))
+    (λ rest. not_begins tag next value.1 rest (not-true (may_begin tag next) second.0))
     (λ part content. complete_into inner both.0 (λ (v : Value inner). Some v) part content) bytes says in
     ap (λ (o : Option (Component (List (Value inner)))). o >>= λ (f : Component (List (Value inner))). reads_into next (λ (v : Value next). make (f.value, v)) f.rest) read.found
     ∙ complete_into next both.1 (λ (v : Value next). make (value.0, v)) value.1 read.rest read.next

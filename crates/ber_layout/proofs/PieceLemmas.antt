@@ -3,6 +3,7 @@ use Rattle.std.proofs.Common.{◌≡◌, ℕ, zero, suc, ◌<◌, ◌≤◌, Boo
 use Rattle.std.specs.Prelude.{◌&&◌}
 use Rattle.std.proofs.lemmas.Bool.{cases_lt, lt-ltb, le-ltb, eqb-true, eqb-false}
 use Rattle.std.proofs.lemmas.List.{length-drop, length-append, take-append-drop, append_assoc, take_at, drop_at, length-take-le, nil_from_length}
+use Rattle.std.proofs.lemmas.Option.{same_Some}
 use Rattle.ber_core.specs.declared.kinds.Header.{Header}
 use Rattle.ber_core.specs.declared.kinds.Header.TheVariants as header
 use Rattle.ber_core.specs.Element.{Elem}
@@ -16,9 +17,6 @@ pub record Takes (bytes : List ℕ) (piece : Piece) : Type 0 where
   pub element : Elem piece.tag piece.content front
   pub joins : bytes ≡ front ++ piece.rest
   pub shorter : length piece.rest < length bytes
-
-some_is : {A : Type 0} (x y : A) → Some x ≡ Some y → x ≡ y
-some_is x y e = cc
 
 taken_by : (bytes : List ℕ) (h : Header) (piece : Piece) → header_at bytes ≡ h → piece_of bytes h ≡ Some piece → Takes bytes piece
 unfolding piece_of
@@ -39,7 +37,7 @@ taken_by bytes (header.Head tag head len) piece heading e =
             joins = sym (append_assoc (take head bytes) (take len (drop head bytes)) (drop len (drop head bytes)) ∙ rw (take-append-drop len (drop head bytes)) (take-append-drop head bytes));
             shorter = omega (arith, bound.0, begins.within, length-drop len (drop head bytes), length-drop head bytes);
           } in
-          subst (Takes bytes) (some_is made piece is) taken
+          subst (Takes bytes) (same_Some made piece is) taken
     ]
 taken_by bytes header.Short piece heading e = absurd cc
 taken_by bytes header.Bad piece heading e = absurd cc
