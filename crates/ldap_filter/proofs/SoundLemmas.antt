@@ -2,6 +2,7 @@
 use Rattle.std.proofs.Common.{◌≡◌, ℕ, zero, suc, ◌+◌, ◌≤◌, Bool, true, false, cond, eqb, List, [], ◌∷◌, ◌++◌, length, Option, Some, None, refl, sym, ap, subst, ◌∙◌, arith, max}
 use Rattle.std.proofs.lemmas.Bool.{eqb-true}
 use Rattle.std.proofs.lemmas.List.{nil_from_length}
+use Rattle.std.proofs.lemmas.Option.{same_Some}
 use Rattle.ber_layout.specs.Pieces.{◌>>=◌}
 use Rattle.ber_layout.specs.Components.{Component, Follows, any_of}
 use Rattle.ber_layout.specs.Layouts.{Value, Says as SaysLayout, reads}
@@ -12,9 +13,6 @@ use Rattle.ldap_filter.specs.Filters.Filters.{Nil, Cons}
 use Rattle.ldap_filter.specs.Assertions.{assertion_layout}
 use Rattle.ldap_filter.specs.FilterLayouts.{parts_layout, IsSome, SaysFilter, SaysFilters, IsFilter, most_deep}
 use Rattle.ldap_filter.specs.FilterReading.{asserted, substrings_from, parts_in, item_of, all_from, all_of, only_of, level_of, filter_at, filter_of}
-
-some_is : {A : Type 0} (x y : A) → Some x ≡ Some y → x ≡ y
-some_is x y e = cc
 
 none_is : (x y : Filters) → Some x ≡ Some y → x ≡ y
 none_is x y e = cc
@@ -53,17 +51,17 @@ asserted_by : (make : List ℕ → List ℕ → Filter) (element : ℕ × List �
     → ((kind value : List ℕ) → SaysLayout assertion_layout (kind, (value, tt)) element.1 → Sounds 1 (make kind value) element) → Sounds 1 f element
 asserted_by make element f e sounds =
     let a = bind_some (reads assertion_layout element.1) (λ (parts : Value assertion_layout). Some (make parts.0 parts.1.0)) f e in
-    subst (λ (g : Filter). Sounds 1 g element) (some_is (make a.0.0 a.0.1.0) f a.2) (sounds a.0.0 a.0.1.0 (reads_sound assertion_layout a.0 element.1 a.1))
+    subst (λ (g : Filter). Sounds 1 g element) (same_Some (make a.0.0 a.0.1.0) f a.2) (sounds a.0.0 a.0.1.0 (reads_sound assertion_layout a.0 element.1 a.1))
 
 parts_by : (kind : List ℕ) (initial : Option (List ℕ)) (any : List (List ℕ)) (final : Option (List ℕ)) (element : ℕ × List ℕ) (f : Filter)
     → element.0 ≡ 0xa4 → SaysLayout parts_layout (kind, ((initial, (any, (final, tt))), tt)) element.1 → substrings_from kind initial any final ≡ Some f → Sounds 1 f element
 parts_by kind (Some initial) any final element f tag says e =
-    subst (λ (g : Filter). Sounds 1 g element) (some_is (Parts kind (Some initial) any final) f e) (record { says = (tag, (tt, says)); within = omega arith })
+    subst (λ (g : Filter). Sounds 1 g element) (same_Some (Parts kind (Some initial) any final) f e) (record { says = (tag, (tt, says)); within = omega arith })
 parts_by kind None any (Some final) element f tag says e =
-    subst (λ (g : Filter). Sounds 1 g element) (some_is (Parts kind None any (Some final)) f e) (record { says = (tag, (tt, says)); within = omega arith })
+    subst (λ (g : Filter). Sounds 1 g element) (same_Some (Parts kind None any (Some final)) f e) (record { says = (tag, (tt, says)); within = omega arith })
 parts_by kind None [] None element f tag says e = absurd cc
 parts_by kind None (first ∷ any) None element f tag says e =
-    subst (λ (g : Filter). Sounds 1 g element) (some_is (Parts kind None (first ∷ any) None) f e) (record { says = (tag, (tt, says)); within = omega arith })
+    subst (λ (g : Filter). Sounds 1 g element) (same_Some (Parts kind None (first ∷ any) None) f e) (record { says = (tag, (tt, says)); within = omega arith })
 
 parts_sound : (element : ℕ × List ℕ) (f : Filter) → element.0 ≡ 0xa4 → parts_in element.1 ≡ Some f → Sounds 1 f element
 parts_sound element f tag e =
@@ -78,9 +76,9 @@ item_sound element f e =
     (λ e. pick tag 0xa4 _ _ f G e (λ t e. parts_sound element f t e)
     (λ e. pick tag 0xa5 _ _ f G e (λ t e. asserted_by (λ k v. AtLeast k v) element f e (λ k v says. record { says = (t, says); within = omega arith }))
     (λ e. pick tag 0xa6 _ _ f G e (λ t e. asserted_by (λ k v. AtMost k v) element f e (λ k v says. record { says = (t, says); within = omega arith }))
-    (λ e. pick tag 0x87 _ _ f G e (λ t e. subst (λ (g : Filter). Sounds 1 g element) (some_is (Present element.1) f e) (record { says = (t, refl); within = omega arith }))
+    (λ e. pick tag 0x87 _ _ f G e (λ t e. subst (λ (g : Filter). Sounds 1 g element) (same_Some (Present element.1) f e) (record { says = (t, refl); within = omega arith }))
     (λ e. pick tag 0xa8 _ _ f G e (λ t e. asserted_by (λ k v. Approx k v) element f e (λ k v says. record { says = (t, says); within = omega arith }))
-    (λ e. pick tag 0xa9 _ _ f G e (λ t e. subst (λ (g : Filter). Sounds 1 g element) (some_is (Extensible element.1) f e) (record { says = (t, refl); within = omega arith }))
+    (λ e. pick tag 0xa9 _ _ f G e (λ t e. subst (λ (g : Filter). Sounds 1 g element) (same_Some (Extensible element.1) f e) (record { says = (t, refl); within = omega arith }))
     (λ e. absurd cc)))))))
 
 -- ---- members
@@ -127,18 +125,18 @@ level_sound deep reader sounds element f e =
     pick tag 0xa0 _ _ f G e
     (λ t e. let a = bind_some (all_of reader element.1) (λ (fs : Filters). Some (And fs)) f e in
     let all = all_sound deep reader sounds element.1 a.0 a.1 in
-    subst (λ (g : Filter). Sounds (suc deep) g element) (some_is (And a.0) f a.2) (record { says = (t, all.says); within = one_more (depths a.0) deep all.within }))
+    subst (λ (g : Filter). Sounds (suc deep) g element) (same_Some (And a.0) f a.2) (record { says = (t, all.says); within = one_more (depths a.0) deep all.within }))
     (λ e. pick tag 0xa1 _ _ f G e
     (λ t e. let a = bind_some (all_of reader element.1) (λ (fs : Filters). Some (Or fs)) f e in
     let all = all_sound deep reader sounds element.1 a.0 a.1 in
-    subst (λ (g : Filter). Sounds (suc deep) g element) (some_is (Or a.0) f a.2) (record { says = (t, all.says); within = one_more (depths a.0) deep all.within }))
+    subst (λ (g : Filter). Sounds (suc deep) g element) (same_Some (Or a.0) f a.2) (record { says = (t, all.says); within = one_more (depths a.0) deep all.within }))
     (λ e. pick tag 0xa2 _ _ f G e
     (λ t e. let a = bind_some (only_of reader element.1) (λ (member : Filter). Some (Not member)) f e in
     let b = bind_some (any_of element.1) (λ (found : Component (ℕ × List ℕ)). cond (eqb (length found.rest) 0) (reader found.value) None) a.0 a.1 in
     let g = guard_passed (eqb (length b.0.rest) 0) (reader b.0.value) a.0 b.2 in
     let none : b.0.rest ≡ [] = nil_from_length b.0.rest (eqb-true (length b.0.rest) 0 g.0) in
     let says = first_follows deep reader sounds element.1 b.0 a.0 (λ rest. rest ≡ []) b.1 g.1 none in
-    subst (λ (h : Filter). Sounds (suc deep) h element) (some_is (Not a.0) f a.2) (record { says = (t, says); within = one_more (depth a.0) deep (sounds b.0.value a.0 g.1).within }))
+    subst (λ (h : Filter). Sounds (suc deep) h element) (same_Some (Not a.0) f a.2) (record { says = (t, says); within = one_more (depth a.0) deep (sounds b.0.value a.0 g.1).within }))
     (λ e. let item = item_sound element f e in record { says = item.says; within = more_than (depth f) deep item.within })))
 
 pub at_sound : (deep : ℕ) (element : ℕ × List ℕ) (f : Filter) → filter_at deep element ≡ Some f → Sounds deep f element
