@@ -2,6 +2,7 @@
 use Rattle.std.proofs.Common.{◌≡◌, ◌≢◌, ℕ, ◌==◌, Bool, true, false, List, [], ◌∷◌, length, if◌then◌else◌, Option, Some, None, Ok, Err, refl, subst, ◌∙◌}
 use Rattle.std.specs.List.{AllByRecursion, IsDistinct, list_any}
 use Rattle.std.proofs.lemmas.Bool.{or_parts}
+use Rattle.base_laws.proofs.Theorems.{none_passes}
 use Rattle.plain_values.specs.Results.{◌>>=◌}
 use Rattle.schema_core.specs.Attributes.{attr_of}
 use Rattle.dn_names.specs.Names.{Keyed, TypeAndValue, RdnSequence, last_rdn}
@@ -55,18 +56,12 @@ filled-read_each (one ∷ rest) attributes some is =
     (filled-read_known one.values (attr_of one.kind) first.0 parts.0 first.1, filled-read_each rest later.0 parts.1 later.1)
 
 -- items of which none repeats are distinct
-none_of_any : {A : Type 0} (test : A → Bool) (items : List A) → list_any test items ≡ false → AllByRecursion (λ item. test item ≡ false) items
-none_of_any test [] none = tt
-none_of_any test (first ∷ rest) none =
-    let parts = or_parts (test first) (list_any test rest) none in
-    (parts.0, none_of_any test rest parts.1)
-
 IsDistinct-from_repeats : {A : Type 0} (same : A → A → Bool) (items : List A) → repeats same items ≡ false → IsDistinct same items
 unfolding IsDistinct repeats
 IsDistinct-from_repeats same [] none = tt
 IsDistinct-from_repeats same (first ∷ rest) none =
     let parts = or_parts (list_any (same first) rest) (repeats same rest) none in
-    (none_of_any (same first) rest parts.0, IsDistinct-from_repeats same rest parts.1)
+    (none_passes (same first) rest parts.0, IsDistinct-from_repeats same rest parts.1)
 
 good_each :
     (attributes : List Attribute) → AllByRecursion IsFilled attributes
