@@ -1,7 +1,7 @@
 -- The longest front that is a production, and how far a text that has none goes.
 use Prim.Native.Nat.{zero}
 use Rattle.std.proofs.Common.{◌≡◌, ℕ, suc, ◌≤◌, ◌<◌, ◌+◌, ◌-◌, Bool, true, false, cond, List, [], ◌∷◌, ◌++◌, length, take, drop, get_or, refl, sym, ap, ◌∙◌, subst, arith}
-use Rattle.std.specs.Prelude.{◌==◌, ◌&&◌, if◌then◌else◌, IsUtf8}
+use Rattle.std.specs.Prelude.{◌==◌, if◌then◌else◌, IsUtf8}
 use Rattle.std.specs.Char.{is_ascii_lowercase, is_ascii_digit}
 use Rattle.std.specs.List.{list_all, prefix_len}
 use Rattle.std.specs.Str.{IsCharBoundary}
@@ -9,14 +9,11 @@ use Rattle.std.proofs.lemmas.Bool.Decides.{nat_tests}
 use Rattle.std.proofs.lemmas.List.{length-take-le, length-drop, take-append-drop, get_or-drop}
 use Rattle.std.proofs.lemmas.List.Sums.{prefix_len-le-length, prefix_len_passes}
 use Rattle.std.proofs.lemmas.Str.{IsCharBoundary-after_ascii}
+use Rattle.std.proofs.lemmas.Bool.{and_parts}
 use Rattle.gser_core.specs.Productions.{is_key, IsLed, IsIdentifier, IsNumeral}
 use Rattle.gser_core.specs.Cursors.{Standing, rest_of, moved, IsFront, IsLacking, Takes, Lacks}
 use Rattle.gser_core.specs.declared.error.TextFault.TheVariants.{Expected}
 use Rattle.gser_core.specs.Counts.{led_len, identifier_len, numeral_len}
-
-pub both : (one other : Bool) → (one && other) ≡ true → (one ≡ true) × (other ≡ true)
-both true other h = (refl, h)
-both false other h = cc
 
 -- all octets of the front that passes pass
 pub taken_pass : (p : ℕ → Bool) (xs : List ℕ) → list_all p (take (prefix_len p xs) xs) ≡ true
@@ -33,7 +30,7 @@ taken_pass p (x ∷ xs) = inner (p x) refl (taken_pass p xs)
 pub no_longer : (p : ℕ → Bool) (longer more : List ℕ) → list_all p longer ≡ true → length longer ≤ prefix_len p (longer ++ more)
 no_longer p [] more h = omega arith
 no_longer p (x ∷ longer) more h =
-    let parts = both (p x) (list_all p longer) h in
+    let parts = and_parts (p x) (list_all p longer) h in
     let again = no_longer p longer more parts.1 in
     rw parts.0 (omega (arith, again))
 

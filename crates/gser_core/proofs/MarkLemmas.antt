@@ -9,11 +9,12 @@ use Rattle.std.proofs.lemmas.Bool.Decides.{nat_tests}
 use Rattle.std.proofs.lemmas.List.{append-nil, length-append, length-drop, length-take-le, take-append-drop, take_all}
 use Rattle.std.proofs.lemmas.List.Sums.{prefix_len-le-length, prefix_len_passes, common_prefix_len-le, common_prefix_len-drop_no}
 use Rattle.std.proofs.lemmas.Str.{length-encode, IsCharBoundary-past_char, IsUtf8-drop}
+use Rattle.std.proofs.lemmas.Bool.{and_parts}
 use Rattle.gser_core.specs.Productions.{is_blank, BeginsWith, IsMark, IsSpaces}
 use Rattle.gser_core.specs.Cursors.{Standing, rest_of, moved, IsFront, IsLacking, Takes, Lacks}
 use Rattle.gser_core.specs.declared.error.TextFault.TheVariants.{Expected}
 use Rattle.gser_core.specs.Counts.{is_same, shared_len}
-use Rattle.gser_core.proofs.FrontLemmas.{both, taken_pass, no_longer}
+use Rattle.gser_core.proofs.FrontLemmas.{taken_pass, no_longer}
 
 -- ---- marks
 
@@ -167,11 +168,11 @@ spaces_all (suc n) = ((spaces_all n).0, ap suc (spaces_all n).1)
 
 all_append : (one other : List ℕ) → list_all is_blank one ≡ true → list_all is_blank other ≡ true → list_all is_blank (one ++ other) ≡ true
 all_append [] other h k = k
-all_append (x ∷ one) other h k = let parts = both (is_blank x) (list_all is_blank one) h in rw parts.0 (all_append one other parts.1 k)
+all_append (x ∷ one) other h k = let parts = and_parts (is_blank x) (list_all is_blank one) h in rw parts.0 (all_append one other parts.1 k)
 
 all_front : (one other : List ℕ) → list_all is_blank (one ++ other) ≡ true → list_all is_blank one ≡ true
 all_front [] other h = refl
-all_front (x ∷ one) other h = let parts = both (is_blank x) (list_all is_blank (one ++ other)) h in rw parts.0 (all_front one other parts.1)
+all_front (x ∷ one) other h = let parts = and_parts (is_blank x) (list_all is_blank (one ++ other)) h in rw parts.0 (all_front one other parts.1)
 
 pub spaces_none : (least : ℕ) (rest : List ℕ) (count : ℕ) → count ≡ prefix_len is_blank rest → count < least → IsLacking (IsSpaces least) rest count
 spaces_none least rest count is few =

@@ -6,9 +6,10 @@ use Rattle.std.specs.Char.{is_ascii_digit}
 use Rattle.std.specs.List.{list_all, prefix_len}
 use Rattle.std.proofs.lemmas.Bool.Decides.{nat_tests}
 use Rattle.std.proofs.lemmas.List.{length-append, length-take-le, take-append-drop, drop_more, get_or_at}
+use Rattle.std.proofs.lemmas.Bool.{and_parts}
 use Rattle.gser_core.specs.Productions.{IsNumeral, IsJoined}
 use Rattle.gser_core.specs.Counts.{led_len, numeral_len, with_point, pointed_len}
-use Rattle.gser_core.proofs.FrontLemmas.{both, numeral_taken}
+use Rattle.gser_core.proofs.FrontLemmas.{numeral_taken}
 
 -- ---- a number, and a point behind it
 
@@ -16,7 +17,7 @@ use Rattle.gser_core.proofs.FrontLemmas.{both, numeral_taken}
 digits_append : (xs ys : List ℕ) → list_all is_ascii_digit xs ≡ true → prefix_len is_ascii_digit (xs ++ ys) ≡ length xs + prefix_len is_ascii_digit ys
 digits_append [] ys h = omega arith
 digits_append (x ∷ xs) ys h =
-    let parts = both (is_ascii_digit x) (list_all is_ascii_digit xs) h in
+    let parts = and_parts (is_ascii_digit x) (list_all is_ascii_digit xs) h in
     let again = digits_append xs ys parts.1 in
     rw parts.0 (omega (arith, again))
 
@@ -128,8 +129,8 @@ low_digit x h = grind (arith, nat_tests)
 
 low_digits : (xs : List ℕ) → list_all is_ascii_digit xs ≡ true → IsLow xs
 low_digits [] h place within = absurd (omega (arith, within))
-low_digits (x ∷ xs) h zero within = low_digit x (both (is_ascii_digit x) (list_all is_ascii_digit xs) h).0
-low_digits (x ∷ xs) h (suc place) within = low_digits xs (both (is_ascii_digit x) (list_all is_ascii_digit xs) h).1 place (omega (arith, within))
+low_digits (x ∷ xs) h zero within = low_digit x (and_parts (is_ascii_digit x) (list_all is_ascii_digit xs) h).0
+low_digits (x ∷ xs) h (suc place) within = low_digits xs (and_parts (is_ascii_digit x) (list_all is_ascii_digit xs) h).1 place (omega (arith, within))
 
 low_number : (number : List ℕ) → IsNumeral number → IsLow number
 low_number [] fits = absurd fits

@@ -4,9 +4,10 @@ use Rattle.std.proofs.Common.{◌≡◌, ◌⊎◌, inl, inr, ℕ, suc, ◌≤�
 use Rattle.std.specs.Char.{is_ascii_digit}
 use Rattle.std.specs.List.{list_all}
 use Rattle.std.proofs.lemmas.List.{length-append, take_at, get_or_append_left}
+use Rattle.std.proofs.lemmas.Bool.{and_parts}
 use Rattle.gser_core.specs.Productions.{IsNumeral, IsJoined, IsDotted}
 use Rattle.gser_core.specs.Counts.{numeral_len, pointed_len, dotted_len, some_of, oid_reach}
-use Rattle.gser_core.proofs.FrontLemmas.{both, numeral_taken, IsTaken}
+use Rattle.gser_core.proofs.FrontLemmas.{numeral_taken, IsTaken}
 use Rattle.gser_core.proofs.NumberLemmas.{HasDigit, number_best, pointed_exact, pointed_sound, joined_size, joined_low, dotted_first}
 use Rattle.gser_core.proofs.DottedLemmas.{dotted_sound, dotted_best}
 
@@ -49,7 +50,7 @@ reach_pointed rest number more fits is = ap (λ n. some_of n (numeral_len rest))
 -- the front of a number
 digits_front : (xs ys : List ℕ) → list_all is_ascii_digit (xs ++ ys) ≡ true → list_all is_ascii_digit xs ≡ true
 digits_front [] ys h = refl
-digits_front (x ∷ xs) ys h = let parts = both (is_ascii_digit x) (list_all is_ascii_digit (xs ++ ys)) h in rw parts.0 (digits_front xs ys parts.1)
+digits_front (x ∷ xs) ys h = let parts = and_parts (is_ascii_digit x) (list_all is_ascii_digit (xs ++ ys)) h in rw parts.0 (digits_front xs ys parts.1)
 
 part_best : (longer rest more : List ℕ) → IsNumeral (longer ++ rest) → length longer ≤ numeral_len (longer ++ more)
 part_best [] rest more fits = omega arith
