@@ -1,8 +1,9 @@
 -- The octets of the classes, words and doubled quotation marks.
 use Rattle.std.proofs.Common.{◌≡◌, ℕ, List, [], ◌∷◌, ◌++◌, Bool, true, false, refl, sym, ap, ◌∙◌, arith}
-use Rattle.std.specs.Prelude.{◌==◌, ◌&&◌, if◌then◌else◌}
+use Rattle.std.specs.Prelude.{◌==◌, if◌then◌else◌}
 use Rattle.std.specs.List.{list_all}
 use Rattle.std.proofs.lemmas.Bool.Decides.{nat_tests}
+use Rattle.std.proofs.lemmas.Bool.{and_parts, and_from}
 use Rattle.gser_tree.specs.declared.marks.Mark.{Mark}
 use Rattle.gser_tree.specs.declared.marks.Mark.TheVariants.{Open, Close, Comma, Colon}
 use Rattle.gser_tree.specs.declared.marks.Class.{Class}
@@ -49,30 +50,22 @@ not_quote x class is other =
       | true ↦ λ e. absurd (other (let at : x ≡ 34 = grind (arith, nat_tests) in sym is ∙ ap class_of at ∙ quote_class))
     ] refl
 
--- both tests
-pub and_parts : (a b : Bool) → (a && b) ≡ true → (a ≡ true) × (b ≡ true)
-and_parts true b h = (refl, h)
-and_parts false b h = cc
-
-pub and_both : (a b : Bool) → a ≡ true → b ≡ true → (a && b) ≡ true
-and_both a b h k = rw (h, k) refl
-
 -- octets of a word
 abbrev pub are_letters : List ℕ → Bool
 are_letters octets = list_all (λ x. is_letter (class_of x)) octets
 
 pub are_letters-push : (text : List ℕ) (x : ℕ) → are_letters text ≡ true → class_of x ≡ Letter → are_letters (text ++ x ∷ []) ≡ true
-are_letters-push [] x h is = and_both (is_letter (class_of x)) true (ap is_letter is) refl
+are_letters-push [] x h is = and_from (is_letter (class_of x)) true (ap is_letter is) refl
 are_letters-push (first ∷ text) x h is =
     let parts = and_parts (is_letter (class_of first)) (are_letters text) h in
-    and_both (is_letter (class_of first)) (are_letters (text ++ x ∷ [])) parts.0 (are_letters-push text x parts.1 is)
+    and_from (is_letter (class_of first)) (are_letters (text ++ x ∷ [])) parts.0 (are_letters-push text x parts.1 is)
 
 -- a letter behind a word
 pub is_word-push : (text : List ℕ) (x : ℕ) → is_word text ≡ true → class_of x ≡ Letter → is_word (text ++ x ∷ []) ≡ true
 is_word-push [] x h is = cc
 is_word-push (first ∷ text) x h is =
     let parts = and_parts (is_letter (class_of first)) (are_letters text) h in
-    and_both (is_letter (class_of first)) (are_letters (text ++ x ∷ [])) parts.0 (are_letters-push text x parts.1 is)
+    and_from (is_letter (class_of first)) (are_letters (text ++ x ∷ [])) parts.0 (are_letters-push text x parts.1 is)
 
 pub doubled-push : (text : List ℕ) (x : ℕ) → doubled (text ++ x ∷ []) ≡ doubled text ++ doubled (x ∷ [])
 doubled-push [] x = refl

@@ -2,14 +2,13 @@
 use Rattle.std.proofs.Common.{◌≡◌, ℕ, ◌+◌, ◌≤◌, ◌<◌, true, false, Bool, not, ◌&&◌, ◌||◌, ◌==◌, List, [], ◌∷◌, ◌++◌, length, nat_le, refl, sym, ap, subst, ◌∙◌, arith}
 use Rattle.std.specs.Char.{is_ascii_digit}
 use Rattle.std.specs.List.{list_all}
-use Rattle.std.proofs.lemmas.Bool.{eqb-true, eq-eqb}
+use Rattle.std.proofs.lemmas.Bool.{eqb-true, eq-eqb, and_parts, and_from}
 use Rattle.std.proofs.lemmas.List.{append-nil, length-append}
 use Rattle.std.proofs.lemmas.Bool.Decides.{nat_tests}
 use Rattle.gser_core.specs.Productions.{IsNumeral}
 use Rattle.gser_core.specs.declared.error.TextFault.{TextFault}
 use Rattle.gser_core.specs.Cursors.{Standing, rest_of, moved, IsFront, IsLacking, Takes, Lacks}
 use Rattle.gser_tree.specs.Reading.{is_number}
-use Rattle.gser_tree.proofs.ClassLemmas.{and_parts, and_both}
 
 -- a number by its test is one by its production
 pub number-numeral : (text : List ℕ) → is_number text ≡ true → IsNumeral text
@@ -31,8 +30,8 @@ number-numeral (first ∷ rest) h =
 pub numeral-number : (text : List ℕ) → IsNumeral text → is_number text ≡ true
 numeral-number [] h = absurd h
 numeral-number (first ∷ rest) h =
-    and_both (is_ascii_digit first) (list_all is_ascii_digit rest && (not (first == 48) || length rest == 0)) h.0
-    (and_both (list_all is_ascii_digit rest) (not (first == 48) || length rest == 0) h.1 (by (first == 48) refl))
+    and_from (is_ascii_digit first) (list_all is_ascii_digit rest && (not (first == 48) || length rest == 0)) h.0
+    (and_from (list_all is_ascii_digit rest) (not (first == 48) || length rest == 0) h.1 (by (first == 48) refl))
   where
     by : (b : Bool) → (first == 48) ≡ b → (not b || length rest == 0) ≡ true
     by true e = rw (h.2 (eqb-true first 48 e)) refl

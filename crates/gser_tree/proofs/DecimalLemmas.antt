@@ -3,6 +3,7 @@ use Rattle.std.proofs.Common.{◌≡◌, ℕ, ◌<◌, ◌≤◌, ◌^◌, Bool,
 use Rattle.std.specs.Prelude.{◌==◌, nat_le, decimal, if◌then◌else◌}
 use Rattle.std.proofs.lemmas.Bool.Decides.{nat_tests}
 use Rattle.std.proofs.lemmas.Fmt.{digits_decimal, digits_value-decimal, decimal_digit, decimal_nonempty, first_decimal}
+use Rattle.std.proofs.lemmas.Bool.{and_parts, and_from}
 use Rattle.std.specs.Char.{is_ascii_digit, is_ascii_alphanumeric}
 use Rattle.std.specs.List.{list_all}
 use Rattle.std.specs.Str.Parse.{digits_value}
@@ -11,7 +12,7 @@ use Rattle.gser_tree.specs.Lexemes.{class_of, is_letter, is_word}
 use Rattle.gser_tree.specs.Looking.{word_in}
 use Rattle.gser_tree.specs.Reading.{is_number, at_most, number, part, expect}
 use Rattle.gser_tree.specs.Writing.{print_number}
-use Rattle.gser_tree.proofs.ClassLemmas.{and_parts, and_both, are_letters}
+use Rattle.gser_tree.proofs.ClassLemmas.{are_letters}
 use Rattle.gser_tree.proofs.NumberLemmas.{own}
 use Rattle.gser_tree.proofs.PrintsLemmas.{word_is_written}
 use Rattle.gser_tree.proofs.ReadsLemmas.{IsRead, Prints}
@@ -44,7 +45,7 @@ digits_letters : (text : List ℕ) → list_all is_ascii_digit text ≡ true →
 digits_letters [] h = refl
 digits_letters (x ∷ text) h =
     let both = and_parts (is_ascii_digit x) (list_all is_ascii_digit text) h in
-    and_both (is_letter (class_of x)) (are_letters text) (ap is_letter (digit_letter x both.0)) (digits_letters text both.1)
+    and_from (is_letter (class_of x)) (are_letters text) (ap is_letter (digit_letter x both.0)) (digits_letters text both.1)
 
 -- digits are a word
 pub is_word-digits : (text : List ℕ) → 0 < length text → list_all is_ascii_digit text ≡ true → is_word text ≡ true

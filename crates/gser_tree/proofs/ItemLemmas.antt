@@ -1,6 +1,7 @@
 -- One octet where nothing has begun, and one behind a whole word or string.
 use Rattle.std.proofs.Common.{◌≡◌, ℕ, ◌+◌, suc, List, [], ◌∷◌, ◌++◌, length, true, refl, sym, ap, ◌∙◌, arith}
 use Rattle.std.specs.Prelude.{Option, Some, None, option_map, option_and_then, flat_map}
+use Rattle.std.proofs.lemmas.Bool.{and_from}
 use Rattle.gser_tree.specs.declared.marks.Mark.{Mark}
 use Rattle.gser_tree.specs.declared.marks.Mark.TheVariants.{Open, Close, Comma, Colon}
 use Rattle.gser_tree.specs.declared.marks.Class.{Class}
@@ -12,7 +13,7 @@ use Rattle.gser_tree.specs.declared.lexing.Mode.TheVariants.{Between, InWord, In
 use Rattle.gser_tree.specs.Lexemes.{Lexeme, Space, Marked, Quoted, class_of, octet_of, is_letter, is_word, doubled, show, EndsBefore, AreLexemes}
 use Rattle.gser_tree.specs.TextOf.{part_at, tokens_at}
 use Rattle.gser_tree.specs.Lexing.{Step, more, begin, finish, step, lex_from}
-use Rattle.gser_tree.proofs.ClassLemmas.{blank_is, quote_is, sign_is, and_both}
+use Rattle.gser_tree.proofs.ClassLemmas.{blank_is, quote_is, sign_is}
 
 -- ---- what is lexed are lexemes
 
@@ -74,7 +75,7 @@ from_between place x text tokens h again = inner (class_of x) refl h
         }
     inner Letter is h =
         let rest = split [] tokens (lex_from (InWord (part_at place (x ∷ []))) (place + 1) text) h in
-        let found = again (InWord (part_at place (x ∷ []))) rest.0 (and_both (is_letter (class_of x)) true (ap is_letter is) refl, omega arith) rest.1 in
+        let found = again (InWord (part_at place (x ∷ []))) rest.0 (and_from (is_letter (class_of x)) true (ap is_letter is) refl, omega arith) rest.1 in
         record { lexemes = found.lexemes; proper = found.proper; joined = found.joined; placed = found.placed ∙ rest.2 }
     inner Quote is h =
         let rest = split [] tokens (lex_from (InString (part_at place [])) (place + 1) text) h in

@@ -6,6 +6,7 @@ use Rattle.std.specs.Str.{is_utf8}
 use Rattle.std.proofs.lemmas.Str.{is_utf8-from_IsUtf8, IsUtf8-from_ascii}
 use Rattle.std.proofs.lemmas.Str.Ascii.{IsAscii-nil, IsAscii-cons}
 use Rattle.std.proofs.lemmas.Bool.Decides.{nat_tests}
+use Rattle.std.proofs.lemmas.Bool.{and_parts}
 use Rattle.gser_tree.specs.declared.marks.Mark.{Mark}
 use Rattle.gser_tree.specs.declared.marks.Mark.TheVariants.{Open, Close, Comma, Colon}
 use Rattle.gser_tree.specs.declared.marks.Class.{Class}
@@ -18,7 +19,7 @@ use Rattle.gser_tree.specs.declared.lexing.Mode.TheVariants.{Between, InWord, In
 use Rattle.gser_tree.specs.Lexemes.{Lexeme, Space, Marked, Word, Quoted, class_of, octet_of, is_letter, is_word, doubled, show, EndsBefore, AreLexemes}
 use Rattle.gser_tree.specs.TextOf.{part_at, tokens_at}
 use Rattle.gser_tree.specs.Lexing.{more, begin, finish, in_word, in_string, after_quote, step, at_end, lex_from, lex}
-use Rattle.gser_tree.proofs.ClassLemmas.{and_parts, are_letters, quote_is, quote_class, blank_class, mark_class}
+use Rattle.gser_tree.proofs.ClassLemmas.{are_letters, quote_is, quote_class, blank_class, mark_class}
 
 -- a letter's class, and its octet
 letter_class : (class : Class) → is_letter class ≡ true → class ≡ Letter

@@ -3,11 +3,11 @@ use Rattle.std.proofs.Common.{◌≡◌, ℕ, ◌<◌, ◌≤◌, ◌^◌, true,
 use Rattle.std.specs.Prelude.{◌==◌, not, nat_le, if◌then◌else◌}
 use Rattle.std.proofs.lemmas.Bool.Decides.{nat_tests}
 use Rattle.std.proofs.lemmas.Str.Parse.{IsNumeralModel, numerals_by_value, parse_digits}
+use Rattle.std.proofs.lemmas.Bool.{and_parts, and_from}
 use Rattle.std.specs.Char.{is_ascii_digit}
 use Rattle.std.specs.List.{list_all}
 use Rattle.std.specs.Str.Parse.{digits_value, ParsesUnsigned}
 use Rattle.gser_tree.specs.Reading.{is_number, at_most}
-use Rattle.gser_tree.proofs.ClassLemmas.{and_parts, and_both}
 
 pub own : IsNumeralModel (λ ds. list_all is_ascii_digit ds ≡ true) (digits_value 10)
 own = numerals_by_value _ (search rules)
@@ -18,7 +18,7 @@ number_digits [] h = cc
 number_digits (first ∷ rest) h =
     let both = and_parts (is_ascii_digit first) (list_all is_ascii_digit rest && (not (first == 48) || length rest == 0)) h in
     let more = and_parts (list_all is_ascii_digit rest) (not (first == 48) || length rest == 0) both.1 in
-    and_both (is_ascii_digit first) (list_all is_ascii_digit rest) both.0 more.0
+    and_from (is_ascii_digit first) (list_all is_ascii_digit rest) both.0 more.0
 
 some_digits : (text : List ℕ) → is_number text ≡ true → 1 ≤ length text
 some_digits [] h = cc

@@ -2,6 +2,7 @@
 use Rattle.std.proofs.Common.{◌≡◌, ℕ, Bool, true, false, List, [], ◌∷◌, ◌++◌, refl, ap, subst, ◌∙◌}
 use Rattle.std.specs.Prelude.{Option, Some, None, option_and_then, if◌then◌else◌}
 use Rattle.std.specs.List.{AllByRecursion}
+use Rattle.std.proofs.lemmas.Option.{same_Some}
 use Rattle.gser_tree.specs.Shapes.{Shape}
 use Rattle.gser_tree.specs.Looking.{Behind, component}
 use Rattle.gser_tree.specs.Reading.{Found, Read, give, ◌>>=◌, expect, part, present, optional, required, nothing_left, gather}
@@ -14,12 +15,9 @@ Gives {A} P read = (bad : Option ℕ) (value : A) → read bad ≡ Some (record 
 abbrev pub Only : {A : Type 0} → (A → Type 0) → (Shape → Read A) → Type 0
 Only P reader = (shape : Shape) → Gives P (reader shape)
 
-same_found : {A : Type 0} (one other : Found A) → Some one ≡ Some other → one ≡ other
-same_found one other h = cc
-
 pub gives_value : {A : Type 0} (P : A → Type 0) (value : A) → P value → Gives P (give value)
 gives_value {A} P value has bad found h =
-    let whole = same_found (record { value = value; bad = bad }) (record { value = found; bad = None }) h in
+    let whole = same_Some (record { value = value; bad = bad }) (record { value = found; bad = None }) h in
     (ap (λ (f : Found A). f.bad) whole, subst P (ap (λ (f : Found A). f.value) whole) has)
 
 pub gives_nothing : {A : Type 0} (P : A → Type 0) → Gives P (λ bad. None)
@@ -59,10 +57,10 @@ gives_part {A} P place other None has = λ bad value h. never value bad h
   where
     never : (value : A) (bad : Option ℕ) → part place other None bad ≡ Some (record { value = value; bad = None }) → (bad ≡ None) × P value
     never value None h =
-        let apart : Some place ≡ None = ap (λ (f : Found A). f.bad) (same_found (record { value = other; bad = Some place }) (record { value = value; bad = None }) h) in
+        let apart : Some place ≡ None = ap (λ (f : Found A). f.bad) (same_Some (record { value = other; bad = Some place }) (record { value = value; bad = None }) h) in
         cc
     never value (Some first) h =
-        let apart : Some first ≡ None = ap (λ (f : Found A). f.bad) (same_found (record { value = other; bad = Some first }) (record { value = value; bad = None }) h) in
+        let apart : Some first ≡ None = ap (λ (f : Found A). f.bad) (same_Some (record { value = other; bad = Some first }) (record { value = value; bad = None }) h) in
         cc
 
 -- a component that may be absent
