@@ -1,10 +1,11 @@
 -- Printed levels, users, attribute types, values and subtrees are read as they were.
 use Prim.Native.Nat.{zero}
-use Rattle.std.proofs.Common.{◌≡◌, ℕ, suc, ◌≤◌, Bool, true, false, List, [], ◌∷◌, Option, Some, None, codes, refl, sym, ap, ◌∙◌, arith}
+use Rattle.std.proofs.Common.{◌≡◌, ℕ, suc, ◌≤◌, Bool, true, List, [], ◌∷◌, Option, Some, None, codes, refl, sym, ap, ◌∙◌, arith}
 use Rattle.std.specs.Option.{option_map_or}
-use Rattle.std.specs.Prelude.{◌&&◌, ◌||◌, find, option_and_then, option_map, slice_get}
+use Rattle.std.specs.Prelude.{find, option_and_then, option_map, slice_get}
 use Rattle.std.specs.List.{list_all}
 use Rattle.std.specs.Str.{bytes_eq}
+use Rattle.std.proofs.lemmas.Bool.{and_parts, or_right}
 use Rattle.schema_core.specs.Attributes.{Attribute, attributes, name_of, IsAttrId}
 use Rattle.schema_core.specs.Naming.{is_keystring}
 use Rattle.schema_core.specs.Oid.{is_dotted_oid}
@@ -107,24 +108,16 @@ names_are_words : list_all (λ row. is_word row.name) attributes ≡ true
 unfolding attributes class_of
 names_are_words = refl
 
-both_hold : (one other : Bool) → (one && other) ≡ true → (one ≡ true) × (other ≡ true)
-both_hold true other h = (refl, h)
-both_hold false other h = cc
-
 passes_at : (P : Attribute → Bool) (rows : List Attribute) (number : ℕ) (row : Attribute) → list_all P rows ≡ true → slice_get rows number ≡ Some row → P row ≡ true
 passes_at P [] number row all there = absurd cc
 passes_at P (first ∷ rows) zero row all there =
-    let same : first ≡ row = cc in ap P (sym same) ∙ (both_hold (P first) (list_all P rows) all).0
-passes_at P (first ∷ rows) (suc number) row all there = passes_at P rows number row (both_hold (P first) (list_all P rows) all).1 there
+    let same : first ≡ row = cc in ap P (sym same) ∙ (and_parts (P first) (list_all P rows) all).0
+passes_at P (first ∷ rows) (suc number) row all there = passes_at P rows number row (and_parts (P first) (list_all P rows) all).1 there
 
 is_word-name_of : (number : ℕ) → IsAttrId number → is_word (name_of number) ≡ true
 is_word-name_of number within =
     let row = attribute_at-Some number within in
     ap (λ found. is_word (option_map_or (λ row. row.name) found [])) row.1 ∙ passes_at (λ row. is_word row.name) attributes number row.0 names_are_words row.1
-
-or_right : (one other : Bool) → other ≡ true → (one || other) ≡ true
-or_right true other h = refl
-or_right false other h = h
 
 is_oid-name_of : (number : ℕ) → IsAttrId number → is_oid (name_of number) ≡ true
 is_oid-name_of number within = or_right (is_dotted_oid (name_of number)) (is_keystring (name_of number)) (is_keystring-name_of number within)

@@ -3,6 +3,7 @@ use Prim.Native.Nat.{zero}
 use Rattle.std.proofs.Common.{◌≡◌, ℕ, suc, Bool, true, false, List, [], ◌∷◌, codes, refl, sym, ap, ◌∙◌, subst, arith}
 use Rattle.std.specs.Prelude.{◌-◌, Option, Some, None, length, slice_get, if◌then◌else◌}
 use Rattle.std.specs.Str.{bytes_eq}
+use Rattle.std.proofs.lemmas.Option.{same_Some}
 use Rattle.gser_tree.specs.declared.part.Part.{Part}
 use Rattle.gser_tree.specs.Looking.{Behind, chosen_in, component, members_in}
 use Rattle.gser_tree.specs.Reading.{Found, Read, expect, give, nothing_left, optional, present}
@@ -155,18 +156,15 @@ no_place : (bad : Option ℕ) (place : ℕ) → least bad (Some place) ≡ None 
 no_place None place h = cc
 no_place (Some first) place h = cc
 
-same_found : {A : Type 0} (one other : Found A) → Some one ≡ Some other → one ≡ other
-same_found one other h = cc
-
 unrefined_is_good : (shape : Shape) (spec : Subtree) (filter : Option Choice) → spec.filter ≡ filter
     → ((choice : Choice) → spec.filter ≡ Some choice → (place : ℕ) × (filter_place shape ≡ Some place))
     → (bad : Option ℕ) (value : Subtree) → unrefined shape spec filter bad ≡ Some (record { value = value; bad = None })
     → (bad ≡ None) × (spec ≡ value) × (spec.filter ≡ None)
 unrefined_is_good shape spec None is places bad value h =
-    let same = same_found (record { value = spec; bad = bad }) (record { value = value; bad = None }) h in
+    let same = same_Some (record { value = spec; bad = bad }) (record { value = value; bad = None }) h in
     (ap (λ (f : Found Subtree). f.bad) same, ap (λ (f : Found Subtree). f.value) same, is)
 unrefined_is_good shape spec (Some choice) is places bad value h =
-    let same = same_found (record { value = spec; bad = least bad (filter_place shape) }) (record { value = value; bad = None }) h in
+    let same = same_Some (record { value = spec; bad = least bad (filter_place shape) }) (record { value = value; bad = None }) h in
     let place = places choice is in
     absurd (no_place bad place.0 (ap (least bad) (sym place.1) ∙ ap (λ (f : Found Subtree). f.bad) same))
 
