@@ -1,11 +1,11 @@
 -- The attributes of a request, read one after the other.
-use Rattle.std.proofs.Common.{◌≡◌, ◌≢◌, ◌⊎◌, inl, inr, ℕ, suc, ◌+◌, ◌<◌, Bool, true, false, ◌||◌, List, [], ◌∷◌, ◌++◌, length, drop, get_or, Option, Some, None, Result, Ok, Err, refl, sym, ap, ◌∙◌, add-one, append_assoc}
+use Rattle.std.proofs.Common.{◌≡◌, ◌≢◌, ◌⊎◌, inl, inr, ℕ, ◌+◌, Bool, true, false, ◌||◌, List, [], ◌∷◌, ◌++◌, length, drop, Option, Some, None, Result, Ok, Err, refl, sym, ap, ◌∙◌, append_assoc}
 use Rattle.std.specs.Prelude.{◌==◌, if◌then◌else◌}
 use Rattle.std.specs.List.{AllByRecursion, IsDistinct, list_any}
-use Rattle.std.proofs.Math.Seq.{drop-cons}
-use Rattle.std.proofs.lemmas.Bool.{cases_Bool, or_parts, eqb-true, eq-eqb}
+use Rattle.std.proofs.lemmas.Bool.{cases_Bool, or_parts, eqb-true, eq-eqb, or_right}
 use Rattle.std.proofs.lemmas.List.{append-nil, map-append}
 use Rattle.std.proofs.lemmas.List.Folds.{list_any-append}
+use Rattle.base_laws.proofs.Theorems.{none_passes, list_any-none}
 use Rattle.plain_values.specs.Results.{◌>>=◌}
 use Rattle.plain_values.specs.Answers.{IsFaultOf}
 use Rattle.schema_core.specs.Attributes.{attr_of}
@@ -21,10 +21,6 @@ use Rattle.op_update.specs.declared.fault.Fault.TheVariants as fault
 use Rattle.op_update.specs.NewEntries.{read_value, read_values, read_known, read_attribute, read_each, repeats, has_twice, without_twice, lacks_values}
 use Rattle.op_update.specs.Reading.{cause_of}
 use Rattle.op_update.specs.Steps.{finished, entry_from, IsPut}
-
--- the first of the items that are left
-pub next-item : {A : Type 0} (xs : List A) (index : ℕ) (x : A) → index < length xs → x ≡ get_or xs index x → drop index xs ≡ x ∷ drop (index + 1) xs
-next-item xs index x within is = rw add-one (drop-cons xs index x within ∙ ap (λ first. first ∷ drop (suc index) xs) (sym is))
 
 -- ---- values, one after the other
 
@@ -81,23 +77,15 @@ values-filled kind (octets ∷ rest) values some good = by (read_value kind octe
 -- ---- what comes twice
 
 -- distinct items don't repeat, and the other way round
-all-false : {A : Type 0} (test : A → Bool) (xs : List A) → list_any test xs ≡ false → AllByRecursion (λ x. test x ≡ false) xs
-all-false test [] e = tt
-all-false test (x ∷ xs) e = (let parts = or_parts (test x) (list_any test xs) e in (parts.0, all-false test xs parts.1))
-
-any-false : {A : Type 0} (test : A → Bool) (xs : List A) → AllByRecursion (λ x. test x ≡ false) xs → list_any test xs ≡ false
-any-false test [] h = refl
-any-false test (x ∷ xs) h = rw (h.0, any-false test xs h.1) refl
-
 pub distinct-repeats : {A : Type 0} (same : A → A → Bool) (xs : List A) → repeats same xs ≡ false → IsDistinct same xs
 unfolding repeats IsDistinct
 distinct-repeats same [] e = tt
-distinct-repeats same (x ∷ xs) e = (let parts = or_parts (list_any (same x) xs) (repeats same xs) e in (all-false (same x) xs parts.0, distinct-repeats same xs parts.1))
+distinct-repeats same (x ∷ xs) e = (let parts = or_parts (list_any (same x) xs) (repeats same xs) e in (none_passes (same x) xs parts.0, distinct-repeats same xs parts.1))
 
 pub repeats-distinct : {A : Type 0} (same : A → A → Bool) (xs : List A) → IsDistinct same xs → repeats same xs ≡ false
 unfolding repeats IsDistinct
 repeats-distinct same [] h = refl
-repeats-distinct same (x ∷ xs) h = rw (any-false (same x) xs h.0, repeats-distinct same xs h.1) refl
+repeats-distinct same (x ∷ xs) h = rw (list_any-none (same x) xs h.0, repeats-distinct same xs h.1) refl
 
 no-repeats : (attributes : List Attribute) → AllByRecursion IsGoodAttribute attributes → list_any (λ attribute. repeats is_match attribute.values) attributes ≡ false
 no-repeats [] h = refl
@@ -121,10 +109,6 @@ repeats-behind same (y ∷ done) x left e = elim (cases_Bool (same y x)) [
     or-true true b e = refl
     or-true false b e = e
 
-or-right : (a b : Bool) → b ≡ true → (a || b) ≡ true
-or-right true b e = refl
-or-right false b e = e
-
 eqb-turn : (a b : ℕ) → (a == b) ≡ true → (b == a) ≡ true
 eqb-turn a b e = eq-eqb b a (sym (eqb-true a b e))
 
@@ -132,7 +116,7 @@ kind-turn : (kind : ℕ) (kinds : List ℕ) → list_any (λ other. kind == othe
 kind-turn kind [] e = absurd cc
 kind-turn kind (x ∷ xs) e = elim (cases_Bool (kind == x)) [
   | inl f ↦ ap (λ b. b || list_any (λ other. other == kind) xs) (eqb-turn kind x f)
-  | inr f ↦ (let later : list_any (λ other. kind == other) xs ≡ true = rw f at e in or-right (x == kind) (list_any (λ other. other == kind) xs) (kind-turn kind xs later))
+  | inr f ↦ (let later : list_any (λ other. kind == other) xs ≡ true = rw f at e in or_right (x == kind) (list_any (λ other. other == kind) xs) (kind-turn kind xs later))
 ]
 
 -- the type is there already
@@ -146,9 +130,9 @@ twice-kind done left attribute e =
 -- two of the values match
 pub twice-values : (done left : List Attribute) (attribute : Attribute) → repeats is_match attribute.values ≡ true → has_twice (done ++ attribute ∷ left) ≡ true
 twice-values done left attribute e =
-    or-right (repeats (λ one other. one == other) (kinds_of (done ++ attribute ∷ left))) (list_any (λ attribute. repeats is_match attribute.values) (done ++ attribute ∷ left))
+    or_right (repeats (λ one other. one == other) (kinds_of (done ++ attribute ∷ left))) (list_any (λ attribute. repeats is_match attribute.values) (done ++ attribute ∷ left))
     (list_any-append (λ (attribute : Attribute). repeats is_match attribute.values) done (attribute ∷ left)
-    ∙ or-right (list_any (λ attribute. repeats is_match attribute.values) done) _ (ap (λ b. b || list_any (λ attribute. repeats is_match attribute.values) left) e))
+    ∙ or_right (list_any (λ attribute. repeats is_match attribute.values) done) _ (ap (λ b. b || list_any (λ attribute. repeats is_match attribute.values) left) e))
 
 pub finished-twice : (twice : Bool) (done left : List Attribute) (attribute : Attribute) → has_twice (done ++ attribute ∷ left) ≡ true → finished true done left ≡ finished twice done (attribute ∷ left)
 finished-twice true done left attribute e = refl
