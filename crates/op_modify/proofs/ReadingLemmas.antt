@@ -1,9 +1,9 @@
 -- The changes of a request, read one after the other.
-use Rattle.std.proofs.Common.{◌≡◌, ℕ, suc, ◌+◌, ◌<◌, Bool, false, List, [], ◌∷◌, ◌++◌, length, drop, get_or, Result, Ok, Err, refl, sym, ap, ◌∙◌, add-one, append_assoc}
-use Rattle.std.specs.List.{AllByRecursion, IsDistinct, list_any}
-use Rattle.std.proofs.Math.Seq.{drop-cons}
+use Rattle.std.proofs.Common.{◌≡◌, ℕ, ◌+◌, Bool, false, List, [], ◌∷◌, ◌++◌, drop, Result, Ok, Err, refl, sym, ap, ◌∙◌, append_assoc}
+use Rattle.std.specs.List.{IsDistinct, list_any}
 use Rattle.std.proofs.lemmas.Bool.{or_parts}
 use Rattle.std.proofs.lemmas.List.{append-nil}
+use Rattle.base_laws.proofs.Theorems.{none_passes}
 use Rattle.plain_values.specs.Results.{◌>>=◌}
 use Rattle.plain_values.specs.Answers.{IsFaultOf}
 use Rattle.entry_changes.specs.Changes.{Modification}
@@ -14,10 +14,6 @@ use Rattle.op_update.specs.declared.fault.Fault.TheVariants as fault
 use Rattle.op_update.specs.NewEntries.{repeats}
 use Rattle.op_update.specs.Reading.{cause_of}
 use Rattle.op_modify.specs.ReadChanges.{read_change, read_each}
-
--- the first of the items that are left
-pub next-item : {A : Type 0} (xs : List A) (index : ℕ) (x : A) → index < length xs → x ≡ get_or xs index x → drop index xs ≡ x ∷ drop (index + 1) xs
-next-item xs index x within is = rw add-one (drop-cons xs index x within ∙ ap (λ first. first ∷ drop (suc index) xs) (sym is))
 
 -- items before those of a result
 abbrev pub put_before : {A E : Type 0} → List A → Result (List A) E → Result (List A) E
@@ -59,11 +55,7 @@ unfolding read_each
 changes-done done given none = ap (λ given. put_before done (read_each given)) none ∙ ap (λ items. Ok items) (append-nil done)
 
 -- items of which none comes twice are distinct
-all-false : {A : Type 0} (test : A → Bool) (xs : List A) → list_any test xs ≡ false → AllByRecursion (λ x. test x ≡ false) xs
-all-false test [] e = tt
-all-false test (x ∷ xs) e = (let parts = or_parts (test x) (list_any test xs) e in (parts.0, all-false test xs parts.1))
-
 pub distinct-repeats : {A : Type 0} (same : A → A → Bool) (xs : List A) → repeats same xs ≡ false → IsDistinct same xs
 unfolding repeats IsDistinct
 distinct-repeats same [] e = tt
-distinct-repeats same (x ∷ xs) e = (let parts = or_parts (list_any (same x) xs) (repeats same xs) e in (all-false (same x) xs parts.0, distinct-repeats same xs parts.1))
+distinct-repeats same (x ∷ xs) e = (let parts = or_parts (list_any (same x) xs) (repeats same xs) e in (none_passes (same x) xs parts.0, distinct-repeats same xs parts.1))

@@ -1,8 +1,9 @@
 -- Changes are read one after the other.
 use Rattle.std.proofs.Common.{◌∙◌, ap, sym, drop, ◌+◌}
 use Rattle.std.proofs.lemmas.List.{drop_all}
+use Rattle.base_laws.proofs.Theorems.{next-item}
 use Rattle.op_modify.specs.ReadChanges.{read_each}
-use Rattle.op_modify.proofs.ReadingLemmas.{next-item, put_before, changes-step, changes-fault, changes-done}
+use Rattle.op_modify.proofs.ReadingLemmas.{put_before, changes-step, changes-fault, changes-done}
 use Rattle.op_modify.proofs.reading.read_each.Goals as goal
 
 -- one is none
