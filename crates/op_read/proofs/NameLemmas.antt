@@ -1,11 +1,12 @@
 -- Entries by their names: an entry of a name is the only one, and names that are the same begin the same names.
-use Rattle.std.proofs.Common.{◌≡◌, inl, inr, Bool, true, false, ◌&&◌, List, [], ◌∷◌, ◌++◌, refl, sym, ap, ◌∙◌, map, filter, length, Ordering}
+use Rattle.std.proofs.Common.{◌≡◌, inl, inr, Bool, true, false, ◌&&◌, List, [], ◌∷◌, ◌++◌, refl, sym, ap, ◌∙◌, map, filter, length}
 use Rattle.std.specs.Prelude.{◌==◌, ◌+◌}
 use Rattle.std.specs.List.{AllByRecursion}
 use Rattle.std.specs.Ordering.{is_eq}
-use Rattle.std.specs.declared.cmp.Ordering.TheVariants.{Less, Equal, Greater}
+use Rattle.std.specs.declared.cmp.Ordering.TheVariants.{Less}
 use Rattle.std.proofs.lemmas.Bool.{cases_Bool}
 use Rattle.std.proofs.lemmas.List.{length-map}
+use Rattle.base_laws.proofs.Theorems.{is_equal}
 use Rattle.dn_names.specs.Names.{RdnSequence}
 use Rattle.dn_names.specs.NameOrder.{name_cmp, is_same, is_prefix_of, type_and_key, types_and_keys}
 use Rattle.dn_names.proofs.Theorems.{name_cmp_total, is_same-types_and_keys, is_prefix_of-types_and_keys}
@@ -15,11 +16,6 @@ use Rattle.dir_tree.specs.Scopes.{is_child, is_within}
 use Rattle.read_model.specs.Views as views
 use Rattle.read_model.specs.Views.{Row}
 use Rattle.op_read.specs.Seeing.{one_or_none}
-
-is_equal : (o : Ordering) → is_eq o ≡ true → o ≡ Equal
-is_equal Less e = absurd cc
-is_equal Equal e = refl
-is_equal Greater e = absurd cc
 
 -- what comes later than an entry of the name has another
 later-other : (name : RdnSequence) (first later : EntryInformation) → is_named name first ≡ true → name_cmp first.name later.name ≡ Less → is_named name later ≡ false

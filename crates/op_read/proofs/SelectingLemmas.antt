@@ -4,6 +4,8 @@ use Rattle.std.specs.Prelude.{◌==◌, is_some}
 use Rattle.std.specs.List.{list_any}
 use Rattle.std.specs.Option.{option_map}
 use Rattle.std.proofs.lemmas.Bool.{cases_Bool}
+use Rattle.std.proofs.lemmas.List.Elements.{filter_agree}
+use Rattle.base_laws.proofs.Theorems.{find-map, list_any-map, find-passes}
 use Rattle.dn_names.specs.Names.{RdnSequence}
 use Rattle.dn_names.specs.NameOrder.{is_same}
 use Rattle.dir_tree.specs.Entries.{EntryInformation}
@@ -23,7 +25,7 @@ use Rattle.read_model.specs.Selecting.{takes_in, is_shown, is_selected, selected
 use Rattle.op_asking.specs.Asking.{view_in}
 use Rattle.op_read.specs.Seeing.{row_in, one_or_none, scope_of}
 use Rattle.op_read.specs.Sending.{shown_among}
-use Rattle.op_read.proofs.ListLemmas.{find-map, list_any-map, filter-two, filter-like, find-passes, among}
+use Rattle.op_read.proofs.ListLemmas.{filter-two, among}
 use Rattle.op_read.proofs.NameLemmas.{named-entries, child-like, within-like}
 use Rattle.op_read.proofs.SeenLemmas.{named-found}
 
@@ -60,17 +62,17 @@ scope-entries scope id entry name rows tree known named = by (cases_Bool (scope 
         let is : scope_of scope ≡ Base = rw e refl in
         ap (λ (s : Scope). entries_at rows (scoped s id rows)) is
         ∙ base-entries id entry name rows tree known named
-        ∙ sym (filter-like (takes_in scope name) (is_named name) (base-test scope name e) (entries_of rows))
+        ∙ sym (filter_agree (takes_in scope name) (is_named name) (base-test scope name e) (entries_of rows))
     by (inr e) (inl f) =
         let is : scope_of scope ≡ One = rw (e, f) refl in
         ap (λ (s : Scope). entries_at rows (scoped s id rows)) is
         ∙ scoped-One-entries id entry rows tree known
-        ∙ sym (filter-like (takes_in scope name) (is_child entry.name) (λ x. one-test scope name e f x ∙ child-like name entry.name same x) (entries_of rows))
+        ∙ sym (filter_agree (takes_in scope name) (is_child entry.name) (λ x. one-test scope name e f x ∙ child-like name entry.name same x) (entries_of rows))
     by (inr e) (inr f) =
         let is : scope_of scope ≡ Sub = rw (e, f) refl in
         ap (λ (s : Scope). entries_at rows (scoped s id rows)) is
         ∙ scoped-Sub-entries id entry rows tree known
-        ∙ sym (filter-like (takes_in scope name) (is_within entry.name) (λ x. sub-test scope name e f x ∙ within-like name entry.name same x) (entries_of rows))
+        ∙ sym (filter_agree (takes_in scope name) (is_within entry.name) (λ x. sub-test scope name e f x ∙ within-like name entry.name same x) (entries_of rows))
 
 -- a number that is found is in use
 in-use : (rows : List Numbered) → IsNumberedTree rows → (name : RdnSequence) (id : ℕ) → find_name name rows ≡ Some id → (entry : EntryInformation) × (entry_of id rows ≡ Some entry)

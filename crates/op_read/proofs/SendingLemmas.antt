@@ -3,6 +3,7 @@ use Rattle.std.proofs.Common.{◌≡◌, ◌≢◌, ℕ, ◌+◌, true, List, []
 use Rattle.std.specs.Prelude.{flat_map}
 use Rattle.std.proofs.lemmas.List.{append-nil}
 use Rattle.std.proofs.lemmas.Grind.{flat_map-append}
+use Rattle.std.proofs.lemmas.List.Folds.{flat_map-map}
 use Rattle.dn_names.specs.Names.{RdnSequence}
 use Rattle.ldap_msg.specs.declared.operations.ResultCode.TheVariants as code
 use Rattle.ldap_msg.specs.declared.kinds.Reply.TheVariants as reply
@@ -15,7 +16,6 @@ use Rattle.op_read.specs.declared.sending.Sent.{Sent}
 use Rattle.op_read.specs.declared.sending.Found.{Found}
 use Rattle.op_read.specs.declared.sending.Found.TheVariants.{Nothing, Some as FoundSome, TooMany}
 use Rattle.op_read.specs.Sending.{is_filled, entry_octets, Sends, IsSent, ended_by}
-use Rattle.op_read.proofs.ListLemmas.{flat_map-map}
 
 -- with one more there are some
 filled-more : (rows : View) (row : Row) → true ≡ is_filled (rows ++ row ∷ [])
