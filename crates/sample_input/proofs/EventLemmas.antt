@@ -1,8 +1,9 @@
 -- A sample's events open one number, and their octets are none of them empty.
-use Rattle.std.proofs.Common.{◌≡◌, ℕ, zero, suc, ◌<◌, List, [], ◌∷◌, ◌++◌, length, refl, sym, ◌∙◌, subst, arith, append-nil}
+use Rattle.std.proofs.Common.{◌≡◌, ℕ, zero, suc, ◌<◌, [], ◌∷◌, length, refl, sym, ◌∙◌, subst, arith, append-nil}
 use Rattle.std.specs.Prelude.{nat_eq}
-use Rattle.std.specs.List.{AllByRecursion, IsDistinct}
+use Rattle.std.specs.List.{IsDistinct}
 use Rattle.std.proofs.lemmas.List.Elements.{filter_map-append}
+use Rattle.base_laws.proofs.Theorems.{all_push}
 use Rattle.ber_layout.specs.Spellings.{element_octets}
 use Rattle.script_text.specs.declared.event.ScriptEvent.TheVariants.{Bytes}
 use Rattle.script_text.specs.Script.{OpensOnce, AreFilled, IsFilled, opened_by, opens}
@@ -25,11 +26,6 @@ opened-sample (suc count) =
 pub sample_once : (count : ℕ) → OpensOnce (sample_events count)
 unfolding IsDistinct
 sample_once count = subst (IsDistinct nat_eq) (sym (opened-sample count)) (tt, tt)
-
--- one more of which it holds
-all_push : {A : Type 0} (P : A → Type 0) (xs : List A) (y : A) → AllByRecursion P xs → P y → AllByRecursion P (xs ++ y ∷ [])
-all_push P [] y all here = (here, tt)
-all_push P (x ∷ xs) y all here = (all.0, all_push P xs y all.1 here)
 
 pub sample_filled : (count : ℕ) → AreFilled (sample_events count)
 unfolding sample_events
