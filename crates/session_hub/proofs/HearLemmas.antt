@@ -1,6 +1,7 @@
 -- What is held after a piece, and how much of it is unread.
 use Rattle.std.proofs.Common.{◌≡◌, ◌≤◌, ℕ, Bool, true, false, cond, not, ◌&&◌, ◌||◌, List, [], ◌++◌, length, drop, set, get_or, Option, Some, None, is_some, refl, ap, sym, ◌∙◌, subst, inl, inr, append-nil, arith, true≢false}
 use Rattle.std.proofs.lemmas.List.{drop-append-le}
+use Rattle.std.proofs.Math.Bool.{or-false}
 use Rattle.ldap_msg.specs.Streams.{whole, rest_of, is_broken}
 use Rattle.ldap_msg.proofs.Theorems.{rest_bound}
 use Rattle.session_model.specs.Rules.{Answered, talk}
@@ -101,19 +102,15 @@ ended_bounded t w stream old new u y spoken rest end speaks keeps = by_end end (
     by_end Closes has = subst (λ xs. length xs ≤ most_unread) (sym has.unread) (omega arith)
     by_end IsCut has = subst (λ xs. length xs ≤ most_unread) (sym has.unread) (omega arith)
 
-or_false : (b : Bool) → (b || false) ≡ b
-or_false true = refl
-or_false false = refl
-
 -- a piece for a connection that isn't held, for one that is closing, and for one that is open
 pub hears_nowhere : (c : ℕ) (piece : List ℕ) (t : DirectoryEntries) (ks : List (Kept Requester)) → kept_of c ks ≡ None → HearsAt c piece t ks t ks false
 unfolding heard
-hears_nowhere c piece t ks none = record { same = λ b. rw (or_false b, none) refl }
+hears_nowhere c piece t ks none = record { same = λ b. rw (or-false b, none) refl }
 
 pub hears_closing : (c at : ℕ) (piece : List ℕ) (t : DirectoryEntries) (ks : List (Kept Requester)) (k : Kept Requester) → IsAt c at ks → k ≡ get_or ks at k → k.closing ≡ true →
     HearsAt c piece t ks t ks false
 unfolding heard
-hears_closing c at piece t ks k place is shut = record { same = λ b. rw (or_false b, kept_at_is c at ks k place is, shut) refl }
+hears_closing c at piece t ks k place is shut = record { same = λ b. rw (or-false b, kept_at_is c at ks k place is, shut) refl }
 
 held_is : (t u : DirectoryEntries) (ks ls : List (Kept Requester)) (b d : Bool) → t ≡ u → ks ≡ ls → b ≡ d →
     ◌≡◌ {A = Held DirectoryEntries Requester} (record { tree = t; kept = ks; was_cut = b }) (record { tree = u; kept = ls; was_cut = d })

@@ -1,6 +1,7 @@
 -- A plan that a link plays in a loop, event by event.
 use Rattle.std.proofs.Common.{◌≡◌, ◌+◌, ℕ, Bool, true, false, ◌&&◌, List, [], ◌∷◌, ◌++◌, length, Option, Some, None, Ok, Err, refl, ap, ap₂, sym, ◌∙◌, subst, append-nil, length-append, arith, true≢false}
 use Rattle.std.proofs.lemmas.List.{append_cancel_left}
+use Rattle.std.proofs.lemmas.Option.{same_Some}
 use Rattle.script_text.specs.declared.event.ScriptEvent.{ScriptEvent}
 use Rattle.wire_io.specs.declared.answers.Heard.{Heard as Answer}
 use Rattle.wire_io.specs.declared.answers.NextFault.{NextFault}
@@ -26,9 +27,6 @@ use Rattle.session_hub.specs.Adding.{Adds, IsBlock}
 use Rattle.session_hub.specs.Turns.{Running, Playing, PlayedSoFar}
 use Rattle.session_hub.proofs.AddingLemmas.{all_taken-both}
 use Rattle.session_hub.proofs.LoopLemmas.{is_stop, one_event, comes}
-
-some_same : {A : Type 0} (x y : A) → Some x ≡ Some y → x ≡ y
-some_same x y h = cc
 
 -- what is on hold after items that were added to a journal in which nothing was
 holds_from : (c : ℕ) (begun added : List Item) (b : Bool) → hold_after_all c b (begun ++ added) ≡ hold_after_all c (hold_after_all c b begun) added
@@ -113,7 +111,7 @@ playing_on entries n hub on_hold before a b after plan_before pa pb plan_after P
     let next = NextPlays-told {E = NextFault} (Some (begun ++ added)) left buf (Ok given) pb here in
     let came = comes begun added buf given a b so.2 tells in
     let ran = running begun is in
-    let same : ran.0 ≡ added = append_cancel_left begun ran.0 added (some_same (begun ++ ran.0) (begun ++ added) (sym ran.1 ∙ so.2)) in
+    let same : ran.0 ≡ added = append_cancel_left begun ran.0 added (same_Some (begun ++ ran.0) (begun ++ added) (sym ran.1 ∙ so.2)) in
     let free : all_taken added ≡ true → (c : ℕ) → is_held c added ≡ false =
     subst (λ x. all_taken x ≡ true → (c : ℕ) → is_held c x ≡ false) same (λ all. works_free rules entries hub on_hold ran.0 ran.2.works all) in
     let block = adds begun (added ++ item.Heard (event_of buf given) ∷ []) came.noted in (
@@ -142,7 +140,7 @@ pub plays_ended : (turns : ℕ) (before now : Option (List Item)) (plan_before p
 unfolding Playing PlaysOut
 plays_ended turns before now plan_before plan_now end playing goes_on unspent begun added plan is is_now planned =
     let so = playing begun plan is planned in
-    let same : so.0 ≡ added = append_cancel_left begun so.0 added (some_same (begun ++ so.0) (begun ++ added) (sym so.2 ∙ is_now)) in
+    let same : so.0 ≡ added = append_cancel_left begun so.0 added (same_Some (begun ++ so.0) (begun ++ added) (sym so.2 ∙ is_now)) in
     (so.1, so.3, played_to turns begun added plan so.1 end (subst (λ x. PlayedSoFar begun x plan so.1) same so.4) goes_on (λ spent. absurd (unspent spent)))
 
 -- the turns are spent
@@ -152,8 +150,8 @@ unfolding Playing PlaysOut Running
 plays_spent entries turns before now plan_before plan_now hub on_hold end goes_on playing running begun added plan is is_now planned =
     let so = playing begun plan is planned in
     let run = running begun is in
-    let same : so.0 ≡ added = append_cancel_left begun so.0 added (some_same (begun ++ so.0) (begun ++ added) (sym so.2 ∙ is_now)) in
-    let ran : run.0 ≡ added = append_cancel_left begun run.0 added (some_same (begun ++ run.0) (begun ++ added) (sym run.1 ∙ is_now)) in
+    let same : so.0 ≡ added = append_cancel_left begun so.0 added (same_Some (begun ++ so.0) (begun ++ added) (sym so.2 ∙ is_now)) in
+    let ran : run.0 ≡ added = append_cancel_left begun run.0 added (same_Some (begun ++ run.0) (begun ++ added) (sym run.1 ∙ is_now)) in
     (so.1, so.3, played_to turns begun added plan so.1 end (subst (λ x. PlayedSoFar begun x plan so.1) same so.4) goes_on (λ _. ap (λ x. length (heard x)) (sym ran) ∙ run.2.counts))
 
 -- the plan after Stop
@@ -205,7 +203,7 @@ plays_stopped turns before a b after plan_before pa pb plan_after P Q buf given 
     let came = comes begun added buf given a b so.2 tells in
     let block = adds begun (added ++ item.Heard (event_of buf given) ∷ []) came.noted in
     let now = (added ++ item.Heard (event_of buf given) ∷ []) ++ block.0 in
-    let same : now ≡ all_added = append_cancel_left begun now all_added (some_same (begun ++ now) (begun ++ all_added) (sym block.1 ∙ is_now)) in (
+    let same : now ≡ all_added = append_cancel_left begun now all_added (same_Some (begun ++ now) (begun ++ all_added) (sym block.1 ∙ is_now)) in (
       next.0,
       kept ∙ next.1,
       subst (λ x. PlayedOut turns begun x plan next.0 end) same

@@ -3,6 +3,7 @@ use Rattle.std.proofs.Common.{◌≡◌, ◌≤◌, ℕ, Bool, true, false, not,
 use Rattle.std.specs.List.{AllByRecursion}
 use Rattle.std.specs.Option.{option_map_or}
 use Rattle.std.proofs.lemmas.Bool.{cases_Bool, not-true}
+use Rattle.base_laws.proofs.Theorems.{all_map}
 use Rattle.dn_names.specs.Names.{RdnSequence}
 use Rattle.dn_names.specs.NameOrder.{is_prefix_of}
 use Rattle.dn_names.specs.NameText.{read_name}
@@ -37,11 +38,6 @@ use Rattle.session_hub.specs.Events.{step_by}
 use Rattle.session_hub.specs.Hubs.{Hears}
 use Rattle.session_hub.specs.Twins.{is_read_within, reads_outside, IsOverTwins, HearsAlike}
 use Rattle.session_hub.proofs.FollowingLemmas.{follows_step}
-
--- one fact of each element, from another
-pub all_from : {A : Type 0} (P Q : A → Type 0) → ((x : A) → P x → Q x) → (xs : List A) → AllByRecursion P xs → AllByRecursion Q xs
-all_from P Q f [] h = tt
-all_from P Q f (x ∷ xs) h = (f x h.0, all_from P Q f xs h.1)
 
 -- a name that isn't at or below another, if there is one
 outside_of : (top : RdnSequence) (name : Result RdnSequence BadName) → not (is_read_within top name) ≡ true → IfOk name (λ n. is_prefix_of top n ≡ false)
@@ -128,7 +124,7 @@ answer-twins other top asked over = read-alike asked.who asked.tree other top ov
 -- so are all of them
 pub all_answered : (other : DirectoryEntries) (top : RdnSequence) (xs : List (AnsweredMessage DirectoryEntries Requester)) → AllByRecursion (IsOverTwins other top) xs
     → AllByRecursion (IsAnsweredAlike rules other) xs
-all_answered other top xs all = all_from (IsOverTwins other top) (IsAnsweredAlike rules other) (answer-twins other top) xs all
+all_answered other top xs all = all_map (IsOverTwins other top) (IsAnsweredAlike rules other) (answer-twins other top) xs all
 
 -- a step that was heard is heard alike over twins
 pub hears_alike : (s : Step) (old new : Held DirectoryEntries Requester) → new ≡ heard rules s old → HearsAlike s old new
