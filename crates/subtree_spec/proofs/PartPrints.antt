@@ -9,6 +9,7 @@ use Rattle.std.specs.Str.{is_utf8}
 use Rattle.std.proofs.lemmas.Bool.Decides.{nat_tests}
 use Rattle.std.proofs.lemmas.List.Elements.{All-head, All-tail}
 use Rattle.std.proofs.lemmas.Str.{is_utf8-from_IsUtf8}
+use Rattle.std.proofs.lemmas.Bool.{and_parts}
 use Rattle.schema_core.specs.Classes.{Class, classes, class_at, class_of, class_oid_of}
 use Rattle.schema_core.specs.Oid.{IsNumber, is_dotted_oid}
 use Rattle.schema_core.proofs.Theorems.{IsDottedOid-from}
@@ -135,15 +136,11 @@ classes-are_dotted : list_all (λ row. is_dotted_oid row.oid) classes ≡ true
 unfolding classes is_dotted_oid
 classes-are_dotted = refl
 
-both_hold : (one other : Bool) → (one && other) ≡ true → (one ≡ true) × (other ≡ true)
-both_hold true other h = (refl, h)
-both_hold false other h = cc
-
 passes_at : (P : Class → Bool) (rows : List Class) (number : ℕ) (row : Class) → list_all P rows ≡ true → slice_get rows number ≡ Some row → P row ≡ true
 passes_at P [] number row all there = absurd cc
 passes_at P (first ∷ rows) zero row all there =
-    let same : first ≡ row = cc in ap P (sym same) ∙ (both_hold (P first) (list_all P rows) all).0
-passes_at P (first ∷ rows) (suc number) row all there = passes_at P rows number row (both_hold (P first) (list_all P rows) all).1 there
+    let same : first ≡ row = cc in ap P (sym same) ∙ (and_parts (P first) (list_all P rows) all).0
+passes_at P (first ∷ rows) (suc number) row all there = passes_at P rows number row (and_parts (P first) (list_all P rows) all).1 there
 
 -- the object identifier of a class is dotted
 dotted_class : (text value : List ℕ) → class_oid text ≡ Some value → is_dotted_oid value ≡ true
