@@ -1,19 +1,23 @@
 -- What a call that reads gave, against what the definitions compute.
-use Rattle.std.specs.Prelude.{◌≡◌, Option, Some, None, Result, Ok, Err}
+use Rattle.std.specs.Prelude.{◌≡◌, Bool, true, false, Option, Some, None, Result}
+use Rattle.plain_values.specs.Answers.{IsNothing, AnswersAny}
 use Rattle.ber_layout.specs.declared.kinds.ReadFault.{ReadFault}
 use Rattle.ber_layout.specs.declared.kinds.ReadFault.TheVariants as fault
 use Rattle.ber_layout.specs.declared.element.Element.{Element}
 use Rattle.ber_layout.specs.Pieces.{Piece}
 
+-- the fault says that the octets are of no message
+abbrev pub is_of_octets : ReadFault → Bool
+is_of_octets fault.BadMessage = true
+is_of_octets fault.NoMemory = false
+
 -- the fault comes where nothing is computed, or memory ran out
 abbrev pub Fails : {Y : Type 0} → ReadFault → Option Y → Type 0
-Fails fault.BadMessage read = read ≡ None
-Fails fault.NoMemory read = Unit {0}
+Fails fault read = IsNothing (is_of_octets fault) read
 
 -- what was returned, seen by view, is what is computed, unless memory ran out
 abbrev pub Gives : {X Y : Type 0} → (X → Y) → Result X ReadFault → Option Y → Type 0
-Gives view (Ok value) read = read ≡ Some (view value)
-Gives view (Err cause) read = Fails cause read
+Gives view answer read = AnswersAny view is_of_octets answer read
 
 -- what was returned, seen by view, is what is computed
 abbrev pub Finds : {X Y : Type 0} → (X → Y) → Option X → Option Y → Type 0

@@ -1,14 +1,18 @@
 -- What the steps of preparing an item give.
-use Rattle.std.specs.Prelude.{◌≡◌, Option, Some, None, Result, Ok, Err}
+use Rattle.std.specs.Prelude.{Bool, true, false, Option, Result}
+use Rattle.plain_values.specs.Answers.{IsNothing, AnswersAny}
 use Rattle.match_rules.specs.declared.errors.PrepareFault.{PrepareFault}
 use Rattle.match_rules.specs.declared.errors.PrepareFault.TheVariants.{NotOfSyntax, NoMemory}
 
+-- the fault says that the octets are of no value
+abbrev pub is_of_syntax : PrepareFault → Bool
+is_of_syntax NotOfSyntax = true
+is_of_syntax NoMemory = false
+
 -- nothing is expected, or memory was wanted
 abbrev pub Fails : {A : Type 0} → PrepareFault → Option A → Type 0
-Fails NotOfSyntax expected = expected ≡ None
-Fails NoMemory expected = Unit {0}
+Fails fault expected = IsNothing (is_of_syntax fault) expected
 
 -- what is expected, or want of memory in its place
 abbrev pub Gives : {V A : Type 0} → (V → A) → Result V PrepareFault → Option A → Type 0
-Gives view (Ok value) expected = expected ≡ Some (view value)
-Gives view (Err fault) expected = Fails fault expected
+Gives view answer expected = AnswersAny view is_of_syntax answer expected

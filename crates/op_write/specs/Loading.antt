@@ -7,6 +7,7 @@ use Rattle.dn_names.specs.declared.error.BadName.{BadName}
 use Rattle.dn_names.specs.Names.{Keyed, TypeAndValue, RdnSequence, last_rdn}
 use Rattle.dn_names.specs.NameText.{read_name}
 use Rattle.dn_names.specs.NameValues.{value_of}
+use Rattle.dn_names.specs.Limits.{most_octets}
 use Rattle.dir_tree.specs.Entries.{EntryInformation, values_of, has_key}
 use Rattle.dir_tree.specs.Changes.{with_value}
 use Rattle.dir_tree.specs.Trees.{has_name, lacks_superior}
@@ -36,7 +37,7 @@ named line (Err bad) = Err (Bad line Name)
 
 -- the value of the type that the octets are: at most 65,536, and of its syntax
 abbrev pub loaded_value : ℕ → List ℕ → Option Keyed
-loaded_value kind octets = if nat_le (length octets) 65536 then value_of kind octets else None
+loaded_value kind octets = if nat_le (length octets) most_octets then value_of kind octets else None
 
 -- the entry with the value of the line
 abbrev pub with_new_value : EntryInformation → ℕ → ℕ → Option Keyed → Result EntryInformation RecordFault

@@ -9,13 +9,11 @@ ghost use Rattle.op_write.specs.Steps.{value_or_fault};
 
 use crate::fault::{LoadCause, LoadFault, bad_at};
 use dir_tree::Entry;
-use dn_names::{BadName, Dn, Value, make_value, parse};
+use dn_names::{BadName, Dn, MOST_OCTETS, Value, make_value, parse};
 use ldif_core::RecordLine;
 use match_rules::PrepareFault;
 use schema_core::{AttrId, attr_named};
 use std::alloc::Global;
-
-const MOST_OCTETS: usize = 65_536;
 
 /// The name that the octets of the `dn` line are. `Name` comes exactly where they are none, or the empty one.
 pub(crate) fn named(alloc: Global, line: u64, octets: &[u8]) -> Result<Dn, LoadFault>

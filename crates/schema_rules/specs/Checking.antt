@@ -1,5 +1,6 @@
 -- What checking an entry takes, and what it answers.
 use Rattle.std.specs.Prelude.{◌≡◌, ℕ, List, Option, Some, None}
+use Rattle.plain_values.specs.Answers.{IsRefusalOf}
 use Rattle.dir_tree.specs.Entries.{EntryInformation}
 use Rattle.dir_tree.specs.Trees.{superior_name}
 use Rattle.dir_tree.specs.Numbered.{Numbered, entries_of, entry_of, find_name, without}
@@ -25,7 +26,6 @@ abbrev pub code_of : Broken → Option ℕ
 code_of (Rule code) = Some code
 code_of NoMemory = None
 
--- the refusal is for the rule that is broken; want of memory may come in place of any answer
+-- the refusal is for the rule that is broken, or for want of memory
 abbrev pub IsFor : Broken → Option ℕ → Type 0
-IsFor (Rule code) expected = expected ≡ Some code
-IsFor NoMemory expected = Unit {0}
+IsFor broken expected = IsRefusalOf (code_of broken) expected
