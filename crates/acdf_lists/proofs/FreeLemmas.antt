@@ -16,8 +16,8 @@ use Rattle.dir_tree.specs.Refusals.{insert_refusal, refusal_below, remove_refusa
 use Rattle.dir_tree.specs.declared.refusals.InsertRefusal.TheVariants as inserting
 use Rattle.dir_tree.specs.declared.refusals.RemoveRefusal.TheVariants as removing
 use Rattle.dir_tree.proofs.TreeTheorems.{entries_of-put_row, all_under_suffix}
-use Rattle.dir_tree.proofs.NameLemmas.{length-same, same-superior}
-use Rattle.dir_tree.proofs.RootLemmas.{any_put, has_name_like}
+use Rattle.dir_tree.proofs.TreeTheorems.{length-same, same-superior}
+use Rattle.dir_tree.proofs.TreeTheorems.{any_put, has_name_like}
 use Rattle.admin_scope.proofs.Theorems.{length-front}
 
 same_itself : (x : RdnSequence) → is_same x x ≡ true

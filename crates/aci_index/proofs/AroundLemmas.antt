@@ -6,7 +6,7 @@ use Rattle.dn_names.specs.NameOrder.{is_prefix_of, is_same}
 use Rattle.dir_tree.specs.Entries.{EntryInformation}
 use Rattle.dir_tree.specs.Trees.{superior_name}
 use Rattle.dir_tree.specs.Refusals.{is_elsewhere}
-use Rattle.dir_tree.proofs.NameLemmas.{same_like}
+use Rattle.dir_tree.proofs.TreeTheorems.{same_like}
 use Rattle.scope_laws.specs.Aside.{IsAside}
 use Rattle.scope_laws.proofs.Theorems.{aside-under}
 use Rattle.aci_index.proofs.ReachLemmas.{IsApart, child_under}

@@ -7,7 +7,7 @@ use Rattle.dir_tree.specs.Trees.{is_before}
 use Rattle.dir_tree.specs.Numbered.{Numbered, ids_of, entry_of, put_row, without}
 use Rattle.dir_tree.specs.Scopes.{is_within, in_scope, scoped}
 use Rattle.dir_tree.specs.declared.scope.Scope.TheVariants.{Sub}
-use Rattle.dir_tree.proofs.NumberedLemmas.{found_later}
+use Rattle.dir_tree.proofs.TreeTheorems.{found_later}
 use Rattle.aci_index.specs.Reach.{AreBelow}
 
 pub below-more : (bound more : ℕ) (rows : List Numbered) → bound ≤ more → AreBelow bound rows → AreBelow more rows

@@ -13,8 +13,8 @@ use Rattle.dir_tree.specs.Numbered.{Numbered, IsNumberedTree, ids_of, entries_of
 use Rattle.dir_tree.specs.Scopes.{is_within, is_child, in_scope, scoped}
 use Rattle.dir_tree.specs.declared.scope.Scope.TheVariants.{Sub}
 use Rattle.dir_tree.proofs.TreeTheorems.{entry_of-found, superior_of-others, scoped-Sub}
-use Rattle.dir_tree.proofs.NameLemmas.{length-same}
-use Rattle.dir_tree.proofs.NumberedLemmas.{found_row, found_later}
+use Rattle.dir_tree.proofs.TreeTheorems.{length-same}
+use Rattle.dir_tree.proofs.TreeTheorems.{found_row, found_later}
 
 -- an entry whose superior has the name stands immediately below the name
 pub child_under : (base : RdnSequence) (one : EntryInformation) → one.name ≢ [] → is_same (superior_name one.name) base ≡ true → is_child base one ≡ true

@@ -14,7 +14,7 @@ use Rattle.subtree_spec.specs.declared.error.BadText.{BadText}
 use Rattle.subtree_spec.specs.Parts.{name, oid}
 use Rattle.subtree_spec.specs.SubtreePrinted.{print_subtree}
 use Rattle.subtree_spec.specs.SubtreeText.{subtree, there, judged, fault_of}
-use Rattle.subtree_spec.proofs.SubtreeNested.{subtree_is_shallow}
+use Rattle.subtree_spec.proofs.Theorems.{subtree_is_shallow}
 use Rattle.aci_item.specs.declared.item.AciItem.{AciItem}
 use Rattle.aci_item.specs.AciText.{sorted_set, classes, kinds, items, precedence, item_permission, user_permission, item_first, user_first, first, tag, aci_item, AciText, read_item}
 use Rattle.aci_item.specs.ItemParts.{level_word, basic_levels, level_by, level, bit, bits, named_user, user_by, user, kind, no_octets, assertion, kind_and_value, unrefined, class_subtree}

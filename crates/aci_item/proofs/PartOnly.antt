@@ -16,7 +16,7 @@ use Rattle.gser_tree.proofs.Theorems.{Gives, Only, gives_both, gives_choice, giv
 use Rattle.subtree_spec.specs.GoodSubtrees.{IfThere}
 use Rattle.subtree_spec.specs.Parts.{is_oid, name, oid}
 use Rattle.subtree_spec.specs.SubtreeText.{there}
-use Rattle.subtree_spec.proofs.PartPrints.{name_is_good}
+use Rattle.subtree_spec.proofs.Theorems.{name_is_good}
 use Rattle.aci_item.specs.declared.level.Level.{Level}
 use Rattle.aci_item.specs.AciText.{precedence}
 use Rattle.aci_item.specs.GoodItems.{AreGoodBits, IsGoodValue}

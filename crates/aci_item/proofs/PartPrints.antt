@@ -22,8 +22,8 @@ use Rattle.subtree_spec.specs.Parts.{name, is_oid, oid}
 use Rattle.subtree_spec.specs.SubtreePrinted.{print_dn, print_subtree}
 use Rattle.subtree_spec.specs.SubtreeText.{there}
 use Rattle.subtree_spec.specs.Subtrees.{Subtree}
-use Rattle.subtree_spec.proofs.PartPrints.{name_prints}
-use Rattle.subtree_spec.proofs.SubtreePrints.{subtree_prints}
+use Rattle.subtree_spec.proofs.Theorems.{name_prints}
+use Rattle.subtree_spec.proofs.Theorems.{subtree_prints}
 use Rattle.aci_item.specs.declared.level.Level.{Level}
 use Rattle.aci_item.specs.declared.level.Level.TheVariants.{Anyone, Simple, Strong}
 use Rattle.aci_item.specs.AciText.{precedence}

@@ -12,7 +12,7 @@ use Rattle.gser_tree.proofs.Theorems.{both_read, was_there}
 use Rattle.subtree_spec.specs.Parts.{name}
 use Rattle.subtree_spec.specs.SubtreeText.{components, distance, exclusions, no_chops, refinement, subtree, there}
 use Rattle.subtree_spec.specs.Subtrees.{Choice, Subtree}
-use Rattle.subtree_spec.proofs.SubtreeOnly.{subtree_is_good}
+use Rattle.subtree_spec.proofs.Theorems.{subtree_is_good}
 use Rattle.aci_item.specs.GoodItems.{IsGoodClassSubtree}
 use Rattle.aci_item.specs.ItemParts.{class_subtree, filter_place, last_of, least, unrefined}
 use Rattle.aci_item.proofs.OnlyLemmas.{OnlyTexts}

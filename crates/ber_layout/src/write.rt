@@ -26,12 +26,28 @@ fn move_back(octets: &mut [u8], start: usize, by: usize)
     to_front(behind, by);
 }
 
+// Moves the last two octets, the header of a short content, before all others.
+fn two_to_front(octets: &mut [u8])
+    requires { 2 ≤ length octets.old }
+    ensures { octets.new ≡ slice_rotate_right octets.old 2 }
+{
+    let rest = octets.len() - 2;
+    let mut last = [0; 2];
+    last.copy_from_slice(&octets[rest..]);
+    octets.copy_within(..rest, 2);
+    octets[..2].copy_from_slice(&last);
+}
+
 // Moves the last octets, `by` of them, before all others.
 fn to_front(octets: &mut [u8], by: usize)
     requires by { by ≤ length octets.old }
     requires few { by ≤ 6 }
     ensures { octets.new ≡ slice_rotate_right octets.old by }
 {
+    if by == 2 {
+        two_to_front(octets);
+        return;
+    }
     let rest = octets.len() - by;
     let mut last = [0; 6];
     last[..by].copy_from_slice(&octets[rest..]);

@@ -1,7 +1,6 @@
 -- Parts at marks: a text that has no bare mark and ends behind no backslash is one part.
-use Rattle.std.proofs.Common.{◌≡◌, ℕ, suc, ◌+◌, ◌<◌, Bool, true, false, not, List, [], ◌∷◌, ◌++◌, map, take, drop, get_or, length, refl, sym, ap, subst, ◌∙◌, arith}
-use Rattle.std.specs.Prelude.{◌==◌, ◌&&◌, if◌then◌else◌, cond}
-use Rattle.std.specs.List.{position_or_len}
+use Rattle.std.proofs.Common.{◌≡◌, ℕ, suc, ◌+◌, ◌<◌, Bool, true, false, not, List, [], ◌∷◌, ◌++◌, map, take, drop, get_or, length, refl, sym, ap, ◌∙◌, arith}
+use Rattle.std.specs.Prelude.{◌==◌, ◌&&◌, if◌then◌else◌}
 use Rattle.std.proofs.lemmas.List.{drop_more}
 use Rattle.std.proofs.lemmas.Bool.{false≢true, cond-false, cond-true, and_parts, and_from, not-true}
 use Rattle.std.proofs.lemmas.Bool.Decides.{nat_tests}
@@ -110,27 +109,3 @@ cut_last mark text (x ∷ xs) is none = absurd (grind (arith, nat_tests, none))
 pub cut_more : (mark : ℕ) (text rest : List ℕ) → rest ≡ drop (mark_from mark false text) text → (length rest == 0) ≡ false → parts_from mark false text ≡ take (mark_from mark false text) text ∷ parts_from mark false (drop 1 rest)
 cut_more mark text [] is none = absurd (grind (arith, nat_tests, none))
 cut_more mark text (x ∷ xs) is none = parts_from-mark mark false text ∙ ap (λ t. take (mark_from mark false text) text ∷ parts_after mark t) (sym is)
-
--- the place of the first mark, where no backslash stands before it
-pub mark_from-bare : (mark : ℕ) (text : List ℕ)
-    → position_or_len (λ octet. octet == 92) (take (position_or_len (λ octet. octet == mark) text) text) ≡ position_or_len (λ octet. octet == mark) text
-    → mark_from mark false text ≡ position_or_len (λ octet. octet == mark) text
-mark_from-bare mark [] h = refl
-mark_from-bare mark (x ∷ xs) h = inner (x == mark) h (mark_from-bare mark xs)
-  where
-    place : ℕ
-    place = position_or_len (λ octet. octet == mark) xs
-
-    no_backslash : (b : Bool) → cond (not b) (1 + position_or_len (λ octet. octet == 92) (take place xs)) 0 ≡ 1 + place
-        → (position_or_len (λ octet. octet == 92) (take place xs) ≡ place → mark_from mark false xs ≡ place)
-        → suc (mark_from mark b xs) ≡ 1 + place
-    no_backslash true h again = absurd (omega (arith, h))
-    no_backslash false h again = omega (arith, again (omega (arith, h)))
-
-    inner : (a : Bool) → position_or_len (λ octet. octet == 92) (take (cond (not a) (1 + place) 0) (x ∷ xs)) ≡ cond (not a) (1 + place) 0
-        → (position_or_len (λ octet. octet == 92) (take place xs) ≡ place → mark_from mark false xs ≡ place)
-        → (if a then 0 else suc (mark_from mark (x == 92) xs)) ≡ cond (not a) (1 + place) 0
-    inner true h again = refl
-    inner false h again =
-        let one : 1 + place ≡ suc place = omega arith in
-        no_backslash (x == 92) (subst (λ (n : ℕ). position_or_len (λ octet. octet == 92) (take n (x ∷ xs)) ≡ 1 + place) one h) again

@@ -1,13 +1,14 @@
 //! The keys of values that are no names.
 
-ghost use Rattle.std.specs.Prelude.{◌≡◌, ◌↔◌, true, false, Some, None, IfOk, IsErrOf, MatchOption};
+ghost use Rattle.std.specs.Prelude.{◌≡◌, ◌↔◌, true, false, Some, None, IfOk, IsTrue, IsErrOf, MatchOption};
 ghost use Rattle.std.specs.Str.{is_utf8};
 ghost use Rattle.std.specs.Option.{option_map};
 ghost use Rattle.schema_core.specs.Oid.{oid_of};
 ghost use Rattle.match_rules.specs.declared.errors.PrepareFault.TheVariants.{NotOfSyntax};
 ghost use Rattle.dn_names.specs.Values.{of_text, plain_key};
+ghost use Rattle.dn_names.specs.NameValues.{value_key};
 
-use match_rules::{PrepareFault, Rule, prepare};
+use match_rules::{PrepareFault, Rule, is_own_key, prepare};
 use schema_core::{Syntax, oid_of};
 use std::alloc::Global;
 use std::str;
@@ -20,6 +21,21 @@ pub(crate) fn as_text(octets: &[u8]) -> Option<&str>
     match str::from_utf8(octets) {
         Ok(text) => Some(text),
         Err(_) => None,
+    }
+}
+
+/// Whether octets are seen to be their own key under a syntax, so that none has to be made; not of all that are.
+pub(crate) fn has_own_key(syntax: Syntax, octets: &[u8]) -> bool
+    ensures plain { IsTrue result → plain_key syntax octets.now ≡ Some octets.now }
+    ensures value { IsTrue result → value_key syntax octets.now ≡ Some octets.now }
+{
+    match syntax {
+        Syntax::Text => is_own_key(Rule::Text, octets),
+        Syntax::Ascii => is_own_key(Rule::Ascii, octets),
+        Syntax::Octets => is_own_key(Rule::Octets, octets),
+        Syntax::Subtree => is_own_key(Rule::Octets, octets),
+        Syntax::Aci => is_own_key(Rule::Octets, octets),
+        _ => false,
     }
 }
 

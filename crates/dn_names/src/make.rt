@@ -7,7 +7,7 @@ ghost use Rattle.dn_names.specs.NameText.{read_name};
 ghost use Rattle.dn_names.specs.NameValues.{read_key, value_key, value_of};
 
 use crate::error::BadName;
-use crate::keys::make_key;
+use crate::keys::{has_own_key, make_key};
 use crate::parsing::parse;
 use crate::printing::make_name_key;
 use crate::value::Value;
@@ -26,6 +26,7 @@ pub fn make_value(alloc: Global, kind: AttrId, octets: Vec<u8>) -> Result<Value,
     ensures not_of_syntax { IsErrOf result NotOfSyntax → value_of kind.0 octets.items ≡ None }
 {
     match row(kind) {
+        Some(row) if has_own_key(row.syntax, &octets) => Ok(Value::from_one(octets)),
         Some(row) => match syntax_key(alloc, row.syntax, &octets) {
             Ok(key) => Ok(Value::from_parts(octets, key)?),
             Err(fault) => Err(fault),

@@ -4,8 +4,6 @@ ghost use Rattle.std.specs.Prelude.{◌≡◌, ◌≤◌, ◌<◌, ◌+◌, suc,
 ghost use Rattle.dn_names.specs.Reading.{is_mark, escapes_next, parts_of, marks_from, mark_from, is_blank, word_of, kind_size, value_octets, pair_of};
 
 use crate::octets::skip_spaces;
-use crate::short::front;
-use plain_values::position_of;
 
 /// Whether nothing but spaces is in the text.
 pub(crate) fn is_blank(text: &[u8]) -> bool
@@ -51,12 +49,15 @@ fn mark_place(text: &[u8], mark: u8) -> usize
     ensures exact { result ≡ mark_from mark false text.now }
     ensures fits { result ≤ length text.now }
 {
-    let place = position_of(text, mark);
-    if position_of(front(text, place), b'\\') == place {
-        place
-    } else {
-        escaped_place(text, mark)
+    for (place, octet) in text.iter().enumerate() {
+        if is_mark(mark, false, *octet) {
+            return place;
+        }
+        if escapes_next(false, *octet) {
+            return escaped_place(text, mark);
+        }
     }
+    text.len()
 }
 
 // The same, octet by octet.

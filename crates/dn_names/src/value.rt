@@ -52,16 +52,16 @@ impl Value {
         }
     }
 
-    // The value whose key is its octets, which others keep.
-    fn from_slice(alloc: Global, octets: &[u8]) -> Result<Value, AllocError>
+    /// The value whose key is its octets, which others keep; a short one takes no memory.
+    pub(crate) fn from_slice(alloc: Global, octets: &[u8]) -> Result<Value, AllocError>
         ensures ok { IfOk result (λ value. value ≡ record { octets = octets.now; key = octets.now }) }
     {
         let text = Text::from_slice(alloc, octets, octets.len())?;
         Ok(Value { text })
     }
 
-    // The value whose key is its octets.
-    fn from_one(octets: Vec<u8>) -> Value
+    /// The value whose key is its octets.
+    pub(crate) fn from_one(octets: Vec<u8>) -> Value
         ensures exact { result ≡ record { octets = octets.items; key = octets.items } }
     {
         let split = octets.len();

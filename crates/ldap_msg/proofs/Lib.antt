@@ -8,5 +8,6 @@ pub mod ContentLemmas
 pub mod MessageLemmas
 pub mod ReplyLemmas
 pub mod AnswerLemmas
+pub mod PlainLemmas
 pub mod WrittenLemmas
 pub mod Theorems

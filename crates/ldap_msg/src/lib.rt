@@ -9,6 +9,7 @@ mod framing;
 mod kinds;
 mod laws;
 mod operations;
+mod plain;
 mod reading;
 mod replies;
 mod requests;

@@ -128,11 +128,10 @@ fn message(alloc: Global, bytes: &[u8]) -> Result<Message, ReadFault>
     ensures { Gives (λ message. message) result (message_of bytes.now) }
 {
     let outer = tagged(0x30, bytes)?;
-    let message = components(alloc, outer.content)?;
     if !outer.rest.is_empty() {
         return Err(ReadFault::BadMessage);
     }
-    Ok(message)
+    components(alloc, outer.content)
 }
 
 /// The request that the octets say. They are one whole message; `BadMessage` comes exactly where

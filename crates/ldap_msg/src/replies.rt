@@ -14,6 +14,7 @@ ghost use Rattle.ldap_msg.specs.Replies.{Replies, response_for, reply_layout, re
 use crate::controls::controls;
 use crate::kinds::{KindValues, LdapResult, NoMemory, Reply};
 use crate::operations::Response;
+use crate::plain::{plain_code, put_plain};
 use crate::reading::MAX_ID;
 use crate::room::reply_room;
 use ber_layout::{
@@ -122,9 +123,8 @@ fn put_message(out: &mut Vec<u8>, id: u32, reply: &Reply) -> Result<(), NoMemory
     enclose(out, 0x30, start)
 }
 
-/// Appends a reply's message: the one written spelling (RFC 4511 section 4). After the error, want
-/// of memory, or a content of 2^32 octets or more, `out` is as before.
-pub fn put_reply(out: &mut Vec<u8>, id: u32, reply: &Reply) -> Result<(), NoMemory>
+/// Appends a reply's message, for which room is made at once.
+fn put_in_room(out: &mut Vec<u8>, id: u32, reply: &Reply) -> Result<(), NoMemory>
     ensures ok { OnOk result (out.new.items ≡ out.old.items ++ reply_octets id reply.now) }
     ensures err { OnErr result (out.new.items ≡ out.old.items) }
 {
@@ -137,6 +137,20 @@ pub fn put_reply(out: &mut Vec<u8>, id: u32, reply: &Reply) -> Result<(), NoMemo
             Err(fault)
         }
     }
+}
+
+/// Appends a reply's message: the one written spelling (RFC 4511 section 4). After the error, want
+/// of memory, or a content of 2^32 octets or more, `out` is as before.
+pub fn put_reply(out: &mut Vec<u8>, id: u32, reply: &Reply) -> Result<(), NoMemory>
+    ensures ok { OnOk result (out.new.items ≡ out.old.items ++ reply_octets id reply.now) }
+    ensures err { OnErr result (out.new.items ≡ out.old.items) }
+{
+    if id <= MAX_ID {
+        if let Some(code) = plain_code(reply) {
+            return put_plain(out, id, reply, code);
+        }
+    }
+    put_in_room(out, id, reply)
 }
 
 /// The notice of disconnection, written.

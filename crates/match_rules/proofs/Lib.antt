@@ -6,6 +6,7 @@ pub mod JoinLemmas
 pub mod KeysLemmas
 pub mod LawsLemmas
 pub mod LowerLemmas
+pub mod OwnLemmas
 pub mod OrderLemmas
 pub mod SpaceLawLemmas
 pub mod SpacesLemmas

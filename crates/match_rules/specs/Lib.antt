@@ -1,6 +1,7 @@
 -- what the contracts of public functions cite
 pub mod Keys
 pub mod Laws
+pub mod OwnKeys
 pub mod Parts
 pub mod Substrings
 pub mod Syntaxes

@@ -2,10 +2,11 @@
 use Rattle.std.proofs.Common.{◌≡◌, ℕ, ◌<◌, List, map, position, Some, Fits, w8, ap, sym, ◌∙◌, arith}
 use Rattle.std.proofs.lemmas.Simd.{map-map}
 use Rattle.schema_core.specs.declared.kinds.Row.{Row}
-use Rattle.schema_core.specs.Attributes.{attributes, attribute_of_row, attr_of}
+use Rattle.schema_core.specs.Attributes.{attributes, attribute_of_row, attribute_at, attr_of}
 use Rattle.schema_core.specs.Naming.{is_named}
 use Rattle.schema_core.specs.Oid.{named_attribute}
 use Rattle.schema_core.proofs.TableLemmas.{position-map, position_within}
+use Rattle.schema_core.proofs.Theorems.{attr_of-name}
 
 -- the first of the program's rows that a text names is the table's
 pub position-rows :
@@ -27,3 +28,9 @@ pub named_rows :
     (rows : List Row) → map attribute_of_row rows ≡ attributes
     → map (λ row. named_attribute (attribute_of_row row)) rows ≡ map named_attribute attributes
 named_rows rows same = sym (map-map named_attribute attribute_of_row rows) ∙ ap (map named_attribute) same
+
+-- a name as the table spells it finds its row
+pub attr_of-spelled :
+    (row : Row) (number : ℕ) (text : List ℕ) → attribute_at number ≡ Some (attribute_of_row row) → row.name.now ≡ text
+    → attr_of text ≡ Some number
+attr_of-spelled row number text there same = ap attr_of (sym same) ∙ attr_of-name number (attribute_of_row row) there

@@ -1,5 +1,5 @@
 //! The table of attribute types.
-ghost use Rattle.std.specs.Prelude.{◌≡◌, ◌↔◌, IsSome, IfSome, map, option_map};
+ghost use Rattle.std.specs.Prelude.{◌≡◌, ◌↔◌, Some, IsSome, IsTrue, IfSome, map, option_map};
 ghost use Rattle.schema_core.specs.Oid.{oid_among, named_attribute};
 ghost use Rattle.schema_core.specs.Attributes.{attributes, attribute_of_row, IsAttrId, attr_of, attribute_at};
 
@@ -90,14 +90,66 @@ pub fn row(attribute: AttrId) -> Option<Row>
     rows().get(usize::from(attribute.0)).copied()
 }
 
+// The attribute type that octets of this length and first letter name most often. Another answer costs only time.
+fn likely(octets: &[u8]) -> AttrId {
+    let Some(first) = octets.first() else {
+        return AttrId::OBJECT_CLASS;
+    };
+    match (octets.len(), *first) {
+        (1, b'c') => AttrId::C,
+        (1, b'l') => AttrId::L,
+        (1, b'o') => AttrId::O,
+        (2, b'c') => AttrId::CN,
+        (2, b'd') => AttrId::DC,
+        (2, b'o') => AttrId::OU,
+        (2, b's') => AttrId::SN,
+        (3, b'u') => AttrId::UID,
+        (4, b'm') => AttrId::MAIL,
+        (5, b't') => AttrId::TITLE,
+        (6, b'm') => AttrId::MEMBER,
+        (7, b'm') => AttrId::MANAGER,
+        (9, b'g') => AttrId::GIVEN_NAME,
+        (11, b'd') => AttrId::DESCRIPTION,
+        (12, b'u') => AttrId::USER_PASSWORD,
+        (14, b'e') => AttrId::EMPLOYEE_NUMBER,
+        (15, b't') => AttrId::TELEPHONE_NUMBER,
+        (15, b'p') => AttrId::PRESCRIPTIVE_ACI,
+        _ => AttrId::OBJECT_CLASS,
+    }
+}
+
+// Whether the octets are the name of the attribute type as the table spells it.
+fn is_spelled(attribute: AttrId, octets: &[u8]) -> bool
+    ensures exact { IsTrue result → attr_of octets.now ≡ Some attribute.0 }
+    ensures fits { IsTrue result → IsAttrId attribute.0 }
+{
+    match row(attribute) {
+        Some(row) => row.name.as_bytes() == octets,
+        None => false,
+    }
+}
+
+// The attribute type that octets name, sought row by row.
+fn attr_sought(octets: &[u8]) -> Option<AttrId>
+    ensures exact { option_map (λ attribute. attribute.0) result ≡ attr_of octets.now }
+    ensures fits { IfSome result (λ attribute. IsAttrId attribute.0) }
+{
+    let index = place_of(rows(), octets)?;
+    Some(AttrId(index as u8))
+}
+
 /// The attribute type that octets name: by its name, ASCII letters in either case, or by its dotted
 /// object identifier. None comes exactly for octets that name no row.
 pub fn attr_named(octets: &[u8]) -> Option<AttrId>
     ensures exact { option_map (λ attribute. attribute.0) result ≡ attr_of octets.now }
     ensures fits { IfSome result (λ attribute. IsAttrId attribute.0) }
 {
-    let index = place_of(rows(), octets)?;
-    Some(AttrId(index as u8))
+    let likely = likely(octets);
+    if is_spelled(likely, octets) {
+        Some(likely)
+    } else {
+        attr_sought(octets)
+    }
 }
 
 /// The attribute type that a text names, as `attr_named` finds it.

@@ -128,6 +128,7 @@ fn answer_bind<D: Dir>(
 }
 
 /// Appends the replies to a search, with what its controls of subentries ask for.
+#[inline(never)] // what it needs is not to be cleared for each bind
 fn put_search<D: Dir>(
     alloc: Global,
     dir: &D,
@@ -152,6 +153,7 @@ fn put_search<D: Dir>(
 }
 
 /// Appends the reply to a compare.
+#[inline(never)] // what it needs is not to be cleared for each bind
 fn put_compare<D: Dir>(
     alloc: Global,
     dir: &D,
@@ -196,6 +198,7 @@ fn change<D: Dir>(
 
 /// Changes the entries, and appends the reply, for which there is room before the directory changes.
 /// After `AllocError` all is as it was.
+#[inline(never)] // what it needs is not to be cleared for each bind
 fn put_change<D: Dir>(
     alloc: Global,
     dir: &mut D,

@@ -12,3 +12,4 @@ pub mod SubtreePrints
 pub mod SubtreeOnly
 pub mod RoundTrip
 pub mod SubtreeNested
+pub mod Theorems

@@ -1,7 +1,7 @@
 -- One more member is written, and then the end of the set.
 use Rattle.std.proofs.Common.{true}
 use Rattle.std.specs.Prelude.{string_bytes}
-use Rattle.subtree_spec.proofs.PrintedLemmas.{put_next}
+use Rattle.subtree_spec.proofs.Theorems.{put_next}
 use Rattle.aci_item.specs.ItemPrinted.{print_item_permission}
 use Rattle.aci_item.specs.Views.{item_permission_of}
 use Rattle.aci_item.proofs.PrintedLemmas.{put_viewed}

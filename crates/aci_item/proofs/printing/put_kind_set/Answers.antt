@@ -3,7 +3,7 @@ use Rattle.std.proofs.Common.{true, get_or}
 use Rattle.std.proofs.lemmas.List.{get_or_default}
 use Rattle.std.specs.Prelude.{string_bytes}
 use Rattle.schema_core.specs.declared.kinds.AttrId.{AttrId}
-use Rattle.subtree_spec.proofs.PrintedLemmas.{put_next}
+use Rattle.subtree_spec.proofs.Theorems.{put_next}
 use Rattle.aci_item.specs.ItemPrinted.{print_kind}
 use Rattle.aci_item.proofs.PrintedLemmas.{put_viewed}
 use Rattle.aci_item.proofs.printing.put_kind_set.Goals as goal

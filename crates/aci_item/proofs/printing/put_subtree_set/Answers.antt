@@ -1,7 +1,7 @@
 -- One more member is written, and then the end of the set.
 use Rattle.std.proofs.Common.{true}
 use Rattle.std.specs.Prelude.{string_bytes}
-use Rattle.subtree_spec.proofs.PrintedLemmas.{put_next}
+use Rattle.subtree_spec.proofs.Theorems.{put_next}
 use Rattle.subtree_spec.specs.Subtrees.{subtree_of}
 use Rattle.subtree_spec.specs.SubtreePrinted.{print_subtree}
 use Rattle.aci_item.proofs.PrintedLemmas.{put_viewed}

@@ -1,7 +1,7 @@
 use Rattle.std.proofs.Common.{◌∙◌, sym}
 use Rattle.schema_core.proofs.AttributeLemmas.{position-rows, attr_of_fits}
 use Rattle.schema_core.proofs.Theorems.{IsAttrId-from_attr_of}
-use Rattle.schema_core.proofs.attributes.attr_named.Goals as goal
+use Rattle.schema_core.proofs.attributes.attr_sought.Goals as goal
 
 -- no row was found
 pub returns-in_err-index : goal.returns-in_err-index

@@ -1,0 +1,73 @@
+//! The reply of a result with no matched name, written in one piece: most replies are one.
+
+ghost use Rattle.std.specs.Prelude.{◌≡◌, ◌<◌, ◌≤◌, ◌++◌, [], IfSome, OnOk, OnErr};
+ghost use Rattle.ber_layout.specs.Layouts.{writes};
+ghost use Rattle.ldap_msg.specs.Results.{result_layout};
+ghost use Rattle.ldap_msg.specs.Replies.{reply_content, reply_octets};
+
+use crate::kinds::{LdapResult, NoMemory, Reply};
+
+impl LdapResult {
+    /// The code, where it is below 128 and there is no matched name.
+    fn plain_code(&self) -> Option<u8>
+        ensures few { IfSome result (λ code. code < 128) }
+        ensures same { IfSome result (λ code. self.now.code ≡ code) }
+        ensures matched { IfSome result (λ code. self.now.matched ≡ []) }
+    {
+        if self.code >= 128 {
+            return None;
+        }
+        match self.matched.as_slice() {
+            [] => Some(self.code),
+            _ => None,
+        }
+    }
+}
+
+/// The code of a reply that is a result with no matched name and a code below 128.
+pub(crate) fn plain_code(reply: &Reply) -> Option<u8>
+    ensures few { IfSome result (λ code. code < 128) }
+    ensures content { IfSome result (λ code. reply_content reply.now ≡ writes result_layout (code, ([], (tt, tt)))) }
+{
+    match reply {
+        Reply::Entry(_, _) | Reply::Extended(_, _, _) => None,
+        Reply::Bind(ended) => ended.plain_code(),
+        Reply::Done(ended) => ended.plain_code(),
+        Reply::Modify(ended) => ended.plain_code(),
+        Reply::Add(ended) => ended.plain_code(),
+        Reply::Delete(ended) => ended.plain_code(),
+        Reply::Rename(ended) => ended.plain_code(),
+        Reply::Compare(ended) => ended.plain_code(),
+    }
+}
+
+/// Appends the message of such a reply: the messageID, and the response with the code, no matched name and no diagnostic
+/// message. The messageID has one octet to four.
+pub(crate) fn put_plain(out: &mut Vec<u8>, id: u32, reply: &Reply, code: u8) -> Result<(), NoMemory>
+    requires id { id ≤ 2147483647 }
+    requires few { code < 128 }
+    requires content { reply_content reply.now ≡ writes result_layout (code, ([], (tt, tt))) }
+    ensures ok { OnOk result (out.new.items ≡ out.old.items ++ reply_octets id reply.now) }
+    ensures err { OnErr result (out.new.items ≡ out.old.items) }
+{
+    let tag = reply.response().tag();
+    let [a, b, c, d] = id.to_be_bytes();
+    if id < 128 {
+        return out.extend_from_slice(&[
+            0x30, 12, 0x02, 1, d, tag, 7, 0x0a, 1, code, 0x04, 0, 0x04, 0,
+        ]);
+    }
+    if id < 32_768 {
+        return out.extend_from_slice(&[
+            0x30, 13, 0x02, 2, c, d, tag, 7, 0x0a, 1, code, 0x04, 0, 0x04, 0,
+        ]);
+    }
+    if id < 8_388_608 {
+        return out.extend_from_slice(&[
+            0x30, 14, 0x02, 3, b, c, d, tag, 7, 0x0a, 1, code, 0x04, 0, 0x04, 0,
+        ]);
+    }
+    out.extend_from_slice(&[
+        0x30, 15, 0x02, 4, a, b, c, d, tag, 7, 0x0a, 1, code, 0x04, 0, 0x04, 0,
+    ])
+}
