@@ -8,11 +8,12 @@ use Rattle.std.proofs.lemmas.List.{take-append-drop, map-append}
 use Rattle.base_laws.proofs.Theorems.{all_map, all_append, all_filter, none_passes, map-agree, find-filter}
 use Rattle.dn_names.specs.Names.{RdnSequence}
 use Rattle.dn_names.specs.NameOrder.{is_same, is_prefix_of, types_and_keys, type_and_key}
-use Rattle.dn_names.proofs.Theorems.{is_same-types_and_keys, is_prefix_of-types_and_keys}
+use Rattle.dn_names.proofs.Theorems.{is_prefix_of-types_and_keys}
 use Rattle.dir_tree.specs.Entries.{EntryInformation}
 use Rattle.dir_tree.specs.Trees.{is_named, named_in, superior_name}
 use Rattle.dir_tree.specs.Points.{is_subentry, is_access_subentry}
 use Rattle.dir_tree.specs.Scopes.{is_within}
+use Rattle.dir_tree.proofs.TreeTheorems.{prefix_like}
 use Rattle.admin_scope.specs.Areas.{areas, without_subtree, has_within}
 use Rattle.admin_scope.specs.InForce.{reaches, in_force_at, in_force}
 use Rattle.admin_scope.proofs.Theorems.{prefix_chain, in_force-without}
@@ -27,19 +28,12 @@ use Rattle.acdf_filters.specs.Granted.{placed, granted, granted_new}
 use Rattle.acdf_filters.specs.Unseen.{names_group, names_group_in, has_group, IsApart}
 use Rattle.acdf_filters.proofs.ListLemmas.{all_flat_map, all_flat_map_of, list_any-agree}
 
--- a name begins with what a name that is the same begins with
-prefix_like : (top name other : RdnSequence) → is_prefix_of top other ≡ true → is_same name other ≡ true → is_prefix_of top name ≡ true
-prefix_like top name other e f =
-    let begins = (is_prefix_of-types_and_keys top other).0 e in
-    let same = (is_same-types_and_keys name other).0 f in
-    (is_prefix_of-types_and_keys top name).1 (begins.0, same ∙ begins.1)
-
 -- no entry of the subtree has a name outside it
-apart : (top name : RdnSequence) → is_prefix_of top name ≡ false → (entry : EntryInformation) → not (is_within top entry) ≡ false → is_named name entry ≡ false
+pub apart : (top name : RdnSequence) → is_prefix_of top name ≡ false → (entry : EntryInformation) → not (is_within top entry) ≡ false → is_named name entry ≡ false
 apart top name outside entry e =
     false_from_ne_true (is_named name entry) (λ f. both_ways (is_prefix_of top name) outside (prefix_like top name entry.name (not-false (is_within top entry) e) f))
 
-named-without : (top name : RdnSequence) (entries : List EntryInformation) → is_prefix_of top name ≡ false → named_in name (without_subtree top entries) ≡ named_in name entries
+pub named-without : (top name : RdnSequence) (entries : List EntryInformation) → is_prefix_of top name ≡ false → named_in name (without_subtree top entries) ≡ named_in name entries
 named-without top name entries outside = find-filter (is_named name) (λ entry. not (is_within top entry)) (apart top name outside) entries
 
 -- a front of a name is a prefix of it

@@ -9,9 +9,9 @@ use Rattle.std.proofs.lemmas.Bool.{cases_Bool, cond-true, cond-false, ne_eqb}
 use Rattle.std.proofs.lemmas.Option.{same_Some}
 use Rattle.dn_names.specs.Names.{RdnSequence}
 use Rattle.dn_names.specs.NameOrder.{is_same}
-use Rattle.dn_names.proofs.Theorems.{is_same-types_and_keys}
 use Rattle.dir_tree.specs.Entries.{EntryInformation}
 use Rattle.dir_tree.specs.Trees.{is_named}
+use Rattle.dir_tree.proofs.TreeTheorems.{same_like as same_as}
 use Rattle.acdf_filters.specs.Choices.{least, is_filled}
 use Rattle.acdf_filters.specs.Users.{rank_where, has_member, is_in_group}
 use Rattle.acdf_filters.specs.Weighing.{least_class, class_of_all, first_rank, AreMemberships, known_member}
@@ -75,14 +75,7 @@ pub is_filled-map : {A B : Type 0} (f : A → B) (xs : List A) → is_filled (ma
 is_filled-map f [] = refl
 is_filled-map f (x ∷ xs) = sym (ap not (ne_eqb (length (x ∷ xs)) 0 (λ e. omega arith)))
 
--- names that are the same are the same as others
-pub same_as : (one other name : RdnSequence) → is_same one other ≡ true → is_same one name ≡ is_same other name
-same_as one other name e =
-    let same = (is_same-types_and_keys one other).0 e in
-    same_from_decides (is_same one name) (is_same other name)
-    ((is_same-types_and_keys one name).0, (is_same-types_and_keys one name).1)
-    (λ f. same ∙ (is_same-types_and_keys other name).0 f, λ f. (is_same-types_and_keys other name).1 (sym same ∙ f))
-
+-- tests that agree find the same
 find-same : {A : Type 0} (p q : A → Bool) → ((x : A) → p x ≡ q x) → (xs : List A) → find p xs ≡ find q xs
 find-same p q h [] = refl
 find-same p q h (x ∷ xs) = rw (h x, find-same p q h xs) refl

@@ -1,27 +1,22 @@
 -- An entry that was put in can be taken out: none stands below a name that was free.
-use Rattle.std.proofs.Common.{◌≡◌, ◌⊎◌, inl, inr, ◌<◌, ◌≤◌, ◌-◌, ◌+◌, ◌==◌, zero, suc, ℕ, Bool, true, false, ◌&&◌, List, [], ◌∷◌, length, take, find, Some, None, refl, sym, ap, ◌∙◌, arith}
+use Rattle.std.proofs.Common.{◌≡◌, ◌⊎◌, inl, inr, ◌<◌, ◌≤◌, ◌-◌, ◌+◌, ◌==◌, zero, suc, ℕ, Bool, true, false, ◌&&◌, List, [], ◌∷◌, length, take, Some, None, refl, sym, ap, ◌∙◌, arith}
 use Rattle.std.specs.Prelude.{nat_lt}
 use Rattle.std.specs.List.{AllByRecursion}
-use Rattle.std.specs.Option.{option_map}
-use Rattle.std.proofs.lemmas.Bool.{cases_Bool, cases_lt, cond-true, cond-false, eq-eqb, false_from_ne_true, and_from, or_cases, or_left, or_right, or_from, le-ltb, lt-ltb, ltb-true, not-false}
+use Rattle.std.proofs.lemmas.Bool.{cases_Bool, cases_lt, false_from_ne_true, and_from, or_cases, or_left, or_right, or_from, le-ltb, lt-ltb, ltb-true, not-false}
 use Rattle.std.proofs.lemmas.List.{length-take-le, take-take}
 use Rattle.dn_names.specs.Names.{RdnSequence}
 use Rattle.dn_names.specs.NameOrder.{is_same, is_prefix_of}
-use Rattle.dn_names.proofs.Theorems.{is_same-types_and_keys}
 use Rattle.dir_tree.specs.Entries.{EntryInformation}
-use Rattle.dir_tree.specs.Trees.{is_named, is_before, is_below, has_name, has_below, superior_name, lacks_superior, IsTree}
+use Rattle.dir_tree.specs.Trees.{is_named, is_below, has_name, has_below, superior_name, lacks_superior, IsTree}
 use Rattle.dir_tree.specs.Scopes.{is_within}
 use Rattle.dir_tree.specs.Numbered.{Numbered, IsNumberedTree, entries_of, entry_of, put_entry}
 use Rattle.dir_tree.specs.Refusals.{insert_refusal, refusal_below, remove_refusal}
 use Rattle.dir_tree.specs.declared.refusals.InsertRefusal.TheVariants as inserting
 use Rattle.dir_tree.specs.declared.refusals.RemoveRefusal.TheVariants as removing
-use Rattle.dir_tree.proofs.TreeTheorems.{entries_of-put_row, all_under_suffix}
+use Rattle.dir_tree.proofs.TreeTheorems.{entries_of-put_row, all_under_suffix, same_itself, entry_of-put}
 use Rattle.dir_tree.proofs.TreeTheorems.{length-same, same-superior}
 use Rattle.dir_tree.proofs.TreeTheorems.{any_put, has_name_like}
 use Rattle.admin_scope.proofs.Theorems.{length-front}
-
-same_itself : (x : RdnSequence) → is_same x x ≡ true
-same_itself x = (is_same-types_and_keys x x).1 refl
 
 -- what all entries have that of a name has
 of_named : {Q : Type 0} (P : EntryInformation → Type 0) (name : RdnSequence) (entries : List EntryInformation) → ((entry : EntryInformation) → is_same name entry.name ≡ true → P entry → Q) → AllByRecursion P entries → has_name name entries ≡ true → Q
@@ -125,23 +120,6 @@ free_name name entries e = by (cases_Bool (has_name name entries)) (cases_Bool (
         let clash = sym is ∙ e in
         absurd cc
     by (inr f) (inr g) = record { absent = f; under = g }
-
--- the entry put in has its number
-entry_of-put : (id : ℕ) (entry : EntryInformation) (rows : List Numbered) → entry_of id rows ≡ None → entry_of id (put_entry id entry rows) ≡ Some entry
-entry_of-put id entry [] none = rw (eq-eqb id id refl) refl
-entry_of-put id entry (x ∷ rows) none = by (cases_Bool (x.id == id)) (cases_Bool (is_before x.entry.name entry.name)) (entry_of-put id entry rows)
-  where
-    Goal : Type 0
-    Goal = entry_of id (put_entry id entry (x ∷ rows)) ≡ Some entry
-
-    by : (((x.id == id) ≡ true) ⊎ ((x.id == id) ≡ false)) → ((is_before x.entry.name entry.name ≡ true) ⊎ (is_before x.entry.name entry.name ≡ false)) → (entry_of id rows ≡ None → entry_of id (put_entry id entry rows) ≡ Some entry) → Goal
-    by (inl e) other later =
-        let is : Some x.entry ≡ None = sym (ap (option_map (λ (row : Numbered). row.entry)) (cond-true (x.id == id) (Some x) (find (λ row. row.id == id) rows) e)) ∙ none in
-        absurd cc
-    by (inr e) (inl f) later =
-        let left : entry_of id rows ≡ None = sym (ap (option_map (λ (row : Numbered). row.entry)) (cond-false (x.id == id) (Some x) (find (λ row. row.id == id) rows) e)) ∙ none in
-        rw (f, e) (later left)
-    by (inr e) (inr f) later = rw (f, eq-eqb id id refl) refl
 
 -- so it can be taken out
 pub new_removable : (id : ℕ) (entry : EntryInformation) (rows : List Numbered) → IsNumberedTree rows → entry_of id rows ≡ None → insert_refusal entry.name (entries_of rows) ≡ None → remove_refusal id (put_entry id entry rows) ≡ None

@@ -1,17 +1,16 @@
 -- The tuples that are kept are weighed as those that count for the entry are.
-use Rattle.std.proofs.Common.{◌≡◌, inl, inr, ℕ, Bool, true, false, List, [], ◌∷◌, ◌++◌, map, Option, Some, None, refl, sym, ap, ◌∙◌}
+use Rattle.std.proofs.Common.{◌≡◌, ℕ, Bool, true, false, List, [], ◌∷◌, ◌++◌, map, Option, Some, None, refl, sym, ap, ◌∙◌}
 use Rattle.std.specs.Prelude.{flat_map, fold, is_some, IsSome, if◌then◌else◌}
 use Rattle.std.specs.List.{AllByRecursion}
 use Rattle.std.specs.Option.{option_map_or, option_and_then}
-use Rattle.std.proofs.lemmas.Bool.{cases_Bool}
 use Rattle.std.proofs.lemmas.List.{map-append}
 use Rattle.std.proofs.lemmas.List.Sums.{fold-append}
 use Rattle.dir_tree.specs.Entries.{EntryInformation}
 use Rattle.dn_names.specs.Names.{RdnSequence}
-use Rattle.dir_tree.specs.Trees.{is_named, superior_name, named_in}
+use Rattle.dir_tree.specs.Trees.{superior_name, named_in}
 use Rattle.dir_tree.specs.Points.{is_subentry}
 use Rattle.dir_tree.specs.Numbered.{Numbered, IsNumberedTree, entry_of, entries_of, entries_at, find_name, superior_of}
-use Rattle.dir_tree.proofs.TreeTheorems.{entry_of-found}
+use Rattle.dir_tree.proofs.TreeTheorems.{entry_of-found, found_both}
 use Rattle.admin_scope.specs.InForce.{in_force}
 use Rattle.aci_item.specs.AciTuples.{AciTuple}
 use Rattle.acdf_filters.specs.Tuples.{TaggedTuples, Listed, prescriptive_aci, entry_aci, subentry_aci, items_in, listed_by, listed_in, inherited, tuples_of}
@@ -77,14 +76,6 @@ weighed_at-entries question kept rows is (id ∷ ids) live seen = by (entry_of i
         ∙ ap (λ (s : Standing). fold weigh s (tuples_at kept ids)) (weighed-values question seen first (lists_at kept id).prescriptive (is id entry e).prescriptive)
         ∙ later (fold weigh seen first)
         ∙ sym (fold-append weigh seen first (flat_map (values_tuples prescriptive_aci) (entries_at rows ids))))
-
--- a name that is found is that of an entry
-found_both : (name : RdnSequence) (rows : List Numbered) → is_some (find_name name rows) ≡ is_some (named_in name (entries_of rows))
-found_both name [] = refl
-found_both name (x ∷ rows) = elim (cases_Bool (is_named name x.entry)) [
-  | inl e ↦ rw e refl
-  | inr e ↦ rw e (found_both name rows)
-]
 
 -- the number above a subentry stands for the entry above it
 pub weighed_below-entry : (question : Question) (kept : List Kept) (rows : List Numbered) → IsKept kept rows → IsNumberedTree rows → (name : RdnSequence) (seen : Standing)

@@ -1,24 +1,22 @@
 -- What is kept without a number is kept of the entries without its entry.
-use Rattle.std.proofs.Common.{◌≡◌, ◌≢◌, ◌⊎◌, inl, inr, ◌≤◌, ◌==◌, ℕ, Bool, true, false, not, ◌&&◌, List, [], ◌∷◌, length, map, filter, find, Option, Some, None, refl, sym, ap, subst, ◌∙◌, arith}
-use Rattle.std.specs.Prelude.{nat_lt, IsSome}
+use Rattle.std.proofs.Common.{◌≡◌, ◌≢◌, ◌⊎◌, inl, inr, ◌≤◌, ◌==◌, ℕ, true, false, not, ◌&&◌, List, [], ◌∷◌, map, filter, Option, Some, None, refl, sym, ap, subst, ◌∙◌}
+use Rattle.std.specs.Prelude.{IsSome}
 use Rattle.std.specs.List.{AllByRecursion}
 use Rattle.std.specs.Option.{option_map, option_and_then}
-use Rattle.std.proofs.lemmas.Bool.{cases_Bool, eqb-true, eqb-false, ne_eqb, cond-true, cond-false, false_from_ne_true, or_parts, ltb-false}
-use Rattle.std.proofs.lemmas.List.{take_all}
+use Rattle.std.proofs.lemmas.Bool.{cases_Bool, eqb-true, eqb-false, false_from_ne_true, or_parts}
 use Rattle.dn_names.specs.Names.{RdnSequence}
-use Rattle.dn_names.specs.NameOrder.{is_same, is_prefix_of}
-use Rattle.dn_names.proofs.Theorems.{is_same-types_and_keys}
+use Rattle.dn_names.specs.NameOrder.{is_same}
 use Rattle.dir_tree.specs.Entries.{EntryInformation}
 use Rattle.dir_tree.specs.Points.{is_access_subentry}
 use Rattle.dir_tree.specs.Trees.{is_named, is_below, has_below, taken_out}
 use Rattle.dir_tree.specs.Scopes.{is_within}
 use Rattle.dir_tree.specs.Numbered.{Numbered, IsNumberedTree, ids_of, entries_of, entry_of, entries_at, subentry_rows, without}
-use Rattle.dir_tree.proofs.TreeTheorems.{entries_of-without}
+use Rattle.dir_tree.proofs.TreeTheorems.{entries_of-without, same_itself, all_known_entry as at_number, at_base as same_at_front, left_out, entry_of-gone, entry_of-other}
 use Rattle.subtree_spec.specs.Subtrees.{subtree_of}
 use Rattle.admin_scope.specs.InForce.{subtree_of_entry, in_force}
 use Rattle.admin_scope.specs.declared.subtrees.AccessSubentry.{AccessSubentry}
 use Rattle.admin_scope.specs.Finding.{AreSubtrees, subtree_at}
-use Rattle.admin_scope.proofs.Theorems.{in_force-taken, length-front, named-front}
+use Rattle.admin_scope.proofs.Theorems.{in_force-taken}
 use Rattle.acdf_lists.specs.declared.kept.Holdings.{Holdings}
 use Rattle.acdf_lists.specs.Lists.{Lists, lists_at, AreOf}
 use Rattle.acdf_lists.specs.Holdings.{IsHeld, without_number, without_subentry, IsForgotten}
@@ -44,31 +42,6 @@ subentry_rows-without number (x ∷ rows) = elim (cases_Bool (x.id == number)) [
   ]
 ]
 
--- the rows of other numbers give the same entries
-further : (id : ℕ) (x : Numbered) (rows : List Numbered) → x.id ≢ id → entry_of id (x ∷ rows) ≡ entry_of id rows
-further id x rows h = ap (option_map (λ (row : Numbered). row.entry)) (cond-false (x.id == id) (Some x) (find (λ row. row.id == id) rows) (ne_eqb x.id id h))
-
-entry_of-other : (id number : ℕ) (rows : List Numbered) → id ≢ number → entry_of id (without number rows) ≡ entry_of id rows
-entry_of-other id number [] h = refl
-entry_of-other id number (x ∷ rows) h = elim (cases_Bool (x.id == number)) [
-  | inl e ↦ (
-      let is = eqb-true x.id number e in
-      let other : x.id ≢ id = λ f. h (sym f ∙ is) in
-      rw e (entry_of-other id number rows h ∙ sym (further id x rows other))
-      )
-  | inr e ↦ elim (cases_Bool (x.id == id)) [
-    | inl f ↦ rw (e, f) refl
-    | inr f ↦ rw (e, f) (entry_of-other id number rows h)
-  ]
-]
-
-entry_of-gone : (number : ℕ) (rows : List Numbered) → entry_of number (without number rows) ≡ None
-entry_of-gone number [] = refl
-entry_of-gone number (x ∷ rows) = elim (cases_Bool (x.id == number)) [
-  | inl e ↦ rw e (entry_of-gone number rows)
-  | inr e ↦ rw (e, e) (entry_of-gone number rows)
-]
-
 -- a number that is left is another
 other_number : (id number : ℕ) (entry : EntryInformation) (rows : List Numbered) → entry_of id (without number rows) ≡ Some entry → id ≢ number
 other_number id number entry rows known is =
@@ -76,48 +49,12 @@ other_number id number entry rows known is =
     let clash : Some entry ≡ None = sym known ∙ gone in
     absurd cc
 
--- what all entries have the entry of a number has
-at_number : (P : EntryInformation → Type 0) (id : ℕ) (entry : EntryInformation) (rows : List Numbered) → AllByRecursion P (entries_of rows) → entry_of id rows ≡ Some entry → P entry
-at_number P id entry [] h known = absurd cc
-at_number P id entry (x ∷ rows) h known = by (cases_Bool (x.id == id)) (at_number P id entry rows h.1)
-  where
-    by : (((x.id == id) ≡ true) ⊎ ((x.id == id) ≡ false)) → (entry_of id rows ≡ Some entry → P entry) → P entry
-    by (inl e) later =
-        let is : Some x.entry ≡ Some entry = sym (ap (option_map (λ (row : Numbered). row.entry)) (cond-true (x.id == id) (Some x) (find (λ row. row.id == id) rows) e)) ∙ known in
-        let same : x.entry ≡ entry = cc in
-        subst P same h.0
-    by (inr e) later = later (sym (ap (option_map (λ (row : Numbered). row.entry)) (cond-false (x.id == id) (Some x) (find (λ row. row.id == id) rows) e)) ∙ known)
-
--- what is left has other names
-left_out : (name : RdnSequence) (entries : List EntryInformation) → AllByRecursion (λ entry. is_named name entry ≡ false) (taken_out name entries)
-left_out name [] = tt
-left_out name (x ∷ entries) = elim (cases_Bool (is_named name x)) [
-  | inl e ↦ rw e (left_out name entries)
-  | inr e ↦ rw e (e, left_out name entries)
-]
-
+-- where none stands below a name, no entry does
 no_longer_below : (name : RdnSequence) (entries : List EntryInformation) → has_below name entries ≡ false → AllByRecursion (λ entry. is_below name entry.name ≡ false) entries
 no_longer_below name [] h = tt
 no_longer_below name (x ∷ entries) h =
     let parts = or_parts (is_below name x.name) (has_below name entries) h in
     (parts.0, no_longer_below name entries parts.1)
-
-same_itself : (x : RdnSequence) → is_same x x ≡ true
-same_itself x = (is_same-types_and_keys x x).1 refl
-
--- a name of which another is a front, and that is not below it, is the same
-second : (a b : Bool) → a ≡ true → (a && b) ≡ false → b ≡ false
-second true b e f = f
-second false b e f = absurd cc
-
-same_at_front : (x y : RdnSequence) → is_prefix_of x y ≡ true → is_below x y ≡ false → is_same x y ≡ true
-same_at_front x y front apart =
-    let short : length y ≤ length x = ltb-false (length x) (length y) (second (is_prefix_of x y) (nat_lt (length x) (length y)) front apart) in
-    let long = length-front x y front in
-    let alike : length x ≡ length y = omega arith in
-    let named = named-front (length y) y x front alike in
-    let back : is_same y x ≡ true = sym (ap (λ n. is_same n x) (take_all (length y) y (omega arith))) ∙ named in
-    (is_same-types_and_keys x y).1 (sym ((is_same-types_and_keys y x).0 back))
 
 module _ (number : ℕ) (old : EntryInformation) (rows : List Numbered) (tree : IsNumberedTree rows) (known : entry_of number rows ≡ Some old) where
   left_entries : entries_of (without number rows) ≡ taken_out old.name (entries_of rows)

@@ -1,11 +1,9 @@
 -- What comes, goes or changes immediately below a name stands aside from all entries that are not at or below that name.
 use Rattle.std.proofs.Common.{◌≡◌, ◌≢◌, ◌+◌, ◌==◌, true, false, [], ◌∷◌, length, sym, ◌∙◌, Some, None}
-use Rattle.std.proofs.lemmas.Bool.{and_parts, not-false}
-use Rattle.dn_names.specs.Names.{RdnSequence}
+use Rattle.std.proofs.lemmas.Bool.{and_parts}
 use Rattle.dn_names.specs.NameOrder.{is_prefix_of, is_same}
 use Rattle.dir_tree.specs.Entries.{EntryInformation}
 use Rattle.dir_tree.specs.Trees.{superior_name}
-use Rattle.dir_tree.specs.Refusals.{is_elsewhere}
 use Rattle.dir_tree.proofs.TreeTheorems.{same_like}
 use Rattle.scope_laws.specs.Aside.{IsAside}
 use Rattle.scope_laws.proofs.Theorems.{aside-under}
@@ -30,12 +28,3 @@ apart-replaced old one entry before after same h =
     aside-under entry h.top (Some old) (Some one) h.outside
     (child_under h.top old before (sym (same_like (superior_name one.name) (superior_name old.name) h.top same) ∙ h.superior))
     (child_under h.top one after h.superior)
-
--- a name that is not elsewhere has RDNs, and the same superior
-pub elsewhere-filled : (name old : RdnSequence) → is_elsewhere name old ≡ false → name ≢ []
-elsewhere-filled [] old e = absurd cc
-elsewhere-filled (rdn ∷ rdns) old e = λ f. cc
-
-pub elsewhere-under : (name old : RdnSequence) → is_elsewhere name old ≡ false → is_same (superior_name name) (superior_name old) ≡ true
-elsewhere-under [] old e = absurd cc
-elsewhere-under (rdn ∷ rdns) old e = not-false (is_same (superior_name (rdn ∷ rdns)) (superior_name old)) e

@@ -1,12 +1,11 @@
 -- An entry in place of one that is the same as a point changes nothing in force for any entry.
 use Rattle.std.proofs.Common.{◌≡◌, ◌⊎◌, inl, inr, Bool, true, false, not, ◌&&◌, ◌||◌, refl, ap, sym, ◌∙◌, length, Some, None}
 use Rattle.std.proofs.lemmas.Bool.{cond-false, and_parts, or_cases, not-true}
-use Rattle.dn_names.specs.Names.{RdnSequence}
 use Rattle.dn_names.specs.NameOrder.{is_same}
-use Rattle.dn_names.proofs.Theorems.{is_same-types_and_keys}
 use Rattle.dir_tree.specs.Entries.{EntryInformation}
 use Rattle.dir_tree.specs.Points.{is_specific_point, is_inner_point, is_access_subentry}
 use Rattle.dir_tree.specs.Scopes.{is_within}
+use Rattle.dir_tree.proofs.TreeTheorems.{same_itself}
 use Rattle.admin_scope.specs.Areas.{is_access_point}
 use Rattle.scope_laws.specs.Aside.{is_point_over, point_over, IsAside}
 use Rattle.scope_laws.proofs.Theorems.{aside-same}
@@ -16,9 +15,6 @@ use Rattle.aci_index.proofs.SubtreeLemmas.{IsOrdinary}
 alike : (a b : Bool) → are_alike a b ≡ true → a ≡ b
 alike true b e = sym e
 alike false b e = sym (not-true b e)
-
-same_itself : (name : RdnSequence) → is_same name name ≡ true
-same_itself name = (is_same-types_and_keys name name).1 refl
 
 -- an entry that is no access control subentry is in force for none
 never : (entry one : EntryInformation) → IsOrdinary one → IsAside entry (Some one) (Some one)

@@ -8,13 +8,13 @@ use Rattle.dir_tree.specs.Entries.{EntryInformation}
 use Rattle.dir_tree.specs.Points.{is_access_subentry}
 use Rattle.dir_tree.specs.Trees.{is_before}
 use Rattle.dir_tree.specs.Numbered.{Numbered, IsNumberedTree, ids_of, entry_of, subentry_rows, put_row, without}
-use Rattle.dir_tree.proofs.TreeTheorems.{put_row-taken, without-put_row}
+use Rattle.dir_tree.proofs.TreeTheorems.{put_row-taken, without-absent as without-unused}
 use Rattle.subtree_spec.specs.Subtrees.{subtree_of}
 use Rattle.admin_scope.specs.InForce.{subtree_of_entry}
 use Rattle.admin_scope.specs.Finding.{AreSubtrees, subtree_at}
 use Rattle.admin_scope.specs.declared.subtrees.AccessSubentry.{AccessSubentry}
 use Rattle.scope_laws.specs.Aside.{IsChangeOf}
-use Rattle.scope_laws.proofs.Theorems.{change-put, entry_of-new}
+use Rattle.scope_laws.proofs.Theorems.{entry_of-new}
 
 -- the entry is no access control subentry
 abbrev pub IsOrdinary : EntryInformation → Type 0
@@ -30,12 +30,6 @@ subentry_rows-put row (x ∷ rows) e = elim (cases_Bool (is_before x.entry.name 
   ]
   | inr f ↦ rw (f, e) refl
 ]
-
--- a number that is not in use takes nothing out
-without-unused : (id : ℕ) (rows : List Numbered) → entry_of id rows ≡ None → without id rows ≡ rows
-without-unused id rows e =
-    let any : EntryInformation = record { name = []; attributes = [] } in
-    (change-put id any rows e).others ∙ without-put_row id any rows e
 
 -- the subentries are those of other numbers
 subentry_rows-others : (id : ℕ) (rows : List Numbered) (one : Option EntryInformation) → IsNumberedTree rows → entry_of id rows ≡ one → IfSome one IsOrdinary

@@ -7,10 +7,7 @@ use Rattle.std.proofs.lemmas.List.{length-map, length-append, length-take-le, ta
 use Rattle.dn_names.specs.Names.{RdnSequence}
 use Rattle.dn_names.specs.NameOrder.{name_cmp, is_same, is_prefix_of, type_and_key, types_and_keys}
 use Rattle.dn_names.proofs.Theorems.{name_cmp_total, is_same-types_and_keys, is_prefix_of-types_and_keys, name_cmp-prefix}
-
--- names that are the same have as many RDNs
-length-same : (x y : RdnSequence) → is_same x y ≡ true → length x ≡ length y
-length-same x y e = sym (length-map x (map type_and_key)) ∙ ap length ((is_same-types_and_keys x y).0 e) ∙ length-map y (map type_and_key)
+use Rattle.dir_tree.proofs.TreeTheorems.{length-same}
 
 -- the front of so many RDNs, by its types and keys
 types_and_keys-take : (k : ℕ) (name : RdnSequence) → types_and_keys (take k name) ≡ take k (types_and_keys name)
@@ -39,7 +36,7 @@ front_of_front x y name e f h =
     ∙ sym (types_and_keys-front y name f))
 
 -- two fronts of as many RDNs are the same
-same_fronts : (x y name : RdnSequence) → is_prefix_of x name ≡ true → is_prefix_of y name ≡ true → length x ≡ length y → is_same x y ≡ true
+pub same_fronts : (x y name : RdnSequence) → is_prefix_of x name ≡ true → is_prefix_of y name ≡ true → length x ≡ length y → is_same x y ≡ true
 same_fronts x y name e f h =
     (is_same-types_and_keys x y).1 (types_and_keys-front x name e
     ∙ ap (λ n. take n (types_and_keys name)) h

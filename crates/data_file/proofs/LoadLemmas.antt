@@ -1,10 +1,10 @@
 -- Lemmas on loading: how it goes on with a record, where it is refused, and how it ends.
-use Rattle.std.proofs.Common.{◌≡◌, ◌≢◌, ℕ, Bool, true, false, List, [], ◌∷◌, length, Result, Ok, Err, IfErr, refl, sym, ap, ◌∙◌, arith}
+use Rattle.std.proofs.Common.{◌≡◌, ◌≢◌, ℕ, List, [], ◌∷◌, length, Result, Ok, Err, IfErr, refl, sym, ap, ◌∙◌, arith}
 use Rattle.std.specs.Prelude.{if◌then◌else◌}
 use Rattle.dir_tree.specs.Entries.{EntryInformation}
-use Rattle.dir_tree.specs.Trees.{is_before, put_in}
+use Rattle.dir_tree.specs.Trees.{put_in}
 use Rattle.dir_tree.specs.Numbered.{Numbered, entries_of}
-use Rattle.dir_tree.proofs.TreeTheorems.{entries_of-put_row}
+use Rattle.dir_tree.proofs.TreeTheorems.{entries_of-put_row, put_in-some as put_in-filled}
 use Rattle.ldif_core.specs.declared.types.Position.{Position}
 use Rattle.ldif_core.specs.declared.types.Record.{Record}
 use Rattle.ldif_core.specs.declared.types.BadLine.{BadLine}
@@ -14,7 +14,8 @@ use Rattle.ldif_core.specs.Faults as ldif
 use Rattle.ldif_core.specs.Records.{first_of}
 use Rattle.ldif_core.specs.Places.{records_from, IsNext}
 use Rattle.op_write.specs.Loading.{◌>>=◌, loaded_entry, IsLoaded}
-use Rattle.op_write.specs.DataFile.{FileFault, line_fault, in_file, record_entry, loads_after, loads_records, loads, file_start}
+use Rattle.op_write.specs.DataFile.{FileFault, in_file, record_entry, loads_after, loads_records, loads, file_start}
+use Rattle.op_write.proofs.Theorems.{ends_at_first as loads_after-line}
 use Rattle.data_file.specs.declared.fault.DataFault.{DataFault}
 use Rattle.data_file.specs.declared.fault.DataFault.TheVariants.{Bad, NoMemory}
 use Rattle.plain_values.specs.Answers.{IsFaultOf}
@@ -41,13 +42,6 @@ unfolding loads_after
 loads_after-end text from rows none = ap (λ records. loads_after (entries_of rows) records) none
 
 -- a bad line is the fault of the file
-loads_after-line : (entries : List EntryInformation) (records : List (Result Record LineFault)) (bad : LineFault) → first_of records ≡ Err bad
-    → loads_after entries records ≡ Err (line_fault bad)
-unfolding loads_after
-loads_after-line entries [] bad is = absurd cc
-loads_after-line entries (Ok given ∷ rest) bad is = absurd cc
-loads_after-line entries (Err other ∷ rest) bad is = let same : other ≡ bad = cc in ap (λ fault. Err (line_fault fault)) same
-
 pub fault-line : (text : List ℕ) (from : Position) (entries : List EntryInformation) (bad : BadLine) → IsFaultOf (ldif.fault_of bad) (first_of (records_from text from))
     → IsFaultOf (fault_of (of_line bad)) (loads_after entries (records_from text from))
 fault-line text from entries (reading.Bad line cause) is = loads_after-line entries (records_from text from) (ldif.Bad line cause) is
@@ -65,15 +59,6 @@ fault-record NoMemory text from to entries given next is = tt
 pub fault-same : {T : Type 0} (out : Result T DataFault) (fault came : DataFault) (whole : Result (List EntryInformation) FileFault) → out ≡ Err fault → fault ≡ came
     → IsFaultOf (fault_of came) whole → IfErr out (λ bad. IsFaultOf (fault_of bad) whole)
 fault-same out fault came whole is same says = rw is (rw same says)
-
--- entries among which one was put are not none
-put_in-filled : (entry : EntryInformation) (entries : List EntryInformation) → put_in entry entries ≢ []
-put_in-filled entry [] = λ none. cc
-put_in-filled entry (first ∷ rest) = by (is_before first.name entry.name)
-  where
-    by : (before : Bool) → (if before then first ∷ put_in entry rest else entry ∷ first ∷ rest) ≢ []
-    by true = λ none. cc
-    by false = λ none. cc
 
 -- where loading gives no entries, there were none before, and no record
 given_none : (entries : List EntryInformation) (records : List (Result Record LineFault)) → loads_after entries records ≡ Ok [] → (entries ≡ []) × (records ≡ [])

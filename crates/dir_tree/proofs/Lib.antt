@@ -9,6 +9,9 @@ pub mod GoodLaws
 pub mod Theorems
 pub mod NameLemmas
 pub mod PlaceLemmas
+pub mod FrontLemmas
+pub mod NamedLemmas
+pub mod EntryOfLemmas
 pub mod OrderLemmas
 pub mod NumberedLemmas
 pub mod RootLemmas

@@ -105,11 +105,11 @@ allowed_there id old name rows e = by (cases_Bool (has_name name (entries_of (wi
     by (inr f) (inr g) (inl h) = (let is = rw (f, g, h) at e in absurd cc)
     by (inr f) (inr g) (inr h) = record { absent = f; here = g; alone = h }
 
-elsewhere_filled : (name old : RdnSequence) → is_elsewhere name old ≡ false → name ≢ []
+pub elsewhere_filled : (name old : RdnSequence) → is_elsewhere name old ≡ false → name ≢ []
 elsewhere_filled [] old e = absurd cc
 elsewhere_filled (rdn ∷ rdns) old e = λ f. cc
 
-elsewhere_under : (name old : RdnSequence) → is_elsewhere name old ≡ false → is_same (superior_name name) (superior_name old) ≡ true
+pub elsewhere_under : (name old : RdnSequence) → is_elsewhere name old ≡ false → is_same (superior_name name) (superior_name old) ≡ true
 elsewhere_under [] old e = absurd cc
 elsewhere_under (rdn ∷ rdns) old e = not-false (is_same (superior_name (rdn ∷ rdns)) (superior_name old)) e
 

@@ -1,21 +1,20 @@
 -- Changes and renames leave good attributes, and the name that is wanted.
-use Rattle.std.proofs.Common.{◌≡◌, inl, inr, ℕ, Bool, true, false, List, [], ◌∷◌, Option, Some, None, Result, refl, ◌∙◌}
+use Rattle.std.proofs.Common.{◌≡◌, ℕ, Bool, true, false, List, [], ◌∷◌, Option, Some, None, Result, refl, ◌∙◌}
 use Rattle.std.specs.Prelude.{IfOk}
 use Rattle.std.specs.List.{AllByRecursion, IsDistinct}
-use Rattle.std.proofs.lemmas.Bool.{cases_Bool}
 use Rattle.plain_values.specs.Results.{◌>>=◌}
 use Rattle.dn_names.specs.Names.{Keyed, TypeAndValue, RdnSequence, last_rdn}
-use Rattle.dir_tree.specs.Entries.{EntryInformation, values_of, has_key, is_match, IsGoodAttributes}
+use Rattle.dir_tree.specs.Entries.{EntryInformation, values_of, is_match, IsGoodAttributes}
 use Rattle.dir_tree.specs.Changes.{with_value, without_value}
-use Rattle.dir_tree.proofs.Theorems.{good-with_value, good-with_values, good-without_value, good-without_kind}
-use Rattle.op_write.specs.Loading.{with_pairs, with_own_values}
+use Rattle.dir_tree.proofs.Theorems.{good-with_values, good-without_value, good-without_kind}
+use Rattle.op_write.specs.Loading.{with_own_values}
+use Rattle.op_write.proofs.Theorems.{name-with_pairs, name-with_value, good-with_pairs}
 use Rattle.ldap_msg.specs.declared.operations.ResultCode.{ResultCode}
 use Rattle.entry_changes.specs.declared.kind.ChangeKind.{ChangeKind}
 use Rattle.entry_changes.specs.declared.kind.ChangeKind.TheVariants.{Add, Delete, Replace}
 use Rattle.entry_changes.specs.Changes.{Asks, Modification, with_each, without_each, left_by, change_refusal, unless_refused, changed_by}
 use Rattle.entry_changes.specs.Renaming.{gone_pairs, without_pairs, renamed_entry}
 use Rattle.entry_changes.proofs.EffectLemmas.{good-with_each}
-
 -- ---- one change
 
 good-without_each : (kind : ℕ) (values : List Keyed) (entry : EntryInformation) → IsGoodAttributes entry.attributes
@@ -31,12 +30,6 @@ good-left_by Delete kind [] entry distinct good = good-without_kind kind entry g
 good-left_by Delete kind (value ∷ rest) entry distinct good = good-without_each kind (value ∷ rest) entry good
 good-left_by Replace kind [] entry distinct good = good-without_kind kind entry good
 good-left_by Replace kind (value ∷ rest) entry distinct good = good-with_values kind (value ∷ rest) entry (λ none. absurd cc) distinct good
-
-name-with_value : (kind : ℕ) (value : Keyed) (entry : EntryInformation) → (with_value kind value entry).name ≡ entry.name
-name-with_value kind value entry = elim (cases_Bool (has_key value.key (values_of kind entry.attributes))) [
-  | inl there ↦ rw there refl
-  | inr new ↦ rw new refl
-]
 
 name-with_each : (kind : ℕ) (values : List Keyed) (entry : EntryInformation) → (with_each kind values entry).name ≡ entry.name
 name-with_each kind [] entry = refl
@@ -83,16 +76,6 @@ pub name-changed_by : (asks : Asks) (entry : EntryInformation) (changes : List M
 name-changed_by asks entry changes = named-changed_by asks entry entry.name changes refl
 
 -- ---- renames
-
-good-with_pairs : (entry : EntryInformation) (pairs : List TypeAndValue) → IsGoodAttributes entry.attributes → IsGoodAttributes (with_pairs entry pairs).attributes
-unfolding with_pairs
-good-with_pairs entry [] good = good
-good-with_pairs entry (pair ∷ pairs) good = good-with_pairs (with_value pair.kind pair.value entry) pairs (good-with_value pair.kind pair.value entry good)
-
-name-with_pairs : (entry : EntryInformation) (pairs : List TypeAndValue) → (with_pairs entry pairs).name ≡ entry.name
-unfolding with_pairs
-name-with_pairs entry [] = refl
-name-with_pairs entry (pair ∷ pairs) = name-with_pairs (with_value pair.kind pair.value entry) pairs ∙ name-with_value pair.kind pair.value entry
 
 good-without_pairs : (entry : EntryInformation) (pairs : List TypeAndValue) → IsGoodAttributes entry.attributes → IsGoodAttributes (without_pairs entry pairs).attributes
 unfolding without_pairs

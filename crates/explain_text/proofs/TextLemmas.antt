@@ -1,15 +1,14 @@
 -- The parts that are written one after the other are the text of a decision.
-use Rattle.std.proofs.Common.{◌≡◌, ◌⊎◌, inl, inr, ℕ, true, List, [], ◌∷◌, ◌++◌, map, Option, Some, None, refl, sym, ap, subst, ◌∙◌}
+use Rattle.std.proofs.Common.{◌≡◌, ◌⊎◌, ℕ, true, List, [], ◌∷◌, ◌++◌, map, Option, Some, None, refl, sym, ap, subst, ◌∙◌}
 use Rattle.std.specs.Prelude.{flat_map, codes, is_some, Result, IfOk}
 use Rattle.std.specs.Option.{option_map_or, option_and_then}
-use Rattle.std.proofs.lemmas.Bool.{cases_Bool}
 use Rattle.std.proofs.lemmas.List.{append_assoc}
 use Rattle.dn_names.specs.Names.{RdnSequence}
 use Rattle.dn_names.specs.Printing.{print_name, print_by}
 use Rattle.dir_tree.specs.Entries.{EntryInformation}
-use Rattle.dir_tree.specs.Trees.{is_named, named_in}
+use Rattle.dir_tree.specs.Trees.{named_in}
 use Rattle.dir_tree.specs.Numbered.{Numbered, IsNumberedTree, AreDistinct, entries_of, entry_of, find_name}
-use Rattle.dir_tree.proofs.TreeTheorems.{entry_of-found}
+use Rattle.dir_tree.proofs.TreeTheorems.{entry_of-found, found_both}
 use Rattle.admin_scope.specs.InForce.{in_force}
 use Rattle.aci_item.specs.declared.permission.Permission.{Permission}
 use Rattle.acdf_filters.specs.declared.asking.Requester.{Requester}
@@ -64,14 +63,6 @@ text-said rows entry asked steps subentries text with_subentries with_counts wit
 pub print_name-none : (rows : List Numbered) (id : ℕ) → entry_of id rows ≡ None → print_name (name_at rows id) ≡ []
 unfolding print_name print_by
 print_name-none rows id e = ap (λ (o : Option EntryInformation). print_name (option_map_or (λ entry. entry.name) o [])) e
-
--- a name that is found is that of an entry
-found_both : (name : RdnSequence) (rows : List Numbered) → is_some (find_name name rows) ≡ is_some (named_in name (entries_of rows))
-found_both name [] = refl
-found_both name (x ∷ rows) = elim (cases_Bool (is_named name x.entry)) [
-  | inl e ↦ rw e refl
-  | inr e ↦ rw e (found_both name rows)
-]
 
 -- so the text is that of the entry that is found
 pub text-found : {T E : Type 0} (bytes : T → List ℕ) (r : Result T E) (rows tree : List Numbered) (who : Requester) (target : RdnSequence) (item : Protected) (permission : Permission) (id : ℕ)

@@ -3,6 +3,5 @@ pub mod JoinLemmas
 pub mod JudgingLemmas
 pub mod WalkLemmas
 pub mod PreparingLemmas
-pub mod ClassLemmas
 pub mod Theorems
 pub mod Examples

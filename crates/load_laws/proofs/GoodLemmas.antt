@@ -3,7 +3,8 @@ use Rattle.std.proofs.Common.{◌≡◌, ◌≢◌, ℕ, ◌==◌, Bool, true, f
 use Rattle.std.specs.List.{AllByRecursion}
 use Rattle.base64.specs.GeneralPurpose.{IsBytes}
 use Rattle.dir_tree.specs.Entries.{EntryInformation}
-use Rattle.dir_tree.specs.Trees.{is_before, has_name, lacks_superior, put_in}
+use Rattle.dir_tree.specs.Trees.{has_name, lacks_superior, put_in}
+use Rattle.dir_tree.proofs.TreeTheorems.{put_in-some}
 use Rattle.ldif_core.specs.declared.types.Record.{Record}
 use Rattle.ldif_core.specs.Faults.{LineFault}
 use Rattle.ldif_core.specs.Places.{records_from}
@@ -80,15 +81,6 @@ good-loads_after [] entries all octets good is =
 good-loads_after (first ∷ rest) entries all octets good is =
     let step = both_given (record_entry entries first) (λ entry. loads_after (put_in entry entries) rest) all is in
     good-loads_after rest (put_in step.0 entries) all octets.1 (good-record_entry entries first step.0 octets.0 good step.1) step.2
-
--- entries with one more are not none
-some_put : (before : Bool) (entry first : EntryInformation) (rest later : List EntryInformation) → (if before then first ∷ later else entry ∷ first ∷ rest) ≢ []
-some_put true entry first rest later is = cc
-some_put false entry first rest later is = cc
-
-put_in-some : (entry : EntryInformation) (entries : List EntryInformation) → put_in entry entries ≢ []
-put_in-some entry [] is = cc
-put_in-some entry (first ∷ rest) is = some_put (is_before first.name entry.name) entry first rest (put_in entry rest) is
 
 some-loads_after :
     (records : List (Result Record LineFault)) (entries all : List EntryInformation) → entries ≢ []

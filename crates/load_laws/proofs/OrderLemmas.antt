@@ -11,12 +11,8 @@ use Rattle.dn_names.specs.NameOrder.{name_cmp, is_same, is_prefix_of}
 use Rattle.dn_names.proofs.Theorems.{name_cmp_total, name_cmp-prefix, is_same-types_and_keys}
 use Rattle.dir_tree.specs.Entries.{EntryInformation}
 use Rattle.dir_tree.specs.Trees.{is_before, is_named, has_name, lacks_superior, superior_name, put_in, IsInOrder, IsRooted}
-
--- what holds of all holds of the one at a place
-pub all_at :
-    {X : Type 0} (P : X → Type 0) (front back : List X) (x : X) → AllByRecursion P (front ++ x ∷ back) → P x
-all_at P [] back x all = all.0
-all_at P (first ∷ front) back x all = all_at P front back x all.1
+use Rattle.dir_tree.proofs.TreeTheorems.{not_same as same-before}
+use Rattle.schema_rules.proofs.Theorems.{all_at}
 
 -- the entries before a place, and those after it
 pub before_place :
@@ -45,10 +41,6 @@ put_in-last entry (first ∷ front) before =
     rw test (ap (λ later. first ∷ later) (put_in-last entry front before.1))
 
 -- a name that comes before another is not the same, either way round
-same-before : (one other : RdnSequence) → name_cmp one other ≡ Less → is_same one other ≡ false
-unfolding is_same
-same-before one other before = ap is_eq before
-
 same-after : (one other : RdnSequence) → name_cmp one other ≡ Less → is_same other one ≡ false
 unfolding is_same
 same-after one other before = ap is_eq (name_cmp_total.antisymm other one ∙ ap ordering_reverse before)

@@ -16,11 +16,11 @@ use Rattle.ldap_msg.specs.declared.kinds.ModifyRequest.{ModifyRequest}
 use Rattle.read_model.specs.Views.{view_of, hidden}
 use Rattle.op_update.specs.Adding.{rule_refusal}
 use Rattle.op_update.specs.Updates.{refused, unless, IsChanged}
+use Rattle.op_update.proofs.Theorems.{not_broken, unless-made}
 use Rattle.entry_changes.specs.Changes.{Modification, changed_by}
 use Rattle.op_modify.specs.ReadChanges.{read_changes}
 use Rattle.op_modify.specs.Modifying.{modified_as, modified_target, modified_by, modified_named, modified}
 use Rattle.modify_laws.specs.Granting.{MayModify}
-use Rattle.modify_laws.proofs.TableLemmas.{not_broken, unless-made}
 use Rattle.modify_laws.proofs.ChangeLemmas.{may-changed_by, changed_by-may}
 
 -- what nothing refuses is made

@@ -8,6 +8,7 @@ use Rattle.dn_names.specs.GoodNames.{IsGoodName}
 use Rattle.dn_names.specs.declared.error.BadName.{BadName}
 use Rattle.dir_tree.specs.Entries.{EntryInformation, IsGoodAttributes}
 use Rattle.dir_tree.specs.Trees.{named_in, put_in, taken_out}
+use Rattle.dir_tree.proofs.TreeTheorems.{same_itself, all_named as found_all, found_by_own_name, put_in-some}
 use Rattle.aci_item.specs.Rules.{broken_rule, AreGood, IsGoodTree}
 use Rattle.aci_item.specs.declared.permission.Permission.TheVariants.{Modify}
 use Rattle.acdf_filters.specs.declared.asking.Requester.{Requester}
@@ -20,11 +21,10 @@ use Rattle.ldap_msg.specs.declared.kinds.LdapResult.{LdapResult}
 use Rattle.read_model.specs.Views.{view_of, hidden}
 use Rattle.op_update.specs.Adding.{rule_refusal}
 use Rattle.op_update.specs.Updates.{refused}
+use Rattle.op_update.proofs.Theorems.{not_broken, unless-good, unless-refused}
 use Rattle.entry_changes.specs.Changes.{Asks, Modification, changed_by}
 use Rattle.op_modify.specs.ReadChanges.{read_changes}
 use Rattle.op_modify.specs.Modifying.{modified_as, modified_target, modified_by, modified_named, modified}
-use Rattle.modify_laws.proofs.TableLemmas.{not_broken, unless-good, unless-refused}
-use Rattle.modify_laws.proofs.FoundLemmas.{same_itself, found_all, found_by_own_name, put_in-some}
 use Rattle.modify_laws.proofs.ReadLemmas.{HasDistinctValues, distinct-read_changes}
 
 -- good entries stay so where one takes another's place under the same name

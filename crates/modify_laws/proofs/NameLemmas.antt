@@ -1,22 +1,22 @@
 -- The new name of a rename: its superior's as the superior's entry spells it, and the new RDN.
-use Rattle.std.proofs.Common.{◌≡◌, ◌≢◌, ℕ, ◌+◌, ◌-◌, ◌==◌, ◌≤◌, zero, suc, true, false, List, [], ◌∷◌, ◌++◌, length, take, map, reverse, if◌then◌else◌, Option, Some, None, Result, Ok, Err, refl, sym, ap, subst, ◌∙◌, length-append, arith}
+use Rattle.std.proofs.Common.{◌≡◌, ◌≢◌, ℕ, ◌+◌, ◌-◌, ◌==◌, ◌≤◌, zero, suc, true, false, List, [], ◌∷◌, ◌++◌, length, take, reverse, if◌then◌else◌, Option, Some, None, Result, Ok, Err, refl, sym, ap, subst, ◌∙◌, length-append, arith}
 use Rattle.std.specs.List.{AllByRecursion}
 use Rattle.std.specs.Option.{option_map_or}
 use Rattle.std.proofs.lemmas.Bool.Decides.{nat_tests}
-use Rattle.std.proofs.lemmas.List.{length-map, length-reverse, length-take-le, take_at}
+use Rattle.std.proofs.lemmas.List.{length-reverse, take_at}
 use Rattle.dn_names.specs.declared.error.BadName.{BadName}
 use Rattle.dn_names.specs.declared.error.BadName.TheVariants.{TooMany}
 use Rattle.dn_names.specs.Names.{RdnSequence}
-use Rattle.dn_names.specs.NameOrder.{is_same, type_and_key}
+use Rattle.dn_names.specs.NameOrder.{is_same}
 use Rattle.dn_names.specs.NameText.{RdnText, read_rdn}
 use Rattle.dn_names.specs.GoodNames.{IsGoodRdn, IsGoodName}
 use Rattle.dn_names.specs.Spelling.{WrittenPair}
 use Rattle.dn_names.specs.Resolving.{and_then, rdn_from, rdns_from, from_root, resolve_rdn}
-use Rattle.dn_names.proofs.Theorems.{is_same-types_and_keys, IsGoodName-from_RdnText, RdnText-read_rdn, IsGoodName-append}
+use Rattle.dn_names.proofs.Theorems.{IsGoodName-from_RdnText, RdnText-read_rdn, IsGoodName-append}
 use Rattle.dir_tree.specs.Entries.{EntryInformation}
 use Rattle.dir_tree.specs.Trees.{named_in, superior_name}
+use Rattle.dir_tree.proofs.TreeTheorems.{length-same, length-superior as length-superior_name, filled, same_itself, same_back, all_named as found_all, found_same}
 use Rattle.op_modify.specs.Renames.{above_in}
-use Rattle.modify_laws.proofs.FoundLemmas.{same_itself, same_back, found_all, found_same}
 
 -- what reads two parts reads each
 both_read :
@@ -61,21 +61,11 @@ all_take P zero xs all = tt
 all_take P (suc count) [] all = tt
 all_take P (suc count) (x ∷ xs) all = (all.0, all_take P count xs all.1)
 
-length-superior_name : (name : RdnSequence) → length (superior_name name) ≡ length name - 1
-length-superior_name name = length-take-le (length name - 1) name (omega arith)
-
 good-superior_name : (name : RdnSequence) → IsGoodName name → IsGoodName (superior_name name)
 good-superior_name name good = record {
   fits = omega (arith, good.fits, length-superior_name name);
   good = all_take IsGoodRdn (length name - 1) name good.good;
 }
-
--- names that are the same have as many RDNs
-length-same : (one other : RdnSequence) → is_same one other ≡ true → length one ≡ length other
-length-same one other same =
-    sym (length-map one (map type_and_key))
-    ∙ ap length ((is_same-types_and_keys one other).0 same)
-    ∙ length-map other (map type_and_key)
 
 -- the superior's part is the superior's name, and good
 same-above :
@@ -92,10 +82,6 @@ good-above :
 good-above name entries None is all good = good-superior_name name good
 good-above name entries (Some above) is all good =
     found_all (λ entry. IsGoodName entry.name) (superior_name name) above entries all is
-
-filled : (name : RdnSequence) → name ≢ [] → 1 ≤ length name
-filled [] named = absurd (named refl)
-filled (rdn ∷ rdns) named = omega arith
 
 -- the last of one RDN is cut off
 superior_name-join : (above rdn : RdnSequence) → length rdn ≡ 1 → superior_name (above ++ rdn) ≡ above

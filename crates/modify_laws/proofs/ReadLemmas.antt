@@ -1,33 +1,15 @@
 -- What is read of a modify request: of each change no two values match.
 use Rattle.std.proofs.Common.{◌≡◌, Bool, true, false, List, [], ◌∷◌, if◌then◌else◌, Ok, Err, refl, subst}
 use Rattle.std.specs.List.{AllByRecursion, IsDistinct, list_any}
-use Rattle.std.proofs.lemmas.Bool.{or_parts}
 use Rattle.plain_values.specs.Results.{◌>>=◌}
 use Rattle.dir_tree.specs.Entries.{Attribute, is_match}
 use Rattle.ldap_msg.specs.declared.operations.ResultCode.{ResultCode}
 use Rattle.ldap_msg.specs.declared.kinds.Change.{Change}
 use Rattle.op_update.specs.NewEntries.{read_attribute, repeats}
+use Rattle.op_update.proofs.Theorems.{distinct-repeats as IsDistinct-from_repeats, both_given}
 use Rattle.entry_changes.specs.declared.kind.ChangeKind.{ChangeKind}
 use Rattle.entry_changes.specs.Changes.{Modification}
 use Rattle.op_modify.specs.ReadChanges.{is_no_change, change_of, change_with, read_change, read_each, read_changes}
-use Rattle.modify_laws.proofs.TableLemmas.{both_given}
-
--- items of which none repeats are distinct
-none_of_any :
-    {A : Type 0} (test : A → Bool) (items : List A) → list_any test items ≡ false
-    → AllByRecursion (λ item. test item ≡ false) items
-none_of_any test [] none = tt
-none_of_any test (first ∷ rest) none =
-    let parts = or_parts (test first) (list_any test rest) none in
-    (parts.0, none_of_any test rest parts.1)
-
-IsDistinct-from_repeats :
-    {A : Type 0} (same : A → A → Bool) (items : List A) → repeats same items ≡ false → IsDistinct same items
-unfolding IsDistinct repeats
-IsDistinct-from_repeats same [] none = tt
-IsDistinct-from_repeats same (first ∷ rest) none =
-    let parts = or_parts (list_any (same first) rest) (repeats same rest) none in
-    (none_of_any (same first) rest parts.0, IsDistinct-from_repeats same rest parts.1)
 
 -- the values of the change are so
 abbrev pub HasDistinctValues : Modification → Type 0

@@ -7,6 +7,7 @@ use Rattle.dn_names.specs.NameText.{read_rdn}
 use Rattle.dn_names.specs.GoodNames.{IsGoodName}
 use Rattle.dir_tree.specs.Entries.{EntryInformation, IsGoodAttributes}
 use Rattle.dir_tree.specs.Trees.{named_in, has_name, has_below, superior_name, put_in, taken_out}
+use Rattle.dir_tree.proofs.TreeTheorems.{all_named as found_all, found_by_own_name, put_in-some}
 use Rattle.aci_item.specs.Rules.{broken_rule, AreGood, IsGoodTree}
 use Rattle.aci_item.specs.declared.permission.Permission.TheVariants.{Rename}
 use Rattle.acdf_filters.specs.declared.asking.Requester.{Requester}
@@ -19,10 +20,10 @@ use Rattle.op_asking.specs.Targets.{is_suffix}
 use Rattle.read_model.specs.Views.{result_of}
 use Rattle.op_update.specs.Adding.{rule_refusal}
 use Rattle.op_update.specs.Updates.{Changed, refused}
+use Rattle.op_update.proofs.Theorems.{none_of, none_from, not_when, when_not, not_broken, unless-good, unless-refused}
 use Rattle.entry_changes.specs.Renaming.{renamed_entry}
 use Rattle.op_modify.specs.Renames.{moves, new_name, taken_refusal, other_named, rename_refusal, renamed}
-use Rattle.modify_laws.proofs.TableLemmas.{none_of, none_from, not_when, when_not, not_broken, unless-good, unless-refused}
-use Rattle.modify_laws.proofs.FoundLemmas.{found_all, found_by_own_name, free_beside, put_in-some}
+use Rattle.modify_laws.proofs.FoundLemmas.{free_beside}
 use Rattle.modify_laws.proofs.NameLemmas.{IsNewName, IsNewName-read}
 use Rattle.modify_laws.proofs.RenamingLemmas.{renamed_found, renamed_read, by_reading}
 

@@ -10,10 +10,10 @@ use Rattle.ldap_msg.specs.declared.operations.ResultCode.TheVariants as code
 use Rattle.ldap_msg.specs.declared.kinds.RenameRequest.{RenameRequest}
 use Rattle.read_model.specs.Views.{result_of}
 use Rattle.op_update.specs.Updates.{refused, unless, IsChanged}
+use Rattle.op_update.proofs.Theorems.{unless-made}
 use Rattle.entry_changes.specs.Renaming.{renamed_entry}
 use Rattle.op_modify.specs.Renames.{read_superior, moves, new_name, rename_refusal, renamed}
 use Rattle.modify_laws.specs.Granting.{MayRename}
-use Rattle.modify_laws.proofs.TableLemmas.{unless-made}
 use Rattle.modify_laws.proofs.RenamingLemmas.{renamed_found, renamed_read, by_reading, renamed-read, some_rdns, no_empty, stays-read, superior_of, read-superior_of, moves-superior_of}
 use Rattle.modify_laws.proofs.RenameLemmas.{IsRenamable, IsRenamable-unrefused, unrefused-IsRenamable}
 

@@ -3,20 +3,18 @@ use Rattle.std.proofs.Common.{◌≡◌, inl, inr, ℕ, Bool, true, false, ◌&&
 use Rattle.std.specs.Prelude.{reverse}
 use Rattle.std.specs.List.{AllByRecursion, list_any}
 use Rattle.std.specs.Option.{option_map, option_map_or, option_and_then}
-use Rattle.std.specs.Ordering.{is_eq}
 use Rattle.std.specs.declared.cmp.Ordering.TheVariants.{Less}
 use Rattle.std.proofs.lemmas.Bool.{cases_Bool, eq-eqb}
 use Rattle.std.proofs.Math.Bool.{or-false}
 use mathlib.Core.List.{reverse_aux}
-use Rattle.base_laws.proofs.Theorems.{is_equal, find-map, list_any-map}
+use Rattle.base_laws.proofs.Theorems.{find-map, list_any-map}
 use Rattle.dn_names.specs.Names.{RdnSequence}
 use Rattle.dn_names.specs.NameOrder.{name_cmp, is_same}
 use Rattle.dn_names.specs.Printing.{print_name, print_by}
-use Rattle.dn_names.proofs.Theorems.{name_cmp_total}
 use Rattle.dir_tree.specs.Entries.{EntryInformation}
 use Rattle.dir_tree.specs.Trees.{is_named, is_below, named_in, IsInOrder}
 use Rattle.dir_tree.specs.Numbered.{Numbered, IsNumberedTree, entries_of, entry_of, find_name, suffix_of}
-use Rattle.dir_tree.proofs.TreeTheorems.{entry_of-found}
+use Rattle.dir_tree.proofs.TreeTheorems.{entry_of-found, later-other}
 use Rattle.dir_tree.specs.declared.number.EntryNo.{EntryNo}
 use Rattle.aci_item.specs.declared.permission.Permission.TheVariants.{DiscloseOnError}
 use Rattle.acdf_filters.specs.declared.asking.Requester.{Requester}
@@ -29,7 +27,6 @@ use Rattle.read_model.specs.Views.{Row, View, row_of, view_of, matched_name, dis
 use Rattle.op_asking.specs.Targets.{is_suffix}
 use Rattle.op_asking.specs.Asking.{view_in}
 use Rattle.op_asking.specs.Nearest.{nearest_name, without_object}
-
 -- ---- lists of what is seen of other lists
 
 reverse_aux-map : {A B : Type 0} (f : A → B) (xs ys : List A) → reverse_aux (map f xs) (map f ys) ≡ map f (reverse_aux xs ys)
@@ -42,10 +39,6 @@ reverse-map f xs = reverse_aux-map f xs []
 -- ---- the one entry of a name
 
 -- what comes later than an entry of the name has another
-later-other : (name : RdnSequence) (first later : EntryInformation) → is_named name first ≡ true → name_cmp first.name later.name ≡ Less → is_named name later ≡ false
-unfolding is_same
-later-other name first later e h = ap is_eq (name_cmp_total.congr name first.name later.name (is_equal (name_cmp name first.name) e) ∙ h)
-
 none-later : (test : EntryInformation → Bool) (name : RdnSequence) (first : EntryInformation) → is_named name first ≡ true → (rest : List EntryInformation) → AllByRecursion (λ later. name_cmp first.name later.name ≡ Less) rest → list_any (λ entry. is_named name entry && test entry) rest ≡ false
 none-later test name first e [] h = refl
 none-later test name first e (x ∷ rest) h = rw (later-other name first x e h.0) (none-later test name first e rest h.1)

@@ -23,32 +23,14 @@ use Rattle.ldap_msg.specs.declared.kinds.Change.{Change}
 use Rattle.ldap_msg.specs.declared.kinds.LdapResult.{LdapResult}
 use Rattle.ldap_msg.specs.declared.kinds.ModifyRequest.{ModifyRequest}
 use Rattle.read_model.specs.Views.{result_of}
-use Rattle.op_update.specs.Updates.{Changed, IsChanged, refused, unless}
+use Rattle.op_update.specs.Updates.{Changed, IsChanged, refused}
+use Rattle.op_update.proofs.Theorems.{changed-refused, changed-done}
 use Rattle.op_modify.specs.Asked.{granted_at}
 use Rattle.op_modify.specs.ReadChanges.{read_changes}
 use Rattle.op_modify.specs.Modifying.{modified_as, modified_by, modified_named, modified}
 use Rattle.op_modify.specs.declared.replacing.Checked.{Checked}
 use Rattle.op_modify.specs.declared.replacing.Checked.TheVariants.{Refused, Allowed}
 use Rattle.op_modify.specs.Steps.{IsInPlace, IsChecked}
-
--- a refusal, and a change that is made
-pub changed-refused : (changed : Changed) (entries : List EntryInformation) (refusal ended : LdapResult) → changed ≡ refused entries ended → refusal ≡ ended → IsChanged changed (Some refusal) entries
-changed-refused changed entries refusal ended is same = record {
-  refused = ap (λ (refusal : LdapResult). Some refusal) same ∙ sym (ap (λ (changed : Changed). changed.refusal) is);
-  left = sym (ap (λ (changed : Changed). changed.entries) is);
-}
-
-pub changed-done : (changed : Changed) (before after entries : List EntryInformation) → changed ≡ unless None before after → entries ≡ after → IsChanged changed None entries
-changed-done changed before after entries is same = record {
-  refused = sym (ap (λ (changed : Changed). changed.refusal) is);
-  left = same ∙ sym (ap (λ (changed : Changed). changed.entries) is);
-}
-
-pub changed-like : (one other : Changed) (refusal : Option LdapResult) (entries : List EntryInformation) → other ≡ one → IsChanged one refusal entries → IsChanged other refusal entries
-changed-like one other refusal entries same is = record {
-  refused = is.refused ∙ sym (ap (λ (changed : Changed). changed.refusal) same);
-  left = is.left ∙ sym (ap (λ (changed : Changed). changed.entries) same);
-}
 
 -- what was checked, as it came
 pub made-refused : (changed : Changed) (rows : List Numbered) (checked : Checked) (refusal : LdapResult) → checked ≡ Refused refusal → IsChecked changed rows checked → IsChanged changed (Some refusal) (entries_of rows)

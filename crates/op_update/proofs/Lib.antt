@@ -1,5 +1,6 @@
-mod SeenLemmas
 mod ReadingLemmas
 mod CountLemmas
 mod UpdateLemmas
 mod Examples
+mod TableLemmas
+pub mod Theorems

@@ -9,10 +9,9 @@ use Rattle.base_laws.proofs.Theorems.{none_passes, list_any-none}
 use Rattle.plain_values.specs.Results.{◌>>=◌}
 use Rattle.plain_values.specs.Answers.{IsFaultOf}
 use Rattle.schema_core.specs.Attributes.{attr_of}
-use Rattle.dn_names.specs.Names.{Keyed, TypeAndValue, RdnSequence}
-use Rattle.dir_tree.specs.Entries.{Attribute, EntryInformation, kinds_of, has_kind, has_key, values_of, is_match, IsGoodAttribute, IsGoodAttributes}
-use Rattle.dir_tree.specs.Changes.{set_in, with_value, with_values}
-use Rattle.op_write.specs.Loading.{with_pairs}
+use Rattle.dn_names.specs.Names.{Keyed, RdnSequence}
+use Rattle.dir_tree.specs.Entries.{Attribute, EntryInformation, kinds_of, has_kind, is_match, IsGoodAttribute, IsGoodAttributes}
+use Rattle.dir_tree.specs.Changes.{set_in, with_values}
 use Rattle.ldap_msg.specs.declared.operations.ResultCode.{ResultCode}
 use Rattle.ldap_msg.specs.declared.operations.ResultCode.TheVariants as code
 use Rattle.ldap_msg.specs.declared.kinds.KindValues.{KindValues}
@@ -21,7 +20,6 @@ use Rattle.op_update.specs.declared.fault.Fault.TheVariants as fault
 use Rattle.op_update.specs.NewEntries.{read_value, read_values, read_known, read_attribute, read_each, repeats, has_twice, without_twice, lacks_values}
 use Rattle.op_update.specs.Reading.{cause_of}
 use Rattle.op_update.specs.Steps.{finished, entry_from, IsPut}
-
 -- ---- values, one after the other
 
 -- items before those of a result
@@ -33,7 +31,7 @@ pub before-none : {A E : Type 0} (result : Result (List A) E) → result ≡ put
 before-none (Ok left) = refl
 before-none (Err fault) = refl
 
-before-more : {A E : Type 0} (done : List A) (x : A) (result : Result (List A) E) → put_before done (result >>= λ left. Ok (x ∷ left)) ≡ put_before (done ++ x ∷ []) result
+pub before-more : {A E : Type 0} (done : List A) (x : A) (result : Result (List A) E) → put_before done (result >>= λ left. Ok (x ∷ left)) ≡ put_before (done ++ x ∷ []) result
 before-more done x (Ok left) = ap (λ items. Ok items) (sym (append_assoc done (x ∷ []) left))
 before-more done x (Err fault) = refl
 
@@ -223,15 +221,3 @@ attribute-filled item attribute some good = by (attr_of item.kind) good
     by : (kind : Option ℕ) → read_known item.values kind ≡ Ok attribute → attribute.values ≢ []
     by None good = absurd cc
     by (Some kind) good = inner kind (read_values kind item.values) refl good
-
--- the values of an RDN leave the name
-pub name-with_pairs : (entry : EntryInformation) (pairs : List TypeAndValue) → (with_pairs entry pairs).name ≡ entry.name
-unfolding with_pairs
-name-with_pairs entry [] = refl
-name-with_pairs entry (pair ∷ pairs) = name-with_pairs (with_value pair.kind pair.value entry) pairs ∙ name-with_value pair.kind pair.value entry
-  where
-    name-with_value : (kind : ℕ) (value : Keyed) (entry : EntryInformation) → (with_value kind value entry).name ≡ entry.name
-    name-with_value kind value entry = elim (cases_Bool (has_key value.key (values_of kind entry.attributes))) [
-      | inl e ↦ rw e refl
-      | inr e ↦ rw e refl
-    ]

@@ -20,7 +20,7 @@ use Rattle.op_update.specs.NewEntries.{read_attributes, new_entry}
 use Rattle.op_update.specs.Adding.{add_refusal}
 use Rattle.op_update.specs.Updates.{Changed, IsChanged, refused, unless, deleted_target, deleted_named, deleted, added_entry, added_named, added}
 use Rattle.op_update.specs.Steps.{IsAllowed}
-use Rattle.op_update.proofs.ReadingLemmas.{name-with_pairs}
+use Rattle.op_write.proofs.Theorems.{name-with_pairs}
 
 -- a refusal, and a change that is made
 pub changed-refused : (changed : Changed) (entries : List EntryInformation) (refusal ended : LdapResult) → changed ≡ refused entries ended → refusal ≡ ended → IsChanged changed (Some refusal) entries

@@ -37,7 +37,7 @@ ends_at_a_bad_record entries text from to given fault next bad =
     after_first entries (records_from text from) (Ok given) (records_from text to) next.record_read
     ∙ ap (λ loading. in_file loading >>= λ entry. loads_after (put_in entry entries) (records_from text to)) bad
 
-ends_at_first : (entries : List EntryInformation) (given : List (Result Record LineFault)) (bad : LineFault) → first_of given ≡ Err bad → loads_after entries given ≡ Err (line_fault bad)
+pub ends_at_first : (entries : List EntryInformation) (given : List (Result Record LineFault)) (bad : LineFault) → first_of given ≡ Err bad → loads_after entries given ≡ Err (line_fault bad)
 unfolding loads_after
 ends_at_first entries [] bad is = absurd cc
 ends_at_first entries (Ok first ∷ rest) bad is = absurd cc

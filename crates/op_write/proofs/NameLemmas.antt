@@ -5,8 +5,9 @@ use Rattle.schema_core.specs.Attributes.{attr_of}
 use Rattle.dn_names.specs.declared.error.BadName.{BadName}
 use Rattle.dn_names.specs.Names.{Keyed, TypeAndValue, RdnSequence, last_rdn}
 use Rattle.dn_names.specs.NameText.{read_name}
-use Rattle.dir_tree.specs.Entries.{EntryInformation, values_of, has_key}
+use Rattle.dir_tree.specs.Entries.{EntryInformation, IsGoodAttributes, values_of, has_key}
 use Rattle.dir_tree.specs.Changes.{with_value, put_value}
+use Rattle.dir_tree.proofs.Theorems.{good-with_value}
 use Rattle.ldif_core.specs.declared.types.Record.{Record}
 use Rattle.ldif_core.specs.declared.types.RecordLine.{RecordLine}
 use Rattle.op_write.specs.declared.fault.LoadCause.TheVariants.{Twice}
@@ -22,7 +23,7 @@ pub both-give : {A B : Type 0} (first : Result A RecordFault) (next : A → Resu
 both-give (Ok between) next value gives = record { between = between; before = refl; after = gives }
 both-give (Err fault) next value gives = absurd cc
 
-name-with_value : (kind : ℕ) (value : Keyed) (entry : EntryInformation) → (with_value kind value entry).name ≡ entry.name
+pub name-with_value : (kind : ℕ) (value : Keyed) (entry : EntryInformation) → (with_value kind value entry).name ≡ entry.name
 name-with_value kind value entry =
     elim (has_key value.key (values_of kind entry.attributes)) as (λ b. (if b then entry else record entry { attributes = put_value kind value entry.attributes }).name ≡ entry.name) [
       | true ↦ refl
@@ -48,10 +49,16 @@ name-with_lines entry more (line ∷ lines) gives =
     let steps = both-give (with_line entry line) (λ next. with_lines next lines) more gives in
     name-with_lines steps.between more lines steps.after ∙ name-with_new_kind entry steps.between line (attr_of line.kind) steps.before
 
-name-with_pairs : (entry : EntryInformation) (pairs : List TypeAndValue) → (with_pairs entry pairs).name ≡ entry.name
+pub name-with_pairs : (entry : EntryInformation) (pairs : List TypeAndValue) → (with_pairs entry pairs).name ≡ entry.name
 unfolding with_pairs
 name-with_pairs entry [] = refl
 name-with_pairs entry (pair ∷ pairs) = name-with_pairs (with_value pair.kind pair.value entry) pairs ∙ name-with_value pair.kind pair.value entry
+
+-- and good attributes where it had some
+pub good-with_pairs : (entry : EntryInformation) (pairs : List TypeAndValue) → IsGoodAttributes entry.attributes → IsGoodAttributes (with_pairs entry pairs).attributes
+unfolding with_pairs
+good-with_pairs entry [] good = good
+good-with_pairs entry (pair ∷ pairs) good = good-with_pairs (with_value pair.kind pair.value entry) pairs (good-with_value pair.kind pair.value entry good)
 
 named-some : (line : ℕ) (reading : Result RdnSequence BadName) (name : RdnSequence) → named line reading ≡ Ok name → name ≢ []
 named-some line (Ok []) name gives = absurd cc

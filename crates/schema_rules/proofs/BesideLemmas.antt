@@ -6,22 +6,17 @@ use Rattle.std.proofs.lemmas.Bool.{cases_Bool, eqb-true, eqb-false, eq-eqb, ne_e
 use Rattle.std.proofs.lemmas.List.{length-map}
 use Rattle.std.proofs.lemmas.Option.{same_Some}
 use Rattle.std.specs.declared.cmp.Ordering.TheVariants.{Less}
-use Rattle.std.specs.Ordering.{is_eq}
 use Rattle.dn_names.specs.Names.{RdnSequence}
 use Rattle.dn_names.specs.NameOrder.{name_cmp, is_same}
 use Rattle.dir_tree.specs.Entries.{EntryInformation}
 use Rattle.dir_tree.specs.Points.{is_access_subentry, access_subentries}
 use Rattle.dir_tree.specs.Trees.{is_named, named_in, superior_name, IsInOrder}
 use Rattle.dir_tree.specs.Numbered.{Numbered, IsNumberedTree, AreDistinct, entries_of, entry_of, find_name, without}
+use Rattle.dir_tree.proofs.TreeTheorems.{keep_all, not_same}
 use Rattle.schema_rules.specs.Checking.{IsSuperior, replaced, others}
 use Rattle.schema_rules.specs.Beside.{entry_beside}
 use Rattle.schema_rules.proofs.RootLemmas.{same_over}
 use Rattle.schema_rules.proofs.TreeLemmas.{superior-found}
-
--- a number that no row has takes none out
-keep_all : (id : ℕ) (rows : List Numbered) → AllByRecursion (λ later. later.id ≢ id) rows → without id rows ≡ rows
-keep_all id [] apart = refl
-keep_all id (row ∷ rows) apart = rw (ne_eqb row.id id apart.0) (ap (λ (rows : List Numbered). row ∷ rows) (keep_all id rows apart.1))
 
 -- nor does that of the first take out one of the rest
 rest_kept : (id : ℕ) (row : Numbered) (rows : List Numbered) → AreDistinct (row ∷ rows) → (row.id == id) ≡ true → without id rows ≡ rows
@@ -79,10 +74,6 @@ any_beside test id old (row ∷ rows) distinct known fails = elim (cases_Bool (r
 ]
 
 -- after an entry of a name none has it
-not_same : (one other : RdnSequence) → name_cmp one other ≡ Less → is_same one other ≡ false
-unfolding is_same
-not_same one other less = ap is_eq less
-
 none_after :
     (id : ℕ) (name : RdnSequence) (first : EntryInformation) (rows : List Numbered) → is_same name first.name ≡ true
     → AllByRecursion (λ later. name_cmp first.name later.name ≡ Less) (entries_of rows)

@@ -1,22 +1,21 @@
 -- Good entries stay so where an entry of the same name takes another's place and breaks no rule there.
 use Rattle.std.proofs.Common.{◌≡◌, ◌≢◌, ◌+◌, ◌==◌, Bool, true, false, not, ◌&&◌, ◌||◌, List, [], ◌∷◌, ◌++◌, ◌⊎◌, length, find, None, Some, refl, sym, ap, subst, ◌∙◌, inl, inr, append_assoc, arith}
 use Rattle.std.specs.List.{AllByRecursion, list_any}
-use Rattle.std.proofs.lemmas.Bool.{cases_Bool, cond_both, and_from, or_parts, or_from, false_from_ne_true, true≢false, not-true}
+use Rattle.std.proofs.lemmas.Bool.{cases_Bool, and_from, or_parts, or_from, false_from_ne_true, true≢false}
 use Rattle.std.proofs.lemmas.Bool.Decides.{nat_tests}
-use Rattle.dn_names.specs.Names.{RdnSequence}
 use Rattle.dn_names.specs.NameOrder.{is_same}
 use Rattle.dn_names.specs.GoodNames.{IsGoodName}
 use Rattle.dir_tree.specs.Entries.{EntryInformation, IsGoodAttributes}
 use Rattle.dir_tree.specs.Points.{is_point, is_subentry}
 use Rattle.dir_tree.specs.Scopes.{is_child}
 use Rattle.dir_tree.specs.Trees.{is_named, named_in, superior_name, put_in, taken_out}
-use Rattle.dir_tree.proofs.TreeTheorems.{tree-same_name}
+use Rattle.dir_tree.proofs.TreeTheorems.{tree-same_name, left_out as none_named, length-same, length-superior, filled, same_back, all_put as all_put_in}
 use Rattle.aci_item.specs.Rules.{broken_rule, has_other_structural, is_misplaced, is_past_limits, stands_wrong, stands_wrong_above, Meets, MeetsRules, AreGood}
 use Rattle.schema_rules.proofs.ListPlaceLemmas.{stands as stands_put, all_at}
 use Rattle.schema_rules.proofs.ListTakenLemmas.{stands as stands_taken, all_filter}
 use Rattle.schema_rules.proofs.RuleLemmas.{Meets-from_broken_rule, broken_rule-from_Meets, misplaced-past, limits-past}
-use Rattle.schema_rules.proofs.RootLemmas.{length-same, length-superior, filled, same_back, same_over}
-use Rattle.schema_rules.proofs.StayLemmas.{is_put, all_put_in}
+use Rattle.schema_rules.proofs.RootLemmas.{same_over}
+use Rattle.schema_rules.proofs.StayLemmas.{is_put}
 use Rattle.schema_rules.proofs.TakenLemmas.{taken_at, front_of_superior, limits-without}
 
 -- an entry that meets the rules in a place meets them beside the same others
@@ -56,14 +55,6 @@ all_but P (first ∷ front) back x all = (all.0, all_but P front back x all.1)
 all_from : {X : Type 0} (P Q : X → Type 0) → ((x : X) → P x → Q x) → (xs : List X) → AllByRecursion P xs → AllByRecursion Q xs
 all_from P Q leads [] all = tt
 all_from P Q leads (x ∷ xs) all = (leads x all.0, all_from P Q leads xs all.1)
-
--- none of those left has the name
-none_named : (name : RdnSequence) (entries : List EntryInformation) → AllByRecursion (λ entry. is_named name entry ≡ false) (taken_out name entries)
-none_named name [] = tt
-none_named name (entry ∷ entries) =
-    cond_both (not (is_named name entry)) (entry ∷ taken_out name entries) (taken_out name entries)
-    (λ (kept : List EntryInformation). AllByRecursion (λ entry. is_named name entry ≡ false) kept)
-    (λ other. (not-true (is_named name entry) other, none_named name entries)) (λ here. none_named name entries)
 
 -- the entries of a tree with one in the place of another, each looked at beside the rest
 module _ (old new : EntryInformation) (left : List EntryInformation) (same : is_same new.name old.name ≡ true) (gone : AllByRecursion (λ entry. is_named old.name entry ≡ false) left) (filled_left : AllByRecursion (λ (entry : EntryInformation). entry.name ≢ []) left) (meets_new : Meets (Some old) left new) where

@@ -1,32 +1,20 @@
 -- Good entries stay so where an entry below which none stands is renamed below the same superior.
-use Rattle.std.proofs.Common.{◌≡◌, ◌≢◌, ◌≤◌, nat_lt, true, false, List, [], ◌∷◌, ◌⊎◌, length, None, Some, refl, sym, ap, subst, ◌∙◌, inl, inr, arith}
+use Rattle.std.proofs.Common.{◌≡◌, ◌≢◌, ◌≤◌, true, false, List, [], ◌∷◌, ◌⊎◌, None, Some, refl, sym, ap, subst, ◌∙◌, inl, inr, arith}
 use Rattle.std.specs.List.{AllByRecursion}
-use Rattle.std.proofs.lemmas.Bool.{cases_Bool, or_cases, or_left, or_right, or_parts, not_from_true, false_from_ne_true, true≢false}
-use Rattle.std.proofs.lemmas.Bool.Decides.{nat_tests}
-use Rattle.std.proofs.lemmas.List.{take_all}
+use Rattle.std.proofs.lemmas.Bool.{cases_Bool, or_cases, or_left, or_right, or_parts, false_from_ne_true, true≢false}
 use Rattle.std.proofs.lemmas.Option.{same_Some}
 use Rattle.dn_names.specs.Names.{RdnSequence}
-use Rattle.dn_names.specs.NameOrder.{is_same, is_prefix_of}
+use Rattle.dn_names.specs.NameOrder.{is_same}
 use Rattle.dn_names.specs.GoodNames.{IsGoodName}
 use Rattle.dir_tree.specs.Entries.{EntryInformation, IsGoodAttributes}
 use Rattle.dir_tree.specs.Scopes.{is_within}
 use Rattle.dir_tree.specs.Trees.{IsTree, is_named, is_below, has_name, has_below, named_in, superior_name, lacks_superior, put_in, taken_out}
-use Rattle.dir_tree.proofs.TreeTheorems.{all_under_suffix}
+use Rattle.dir_tree.proofs.TreeTheorems.{all_under_suffix, all_named, at_base, has_superior, length-same, length-superior, filled, same_back}
 use Rattle.aci_item.specs.Rules.{broken_rule, AreGood}
-use Rattle.schema_rules.proofs.RootLemmas.{length-same, length-superior, filled, same_back, same_over, has_same}
+use Rattle.schema_rules.proofs.RootLemmas.{same_over, has_same}
 use Rattle.schema_rules.proofs.StayLemmas.{AreGood-put_in}
 use Rattle.schema_rules.proofs.TakenLemmas.{AreGood-taken_out}
 use Rattle.schema_rules.proofs.InPlaceLemmas.{unbroken_as_new}
-
--- what holds of all holds of the one of a name
-all_named :
-    (P : EntryInformation → Type 0) (name : RdnSequence) (old : EntryInformation) (entries : List EntryInformation)
-    → AllByRecursion P entries → named_in name entries ≡ Some old → P old
-all_named P name old [] all known = absurd cc
-all_named P name old (entry ∷ entries) all known = elim (cases_Bool (is_named name entry)) [
-  | inl here ↦ subst P (same_Some entry old (rw here at known)) all.0
-  | inr later ↦ all_named P name old entries all.1 (rw later at known)
-]
 
 -- another name stays where one is taken out
 kept_name :
@@ -49,13 +37,6 @@ kept_name gone name (entry ∷ entries) apart has =
     ]
 
 -- where all stand at or below an entry and none below it, none is left without it
-at_base : (base name : RdnSequence) → is_prefix_of base name ≡ true → is_below base name ≡ false → is_same base name ≡ true
-unfolding is_prefix_of
-at_base base name within not_below =
-    let shorter : nat_lt (length base) (length name) ≡ false = rw within at not_below in
-    let short : length name ≤ length base = grind (arith, nat_tests) in
-    same_back name base (ap (λ front. is_same front base) (sym (take_all (length base) name short)) ∙ within)
-
 none_left :
     (base : RdnSequence) (entries : List EntryInformation) → AllByRecursion (λ entry. is_within base entry ≡ true) entries
     → has_below base entries ≡ false → taken_out base entries ≡ []
@@ -83,10 +64,6 @@ superior_left old (first ∷ rest) tree known alone = elim (cases_Bool (is_named
       inr (kept_name old.name (superior_name old.name) (first ∷ rest) apart
       (all_named (λ later. has_name (superior_name later.name) (first ∷ rest) ≡ true) old.name old rest tree.rooted (rw other at known)))
 ]
-
-has_superior : (name : RdnSequence) (entries : List EntryInformation) → has_name (superior_name name) entries ≡ true → lacks_superior name entries ≡ false
-has_superior name [] has = refl
-has_superior name (first ∷ rest) has = not_from_true (has_name (superior_name name) (first ∷ rest)) has
 
 superior_of_new :
     (name new : RdnSequence) (left : List EntryInformation) → is_same (superior_name new) (superior_name name) ≡ true

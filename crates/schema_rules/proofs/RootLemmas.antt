@@ -1,34 +1,18 @@
 -- A new entry whose superior is in the tree is no old entry's superior.
-use Rattle.std.proofs.Common.{◌≡◌, ◌≢◌, ℕ, zero, suc, ◌-◌, ◌≤◌, true, false, List, [], ◌∷◌, length, map, refl, sym, ap, ◌∙◌, inl, inr, length-take-le, arith}
+use Rattle.std.proofs.Common.{◌≡◌, ◌≢◌, ℕ, zero, suc, ◌-◌, ◌≤◌, true, false, List, [], ◌∷◌, length, sym, ◌∙◌, inl, inr, arith}
 use Rattle.std.specs.List.{AllByRecursion}
 use Rattle.std.proofs.lemmas.Bool.{or_cases, or_left, or_right, not-false, true≢false, false_from_ne_true}
-use Rattle.std.proofs.lemmas.List.{length-map}
 use Rattle.dn_names.specs.Names.{RdnSequence}
-use Rattle.dn_names.specs.NameOrder.{is_same, type_and_key}
+use Rattle.dn_names.specs.NameOrder.{is_same}
 use Rattle.dn_names.proofs.Theorems.{is_same-types_and_keys}
 use Rattle.dir_tree.specs.Entries.{EntryInformation}
 use Rattle.dir_tree.specs.Trees.{IsTree, has_name, lacks_superior, superior_name}
+use Rattle.dir_tree.proofs.TreeTheorems.{length-same, length-superior, filled}
 
--- names that are the same have as many RDNs
-pub length-same : (x y : RdnSequence) → is_same x y ≡ true → length x ≡ length y
-length-same x y same =
-    sym (length-map x (map type_and_key))
-    ∙ ap length ((is_same-types_and_keys x y).0 same)
-    ∙ length-map y (map type_and_key)
-
-pub same_back : (x y : RdnSequence) → is_same x y ≡ true → is_same y x ≡ true
-same_back x y same = (is_same-types_and_keys y x).1 (sym ((is_same-types_and_keys x y).0 same))
-
+-- two names that one is the same as are the same
 pub same_over : (x y z : RdnSequence) → is_same x y ≡ true → is_same x z ≡ true → is_same y z ≡ true
 same_over x y z one other =
     (is_same-types_and_keys y z).1 (sym ((is_same-types_and_keys x y).0 one) ∙ (is_same-types_and_keys x z).0 other)
-
-pub length-superior : (name : RdnSequence) → length (superior_name name) ≡ length name - 1
-length-superior name = length-take-le (length name - 1) name (omega arith)
-
-pub filled : (name : RdnSequence) → name ≢ [] → 1 ≤ length name
-filled [] named = absurd (named refl)
-filled (rdn ∷ rdns) named = omega arith
 
 -- each other of the list has its superior in all, and a name
 abbrev IsBelow : List EntryInformation → EntryInformation → Type 0

@@ -7,7 +7,7 @@ use Rattle.dn_names.specs.NameOrder.{is_same}
 use Rattle.dn_names.specs.GoodNames.{IsGoodName}
 use Rattle.dir_tree.specs.Entries.{EntryInformation, IsGoodAttributes}
 use Rattle.dir_tree.specs.Trees.{IsTree, is_before, put_in, has_name, lacks_superior, superior_name}
-use Rattle.dir_tree.proofs.TreeTheorems.{tree-put_in}
+use Rattle.dir_tree.proofs.TreeTheorems.{tree-put_in, all_put as all_put_in}
 use Rattle.aci_item.specs.Rules.{broken_rule, is_past_limits, MeetsRules, AreGood}
 use Rattle.schema_rules.proofs.ListPlaceLemmas.{stands, all_at}
 use Rattle.schema_rules.proofs.RuleLemmas.{Meets-from_broken_rule, broken_rule-past}
@@ -101,18 +101,6 @@ MeetsRules-put_in entries entry tree meets named absent has unbroken before afte
     stays put.front put.back before after entry other (subst MeetsRules put.old meets)
     (subst P put.old (superiors_apart entries entry.name tree named absent has))
     (ap (λ entries. broken_rule None entries entry) (sym put.old) ∙ unbroken) (sym put.new ∙ is)
-
--- what holds of all holds of them with one more of which it holds
-pub all_put_in :
-    (P : EntryInformation → Type 0) (entry : EntryInformation) (entries : List EntryInformation) → P entry
-    → AllByRecursion P entries → AllByRecursion P (put_in entry entries)
-all_put_in P entry [] here all = (here, tt)
-all_put_in P entry (first ∷ rest) here all =
-    elim (is_before first.name entry.name)
-    as (λ b. AllByRecursion P (if b then first ∷ put_in entry rest else entry ∷ first ∷ rest)) [
-      | true ↦ (all.0, all_put_in P entry rest here all.1)
-      | false ↦ (here, all)
-    ]
 
 -- no entries are good
 none_placed : (front back : List EntryInformation) (entry : EntryInformation) → [] ≢ front ++ entry ∷ back

@@ -9,11 +9,10 @@ use Rattle.dn_names.specs.GoodNames.{IsGoodName}
 use Rattle.dir_tree.specs.Entries.{EntryInformation, IsGoodAttributes}
 use Rattle.dir_tree.specs.Points.{is_access_subentry, access_subentries}
 use Rattle.dir_tree.specs.Trees.{is_before, is_named, is_below, has_below, named_in, superior_name, put_in, taken_out, IsInOrder}
-use Rattle.dir_tree.proofs.TreeTheorems.{put_in-taken_out, tree-taken_out}
+use Rattle.dir_tree.proofs.TreeTheorems.{put_in-taken_out, tree-taken_out, length-same, length-superior, filled}
 use Rattle.aci_item.specs.Rules.{broken_rule, is_misplaced, is_past_limits, stands_wrong, MeetsRules, AreGood}
 use Rattle.schema_rules.proofs.ListPlaceLemmas.{all_at, find-past}
 use Rattle.schema_rules.proofs.ListTakenLemmas.{stands, all_filter, filter-fewer, length-fewer}
-use Rattle.schema_rules.proofs.RootLemmas.{length-same, length-superior, filled}
 use Rattle.schema_rules.proofs.RuleLemmas.{Meets-from_broken_rule, broken_rule-from_Meets}
 
 -- where an entry was taken out

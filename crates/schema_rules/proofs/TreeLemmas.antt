@@ -1,13 +1,11 @@
 -- The first entry of a name is the one that the number of the name finds.
-use Rattle.std.proofs.Common.{◌≡◌, ℕ, suc, ◌-◌, nat_le, true, if◌then◌else◌, List, [], ◌∷◌, length, take, map, Option, None, refl, sym, ap, ◌∙◌, inl, inr, arith}
+use Rattle.std.proofs.Common.{◌≡◌, ℕ, suc, ◌-◌, if◌then◌else◌, List, [], ◌∷◌, length, map, Option, refl, sym, ap, ◌∙◌, inl, inr}
 use Rattle.std.proofs.lemmas.Bool.{cases_Bool}
 use Rattle.std.proofs.lemmas.List.{length-map}
 use Rattle.std.specs.Option.{option_and_then}
-use Rattle.std.proofs.lemmas.Bool.Decides.{nat_tests}
-use Rattle.dn_names.specs.Names.{RdnSequence}
 use Rattle.dir_tree.specs.Entries.{EntryInformation}
 use Rattle.dir_tree.specs.Trees.{superior_name, named_in}
-use Rattle.dir_tree.specs.Numbered.{Numbered, ids_of, entries_of, subentry_rows, AreDistinct, find_name, find_front, entry_of}
+use Rattle.dir_tree.specs.Numbered.{Numbered, ids_of, entries_of, subentry_rows, AreDistinct, entry_of}
 use Rattle.dir_tree.specs.Points.{is_access_subentry, access_subentries}
 use Rattle.dir_tree.specs.declared.number.EntryNo.{EntryNo}
 use Rattle.dir_tree.proofs.TreeTheorems.{entry_of-found}
@@ -19,15 +17,6 @@ pub superior-found :
     → option_and_then (λ id. entry_of id rows) number ≡ named_in (superior_name entry.name) (entries_of rows)
 superior-found number entry rows apart is =
     ap (option_and_then (λ id. entry_of id rows)) is ∙ entry_of-found (superior_name entry.name) rows apart
-
--- the front that lacks one RDN is the superior's name
-pub front_of_superior :
-    (name : RdnSequence) (len : ℕ) (rows : List Numbered) → len ≡ length name - 1
-    → find_front len name rows ≡ find_name (superior_name name) rows
-front_of_superior name len rows is =
-    let fits : nat_le len (length name) ≡ true = grind (arith, nat_tests) in
-    ap (λ b. if b then find_name (take len name) rows else None) fits
-    ∙ ap (λ len. find_name (take len name) rows) is
 
 -- as many numbers as access control subentries
 pub count-subentry_rows : (rows : List Numbered) → length (subentry_rows rows) ≡ access_subentries (entries_of rows)

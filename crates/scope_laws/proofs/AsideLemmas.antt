@@ -9,11 +9,11 @@ use Rattle.dn_names.specs.NameOrder.{is_same, is_prefix_of}
 use Rattle.dir_tree.specs.Entries.{EntryInformation}
 use Rattle.dir_tree.specs.Points.{is_specific_point, is_inner_point, is_access_subentry}
 use Rattle.dir_tree.specs.Scopes.{is_within, is_child}
+use Rattle.dir_tree.proofs.TreeTheorems.{length-same, prefix_same}
 use Rattle.admin_scope.specs.Areas.{is_access_point}
 use Rattle.admin_scope.specs.InForce.{subtree_holds, applies, reaches}
-use Rattle.admin_scope.proofs.Theorems.{prefix_chain}
+use Rattle.admin_scope.proofs.Theorems.{prefix_chain, same_fronts}
 use Rattle.scope_laws.specs.Aside.{is_point_over, point_over, IsNeverInForce, IsAside, IsBeside, IsSamePoint, IsUnder}
-use Rattle.scope_laws.proofs.PlaceLemmas.{length-same, prefix_same, same_fronts}
 
 -- no access control subentry is in force
 never_ordinary : (entry one : EntryInformation) → is_access_subentry one ≡ false → IsNeverInForce entry one

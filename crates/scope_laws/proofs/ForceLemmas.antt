@@ -9,9 +9,10 @@ use Rattle.dir_tree.specs.Points.{is_specific_point, is_subentry}
 use Rattle.dir_tree.specs.Scopes.{is_within}
 use Rattle.admin_scope.specs.Areas.{is_access_point, areas}
 use Rattle.admin_scope.specs.InForce.{reaches, in_force_at, in_force}
+use Rattle.admin_scope.proofs.Theorems.{same_fronts}
 use Rattle.scope_laws.specs.Aside.{put_some, is_point_over, point_over, IsNeverInForce, IsAside}
 use Rattle.scope_laws.proofs.ListLemmas.{filter-put_some}
-use Rattle.scope_laws.proofs.PlaceLemmas.{same_fronts, reaches-same}
+use Rattle.scope_laws.proofs.PlaceLemmas.{reaches-same}
 use Rattle.scope_laws.proofs.AreaLemmas.{IsLike, AreLike, are_like_itself, like-put_in, like-areas, like-flat_map}
 
 left_of : (a b : Bool) → (a && b) ≡ true → a ≡ true

@@ -1,13 +1,13 @@
 -- Lists of numbers of subentries in force stay right for an entry, where what changes stands aside from it.
-use Rattle.std.proofs.Common.{◌≡◌, ◌≢◌, ℕ, true, ◌==◌, List, [], ◌∷◌, ◌++◌, refl, ap, sym, subst, ◌∙◌, inl, inr, find, Option, Some, None}
+use Rattle.std.proofs.Common.{◌≡◌, ◌≢◌, ℕ, true, ◌==◌, List, [], ◌∷◌, ◌++◌, refl, ap, sym, subst, ◌∙◌, inl, inr, Option, Some, None}
 use Rattle.std.specs.Prelude.{flat_map, IsSome, IfSome}
-use Rattle.std.specs.Option.{option_map}
 use Rattle.std.specs.List.{AllByRecursion}
-use Rattle.std.proofs.lemmas.Bool.{cases_Bool, cond-false, eqb-true, ne_eqb}
+use Rattle.std.proofs.lemmas.Bool.{cases_Bool}
 use Rattle.dir_tree.specs.Entries.{EntryInformation}
 use Rattle.dir_tree.specs.Points.{is_subentry}
 use Rattle.dir_tree.specs.Scopes.{is_within}
 use Rattle.dir_tree.specs.Numbered.{Numbered, entries_of, entry_of, entries_at, without, IsNumberedTree}
+use Rattle.dir_tree.proofs.TreeTheorems.{entry_of-other}
 use Rattle.admin_scope.specs.Areas.{areas}
 use Rattle.admin_scope.specs.InForce.{reaches, in_force_at, in_force}
 use Rattle.scope_laws.specs.Aside.{IsNeverInForce, IsAside, IsChangeOf, AreInForce}
@@ -79,25 +79,6 @@ not_among P id rows never (other ∷ ids) live h =
         )
 
 -- the rows of other numbers give the same entries
-further : (id : ℕ) (x : Numbered) (rows : List Numbered) → x.id ≢ id → entry_of id (x ∷ rows) ≡ entry_of id rows
-further id x rows h =
-    ap (option_map (λ (row : Numbered). row.entry))
-    (cond-false (x.id == id) (Some x) (find (λ row. row.id == id) rows) (ne_eqb x.id id h))
-
-entry_of-other : (id number : ℕ) (rows : List Numbered) → id ≢ number → entry_of id (without number rows) ≡ entry_of id rows
-entry_of-other id number [] h = refl
-entry_of-other id number (x ∷ rows) h = elim (cases_Bool (x.id == number)) [
-  | inl e ↦ (
-      let is = eqb-true x.id number e in
-      let other : x.id ≢ id = λ f. h (sym f ∙ is) in
-      rw e (entry_of-other id number rows h ∙ sym (further id x rows other))
-      )
-  | inr e ↦ elim (cases_Bool (x.id == id)) [
-    | inl f ↦ rw (e, f) refl
-    | inr f ↦ rw (e, f) (entry_of-other id number rows h)
-  ]
-]
-
 pub entry_of-new : (id other : ℕ) (rows new : List Numbered) → without id rows ≡ without id new → other ≢ id
     → entry_of other new ≡ entry_of other rows
 entry_of-new id other rows new same differs =

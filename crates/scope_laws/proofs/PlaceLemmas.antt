@@ -1,7 +1,6 @@
 -- Names that are the same: what comes before them, what is below them, and what is in force under them.
-use Rattle.std.proofs.Common.{◌≡◌, ℕ, ◌+◌, Bool, true, false, ◌&&◌, ◌++◌, map, length, take, drop, refl, sym, ap, ◌∙◌, Option, Some, None}
+use Rattle.std.proofs.Common.{◌≡◌, ℕ, ◌+◌, Bool, true, false, ◌&&◌, ◌++◌, map, length, drop, refl, sym, ap, ◌∙◌, Option, Some, None}
 use Rattle.std.specs.Prelude.{◌==◌}
-use Rattle.std.specs.Cmp.{both_ways}
 use Rattle.std.specs.Option.{option_map_or}
 use Rattle.std.specs.Ordering.{is_lt}
 use Rattle.std.proofs.lemmas.Cmp.{alike_right}
@@ -9,52 +8,24 @@ use Rattle.std.proofs.lemmas.List.{length-map, map-append}
 use Rattle.base_laws.proofs.Theorems.{is_equal}
 use Rattle.dn_names.specs.Names.{RdnSequence}
 use Rattle.dn_names.specs.NameOrder.{name_cmp, is_same, is_prefix_of, type_and_key, types_and_keys}
-use Rattle.dn_names.proofs.Theorems.{name_cmp_total, is_same-types_and_keys, is_prefix_of-types_and_keys}
+use Rattle.dn_names.proofs.Theorems.{name_cmp_total, is_same-types_and_keys}
 use Rattle.dir_tree.specs.Entries.{EntryInformation}
 use Rattle.dir_tree.specs.Trees.{is_before}
 use Rattle.dir_tree.specs.Points.{is_access_subentry}
 use Rattle.dir_tree.specs.Scopes.{is_child}
+use Rattle.dir_tree.proofs.TreeTheorems.{length-same, begins, begins_both, prefix_same}
 use Rattle.subtree_spec.specs.Subtrees.{Subtree}
 use Rattle.subtree_spec.specs.Membership.{holds_below, holds_rest}
 use Rattle.admin_scope.specs.Refinements.{holds, meets_filter}
 use Rattle.admin_scope.specs.InForce.{subtree_of_entry, subtree_holds, reaches}
-use Rattle.admin_scope.proofs.Theorems.{named-front}
 
 same_length : (x y : RdnSequence) → types_and_keys x ≡ types_and_keys y → length x ≡ length y
 same_length x y e = sym (length-map x (map type_and_key)) ∙ ap length e ∙ length-map y (map type_and_key)
-
-pub length-same : (x y : RdnSequence) → is_same x y ≡ true → length x ≡ length y
-length-same x y e = same_length x y ((is_same-types_and_keys x y).0 e)
-
-pub same_back : (x y : RdnSequence) → is_same x y ≡ true → is_same y x ≡ true
-same_back x y e = (is_same-types_and_keys y x).1 (sym ((is_same-types_and_keys x y).0 e))
 
 -- what comes before a name comes before what is the same
 pub before_same : (x y z : RdnSequence) → is_same x y ≡ true → is_before z x ≡ is_before z y
 unfolding is_same
 before_same x y z e = ap is_lt (alike_right name_cmp_total x y z (is_equal (name_cmp x y) e))
-
--- fronts of one name that have as many RDNs are the same
-pub same_fronts : (x y name : RdnSequence) → is_prefix_of x name ≡ true → is_prefix_of y name ≡ true → length x ≡ length y
-    → is_same x y ≡ true
-same_fronts x y name e f h =
-    let front : RdnSequence = take (length y) name in
-    (is_same-types_and_keys x y).1 (sym ((is_same-types_and_keys front x).0 (named-front (length y) name x e h))
-    ∙ (is_same-types_and_keys front y).0 (named-front (length y) name y f refl))
-
--- what a name begins, what is the same begins
-begins : (x y name : RdnSequence) → types_and_keys x ≡ types_and_keys y → is_prefix_of x name ≡ true
-    → is_prefix_of y name ≡ true
-begins x y name e f =
-    let rest = (is_prefix_of-types_and_keys x name).0 f in
-    (is_prefix_of-types_and_keys y name).1 (rest.0, rest.1 ∙ ap (λ t. t ++ rest.0) e)
-
-begins_both : (x y name : RdnSequence) → types_and_keys x ≡ types_and_keys y → is_prefix_of x name ≡ is_prefix_of y name
-begins_both x y name e =
-    both_ways (is_prefix_of x name) (is_prefix_of y name) (begins x y name e) (begins y x name (sym e))
-
-pub prefix_same : (x y name : RdnSequence) → is_same x y ≡ true → is_prefix_of x name ≡ is_prefix_of y name
-prefix_same x y name e = begins_both x y name ((is_same-types_and_keys x y).0 e)
 
 -- a subtree holds below a name what it holds below what is the same
 holds_below-same : (subtree : Subtree) (x y name : RdnSequence) → is_same x y ≡ true

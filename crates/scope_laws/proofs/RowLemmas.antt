@@ -1,38 +1,11 @@
 -- Trees whose entries have numbers, equal but for one number.
-use Rattle.std.proofs.Common.{◌≡◌, ℕ, false, ◌==◌, List, [], ◌∷◌, refl, ap, sym, ◌∙◌, inl, inr, find, Option, Some, None}
-use Rattle.std.specs.Option.{option_map}
-use Rattle.std.proofs.lemmas.Bool.{cases_Bool, cond-true, cond-false, eq-eqb}
+use Rattle.std.proofs.Common.{◌≡◌, ℕ, ◌==◌, List, [], ◌∷◌, ap, sym, ◌∙◌, Option, Some, None}
 use Rattle.dir_tree.specs.Entries.{EntryInformation}
-use Rattle.dir_tree.specs.Trees.{is_before}
 use Rattle.dir_tree.specs.Numbered.{Numbered, entries_of, entry_of, put_entry, without, IsNumberedTree}
-use Rattle.dir_tree.proofs.TreeTheorems.{put_row-taken, entries_of-put_row, without-put_row}
+use Rattle.dir_tree.proofs.TreeTheorems.{put_row-taken, entries_of-put_row, without-put_row, entry_of-put, entry_of-gone, without-absent}
 use Rattle.admin_scope.specs.InForce.{in_force}
 use Rattle.scope_laws.specs.Aside.{put_some, IsAside, IsChangeOf}
 use Rattle.scope_laws.proofs.ForceLemmas.{in_force-put_some}
-
--- a number that no row has is not that of the first, and no later row has it
-none_here : (id : ℕ) (x : Numbered) (rows : List Numbered) → entry_of id (x ∷ rows) ≡ None
-    → ((x.id == id) ≡ false) × (entry_of id rows ≡ None)
-none_here id x rows e = elim (cases_Bool (x.id == id)) [
-  | inl f ↦ (
-      let there : entry_of id (x ∷ rows) ≡ Some x.entry =
-      ap (option_map (λ (row : Numbered). row.entry)) (cond-true (x.id == id) (Some x) (find (λ row. row.id == id) rows) f) in
-      let clash = sym e ∙ there in
-      absurd cc
-      )
-  | inr f ↦ (
-    f,
-    sym (ap (option_map (λ (row : Numbered). row.entry)) (cond-false (x.id == id) (Some x) (find (λ row. row.id == id) rows) f))
-        ∙ e,
-  )
-]
-
--- it takes nothing out
-without-absent : (id : ℕ) (rows : List Numbered) → entry_of id rows ≡ None → without id rows ≡ rows
-without-absent id [] e = refl
-without-absent id (x ∷ rows) e =
-    let none = none_here id x rows e in
-    rw none.0 (ap (λ (rest : List Numbered). x ∷ rest) (without-absent id rows none.1))
 
 -- the entries are those of the other numbers, and that of the number put in
 entries-put_some : (id : ℕ) (rows : List Numbered) (one : Option EntryInformation) → IsNumberedTree rows
@@ -51,24 +24,6 @@ in_force-aside id rows new one other entry tree also change aside =
     ∙ in_force-put_some entry one other (entries_of (without id rows)) aside
     ∙ ap (λ others. in_force (put_some other (entries_of others)) entry) change.others
     ∙ sym (ap (λ entries. in_force entries entry) (entries-put_some id new other also change.after))
-
--- what is put in is found by its number, and what is taken out is not
-entry_of-put : (id : ℕ) (entry : EntryInformation) (rows : List Numbered) → entry_of id rows ≡ None
-    → entry_of id (put_entry id entry rows) ≡ Some entry
-entry_of-put id entry [] e = rw (eq-eqb id id refl) refl
-entry_of-put id entry (x ∷ rows) e =
-    let none = none_here id x rows e in
-    elim (cases_Bool (is_before x.entry.name entry.name)) [
-      | inl f ↦ rw (f, none.0) (entry_of-put id entry rows none.1)
-      | inr f ↦ rw (f, eq-eqb id id refl) refl
-    ]
-
-entry_of-gone : (id : ℕ) (rows : List Numbered) → entry_of id (without id rows) ≡ None
-entry_of-gone id [] = refl
-entry_of-gone id (x ∷ rows) = elim (cases_Bool (x.id == id)) [
-  | inl e ↦ rw e (entry_of-gone id rows)
-  | inr e ↦ rw (e, e) (entry_of-gone id rows)
-]
 
 -- so the three changes of a tree are of one number
 pub change-put : (id : ℕ) (entry : EntryInformation) (rows : List Numbered) → entry_of id rows ≡ None

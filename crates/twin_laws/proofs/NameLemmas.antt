@@ -6,14 +6,7 @@ use Rattle.dn_names.specs.NameOrder.{is_same, is_prefix_of}
 use Rattle.dn_names.proofs.Theorems.{is_same-types_and_keys, is_prefix_of-types_and_keys}
 use Rattle.admin_scope.proofs.Theorems.{prefix_chain, length-front}
 use Rattle.dir_tree.specs.Trees.{is_below}
-
--- a name is below what the same name is below
-pub same_below : (top base name : RdnSequence) → is_prefix_of top name ≡ true → is_same base name ≡ true
-    → is_prefix_of top base ≡ true
-same_below top base name e f =
-    let begins = (is_prefix_of-types_and_keys top name).0 e in
-    let same = (is_same-types_and_keys base name).0 f in
-    (is_prefix_of-types_and_keys top base).1 (begins.0, same ∙ begins.1)
+use Rattle.dir_tree.proofs.TreeTheorems.{prefix_like as same_below}
 
 -- and the same name is below what it is below
 pub below_same : (top base name : RdnSequence) → is_prefix_of top base ≡ true → is_same base name ≡ true

@@ -3,18 +3,19 @@ use Rattle.std.proofs.Common.{◌≡◌, Bool, true, false, not, List, [], ◌�
 use Rattle.std.specs.List.{AllByRecursion}
 use Rattle.std.specs.Ordering.{ordering_reverse}
 use Rattle.std.specs.declared.cmp.Ordering.TheVariants.{Less, Greater}
-use Rattle.std.proofs.lemmas.Bool.{cases_Bool, and_parts, ltb-true, not-false}
-use Rattle.base_laws.proofs.Theorems.{all_true, all_filter}
+use Rattle.std.proofs.lemmas.Bool.{cases_Bool, and_parts, ltb-true}
+use Rattle.base_laws.proofs.Theorems.{all_filter}
 use Rattle.dn_names.specs.Names.{RdnSequence}
 use Rattle.dn_names.specs.NameOrder.{name_cmp, is_prefix_of}
 use Rattle.dn_names.proofs.Theorems.{name_cmp_total, name_cmp-prefix}
 use Rattle.admin_scope.proofs.Theorems.{prefix_chain, in_force-without, length-front}
 use Rattle.dir_tree.specs.Entries.{EntryInformation}
-use Rattle.dir_tree.specs.Trees.{is_named, named_in, is_below, IsTree}
+use Rattle.dir_tree.specs.Trees.{named_in, is_below, IsTree}
 use Rattle.dir_tree.specs.Scopes.{is_within}
 use Rattle.admin_scope.specs.Areas.{without_subtree}
 use Rattle.admin_scope.specs.InForce.{in_force}
 use Rattle.acdf_filters.specs.declared.asking.Requester.{Requester}
+use Rattle.acdf_filters.proofs.Theorems.{named-without as named_in-without}
 use Rattle.ldap_msg.specs.declared.kinds.SearchRequest.{SearchRequest}
 use Rattle.ldap_msg.specs.declared.kinds.Reply.TheVariants as reply
 use Rattle.ldap_msg.specs.declared.kinds.CompareRequest.{CompareRequest}
@@ -23,8 +24,7 @@ use Rattle.read_model.specs.Selecting.{selected}
 use Rattle.read_model.specs.SearchReplies.{replies_at, search_replies}
 use Rattle.read_model.specs.CompareReplies.{compare_result}
 use Rattle.twin_laws.specs.Twins.{is_below_suffix, rows_outside, IsUnseen, AreTwins}
-use Rattle.twin_laws.proofs.ListLemmas.{find-left}
-use Rattle.twin_laws.proofs.NameLemmas.{same_outside, above_outside}
+use Rattle.twin_laws.proofs.NameLemmas.{above_outside}
 use Rattle.twin_laws.proofs.ViewLemmas.{access_none, view_of-without}
 use Rattle.twin_laws.proofs.SeenLemmas.{AreHidden, AreHidden-from_shows_within, matched_name-outside, hidden-outside}
 use Rattle.twin_laws.proofs.SearchLemmas.{FirstIsLeft, hidden-within, replies_at-within, selected-outside, search_replies-outside}
@@ -122,13 +122,6 @@ in_force-twins who one other top h entry outside =
     ∙ in_force-without top other entry outside (access_none top other h.second.subentries)
 
 -- the entry of a name outside
-named_in-without : (top name : RdnSequence) (entries : List EntryInformation) → is_prefix_of top name ≡ false
-    → named_in name (without_subtree top entries) ≡ named_in name entries
-named_in-without top name entries outside =
-    find-left (is_named name) (λ entry. not (is_within top entry)) entries
-    (all_true (λ entry. not (is_within top entry) ≡ false → is_named name entry ≡ false)
-    (λ entry e. same_outside top name entry.name outside (not-false (is_within top entry) e)) entries)
-
 pub named_in-twins : (who : Requester) (one other : List EntryInformation) (top : RdnSequence) → AreTwins who one other top
     → (name : RdnSequence) → is_prefix_of top name ≡ false
     → named_in name one ≡ named_in name other

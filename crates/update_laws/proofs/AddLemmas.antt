@@ -1,6 +1,5 @@
 -- Adds: what they leave, and when they are done.
-use Rattle.std.proofs.Common.{◌≡◌, ◌≢◌, ℕ, Bool, true, false, ◌||◌, List, [], ◌∷◌, Option, Some, None, Result, Ok, Err, if◌then◌else◌, refl, sym, ap, subst, ◌∙◌, find}
-use Rattle.std.specs.List.{list_any}
+use Rattle.std.proofs.Common.{◌≡◌, ◌≢◌, ℕ, true, false, ◌||◌, List, [], ◌∷◌, Option, Some, None, Result, Ok, Err, if◌then◌else◌, refl, sym, ap, subst, ◌∙◌}
 use Rattle.std.proofs.lemmas.Bool.{not-false, not_from_true}
 use Rattle.dn_names.specs.Names.{RdnSequence}
 use Rattle.dn_names.specs.NameOrder.{is_same}
@@ -9,7 +8,8 @@ use Rattle.dn_names.specs.GoodNames.{IsGoodName}
 use Rattle.dn_names.specs.declared.error.BadName.{BadName}
 use Rattle.dn_names.proofs.Theorems.{IsGoodName-from_NameText, NameText-read_name}
 use Rattle.dir_tree.specs.Entries.{Attribute, EntryInformation}
-use Rattle.dir_tree.specs.Trees.{is_before, has_name, named_in, superior_name, lacks_superior, put_in}
+use Rattle.dir_tree.specs.Trees.{has_name, named_in, superior_name, lacks_superior, put_in}
+use Rattle.dir_tree.proofs.TreeTheorems.{none_named, put_in-some, has_superior as superior_there}
 use Rattle.aci_item.specs.Rules.{broken_rule, IsGoodTree}
 use Rattle.schema_rules.proofs.Theorems.{AreGood-put_in}
 use Rattle.acdf_filters.specs.declared.asking.Requester.{Requester}
@@ -21,7 +21,7 @@ use Rattle.ldap_msg.specs.declared.kinds.LdapResult.{LdapResult}
 use Rattle.op_update.specs.Adding.{taken_refusal, refuses_entry, rule_refusal, add_refusal}
 use Rattle.op_update.specs.NewEntries.{read_attributes, new_entry}
 use Rattle.op_update.specs.Updates.{added_entry, added_named, added}
-use Rattle.update_laws.proofs.TableLemmas.{none_of, none_from, not_when, when_not, unless-good, unless-refused}
+use Rattle.op_update.proofs.Theorems.{not_broken, none_of, none_from, not_when, when_not, unless-good, unless-refused}
 use Rattle.update_laws.proofs.ReadingLemmas.{name-new_entry, good-new_entry}
 
 -- what a new entry meets that is added
@@ -35,10 +35,6 @@ pub record IsAddable (entries : List EntryInformation) (who : Requester) (name :
 not_taken : (entries : List EntryInformation) (who : Requester) (name : RdnSequence) (found : Option EntryInformation) → taken_refusal entries who name found ≡ None → found ≡ None
 not_taken entries who name None is = refl
 not_taken entries who name (Some other) is = absurd cc
-
-not_broken : (broken : Option ℕ) → rule_refusal broken ≡ None → broken ≡ None
-not_broken None is = refl
-not_broken (Some number) is = absurd cc
 
 pub IsAddable-unrefused :
     (entries : List EntryInformation) (who : Requester) (name : RdnSequence) (entry : EntryInformation)
@@ -64,28 +60,6 @@ unrefused-IsAddable entries who name entry is =
     none_from _ _ (ap (taken_refusal entries who name) is.free)
     (none_from _ _ (when_not _ _ (not_from_true _ is.under))
     (none_from _ _ (when_not _ _ is.allowed) (none_from _ _ (ap rule_refusal is.unbroken) refl)))
-
--- a name that finds nothing is none's
-none_named : (test : EntryInformation → Bool) (entries : List EntryInformation) → find test entries ≡ None → list_any test entries ≡ false
-none_named test [] none = refl
-none_named test (first ∷ rest) none =
-    (elim (test first) as (λ here. (if here then Some first else find test rest) ≡ None → (here || list_any test rest) ≡ false) [
-      | true ↦ λ (none : Some first ≡ None). absurd cc
-      | false ↦ λ none. none_named test rest none
-    ]) none
-
-superior_there : (name : RdnSequence) (entries : List EntryInformation) → has_name (superior_name name) entries ≡ true → lacks_superior name entries ≡ false
-superior_there name [] there = refl
-superior_there name (first ∷ rest) there = not_from_true _ there
-
--- entries with one more are not none
-some_put : (before : Bool) (entry first : EntryInformation) (rest later : List EntryInformation) → (if before then first ∷ later else entry ∷ first ∷ rest) ≢ []
-some_put true entry first rest later is = cc
-some_put false entry first rest later is = cc
-
-put_in-some : (entry : EntryInformation) (entries : List EntryInformation) → put_in entry entries ≢ []
-put_in-some entry [] is = cc
-put_in-some entry (first ∷ rest) is = some_put (is_before first.name entry.name) entry first rest (put_in entry rest) is
 
 -- a good tree stays good
 good_with_new :

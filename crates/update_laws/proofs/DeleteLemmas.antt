@@ -1,14 +1,12 @@
 -- Deletes: what they leave, and when they are done.
-use Rattle.std.proofs.Common.{◌≡◌, ◌≢◌, Bool, true, false, not, List, [], ◌∷◌, Option, Some, None, Result, Ok, Err, refl, sym, ap, ◌∙◌, inl, inr, if◌then◌else◌}
-use Rattle.std.proofs.lemmas.Bool.{cases_Bool, cond-true, cond-false, false_from_ne_true, not-false, not_from_true, true≢false}
-use Rattle.std.proofs.lemmas.Option.{same_Some}
+use Rattle.std.proofs.Common.{◌≡◌, ◌≢◌, Bool, true, false, not, List, [], ◌∷◌, Option, Some, None, Result, Ok, Err, refl, sym, ap, ◌∙◌, if◌then◌else◌}
+use Rattle.std.proofs.lemmas.Bool.{not-false, not_from_true}
 use Rattle.dn_names.specs.Names.{RdnSequence}
-use Rattle.dn_names.specs.NameOrder.{is_same}
 use Rattle.dn_names.specs.NameText.{read_name}
 use Rattle.dn_names.specs.declared.error.BadName.{BadName}
-use Rattle.dn_names.proofs.Theorems.{is_same-types_and_keys}
 use Rattle.dir_tree.specs.Entries.{EntryInformation}
 use Rattle.dir_tree.specs.Trees.{is_named, named_in, has_below, taken_out}
+use Rattle.dir_tree.proofs.TreeTheorems.{found_by_own_name}
 use Rattle.aci_item.specs.Rules.{IsGoodTree}
 use Rattle.aci_item.specs.declared.permission.Permission.TheVariants.{Remove}
 use Rattle.acdf_filters.specs.declared.asking.Requester.{Requester}
@@ -19,41 +17,9 @@ use Rattle.ldap_msg.specs.declared.kinds.LdapResult.{LdapResult}
 use Rattle.op_asking.specs.Targets.{is_suffix}
 use Rattle.op_update.specs.Deleting.{delete_refusal}
 use Rattle.op_update.specs.Updates.{unless, deleted_target, deleted_named, deleted, IsChanged}
+use Rattle.op_update.proofs.Theorems.{none_of, none_from, not_when, when_not, unless-good, unless-refused, unless-made}
 use Rattle.update_laws.specs.Granting.{MayDelete}
-use Rattle.update_laws.proofs.TableLemmas.{none_of, none_from, not_when, when_not, unless-good, unless-refused, unless-made}
 use Rattle.schema_rules.proofs.Theorems.{AreGood-taken_out}
-
--- an entry that is found by a name is found by its own
-same_itself : (name : RdnSequence) → is_same name name ≡ true
-same_itself name = (is_same-types_and_keys name name).1 refl
-
-same_over : (one other name : RdnSequence) → is_same one other ≡ true → is_same other name ≡ true → is_same one name ≡ true
-same_over one other name first second =
-    (is_same-types_and_keys one name).1 ((is_same-types_and_keys one other).0 first ∙ (is_same-types_and_keys other name).0 second)
-
-found_same : (name : RdnSequence) (target : EntryInformation) (entries : List EntryInformation) → named_in name entries ≡ Some target → is_same name target.name ≡ true
-found_same name target [] found = absurd cc
-found_same name target (first ∷ rest) found = elim (cases_Bool (is_named name first)) [
-  | inl here ↦ (
-      let is = same_Some first target (sym (cond-true (is_named name first) (Some first) (named_in name rest) here) ∙ found) in
-      rw (← is) here)
-  | inr other ↦ found_same name target rest (sym (cond-false (is_named name first) (Some first) (named_in name rest) other) ∙ found)
-]
-
-pub found_by_own_name :
-    (name : RdnSequence) (target : EntryInformation) (entries : List EntryInformation) → named_in name entries ≡ Some target
-    → named_in target.name entries ≡ Some target
-found_by_own_name name target [] found = absurd cc
-found_by_own_name name target (first ∷ rest) found = elim (cases_Bool (is_named name first)) [
-  | inl here ↦ (
-      let is = same_Some first target (sym (cond-true (is_named name first) (Some first) (named_in name rest) here) ∙ found) in
-      cond-true (is_named target.name first) (Some first) (named_in target.name rest) (rw (← is) (same_itself first.name)) ∙ ap (λ entry. Some entry) is)
-  | inr other ↦ (
-      let later = sym (cond-false (is_named name first) (Some first) (named_in name rest) other) ∙ found in
-      let apart : is_named target.name first ≡ false =
-      false_from_ne_true (is_named target.name first) (λ same. true≢false (sym (same_over name target.name first.name (found_same name target rest later) same) ∙ other)) in
-      cond-false (is_named target.name first) (Some first) (named_in target.name rest) apart ∙ found_by_own_name name target rest later)
-]
 
 -- the suffix stays where another entry is taken out
 kept_first : (mine : Bool) (first : EntryInformation) (later : List EntryInformation) → mine ≡ false → (if not mine then first ∷ later else later) ≢ []

@@ -12,8 +12,8 @@ use Rattle.ldap_msg.specs.declared.kinds.AddRequest.{AddRequest}
 use Rattle.op_update.specs.Adding.{add_refusal}
 use Rattle.op_update.specs.NewEntries.{read_attributes, new_entry}
 use Rattle.op_update.specs.Updates.{unless, added_entry, added_named, added, IsChanged}
+use Rattle.op_update.proofs.Theorems.{unless-made}
 use Rattle.update_laws.specs.Granting.{MayAdd}
-use Rattle.update_laws.proofs.TableLemmas.{unless-made}
 use Rattle.update_laws.proofs.AllowedLemmas.{MayAddEach-unrefused, unrefused-MayAddEach}
 use Rattle.update_laws.proofs.AddLemmas.{IsAddable, IsAddable-unrefused, unrefused-IsAddable}
 

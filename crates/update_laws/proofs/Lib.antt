@@ -1,4 +1,3 @@
-pub mod TableLemmas
 pub mod DeleteLemmas
 pub mod ReadingLemmas
 pub mod AddLemmas

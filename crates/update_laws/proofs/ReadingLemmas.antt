@@ -1,31 +1,16 @@
 -- The attributes that are read of a request are good, and so are those of the entry that it describes.
 use Rattle.std.proofs.Common.{◌≡◌, ◌≢◌, ℕ, ◌==◌, Bool, true, false, List, [], ◌∷◌, length, if◌then◌else◌, Option, Some, None, Ok, Err, refl, subst, ◌∙◌}
-use Rattle.std.specs.List.{AllByRecursion, IsDistinct, list_any}
+use Rattle.std.specs.List.{AllByRecursion, list_any}
 use Rattle.std.proofs.lemmas.Bool.{or_parts}
-use Rattle.base_laws.proofs.Theorems.{none_passes}
 use Rattle.plain_values.specs.Results.{◌>>=◌}
 use Rattle.schema_core.specs.Attributes.{attr_of}
-use Rattle.dn_names.specs.Names.{Keyed, TypeAndValue, RdnSequence, last_rdn}
-use Rattle.dir_tree.specs.Entries.{Attribute, EntryInformation, kinds_of, values_of, has_key, is_match, IsGoodAttribute, IsGoodAttributes}
-use Rattle.dir_tree.specs.Changes.{put_value, with_value}
-use Rattle.dir_tree.proofs.Theorems.{good-with_value}
-use Rattle.op_write.specs.Loading.{with_pairs}
+use Rattle.dn_names.specs.Names.{RdnSequence, last_rdn}
+use Rattle.dir_tree.specs.Entries.{Attribute, kinds_of, is_match, IsGoodAttribute, IsGoodAttributes}
+use Rattle.op_write.proofs.Theorems.{name-with_pairs, good-with_pairs}
 use Rattle.ldap_msg.specs.declared.operations.ResultCode.{ResultCode}
 use Rattle.ldap_msg.specs.declared.kinds.KindValues.{KindValues}
-use Rattle.op_update.specs.NewEntries.{read_value, read_values, read_known, read_attribute, read_each, repeats, has_twice, without_twice, lacks_values, read_attributes, new_entry}
-use Rattle.update_laws.proofs.TableLemmas.{both_given}
-
--- as many values are read as there are
-filled-read_values :
-    (kind : ℕ) (given : List (List ℕ)) (values : List Keyed) → (length given == 0) ≡ false
-    → read_values kind given ≡ Ok values → values ≢ []
-unfolding read_values
-filled-read_values kind [] values some is = absurd cc
-filled-read_values kind (octets ∷ rest) values some is =
-    let first = both_given (read_value kind octets) (λ value. read_values kind rest >>= λ values. Ok (value ∷ values)) values is in
-    let later = both_given (read_values kind rest) (λ values. Ok (first.0 ∷ values)) values first.2 in
-    let same : first.0 ∷ later.0 ≡ values = cc later.2 in
-    λ (none : values ≡ []). cc
+use Rattle.op_update.specs.NewEntries.{read_values, read_known, read_attribute, read_each, repeats, has_twice, without_twice, lacks_values, read_attributes, new_entry}
+use Rattle.op_update.proofs.Theorems.{distinct-repeats as IsDistinct-from_repeats, values-filled as filled-read_values, both_given}
 
 -- the attribute has a value
 abbrev IsFilled : Attribute → Type 0
@@ -56,13 +41,6 @@ filled-read_each (one ∷ rest) attributes some is =
     (filled-read_known one.values (attr_of one.kind) first.0 parts.0 first.1, filled-read_each rest later.0 parts.1 later.1)
 
 -- items of which none repeats are distinct
-IsDistinct-from_repeats : {A : Type 0} (same : A → A → Bool) (items : List A) → repeats same items ≡ false → IsDistinct same items
-unfolding IsDistinct repeats
-IsDistinct-from_repeats same [] none = tt
-IsDistinct-from_repeats same (first ∷ rest) none =
-    let parts = or_parts (list_any (same first) rest) (repeats same rest) none in
-    (none_passes (same first) rest parts.0, IsDistinct-from_repeats same rest parts.1)
-
 good_each :
     (attributes : List Attribute) → AllByRecursion IsFilled attributes
     → list_any (λ attribute. repeats is_match attribute.values) attributes ≡ false → AllByRecursion IsGoodAttribute attributes
@@ -97,29 +75,6 @@ pub IsGoodAttributes-read :
 unfolding read_attributes
 IsGoodAttributes-read given attributes is =
     good_where_filled (list_any lacks_values given) given attributes _ refl is
-
--- the entry with further values has the same name, and good attributes
-name-with_value : (kind : ℕ) (value : Keyed) (entry : EntryInformation) → (with_value kind value entry).name ≡ entry.name
-name-with_value kind value entry =
-    elim (has_key value.key (values_of kind entry.attributes))
-    as (λ there. (if there then entry else record entry { attributes = put_value kind value entry.attributes }).name ≡ entry.name) [
-      | true ↦ refl
-      | false ↦ refl
-    ]
-
-name-with_pairs : (entry : EntryInformation) (pairs : List TypeAndValue) → (with_pairs entry pairs).name ≡ entry.name
-unfolding with_pairs
-name-with_pairs entry [] = refl
-name-with_pairs entry (pair ∷ pairs) =
-    name-with_pairs (with_value pair.kind pair.value entry) pairs ∙ name-with_value pair.kind pair.value entry
-
-good-with_pairs :
-    (entry : EntryInformation) (pairs : List TypeAndValue) → IsGoodAttributes entry.attributes
-    → IsGoodAttributes (with_pairs entry pairs).attributes
-unfolding with_pairs
-good-with_pairs entry [] good = good
-good-with_pairs entry (pair ∷ pairs) good =
-    good-with_pairs (with_value pair.kind pair.value entry) pairs (good-with_value pair.kind pair.value entry good)
 
 -- so has the entry that a request describes
 pub name-new_entry : (name : RdnSequence) (attributes : List Attribute) → (new_entry name attributes).name ≡ name

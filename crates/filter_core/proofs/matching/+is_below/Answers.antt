@@ -1,8 +1,8 @@
 -- The class has the object identifier, or its superior is asked.
 use Rattle.std.proofs.Common.{sym, ◌∙◌}
 use Rattle.std.specs.Str.{bytes_eq}
-use Rattle.filter_core.proofs.ClassLemmas.{list_any-above}
 use Rattle.filter_core.proofs.matching.+is_below.Goals as goal
+use Rattle.dir_tree.proofs.TreeTheorems.{list_any-above}
 
 pub returns-in-Some : goal.returns-in-Some
 returns-in-Some t c = record {

@@ -6,8 +6,9 @@ use Rattle.dn_names.specs.NameText.{read_name}
 use Rattle.dir_tree.specs.Numbered.{entries_of}
 use Rattle.ldap_msg.specs.declared.kinds.Change.{Change}
 use Rattle.op_modify.specs.Modifying.{modified_named}
-use Rattle.op_modify.proofs.ChangeLemmas.{changed-refused, changed-like, modified-bad, modified-read}
+use Rattle.op_modify.proofs.ChangeLemmas.{modified-bad, modified-read}
 use Rattle.op_modify.proofs.modifying.modify.Goals as goal
+use Rattle.op_update.proofs.Theorems.{changed-refused, changed-like}
 
 pub returns-in-Some-clause-ok : goal.returns-in-Some-clause-ok
 returns-in-Some-clause-ok g c =

@@ -2,8 +2,9 @@
 use Rattle.std.proofs.Common.{◌∙◌, sym}
 use Rattle.std.proofs.lemmas.Result.{IfOk-weaker}
 use Rattle.dir_tree.specs.Numbered.{entries_of}
-use Rattle.op_modify.proofs.ChangeLemmas.{changed-refused, changed-like, modified-root, modified-entry}
+use Rattle.op_modify.proofs.ChangeLemmas.{modified-root, modified-entry}
 use Rattle.op_modify.proofs.modifying.modify_named.Goals as goal
+use Rattle.op_update.proofs.Theorems.{changed-refused, changed-like}
 
 pub returns-then-len-eq0-clause-ok : goal.returns-then-len-eq0-clause-ok
 returns-then-len-eq0-clause-ok g c =

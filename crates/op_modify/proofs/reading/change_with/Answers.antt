@@ -2,7 +2,7 @@
 use Rattle.std.proofs.Common.{◌∙◌, sym, ap}
 use Rattle.dir_tree.specs.Entries.{is_match}
 use Rattle.op_update.specs.NewEntries.{repeats}
-use Rattle.op_modify.proofs.ReadingLemmas.{distinct-repeats}
+use Rattle.op_update.proofs.Theorems.{distinct-repeats}
 use Rattle.op_modify.proofs.reading.change_with.Goals as goal
 
 pub new-requires : goal.new-requires

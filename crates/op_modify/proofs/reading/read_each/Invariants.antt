@@ -1,8 +1,8 @@
 -- The changes so far, before those of what is left, are all.
 use Rattle.std.proofs.Common.{◌≡◌, drop}
 use Rattle.op_modify.specs.ReadChanges.{read_each}
-use Rattle.op_modify.proofs.ReadingLemmas.{put_before}
 use Rattle.op_modify.proofs.reading.read_each.Given as goal
+use Rattle.op_update.proofs.Theorems.{put_before}
 
 abbrev pub invariant-loop-item : goal.invariant-loop-item
 invariant-loop-item l =

@@ -1,7 +1,6 @@
 -- The front that lacks one RDN.
 use Rattle.std.proofs.Common.{ℕ, ◌-◌, ap, ◌∙◌}
-use Rattle.dir_tree.proofs.TreeTheorems.{has_name-found}
-use Rattle.op_update.proofs.SeenLemmas.{front-superior}
+use Rattle.dir_tree.proofs.TreeTheorems.{has_name-found, front_of_superior as front-superior}
 use Rattle.op_update.proofs.adding.has_superior.Goals as goal
 
 pub returns : goal.returns

@@ -1,7 +1,7 @@
 -- The front that lacks one RDN.
 use Rattle.std.proofs.Common.{ℕ, ◌-◌, ap, ◌∙◌}
-use Rattle.schema_rules.proofs.TreeLemmas.{front_of_superior}
 use Rattle.schema_rules.proofs.points.number_above.Goals as goal
+use Rattle.dir_tree.proofs.TreeTheorems.{front_of_superior}
 
 pub returns : goal.returns
 returns c = record {

@@ -1,10 +1,11 @@
 -- Tables of refusals in which nothing refuses, and the changes that they decide.
-use Rattle.std.proofs.Common.{◌≡◌, Bool, true, false, List, ◌∷◌, Option, Some, None, Result, Ok, Err, refl}
+use Rattle.std.proofs.Common.{◌≡◌, ℕ, Bool, true, false, List, ◌∷◌, Option, Some, None, Result, Ok, Err, refl}
 use Rattle.plain_values.specs.Results.{◌>>=◌}
 use Rattle.dir_tree.specs.Entries.{EntryInformation}
 use Rattle.aci_item.specs.Rules.{IsGoodTree}
 use Rattle.ldap_msg.specs.declared.kinds.LdapResult.{LdapResult}
 use Rattle.plain_values.specs.Refusals.{when, first_some}
+use Rattle.op_update.specs.Adding.{rule_refusal}
 use Rattle.op_update.specs.Updates.{unless}
 
 -- a table that refuses nothing has a first row that doesn't
@@ -28,6 +29,11 @@ not_when false refusal is = refl
 pub when_not : {A : Type 0} (applies : Bool) (refusal : A) → applies ≡ false → when applies refusal ≡ None
 when_not true refusal is = absurd cc
 when_not false refusal is = refl
+
+-- no rule is broken where none refuses
+pub not_broken : (broken : Option ℕ) → rule_refusal broken ≡ None → broken ≡ None
+not_broken None is = refl
+not_broken (Some number) is = absurd cc
 
 -- where two steps gave something, so did each
 pub both_given :
