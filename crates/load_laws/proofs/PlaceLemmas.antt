@@ -3,7 +3,6 @@ use Rattle.std.proofs.Common.{◌≡◌, ◌≢◌, ℕ, ◌+◌, ◌≤◌, nat
 use Rattle.std.specs.List.{AllByRecursion}
 use Rattle.std.specs.Option.{option_or}
 use Rattle.std.proofs.lemmas.Bool.{or_parts, or_from}
-use Rattle.std.proofs.lemmas.Bool.Decides.{nat_tests}
 use Rattle.std.proofs.lemmas.List.{length-append}
 use Rattle.std.proofs.lemmas.List.Elements.{filter-append}
 use Rattle.std.proofs.lemmas.List.Folds.{find-append}
@@ -12,7 +11,7 @@ use Rattle.dir_tree.specs.Entries.{EntryInformation}
 use Rattle.dir_tree.specs.Points.{is_access_subentry, access_subentries}
 use Rattle.dir_tree.specs.Trees.{has_name, lacks_superior, superior_name, IsInOrder, IsRooted}
 use Rattle.aci_item.specs.Rules.{broken_rule, stands_wrong, is_misplaced, is_past_limits}
-use Rattle.schema_rules.proofs.Theorems.{nothing_found, Meets-from_broken_rule, broken_rule-from_Meets}
+use Rattle.schema_rules.proofs.Theorems.{nothing_found, Meets-from_broken_rule, broken_rule-from_Meets, fewer}
 use Rattle.op_write.specs.Loading.{ruled, placed}
 use Rattle.load_laws.proofs.OrderLemmas.{before_place, after_place, apart-before, superior-before, has_name-after, lacks_superior-front}
 
@@ -32,9 +31,6 @@ misplaced-front front back entry apart =
     (sym (find-append test front back ∙ ap (option_or (find test front)) (nothing_found test back apart) ∙ or_none (find test front)))
 
 -- fewer entries are within the limits too
-fewer : (most few many : ℕ) → few ≤ many → nat_le most many ≡ false → nat_le most few ≡ false
-fewer most few many less none = grind (arith, nat_tests)
-
 fewer_and : (mine : Bool) (most few many : ℕ) → few ≤ many → (mine && nat_le most many) ≡ false → (mine && nat_le most few) ≡ false
 fewer_and true most few many less none = fewer most few many less none
 fewer_and false most few many less none = refl

@@ -11,6 +11,7 @@ use Rattle.ldap_msg.specs.declared.operations.ResultCode.TheVariants as code
 use Rattle.entry_changes.specs.declared.kind.ChangeKind.{ChangeKind}
 use Rattle.entry_changes.specs.declared.kind.ChangeKind.TheVariants.{Add, Delete, Replace}
 use Rattle.entry_changes.specs.Changes.{Asks, Modification, are_none, withheld, add_value_refusal, add_refusal, delete_value_refusal, delete_refusal, has_octets, goes_refusal, comes_refusal, replace_refusal, refusal_by, left_by, unless_refused, changed, changed_by}
+use Rattle.entry_changes.proofs.Theorems.{filled_from as some_there}
 use Rattle.modify_laws.specs.Changing.{MayAddValue, MayAddValues, MayRemoveValue, MayRemoveValues, MayReplaceValues, MayDo, MayChangeEach}
 use Rattle.modify_laws.proofs.TableLemmas.{none_of_both, none_from_both, each_from_none, none_from_each, granted_where, where_granted, granted_where_both, where_both_granted}
 use Rattle.op_update.proofs.Theorems.{none_of, none_from, not_when, when_not, both_given}
@@ -19,10 +20,6 @@ use Rattle.op_update.proofs.Theorems.{none_of, none_from, not_when, when_not, bo
 none_there : (values : List Keyed) → are_none values ≡ true → values ≡ []
 none_there [] none = refl
 none_there (value ∷ values) none = absurd cc
-
-some_there : (values : List Keyed) → are_none values ≡ false → values ≢ []
-some_there [] some = absurd cc
-some_there (value ∷ values) some = λ none. cc
 
 not_none : (values : List Keyed) → values ≢ [] → are_none values ≡ false
 not_none [] some = absurd (some refl)

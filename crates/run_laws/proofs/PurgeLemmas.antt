@@ -6,19 +6,13 @@ use Rattle.std.proofs.lemmas.Bool.Decides.{nat_tests}
 use Rattle.ldap_msg.specs.Streams.{is_broken}
 use Rattle.session_model.specs.Rules.{Rules, Answered, said}
 use Rattle.session_model.specs.Run.{Session, Sessions, State, Open, Closing, TurnedAway, Away, Unopened, Step, Opened, Bytes, Ended, Gone, HungUp, step, start, run, run_from, hears, ended, with_session, new_messages, held_numbers, newcomer, is_held}
+use Rattle.session_model.proofs.Theorems.{with_session-same, none_taken as no_number}
 use Rattle.run_laws.specs.AnsweredMessages.{IsAnsweredAlike, answered_of_piece, answered_of_step}
 use Rattle.run_laws.specs.Purging.{is_of, purged, is_opening, openings, has_room, finds_room, answered_of_connection}
 use Rattle.run_laws.proofs.AlikeLemmas.{all_append, said-alike}
 
-with_session-same : {W : Type 0} (c : ℕ) (s : Session W) (of : ℕ → Session W) → with_session c s of c ≡ s
-with_session-same c s of = grind (arith, nat_tests)
-
 with_session-other : {W : Type 0} (c d : ℕ) (s : Session W) (of : ℕ → Session W) → (c == d) ≡ false → with_session c s of d ≡ of d
 with_session-other c d s of differs = grind (arith, nat_tests)
-
-no_number : (xs : List ℕ) → length xs ≤ 0 → xs ≡ []
-no_number [] h = refl
-no_number (x ∷ xs) h = absurd (omega arith)
 
 -- the first are sessions of all, and the second of the steps of one connection, which is the same in both
 record AreApart {T W : Type 0} (c : ℕ) (t : T) (all alone : Sessions T W) : Type 0 where

@@ -86,7 +86,7 @@ misplaced-without front back old other apart =
     (sym (find-past (λ entry. is_same (superior_name other.name) entry.name) front back old apart))
 
 -- the counts of the last rule grow no more
-fewer : (most now before : ℕ) → now ≤ before → nat_le most before ≡ false → nat_le most now ≡ false
+pub fewer : (most now before : ℕ) → now ≤ before → nat_le most before ≡ false → nat_le most now ≡ false
 fewer most now before less fits = grind (arith, nat_tests)
 
 counted : (mine : Bool) (now before : ℕ) → now ≤ before → (mine && nat_le 256 before) ≡ false → (mine && nat_le 256 now) ≡ false

@@ -7,14 +7,10 @@ use Rattle.wire_io.specs.Telling.{noted}
 use Rattle.wire_io.specs.Plan.{Plan}
 use Rattle.wire_io.proofs.Theorems.{heard-append}
 use Rattle.session_model.specs.Journaled.{all_taken}
+use Rattle.session_model.proofs.Theorems.{all_taken-both}
 use Rattle.session_hub.specs.Adding.{Adds, IsBlock, OnlyServes}
 
 -- what is said of two lists of items in turn
-pub all_taken-both : (j k : List Item) → all_taken (j ++ k) ≡ (all_taken j && all_taken k)
-unfolding all_taken
-all_taken-both [] k = refl
-all_taken-both (i ∷ j) k = grind (arith, all_taken-both j k)
-
 pub was_stopped-both : (j k : List Item) → was_stopped (j ++ k) ≡ (was_stopped j || was_stopped k)
 unfolding was_stopped
 was_stopped-both [] k = refl

@@ -17,7 +17,7 @@ use Rattle.wire_io.specs.Telling.{event_of, NextTells}
 use Rattle.wire_io.proofs.Theorems.{heard-append, steps_of-append, Plays-none, Plays-trans, Plays-heard, NextPlays-ok, NextPlays-told, NextPlays-says, SaysOf}
 use Rattle.session_model.specs.Kept.{Held}
 use Rattle.session_model.specs.Journaled.{all_taken}
-use Rattle.session_model.proofs.Theorems.{all_taken-one, works_free}
+use Rattle.session_model.proofs.Theorems.{all_taken-one, works_free, all_taken-both}
 use Rattle.session_hub.specs.Parties.{DirectoryEntries, Requester}
 use Rattle.session_hub.specs.declared.ended.Ended.{Ended}
 use Rattle.session_hub.specs.declared.ended.Ended.TheVariants as ended
@@ -25,7 +25,6 @@ use Rattle.session_hub.specs.Answering.{rules}
 use Rattle.session_hub.specs.Loops.{PlaysOut, PlayedOut, buffer_length}
 use Rattle.session_hub.specs.Adding.{Adds, IsBlock}
 use Rattle.session_hub.specs.Turns.{Running, Playing, PlayedSoFar}
-use Rattle.session_hub.proofs.AddingLemmas.{all_taken-both}
 use Rattle.session_hub.proofs.LoopLemmas.{is_stop, one_event, comes}
 
 -- what is on hold after items that were added to a journal in which nothing was

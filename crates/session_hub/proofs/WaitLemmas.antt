@@ -3,12 +3,9 @@ use Rattle.std.proofs.Common.{◌≡◌, ◌≢◌, ◌<◌, ◌+◌, ◌==◌, 
 use Rattle.std.proofs.lemmas.Bool.Decides.{nat_tests}
 use Rattle.session_model.specs.Keeping.{is_listed}
 use Rattle.session_model.specs.Working.{Puts, Covers}
+use Rattle.session_model.proofs.Theorems.{is_listed-append as is_listed-last}
 
 -- a list with one number more at its end
-pub is_listed-last : (n : ℕ) (xs : List ℕ) (c : ℕ) → is_listed n (xs ++ c ∷ []) ≡ (is_listed n xs || (n == c))
-is_listed-last n [] c = grind (arith, nat_tests)
-is_listed-last n (x ∷ xs) c = grind (arith, nat_tests, is_listed-last n xs c)
-
 pub puts_last : (c : ℕ) (xs ys : List ℕ) → ys ≡ xs ++ c ∷ [] → Puts c true xs ys
 puts_last c xs ys is =
     record {

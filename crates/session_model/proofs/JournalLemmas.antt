@@ -5,7 +5,7 @@ use Rattle.wire_io.specs.declared.journal.Event.{Event}
 use Rattle.wire_io.specs.declared.journal.Item.{Item}
 use Rattle.wire_io.specs.declared.journal.Item.TheVariants as item
 use Rattle.wire_io.specs.Journal.{heard, taken_of, taken_at, is_hung_up, hangs_up, is_held, hold_after, hold_after_all, was_opened, opens}
-use Rattle.wire_io.proofs.Theorems.{heard-append}
+use Rattle.wire_io.proofs.Theorems.{heard-append, taken_of-push as taken_of-one, is_held-push as is_held-one}
 use Rattle.session_model.specs.Journaled.{steps_of, step_of_item, all_taken, is_no_refusal, WasLater}
 
 pub steps_of-append : (j k : List Item) → steps_of (j ++ k) ≡ steps_of j ++ steps_of k
@@ -22,10 +22,6 @@ unfolding taken_of
 taken_of-append c [] k = refl
 taken_of-append c (i ∷ j) k = ap (λ xs. taken_at c i ++ xs) (taken_of-append c j k) ∙ sym (append_assoc (taken_at c i) (taken_of c j) (taken_of c k))
 
-pub taken_of-one : (c : ℕ) (j : List Item) (i : Item) → taken_of c (j ++ i ∷ []) ≡ taken_of c j ++ taken_at c i
-unfolding taken_of
-taken_of-one c j i = taken_of-append c j (i ∷ []) ∙ ap (λ xs. taken_of c j ++ xs) (append-nil (taken_at c i))
-
 pub is_hung_up-one : (c : ℕ) (j : List Item) (i : Item) → is_hung_up c (j ++ i ∷ []) ≡ (is_hung_up c j || hangs_up c i)
 unfolding is_hung_up
 is_hung_up-one c [] i = grind arith
@@ -36,10 +32,6 @@ unfolding hold_after_all
 hold_after_all-append c b [] i = refl
 hold_after_all-append c b (x ∷ j) i = hold_after_all-append c (hold_after c b x) j i
 
-pub is_held-one : (c : ℕ) (j : List Item) (i : Item) → is_held c (j ++ i ∷ []) ≡ hold_after c (is_held c j) i
-unfolding is_held
-is_held-one c j i = hold_after_all-append c false j i
-
 pub was_opened-append : (c : ℕ) (j k : List Item) → was_opened c (j ++ k) ≡ (was_opened c j || was_opened c k)
 unfolding was_opened
 was_opened-append c [] k = refl
@@ -49,7 +41,7 @@ pub was_opened-one : (c : ℕ) (j : List Item) (i : Item) → was_opened c (j ++
 unfolding was_opened
 was_opened-one c j i = was_opened-append c j (i ∷ []) ∙ grind arith
 
-all_taken-both : (j k : List Item) → all_taken (j ++ k) ≡ (all_taken j && all_taken k)
+pub all_taken-both : (j k : List Item) → all_taken (j ++ k) ≡ (all_taken j && all_taken k)
 unfolding all_taken
 all_taken-both [] k = refl
 all_taken-both (i ∷ j) k = grind (arith, all_taken-both j k)

@@ -19,13 +19,13 @@ pub use Rattle.session_model.proofs.ClaimLemmas.{AnswersKeep, run_claim}
 -- from block to block
 pub use Rattle.session_model.proofs.TrackLemmas.{works_start}
 pub use Rattle.session_model.proofs.EventLemmas.{works_bytes, works_ended, works_idle}
-pub use Rattle.session_model.proofs.TurnedLemmas.{opened_leads, works_opened, works_turned}
+pub use Rattle.session_model.proofs.TurnedLemmas.{opened_leads, works_opened, works_turned, none_taken}
 -- from item to item within a block
 pub use Rattle.session_model.proofs.ItemLemmas.{works_as, works_taken, works_refused, refused_stands, refused_held, works_released, works_sent, works_hung_up}
 pub use Rattle.session_model.proofs.LostLemmas.{lost_leads, lost_hung_up}
 -- what a journal then is
 pub use Rattle.session_model.proofs.ReplayLemmas.{works_leads, works_served, works_free, works_replayed, own_steps, events_of}
-pub use Rattle.session_model.proofs.JournalLemmas.{all_taken-one, was_opened-append}
+pub use Rattle.session_model.proofs.JournalLemmas.{all_taken-one, was_opened-append, all_taken-both}
 
 -- what is held stays true to its sessions at each step that opens no number twice
 pub Keeps-step : {T W : Type 0} (r : Rules T W) (u : Sessions T W) (taken : ℕ → ℕ) (h : Held T W) (s : Step) → IsNew u s → Keeps u taken h →
@@ -42,3 +42,6 @@ pub Keeps-start : {T W : Type 0} (r : Rules T W) (t : T) (taken : ℕ → ℕ) �
 unfolding start held_numbers
 Keeps-start r t taken none =
     record { tree = refl; numbers = refl; each = λ c. refl; within = λ c. (let zero_c : taken c ≡ 0 = none c in omega arith); unopened = λ c _. (refl, refl) }
+pub use Rattle.session_model.proofs.BytesLemmas.{new_messages-are}
+pub use Rattle.session_model.proofs.StepLemmas.{with_session-same}
+pub use Rattle.session_model.proofs.HeldLemmas.{is_listed-append}

@@ -29,7 +29,7 @@ use Rattle.session_model.proofs.ItemLemmas.{leaves_works, puts_none}
 room_is : {A : Type 0} (f : State → A) (room : Bool) (x : A) → f Open ≡ x → f TurnedAway ≡ x → f (cond room Open TurnedAway) ≡ x
 room_is f room x e1 e2 = elim room as (λ b. f (cond b Open TurnedAway) ≡ x) [ true ↦ e1 | false ↦ e2 ]
 
-none_taken : (xs : List ℕ) → length xs ≤ 0 → xs ≡ []
+pub none_taken : (xs : List ℕ) → length xs ≤ 0 → xs ≡ []
 none_taken [] h = refl
 none_taken (x ∷ xs) h = absurd (omega arith)
 
