@@ -1,6 +1,8 @@
 //! Keys: the Unicode Standard's own examples of case folding (section 3.13) and of NFKC (UAX #15), and each rule's
 //! good and bad octets.
-use match_rules::{Part, PrepareFault, Rule, equal, order, prepare, prepare_part, substring};
+use match_rules::{
+    Part, PrepareFault, Rule, equal, is_own_key, order, prepare, prepare_part, substring,
+};
 use std::alloc::Global;
 use std::cmp::Ordering;
 use std::process::Abort;
@@ -214,5 +216,31 @@ fn keys_are_ordered_by_octets_and_the_shorter_first(rt: HostRuntime) {
         let found = orders(left.as_bytes(), right.as_bytes());
         let want = (*expected, *expected == Ordering::Equal);
         assert_eq!(rt; found, want, "{left} {right}");
+    }
+}
+
+// Octets, and whether each of them shows that they are their own key: no space, capital letter or octet past ASCII.
+static OWN_KEYS: [(Rule, &str, bool); 9] = [
+    (Rule::Text, "harbour-7", true),
+    (Rule::Text, "Harbour", false),
+    (Rule::Text, "har bour", false),
+    (Rule::Text, "fårö", false),
+    (Rule::Text, "", false),
+    (Rule::Ascii, "~!@[", true),
+    (Rule::Phone, "47555501", false),
+    (Rule::Country, "no", false),
+    (Rule::Octets, "Any Octets", true),
+];
+
+// The answer promises nothing here, so that the proof of the test goes by what the test asks.
+fn shows_its_key(rule: Rule, octets: &[u8]) -> bool {
+    is_own_key(rule, octets)
+}
+
+#[test]
+fn small_letters_digits_and_marks_are_their_own_keys(rt: HostRuntime) {
+    for (rule, text, expected) in &OWN_KEYS {
+        let found = shows_its_key(*rule, text.as_bytes());
+        assert_eq!(rt; found, *expected, "{text}");
     }
 }
