@@ -15,6 +15,7 @@ use Rattle.entry_changes.specs.declared.kind.ChangeKind.TheVariants.{Add, Delete
 use Rattle.entry_changes.specs.Changes.{Asks, Modification, with_each, without_each, left_by, change_refusal, unless_refused, changed_by}
 use Rattle.entry_changes.specs.Renaming.{gone_pairs, without_pairs, renamed_entry}
 use Rattle.entry_changes.proofs.EffectLemmas.{good-with_each}
+
 -- ---- one change
 
 good-without_each : (kind : ℕ) (values : List Keyed) (entry : EntryInformation) → IsGoodAttributes entry.attributes

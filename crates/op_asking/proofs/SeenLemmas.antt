@@ -27,6 +27,7 @@ use Rattle.read_model.specs.Views.{Row, View, row_of, view_of, matched_name, dis
 use Rattle.op_asking.specs.Targets.{is_suffix}
 use Rattle.op_asking.specs.Asking.{view_in}
 use Rattle.op_asking.specs.Nearest.{nearest_name, without_object}
+
 -- ---- lists of what is seen of other lists
 
 reverse_aux-map : {A B : Type 0} (f : A → B) (xs ys : List A) → reverse_aux (map f xs) (map f ys) ≡ map f (reverse_aux xs ys)

@@ -20,6 +20,7 @@ use Rattle.op_update.specs.declared.fault.Fault.TheVariants as fault
 use Rattle.op_update.specs.NewEntries.{read_value, read_values, read_known, read_attribute, read_each, repeats, has_twice, without_twice, lacks_values}
 use Rattle.op_update.specs.Reading.{cause_of}
 use Rattle.op_update.specs.Steps.{finished, entry_from, IsPut}
+
 -- ---- values, one after the other
 
 -- items before those of a result

@@ -26,6 +26,9 @@ pub use Rattle.session_model.proofs.LostLemmas.{lost_leads, lost_hung_up}
 -- what a journal then is
 pub use Rattle.session_model.proofs.ReplayLemmas.{works_leads, works_served, works_free, works_replayed, own_steps, events_of}
 pub use Rattle.session_model.proofs.JournalLemmas.{all_taken-one, was_opened-append, all_taken-both}
+pub use Rattle.session_model.proofs.BytesLemmas.{new_messages-are}
+pub use Rattle.session_model.proofs.StepLemmas.{with_session-same}
+pub use Rattle.session_model.proofs.HeldLemmas.{is_listed-append}
 
 -- what is held stays true to its sessions at each step that opens no number twice
 pub Keeps-step : {T W : Type 0} (r : Rules T W) (u : Sessions T W) (taken : ℕ → ℕ) (h : Held T W) (s : Step) → IsNew u s → Keeps u taken h →
@@ -42,6 +45,3 @@ pub Keeps-start : {T W : Type 0} (r : Rules T W) (t : T) (taken : ℕ → ℕ) �
 unfolding start held_numbers
 Keeps-start r t taken none =
     record { tree = refl; numbers = refl; each = λ c. refl; within = λ c. (let zero_c : taken c ≡ 0 = none c in omega arith); unopened = λ c _. (refl, refl) }
-pub use Rattle.session_model.proofs.BytesLemmas.{new_messages-are}
-pub use Rattle.session_model.proofs.StepLemmas.{with_session-same}
-pub use Rattle.session_model.proofs.HeldLemmas.{is_listed-append}
