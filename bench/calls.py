@@ -1,5 +1,6 @@
 #!/usr/bin/env python3
-"""Measures calls by themselves: keys and names, subtree specifications, trees and records, or messages.
+"""Measures calls by themselves: keys and names, values of an attribute, subtree specifications, trees and records, or
+messages.
 
 The program of that name in the folder calls is built beside copies of the crates that it uses, and run.
 """
@@ -35,6 +36,10 @@ PROGRAMS = {
     "subtrees": Program(
         ("subtree_spec",),
         {"src/main.rt": "subtrees.txt"},
+    ),
+    "values": Program(
+        ("value_lists", "dn_names", "schema_core"),
+        {"src/main.rt": "values.txt"},
     ),
     "trees": Program(
         ("ldif_core", "dir_tree", "dn_names"),
