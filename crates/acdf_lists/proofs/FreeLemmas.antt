@@ -1,7 +1,6 @@
 -- An entry that was put in can be taken out: none stands below a name that was free.
 use Rattle.std.proofs.Common.{◌≡◌, ◌⊎◌, inl, inr, ◌<◌, ◌≤◌, ◌-◌, ◌+◌, ◌==◌, zero, suc, ℕ, Bool, true, false, ◌&&◌, List, [], ◌∷◌, length, take, Some, None, refl, sym, ap, ◌∙◌, arith}
 use Rattle.std.specs.Prelude.{nat_lt}
-use Rattle.std.specs.List.{AllByRecursion}
 use Rattle.std.proofs.lemmas.Bool.{cases_Bool, cases_lt, false_from_ne_true, and_from, or_cases, or_left, or_right, or_from, le-ltb, lt-ltb, ltb-true, not-false}
 use Rattle.std.proofs.lemmas.List.{length-take-le, take-take}
 use Rattle.dn_names.specs.Names.{RdnSequence}
@@ -13,33 +12,27 @@ use Rattle.dir_tree.specs.Numbered.{Numbered, IsNumberedTree, entries_of, entry_
 use Rattle.dir_tree.specs.Refusals.{insert_refusal, refusal_below, remove_refusal}
 use Rattle.dir_tree.specs.declared.refusals.InsertRefusal.TheVariants as inserting
 use Rattle.dir_tree.specs.declared.refusals.RemoveRefusal.TheVariants as removing
-use Rattle.dir_tree.proofs.TreeTheorems.{entries_of-put_row, all_under_suffix, same_itself, entry_of-put}
+use Rattle.dir_tree.proofs.TreeTheorems.{entries_of-put_row, named_by, all_under_suffix, same_itself, entry_of-put}
 use Rattle.dir_tree.proofs.TreeTheorems.{length-same, same-superior}
 use Rattle.dir_tree.proofs.TreeTheorems.{any_put, has_name_like}
 use Rattle.admin_scope.proofs.Theorems.{length-front}
-
--- what all entries have that of a name has
-of_named : {Q : Type 0} (P : EntryInformation → Type 0) (name : RdnSequence) (entries : List EntryInformation) → ((entry : EntryInformation) → is_same name entry.name ≡ true → P entry → Q) → AllByRecursion P entries → has_name name entries ≡ true → Q
-of_named P name [] f all h = absurd cc
-of_named P name (x ∷ entries) f all h = elim (or_cases (is_named name x) (has_name name entries) h) [
-  | inl e ↦ f x e all.0
-  | inr e ↦ of_named P name entries f all.1 e
-]
 
 module _ (first : EntryInformation) (rest : List EntryInformation) (tree : IsTree (first ∷ rest)) where
   -- each name that is longer than the suffix's has its superior
   superior_there : (name : RdnSequence) → has_name name (first ∷ rest) ≡ true → length first.name < length name → has_name (superior_name name) (first ∷ rest) ≡ true
   superior_there name here long = elim (or_cases (is_named name first) (has_name name rest) here) [
     | inl e ↦ (let alike = length-same name first.name e in absurd (omega arith))
-    | inr e ↦ of_named (λ later. has_name (superior_name later.name) (first ∷ rest) ≡ true) name rest
-        (λ later same there. has_name_like (superior_name name) (superior_name later.name) (first ∷ rest) (same-superior name later.name same) ∙ there) tree.rooted e
+    | inr e ↦ named_by (λ later. has_name (superior_name later.name) (first ∷ rest) ≡ true)
+        (has_name (superior_name name) (first ∷ rest) ≡ true) name
+        (λ later there same. has_name_like (superior_name name) (superior_name later.name) (first ∷ rest) (same-superior name later.name same) ∙ there)
+        rest tree.rooted e
   ]
 
   -- a name that is there is no shorter than the suffix's
   no_shorter : (name : RdnSequence) → has_name name (first ∷ rest) ≡ true → length first.name ≤ length name
-  no_shorter name here = of_named (λ entry. is_within first.name entry ≡ true) name (first ∷ rest)
-      (λ entry same within. let alike = length-same name entry.name same in let front = length-front first.name entry.name within in omega arith)
-      (all_under_suffix first rest tree) here
+  no_shorter name here = named_by (λ entry. is_within first.name entry ≡ true) (length first.name ≤ length name) name
+      (λ entry within same. let alike = length-same name entry.name same in let front = length-front first.name entry.name within in omega arith)
+      (first ∷ rest) (all_under_suffix first rest tree) here
 
   module _ (name : RdnSequence) (free : has_name name (first ∷ rest) ≡ false) (under : has_name (superior_name name) (first ∷ rest) ≡ true) where
     -- none of the names that are there is below it

@@ -13,7 +13,7 @@ use Rattle.dir_tree.specs.Numbered.{Numbered, IsNumberedTree, ids_of, entries_of
 use Rattle.dir_tree.specs.Scopes.{is_within, is_child, in_scope, scoped}
 use Rattle.dir_tree.specs.declared.scope.Scope.TheVariants.{Sub}
 use Rattle.dir_tree.proofs.TreeTheorems.{entry_of-found, superior_of-others, scoped-Sub}
-use Rattle.dir_tree.proofs.TreeTheorems.{length-same}
+use Rattle.dir_tree.proofs.TreeTheorems.{length-same, found_same}
 use Rattle.dir_tree.proofs.TreeTheorems.{found_row, found_later}
 
 -- an entry whose superior has the name stands immediately below the name
@@ -70,18 +70,6 @@ unreached-Sub top base number entry rows at known h =
     unreached base.name number entry rows known
     (subst (λ (ids : List ℕ). AllByRecursion (λ id. id ≢ number) ids) (ap (λ o. in_scope Sub top o rows) at) h)
 
--- the entry that is found by a name has it
-named_found : (name : RdnSequence) (entries : List EntryInformation) (base : EntryInformation) → named_in name entries ≡ Some base → is_same name base.name ≡ true
-named_found name [] base e = absurd cc
-named_found name (x ∷ entries) base e = by (cases_Bool (is_named name x)) (named_found name entries base)
-  where
-    by : ((is_named name x ≡ true) ⊎ (is_named name x ≡ false)) → (named_in name entries ≡ Some base → is_same name base.name ≡ true) → is_same name base.name ≡ true
-    by (inl f) later =
-        let is : Some x ≡ Some base = sym (cond-true (is_named name x) (Some x) (find (is_named name) entries) f) ∙ e in
-        let same : x ≡ base = cc in
-        subst (λ (entry : EntryInformation). is_same name entry.name ≡ true) same f
-    by (inr f) later = later (sym (cond-false (is_named name x) (Some x) (find (is_named name) entries) f) ∙ e)
-
 none_named : (name : RdnSequence) (rows : List Numbered) (id : ℕ) → find_name name rows ≡ Some id → named_in name (entries_of rows) ≡ None → ⊥
 none_named name [] id e f = absurd cc
 none_named name (x ∷ rows) id e f = by (cases_Bool (is_named name x.entry)) (none_named name rows id)
@@ -122,7 +110,7 @@ unreached-around id one number entry rows tree known there h = by (superior_of i
         sym (ap (option_and_then (λ n. entry_of n rows)) (sym above ∙ e)) ∙ entry_of-found (superior_name one.name) rows tree.distinct ∙ f in
         record {
           top = base.name;
-          superior = named_found (superior_name one.name) (entries_of rows) base f;
+          superior = found_same (superior_name one.name) base (entries_of rows) f;
           outside = unreached-Sub top base number entry rows at there (reached_at (Some top) e);
         }
 

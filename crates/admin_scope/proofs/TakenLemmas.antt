@@ -5,12 +5,12 @@ use Rattle.std.proofs.lemmas.Bool.{false_from_ne_true, not-false}
 use Rattle.std.proofs.lemmas.List.Elements.{filter-append, filter_agree}
 use Rattle.base_laws.proofs.Theorems.{all_true, filter-filter_kept, filter-filter}
 use Rattle.dn_names.specs.Names.{RdnSequence}
-use Rattle.dn_names.specs.NameOrder.{is_same, is_prefix_of}
-use Rattle.dn_names.proofs.Theorems.{is_same-types_and_keys, is_prefix_of-types_and_keys}
+use Rattle.dn_names.specs.NameOrder.{is_prefix_of}
 use Rattle.dir_tree.specs.Entries.{EntryInformation}
 use Rattle.dir_tree.specs.Trees.{is_named, taken_out}
 use Rattle.dir_tree.specs.Points.{is_subentry}
 use Rattle.dir_tree.specs.Scopes.{is_within}
+use Rattle.dir_tree.proofs.TreeTheorems.{prefix_same}
 use Rattle.admin_scope.specs.Areas.{line_of, is_access_point, to_specific, areas}
 use Rattle.admin_scope.specs.InForce.{reaches, in_force_at, in_force}
 use Rattle.admin_scope.proofs.ListLemmas.{flat_map-agree}
@@ -31,19 +31,13 @@ filter-flat_map : {A B : Type 0} (p : B → Bool) (f : A → List B) (xs : List 
 filter-flat_map p f [] = refl
 filter-flat_map p f (x ∷ xs) = filter-append p (f x) (flat_map f xs) ∙ ap (λ rest. filter p (f x) ++ rest) (filter-flat_map p f xs)
 
--- a name that is the same as a front of a name is a front of it
-same_front : (x y z : RdnSequence) → is_same x y ≡ true → is_prefix_of y z ≡ true → is_prefix_of x z ≡ true
-same_front x y z e f =
-    let rest = (is_prefix_of-types_and_keys y z).0 f in
-    (is_prefix_of-types_and_keys x z).1 (rest.0, rest.1 ∙ ap (λ t. t ++ rest.0) (sym ((is_same-types_and_keys x y).0 e)))
-
 -- no entry of the name stands above a name outside it
 line_of-taken : (top name : RdnSequence) (entries : List EntryInformation) → is_prefix_of top name ≡ false → line_of name (taken_out top entries) ≡ line_of name entries
 line_of-taken top name entries outside =
     filter-filter_kept (λ entry. is_prefix_of entry.name name) (λ entry. not (is_named top entry)) entries (all_true _ apart entries)
   where
     apart : (entry : EntryInformation) → not (is_named top entry) ≡ false → is_prefix_of entry.name name ≡ false
-    apart entry e = false_from_ne_true (is_prefix_of entry.name name) (λ f. let clash = sym outside ∙ same_front top entry.name name (not-false (is_named top entry) e) f in absurd cc)
+    apart entry e = false_from_ne_true (is_prefix_of entry.name name) (λ f. let clash = sym outside ∙ (prefix_same top entry.name name (not-false (is_named top entry) e) ∙ f) in absurd cc)
 
 -- so the areas of an entry outside it stay
 pub areas-taken : (top : RdnSequence) (entries : List EntryInformation) (entry : EntryInformation) → is_within top entry ≡ false → areas (taken_out top entries) entry ≡ areas entries entry

@@ -1,9 +1,11 @@
 -- The entry of a number, and the number of a name, in rows that are put in and taken out.
 use Rattle.std.proofs.Common.{◌≡◌, ◌≢◌, ℕ, ◌-◌, true, false, ◌==◌, nat_le, if◌then◌else◌, List, [], ◌∷◌, length, take, refl, ap, sym, ◌∙◌, arith, inl, inr, find, Option, Some, None}
 use Rattle.std.specs.Prelude.{is_some}
+use Rattle.std.specs.List.{AllByRecursion}
 use Rattle.std.specs.Option.{option_map}
 use Rattle.std.proofs.lemmas.Bool.{cases_Bool, cond-true, cond-false, eq-eqb, eqb-true, ne_eqb}
 use Rattle.std.proofs.lemmas.Bool.Decides.{nat_tests}
+use Rattle.std.proofs.lemmas.Option.{same_Some}
 use Rattle.dn_names.specs.Names.{RdnSequence}
 use Rattle.dir_tree.specs.Entries.{EntryInformation}
 use Rattle.dir_tree.specs.Trees.{is_before, is_named, named_in, superior_name}
@@ -76,6 +78,16 @@ found_both name [] = refl
 found_both name (x ∷ rows) = elim (cases_Bool (is_named name x.entry)) [
   | inl e ↦ rw e refl
   | inr e ↦ rw e (found_both name rows)
+]
+
+-- a name is found by another number than one that no row has
+pub other_number : (name : RdnSequence) (number : ℕ) (rows : List Numbered) → AllByRecursion (λ later. later.id ≢ number) rows → (id : ℕ) → find_name name rows ≡ Some id → id ≢ number
+other_number name number [] apart id found = absurd cc
+other_number name number (x ∷ rows) apart id found = elim (cases_Bool (is_named name x.entry)) [
+  | inl e ↦ (
+      let is = same_Some x.id id (sym (ap (option_map (λ (row : Numbered). row.id)) (cond-true (is_named name x.entry) (Some x) (find (λ row. is_named name row.entry) rows) e)) ∙ found) in
+      λ f. apart.0 (is ∙ f))
+  | inr e ↦ other_number name number rows apart.1 id (sym (ap (option_map (λ (row : Numbered). row.id)) (cond-false (is_named name x.entry) (Some x) (find (λ row. is_named name row.entry) rows) e)) ∙ found)
 ]
 
 -- the front that lacks one RDN is the superior's name

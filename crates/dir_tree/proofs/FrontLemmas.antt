@@ -1,13 +1,15 @@
 -- Names that begin others, and what names that are the same begin.
-use Rattle.std.proofs.Common.{◌≡◌, ◌≢◌, ℕ, ◌-◌, ◌≤◌, true, false, List, [], ◌∷◌, ◌++◌, length, take, refl, sym, ap, ◌∙◌, nat_lt, arith}
+use Rattle.std.proofs.Common.{◌≡◌, ◌≢◌, ℕ, ◌+◌, ◌-◌, ◌≤◌, ◌==◌, Bool, true, false, ◌&&◌, List, [], ◌∷◌, ◌++◌, length, take, refl, sym, ap, ◌∙◌, nat_lt, arith}
 use Rattle.std.specs.Cmp.{both_ways}
 use Rattle.std.proofs.lemmas.Bool.Decides.{nat_tests}
 use Rattle.std.proofs.lemmas.List.{take_all, length-take-le}
 use Rattle.dn_names.specs.Names.{RdnSequence}
 use Rattle.dn_names.specs.NameOrder.{is_same, is_prefix_of, types_and_keys}
 use Rattle.dn_names.proofs.Theorems.{is_same-types_and_keys, is_prefix_of-types_and_keys}
+use Rattle.dir_tree.specs.Entries.{EntryInformation}
 use Rattle.dir_tree.specs.Trees.{is_below, superior_name}
-use Rattle.dir_tree.proofs.NameLemmas.{same_back}
+use Rattle.dir_tree.specs.Scopes.{is_child}
+use Rattle.dir_tree.proofs.NameLemmas.{same_back, length-same}
 
 -- what is the same as a name is the same as what that is the same as
 pub same_over : (one other name : RdnSequence) → is_same one other ≡ true → is_same other name ≡ true → is_same one name ≡ true
@@ -33,6 +35,12 @@ prefix_like top name other e f =
     let rest = (is_prefix_of-types_and_keys top other).0 e in
     let same = (is_same-types_and_keys name other).0 f in
     (is_prefix_of-types_and_keys top name).1 (rest.0, same ∙ rest.1)
+
+-- so what is immediately below a name is immediately below what is the same
+pub child_same : (x y : RdnSequence) (entry : EntryInformation) → is_same x y ≡ true → is_child x entry ≡ is_child y entry
+child_same x y entry e =
+    ap (λ (b : Bool). b && (length entry.name == length x + 1)) (prefix_same x y entry.name e)
+    ∙ ap (λ (n : ℕ). is_prefix_of y entry.name && (length entry.name == n + 1)) (length-same x y e)
 
 -- a name that begins another, which is not below it, is the same
 pub at_base : (base name : RdnSequence) → is_prefix_of base name ≡ true → is_below base name ≡ false → is_same base name ≡ true

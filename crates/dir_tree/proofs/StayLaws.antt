@@ -18,7 +18,7 @@ use Rattle.dir_tree.proofs.OrderedLemmas.{ordered_put, ordered_without, ordered_
 use Rattle.dir_tree.proofs.TreeLemmas.{IsRooted-ordered}
 
 -- what holds of some entry of a name
-named_by : (P : EntryInformation → Type 0) (R : Type 0) (name : RdnSequence) → ((entry : EntryInformation) → P entry → is_same name entry.name ≡ true → R) → (entries : List EntryInformation) → AllByRecursion P entries → has_name name entries ≡ true → R
+pub named_by : (P : EntryInformation → Type 0) (R : Type 0) (name : RdnSequence) → ((entry : EntryInformation) → P entry → is_same name entry.name ≡ true → R) → (entries : List EntryInformation) → AllByRecursion P entries → has_name name entries ≡ true → R
 named_by P R name f [] h e = absurd cc
 named_by P R name f (x ∷ entries) h e = elim (or_cases (is_named name x) (has_name name entries) e) [
   | inl g ↦ f x h.0 g

@@ -6,7 +6,6 @@ use Rattle.std.specs.Option.{option_map, option_and_then}
 use Rattle.std.specs.Ordering.{is_lt}
 use Rattle.std.specs.declared.cmp.Ordering.TheVariants.{Less}
 use Rattle.std.proofs.lemmas.Bool.{cases_Bool, cond-true, cond-false, eqb-true, eqb-false, ne_eqb, eq-eqb, and_right, false_from_ne_true}
-use Rattle.std.proofs.lemmas.Option.{same_Some}
 use Rattle.std.proofs.lemmas.List.{length-take-le}
 use Rattle.dn_names.specs.Names.{RdnSequence}
 use Rattle.dn_names.specs.NameOrder.{name_cmp, is_same, is_prefix_of}
@@ -16,6 +15,7 @@ use Rattle.dir_tree.specs.Numbered.{Numbered, ids_of, entries_of, find_name, ent
 use Rattle.dir_tree.specs.Scopes.{is_within, is_child, in_scope, scoped, is_number, is_superior}
 use Rattle.dir_tree.specs.declared.scope.Scope.TheVariants.{One, Sub}
 use Rattle.dir_tree.proofs.NameLemmas.{same_like, before_not_same, superior_before, length-same}
+use Rattle.dir_tree.proofs.EntryOfLemmas.{other_number}
 use Rattle.dir_tree.proofs.NumberedLemmas.{find_none, found_row, found_later, all_known_entry, put_row-without, keep_all, entries_of-others}
 use Rattle.dir_tree.proofs.OrderLemmas.{taken_out-put_in}
 use Rattle.dir_tree.proofs.RootLemmas.{absent_from_sorted}
@@ -216,13 +216,6 @@ entry_of-found name (x ∷ rows) d = elim (cases_Bool (is_named name x.entry)) [
   | inr e ↦ rw e (further (find_name name rows) (other_number name x.id rows d.0) ∙ entry_of-found name rows d.1)
 ]
   where
-    other_number : (n : RdnSequence) (number : ℕ) (part : List Numbered) → AllByRecursion (λ later. later.id ≢ number) part → (id : ℕ) → find_name n part ≡ Some id → id ≢ number
-    other_number n number [] h id f = absurd cc
-    other_number n number (y ∷ part) h id f = elim (cases_Bool (is_named n y.entry)) [
-      | inl g ↦ (let is = same_Some y.id id (sym (ap (option_map (λ (row : Numbered). row.id)) (cond-true (is_named n y.entry) (Some y) (find (λ row. is_named n row.entry) part) g)) ∙ f) in λ e. h.0 (is ∙ e))
-      | inr g ↦ other_number n number part h.1 id (sym (ap (option_map (λ (row : Numbered). row.id)) (cond-false (is_named n y.entry) (Some y) (find (λ row. is_named n row.entry) part) g)) ∙ f)
-    ]
-
     further : (found : Option ℕ) → ((id : ℕ) → found ≡ Some id → id ≢ x.id) → option_and_then (λ id. entry_of id (x ∷ rows)) found ≡ option_and_then (λ id. entry_of id rows) found
     further None h = refl
     further (Some id) h = rw (ne_eqb x.id id (λ e. h id refl (sym e))) refl

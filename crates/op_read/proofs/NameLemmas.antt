@@ -1,15 +1,15 @@
 -- Entries by their names: an entry of a name is the only one, and names that are the same begin the same names.
-use Rattle.std.proofs.Common.{◌≡◌, inl, inr, Bool, true, ◌&&◌, List, [], ◌∷◌, ◌++◌, refl, ap, ◌∙◌, map, filter, length}
+use Rattle.std.proofs.Common.{◌≡◌, inl, inr, Bool, true, ◌&&◌, List, [], ◌∷◌, ◌++◌, refl, ap, ◌∙◌, map, filter}
 use Rattle.std.specs.Prelude.{◌==◌, ◌+◌}
 use Rattle.std.specs.List.{AllByRecursion}
 use Rattle.std.specs.declared.cmp.Ordering.TheVariants.{Less}
 use Rattle.std.proofs.lemmas.Bool.{cases_Bool}
 use Rattle.dn_names.specs.Names.{RdnSequence}
-use Rattle.dn_names.specs.NameOrder.{name_cmp, is_same, is_prefix_of}
+use Rattle.dn_names.specs.NameOrder.{name_cmp, is_same}
 use Rattle.dir_tree.specs.Entries.{EntryInformation}
 use Rattle.dir_tree.specs.Trees.{is_named, named_in, IsInOrder}
-use Rattle.dir_tree.specs.Scopes.{is_child, is_within}
-use Rattle.dir_tree.proofs.TreeTheorems.{length-same as length-like, prefix_same as prefix-like, later-other}
+use Rattle.dir_tree.specs.Scopes.{is_within}
+use Rattle.dir_tree.proofs.TreeTheorems.{prefix_same as prefix-like, later-other}
 use Rattle.read_model.specs.Views as views
 use Rattle.read_model.specs.Views.{Row}
 use Rattle.op_read.specs.Seeing.{one_or_none}
@@ -46,8 +46,3 @@ named-entries name (x ∷ xs) h = elim (cases_Bool (is_named name x)) [
 -- names that are the same begin the same names, and are as long
 pub within-like : (one other : RdnSequence) → is_same one other ≡ true → (entry : EntryInformation) → is_within one entry ≡ is_within other entry
 within-like one other e entry = prefix-like one other entry.name e
-
-pub child-like : (one other : RdnSequence) → is_same one other ≡ true → (entry : EntryInformation) → is_child one entry ≡ is_child other entry
-child-like one other e entry =
-    ap (λ b. b && (length entry.name == length one + 1)) (prefix-like one other entry.name e)
-    ∙ ap (λ n. is_prefix_of other entry.name && (length entry.name == n + 1)) (length-like one other e)

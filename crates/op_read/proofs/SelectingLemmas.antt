@@ -14,7 +14,7 @@ use Rattle.dir_tree.specs.Numbered.{Numbered, IsNumberedTree, entries_of, entrie
 use Rattle.dir_tree.specs.Scopes.{scoped, in_scope, is_child, is_within}
 use Rattle.dir_tree.specs.declared.scope.Scope.{Scope}
 use Rattle.dir_tree.specs.declared.scope.Scope.TheVariants.{Base, One, Sub}
-use Rattle.dir_tree.proofs.TreeTheorems.{scoped-One-entries, scoped-Sub-entries, has_name-find}
+use Rattle.dir_tree.proofs.TreeTheorems.{scoped-One-entries, scoped-Sub-entries, has_name-find, child_same}
 use Rattle.acdf_filters.specs.declared.asking.Requester.{Requester}
 use Rattle.ldap_msg.specs.declared.kinds.SearchRequest.{SearchRequest}
 use Rattle.ldap_msg.specs.declared.kinds.Reply.TheVariants as reply
@@ -26,7 +26,7 @@ use Rattle.op_asking.specs.Asking.{view_in}
 use Rattle.op_read.specs.Seeing.{row_in, one_or_none, scope_of}
 use Rattle.op_read.specs.Sending.{shown_among}
 use Rattle.op_read.proofs.ListLemmas.{filter-two, among}
-use Rattle.op_read.proofs.NameLemmas.{named-entries, child-like, within-like}
+use Rattle.op_read.proofs.NameLemmas.{named-entries, within-like}
 use Rattle.op_read.proofs.SeenLemmas.{named-found}
 
 -- the entries of a scope are those that it takes in
@@ -67,7 +67,7 @@ scope-entries scope id entry name rows tree known named = by (cases_Bool (scope 
         let is : scope_of scope ≡ One = rw (e, f) refl in
         ap (λ (s : Scope). entries_at rows (scoped s id rows)) is
         ∙ scoped-One-entries id entry rows tree known
-        ∙ sym (filter_agree (takes_in scope name) (is_child entry.name) (λ x. one-test scope name e f x ∙ child-like name entry.name same x) (entries_of rows))
+        ∙ sym (filter_agree (takes_in scope name) (is_child entry.name) (λ x. one-test scope name e f x ∙ child_same name entry.name x same) (entries_of rows))
     by (inr e) (inr f) =
         let is : scope_of scope ≡ Sub = rw (e, f) refl in
         ap (λ (s : Scope). entries_at rows (scoped s id rows)) is

@@ -12,10 +12,9 @@ use Rattle.dir_tree.specs.Entries.{EntryInformation}
 use Rattle.dir_tree.specs.Points.{is_access_subentry, access_subentries}
 use Rattle.dir_tree.specs.Trees.{is_named, named_in, superior_name, IsInOrder}
 use Rattle.dir_tree.specs.Numbered.{Numbered, IsNumberedTree, AreDistinct, entries_of, entry_of, find_name, without}
-use Rattle.dir_tree.proofs.TreeTheorems.{keep_all, not_same}
+use Rattle.dir_tree.proofs.TreeTheorems.{keep_all, not_same, same_over, same_back, other_number}
 use Rattle.schema_rules.specs.Checking.{IsSuperior, replaced, others}
 use Rattle.schema_rules.specs.Beside.{entry_beside}
-use Rattle.schema_rules.proofs.RootLemmas.{same_over}
 use Rattle.schema_rules.proofs.TreeLemmas.{superior-found}
 
 -- nor does that of the first take out one of the rest
@@ -81,21 +80,11 @@ none_after :
 none_after id name first [] same sorted = refl
 none_after id name first (row ∷ rows) same sorted =
     let apart : is_named name row.entry ≡ false =
-    false_from_ne_true _ (λ again. true≢false (sym (same_over name first.name row.entry.name same again) ∙ not_same first.name row.entry.name sorted.0)) in
+    false_from_ne_true _ (λ again. true≢false (sym (same_over first.name name row.entry.name (same_back name first.name same) again) ∙ not_same first.name row.entry.name sorted.0)) in
     elim (cases_Bool (row.id == id)) [
       | inl here ↦ rw here (none_after id name first rows same sorted.1)
       | inr other ↦ rw (other, apart) (none_after id name first rows same sorted.1)
     ]
-
--- the number found for a name among later rows is another
-other_number :
-    (name : RdnSequence) (number id : ℕ) (rows : List Numbered) → AllByRecursion (λ later. later.id ≢ number) rows
-    → find_name name rows ≡ Some id → id ≢ number
-other_number name number id [] apart found = absurd cc
-other_number name number id (row ∷ rows) apart found = elim (cases_Bool (is_named name row.entry)) [
-  | inl here ↦ let same : row.id ≡ id = same_Some row.id id (rw here at found) in λ e. apart.0 (same ∙ e)
-  | inr later ↦ other_number name number id rows apart.1 (rw later at found)
-]
 
 further :
     (old : Option ℕ) (row : Numbered) (rows : List Numbered) (found : Option ℕ) → ((id : ℕ) → found ≡ Some id → id ≢ row.id)
@@ -119,9 +108,9 @@ named_beside id name (row ∷ rows) sorted distinct = by (cases_Bool (is_named n
     by (inl named) (inr other) later =
         rw (named, other, ne_eqb id row.id (λ e. eqb-false row.id id other (sym e)), eq-eqb row.id row.id refl, named) refl
     by (inr apart) (inl here) later =
-        rw (apart, here) (further (Some id) row rows (find_name name rows) (λ number. other_number name row.id number rows distinct.0) ∙ later)
+        rw (apart, here) (further (Some id) row rows (find_name name rows) (λ number. other_number name row.id rows distinct.0 number) ∙ later)
     by (inr apart) (inr other) later =
-        rw (apart, other, apart) (further (Some id) row rows (find_name name rows) (λ number. other_number name row.id number rows distinct.0) ∙ later)
+        rw (apart, other, apart) (further (Some id) row rows (find_name name rows) (λ number. other_number name row.id rows distinct.0 number) ∙ later)
 
 -- so the superior
 pub superior_beside :

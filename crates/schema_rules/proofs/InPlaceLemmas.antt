@@ -9,12 +9,11 @@ use Rattle.dir_tree.specs.Entries.{EntryInformation, IsGoodAttributes}
 use Rattle.dir_tree.specs.Points.{is_point, is_subentry}
 use Rattle.dir_tree.specs.Scopes.{is_child}
 use Rattle.dir_tree.specs.Trees.{is_named, named_in, superior_name, put_in, taken_out}
-use Rattle.dir_tree.proofs.TreeTheorems.{tree-same_name, left_out as none_named, length-same, length-superior, filled, same_back, all_put as all_put_in}
+use Rattle.dir_tree.proofs.TreeTheorems.{tree-same_name, left_out as none_named, length-same, length-superior, filled, same_back, same_over, all_put as all_put_in}
 use Rattle.aci_item.specs.Rules.{broken_rule, has_other_structural, is_misplaced, is_past_limits, stands_wrong, stands_wrong_above, Meets, MeetsRules, AreGood}
 use Rattle.schema_rules.proofs.ListPlaceLemmas.{stands as stands_put, all_at}
 use Rattle.schema_rules.proofs.ListTakenLemmas.{stands as stands_taken, all_filter}
 use Rattle.schema_rules.proofs.RuleLemmas.{Meets-from_broken_rule, broken_rule-from_Meets, misplaced-past, limits-past}
-use Rattle.schema_rules.proofs.RootLemmas.{same_over}
 use Rattle.schema_rules.proofs.StayLemmas.{is_put}
 use Rattle.schema_rules.proofs.TakenLemmas.{taken_at, front_of_superior, limits-without}
 
@@ -62,7 +61,7 @@ module _ (old new : EntryInformation) (left : List EntryInformation) (same : is_
   child_of_old : (other : EntryInformation) → other.name ≢ [] → is_same (superior_name other.name) new.name ≡ true → is_child old.name other ≡ true
   child_of_old other named below =
       let above : is_same (superior_name other.name) old.name ≡ true =
-      same_over new.name (superior_name other.name) old.name (same_back (superior_name other.name) new.name below) same in
+      same_over (superior_name other.name) new.name old.name below same in
       let some = filled other.name named in
       let long = length-same (superior_name other.name) old.name above in
       let shorter = length-superior other.name in
@@ -91,7 +90,7 @@ module _ (old new : EntryInformation) (left : List EntryInformation) (same : is_
   rest_apart c d other at below =
       all_from (λ (entry : EntryInformation). is_named old.name entry ≡ false) (λ (entry : EntryInformation). is_same (superior_name other.name) entry.name ≡ false)
       (λ entry apart. false_from_ne_true _ (λ again.
-      true≢false (sym (same_over new.name old.name entry.name same (same_over (superior_name other.name) new.name entry.name below again)) ∙ apart)))
+      true≢false (sym (same_over old.name new.name entry.name (same_back new.name old.name same) (same_over new.name (superior_name other.name) entry.name (same_back (superior_name other.name) new.name below) again)) ∙ apart)))
       (c ++ d) (all_but (λ entry. is_named old.name entry ≡ false) c d other
       (subst (λ left. AllByRecursion (λ entry. is_named old.name entry ≡ false) left) at gone))
 
@@ -110,7 +109,7 @@ module _ (old new : EntryInformation) (left : List EntryInformation) (same : is_
       | inr apart ↦
           let apart_old : is_same (superior_name other.name) old.name ≡ false =
           false_from_ne_true _ (λ above. true≢false
-          (sym (same_over old.name (superior_name other.name) new.name (same_back (superior_name other.name) old.name above) (same_back new.name old.name same)) ∙ apart)) in
+          (sym (same_over (superior_name other.name) old.name new.name above (same_back new.name old.name same)) ∙ apart)) in
           misplaced-past r s new other apart ∙ ap (λ rest. is_misplaced None rest other) (is ∙ sym was)
           ∙ sym (misplaced-past p q old other apart_old) ∙ meets.placed
     ]

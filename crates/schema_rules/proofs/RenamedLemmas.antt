@@ -9,9 +9,9 @@ use Rattle.dn_names.specs.GoodNames.{IsGoodName}
 use Rattle.dir_tree.specs.Entries.{EntryInformation, IsGoodAttributes}
 use Rattle.dir_tree.specs.Scopes.{is_within}
 use Rattle.dir_tree.specs.Trees.{IsTree, is_named, is_below, has_name, has_below, named_in, superior_name, lacks_superior, put_in, taken_out}
-use Rattle.dir_tree.proofs.TreeTheorems.{all_under_suffix, all_named, at_base, has_superior, length-same, length-superior, filled, same_back}
+use Rattle.dir_tree.proofs.TreeTheorems.{all_under_suffix, all_named, at_base, has_superior, length-same, length-superior, filled, same_back, same_over}
 use Rattle.aci_item.specs.Rules.{broken_rule, AreGood}
-use Rattle.schema_rules.proofs.RootLemmas.{same_over, has_same}
+use Rattle.schema_rules.proofs.RootLemmas.{has_same}
 use Rattle.schema_rules.proofs.StayLemmas.{AreGood-put_in}
 use Rattle.schema_rules.proofs.TakenLemmas.{AreGood-taken_out}
 use Rattle.schema_rules.proofs.InPlaceLemmas.{unbroken_as_new}
@@ -26,7 +26,7 @@ kept_name gone name (entry ∷ entries) apart has =
       | inl here ↦
           let kept : is_named gone entry ≡ false =
           false_from_ne_true _ (λ same. true≢false
-          (sym (same_over entry.name gone name (same_back gone entry.name same) (same_back name entry.name here)) ∙ apart)) in
+          (sym (same_over gone entry.name name same (same_back name entry.name here)) ∙ apart)) in
           rw kept (or_left (is_named name entry) (has_name name (taken_out gone entries)) here)
       | inr later ↦
           let rest = kept_name gone name entries apart later in

@@ -4,15 +4,9 @@ use Rattle.std.specs.List.{AllByRecursion}
 use Rattle.std.proofs.lemmas.Bool.{or_cases, or_left, or_right, not-false, true≢false, false_from_ne_true}
 use Rattle.dn_names.specs.Names.{RdnSequence}
 use Rattle.dn_names.specs.NameOrder.{is_same}
-use Rattle.dn_names.proofs.Theorems.{is_same-types_and_keys}
 use Rattle.dir_tree.specs.Entries.{EntryInformation}
 use Rattle.dir_tree.specs.Trees.{IsTree, has_name, lacks_superior, superior_name}
-use Rattle.dir_tree.proofs.TreeTheorems.{length-same, length-superior, filled}
-
--- two names that one is the same as are the same
-pub same_over : (x y z : RdnSequence) → is_same x y ≡ true → is_same x z ≡ true → is_same y z ≡ true
-same_over x y z one other =
-    (is_same-types_and_keys y z).1 (sym ((is_same-types_and_keys x y).0 one) ∙ (is_same-types_and_keys x z).0 other)
+use Rattle.dir_tree.proofs.TreeTheorems.{length-same, length-superior, filled, same_over, same_back}
 
 -- each other of the list has its superior in all, and a name
 abbrev IsBelow : List EntryInformation → EntryInformation → Type 0
@@ -74,7 +68,7 @@ pub has_same :
 has_same name new [] same has = has
 has_same name new (other ∷ entries) same has =
     elim (or_cases (is_same name other.name) (has_name name entries) has) [
-      | inl here ↦ or_left _ _ (same_over name new other.name same here)
+      | inl here ↦ or_left _ _ (same_over new name other.name (same_back name new same) here)
       | inr later ↦ or_right _ _ (has_same name new entries same later)
     ]
 

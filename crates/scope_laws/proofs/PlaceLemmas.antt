@@ -13,7 +13,7 @@ use Rattle.dir_tree.specs.Entries.{EntryInformation}
 use Rattle.dir_tree.specs.Trees.{is_before}
 use Rattle.dir_tree.specs.Points.{is_access_subentry}
 use Rattle.dir_tree.specs.Scopes.{is_child}
-use Rattle.dir_tree.proofs.TreeTheorems.{length-same, begins, begins_both, prefix_same}
+use Rattle.dir_tree.proofs.TreeTheorems.{begins_both, child_same}
 use Rattle.subtree_spec.specs.Subtrees.{Subtree}
 use Rattle.subtree_spec.specs.Membership.{holds_below, holds_rest}
 use Rattle.admin_scope.specs.Refinements.{holds, meets_filter}
@@ -57,11 +57,6 @@ subtree_holds-same x y subentry entry e = by (subtree_of_entry subentry)
         ≡ option_map_or (λ subtree. holds subtree y.name entry) o false
     by None = refl
     by (Some subtree) = holds-same subtree x.name y.name entry e
-
-child_same : (x y : RdnSequence) (entry : EntryInformation) → is_same x y ≡ true → is_child x entry ≡ is_child y entry
-child_same x y entry e =
-    ap (λ (b : Bool). b && (length entry.name == length x + 1)) (prefix_same x y entry.name e)
-    ∙ ap (λ (n : ℕ). is_prefix_of y entry.name && (length entry.name == n + 1)) (length-same x y e)
 
 -- the same is in force under points of the same name
 pub reaches-same : (x y subentry entry : EntryInformation) → is_same x.name y.name ≡ true
