@@ -1,11 +1,11 @@
 -- Filters of a list, and of what is said of each of its elements.
-use Rattle.std.proofs.Common.{◌≡◌, ℕ, suc, ◌≤◌, ◌==◌, Bool, true, false, ◌&&◌, ◌||◌, List, [], ◌∷◌, length, map, filter, refl, sym, ap, ◌∙◌, arith, inl, inr}
+use Rattle.std.proofs.Common.{◌≡◌, ℕ, suc, ◌≤◌, ◌==◌, Bool, true, false, ◌&&◌, ◌||◌, List, [], ◌∷◌, length, map, filter, refl, sym, ap, ◌∙◌, arith}
 use Rattle.std.specs.Prelude.{min, if◌then◌else◌}
 use Rattle.std.specs.List.{list_any, list_all}
-use Rattle.std.proofs.lemmas.Bool.{cases_Bool}
 use Rattle.acdf_filters.specs.Choices.{greatest, least, highest, lowest, passing_or_all, is_filled}
 use Rattle.acdf_core.specs.declared.facts.Facts.{Facts}
 use Rattle.acdf_core.specs.Candidates.{staying, covering, permitted, foremost, most_specific, deciding}
+use Rattle.base_laws.proofs.Theorems.{filter-map}
 
 pub map-both : {A B C : Type 0} (f : A → B) (g : B → C) (xs : List A) → map (λ x. g (f x)) xs ≡ map g (map f xs)
 map-both f g [] = refl
@@ -19,21 +19,14 @@ same_length f g xs ys e = sym (counted f xs) ∙ ap length e ∙ counted g ys
     counted h [] = refl
     counted h (z ∷ zs) = ap suc (counted h zs)
 
-pub filter-mapped : {A B : Type 0} (f : A → B) (p : B → Bool) (xs : List A) → map f (filter (λ x. p (f x)) xs) ≡ filter p (map f xs)
-filter-mapped f p [] = refl
-filter-mapped f p (x ∷ xs) = elim (cases_Bool (p (f x))) [
-  | inl e ↦ rw (e, filter-mapped f p xs) refl
-  | inr e ↦ rw e (filter-mapped f p xs)
-]
-
 highest-mapped : {A B : Type 0} (f : A → B) (key : B → ℕ) (xs : List A) → map f (highest (λ x. key (f x)) xs) ≡ highest key (map f xs)
 highest-mapped f key xs =
-    filter-mapped f (λ y. key y == greatest (map (λ x. key (f x)) xs)) xs
+    filter-map f (λ y. key y == greatest (map (λ x. key (f x)) xs)) xs
     ∙ ap (λ keys. filter (λ y. key y == greatest keys) (map f xs)) (map-both f key xs)
 
 lowest-mapped : {A B : Type 0} (f : A → B) (key : B → ℕ) (xs : List A) → map f (lowest (λ x. key (f x)) xs) ≡ lowest key (map f xs)
 lowest-mapped f key xs =
-    filter-mapped f (λ y. key y == least (map (λ x. key (f x)) xs)) xs
+    filter-map f (λ y. key y == least (map (λ x. key (f x)) xs)) xs
     ∙ ap (λ keys. filter (λ y. key y == least keys) (map f xs)) (map-both f key xs)
 
 any-mapped : {A B : Type 0} (f : A → B) (p : B → Bool) (xs : List A) → list_any (λ x. p (f x)) xs ≡ list_any p (map f xs)
@@ -46,21 +39,21 @@ passing-mapped f p xs =
     ∙ ap (λ b. if b then filter p (map f xs) else map f xs) (any-mapped f p xs)
   where
     both : (b : Bool) → map f (if b then filter (λ x. p (f x)) xs else xs) ≡ (if b then filter p (map f xs) else map f xs)
-    both true = filter-mapped f p xs
+    both true = filter-map f p xs
     both false = refl
 
 -- each filter by facts
 pub staying-mapped : {A B : Type 0} (f : A → B) (facts : B → Facts) (xs : List A) → map f (staying (λ x. facts (f x)) xs) ≡ staying facts (map f xs)
-staying-mapped f facts xs = filter-mapped f (λ y. (facts y).stays) xs
+staying-mapped f facts xs = filter-map f (λ y. (facts y).stays) xs
 
 pub covering-mapped : {A B : Type 0} (f : A → B) (facts : B → Facts) (xs : List A) → map f (covering (λ x. facts (f x)) xs) ≡ covering facts (map f xs)
 covering-mapped f facts xs =
-    filter-mapped f (λ y. (facts y).covers) (staying (λ x. facts (f x)) xs)
+    filter-map f (λ y. (facts y).covers) (staying (λ x. facts (f x)) xs)
     ∙ ap (filter (λ y. (facts y).covers)) (staying-mapped f facts xs)
 
 pub permitted-mapped : {A B : Type 0} (f : A → B) (facts : B → Facts) (xs : List A) → map f (permitted (λ x. facts (f x)) xs) ≡ permitted facts (map f xs)
 permitted-mapped f facts xs =
-    filter-mapped f (λ y. (facts y).permitted) (covering (λ x. facts (f x)) xs)
+    filter-map f (λ y. (facts y).permitted) (covering (λ x. facts (f x)) xs)
     ∙ ap (filter (λ y. (facts y).permitted)) (covering-mapped f facts xs)
 
 pub foremost-mapped : {A B : Type 0} (f : A → B) (facts : B → Facts) (xs : List A) → map f (foremost (λ x. facts (f x)) xs) ≡ foremost facts (map f xs)

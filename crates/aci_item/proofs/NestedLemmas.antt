@@ -2,6 +2,7 @@
 use Rattle.std.proofs.Common.{◌≡◌, ℕ, ◌≤◌, suc, Bool, true, false, List, [], ◌∷◌, refl, ap, arith}
 use Rattle.std.specs.Prelude.{Option, Some, None, ◌&&◌, if◌then◌else◌}
 use Rattle.std.specs.Str.{bytes_eq}
+use Rattle.std.proofs.lemmas.Option.{same_Some}
 use Rattle.gser_tree.specs.declared.part.Part.{Part}
 use Rattle.gser_tree.specs.Lexemes.{Lexeme}
 use Rattle.gser_tree.specs.Shapes as shapes
@@ -71,10 +72,7 @@ null_nest (shapes.Chosen part value) h = cc
 
 -- members that are the same are equally deep
 same_rest : (one other : List Shape) → Some one ≡ Some other → nest_in (gathered one) ≡ nest_in (gathered other)
-same_rest one other h = ap (λ r. nest_in (gathered r)) (unwrapped one other h)
-  where
-    unwrapped : (one other : List Shape) → Some one ≡ Some other → one ≡ other
-    unwrapped one other h = cc
+same_rest one other h = ap (λ r. nest_in (gathered r)) (same_Some one other h)
 
 -- a component without a value of its own
 flag_nest : (deep : ℕ) (name : List ℕ) (members rest : List Shape) → flag name members ≡ Some rest → nest_in (gathered rest) ≤ deep → nest_in (gathered members) ≤ deep
@@ -102,10 +100,7 @@ pub flagged_leaves : (deep : ℕ) (name : List ℕ) (members : List Shape) → L
 flagged_leaves deep name members bad found h behind = inner (flag name members) refl h
   where
     same : (one other : Found (Behind Bool)) → Some one ≡ Some other → nest_in (gathered one.value.rest) ≡ nest_in (gathered other.value.rest)
-    same one other h = ap (λ (f : Found (Behind Bool)). nest_in (gathered f.value.rest)) (unwrapped one other h)
-      where
-        unwrapped : (one other : Found (Behind Bool)) → Some one ≡ Some other → one ≡ other
-        unwrapped one other h = cc
+    same one other h = ap (λ (f : Found (Behind Bool)). nest_in (gathered f.value.rest)) (same_Some one other h)
 
     inner : (there : Option (List Shape)) → flag name members ≡ there → give (flag_by members there) bad ≡ Some found → nest_in (gathered members) ≤ deep
     inner None is h = let left = same (record { value = flag_by members None; bad = bad }) found h in omega (arith, left, behind)

@@ -10,6 +10,7 @@ use Rattle.match_rules.specs.Syntaxes.{is_of}
 use Rattle.schema_core.specs.Attributes.{attributes, IsAttrId, syntax_of}
 use Rattle.dn_names.specs.Names.{Keyed}
 use Rattle.dn_names.specs.NameValues.{value_of, value_key}
+use Rattle.dn_names.proofs.Theorems.{value_of-octets}
 use Rattle.gser_tree.specs.declared.part.Part.{Part}
 use Rattle.gser_tree.specs.Looking.{word_in}
 use Rattle.gser_tree.specs.Reading.{Found, expect, part, noted, is_number, at_most, number, nothing_left, ◌>>=◌}
@@ -69,20 +70,11 @@ pub left_misfits : {A : Type 0} (trees : List Tree) (value : A) (bad : Option �
 left_misfits [] value bad h = absurd cc
 left_misfits (tree ∷ trees) value bad h = refl
 
--- the octets of a value are those that it was made of
-value_octets : (kind : ℕ) (octets : List ℕ) (value : Keyed) → value_of kind octets ≡ Some value → value.octets ≡ octets
-unfolding value_of
-value_octets kind octets value h = inner (option_and_then (λ syntax. value_key syntax octets) (syntax_of kind)) h
-  where
-    inner : (key : Option (List ℕ)) → option_map (λ (k : List ℕ). record { octets = octets; key = k }) key ≡ Some value → value.octets ≡ octets
-    inner None h = absurd cc
-    inner (Some key) h = cc
-
 -- a value that is made of a text is a text
 pub text_value : (kind : ℕ) (octets text : List ℕ) (value : Keyed) → value_of kind octets ≡ Some value → octets ≡ text → IsUtf8 text
     → is_utf8 value.octets ≡ true
 text_value kind octets text value made is good =
-    ap is_utf8 (value_octets kind octets value made ∙ is) ∙ is_utf8-from_IsUtf8 text good
+    ap is_utf8 (value_of-octets kind octets value made ∙ is) ∙ is_utf8-from_IsUtf8 text good
 
 pub no_octets_text : (value : Keyed) → value ≡ no_octets → is_utf8 value.octets ≡ true
 no_octets_text value is = ap (λ (v : Keyed). is_utf8 v.octets) is ∙ is_utf8-from_IsUtf8 [] IsUtf8-nil

@@ -8,6 +8,7 @@ use Rattle.schema_core.proofs.Theorems.{IsAttrId-from_attr_of}
 use Rattle.dn_names.specs.GoodNames.{IsGoodName}
 use Rattle.dn_names.specs.Names.{Keyed}
 use Rattle.dn_names.specs.NameValues.{value_key, value_of}
+use Rattle.dn_names.proofs.Theorems.{value_of-octets}
 use Rattle.gser_tree.specs.declared.part.Part.{Part}
 use Rattle.gser_tree.specs.Looking.{chosen_in, members_in, word_in, string_in}
 use Rattle.gser_tree.specs.Reading.{expect, give, part, required}
@@ -92,19 +93,6 @@ kind_is_good shape =
         (λ word. gives_choice (λ _. Unit {0} → Unit {0}) (is_oid word.text) (give word) (λ bad. None)
         (λ _. gives_value (λ _. Unit {0} → Unit {0}) word (λ _. tt)) (λ _. gives_nothing (λ _. Unit {0} → Unit {0})))
 
-value_of-octets : (number : ℕ) (octets : List ℕ) (value : Keyed) → value_of number octets ≡ Some value → octets ≡ value.octets
-unfolding value_of
-value_of-octets number octets value h = inner (option_and_then (λ syntax. value_key syntax octets) (syntax_of number)) h
-  where
-    inner : (key : Option (List ℕ)) → option_map (λ (key : List ℕ). record { octets = octets; key = key }) key ≡ Some value → octets ≡ value.octets
-    inner None h = cc
-    inner (Some key) h =
-        let same : record { octets = octets; key = key } ≡ value = unwrapped (record { octets = octets; key = key }) value h in
-        ap (λ (v : Keyed). v.octets) same
-      where
-        unwrapped : (one other : Keyed) → Some one ≡ Some other → one ≡ other
-        unwrapped one other h = cc
-
 abbrev IsValueOf : ℕ → Keyed → Type 0
 IsValueOf number value = (value_of number value.octets ≡ Some value) × (is_utf8 value.octets ≡ true)
 
@@ -116,7 +104,7 @@ assertion_is_good number shape =
     (λ string. gives_part (λ value. (HasTexts shape → is_utf8 string.text ≡ true) → HasTexts shape → IsValueOf number value) string.place no_octets
     (value_of number string.text)
     (λ value is h texts.
-    let same = value_of-octets number string.text value is in
+    let same = sym (value_of-octets number string.text value is) in
     (ap (value_of number) (sym same) ∙ is, ap is_utf8 (sym same) ∙ h texts)))
 
 pub value_is_good : OnlyTexts IsGoodValue kind_and_value

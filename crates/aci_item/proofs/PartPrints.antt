@@ -1,19 +1,18 @@
 -- Printed levels, users, attribute types, values and subtrees are read as they were.
-use Prim.Native.Nat.{zero}
-use Rattle.std.proofs.Common.{◌≡◌, ℕ, suc, ◌≤◌, Bool, true, List, [], ◌∷◌, Option, Some, None, codes, refl, sym, ap, ◌∙◌, arith}
+use Rattle.std.proofs.Common.{◌≡◌, ℕ, suc, ◌≤◌, true, List, [], ◌∷◌, Option, Some, None, codes, refl, ap, ◌∙◌, arith}
 use Rattle.std.specs.Option.{option_map_or}
-use Rattle.std.specs.Prelude.{find, option_and_then, option_map, slice_get}
+use Rattle.std.specs.Prelude.{find, option_and_then, option_map}
 use Rattle.std.specs.List.{list_all}
 use Rattle.std.specs.Str.{bytes_eq}
-use Rattle.std.proofs.lemmas.Bool.{and_parts, or_right}
-use Rattle.schema_core.specs.Attributes.{Attribute, attributes, name_of, IsAttrId}
+use Rattle.std.proofs.lemmas.Bool.{or_right}
+use Rattle.schema_core.specs.Attributes.{attributes, name_of, IsAttrId}
 use Rattle.schema_core.specs.Naming.{is_keystring}
 use Rattle.schema_core.specs.Oid.{is_dotted_oid}
 use Rattle.schema_core.proofs.Theorems.{attribute_at-Some, attr_of-name_of, is_keystring-name_of}
 use Rattle.dn_names.specs.GoodNames.{IsGoodName}
 use Rattle.dn_names.specs.Names.{RdnSequence, TypeAndValue}
-use Rattle.gser_tree.specs.Lexemes.{Lexeme, class_of, is_word}
-use Rattle.gser_tree.specs.Reading.{Found, Read}
+use Rattle.gser_tree.specs.Lexemes.{class_of, is_word}
+use Rattle.gser_tree.specs.Reading.{Found}
 use Rattle.gser_tree.specs.Shapes.{Shape}
 use Rattle.gser_tree.specs.Writing.{print_braces, print_component, print_number, print_string, print_word}
 use Rattle.gser_tree.proofs.Theorems.{listed_gathered, IsRead, Prints, PrintsOptional, RequiredRead, braces_are_written, choice_is_written, none_are_written, number_prints, required_is_written, string_is_written, word_is_written}
@@ -22,7 +21,7 @@ use Rattle.subtree_spec.specs.Parts.{name, is_oid, oid}
 use Rattle.subtree_spec.specs.SubtreePrinted.{print_dn, print_subtree}
 use Rattle.subtree_spec.specs.SubtreeText.{there}
 use Rattle.subtree_spec.specs.Subtrees.{Subtree}
-use Rattle.subtree_spec.proofs.Theorems.{name_prints}
+use Rattle.subtree_spec.proofs.Theorems.{name_prints, there_prints}
 use Rattle.subtree_spec.proofs.Theorems.{subtree_prints}
 use Rattle.aci_item.specs.declared.level.Level.{Level}
 use Rattle.aci_item.specs.declared.level.Level.TheVariants.{Anyone, Simple, Strong}
@@ -31,6 +30,7 @@ use Rattle.aci_item.specs.GoodItems.{IsGoodClassSubtree, IsGoodValue}
 use Rattle.aci_item.specs.ItemParts.{assertion, basic_levels, class_subtree, kind, kind_and_value, level, level_word, named_user, unrefined, user}
 use Rattle.aci_item.specs.ItemPrinted.{level_name, print_kind, print_level, print_user, print_value}
 use Rattle.aci_item.specs.Levels.{levels}
+use Rattle.base_laws.proofs.Theorems.{passes_at}
 
 -- ---- words
 
@@ -108,12 +108,6 @@ names_are_words : list_all (λ row. is_word row.name) attributes ≡ true
 unfolding attributes class_of
 names_are_words = refl
 
-passes_at : (P : Attribute → Bool) (rows : List Attribute) (number : ℕ) (row : Attribute) → list_all P rows ≡ true → slice_get rows number ≡ Some row → P row ≡ true
-passes_at P [] number row all there = absurd cc
-passes_at P (first ∷ rows) zero row all there =
-    let same : first ≡ row = cc in ap P (sym same) ∙ (and_parts (P first) (list_all P rows) all).0
-passes_at P (first ∷ rows) (suc number) row all there = passes_at P rows number row (and_parts (P first) (list_all P rows) all).1 there
-
 is_word-name_of : (number : ℕ) → IsAttrId number → is_word (name_of number) ≡ true
 is_word-name_of number within =
     let row = attribute_at-Some number within in
@@ -162,12 +156,6 @@ class_subtree_prints spec good = λ place.
     }
 
 -- ---- precedences
-
-there_prints : {A : Type 0} (most : ℕ) (reader : Shape → Read A) (lexemes : List Lexeme) (value : A) → Prints most reader lexemes value
-    → Prints most (there reader) lexemes (Some value)
-there_prints most reader lexemes value prints = λ place.
-    let inner = prints place in
-    record { shape = inner.shape; proper = inner.proper; placed = inner.placed; nested = inner.nested; has = λ bad. rw (inner.has bad) refl }
 
 pub precedence_prints : (most number : ℕ) → number ≤ 255 → Prints most precedence (print_number number) number
 precedence_prints most number fits = number_prints most 255 number fits (omega (arith, fits))

@@ -4,6 +4,7 @@ use Rattle.std.specs.Prelude as std
 use Rattle.std.specs.List.{AllByRecursion}
 use Rattle.std.specs.Str.{is_utf8, bytes_eq}
 use Rattle.std.specs.Prelude.{◌&&◌, if◌then◌else◌}
+use Rattle.std.proofs.lemmas.Option.{same_Some}
 use Rattle.gser_tree.specs.declared.part.Part.{Part}
 use Rattle.gser_tree.specs.Looking.{Behind, chosen_in, component, flag, is_null, members_in, string_in}
 use Rattle.gser_tree.specs.Shapes.{Shape, Shapes, Word, Quoted, Braces, Named, Chosen, None, Some, listed}
@@ -42,12 +43,9 @@ members_texts (Chosen part shape) members is texts = absurd cc
 
 pub chosen_texts : (shape : Shape) (chosen : Part × Shape) → chosen_in shape ≡ std.Some chosen → HasTexts shape → HasTexts chosen.1
 chosen_texts (Chosen part inner) chosen is texts =
-    let same : (part, inner) ≡ chosen = unwrapped (part, inner) chosen is in
+    let same : (part, inner) ≡ chosen = same_Some (part, inner) chosen is in
     let Texts : Part × Shape → Type 0 = λ c. HasTexts c.1 in
     subst Texts same texts
-  where
-    unwrapped : (one other : Part × Shape) → std.Some one ≡ std.Some other → one ≡ other
-    unwrapped one other h = cc
 chosen_texts (Word part) chosen is texts = absurd cc
 chosen_texts (Quoted part) chosen is texts = absurd cc
 chosen_texts (Braces shapes) chosen is texts = absurd cc

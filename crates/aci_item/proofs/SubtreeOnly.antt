@@ -31,9 +31,6 @@ ends_behind first [] shape h = absurd cc
 ends_behind first (next ∷ rest) shape h =
     ap (slice_get (first ∷ next ∷ rest)) (one_less (suc (length rest))) ∙ sym (ap (slice_get (next ∷ rest)) (one_less (length rest))) ∙ h
 
-unwrapped : {A : Type 0} (one other : A) → Some one ≡ Some other → one ≡ other
-unwrapped one other h = cc
-
 -- a component that was found was the first of the members
 found_first : (name : List ℕ) (members : List Shape) (found : Behind Shape) → component name members ≡ Some found
     → (part : Part) × (members ≡ Named part found.value ∷ found.rest)
@@ -43,7 +40,7 @@ found_first name (Named part shape ∷ rest) found h = inner (bytes_eq part.text
     inner : (b : Bool) → (if b then Some (record { value = shape; rest = rest }) else None) ≡ Some found
         → (other : Part) × (Named part shape ∷ rest ≡ Named other found.value ∷ found.rest)
     inner true h =
-        let same = unwrapped (record { value = shape; rest = rest }) found h in
+        let same = same_Some (record { value = shape; rest = rest }) found h in
         (part, ap (λ (f : Behind Shape). Named part f.value ∷ f.rest) same)
     inner false h = absurd cc
 found_first name (Word part ∷ rest) found h = absurd cc
@@ -59,11 +56,11 @@ optional_ends {A} name absent reader members bad found h = inner (component name
     inner : (there : Option (Behind Shape)) → ((one : Behind Shape) → there ≡ Some one → (part : Part) × (members ≡ Named part one.value ∷ one.rest))
         → present absent reader members there bad ≡ Some found → Ends members found.value.rest
     inner None first h =
-        let same = unwrapped (record { value = record { value = absent; rest = members }; bad = bad }) found h in
+        let same = same_Some (record { value = record { value = absent; rest = members }; bad = bad }) found h in
         subst (λ (f : Found (Behind A)). Ends members f.value.rest) same (λ shape last. last)
     inner (Some one) first h =
         let both = both_read (reader one.value) (λ (value : A). give (record { value = value; rest = one.rest })) bad found h in
-        let same = unwrapped (record { value = record { value = both.0.value; rest = one.rest }; bad = both.0.bad }) found both.2 in
+        let same = same_Some (record { value = record { value = both.0.value; rest = one.rest }; bad = both.0.bad }) found both.2 in
         let front = first one refl in
         subst (λ (f : Found (Behind A)). Ends members f.value.rest) same
         (subst (λ (m : List Shape). Ends m one.rest) (sym front.1) (ends_behind (Named front.0 one.value) one.rest))
@@ -93,12 +90,12 @@ filter_last members bad found choice h some ends =
     inner : (there_is : Option (Behind Shape)) → ((one : Behind Shape) → there_is ≡ Some one → (part : Part) × (members ≡ Named part one.value ∷ one.rest))
         → present None (there (refinement 64)) members there_is bad ≡ Some found → LastIsChosen members
     inner None first h =
-        let same = unwrapped (record { value = record { value = None; rest = members }; bad = bad }) found h in
+        let same = same_Some (record { value = record { value = None; rest = members }; bad = bad }) found h in
         let never : None ≡ Some choice = ap (λ (f : Found (Behind (Option Choice))). f.value.value) same ∙ some in
         absurd cc
     inner (Some one) first h =
         let both = both_read (there (refinement 64) one.value) (λ (value : Option Choice). give (record { value = value; rest = one.rest })) bad found h in
-        let same = unwrapped (record { value = record { value = both.0.value; rest = one.rest }; bad = both.0.bad }) found both.2 in
+        let same = same_Some (record { value = record { value = both.0.value; rest = one.rest }; bad = both.0.bad }) found both.2 in
         let left : one.rest ≡ [] = ap (λ (f : Found (Behind (Option Choice))). f.value.rest) same ∙ ends in
         let read = both_read (refinement 64 one.value) (λ value. give (Some value)) bad both.0 both.1 in
         let chosen = refinement_chosen 64 one.value bad read.0 read.1 in
@@ -114,7 +111,7 @@ components_last members bad found choice h some ends =
     let minimum = both_read (optional (codes "minimum") 0 distance chops.0.value.rest) _ chops.0.bad found chops.2 in
     let maximum = both_read (optional (codes "maximum") None (there distance) minimum.0.value.rest) _ minimum.0.bad found minimum.2 in
     let filter = both_read (optional (codes "specificationFilter") None (there (refinement 64)) maximum.0.value.rest) _ maximum.0.bad found maximum.2 in
-    let same = unwrapped _ found filter.2 in
+    let same = same_Some _ found filter.2 in
     let last = filter_last maximum.0.value.rest maximum.0.bad filter.0 choice filter.1 (ap (λ (f : Found (Behind Subtree)). f.value.value.filter) same ∙ some)
     (ap (λ (f : Found (Behind Subtree)). f.value.rest) same ∙ ends) in (
       last.0,
@@ -129,7 +126,7 @@ components_last members bad found choice h some ends =
 
 was_left : {A : Type 0} (members : List Shape) (value : A) (bad : Option ℕ) (found : Found A) → nothing_left members value bad ≡ Some found
     → (members ≡ []) × (record { value = value; bad = bad } ≡ found)
-was_left [] value bad found h = (refl, unwrapped _ found h)
+was_left [] value bad found h = (refl, same_Some _ found h)
 was_left (shape ∷ members) value bad found h = absurd cc
 
 place_by : (shape : Shape) (members : List Shape) (part : Part) (value : Shape) (chosen : Part × Shape) → members_in shape ≡ Some members

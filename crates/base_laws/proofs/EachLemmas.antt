@@ -1,7 +1,7 @@
 -- What holds of each element of a list.
-use Rattle.std.proofs.Common.{◌≡◌, inl, inr, Bool, false, List, [], ◌∷◌, ◌++◌, refl, filter}
-use Rattle.std.specs.List.{AllByRecursion, list_any}
-use Rattle.std.proofs.lemmas.Bool.{cases_Bool, or_parts, or_from}
+use Rattle.std.proofs.Common.{◌≡◌, ℕ, zero, suc, inl, inr, Bool, true, false, List, [], ◌∷◌, ◌++◌, Option, Some, slice_get, refl, sym, ap, ◌∙◌, filter}
+use Rattle.std.specs.List.{AllByRecursion, list_any, list_all}
+use Rattle.std.proofs.lemmas.Bool.{cases_Bool, or_parts, or_from, and_parts}
 
 -- what holds of each value holds of each of the list
 pub all_true : {A : Type 0} (P : A → Type 0) → ((x : A) → P x) → (xs : List A) → AllByRecursion P xs
@@ -39,3 +39,12 @@ none_passes p (x ∷ xs) e = let parts = or_parts (p x) (list_any p xs) e in (pa
 pub list_any-none : {A : Type 0} (p : A → Bool) (xs : List A) → AllByRecursion (λ x. p x ≡ false) xs → list_any p xs ≡ false
 list_any-none p [] h = refl
 list_any-none p (x ∷ xs) h = or_from (p x) (list_any p xs) h.0 (list_any-none p xs h.1)
+
+-- an element at a place passes what each passes
+pub passes_at :
+    {A : Type 0} (test : A → Bool) (xs : List A) (place : ℕ) (x : A) → list_all test xs ≡ true → slice_get xs place ≡ Some x
+    → test x ≡ true
+passes_at test [] place x all there = absurd cc
+passes_at test (first ∷ xs) zero x all there =
+    let same : first ≡ x = cc in ap test (sym same) ∙ (and_parts (test first) (list_all test xs) all).0
+passes_at test (first ∷ xs) (suc place) x all there = passes_at test xs place x (and_parts (test first) (list_all test xs) all).1 there

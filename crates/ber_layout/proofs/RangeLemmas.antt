@@ -8,18 +8,18 @@ use Rattle.ber_layout.specs.Layouts.Layout.{AnyOctets, Ignored, Number, Skipped,
 use Rattle.ber_layout.specs.Ranges.{Within}
 
 -- an element is no shorter than its content
-element_longer : (tag : ℕ) (content : List ℕ) → length content ≤ length (element_octets tag content)
+pub element_longer : (tag : ℕ) (content : List ℕ) → length content ≤ length (element_octets tag content)
 unfolding element_octets
 element_longer tag content = omega (arith, length-append (header_octets tag (length content)) content)
 
 -- the front and the back of short octets are short
-front_short : (front back : List ℕ) → IsShort (front ++ back) → IsShort front
+pub front_short : (front back : List ℕ) → IsShort (front ++ back) → IsShort front
 front_short front back short = omega (arith, length-append front back, short)
 
-back_short : (front back : List ℕ) → IsShort (front ++ back) → IsShort back
+pub back_short : (front back : List ℕ) → IsShort (front ++ back) → IsShort back
 back_short front back short = omega (arith, length-append front back, short)
 
-content_short : (tag : ℕ) (content : List ℕ) → IsShort (element_octets tag content) → IsShort content
+pub content_short : (tag : ℕ) (content : List ℕ) → IsShort (element_octets tag content) → IsShort content
 content_short tag content short = omega (arith, element_longer tag content, short)
 
 may_fit : {A : Type 0} (value : Option A) (tag : ℕ) (content : A → List ℕ) (In Fit : A → Type 0) → ((part : A) → In part → IsShort (content part) → Fit part)

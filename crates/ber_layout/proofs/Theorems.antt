@@ -11,7 +11,7 @@ pub use Rattle.ber_layout.proofs.PieceLemmas.{piece_sound, piece_again}
 -- an element with a tag that is read stands there, and one that stands there is read
 pub use Rattle.ber_layout.proofs.ComponentLemmas.{Stands, follows, required_sound, required_again}
 -- a value in its ranges fits where all that is written of it is short
-pub use Rattle.ber_layout.proofs.RangeLemmas.{fits_within}
+pub use Rattle.ber_layout.proofs.RangeLemmas.{fits_within, element_longer, content_short, front_short, back_short}
 -- an element at the front that is read stands there, and one that stands there is read
 pub use Rattle.ber_layout.proofs.ComponentLemmas.{any_sound, any_again}
 -- a fault of a part is one of the whole

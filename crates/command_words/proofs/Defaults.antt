@@ -1,6 +1,7 @@
 -- What the defaults at the end of a parse change: a flag that isn't given is kept as `false`.
 use Rattle.std.proofs.Common.{◌≡◌, ◌∙◌, ◌||◌, ℕ, Bool, true, false, cond, List, [], ◌∷◌, map, length, Option, is_some, true≢false, refl, sym, ap, subst}
 use Rattle.std.specs.Prelude.{bytes_eq, codes, fold, slice_get}
+use Rattle.std.proofs.Math.Bool.{or-true}
 use Rattle.clap.specs.Walk.{Row as Kept, Text, all_of, has_row, with_default}
 use Rattle.clap.specs.Kinds.{Kinds, or_else}
 use Rattle.clap.specs.Faults.{check_fault, default_fault, defaults_fault}
@@ -106,13 +107,9 @@ plain-passes : (b : Bool) (kinds : Kinds) → kinds ≡ [] → cond b [] kinds �
 plain-passes true kinds none = refl
 plain-passes false kinds none = none
 
-or_true : (b : Bool) → (b || true) ≡ true
-or_true true = refl
-or_true false = refl
-
 default-passes : (name : OptionName) (rows : List Kept) → default_fault rows (option name) ≡ []
-default-passes options.Sessions rows = rw (or_true (has_row (option_word options.Sessions) rows)) refl
-default-passes options.Turns rows = rw (or_true (has_row (option_word options.Turns) rows)) refl
+default-passes options.Sessions rows = rw (or-true (has_row (option_word options.Sessions) rows)) refl
+default-passes options.Turns rows = rw (or-true (has_row (option_word options.Turns) rows)) refl
 default-passes options.Dump rows = plain-passes (has_row (option_word options.Dump) rows || false) [] refl
 
 defaults-pass : (names : List OptionName) (rows : List Kept) → defaults_fault rows (map option names) ≡ []
@@ -121,7 +118,7 @@ defaults-pass [] rows = refl
 defaults-pass (name ∷ names) rows = ap (λ (kinds : Kinds). or_else kinds (defaults_fault (with_default rows (option name)) (map option names))) (default-passes name rows) ∙ defaults-pass names (with_default rows (option name))
 
 operand-passes : (rows : List Kept) → default_fault rows operand ≡ []
-operand-passes rows = rw (or_true (has_row (codes "operands") rows)) refl
+operand-passes rows = rw (or-true (has_row (codes "operands") rows)) refl
 
 pub all-defaults-pass : (row : Row) (rows : List Kept) → defaults_fault rows (rules row) ≡ []
 unfolding defaults_fault

@@ -1,13 +1,14 @@
 -- Numbers among the words: the function, the relation, and what std's `parse` gives.
-use Rattle.std.proofs.Common.{◌≡◌, ℕ, ◌<◌, ◌≤◌, ◌^◌, Bool, true, false, ltb, leb, ◌&&◌, List, [], ◌∷◌, length, slice_get, cond, Option, Some, None, Result, Ok, Err, option_and_then, sym, refl, subst, arith, rules}
+use Rattle.std.proofs.Common.{◌≡◌, ℕ, ◌<◌, ◌≤◌, ◌^◌, Bool, true, false, ltb, leb, ◌&&◌, List, [], ◌∷◌, length, slice_get, cond, Option, Some, None, Result, Ok, Err, option_and_then, sym, refl, subst, arith}
 use Rattle.std.proofs.lemmas.Bool.{ltb-true, lt-ltb, leb-true, le-leb, and_parts, and_from}
 use Rattle.std.proofs.lemmas.Option.{same_Some, cond_some}
-use Rattle.std.proofs.lemmas.Str.Parse.{IsNumeralModel, numerals_by_value, parse_digits}
+use Rattle.std.proofs.lemmas.Str.Parse.{parse_digits}
 use Rattle.std.specs.Char.{is_ascii_digit}
 use Rattle.std.specs.List.{list_all}
 use Rattle.std.specs.Result.{result_ok}
 use Rattle.std.specs.Str.Parse.{digits_value, ParsesUnsigned}
 use Rattle.command_words.specs.Number.{IsNumber, IsNumberWithin, SaysNumber, has_form, number_of, number_said, number_within, value_within}
+use Rattle.plain_values.proofs.Theorems.{decimal_numerals}
 
 record Form (text : List ℕ) : Type 0 where
   some : 1 ≤ length text
@@ -38,18 +39,15 @@ number_of-complete text value is =
     let below : ltb (digits_value 10 text) (2 ^ 64) ≡ true = lt-ltb _ _ (subst (λ (n : ℕ). n < 2 ^ 64) (sym is.exact) is.small) in
     rw (form, below, is.exact) refl
 
-own : IsNumeralModel (λ ds. list_all is_ascii_digit ds ≡ true) (digits_value 10)
-own = numerals_by_value _ (search rules)
-
 -- a text of the form is parsed to its number
 pub number_of-parsed : {E : Type 0} (text : List ℕ) (r : Result ℕ E) → has_form text ≡ true → ParsesUnsigned 64 10 text r → result_ok r ≡ number_of text
 number_of-parsed {E} text (Ok value) has parses =
     let form = form_of text has in
-    let gives = parse_digits own {E = E} 64 text (Ok value) parses form.digits in
+    let gives = parse_digits decimal_numerals {E = E} 64 text (Ok value) parses form.digits in
     sym (number_of-complete text value (record { digits = form.digits; some = form.some; short = form.short; exact = sym gives.1; small = subst (λ (n : ℕ). n < 2 ^ 64) (sym gives.1) gives.0.1 }))
 number_of-parsed {E} text (Err fault) has parses =
     let form = form_of text has in
-    let fails = parse_digits own {E = E} 64 text (Err fault) parses form.digits in
+    let fails = parse_digits decimal_numerals {E = E} 64 text (Err fault) parses form.digits in
     elim (number_of text) as (λ (o : Option ℕ). number_of text ≡ o → None ≡ o) [
       | None ↦ λ e. refl
       | Some value ↦ λ e. let is = number_of-sound text value e in absurd (fails (form.some, subst (λ (n : ℕ). n < 2 ^ 64) (sym is.exact) is.small))

@@ -4,6 +4,7 @@ use Rattle.std.specs.Prelude.{bytes_eq, codes, slice_get}
 use Rattle.std.specs.Str.{chars}
 use Rattle.clap.specs.Lexer.{long_of, short_of, name_and_value}
 use Rattle.std.proofs.lemmas.Slice.Eq.{bytes_eq-Decides}
+use Rattle.std.proofs.Math.Bool.{and-false}
 use Rattle.clap.specs.Walk.{Held, Rule, Text, Waiting, Walk, idle, option as awaits, positional, positional_held, is_pending, pushed, after_flag, after_step, arg_by_id, arg_by_long, long_met, settled_rows, used, walked}
 use Rattle.clap.specs.Walk.{Row as Kept}
 use Rattle.clap.specs.Kinds.{Kinds, or_else}
@@ -47,16 +48,12 @@ pub record IsBare (word : Text) : Type 0 where
   pub long : long_of word ≡ None
   pub short : short_of word ≡ None
 
-and_none : (b : Bool) → (b && false) ≡ false
-and_none true = refl
-and_none false = refl
-
 -- one operand is one use: what is pending is settled, and the operand is pending
 operand-fault : (row : Row) (rows : List Kept) (pending : Pending) → positional_fault (rules row) false operand (held_at rows pending) ≡ owed row rows pending
-operand-fault row rows pending = ap (λ (b : Bool). cond b [] (owed row rows pending)) (and_none (is_pending operand pending))
+operand-fault row rows pending = ap (λ (b : Bool). cond b [] (owed row rows pending)) (and-false (is_pending operand pending))
 
 operand-held : (row : Row) (rows : List Kept) (pending : Pending) (word : Text) → positional_held (rules row) operand word (held_at rows pending) ≡ held_at (settle row rows pending) (Some (codes "operands", word ∷ []))
-operand-held row rows pending word = ap (λ (b : Bool). pushed (codes "operands") word (cond b (held_at rows pending) (held_at (settle row rows pending) None))) (and_none (is_pending operand pending))
+operand-held row rows pending word = ap (λ (b : Bool). pushed (codes "operands") word (cond b (held_at rows pending) (held_at (settle row rows pending) None))) (and-false (is_pending operand pending))
 
 abbrev walk_with : Held → Bool → Walk
 walk_with held trailing = record { held = held; waiting = positional; position = 1; is_trailing = trailing; stopped = None }

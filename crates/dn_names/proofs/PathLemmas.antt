@@ -2,17 +2,13 @@
 use Rattle.std.proofs.Common.{◌≡◌, ◌≢◌, ℕ, ◌-◌, ◌<◌, zero, suc, Bool, false, List, [], ◌∷◌, ◌++◌, length, take, drop, refl, sym, ap, subst, ◌∙◌, arith, append_assoc}
 use Rattle.std.specs.Prelude.{◌==◌, ◌&&◌, if◌then◌else◌}
 use Rattle.std.specs.List.{AllByRecursion}
-use Rattle.std.proofs.lemmas.Bool.Decides.{nat_tests}
 use Rattle.std.proofs.lemmas.List.{take_at, length-append}
+use Rattle.base_laws.proofs.Theorems.{suc_not_zero}
 use Rattle.dn_names.specs.Names.{TypeAndValue, RdnSequence, SharedRdn, rdns_of}
 use Rattle.dn_names.specs.GoodNames.{IsGoodRdn}
 use Rattle.dn_names.specs.PathKeys.{escape, rdn_part, path_key, IsKept}
 use Rattle.dn_names.specs.PathReading.{after_from, after_key}
 use Rattle.dn_names.proofs.PathKeyLaws.{path_key-cut}
-
--- a number above 0 isn't 0
-not_zero : (n : ℕ) → (suc n == 0) ≡ false
-not_zero n = grind (arith, nat_tests)
 
 other_octet : (zero_before is_zero : Bool) (octets : List ℕ) → is_zero ≡ false → (if is_zero && zero_before then octets else after_from is_zero octets) ≡ after_from false octets
 other_octet zero_before is_zero octets e = ap (λ b. if b && zero_before then octets else after_from b octets) e
@@ -21,7 +17,7 @@ other_octet zero_before is_zero octets e = ap (λ b. if b && zero_before then oc
 pub after_key-escape : (key more : List ℕ) → after_key (escape key ++ more) ≡ more
 after_key-escape [] more = refl
 after_key-escape (zero ∷ key) more = after_key-escape key more
-after_key-escape (suc n ∷ key) more = other_octet false (suc n == 0) (escape key ++ more) (not_zero n) ∙ after_key-escape key more
+after_key-escape (suc n ∷ key) more = other_octet false (suc n == 0) (escape key ++ more) (suc_not_zero n) ∙ after_key-escape key more
 
 -- behind a pair's part stands a part of an RDN again
 pub rdn_part-next : (rest others left : List ℕ) (mark : ℕ) (rdn : List TypeAndValue) (more : List ℕ) → rest ≡ mark ∷ others → mark ≡ 2 → ((kind : ℕ) (key after : List ℕ) → others ≡ kind ∷ (escape key ++ after) → left ≡ after) → rest ≡ rdn_part rdn ++ more → (later : List TypeAndValue) × (left ≡ rdn_part later ++ more)

@@ -3,7 +3,6 @@ use Rattle.std.proofs.Common.{◌≡◌, ℕ, ◌+◌, ◌-◌, ◌<◌, false, 
 use Rattle.std.specs.Prelude.{◌==◌, if◌then◌else◌}
 use Rattle.std.proofs.lemmas.List.{drop_more, take_more, drop-map, take-map, get_or-reverse, length-reverse}
 use Rattle.std.proofs.lemmas.Bool.Decides.{nat_tests}
-use Rattle.std.specs.List.{AllByRecursion}
 use Rattle.dn_names.specs.Printing.{join_from}
 use Rattle.dn_names.specs.Names.{SharedRdn, rdns_of}
 use Rattle.dn_names.proofs.ResolveLemmas.{rdns_of-reverse, rdns_of-push}
@@ -31,10 +30,6 @@ module _ {Z : Type 0} (rdns : List (SharedRdn Z)) (index : ℕ) (rdn : SharedRdn
       ∙ ap rdns_of (take_more (reverse rdns) index rdn inside ∙ ap (λ x. take index (reverse rdns) ++ x ∷ []) from_end)
       ∙ rdns_of-push (take index (reverse rdns)) rdn (take index (reverse rdns) ++ rdn ∷ []) refl
       ∙ ap (λ t. t ++ rdn.value ∷ []) (sym (take-map (λ (r : SharedRdn Z). r.value) index (reverse rdns)) ∙ ap (take index) (rdns_of-reverse rdns))
-
-pub AllByRecursion-push : {A : Type 0} (P : A → Type 0) (xs : List A) (x : A) → AllByRecursion P xs → P x → AllByRecursion P (xs ++ x ∷ [])
-AllByRecursion-push P [] x a b = (b, tt)
-AllByRecursion-push P (y ∷ ys) x a b = (a.0, AllByRecursion-push P ys x a.1 b)
 
 not_first : (i : ℕ) → (i + 1 == 0) ≡ false
 not_first i = grind (arith, nat_tests)

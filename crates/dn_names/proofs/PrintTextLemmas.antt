@@ -15,7 +15,8 @@ use Rattle.dn_names.specs.declared.printing.Shown.TheVariants.{Octets}
 use Rattle.dn_names.specs.Classes.{class_of}
 use Rattle.dn_names.specs.Names.{TypeAndValue, RdnSequence, IsTextRdn, IsTextName}
 use Rattle.dn_names.specs.Printing.{is_escaped, print_octet, is_empty, print_from, print_value, join_from, print_pair, print_rdn, shown_of, print_by, print_name}
-use Rattle.dn_names.proofs.NamingTextLemmas.{row_passes, ascii_all, below}
+use Rattle.dn_names.proofs.NamingTextLemmas.{ascii_all, below}
+use Rattle.base_laws.proofs.Theorems.{passes_at}
 
 all_cond : (b : Bool) (xs ys : List ℕ) → AllByRecursion (λ x. 128 ≤ x) xs → AllByRecursion (λ x. 128 ≤ x) ys → AllByRecursion (λ x. 128 ≤ x) (cond b xs ys)
 all_cond true xs ys a b = a
@@ -86,7 +87,7 @@ ascii_names = refl
 name_at : (number : ℕ) (row : Option Attribute) → attribute_at number ≡ row → IsUtf8 (option_map_or (λ r. r.name) row [])
 name_at number None e = IsUtf8-nil
 name_at number (Some row) e =
-    IsUtf8-from_ascii row.name (ascii_all (λ x. nat_lt x 128) below row.name (row_passes (λ r. list_all (λ x. nat_lt x 128) r.name) attributes number row ascii_names e))
+    IsUtf8-from_ascii row.name (ascii_all (λ x. nat_lt x 128) below row.name (passes_at (λ r. list_all (λ x. nat_lt x 128) r.name) attributes number row ascii_names e))
 
 pair_text : (pair : TypeAndValue) → is_utf8 pair.value.octets ≡ true → IsUtf8 (print_pair (shown_of Octets) pair)
 pair_text pair h =

@@ -10,4 +10,4 @@ pub use Rattle.dn_names.proofs.OrderLaws.{name_cmp_total, is_same-types_and_keys
 pub use Rattle.dn_names.proofs.PathKeyLaws.{octets_cmp-path_key, is_prefix_of-path_key}
 pub use Rattle.dn_names.proofs.FirstBadLemmas.{resolve-Part, resolve-TooMany, resolve-Ok}
 pub use Rattle.dn_names.proofs.PrintTextLemmas.{IsUtf8-print_name}
-pub use Rattle.dn_names.proofs.NamingTextLemmas.{is_utf8-naming_value}
+pub use Rattle.dn_names.proofs.NamingTextLemmas.{value_of-octets, is_utf8-naming_value, text_rdn, text_name}

@@ -3,11 +3,10 @@ use Rattle.std.proofs.Common.{◌≡◌, ◌≢◌, inl, inr, ℕ, ◌+◌, Bool
 use Rattle.std.specs.Prelude.{◌==◌, if◌then◌else◌}
 use Rattle.std.specs.List.{AllByRecursion, IsDistinct}
 use Rattle.std.specs.Str.{bytes_eq}
-use Rattle.std.proofs.lemmas.Bool.{cases_Bool, or_parts, or_from, false_from_ne_true}
+use Rattle.std.proofs.lemmas.Bool.{cases_Bool, or_parts, or_from}
 use Rattle.std.proofs.lemmas.Bool.Decides.{nat_tests}
 use Rattle.std.proofs.lemmas.List.{append-nil}
 use Rattle.std.proofs.lemmas.List.Folds.{list_any-append}
-use Rattle.std.proofs.lemmas.Slice.Eq.{bytes_eq-Decides}
 use Rattle.dn_names.specs.Names.{Keyed, TypeAndValue}
 use Rattle.dir_tree.specs.Entries.{Attribute, EntryInformation, values_of, has_key, is_match, IsGoodAttribute, IsGoodAttributes}
 use Rattle.dir_tree.specs.Changes.{put_value, set_in, with_value, with_values, without_value}
@@ -15,6 +14,7 @@ use Rattle.dir_tree.proofs.Theorems.{values_of-set_in, good-with_value}
 use Rattle.entry_changes.specs.Changes.{are_none, with_each}
 use Rattle.entry_changes.specs.Renaming.{has_pair, gone_among, without_pairs}
 use Rattle.entry_changes.specs.Effects.{has_any_key}
+use Rattle.base_laws.proofs.Theorems.{text_apart}
 
 -- values are there
 pub filled_from : (values : List Keyed) → are_none values ≡ false → values ≢ []
@@ -58,11 +58,6 @@ with_value-more kind value old entry new =
     (set_in-set_in kind (values_of kind (set_in kind old entry.attributes) ++ value ∷ []) old entry.attributes
     ∙ ap (λ before. set_in kind (before ++ value ∷ []) entry.attributes) there)
 
--- two keys differ, either way round
-apart_back : (one other : List ℕ) → bytes_eq one other ≡ false → bytes_eq other one ≡ false
-apart_back one other apart =
-    false_from_ne_true (bytes_eq other one) (λ e. let back : bytes_eq one other ≡ true = (bytes_eq-Decides one other).1 (sym ((bytes_eq-Decides other one).0 e)) in absurd cc)
-
 -- values that match none of the old ones, nor one more
 admitted-more : (value : Keyed) (old values : List Keyed) → has_any_key values old ≡ false → AllByRecursion (λ other. is_match value other ≡ false) values
     → has_any_key values (old ++ value ∷ []) ≡ false
@@ -72,7 +67,7 @@ admitted-more value old (first ∷ rest) new apart =
     or_from (has_key first.key (old ++ value ∷ [])) (has_any_key rest (old ++ value ∷ []))
     (list_any-append (λ (other : Keyed). bytes_eq first.key other.key) old (value ∷ [])
     ∙ or_from (has_key first.key old) (bytes_eq first.key value.key || false) parts.0
-    (or_from (bytes_eq first.key value.key) false (apart_back value.key first.key apart.0) refl))
+    (or_from (bytes_eq first.key value.key) false (text_apart value.key first.key apart.0) refl))
     (admitted-more value old rest parts.1 apart.1)
 
 each-more : (kind : ℕ) (old values : List Keyed) (entry : EntryInformation) → has_any_key values old ≡ false → IsDistinct is_match values

@@ -9,7 +9,6 @@ use Rattle.aci_item.specs.declared.permission.Permission.TheVariants.{Add, Remov
 use Rattle.acdf_filters.specs.Asking.{Kind, Value}
 use Rattle.ldap_msg.specs.declared.operations.ResultCode.TheVariants as code
 use Rattle.entry_changes.specs.declared.kind.ChangeKind.TheVariants as change_kind
-use Rattle.plain_values.specs.Refusals.{when, first_some}
 use Rattle.entry_changes.specs.Changes.{Asks, add_refusal, delete_refusal, replace_refusal, left_by, changed_by}
 use Rattle.entry_changes.specs.Renaming.{gone_pairs, without_pairs, renamed_entry}
 
@@ -57,13 +56,6 @@ of_types item permission = false
 abbrev of_values : Asks
 of_values (Value kind value) permission = true
 of_values item permission = false
-
--- the first row that applies decides
-the_first_row : first_some {A = ℕ} (when false 1 ∷ when true 2 ∷ when true 3 ∷ []) ≡ Some 2
-the_first_row = refl
-
-no_row : first_some {A = ℕ} (when false 1 ∷ when false 2 ∷ []) ≡ None
-no_row = refl
 
 -- ---- adds
 

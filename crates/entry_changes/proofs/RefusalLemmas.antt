@@ -1,5 +1,5 @@
 -- Tables of refusals: what the first part of one says of the whole, and what is known where no row applies.
-use Rattle.std.proofs.Common.{◌≡◌, ℕ, Bool, true, false, not, ◌&&◌, map, List, [], ◌∷◌, ◌++◌, Option, Some, None, Result, Ok, refl, sym, ap, ◌∙◌}
+use Rattle.std.proofs.Common.{◌≡◌, ℕ, false, not, ◌&&◌, map, List, [], ◌∷◌, ◌++◌, Option, Some, None, Result, Ok, refl, sym, ap, ◌∙◌}
 use Rattle.std.proofs.lemmas.Bool.{or_from}
 use Rattle.plain_values.specs.Answers.{IsFaultOf}
 use Rattle.plain_values.specs.Results.{◌>>=◌}
@@ -14,6 +14,7 @@ use Rattle.entry_changes.specs.declared.kind.ChangeKind.TheVariants as change_ki
 use Rattle.entry_changes.specs.declared.fault.ChangeFault.{ChangeFault}
 use Rattle.entry_changes.specs.declared.fault.ChangeFault.TheVariants as fault
 use Rattle.plain_values.specs.Refusals.{when, first_some}
+use Rattle.plain_values.proofs.Theorems.{not_when}
 use Rattle.entry_changes.specs.Changes.{Asks, Modification, are_none, exists_already, add_value_refusal, add_refusal, delete_value_refusal, delete_refusal, refusal_by, change_refusal, changed, changed_by, cause_of}
 use Rattle.entry_changes.specs.Effects.{has_any_key, IsAdmitted}
 
@@ -38,16 +39,12 @@ none-first : {A : Type 0} (row : Option A) (rows : List (Option A)) → first_so
 none-first None rows e = refl
 none-first (Some refusal) rows e = absurd cc
 
-none-when : {A : Type 0} (applies : Bool) (refusal : A) → when applies refusal ≡ None → applies ≡ false
-none-when true refusal e = absurd cc
-none-when false refusal e = refl
-
 -- ---- adds
 
 -- a value that is added is not there
 new-value : (asks : Asks) (kind : ℕ) (old : List Keyed) (value : Keyed) → add_value_refusal asks kind old value ≡ None → has_key value.key old ≡ false
 new-value asks kind old value e =
-    none-when (has_key value.key old) (exists_already asks kind value)
+    not_when (has_key value.key old) (exists_already asks kind value)
     (none-first (when (has_key value.key old) (exists_already asks kind value)) (when (not (asks (Value kind value) Add)) code.InsufficientAccessRights ∷ []) e)
 
 new-values : (asks : Asks) (kind : ℕ) (old values : List Keyed) → first_some (map (add_value_refusal asks kind old) values) ≡ None → has_any_key values old ≡ false

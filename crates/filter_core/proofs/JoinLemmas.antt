@@ -1,6 +1,7 @@
 -- The truth of an and or an or is what the answers of its members say together.
 use Rattle.std.proofs.Common.{◌≡◌, Bool, true, false, ◌&&◌, ◌||◌, refl, sym, ap, ◌∙◌, List, [], ◌∷◌, if◌then◌else◌}
 use Rattle.std.specs.List.{list_any, list_all}
+use Rattle.std.proofs.Math.Bool.{and-false}
 use Rattle.filter_core.specs.declared.truth.Truth.{Truth}
 use Rattle.filter_core.specs.declared.truth.Truth.TheVariants.{True, False, Undefined}
 use Rattle.filter_core.specs.declared.question.Question.{Question}
@@ -23,21 +24,17 @@ joined_none [] = refl
 joined_none (first ∷ rest) = joined_none rest
 
 -- not all are True where one is False, nor all False where one is True
-and_false : (one : Bool) → (one && false) ≡ false
-and_false true = refl
-and_false false = refl
-
 apart_true : (truths : List Truth) → (list_any is_false truths && list_all is_true truths) ≡ false
 apart_true [] = refl
 apart_true (True ∷ rest) = apart_true rest
 apart_true (False ∷ rest) = refl
-apart_true (Undefined ∷ rest) = and_false (list_any is_false rest)
+apart_true (Undefined ∷ rest) = and-false (list_any is_false rest)
 
 apart_false : (truths : List Truth) → (list_any is_true truths && list_all is_false truths) ≡ false
 apart_false [] = refl
 apart_false (True ∷ rest) = refl
 apart_false (False ∷ rest) = apart_false rest
-apart_false (Undefined ∷ rest) = and_false (list_any is_true rest)
+apart_false (Undefined ∷ rest) = and-false (list_any is_true rest)
 
 -- ---- and
 

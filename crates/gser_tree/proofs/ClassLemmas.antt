@@ -4,11 +4,12 @@ use Rattle.std.specs.Prelude.{◌==◌, if◌then◌else◌}
 use Rattle.std.specs.List.{list_all}
 use Rattle.std.proofs.lemmas.Bool.Decides.{nat_tests}
 use Rattle.std.proofs.lemmas.Bool.{and_parts, and_from}
+use Rattle.gser_core.specs.Productions.{doubled}
 use Rattle.gser_tree.specs.declared.marks.Mark.{Mark}
 use Rattle.gser_tree.specs.declared.marks.Mark.TheVariants.{Open, Close, Comma, Colon}
 use Rattle.gser_tree.specs.declared.marks.Class.{Class}
 use Rattle.gser_tree.specs.declared.marks.Class.TheVariants.{Blank, Letter, Quote, Sign}
-use Rattle.gser_tree.specs.Lexemes.{class_of, octet_of, is_letter, is_word, doubled}
+use Rattle.gser_tree.specs.Lexemes.{class_of, octet_of, is_letter, is_word}
 
 -- the octets of the classes
 pub blank_is : (x : ℕ) → class_of x ≡ Blank → x ≡ 32

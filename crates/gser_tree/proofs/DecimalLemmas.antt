@@ -13,10 +13,10 @@ use Rattle.gser_tree.specs.Looking.{word_in}
 use Rattle.gser_tree.specs.Reading.{is_number, at_most, number, part, expect}
 use Rattle.gser_tree.specs.Writing.{print_number}
 use Rattle.gser_tree.proofs.ClassLemmas.{are_letters}
-use Rattle.gser_tree.proofs.NumberLemmas.{own}
 use Rattle.gser_tree.proofs.PrintsLemmas.{word_is_written}
 use Rattle.gser_tree.proofs.ReadsLemmas.{IsRead, Prints}
 use Rattle.gser_tree.proofs.OnlyLemmas.{Only, gives_both, gives_choice, gives_expected, gives_part, gives_nothing}
+use Rattle.plain_values.proofs.Theorems.{decimal_numerals}
 
 digit_letter : (x : ℕ) → is_ascii_digit x ≡ true → class_of x ≡ Letter
 unfolding class_of
@@ -66,10 +66,10 @@ is_number-decimal value fits = inner (value == 0) refl
   where
     inner : (b : Bool) → (value == 0) ≡ b → is_number (decimal value) ≡ true
     inner true is = let zero : value ≡ 0 = grind (arith, nat_tests) in ap (λ v. is_number (decimal v)) zero ∙ ap is_number (decimal_digit 0 (omega arith))
-    inner false is = let some : 0 < value = grind (arith, nat_tests) in is_number-from (decimal value) (first_decimal value some fits) (digits_decimal own value fits)
+    inner false is = let some : 0 < value = grind (arith, nat_tests) in is_number-from (decimal value) (first_decimal value some fits) (digits_decimal decimal_numerals value fits)
 
 pub is_word-decimal : (value : ℕ) → value < 2 ^ 64 → is_word (decimal value) ≡ true
-is_word-decimal value fits = is_word-digits (decimal value) (decimal_nonempty value fits) (digits_decimal own value fits)
+is_word-decimal value fits = is_word-digits (decimal value) (decimal_nonempty value fits) (digits_decimal decimal_numerals value fits)
 
 -- a number of at most so much is read as it was
 pub number_prints : (deep most value : ℕ) → value ≤ most → value < 2 ^ 64 → Prints deep (number most) (print_number value) value
@@ -79,7 +79,7 @@ number_prints deep most value within fits =
   where
     means : at_most most (decimal value) ≡ Some value
     means =
-        let same : digits_value 10 (decimal value) ≡ value = digits_value-decimal own value fits in
+        let same : digits_value 10 (decimal value) ≡ value = digits_value-decimal decimal_numerals value fits in
         let test : nat_le value most ≡ true = grind (arith, nat_tests) in
         ap (λ v. if nat_le v most then Some v else None) same ∙ rw test refl
 

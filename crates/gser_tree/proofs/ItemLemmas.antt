@@ -2,6 +2,7 @@
 use Rattle.std.proofs.Common.{◌≡◌, ℕ, ◌+◌, suc, List, [], ◌∷◌, ◌++◌, length, true, refl, sym, ap, ◌∙◌, arith}
 use Rattle.std.specs.Prelude.{Option, Some, None, option_map, option_and_then, flat_map}
 use Rattle.std.proofs.lemmas.Bool.{and_from}
+use Rattle.gser_core.specs.Productions.{doubled}
 use Rattle.gser_tree.specs.declared.marks.Mark.{Mark}
 use Rattle.gser_tree.specs.declared.marks.Mark.TheVariants.{Open, Close, Comma, Colon}
 use Rattle.gser_tree.specs.declared.marks.Class.{Class}
@@ -10,7 +11,7 @@ use Rattle.gser_tree.specs.declared.token.Token.{Token}
 use Rattle.gser_tree.specs.declared.token.Token.TheVariants as token
 use Rattle.gser_tree.specs.declared.lexing.Mode.{Mode}
 use Rattle.gser_tree.specs.declared.lexing.Mode.TheVariants.{Between, InWord, InString, AfterQuote}
-use Rattle.gser_tree.specs.Lexemes.{Lexeme, Space, Marked, Quoted, class_of, octet_of, is_letter, is_word, doubled, show, EndsBefore, AreLexemes}
+use Rattle.gser_tree.specs.Lexemes.{Lexeme, Space, Marked, Quoted, class_of, octet_of, is_letter, is_word, show, EndsBefore, AreLexemes}
 use Rattle.gser_tree.specs.TextOf.{part_at, tokens_at}
 use Rattle.gser_tree.specs.Lexing.{Step, more, begin, finish, step, lex_from}
 use Rattle.gser_tree.proofs.ClassLemmas.{blank_is, quote_is, sign_is}

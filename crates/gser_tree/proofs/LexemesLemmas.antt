@@ -2,6 +2,7 @@
 use Rattle.std.proofs.Common.{◌≡◌, ℕ, ◌+◌, suc, List, [], ◌∷◌, ◌++◌, length, Bool, true, false, refl, sym, ap, ◌∙◌, append_assoc, length-append, arith}
 use Rattle.std.specs.Prelude.{Option, Some, None, option_map, option_and_then, flat_map, if◌then◌else◌}
 use Rattle.std.specs.Str.{is_utf8}
+use Rattle.gser_core.specs.Productions.{doubled}
 use Rattle.gser_tree.specs.declared.marks.Class.{Class}
 use Rattle.gser_tree.specs.declared.marks.Class.TheVariants.{Blank, Letter, Quote, Sign, Other}
 use Rattle.gser_tree.specs.declared.part.Part.{Part}
@@ -9,7 +10,7 @@ use Rattle.gser_tree.specs.declared.token.Token.{Token}
 use Rattle.gser_tree.specs.declared.token.Token.TheVariants as token
 use Rattle.gser_tree.specs.declared.lexing.Mode.{Mode}
 use Rattle.gser_tree.specs.declared.lexing.Mode.TheVariants.{Between, InWord, InString, AfterQuote}
-use Rattle.gser_tree.specs.Lexemes.{Lexeme, Word, Quoted, class_of, is_word, doubled, show, AreLexemes}
+use Rattle.gser_tree.specs.Lexemes.{Lexeme, Word, Quoted, class_of, is_word, show, AreLexemes}
 use Rattle.gser_tree.specs.TextOf.{tokens_at}
 use Rattle.gser_tree.specs.Lexing.{Step, go, more, finish, whole, in_word, in_string, after_quote, step, lex_from, lex}
 use Rattle.gser_tree.proofs.ClassLemmas.{quote_is, not_quote, is_word-push, doubled-push, doubled-quote, doubled-other}

@@ -7,6 +7,7 @@ use Rattle.std.proofs.lemmas.Str.{is_utf8-from_IsUtf8, IsUtf8-from_ascii}
 use Rattle.std.proofs.lemmas.Str.Ascii.{IsAscii-nil, IsAscii-cons}
 use Rattle.std.proofs.lemmas.Bool.Decides.{nat_tests}
 use Rattle.std.proofs.lemmas.Bool.{and_parts}
+use Rattle.gser_core.specs.Productions.{doubled}
 use Rattle.gser_tree.specs.declared.marks.Mark.{Mark}
 use Rattle.gser_tree.specs.declared.marks.Mark.TheVariants.{Open, Close, Comma, Colon}
 use Rattle.gser_tree.specs.declared.marks.Class.{Class}
@@ -16,7 +17,7 @@ use Rattle.gser_tree.specs.declared.token.Token.{Token}
 use Rattle.gser_tree.specs.declared.token.Token.TheVariants as token
 use Rattle.gser_tree.specs.declared.lexing.Mode.{Mode}
 use Rattle.gser_tree.specs.declared.lexing.Mode.TheVariants.{Between, InWord, InString, AfterQuote}
-use Rattle.gser_tree.specs.Lexemes.{Lexeme, Space, Marked, Word, Quoted, class_of, octet_of, is_letter, is_word, doubled, show, EndsBefore, AreLexemes}
+use Rattle.gser_tree.specs.Lexemes.{Lexeme, Space, Marked, Word, Quoted, class_of, octet_of, is_letter, is_word, show, EndsBefore, AreLexemes}
 use Rattle.gser_tree.specs.TextOf.{part_at, tokens_at}
 use Rattle.gser_tree.specs.Lexing.{more, begin, finish, in_word, in_string, after_quote, step, at_end, lex_from, lex}
 use Rattle.gser_tree.proofs.ClassLemmas.{are_letters, quote_is, quote_class, blank_class, mark_class}

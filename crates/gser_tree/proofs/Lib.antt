@@ -12,7 +12,6 @@ pub mod TextLemmas
 pub mod LookingLemmas
 pub mod NumberLemmas
 pub mod CursorLemmas
-pub mod WritingLemmas
 pub mod PutsLemmas
 pub mod PrintsLemmas
 pub mod ReadsLemmas

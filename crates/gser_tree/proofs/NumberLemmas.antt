@@ -1,16 +1,14 @@
 -- Numbers of at most so much, and what the library's `parse` gives of them.
-use Rattle.std.proofs.Common.{◌≡◌, ℕ, ◌<◌, ◌≤◌, ◌^◌, true, false, ◌&&◌, ◌||◌, List, [], ◌∷◌, length, Some, None, Err, refl, rules, arith}
+use Rattle.std.proofs.Common.{◌≡◌, ℕ, ◌<◌, ◌≤◌, ◌^◌, true, false, ◌&&◌, ◌||◌, List, [], ◌∷◌, length, Some, None, Err, refl, arith}
 use Rattle.std.specs.Prelude.{◌==◌, not, nat_le, if◌then◌else◌}
 use Rattle.std.proofs.lemmas.Bool.Decides.{nat_tests}
-use Rattle.std.proofs.lemmas.Str.Parse.{IsNumeralModel, numerals_by_value, parse_digits}
+use Rattle.std.proofs.lemmas.Str.Parse.{parse_digits}
 use Rattle.std.proofs.lemmas.Bool.{and_parts, and_from}
 use Rattle.std.specs.Char.{is_ascii_digit}
 use Rattle.std.specs.List.{list_all}
 use Rattle.std.specs.Str.Parse.{digits_value, ParsesUnsigned}
 use Rattle.gser_tree.specs.Reading.{is_number, at_most}
-
-pub own : IsNumeralModel (λ ds. list_all is_ascii_digit ds ≡ true) (digits_value 10)
-own = numerals_by_value _ (search rules)
+use Rattle.plain_values.proofs.Theorems.{decimal_numerals}
 
 -- the octets of a number are digits
 pub number_digits : (text : List ℕ) → is_number text ≡ true → list_all is_ascii_digit text ≡ true
@@ -28,7 +26,7 @@ some_digits (first ∷ rest) h = omega arith
 pub too_large : {E : Type 0} (most : ℕ) (text : List ℕ) (fault : E) → most < 2 ^ 32 → is_number text ≡ true
     → ParsesUnsigned 32 10 text (Err fault) → at_most most text ≡ None
 too_large {E} most text fault fits is parses =
-    let gives = parse_digits own {E = E} 32 text (Err fault) parses (number_digits text is) in
+    let gives = parse_digits decimal_numerals {E = E} 32 text (Err fault) parses (number_digits text is) in
     elim (nat_le (digits_value 10 text) most) as (λ b. nat_le (digits_value 10 text) most ≡ b
     → (if b then Some (digits_value 10 text) else None) ≡ None) [
       | false ↦ λ e. refl

@@ -6,6 +6,7 @@ use Rattle.std.proofs.lemmas.Option.{same_Some}
 use Rattle.gser_tree.specs.Shapes.{Shape}
 use Rattle.gser_tree.specs.Looking.{Behind, component}
 use Rattle.gser_tree.specs.Reading.{Found, Read, give, ◌>>=◌, expect, part, present, optional, required, nothing_left, gather}
+use Rattle.base_laws.proofs.Theorems.{all_push}
 
 -- where reading leaves no bad part there was none before, and what it gives has the property
 abbrev pub Gives : {A : Type 0} → (A → Type 0) → Read A → Type 0
@@ -86,10 +87,6 @@ gives_required P name reader members only =
 pub gives_end : {A : Type 0} (P : A → Type 0) (members : List Shape) (value : A) → P value → Gives P (nothing_left members value)
 gives_end P [] value has = gives_value P value has
 gives_end P (shape ∷ members) value has = gives_nothing P
-
-all_push : {A : Type 0} (P : A → Type 0) (values : List A) (value : A) → AllByRecursion P values → P value → AllByRecursion P (values ++ value ∷ [])
-all_push P [] value all has = (has, tt)
-all_push P (first ∷ values) value all has = (all.0, all_push P values value all.1 has)
 
 -- the members of a set
 pub gives_gathered : {A : Type 0} (P : A → Type 0) (reader : Shape → Read A) (seen : List A) (members : List Shape) → Only P reader

@@ -3,6 +3,7 @@ use Rattle.std.specs.Prelude.{◌≡◌, ℕ, Bool, true, false, ◌&&◌, ◌==
 use Rattle.std.specs.Int.{is_in_range}
 use Rattle.std.specs.List.{list_all}
 use Rattle.std.specs.Str.{is_utf8}
+use Rattle.gser_core.specs.Productions.{quoted}
 use Rattle.gser_tree.specs.declared.marks.Mark.{Mark}
 use Rattle.gser_tree.specs.declared.marks.Mark.TheVariants.{Open, Close, Comma, Colon}
 use Rattle.gser_tree.specs.declared.marks.Class.{Class}
@@ -48,17 +49,12 @@ abbrev pub is_word : List ℕ → Bool
 is_word [] = false
 is_word (octet ∷ octets) = is_letter (class_of octet) && list_all (λ x. is_letter (class_of x)) octets
 
--- the octets of a string, each quotation mark twice
-abbrev pub doubled : List ℕ → List ℕ
-doubled [] = []
-doubled (octet ∷ octets) = if octet == 34 then 34 ∷ 34 ∷ doubled octets else octet ∷ doubled octets
-
 -- the octets of a lexeme
 abbrev pub show : Lexeme → List ℕ
 show Space = 32 ∷ []
 show (Marked mark) = octet_of mark ∷ []
 show (Word text) = text
-show (Quoted text) = 34 ∷ doubled text ++ 34 ∷ []
+show (Quoted text) = quoted text
 
 -- a word or a string ends before these: no word, no string and no opening brace touches it
 abbrev pub EndsBefore : List Lexeme → Type 0

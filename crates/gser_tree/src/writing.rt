@@ -1,31 +1,15 @@
 //! Values as text.
 
 ghost use Rattle.std.specs.Prelude.{◌≡◌, ◌++◌, [], OnOk, string_bytes};
-ghost use Rattle.gser_tree.specs.Lexemes.{doubled};
 ghost use Rattle.gser_tree.specs.Writing.{text_of, print_choice, print_component, print_number, print_string, separator, ending};
 
 use std::alloc::AllocError;
-
-// Writes the octets of a string, each quotation mark twice.
-fn put_doubled(out: &mut String, text: &str) -> Result<(), AllocError>
-    ensures ok { OnOk result (string_bytes out.new ≡ string_bytes out.old ++ doubled text.now) }
-{
-    let mut rest = text;
-    'marks: while let Some((before, after)) = rest.split_once('"') {
-        out.push_str(before)?;
-        out.push_str("\"\"")?;
-        rest = after;
-    }
-    Ok(out.push_str(rest)?)
-}
 
 /// Writes a string in quotation marks, each quotation mark in it twice.
 pub fn put_string(out: &mut String, text: &str) -> Result<(), AllocError>
     ensures ok { OnOk result (string_bytes out.new ≡ string_bytes out.old ++ text_of (print_string text.now)) }
 {
-    out.push('"')?;
-    put_doubled(out, text)?;
-    Ok(out.push('"')?)
+    gser_core::put_string(out, text)
 }
 
 /// Writes a number in decimal.

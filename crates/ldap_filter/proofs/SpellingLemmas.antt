@@ -1,33 +1,19 @@
 -- A written filter says itself.
-use Rattle.std.proofs.Common.{◌≡◌, ℕ, ◌+◌, ◌<◌, ◌≤◌, List, [], ◌∷◌, ◌++◌, length, Option, Some, None, refl, sym, ap, ◌∙◌, arith, length-append, append_assoc, append-nil, take, get_or, true}
+use Rattle.std.proofs.Common.{◌≡◌, ℕ, ◌+◌, ◌<◌, ◌≤◌, List, [], ◌∷◌, ◌++◌, length, Option, Some, None, refl, sym, ap, ◌∙◌, append_assoc, append-nil, take, get_or, true}
 use Rattle.std.proofs.lemmas.List.{take_more}
 use Rattle.std.specs.List.{AllByRecursion}
 use Rattle.ber_core.specs.Element.{Elem, IsTag}
-use Rattle.ber_core.specs.Spelling.{header_octets}
 use Rattle.ber_layout.specs.Components.{Follows}
 use Rattle.ber_layout.specs.Spellings.{element_octets}
 use Rattle.ber_layout.specs.Layouts.{Layout, Value, Says as SaysLayout, IsShort, MayFit, writes, is_clear}
 use Rattle.ber_layout.specs.Ranges.{Within}
-use Rattle.ber_layout.proofs.Theorems.{element_spells, writes_says, fits_within}
+use Rattle.ber_layout.proofs.Theorems.{element_spells, writes_says, fits_within, content_short, front_short, back_short}
 use Rattle.ldap_filter.specs.Filters.{Filter, Filters, filters_of}
 use Rattle.ldap_filter.specs.Filters.Filter.{And, Or, Not, Equal, Parts, AtLeast, AtMost, Present, Approx, Extensible}
 use Rattle.ldap_filter.specs.Filters.Filters.{Nil, Cons}
 use Rattle.ldap_filter.specs.Assertions.{assertion_layout}
 use Rattle.ldap_filter.specs.FilterLayouts.{parts_layout, IsSome, SaysFilter, SaysFilters}
 use Rattle.ldap_filter.specs.FilterSpelling.{filter_tag, filter_content, members_octets, filter_octets, HasParts, HaveParts}
-
-element_longer : (tag : ℕ) (content : List ℕ) → length content ≤ length (element_octets tag content)
-unfolding element_octets
-element_longer tag content = omega (arith, length-append (header_octets tag (length content)) content)
-
-content_short : (tag : ℕ) (content : List ℕ) → IsShort (element_octets tag content) → IsShort content
-content_short tag content short = omega (arith, element_longer tag content, short)
-
-front_short : (front back : List ℕ) → IsShort (front ++ back) → IsShort front
-front_short front back short = omega (arith, length-append front back, short)
-
-back_short : (front back : List ℕ) → IsShort (front ++ back) → IsShort back
-back_short front back short = omega (arith, length-append front back, short)
 
 -- ---- the filter's elements, one more at a time
 
@@ -55,7 +41,7 @@ all_within : (values : List (List ℕ)) → AllByRecursion (λ (octets : List �
 all_within [] = tt
 all_within (first ∷ rest) = (tt, all_within rest)
 
-spelled : (l : Layout) → is_clear l ≡ true → (parts : Value l) → Within l parts → IsShort (writes l parts) → SaysLayout l parts (writes l parts)
+pub spelled : (l : Layout) → is_clear l ≡ true → (parts : Value l) → Within l parts → IsShort (writes l parts) → SaysLayout l parts (writes l parts)
 spelled l clear parts within short = writes_says l parts clear (fits_within l parts within short)
 
 tag_is : (f : Filter) → IsTag (filter_tag f)

@@ -4,4 +4,4 @@
 pub use Rattle.ldap_filter.proofs.SoundLemmas.{filter_sound}
 pub use Rattle.ldap_filter.proofs.CompleteLemmas.{filter_complete}
 -- a written filter says itself
-pub use Rattle.ldap_filter.proofs.SpellingLemmas.{filter_spells}
+pub use Rattle.ldap_filter.proofs.SpellingLemmas.{filter_spells, spelled}

@@ -3,6 +3,7 @@ use Rattle.std.proofs.Common.{◌≡◌, ℕ, Bool, true, false, cond, eqb, List
 use Rattle.std.proofs.lemmas.Bool.{eqb-true}
 use Rattle.std.proofs.lemmas.List.{nil_from_length}
 use Rattle.std.specs.Prelude.{Result, Ok, Err, IfOk, MatchResult}
+use Rattle.std.proofs.lemmas.Option.{same_Some}
 use Rattle.ber_layout.specs.declared.kinds.ReadFault.{ReadFault}
 use Rattle.ber_layout.specs.declared.kinds.ReadFault.TheVariants.{BadMessage, NoMemory}
 use Rattle.ber_layout.specs.Pieces.{◌>>=◌}
@@ -19,7 +20,6 @@ use Rattle.ldap_msg.specs.Operations.{response_tag, response_of}
 use Rattle.ldap_msg.specs.Attributes.{attribute_from}
 use Rattle.ldap_msg.specs.Results.{result_layout, result_parts, result_from, entry_layout, answered_layout, answered_parts}
 use Rattle.ldap_msg.specs.Replies.{reply_layout, response_for, SaysReply, SaysIn, Replies, ended_in, reply_in, reply_at, answer_from, answer_in, reply_of}
-use Rattle.ldap_msg.proofs.ContentLemmas.{some_is}
 use Rattle.ldap_msg.proofs.ReplyLemmas.{reply_sound, reply_again, tag_sound, tag_again}
 
 -- the content says the messageID and the reply that are read of it
@@ -38,7 +38,7 @@ in_sound content answer e =
       tag = tag_sound a.0.1.0.0 c.0 c.1 ∙ ap response_tag (sym sounds.response);
       reply = sounds.says;
     } in
-    subst (λ (m : ℕ × Reply). SaysIn m content) (some_is (made b.0) answer b.2) says
+    subst (λ (m : ℕ × Reply). SaysIn m content) (same_Some (made b.0) answer b.2) says
 
 -- the messageID and the reply that a content says are read of it
 pub in_again : (answer : ℕ × Reply) (content : List ℕ) → SaysIn answer content → answer_in content ≡ Some answer
@@ -60,7 +60,7 @@ reply_is_sound bytes answer e =
     let g = guard_passed (eqb (length a.0.rest) 0) (Some a.0.value) answer a.2 in
     let none : a.0.rest ≡ [] = nil_from_length a.0.rest (eqb-true (length a.0.rest) 0 g.0) in
     let stands = required_sound 0x30 answer_in SaysIn in_sound bytes a.0 a.1 in
-    subst (λ (m : ℕ × Reply). Replies m.0 m.1 bytes) (some_is a.0.value answer g.1) (follows 0x30 SaysIn (λ rest. rest ≡ []) bytes a.0 stands none)
+    subst (λ (m : ℕ × Reply). Replies m.0 m.1 bytes) (same_Some a.0.value answer g.1) (follows 0x30 SaysIn (λ rest. rest ≡ []) bytes a.0 stands none)
 
 -- the reply that the octets say is read
 pub reply_is_complete : (bytes : List ℕ) (id : ℕ) (answer : Reply) → Replies id answer bytes → reply_of bytes ≡ Some (id, answer)
@@ -82,7 +82,7 @@ pub only_by : (bytes : List ℕ) (r : Result (ℕ × Reply) ReadFault) (id : ℕ
     → Gives (λ (found : ℕ × Reply). (found.0, found.1)) r (reply_of bytes)
     → MatchResult r (λ found. (found.0 ≡ id) × (found.1 ≡ other)) (λ fault. fault ≡ NoMemory)
 only_by bytes (Ok answer) id other says gives =
-    let same : answer ≡ (id, other) = some_is answer (id, other) (sym gives ∙ reply_is_complete bytes id other says) in
+    let same : answer ≡ (id, other) = same_Some answer (id, other) (sym gives ∙ reply_is_complete bytes id other says) in
     (ap (λ (a : ℕ × Reply). a.0) same, ap (λ (a : ℕ × Reply). a.1) same)
 only_by bytes (Err BadMessage) id other says gives = let complete = reply_is_complete bytes id other says in absurd cc
 only_by bytes (Err NoMemory) id other says gives = refl

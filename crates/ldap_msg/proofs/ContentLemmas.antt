@@ -1,6 +1,7 @@
 -- A request that is read of a content is the one that the content says, and the one that it says is read.
 use Rattle.std.proofs.Common.{◌≡◌, ℕ, Bool, true, false, cond, eqb, List, Option, Some, None, refl, sym, ap, subst, ◌∙◌}
 use Rattle.std.proofs.lemmas.Bool.{eqb-true}
+use Rattle.std.proofs.lemmas.Option.{same_Some}
 use Rattle.ber_layout.specs.Pieces.{◌>>=◌}
 use Rattle.ber_layout.specs.Layouts.{Layout, Value, Says as SaysLayout, reads, is_clear}
 use Rattle.ber_layout.specs.Layouts.Layout.{AnyOctets, End}
@@ -23,28 +24,25 @@ pub record Sounds (is : Request) (asked : Operation) (content : List ℕ) : Type
   pub operation : operation_for is ≡ asked
   pub says : SaysContent is content
 
-pub some_is : {A : Type 0} (x y : A) → Some x ≡ Some y → x ≡ y
-some_is x y e = cc
-
 -- what was made of parts that were read
 by_reads : (l : Layout) (make : Value l → Request) (asked : Operation) (content : List ℕ) (is : Request)
     → (reads l content >>= λ (parts : Value l). Some (make parts)) ≡ Some is
     → ((parts : Value l) → SaysLayout l parts content → Sounds (make parts) asked content) → Sounds is asked content
 by_reads l make asked content is e sounds =
     let a = bind_some (reads l content) (λ (parts : Value l). Some (make parts)) is e in
-    subst (λ (r : Request). Sounds r asked content) (some_is (make a.0) is a.2) (sounds a.0 (reads_sound l a.0 content a.1))
+    subst (λ (r : Request). Sounds r asked content) (same_Some (make a.0) is a.2) (sounds a.0 (reads_sound l a.0 content a.1))
 
 pub request_sound : (asked : Operation) (content : List ℕ) (is : Request) → request_in asked content ≡ Some is → Sounds is asked content
 request_sound operation.Bind content is e =
     let a = bind_some (bind_of content) (λ (bind : BindRequest). Some (request.Bind bind)) is e in
     let b = bind_some (reads bind_layout content) (λ (parts : Value bind_layout). Some (bind_from parts)) a.0 a.1 in
     let made : Sounds (request.Bind a.0) operation.Bind content =
-    record { operation = refl; says = record { parts = b.0; says = reads_sound bind_layout b.0 content b.1; is = some_is (bind_from b.0) a.0 b.2 } } in
-    subst (λ (r : Request). Sounds r operation.Bind content) (some_is (request.Bind a.0) is a.2) made
+    record { operation = refl; says = record { parts = b.0; says = reads_sound bind_layout b.0 content b.1; is = same_Some (bind_from b.0) a.0 b.2 } } in
+    subst (λ (r : Request). Sounds r operation.Bind content) (same_Some (request.Bind a.0) is a.2) made
 request_sound operation.Unbind content is e = by_reads End (λ parts. request.Unbind) operation.Unbind content is e (λ parts says. record { operation = refl; says = says })
 request_sound operation.Search content is e =
     let a = bind_some (search_of content) (λ (search : SearchRequest). Some (request.Search search)) is e in
-    subst (λ (r : Request). Sounds r operation.Search content) (some_is (request.Search a.0) is a.2) (record { operation = refl; says = search_sound content a.0 a.1 })
+    subst (λ (r : Request). Sounds r operation.Search content) (same_Some (request.Search a.0) is a.2) (record { operation = refl; says = search_sound content a.0 a.1 })
 request_sound operation.Modify content is e =
     by_reads modify_layout (λ parts. request.Modify (modify_from parts)) operation.Modify content is e
     (λ parts says. record { operation = refl; says = record { parts = parts; says = says; is = refl } })
@@ -88,7 +86,7 @@ request_again (request.Extended name value) content says = again extended_layout
 -- the operation of a tag has that tag
 test_by : (test : Bool) (tag : ℕ) (first found : Operation) (others : Option Operation) → eqb tag (request_tag first) ≡ test
     → cond test (Some first) others ≡ Some found → (others ≡ Some found → tag ≡ request_tag found) → tag ≡ request_tag found
-test_by true tag first found others test e next = eqb-true tag (request_tag first) test ∙ ap request_tag (some_is first found e)
+test_by true tag first found others test e next = eqb-true tag (request_tag first) test ∙ ap request_tag (same_Some first found e)
 test_by false tag first found others test e next = next e
 
 tag_by : (tag : ℕ) (first found : Operation) (others : Option Operation) → cond (eqb tag (request_tag first)) (Some first) others ≡ Some found

@@ -3,6 +3,7 @@ use Rattle.std.proofs.Common.{◌≡◌, ℕ, true, cond, eqb, List, [], length,
 use Rattle.std.proofs.lemmas.Bool.{eqb-true}
 use Rattle.std.proofs.lemmas.List.{nil_from_length}
 use Rattle.std.specs.Prelude.{Result, Ok, Err, IfOk, MatchResult}
+use Rattle.std.proofs.lemmas.Option.{same_Some}
 use Rattle.ber_layout.specs.declared.kinds.ReadFault.{ReadFault}
 use Rattle.ber_layout.specs.declared.kinds.ReadFault.TheVariants.{BadMessage, NoMemory}
 use Rattle.ber_layout.specs.Pieces.{◌>>=◌}
@@ -18,7 +19,7 @@ use Rattle.ldap_msg.specs.Operations.{request_tag, operation_of}
 use Rattle.ldap_msg.specs.Controls.{controls_from}
 use Rattle.ldap_msg.specs.Contents.{operation_for, request_in, request_of}
 use Rattle.ldap_msg.specs.Messages.{message_layout, SaysIn, Says, message_from, message_in, message_of}
-use Rattle.ldap_msg.proofs.ContentLemmas.{some_is, request_sound, request_again, operation_tag, operation_again}
+use Rattle.ldap_msg.proofs.ContentLemmas.{request_sound, request_again, operation_tag, operation_again}
 
 -- the content says the message that is read of it
 pub in_sound : (content : List ℕ) (message : Message) → message_in content ≡ Some message → SaysIn message content
@@ -37,7 +38,7 @@ in_sound content message e =
       request = sounds.says;
       controls = refl;
     } in
-    subst (λ (m : Message). SaysIn m content) (some_is (made b.0) message b.2) says
+    subst (λ (m : Message). SaysIn m content) (same_Some (made b.0) message b.2) says
 
 with_fields : (message : Message) (id : ℕ) (controls : List Control) → id ≡ message.id → controls ≡ message.controls
     → Some (record { id = id; request = message.request; controls = controls }) ≡ Some message
@@ -65,7 +66,7 @@ message_sound bytes message e =
     let g = guard_passed (eqb (length a.0.rest) 0) (Some a.0.value) message a.2 in
     let none : a.0.rest ≡ [] = nil_from_length a.0.rest (eqb-true (length a.0.rest) 0 g.0) in
     let stands = required_sound 0x30 message_in SaysIn in_sound bytes a.0 a.1 in
-    subst (λ (m : Message). Says m bytes) (some_is a.0.value message g.1) (follows 0x30 SaysIn (λ rest. rest ≡ []) bytes a.0 stands none)
+    subst (λ (m : Message). Says m bytes) (same_Some a.0.value message g.1) (follows 0x30 SaysIn (λ rest. rest ≡ []) bytes a.0 stands none)
 
 -- the message that the octets say is read
 pub message_complete : (bytes : List ℕ) (message : Message) → Says message bytes → message_of bytes ≡ Some message

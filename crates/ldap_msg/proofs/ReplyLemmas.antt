@@ -3,6 +3,7 @@ use Rattle.std.proofs.Common.{◌≡◌, ℕ, Bool, true, false, cond, eqb, List
 use Rattle.std.proofs.lemmas.Bool.{eqb-true}
 use Rattle.std.proofs.lemmas.List.{nil_from_length}
 use Rattle.std.specs.Prelude.{Result, Ok, Err, IfOk, MatchResult}
+use Rattle.std.proofs.lemmas.Option.{same_Some}
 use Rattle.ber_layout.specs.declared.kinds.ReadFault.{ReadFault}
 use Rattle.ber_layout.specs.declared.kinds.ReadFault.TheVariants.{BadMessage, NoMemory}
 use Rattle.ber_layout.specs.Pieces.{◌>>=◌}
@@ -19,7 +20,6 @@ use Rattle.ldap_msg.specs.Operations.{response_tag, response_of}
 use Rattle.ldap_msg.specs.Attributes.{attribute_from}
 use Rattle.ldap_msg.specs.Results.{result_layout, result_parts, result_from, entry_layout, answered_layout, answered_parts}
 use Rattle.ldap_msg.specs.Replies.{reply_layout, response_for, SaysReply, SaysIn, Replies, ended_in, reply_in, reply_at, answer_from, answer_in, reply_of}
-use Rattle.ldap_msg.proofs.ContentLemmas.{some_is}
 
 -- the content says the reply, which is of the response
 pub record Sounds (is : Reply) (kind : Response) (content : List ℕ) : Type 0 where
@@ -32,7 +32,7 @@ by_reads : (l : Layout) (make : Value l → Reply) (kind : Response) (content : 
     → ((parts : Value l) → SaysLayout l parts content → Sounds (make parts) kind content) → Sounds is kind content
 by_reads l make kind content is e sounds =
     let a = bind_some (reads l content) (λ (parts : Value l). Some (make parts)) is e in
-    subst (λ (r : Reply). Sounds r kind content) (some_is (make a.0) is a.2) (sounds a.0 (reads_sound l a.0 content a.1))
+    subst (λ (r : Reply). Sounds r kind content) (same_Some (make a.0) is a.2) (sounds a.0 (reads_sound l a.0 content a.1))
 
 pub reply_sound : (kind : Response) (content : List ℕ) (is : Reply) → reply_in kind content ≡ Some is → Sounds is kind content
 reply_sound response.Bind content is e = by_reads result_layout (λ parts. reply.Bind (result_from parts)) response.Bind content is e (λ parts says. record { response = refl; says = says })
@@ -71,7 +71,7 @@ reply_again (reply.Extended result name value) content says =
 
 test_by : (test : Bool) (tag : ℕ) (first found : Response) (others : Option Response) → eqb tag (response_tag first) ≡ test
     → cond test (Some first) others ≡ Some found → (others ≡ Some found → tag ≡ response_tag found) → tag ≡ response_tag found
-test_by true tag first found others test e next = eqb-true tag (response_tag first) test ∙ ap response_tag (some_is first found e)
+test_by true tag first found others test e next = eqb-true tag (response_tag first) test ∙ ap response_tag (same_Some first found e)
 test_by false tag first found others test e next = next e
 
 tag_by : (tag : ℕ) (first found : Response) (others : Option Response) → cond (eqb tag (response_tag first)) (Some first) others ≡ Some found

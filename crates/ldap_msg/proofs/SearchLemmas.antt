@@ -1,5 +1,6 @@
 -- A search that is read is the one that its content says, and the one that it says is read.
 use Rattle.std.proofs.Common.{◌≡◌, ℕ, List, Option, Some, None, refl, sym, ap, subst, ◌∙◌}
+use Rattle.std.proofs.lemmas.Option.{same_Some}
 use Rattle.ber_layout.specs.Pieces.{◌>>=◌}
 use Rattle.ber_layout.specs.Layouts.{Value, reads}
 use Rattle.ber_layout.proofs.Theorems.{bind_some, reads_sound, reads_complete}
@@ -10,9 +11,6 @@ use Rattle.ldap_filter.proofs.Theorems.{filter_sound, filter_complete}
 use Rattle.ldap_msg.specs.declared.kinds.SearchRequest.{SearchRequest}
 use Rattle.ldap_msg.specs.Searches.{search_layout, filter_part, search_with, SaysSearch, search_from, search_of}
 
-some_is : (x y : SearchRequest) → Some x ≡ Some y → x ≡ y
-some_is x y e = cc
-
 -- a search that is read is the one that its content says
 pub search_sound : (content : List ℕ) (search : SearchRequest) → search_of content ≡ Some search → SaysSearch search content
 search_sound content search e =
@@ -20,7 +18,7 @@ search_sound content search e =
     let b = bind_some (filter_of (filter_part a.0)) (λ (f : Filter). Some (search_with a.0 f)) search a.2 in
     let made : SaysSearch (search_with a.0 b.0) content =
     record { parts = a.0; says = reads_sound search_layout a.0 content a.1; filter = filter_sound (filter_part a.0) b.0 b.1; is = refl } in
-    subst (λ (s : SearchRequest). SaysSearch s content) (some_is (search_with a.0 b.0) search b.2) made
+    subst (λ (s : SearchRequest). SaysSearch s content) (same_Some (search_with a.0 b.0) search b.2) made
 
 -- the search that a content says is read
 pub search_again : (search : SearchRequest) (content : List ℕ) → SaysSearch search content → search_of content ≡ Some search

@@ -1,13 +1,12 @@
 -- A written message says itself, and so does a written reply.
-use Rattle.std.proofs.Common.{◌≡◌, ℕ, ◌+◌, ◌<◌, ◌≤◌, true, eqb, cond, List, [], ◌∷◌, ◌++◌, length, map, Option, Some, None, refl, sym, ap, subst, ◌∙◌, arith, length-append, append-nil}
+use Rattle.std.proofs.Common.{◌≡◌, ℕ, ◌+◌, ◌<◌, ◌≤◌, eqb, cond, List, [], ◌∷◌, ◌++◌, length, map, Option, Some, None, refl, sym, ap, subst, ◌∙◌, arith, length-append, append-nil}
 use Rattle.std.proofs.lemmas.Bool.{ne_eqb}
 use Rattle.ber_core.specs.Element.{Elem, IsTag}
 use Rattle.ber_core.specs.Spelling.{header_octets}
 use Rattle.ber_layout.specs.Components.{Follows}
 use Rattle.ber_layout.specs.Spellings.{element_octets}
-use Rattle.ber_layout.specs.Layouts.{Layout, Value, Says as SaysLayout, IsShort, writes, is_clear}
+use Rattle.ber_layout.specs.Layouts.{IsShort, writes}
 use Rattle.ber_layout.specs.Layouts.Layout.{AnyOctets, End}
-use Rattle.ber_layout.specs.Ranges.{Within}
 use Rattle.ber_layout.proofs.Theorems.{element_spells, writes_says, fits_within}
 use Rattle.ldap_msg.specs.declared.kinds.Auth.{Auth}
 use Rattle.ldap_msg.specs.declared.kinds.Auth.TheVariants.{Simple, Other}
@@ -22,7 +21,7 @@ use Rattle.ldap_msg.specs.declared.kinds.Reply.TheVariants as reply
 use Rattle.ldap_msg.specs.Binds.{bind_layout, bind_parts, bind_from, auth_parts, auth_from, HasTag}
 use Rattle.ldap_msg.specs.Kinds.{modify_layout, modify_parts, add_layout, add_parts, rename_layout, rename_parts, compare_layout, compare_parts, extended_layout, abandon_layout}
 use Rattle.ldap_msg.specs.Searches.{search_layout, search_parts}
-use Rattle.ldap_filter.proofs.Theorems.{filter_spells}
+use Rattle.ldap_filter.proofs.Theorems.{filter_spells, spelled}
 use Rattle.ldap_msg.specs.Controls.{control_parts, controls_from, controls_parts}
 use Rattle.ldap_msg.specs.Contents.{SaysContent, content_octets}
 use Rattle.ldap_msg.specs.Messages.{message_layout, message_parts, Says, request_octets}
@@ -30,10 +29,6 @@ use Rattle.ldap_msg.specs.Results.{result_layout, result_parts, entry_layout, en
 use Rattle.ldap_msg.specs.Replies.{reply_layout, reply_parts, reply_content, SaysReply, Replies, reply_octets}
 use Rattle.ldap_msg.specs.Ranges.{IsWithin, IsWritable, IsReplyWithin, IsWritableReply}
 use Rattle.ldap_msg.proofs.PartLemmas.{controls_back, modify_back, add_back, attributes_back}
-
--- what is written of parts in their ranges says them
-spelled : (l : Layout) → is_clear l ≡ true → (parts : Value l) → Within l parts → IsShort (writes l parts) → SaysLayout l parts (writes l parts)
-spelled l clear parts within short = writes_says l parts clear (fits_within l parts within short)
 
 -- what is made of the parts of a bind request is the request
 auth_back : (auth : Auth) → HasTag auth → auth_from (auth_parts auth) ≡ auth

@@ -11,8 +11,8 @@ use Rattle.ldif_core.specs.Lines.{Line, numbered, logical}
 use Rattle.ldif_core.specs.Records.{is_comment, without_comments, is_version, without_version, is_blank, record_between, records}
 use Rattle.ldif_core.specs.Places.{IsLinesAfter, physical_from, logical_from, content_from, body_from}
 use Rattle.ldif_core.specs.Steps.{ahead, is_blank_ahead, is_version_ahead, IsRead}
-use Rattle.ldif_core.proofs.LogicalLemmas.{choose, other_choice}
 use Rattle.ldif_core.proofs.AfterLemmas.{after_both}
+use Rattle.base_laws.proofs.Theorems.{choose, other_choice}
 
 -- at the end no line is left
 pub content-none : (text : List ℕ) (at : Position) → length text ≤ at.offset → content_from text at ≡ []

@@ -6,7 +6,7 @@ use Rattle.std.proofs.lemmas.List.Elements.{All-from_get_or}
 use Rattle.std.proofs.lemmas.List.Folds.{list_any_at, list_any_none}
 use Rattle.std.proofs.lemmas.List.Sums.{fails_before_first, passes_at_first}
 use Rattle.ldif_core.specs.Fields.{is_colon, is_kind, field_after, field_of}
-use Rattle.ldif_core.proofs.LogicalLemmas.{choose, other_choice}
+use Rattle.base_laws.proofs.Theorems.{choose, other_choice}
 
 -- whether an octet passes, by the place of the first that does
 list_any-here : (test : ℕ → Bool) (xs : List ℕ) → position_or_len test xs < length xs → list_any test xs ≡ true

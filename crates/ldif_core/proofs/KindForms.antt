@@ -17,6 +17,7 @@ use Rattle.ldif_core.specs.Fields.{Field, is_colon, is_kind, is_changetype, fiel
 use Rattle.ldif_core.specs.Records.{◌>>=◌, is_blank, attribute_lines, record_of, record_between, records}
 use Rattle.ldif_core.specs.Places.{IsNext, body_from, records_from}
 use Rattle.ldif_core.proofs.OctetLemmas.{list_all-weaker, passes-at}
+use Rattle.plain_values.proofs.Theorems.{both_given}
 
 -- the type of a line has the form of a type
 abbrev pub HasKind : RecordLine → Type 0
@@ -57,24 +58,20 @@ line-kind : (line : Line) (read : RecordLine) → attribute_line line ≡ Ok rea
 line-kind line read is = attribute-kind line.number (field_of line.octets) read (field_of-kind line.octets) is
 
 -- and so have the lines of a record
-bind-ok : {A B : Type 0} (reading : Result A LineFault) (next : A → Result B LineFault) (read : B) → (reading >>= next) ≡ Ok read → (first : A) × (reading ≡ Ok first) × (next first ≡ Ok read)
-bind-ok (Ok first) next read is = (first, refl, is)
-bind-ok (Err bad) next read is = cc is
-
 lines-kinds : (lines : List Line) (read : List RecordLine) → attribute_lines lines ≡ Ok read → AllByRecursion HasKind read
 unfolding attribute_lines
 lines-kinds [] read is = let none : [] ≡ read = cc is in subst (AllByRecursion HasKind) none tt
 lines-kinds (line ∷ rest) read is =
-    let first = bind-ok (attribute_line line) _ read is in
-    let others = bind-ok (attribute_lines rest) _ read first.2 in
+    let first = both_given (attribute_line line) _ read is in
+    let others = both_given (attribute_lines rest) _ read first.2 in
     let same : first.0 ∷ others.0 ≡ read = cc others.2 in
     subst (AllByRecursion HasKind) same (line-kind line first.0 first.1, lines-kinds rest others.0 others.1)
 
 record-kinds : (first : Line) (rest : List Line) (read : Record) → record_of first rest ≡ Ok read → AllByRecursion HasKind read.lines
 unfolding record_of
 record-kinds first rest read is =
-    let name = bind-ok (name_line (length rest == 0) first) _ read is in
-    let lines = bind-ok (attribute_lines rest) _ read name.2 in
+    let name = both_given (name_line (length rest == 0) first) _ read is in
+    let lines = both_given (attribute_lines rest) _ read name.2 in
     let same : record { line = first.number; name = name.0; lines = lines.0 } ≡ read = cc lines.2 in
     subst (λ (found : Record). AllByRecursion HasKind found.lines) same (lines-kinds rest lines.0 lines.1)
 

@@ -1,19 +1,11 @@
 -- Lemmas on lines with their continuations.
-use Rattle.std.proofs.Common.{◌≡◌, ℕ, ◌∙◌, sym, ap, refl, Bool, true, false, List, [], ◌∷◌, ◌++◌, drop, if◌then◌else◌}
+use Rattle.std.proofs.Common.{◌≡◌, ℕ, ◌∙◌, sym, ap, refl, true, false, List, [], ◌∷◌, ◌++◌, drop, if◌then◌else◌}
 use Rattle.std.proofs.lemmas.List.{append-nil, append_assoc}
 use Rattle.ldif_core.specs.declared.types.Position.{Position}
 use Rattle.ldif_core.specs.Lines.{Line, is_continuation, continued, beginning, logical}
 use Rattle.ldif_core.specs.Places.{physical_from, logical_from}
 use Rattle.ldif_core.specs.Steps.{goes_on}
-
--- a test that holds chooses the first, one that fails the second
-pub choose : {A : Type 0} (test : Bool) (found other : A) → test ≡ true → (if test then found else other) ≡ found
-choose true found other holds = refl
-choose false found other holds = cc holds
-
-pub other_choice : {A : Type 0} (test : Bool) (found other : A) → test ≡ false → (if test then found else other) ≡ other
-other_choice true found other fails = cc fails
-other_choice false found other fails = refl
+use Rattle.base_laws.proofs.Theorems.{choose, other_choice}
 
 -- where the first line is no continuation, there is none at the front
 pub continued-none : (lines : List Line) → goes_on lines ≡ false → continued lines ≡ []

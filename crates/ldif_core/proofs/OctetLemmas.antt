@@ -11,7 +11,7 @@ use Rattle.base64.specs.GeneralPurpose.{engine_symbols, encode_of}
 use Rattle.base64.specs.Rfc4648.{encode_symbols, padding_len}
 use Rattle.schema_core.specs.Naming.{is_keystring}
 use Rattle.ldif_core.specs.Written.{is_plain_octet, is_plain, written_value}
-use Rattle.ldif_core.proofs.LogicalLemmas.{choose, other_choice}
+use Rattle.base_laws.proofs.Theorems.{choose, other_choice}
 
 -- no line feed and no carriage return
 abbrev pub is_inside : ℕ → Bool

@@ -14,7 +14,7 @@ use Rattle.ldif_core.specs.Lines.{Line}
 use Rattle.ldif_core.specs.Fields.{attribute_line, name_line}
 use Rattle.ldif_core.specs.Records.{◌>>=◌, is_blank, attribute_lines, record_of, record_between, records}
 use Rattle.ldif_core.specs.Steps.{ahead, ends_ahead, before_blank, after_blank, after_these}
-use Rattle.ldif_core.proofs.LogicalLemmas.{choose, other_choice}
+use Rattle.base_laws.proofs.Theorems.{choose, other_choice}
 
 -- the lines before the first empty one and after it, by the first line
 pub before-blank : (line : Line) (rest : List Line) → is_blank line ≡ true → before_blank (line ∷ rest) ≡ []

@@ -18,9 +18,9 @@ use Rattle.ldif_core.specs.Records.{is_comment, without_comments}
 use Rattle.ldif_core.specs.Places.{file_start, physical_from, logical_from, content_from}
 use Rattle.ldif_core.specs.Written.{written_value, written_line, written_values, written_attributes, written_entry, AreInTable}
 use Rattle.ldif_core.specs.WrittenFile.{TypeAndOctets, values_in, IsWritable, written_records}
-use Rattle.ldif_core.proofs.LogicalLemmas.{other_choice, choose}
 use Rattle.ldif_core.proofs.TableNames.{not_changetype-name_of}
 use Rattle.ldif_core.proofs.WrittenLineLemmas.{lines-inside, lines-written, IsRow}
+use Rattle.base_laws.proofs.Theorems.{other_choice, choose}
 
 -- a type and octets that are written and read again
 pub record IsGiven (found : TypeAndOctets) : Type 0 where

@@ -18,9 +18,9 @@ use Rattle.ldif_core.specs.Lines.{Line, begins_with, is_continuation}
 use Rattle.ldif_core.specs.Fields.{Field, is_colon, is_kind, is_dn, is_changetype, after_spaces, field_after, field_of, decoded, value_of, with_value, attribute_of, attribute_line, with_name, name_of, name_line}
 use Rattle.ldif_core.specs.Records.{is_comment, is_blank}
 use Rattle.ldif_core.specs.Written.{is_plain, written_value, written_line}
-use Rattle.ldif_core.proofs.LogicalLemmas.{choose, other_choice}
 use Rattle.ldif_core.proofs.FieldLemmas.{field_of-kind}
 use Rattle.ldif_core.proofs.OctetLemmas.{is_inside, is_name_octet, is_code_octet, list_all-join, passes-at, keystring-name, keystring-inside, encoded-code, written-inside, strip-inside}
+use Rattle.base_laws.proofs.Theorems.{choose, other_choice}
 
 -- the first colon stands behind a type
 no_colon : (octet : ℕ) → is_name_octet octet ≡ true → not (octet == 58) ≡ true

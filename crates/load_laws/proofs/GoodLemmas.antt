@@ -16,8 +16,9 @@ use Rattle.op_write.specs.DataFile.{record_entry, loads_after, loads_records, fi
 use Rattle.op_write.proofs.Theorems.{entry_of_record-named}
 use Rattle.load_laws.proofs.OctetLemmas.{AreBelow-from_IsBytes}
 use Rattle.load_laws.proofs.ReadLemmas.{HasOctets, GivesOctets, GivesOctets-records_from}
-use Rattle.load_laws.proofs.LoadableLemmas.{both_given, IsLoadable-entry_of_record}
+use Rattle.load_laws.proofs.LoadableLemmas.{IsLoadable-entry_of_record}
 use Rattle.load_laws.proofs.JoinLemmas.{placed-same, in_file-given}
+use Rattle.plain_values.proofs.Theorems.{both_given}
 
 -- an entry that is placed has a free name, a superior, and breaks no rule
 record IsFree (entries : List EntryInformation) (entry : EntryInformation) : Type 0 where

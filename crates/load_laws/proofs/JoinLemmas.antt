@@ -14,7 +14,8 @@ use Rattle.op_write.specs.DataFile.{in_file, record_entry, loads_after, loads_re
 use Rattle.load_laws.specs.Loadable.{IsLoadable}
 use Rattle.load_laws.proofs.OctetLemmas.{AreBelow-from_IsBytes}
 use Rattle.load_laws.proofs.ReadLemmas.{HasOctets, GivesOctets, GivesOctets-records_from}
-use Rattle.load_laws.proofs.LoadableLemmas.{both_given, IsLoadable-entry_of_record}
+use Rattle.load_laws.proofs.LoadableLemmas.{IsLoadable-entry_of_record}
+use Rattle.plain_values.proofs.Theorems.{both_given}
 
 -- an entry that is placed is as it was
 unless_fault :

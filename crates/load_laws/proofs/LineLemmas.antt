@@ -1,12 +1,9 @@
 -- The lines of good attributes, put in one after the other, give the attributes in their order.
-use Rattle.std.proofs.Common.{◌≡◌, ◌≢◌, ℕ, ◌+◌, ◌==◌, nat_le, Bool, true, false, if◌then◌else◌, List, [], ◌∷◌, ◌++◌, map, length, Option, Some, None, Result, Ok, refl, sym, ap, subst, ◌∙◌, arith}
+use Rattle.std.proofs.Common.{◌≡◌, ◌≢◌, ℕ, ◌+◌, ◌==◌, nat_le, Bool, true, false, if◌then◌else◌, List, [], ◌∷◌, ◌++◌, map, length, Option, Some, None, Result, Ok, refl, sym, ap, subst, ◌∙◌}
 use Rattle.std.specs.List.{AllByRecursion, IsDistinct}
-use Rattle.std.specs.Str.{bytes_eq}
-use Rattle.std.proofs.lemmas.Bool.{eq-eqb, false_from_ne_true, true≢false}
-use Rattle.std.proofs.lemmas.Bool.Decides.{nat_tests}
+use Rattle.std.proofs.lemmas.Bool.{eq-eqb}
 use Rattle.std.proofs.lemmas.List.{append_assoc, append-nil}
 use Rattle.std.proofs.lemmas.Option.{none-some, slice_get_within}
-use Rattle.std.proofs.lemmas.Slice.Eq.{bytes_eq-Decides}
 use Rattle.schema_core.specs.Attributes.{attributes, IsAttrId, attribute_at, attr_of, name_of}
 use Rattle.schema_core.specs.Attributes as table
 use Rattle.schema_core.proofs.Theorems.{attr_of-name_of}
@@ -19,6 +16,7 @@ use Rattle.ldif_core.specs.WrittenFile.{TypeAndOctets, values_in, lines_from}
 use Rattle.op_write.specs.Loading.{RecordFault}
 use Rattle.op_write.specs.Loading.{◌>>=◌, loaded_value, with_new_value, with_new_kind, with_line, with_lines}
 use Rattle.load_laws.specs.Loadable.{IsLoadableValue}
+use Rattle.base_laws.proofs.Theorems.{text_apart, number_apart}
 
 -- the type of a value that is read is in the table
 read_row :
@@ -75,22 +73,14 @@ module _ {A : Type 0} where
   last_apart eq one [] back x apart = apart.0
   last_apart eq one (first ∷ front) back x apart = last_apart eq one front back x apart.1
 
-key_back : (one other : List ℕ) → bytes_eq one other ≡ false → bytes_eq other one ≡ false
-key_back one other apart = false_from_ne_true (bytes_eq other one) (λ same.
-    let is : other ≡ one = (bytes_eq-Decides other one).0 same in
-    true≢false (sym ((bytes_eq-Decides one other).1 (sym is)) ∙ apart))
-
 has_key-before :
     (front back : List Keyed) (value : Keyed) → IsDistinct is_match (front ++ value ∷ back)
     → has_key value.key front ≡ false
 unfolding IsDistinct
 has_key-before [] back value distinct = refl
 has_key-before (first ∷ front) back value distinct =
-    rw (key_back first.key value.key (last_apart is_match first front back value distinct.0))
+    rw (text_apart first.key value.key (last_apart is_match first front back value distinct.0))
     (has_key-before front back value distinct.1)
-
-kind_back : (one other : ℕ) → (one == other) ≡ false → (other == one) ≡ false
-kind_back one other apart = grind (arith, nat_tests)
 
 kind_after :
     (kind : ℕ) (front back : List Attribute) (attribute : Attribute)
@@ -104,7 +94,7 @@ apart-before :
 unfolding IsDistinct
 apart-before [] back attribute distinct = tt
 apart-before (first ∷ front) back attribute distinct = (
-  kind_back first.kind attribute.kind (kind_after first.kind front back attribute distinct.0),
+  number_apart first.kind attribute.kind (kind_after first.kind front back attribute distinct.0),
   apart-before front back attribute distinct.1,
 )
 

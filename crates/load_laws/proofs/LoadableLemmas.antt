@@ -19,6 +19,7 @@ use Rattle.load_laws.specs.Loadable.{IsLoadableValue, IsLoadable}
 use Rattle.load_laws.proofs.OctetLemmas.{IsBytes-from_AreBelow}
 use Rattle.load_laws.proofs.ReadLemmas.{HasOctets}
 use Rattle.load_laws.proofs.ValueLemmas.{IsLoadableValue-loaded, IsOwn, last_rdn-own}
+use Rattle.plain_values.proofs.Theorems.{both_given}
 
 -- the values of attributes are loadable
 abbrev AreLoadable : List Attribute → Type 0
@@ -90,13 +91,6 @@ IsLoadable-new_kind entry more line None octets was is = absurd cc
 IsLoadable-new_kind entry more line (Some kind) octets was is =
     IsLoadable-new_value entry more line.line kind (loaded_value kind line.value)
     (λ value. IsLoadableValue-loaded kind line.value value (IsBytes-from_AreBelow line.value octets)) was is
-
--- where two steps gave something, so did each
-pub both_given :
-    {A B E : Type 0} (found : Result A E) (next : A → Result B E) (value : B) → (found >>= next) ≡ Ok value
-    → (given : A) × (found ≡ Ok given) × (next given ≡ Ok value)
-both_given (Ok given) next value is = (given, refl, is)
-both_given (Err fault) next value is = absurd cc
 
 IsLoadable-with_lines :
     (lines : List RecordLine) (entry more : EntryInformation) → AllByRecursion HasOctets lines → IsLoadable entry

@@ -6,10 +6,10 @@ use Rattle.std.proofs.Math.Utf8.{encode, encodes, scalar, scalars, scalar_cases}
 use Rattle.std.proofs.lemmas.Bool.{cond_both, and_parts, ltb-true}
 use Rattle.std.proofs.Math.Dec.{ltb}
 use Rattle.base64.specs.GeneralPurpose.{IsBytes}
-use Rattle.dn_names.specs.Names.{TypeAndValue, RdnSequence, IsTextRdn, IsTextName}
-use Rattle.dn_names.specs.GoodNames.{IsGoodPair, IsGoodRdn, IsGoodName}
+use Rattle.dn_names.specs.Names.{RdnSequence, IsTextRdn}
+use Rattle.dn_names.specs.GoodNames.{IsGoodName}
 use Rattle.dn_names.specs.Printing.{print_name}
-use Rattle.dn_names.proofs.Theorems.{all_reverse, is_utf8-naming_value, IsUtf8-print_name}
+use Rattle.dn_names.proofs.Theorems.{all_reverse, IsUtf8-print_name, text_name}
 use Rattle.load_laws.proofs.PartLemmas.{all_take, all_drop, all_append}
 
 -- each is an octet
@@ -60,15 +60,6 @@ AreBelow-encodes (c ∷ characters) are =
 pub IsBytes-from_IsUtf8 : (octets : List ℕ) → IsUtf8 octets → IsBytes octets
 IsBytes-from_IsUtf8 octets (characters, (are, spelled)) =
     IsBytes-from_AreBelow octets (subst AreBelow spelled (AreBelow-encodes characters are))
-
--- the values of a good name are texts
-text_rdn : (rdn : List TypeAndValue) → AllByRecursion IsGoodPair rdn → IsTextRdn rdn
-text_rdn [] good = tt
-text_rdn (pair ∷ rdn) good = (is_utf8-naming_value pair.kind pair.value.octets pair.value good.0, text_rdn rdn good.1)
-
-text_name : (name : RdnSequence) → AllByRecursion IsGoodRdn name → IsTextName name
-text_name [] good = tt
-text_name (rdn ∷ rdns) good = (text_rdn rdn good.0.good, text_name rdns good.1)
 
 pub IsBytes-print_name : (name : RdnSequence) → IsGoodName name → IsBytes (print_name name)
 IsBytes-print_name name good =

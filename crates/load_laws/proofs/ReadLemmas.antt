@@ -14,6 +14,7 @@ use Rattle.load_laws.proofs.OctetLemmas.{AreBelow, below_drop}
 use Rattle.load_laws.proofs.PartLemmas.{either_way, all_slice_split}
 use Rattle.load_laws.proofs.DecodedLemmas.{AreBelow-decoded}
 use Rattle.load_laws.proofs.FileLemmas.{OfOctets, AreOfOctets, AreOfOctets-body_from}
+use Rattle.plain_values.proofs.Theorems.{both_given}
 
 -- the value of a line that was read is of octets
 abbrev pub HasOctets : RecordLine → Type 0
@@ -94,20 +95,14 @@ HasOctets-attribute_line line read below is =
     HasOctets-attribute_of line.number (field_of line.octets) read (λ field. below-field_of line.octets field below) is
 
 -- the lines of a record
-both_read :
-    {A B : Type 0} (reading : Result A LineFault) (next : A → Result B LineFault) (read : B) → (reading >>= next) ≡ Ok read
-    → (first : A) × (reading ≡ Ok first) × (next first ≡ Ok read)
-both_read (Ok first) next read is = (first, refl, is)
-both_read (Err bad) next read is = absurd cc
-
 HasOctets-attribute_lines :
     (lines : List Line) (read : List RecordLine) → AreOfOctets lines → attribute_lines lines ≡ Ok read
     → AllByRecursion HasOctets read
 unfolding attribute_lines
 HasOctets-attribute_lines [] read all is = let none : [] ≡ read = cc in subst (AllByRecursion HasOctets) none tt
 HasOctets-attribute_lines (line ∷ rest) read all is =
-    let first = both_read (attribute_line line) _ read is in
-    let others = both_read (attribute_lines rest) _ read first.2 in
+    let first = both_given (attribute_line line) _ read is in
+    let others = both_given (attribute_lines rest) _ read first.2 in
     let same : first.0 ∷ others.0 ≡ read = cc others.2 in
     let here = HasOctets-attribute_line line first.0 all.0 first.1 in
     subst (AllByRecursion HasOctets) same (here, HasOctets-attribute_lines rest others.0 all.1 others.1)
@@ -117,8 +112,8 @@ HasOctets-record_of :
     → AllByRecursion HasOctets given.lines
 unfolding record_of
 HasOctets-record_of first rest given all is =
-    let name = both_read (name_line (length rest == 0) first) _ given is in
-    let lines = both_read (attribute_lines rest) _ given name.2 in
+    let name = both_given (name_line (length rest == 0) first) _ given is in
+    let lines = both_given (attribute_lines rest) _ given name.2 in
     let same : record { line = first.number; name = name.0; lines = lines.0 } ≡ given = cc lines.2 in
     subst (λ (found : Record). AllByRecursion HasOctets found.lines) same (HasOctets-attribute_lines rest lines.0 all lines.1)
 

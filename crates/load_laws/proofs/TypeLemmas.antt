@@ -2,7 +2,7 @@
 use Rattle.std.proofs.Common.{◌≡◌, ℕ, ◌==◌, ◌<◌, Bool, true, false, not, ◌&&◌, ◌||◌, List, [], ◌∷◌, ◌++◌, length, Option, Some, None, refl, sym, subst, ◌∙◌, inl, inr, append_assoc, arith}
 use Rattle.std.specs.List.{AllByRecursion, filter_map, list_any}
 use Rattle.std.specs.Option.{option_map_or}
-use Rattle.std.proofs.lemmas.Bool.{or_cases, or_parts, not-false, eqb-true}
+use Rattle.std.proofs.lemmas.Bool.{or_cases, or_parts, not-false, eqb-true, and_parts}
 use Rattle.schema_core.specs.Attributes.{IsAttrId, attributes, attr_of}
 use Rattle.schema_core.specs.Classes.{Class, class_at, numbers_of, required_of, allowed_of}
 use Rattle.schema_core.proofs.Theorems.{IsAttrId-from_attr_of}
@@ -55,15 +55,11 @@ among_known kind (first ∷ kinds) is all = elim (or_cases (kind == first) (is_a
 ]
 
 -- and the four that stand besides
-first_true : (one other : Bool) → (one && other) ≡ true → one ≡ true
-first_true true other is = refl
-first_true false other is = absurd cc
-
 besides_known : (kind : ℕ) (entry : EntryInformation) → is_permitted_besides kind entry ≡ true → IsAttrId kind
 unfolding attributes
 besides_known kind entry is = elim (or_cases _ _ is) [
   | inl e ↦ (let same = eqb-true kind 33 e in subst IsAttrId (sym same) (omega arith))
-  | inr f ↦ elim (or_cases _ _ (first_true _ _ f)) [
+  | inr f ↦ elim (or_cases _ _ (and_parts _ _ f).0) [
     | inl g ↦ elim (or_cases _ _ g) [
       | inl e ↦ (let same = eqb-true kind 29 e in subst IsAttrId (sym same) (omega arith))
       | inr e ↦ (let same = eqb-true kind 31 e in subst IsAttrId (sym same) (omega arith))

@@ -12,7 +12,7 @@ use Rattle.dn_names.specs.GoodNames.{IsGoodPair, IsGoodRdn, IsGoodName}
 use Rattle.dn_names.specs.NameValues.{value_key, value_of}
 use Rattle.dn_names.specs.Resolving.{naming_value}
 use Rattle.dn_names.specs.Values.{plain_key}
-use Rattle.dn_names.proofs.Theorems.{is_utf8-naming_value}
+use Rattle.dn_names.proofs.Theorems.{is_utf8-naming_value, value_of-octets}
 use Rattle.op_write.specs.Loading.{loaded_value}
 use Rattle.load_laws.specs.Loadable.{IsLoadableValue}
 use Rattle.load_laws.proofs.OctetLemmas.{IsBytes-from_IsUtf8}
@@ -21,17 +21,6 @@ use Rattle.load_laws.proofs.PartLemmas.{all_drop, all_joined, all_from}
 -- the octets with their key, where there is one
 abbrev with_key : List ℕ → Option (List ℕ) → Option Keyed
 with_key octets key = option_map (λ key. record { octets = octets; key = key }) key
-
--- a value that is found has the octets that it was found for
-octets-found :
-    (key : Option (List ℕ)) (octets : List ℕ) (value : Keyed)
-    → with_key octets key ≡ Some value → value.octets ≡ octets
-octets-found None octets value is = absurd cc
-octets-found (Some key) octets value is = cc
-
-value_of-octets : (kind : ℕ) (octets : List ℕ) (value : Keyed) → value_of kind octets ≡ Some value → value.octets ≡ octets
-unfolding value_of
-value_of-octets kind octets value is = octets-found (option_and_then (λ syntax. value_key syntax octets) (syntax_of kind)) octets value is
 
 -- a value that is loaded of octets is loadable
 loadable_within :

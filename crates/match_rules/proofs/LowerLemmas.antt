@@ -54,7 +54,7 @@ list_all-lower test agree octets = list_all-map test to_ascii_lowercase octets �
 is_filled-lower : (octets : List ℕ) → is_filled (lower_case octets) ≡ is_filled octets
 is_filled-lower octets = ap (λ n. ltb 0 n) (length-map octets to_ascii_lowercase)
 
-is_utf8-ascii : (octets : List ℕ) → IsAscii octets → is_utf8 octets ≡ true
+pub is_utf8-ascii : (octets : List ℕ) → IsAscii octets → is_utf8 octets ≡ true
 is_utf8-ascii octets ascii = is_utf8-from_IsUtf8 octets (IsUtf8-from_ascii octets ascii)
 
 ascii-lower : (octet : ℕ) → ltb (to_ascii_lowercase octet) 128 ≡ ltb octet 128

@@ -8,3 +8,4 @@ pub use Rattle.match_rules.proofs.AsciiLemmas.{prepared_text-ascii}
 pub use Rattle.match_rules.proofs.LawsLemmas.{prepared-phone, prepared-country, key_of-case, key_of-key, key_of-plain}
 -- the order of keys
 pub use Rattle.match_rules.proofs.OrderLemmas.{slice_cmp-IsBefore}
+pub use Rattle.match_rules.proofs.LowerLemmas.{is_utf8-ascii}

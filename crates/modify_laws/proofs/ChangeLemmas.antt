@@ -2,6 +2,7 @@
 use Rattle.std.proofs.Common.{◌≡◌, ◌≢◌, ℕ, true, false, List, [], ◌∷◌, map, Option, Some, None, Ok, refl, sym, ap, subst, ◌∙◌}
 use Rattle.std.proofs.lemmas.Bool.{not-true, not-false, not_from_true, not_from_false}
 use Rattle.plain_values.specs.Results.{◌>>=◌}
+use Rattle.plain_values.proofs.Theorems.{none_of, none_from, not_when, when_not, both_given}
 use Rattle.dn_names.specs.Names.{Keyed}
 use Rattle.dir_tree.specs.Entries.{EntryInformation, values_of}
 use Rattle.aci_item.specs.declared.permission.Permission.TheVariants as permission
@@ -14,7 +15,6 @@ use Rattle.entry_changes.specs.Changes.{Asks, Modification, are_none, withheld, 
 use Rattle.entry_changes.proofs.Theorems.{filled_from as some_there}
 use Rattle.modify_laws.specs.Changing.{MayAddValue, MayAddValues, MayRemoveValue, MayRemoveValues, MayReplaceValues, MayDo, MayChangeEach}
 use Rattle.modify_laws.proofs.TableLemmas.{none_of_both, none_from_both, each_from_none, none_from_each, granted_where, where_granted, granted_where_both, where_both_granted}
-use Rattle.op_update.proofs.Theorems.{none_of, none_from, not_when, when_not, both_given}
 
 -- no values are there, or some
 none_there : (values : List Keyed) → are_none values ≡ true → values ≡ []

@@ -2,11 +2,12 @@
 use Rattle.std.proofs.Common.{◌≡◌, Bool, true, false, List, [], ◌∷◌, if◌then◌else◌, Ok, Err, refl, subst}
 use Rattle.std.specs.List.{AllByRecursion, IsDistinct, list_any}
 use Rattle.plain_values.specs.Results.{◌>>=◌}
+use Rattle.plain_values.proofs.Theorems.{both_given}
 use Rattle.dir_tree.specs.Entries.{Attribute, is_match}
 use Rattle.ldap_msg.specs.declared.operations.ResultCode.{ResultCode}
 use Rattle.ldap_msg.specs.declared.kinds.Change.{Change}
 use Rattle.op_update.specs.NewEntries.{read_attribute, repeats}
-use Rattle.op_update.proofs.Theorems.{distinct-repeats as IsDistinct-from_repeats, both_given}
+use Rattle.op_update.proofs.Theorems.{distinct-repeats as IsDistinct-from_repeats}
 use Rattle.entry_changes.specs.declared.kind.ChangeKind.{ChangeKind}
 use Rattle.entry_changes.specs.Changes.{Modification}
 use Rattle.op_modify.specs.ReadChanges.{is_no_change, change_of, change_with, read_change, read_each, read_changes}

@@ -20,12 +20,13 @@ use Rattle.op_asking.specs.Targets.{is_suffix}
 use Rattle.read_model.specs.Views.{result_of}
 use Rattle.op_update.specs.Adding.{rule_refusal}
 use Rattle.op_update.specs.Updates.{Changed, refused}
-use Rattle.op_update.proofs.Theorems.{none_of, none_from, not_when, when_not, not_broken, unless-good, unless-refused}
+use Rattle.op_update.proofs.Theorems.{not_broken, unless-good, unless-refused}
 use Rattle.entry_changes.specs.Renaming.{renamed_entry}
 use Rattle.op_modify.specs.Renames.{moves, new_name, taken_refusal, other_named, rename_refusal, renamed}
 use Rattle.modify_laws.proofs.FoundLemmas.{free_beside}
 use Rattle.modify_laws.proofs.NameLemmas.{IsNewName, IsNewName-read}
 use Rattle.modify_laws.proofs.RenamingLemmas.{renamed_found, renamed_read, by_reading}
+use Rattle.plain_values.proofs.Theorems.{none_of, none_from, not_when, when_not}
 
 -- what a target meets that is renamed, and the entry that it becomes
 pub record IsRenamable (entries : List EntryInformation) (who : Requester) (target entry : EntryInformation) : Type 0 where

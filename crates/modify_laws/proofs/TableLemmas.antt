@@ -4,7 +4,7 @@ use Rattle.std.specs.List.{AllByRecursion}
 use Rattle.std.proofs.lemmas.Bool.{not-false, not_from_true}
 use Rattle.plain_values.specs.Results.{◌>>=◌}
 use Rattle.plain_values.specs.Refusals.{when, first_some}
-use Rattle.op_update.proofs.Theorems.{none_of, none_from, when_not, not_when}
+use Rattle.plain_values.proofs.Theorems.{none_of, none_from, when_not, not_when}
 
 -- two tables, one behind the other
 pub none_of_both :

@@ -20,7 +20,6 @@ use Rattle.acdf_filters.specs.Asking.{Protected, Entry, Kind, Value}
 use Rattle.ldap_msg.specs.declared.operations.ResultCode.TheVariants as code
 use Rattle.ldap_msg.specs.declared.kinds.KindValues.{KindValues}
 use Rattle.read_model.specs.Views.{result_of}
-use Rattle.plain_values.specs.Refusals.{when, first_some}
 use Rattle.op_update.specs.NewEntries.{read_values, read_each, read_attributes, repeats, new_entry}
 use Rattle.op_update.specs.Adding.{refuses_entry, rule_refusal}
 use Rattle.op_update.specs.Updates.{refused, unless, deleted_named, added_named}
@@ -42,13 +41,6 @@ bare name = record { name = name; attributes = [] }
 -- a type and values as a request gives them
 given : List ℕ → List (List ℕ) → KindValues
 given kind values = record { kind = kind; values = values }
-
--- the first row that applies decides
-the_first_row : first_some {A = ℕ} (when false 1 ∷ when true 2 ∷ when true 3 ∷ []) ≡ Some 2
-the_first_row = refl
-
-no_row : first_some {A = ℕ} (when false 1 ∷ when false 2 ∷ []) ≡ None
-no_row = refl
 
 -- a name that is none, and the empty name
 a_bad_name : (entries : List EntryInformation) (who : Requester) → deleted_named entries who (Err TooMany) ≡ refused entries (result_of code.InvalidDnSyntax)

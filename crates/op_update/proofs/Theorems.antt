@@ -1,4 +1,4 @@
 -- What crates above may cite of what is added and deleted.
 pub use Rattle.op_update.proofs.ReadingLemmas.{distinct-repeats, values-filled, put_before, before-none, before-more}
 pub use Rattle.op_update.proofs.UpdateLemmas.{changed-refused, changed-done, changed-like}
-pub use Rattle.op_update.proofs.TableLemmas.{none_of, none_from, when_not, not_when, unless-good, unless-refused, unless-made, not_broken, both_given}
+pub use Rattle.op_update.proofs.TableLemmas.{unless-good, unless-refused, unless-made, not_broken}

@@ -1,7 +1,8 @@
--- A count of faults, and lists of numbers, on known cases.
-use Rattle.std.proofs.Common.{◌≡◌, refl, inl, inr, arith, true, false, [], ◌∷◌}
+-- A count of faults, lists of numbers, and tables of refusals, on known cases.
+use Rattle.std.proofs.Common.{◌≡◌, ℕ, refl, inl, inr, arith, true, false, [], ◌∷◌, Some, None}
 use Rattle.plain_values.specs.Counts.{Rose, NeverFalls, last_count, next_count}
 use Rattle.plain_values.specs.Numbers.{has}
+use Rattle.plain_values.specs.Refusals.{when, first_some}
 
 -- from 3 to 4 it rose
 three_to_four : Rose 3 4
@@ -31,3 +32,10 @@ seven_is_among = refl
 
 five_is_not : has 5 (3 ∷ 7 ∷ []) ≡ false
 five_is_not = refl
+
+-- the first row that applies decides
+the_first_row : first_some {A = ℕ} (when false 1 ∷ when true 2 ∷ when true 3 ∷ []) ≡ Some 2
+the_first_row = refl
+
+no_row : first_some {A = ℕ} (when false 1 ∷ when false 2 ∷ []) ≡ None
+no_row = refl

@@ -11,10 +11,10 @@ use Rattle.std.proofs.lemmas.Bool.{and_parts}
 use Rattle.schema_core.specs.Oid.{IsNumber, IsDottedOid, is_number, is_dotted_oid, parts}
 
 -- a digit is what the test of digits passes
-digit_passes : (c : ℕ) → IsAsciiDigit c → is_ascii_digit c ≡ true
+pub digit_passes : (c : ℕ) → IsAsciiDigit c → is_ascii_digit c ≡ true
 digit_passes c digit = grind (arith, nat_tests)
 
-passes_digit : (c : ℕ) → is_ascii_digit c ≡ true → IsAsciiDigit c
+pub passes_digit : (c : ℕ) → is_ascii_digit c ≡ true → IsAsciiDigit c
 passes_digit c passes = grind (arith, nat_tests)
 
 -- the last part of the test of numbers, from its fact and back

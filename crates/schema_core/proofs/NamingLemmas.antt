@@ -1,8 +1,8 @@
 -- A text names at most one of the rows that are distinct.
 use Rattle.std.proofs.Common.{◌≡◌, ℕ, zero, suc, Bool, true, List, [], ◌∷◌, slice_get, Some, ap, sym, ◌∙◌, inl, inr}
-use Rattle.std.proofs.lemmas.Bool.{or_cases, and_parts, or_left, or_right}
+use Rattle.std.proofs.lemmas.Bool.{or_cases, or_left, or_right}
 use Rattle.std.proofs.lemmas.Slice.Eq.{bytes_eq-Decides}
-use Rattle.std.specs.List.{list_any, list_all}
+use Rattle.std.specs.List.{list_any}
 use Rattle.std.specs.Str.{bytes_eq, str_to_ascii_lowercase as lower}
 use Rattle.schema_core.specs.Naming.{Named, is_same_name, is_named, are_alike}
 
@@ -72,12 +72,3 @@ list_any_get p [] n x there passes = cc
 list_any_get p (y ∷ ys) zero x there passes =
     let same : y ≡ x = cc in or_left _ _ (ap p same ∙ passes)
 list_any_get p (y ∷ ys) (suc n) x there passes = or_right _ _ (list_any_get p ys n x there passes)
-
--- each element of a list that passes as a whole passes
-pub list_all_get :
-    {X : Type 0} (p : X → Bool) (xs : List X) (n : ℕ) (x : X)
-    → list_all p xs ≡ true → slice_get xs n ≡ Some x → p x ≡ true
-list_all_get p [] n x every there = cc
-list_all_get p (y ∷ ys) zero x every there =
-    let same : y ≡ x = cc in ap p (sym same) ∙ (and_parts _ _ every).0
-list_all_get p (y ∷ ys) (suc n) x every there = list_all_get p ys n x (and_parts _ _ every).1 there

@@ -4,16 +4,17 @@ use Rattle.std.specs.Option.{option_map_or}
 use Rattle.std.specs.Str.{bytes_eq}
 use Rattle.std.proofs.lemmas.Option.{slice_get_cases}
 use Rattle.std.proofs.lemmas.Bool.{or_left}
+use Rattle.base_laws.proofs.Theorems.{passes_at}
 use Rattle.schema_core.specs.Attributes.{Attribute, attributes, IsAttrId, attribute_at, attr_of, NamesAttribute, name_of}
 use Rattle.schema_core.specs.Classes.{Class, classes, IsClassId, class_at, class_of, class_with, NamesClass}
 use Rattle.schema_core.specs.Naming.{is_named, is_keystring}
 use Rattle.schema_core.specs.Oid.{is_dotted_oid, oid_of, named_attribute, named_class}
-use Rattle.schema_core.proofs.NamingLemmas.{from_same_name, list_all_get}
+use Rattle.schema_core.proofs.NamingLemmas.{from_same_name}
 use Rattle.schema_core.proofs.TableLemmas.{position_within}
 use Rattle.schema_core.proofs.FoundLemmas.{position_names, names_position}
 use Rattle.schema_core.proofs.NormalLemmas as normal
 use Rattle.schema_core.proofs.TableFacts.{attributes-are_distinct, classes-are_distinct, attributes-are_keystrings, names-are_keystrings, names-are_dotted}
-pub use Rattle.schema_core.proofs.DottedLemmas.{is_dotted_oid-from, IsDottedOid-from}
+pub use Rattle.schema_core.proofs.DottedLemmas.{is_dotted_oid-from, IsDottedOid-from, digit_passes, passes_digit}
 pub use Rattle.schema_core.proofs.HierarchyLemmas.{superior_of_below}
 pub use Rattle.schema_core.proofs.SuperclassLemmas.{with_superclasses-first}
 
@@ -81,7 +82,7 @@ pub is_keystring-name_of : (number : ℕ) → IsAttrId number → is_keystring (
 is_keystring-name_of number within =
     let row = attribute_at-Some number within in
     ap (λ found. is_keystring (option_map_or (λ row. row.name) found [])) row.1
-    ∙ list_all_get (λ row. is_keystring row.name) attributes number row.0 attributes-are_keystrings row.1
+    ∙ passes_at (λ row. is_keystring row.name) attributes number row.0 attributes-are_keystrings row.1
 
 -- the dotted form of a text is dotted, and a dotted text is its own
 pub oid_of-is_dotted : (text oid : List ℕ) → oid_of text ≡ Some oid → is_dotted_oid oid ≡ true

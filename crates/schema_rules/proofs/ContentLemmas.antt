@@ -5,7 +5,7 @@ use Rattle.std.proofs.lemmas.Bool.{cases_Bool}
 use Rattle.std.proofs.lemmas.Bool.Decides.{nat_tests}
 use Rattle.std.proofs.lemmas.List.{get_or-set_same, get_or-set_other}
 use Rattle.std.proofs.lemmas.List.Folds.{list_any-append}
-use Rattle.std.proofs.Math.Bool.{or-false}
+use Rattle.std.proofs.Math.Bool.{or-false, or-true}
 use Rattle.schema_core.specs.declared.kinds.AttrId.{AttrId}
 use Rattle.schema_rules.specs.Classes.{MarksAlso}
 use Rattle.schema_rules.proofs.ListLemmas.{list_any-map}
@@ -20,16 +20,12 @@ or_or : (a b c : Bool) → ((a || b) || c) ≡ (a || (b || c))
 or_or true b c = refl
 or_or false b c = refl
 
-or_true : (a : Bool) → (a || true) ≡ true
-or_true true = refl
-or_true false = refl
-
 -- one number is marked
 pub marked-one : (marks : List Bool) (kind : ℕ) → kind < length marks → MarksAlso marks (λ number. number == kind) (set marks kind true)
 marked-one marks kind within number = elim (cases_Bool (number == kind)) [
   | inl same ↦
       let is : number ≡ kind = grind (arith, nat_tests) in
-      rw (is, get_or-set_same marks kind true false within) (sym (ap (λ b. get_or marks kind false || b) (rw is at same) ∙ or_true (get_or marks kind false)))
+      rw (is, get_or-set_same marks kind true false within) (sym (ap (λ b. get_or marks kind false || b) (rw is at same) ∙ or-true (get_or marks kind false)))
   | inr other ↦
       let apart : number ≢ kind = grind (arith, nat_tests) in
       get_or-set_other marks kind number true false apart ∙ sym (or-false (get_or marks number false)) ∙ ap (λ b. get_or marks number false || b) (sym other)

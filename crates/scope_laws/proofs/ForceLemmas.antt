@@ -2,7 +2,7 @@
 use Rattle.std.proofs.Common.{◌≡◌, ℕ, Bool, true, false, ◌&&◌, List, [], refl, ap, sym, ◌∙◌, inl, inr, filter, length, Option, Some, None, if◌then◌else◌}
 use Rattle.std.specs.Prelude.{IfSome}
 use Rattle.std.specs.Option.{option_and_then}
-use Rattle.std.proofs.lemmas.Bool.{cases_Bool, cond-true, cond-false}
+use Rattle.std.proofs.lemmas.Bool.{cases_Bool, cond-true, cond-false, and_parts}
 use Rattle.std.proofs.lemmas.List.Elements.{filter_agree}
 use Rattle.dir_tree.specs.Entries.{EntryInformation}
 use Rattle.dir_tree.specs.Points.{is_specific_point, is_subentry}
@@ -14,10 +14,6 @@ use Rattle.scope_laws.specs.Aside.{put_some, is_point_over, point_over, IsNeverI
 use Rattle.scope_laws.proofs.ListLemmas.{filter-put_some}
 use Rattle.scope_laws.proofs.PlaceLemmas.{reaches-same}
 use Rattle.scope_laws.proofs.AreaLemmas.{IsLike, AreLike, are_like_itself, like-put_in, like-areas, like-flat_map}
-
-left_of : (a b : Bool) → (a && b) ≡ true → a ≡ true
-left_of true b f = refl
-left_of false b f = absurd cc
 
 -- what the point says, where there is one and where there is none
 point-there : (entry one : EntryInformation) → is_point_over entry one ≡ true
@@ -41,8 +37,8 @@ like_points entry one other e f h =
     let pair : (length one.name, is_specific_point one) ≡ (length other.name, is_specific_point other) = cc in
     let long : length one.name ≡ length other.name = ap (λ (said : ℕ × Bool). said.0) pair in
     let kind : is_specific_point one ≡ is_specific_point other = ap (λ (said : ℕ × Bool). said.1) pair in
-    let over = left_of (is_within one.name entry) (is_access_point one) e in
-    let also = left_of (is_within other.name entry) (is_access_point other) f in
+    let over = (and_parts (is_within one.name entry) (is_access_point one) e).0 in
+    let also = (and_parts (is_within other.name entry) (is_access_point other) f).0 in
     record { first = over; second = also; named = same_fronts one.name other.name entry.name over also long; specific = kind }
 
 -- no point is left by the filter, where nothing is said

@@ -3,7 +3,6 @@ use Rattle.std.proofs.Common.{◌≡◌, ℕ, ◌<◌, ◌≤◌, ◌^◌, ◌==
 use Rattle.std.specs.Char.{is_ascii_digit}
 use Rattle.std.specs.List.{list_all}
 use Rattle.std.specs.Str.Parse.{digits_value}
-use Rattle.std.proofs.lemmas.Bool.Decides.{nat_tests}
 use Rattle.std.proofs.lemmas.Bool.{and_parts, and_from, leb-true, ltb-true, le-leb, lt-ltb}
 use Rattle.std.proofs.lemmas.List.Sums.{AllPass-from_list_all, list_all-from_AllPass}
 use Rattle.hex.specs.Hex.{decode_of}
@@ -13,6 +12,7 @@ use Rattle.script_text.specs.declared.event.ScriptEvent.{ScriptEvent}
 use Rattle.script_text.specs.declared.event.ScriptEvent.TheVariants.{Bytes}
 use Rattle.script_text.specs.LineText.{IsNumber, IsHexadecimal}
 use Rattle.script_text.specs.LineReading.{in_range, number_of, read_pairs, octets_of, sent}
+use Rattle.base_laws.proofs.Theorems.{choose, other_choice, suc_not_zero}
 
 -- what a test chose, where the other choice gives nothing
 pub chosen : {A : Type 0} (test : Bool) (found : Option A) (value : A) → (if test then found else None) ≡ Some value → (test ≡ true) × (found ≡ Some value)
@@ -40,11 +40,6 @@ number_of-some digits number is =
       fits = subst (λ (n : ℕ). n < 2 ^ 32) value.0 value.2;
     }
 
--- a test that holds chooses the first
-pub choose : {A : Type 0} (test : Bool) (found other : A) → test ≡ true → (if test then found else other) ≡ found
-choose true found other holds = refl
-choose false found other holds = cc holds
-
 pub IsNumber-read : (digits : List ℕ) (number : ℕ) → IsNumber digits number → number_of digits ≡ Some number
 unfolding number_of
 IsNumber-read digits number is =
@@ -59,14 +54,6 @@ read_pairs-some : (read : Result (List ℕ) FromHexError) (octets : List ℕ) �
 read_pairs-some (Ok found) octets is = cc is
 read_pairs-some (Err error) octets is = cc is
 
--- a test that fails chooses the second
-pub other_choice : {A : Type 0} (test : Bool) (found other : A) → test ≡ false → (if test then found else other) ≡ other
-other_choice true found other fails = cc fails
-other_choice false found other fails = refl
-
-eqb_suc : (n : ℕ) → (suc n == 0) ≡ false
-eqb_suc n = grind (arith, nat_tests)
-
 no_octets : (octets : List ℕ) → length octets ≡ 0 → octets ≡ []
 no_octets [] none = refl
 no_octets (octet ∷ octets) none = absurd (omega arith)
@@ -75,7 +62,7 @@ pub octets_of-some : (digits octets : List ℕ) → octets_of digits ≡ Some oc
 unfolding octets_of
 octets_of-some [] octets is = cc is
 octets_of-some (digit ∷ digits) octets is =
-    let pairs = read_pairs-some (decode_of (digit ∷ digits)) octets (sym (other_choice (length (digit ∷ digits) == 0) None _ (eqb_suc (length digits))) ∙ is) in
+    let pairs = read_pairs-some (decode_of (digit ∷ digits)) octets (sym (other_choice (length (digit ∷ digits) == 0) None _ (suc_not_zero (length digits))) ∙ is) in
     record {
       pairs = pairs;
       filled = λ none. absurd (omega (arith, (decode_of-ok (digit ∷ digits) octets pairs).2, ap length none));
@@ -85,7 +72,7 @@ pub IsHexadecimal-read : (digits octets : List ℕ) → IsHexadecimal digits oct
 unfolding octets_of
 IsHexadecimal-read [] octets is = absurd (is.filled (no_octets octets (omega (arith, (decode_of-ok [] octets is.pairs).2))))
 IsHexadecimal-read (digit ∷ digits) octets is =
-    other_choice (length (digit ∷ digits) == 0) None _ (eqb_suc (length digits)) ∙ ap read_pairs is.pairs
+    other_choice (length (digit ∷ digits) == 0) None _ (suc_not_zero (length digits)) ∙ ap read_pairs is.pairs
 
 -- the event of `N HEX` has a number and octets
 pub sent-some : (number : Option ℕ) (octets : Option (List ℕ)) (event : ScriptEvent) → sent number octets ≡ Some event

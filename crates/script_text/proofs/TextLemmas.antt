@@ -13,8 +13,9 @@ use Rattle.script_text.specs.declared.event.ScriptEvent.{ScriptEvent}
 use Rattle.script_text.specs.declared.event.ScriptEvent.TheVariants.{Opened, Bytes, Ended}
 use Rattle.script_text.specs.LineText.{IsNumber, IsHexadecimal, Spells}
 use Rattle.script_text.specs.LineReading.{is_space, number_of, octets_of, sent, sent_by, event_of}
-use Rattle.script_text.proofs.LineLemmas.{choose, other_choice, number_of-some, IsNumber-read, octets_of-some, IsHexadecimal-read, no_octets_read, sent-some}
+use Rattle.script_text.proofs.LineLemmas.{number_of-some, IsNumber-read, octets_of-some, IsHexadecimal-read, no_octets_read, sent-some}
 use Rattle.script_text.proofs.WordLemmas.{is_ascii_digit-from}
+use Rattle.base_laws.proofs.Theorems.{choose, other_choice}
 
 -- a line that starts with a text is that text and what follows
 starts : (line text : List ℕ) → starts_with nat_eq line text ≡ true → line ≡ text ++ drop (length text) line

@@ -6,6 +6,7 @@ use Rattle.wire_io.specs.declared.journal.Event.TheVariants as event
 use Rattle.wire_io.specs.declared.journal.Item.{Item}
 use Rattle.wire_io.specs.declared.journal.Item.TheVariants as item
 use Rattle.wire_io.specs.Journal.{taken_of, is_hung_up, opens}
+use Rattle.wire_io.proofs.Theorems.{was_opened-quiet}
 use Rattle.session_model.specs.Rules.{Rules}
 use Rattle.session_model.specs.Run.{Session, Sessions, State, Open, Closing, TurnedAway, Away, Unopened, Step, Opened, Bytes, Ended, step, run, start}
 use Rattle.session_model.specs.Run as session
@@ -16,7 +17,7 @@ use Rattle.session_model.specs.Journaled.{step_of_event, is_event, uncut, cuts_o
 use Rattle.session_model.specs.Serving.{IsFront, Rightly, Stands}
 use Rattle.session_model.specs.Replaying.{is_away, is_leaving, number_of, hung_up}
 use Rattle.session_model.specs.Working.{Works, Covers, CutsOpen, is_open_in, is_turned, cuts_in}
-use Rattle.session_model.proofs.JournalLemmas.{Still, still-heard, was_opened-still, all_taken-front}
+use Rattle.session_model.proofs.JournalLemmas.{Still, still-heard, all_taken-front}
 use Rattle.session_model.proofs.StepLemmas.{Speaks, OpenFor, step-other, bytes-speaks, end-speaks, bytes-opened, end-opened, replayed-more, run_from-one, cuts_of-one, cuts_at-other}
 use Rattle.session_model.proofs.StandLemmas.{at_numbers, Keeps-as, front_as, front_more, stands_free, stands_unleaving}
 use Rattle.session_model.proofs.TrackLemmas.{RightlyNow, tracks_more, tracks_stay, front_now, settled_now}
@@ -83,7 +84,7 @@ module _ {T W : Type 0} (r : Rules T W) (t : T) where
           goes = run_from-one r u s;
           keeps = Keeps-as v _ _ h' (λ d. ap length (sym (still d).taken)) (keeping u (λ d. length (taken_of d journal)) works.tracks.keeps);
           holds = λ d. (still d).on_hold ∙ works.tracks.holds d;
-          opened = λ d. was_opened-still d journal (item.Heard e) (no_opening d) ∙ works.tracks.opened d ∙ ap (is_listed d) (sym opened);
+          opened = λ d. was_opened-quiet d journal (item.Heard e) (no_opening d) ∙ works.tracks.opened d ∙ ap (is_listed d) (sym opened);
           fresh = at_numbers c (λ d. is_listed d v.opened ≡ false → (v.of d).state ≡ Unopened)
               (λ unlisted. speaks.fresh (works.tracks.fresh c (ap (is_listed c) (sym opened) ∙ unlisted)))
               (λ d differs unlisted. ap (λ (x : Session W). x.state) (other d differs) ∙ works.tracks.fresh d (ap (is_listed d) (sym opened) ∙ unlisted));

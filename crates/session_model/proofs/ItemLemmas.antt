@@ -5,6 +5,7 @@ use Rattle.std.proofs.lemmas.List.{length-take-le}
 use Rattle.wire_io.specs.declared.journal.Item.{Item}
 use Rattle.wire_io.specs.declared.journal.Item.TheVariants as item
 use Rattle.wire_io.specs.Journal.{taken_of, is_hung_up, is_held}
+use Rattle.wire_io.proofs.Theorems.{was_opened-quiet}
 use Rattle.session_model.specs.Rules.{Rules}
 use Rattle.session_model.specs.Run.{Session, Sessions, State, Away, Unopened, Step, HungUp, step, start, run}
 use Rattle.session_model.specs.Run as session
@@ -14,7 +15,7 @@ use Rattle.session_model.specs.Journaled.{cuts_of, all_taken}
 use Rattle.session_model.specs.Serving.{IsFront, unsent, Rightly, Stands, MayHangUp}
 use Rattle.session_model.specs.Replaying.{is_away, is_leaving}
 use Rattle.session_model.specs.Working.{Tracks, Works, Replays, Refused, Puts, Covers, is_turned, cuts_in}
-use Rattle.session_model.proofs.JournalLemmas.{Still, IsAbout, still-about, still-later, was_opened-still, all_taken-front, was_later-more, was_later-now, about-taken, about-later, about-held, about-released, about-hung_up, taken_of-taken, is_hung_up-taken, is_held-taken, taken_of-held, is_hung_up-held, is_held-held, taken_of-released, is_hung_up-released, is_held-released, taken_of-hung_up, is_hung_up-hung_up, is_held-hung_up}
+use Rattle.session_model.proofs.JournalLemmas.{Still, IsAbout, still-about, still-later, all_taken-front, was_later-more, was_later-now, about-taken, about-later, about-held, about-released, about-hung_up, taken_of-taken, is_hung_up-taken, is_held-taken, taken_of-held, is_hung_up-held, is_held-held, taken_of-released, is_hung_up-released, is_held-released, taken_of-hung_up, is_hung_up-hung_up, is_held-hung_up}
 use Rattle.session_model.proofs.StepLemmas.{with_session-same, with_session-other, replayed-stay, run_from-one, cuts_of-one}
 use Rattle.session_model.proofs.StandLemmas.{at_numbers, Keeps-as, front_as, stands_more, stands_held, stands_done, all_sent, may_hang_up, leaving_held, not_unopened, taken_front, taken_fits}
 use Rattle.session_model.proofs.TrackLemmas.{Stays, RightlyNow, tracks_more, tracks_stay, front_now, leaving_now, unsent_now, held_now, cuts_in-one}
@@ -231,7 +232,7 @@ module _ {T W : Type 0} (r : Rules T W) (t : T) where
           goes = run_from-one r u s;
           keeps = Keeps-as v _ _ _ (λ d. ap length (sym (taken d))) (Keeps-left r u (λ d. length (taken_of d journal)) h c leaves.tracks.keeps);
           holds = holds;
-          opened = λ d. was_opened-still d journal i (about.opens_none d) ∙ leaves.tracks.opened d;
+          opened = λ d. was_opened-quiet d journal i (about.opens_none d) ∙ leaves.tracks.opened d;
           fresh = at_numbers c (λ d. is_listed d v.opened ≡ false → (v.of d).state ≡ Unopened)
               (λ unlisted. absurd (leaves.opened (leaves.tracks.fresh c unlisted)))
               (λ d differs unlisted. ap (λ (x : Session W). x.state) (other d differs) ∙ leaves.tracks.fresh d unlisted);

@@ -1,11 +1,12 @@
 -- Journals with one more item.
 use Rattle.std.proofs.Common.{◌≡◌, ◌≢◌, ℕ, Bool, true, false, ◌&&◌, ◌||◌, List, [], ◌∷◌, ◌++◌, refl, ap, ap₂, sym, ◌∙◌, append_assoc, append-nil, arith, true≢false}
 use Rattle.std.proofs.lemmas.Bool.Decides.{nat_tests}
+use Rattle.std.proofs.lemmas.Bool.{and_parts}
 use Rattle.wire_io.specs.declared.journal.Event.{Event}
 use Rattle.wire_io.specs.declared.journal.Item.{Item}
 use Rattle.wire_io.specs.declared.journal.Item.TheVariants as item
-use Rattle.wire_io.specs.Journal.{heard, taken_of, taken_at, is_hung_up, hangs_up, is_held, hold_after, hold_after_all, was_opened, opens}
-use Rattle.wire_io.proofs.Theorems.{heard-append, taken_of-push as taken_of-one, is_held-push as is_held-one}
+use Rattle.wire_io.specs.Journal.{heard, taken_of, taken_at, is_hung_up, hangs_up, is_held, hold_after, was_opened, opens}
+use Rattle.wire_io.proofs.Theorems.{heard-append, taken_of-push, is_held-push}
 use Rattle.session_model.specs.Journaled.{steps_of, step_of_item, all_taken, is_no_refusal, WasLater}
 
 pub steps_of-append : (j k : List Item) → steps_of (j ++ k) ≡ steps_of j ++ steps_of k
@@ -27,11 +28,6 @@ unfolding is_hung_up
 is_hung_up-one c [] i = grind arith
 is_hung_up-one c (x ∷ j) i = grind (arith, is_hung_up-one c j i)
 
-hold_after_all-append : (c : ℕ) (b : Bool) (j : List Item) (i : Item) → hold_after_all c b (j ++ i ∷ []) ≡ hold_after c (hold_after_all c b j) i
-unfolding hold_after_all
-hold_after_all-append c b [] i = refl
-hold_after_all-append c b (x ∷ j) i = hold_after_all-append c (hold_after c b x) j i
-
 pub was_opened-append : (c : ℕ) (j k : List Item) → was_opened c (j ++ k) ≡ (was_opened c j || was_opened c k)
 unfolding was_opened
 was_opened-append c [] k = refl
@@ -50,12 +46,8 @@ pub all_taken-one : (j : List Item) (i : Item) → all_taken (j ++ i ∷ []) ≡
 unfolding all_taken
 all_taken-one j i = all_taken-both j (i ∷ []) ∙ grind arith
 
-both_true : (a b : Bool) → (a && b) ≡ true → a ≡ true
-both_true true b h = refl
-both_true false b h = h
-
 pub all_taken-front : (j : List Item) (i : Item) → all_taken (j ++ i ∷ []) ≡ true → all_taken j ≡ true
-all_taken-front j i h = both_true (all_taken j) (is_no_refusal i) (sym (all_taken-one j i) ∙ h)
+all_taken-front j i h = (and_parts (all_taken j) (is_no_refusal i) (sym (all_taken-one j i) ∙ h)).0
 
 -- where each write took octets, none was answered Later
 pub never_later : (c : ℕ) (j : List Item) → all_taken j ≡ true → WasLater c j → ⊥
@@ -97,36 +89,33 @@ pub record IsAbout (c : ℕ) (i : Item) : Type 0 where
   pub events : heard (i ∷ []) ≡ []
 
 pub taken_of-still : (d : ℕ) (j : List Item) (i : Item) → taken_at d i ≡ [] → taken_of d (j ++ i ∷ []) ≡ taken_of d j
-taken_of-still d j i none = taken_of-one d j i ∙ ap (λ xs. taken_of d j ++ xs) none ∙ append-nil (taken_of d j)
+taken_of-still d j i none = taken_of-push d j i ∙ ap (λ xs. taken_of d j ++ xs) none ∙ append-nil (taken_of d j)
 
 pub is_hung_up-still : (d : ℕ) (j : List Item) (i : Item) → hangs_up d i ≡ false → is_hung_up d (j ++ i ∷ []) ≡ is_hung_up d j
 is_hung_up-still d j i none = is_hung_up-one d j i ∙ rw none (grind arith)
-
-pub was_opened-still : (d : ℕ) (j : List Item) (i : Item) → opens d i ≡ false → was_opened d (j ++ i ∷ []) ≡ was_opened d j
-was_opened-still d j i none = was_opened-one d j i ∙ rw none (grind arith)
 
 pub still-about : (c d : ℕ) (j : List Item) (i : Item) → IsAbout c i → d ≢ c → Still d j (j ++ i ∷ [])
 still-about c d j i about differs =
     record {
       taken = taken_of-still d j i (about.taken d differs);
       hung = is_hung_up-still d j i (about.hangs d differs);
-      on_hold = is_held-one d j i ∙ about.holds d (is_held d j) differs;
+      on_hold = is_held-push d j i ∙ about.holds d (is_held d j) differs;
     }
 
 pub still-heard : (d : ℕ) (j : List Item) (e : Event) → Still d j (j ++ item.Heard e ∷ [])
 unfolding taken_at hangs_up hold_after
 still-heard d j e =
-    record { taken = taken_of-still d j (item.Heard e) refl; hung = is_hung_up-still d j (item.Heard e) refl; on_hold = is_held-one d j (item.Heard e) }
+    record { taken = taken_of-still d j (item.Heard e) refl; hung = is_hung_up-still d j (item.Heard e) refl; on_hold = is_held-push d j (item.Heard e) }
 
 pub still-later : (c d : ℕ) (j : List Item) → Still d j (j ++ item.Later c ∷ [])
 unfolding taken_at hangs_up hold_after
 still-later c d j =
-    record { taken = taken_of-still d j (item.Later c) refl; hung = is_hung_up-still d j (item.Later c) refl; on_hold = is_held-one d j (item.Later c) }
+    record { taken = taken_of-still d j (item.Later c) refl; hung = is_hung_up-still d j (item.Later c) refl; on_hold = is_held-push d j (item.Later c) }
 
 pub still-gone : (c d : ℕ) (j : List Item) → Still d j (j ++ item.Gone c ∷ [])
 unfolding taken_at hangs_up hold_after
 still-gone c d j =
-    record { taken = taken_of-still d j (item.Gone c) refl; hung = is_hung_up-still d j (item.Gone c) refl; on_hold = is_held-one d j (item.Gone c) }
+    record { taken = taken_of-still d j (item.Gone c) refl; hung = is_hung_up-still d j (item.Gone c) refl; on_hold = is_held-push d j (item.Gone c) }
 
 pub about-taken : (c : ℕ) (x : List ℕ) → IsAbout c (item.Taken c x)
 unfolding taken_at hangs_up hold_after opens heard
@@ -165,7 +154,7 @@ about-hung_up c =
 -- what an item says of its own connection
 pub taken_of-taken : (c : ℕ) (j : List Item) (x : List ℕ) → taken_of c (j ++ item.Taken c x ∷ []) ≡ taken_of c j ++ x
 unfolding taken_at
-taken_of-taken c j x = taken_of-one c j (item.Taken c x) ∙ grind (arith, nat_tests)
+taken_of-taken c j x = taken_of-push c j (item.Taken c x) ∙ grind (arith, nat_tests)
 
 pub is_hung_up-taken : (c d : ℕ) (j : List Item) (x : List ℕ) → is_hung_up d (j ++ item.Taken c x ∷ []) ≡ is_hung_up d j
 unfolding hangs_up
@@ -173,7 +162,7 @@ is_hung_up-taken c d j x = is_hung_up-still d j (item.Taken c x) refl
 
 pub is_held-taken : (c d : ℕ) (j : List Item) (x : List ℕ) → is_held d (j ++ item.Taken c x ∷ []) ≡ is_held d j
 unfolding hold_after
-is_held-taken c d j x = is_held-one d j (item.Taken c x)
+is_held-taken c d j x = is_held-push d j (item.Taken c x)
 
 pub taken_of-held : (c d : ℕ) (j : List Item) → taken_of d (j ++ item.Held c ∷ []) ≡ taken_of d j
 unfolding taken_at
@@ -185,7 +174,7 @@ is_hung_up-held c d j = is_hung_up-still d j (item.Held c) refl
 
 pub is_held-held : (c : ℕ) (j : List Item) → is_held c (j ++ item.Held c ∷ []) ≡ true
 unfolding hold_after
-is_held-held c j = is_held-one c j (item.Held c) ∙ grind (arith, nat_tests)
+is_held-held c j = is_held-push c j (item.Held c) ∙ grind (arith, nat_tests)
 
 pub taken_of-released : (c d : ℕ) (j : List Item) → taken_of d (j ++ item.Released c ∷ []) ≡ taken_of d j
 unfolding taken_at
@@ -197,7 +186,7 @@ is_hung_up-released c d j = is_hung_up-still d j (item.Released c) refl
 
 pub is_held-released : (c : ℕ) (j : List Item) → is_held c (j ++ item.Released c ∷ []) ≡ false
 unfolding hold_after
-is_held-released c j = is_held-one c j (item.Released c) ∙ grind (arith, nat_tests)
+is_held-released c j = is_held-push c j (item.Released c) ∙ grind (arith, nat_tests)
 
 pub taken_of-hung_up : (c d : ℕ) (j : List Item) → taken_of d (j ++ item.HungUp c ∷ []) ≡ taken_of d j
 unfolding taken_at
@@ -209,4 +198,4 @@ is_hung_up-hung_up c j = is_hung_up-one c j (item.HungUp c) ∙ grind (arith, na
 
 pub is_held-hung_up : (c : ℕ) (j : List Item) → is_held c (j ++ item.HungUp c ∷ []) ≡ false
 unfolding hold_after
-is_held-hung_up c j = is_held-one c j (item.HungUp c) ∙ grind (arith, nat_tests)
+is_held-hung_up c j = is_held-push c j (item.HungUp c) ∙ grind (arith, nat_tests)

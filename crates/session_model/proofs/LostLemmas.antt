@@ -4,6 +4,7 @@ use Rattle.std.proofs.lemmas.Bool.Decides.{nat_tests}
 use Rattle.wire_io.specs.declared.journal.Item.{Item}
 use Rattle.wire_io.specs.declared.journal.Item.TheVariants as item
 use Rattle.wire_io.specs.Journal.{taken_of}
+use Rattle.wire_io.proofs.Theorems.{was_opened-quiet}
 use Rattle.session_model.specs.Rules.{Rules}
 use Rattle.session_model.specs.Run.{Session, Sessions, State, Away, Unopened, Step, Gone, step}
 use Rattle.session_model.specs.Run as session
@@ -13,7 +14,7 @@ use Rattle.session_model.specs.Journaled.{cuts_of, all_taken}
 use Rattle.session_model.specs.Serving.{IsFront, Rightly, Stands, MayHangUp, Leads}
 use Rattle.session_model.specs.Replaying.{is_away}
 use Rattle.session_model.specs.Working.{Tracks, Works, Lost, Puts, is_turned, cuts_in}
-use Rattle.session_model.proofs.JournalLemmas.{Still, still-gone, was_opened-still, all_taken-one, was_later-more, about-gone}
+use Rattle.session_model.proofs.JournalLemmas.{Still, still-gone, all_taken-one, was_later-more, about-gone}
 use Rattle.session_model.proofs.StepLemmas.{with_session-same, with_session-other, run_from-one, cuts_of-one}
 use Rattle.session_model.proofs.StandLemmas.{at_numbers, Keeps-as, front_as, stands_more, not_unopened, held_not_away}
 use Rattle.session_model.proofs.TrackLemmas.{RightlyNow, tracks_more, front_now, held_now, cuts_in-one}
@@ -45,7 +46,7 @@ module _ {T W : Type 0} (r : Rules T W) (t : T) where
         goes = run_from-one r u s;
         keeps = Keeps-as v _ _ _ (λ d. ap length (sym (still d).taken)) (Keeps-left r u (λ d. length (taken_of d journal)) h c tracks.keeps);
         holds = λ d. (still d).on_hold ∙ tracks.holds d;
-        opened = λ d. was_opened-still d journal i ((about-gone c).opens_none d) ∙ tracks.opened d;
+        opened = λ d. was_opened-quiet d journal i ((about-gone c).opens_none d) ∙ tracks.opened d;
         fresh = at_numbers c (λ d. is_listed d v.opened ≡ false → (v.of d).state ≡ Unopened)
             (λ unlisted. absurd (opened (tracks.fresh c unlisted)))
             (λ d differs unlisted. ap (λ (x : Session W). x.state) (other d differs) ∙ tracks.fresh d unlisted);

@@ -3,6 +3,7 @@ use Rattle.std.proofs.Common.{◌≡◌, ◌≢◌, ◌≤◌, ℕ, Bool, true, 
 use Rattle.std.proofs.lemmas.List.{map-append}
 use Rattle.wire_io.specs.declared.journal.Item.{Item}
 use Rattle.wire_io.specs.Journal.{taken_of, is_hung_up, is_held, hold_after_all, was_opened, opens}
+use Rattle.wire_io.proofs.Theorems.{was_opened-quiet}
 use Rattle.session_model.specs.Rules.{Rules}
 use Rattle.session_model.specs.Run.{Session, Sessions, State, Open, Closing, TurnedAway, Away, Unopened, Step, step, run, run_from, start, held_numbers}
 use Rattle.session_model.specs.Run as session
@@ -13,7 +14,7 @@ use Rattle.session_model.specs.Serving.{IsFront, unsent, AreFronts, IsSettled, R
 use Rattle.session_model.specs.Replaying.{is_leaving, replayed_from}
 use Rattle.session_model.specs.Working.{Tracks, Works, cuts_in, is_turned}
 use Rattle.session_model.proofs.KeptLemmas.{queue_in, closing_in, queue_of_is, closing_of_is}
-use Rattle.session_model.proofs.JournalLemmas.{steps_of-one, was_opened-still}
+use Rattle.session_model.proofs.JournalLemmas.{steps_of-one}
 use Rattle.session_model.proofs.MomentLemmas.{AtEachMoment-more, AtEachItem-more, nothing_before, nothing_joined}
 use Rattle.session_model.proofs.StepLemmas.{run_from-append}
 use Rattle.session_model.proofs.StandLemmas.{shown_queue, shown_closing}
@@ -89,7 +90,7 @@ module _ {T W : Type 0} (r : Rules T W) (t : T) where
         goes = refl;
         keeps = stays.keeps;
         holds = stays.holds;
-        opened = λ d. was_opened-still d journal i (stays.opens_none d) ∙ tracks.opened d;
+        opened = λ d. was_opened-quiet d journal i (stays.opens_none d) ∙ tracks.opened d;
         fresh = tracks.fresh;
         cuts = λ d. subst (λ xs. cuts_of d xs ≤ cuts_in (u.of d).state) (sym (append-nil steps)) (tracks.cuts d);
         no_cut = λ none. (sym stays.no_cut ∙ none, refl);

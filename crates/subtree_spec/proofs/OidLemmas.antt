@@ -4,21 +4,13 @@ use Rattle.std.specs.Cmp.Derive.{both_true}
 use Rattle.std.specs.Char.{IsAsciiDigit, is_ascii_digit, is_ascii_alphabetic, is_ascii_alphanumeric}
 use Rattle.std.specs.List.{list_all, join_with_byte}
 use Rattle.std.proofs.lemmas.Bool.{cases_Bool, and_parts, or_right}
-use Rattle.std.proofs.lemmas.Bool.Decides.{nat_tests}
 use Rattle.std.proofs.lemmas.List.Elements.{All-nil, All-cons, All-head, All-tail, All-weaker}
 use Rattle.std.proofs.lemmas.List.Sums.{AllPass-from_list_all, list_all-from_AllPass}
 use Rattle.schema_core.specs.Naming.{is_keystring}
 use Rattle.schema_core.specs.Oid.{IsNumber, IsDottedOid, is_dotted_oid}
-use Rattle.schema_core.proofs.Theorems.{is_dotted_oid-from, IsDottedOid-from}
+use Rattle.schema_core.proofs.Theorems.{is_dotted_oid-from, IsDottedOid-from, digit_passes, passes_digit}
 use Rattle.gser_core.specs.Productions.{IsNumeral, IsDescriptor, IsJoined, IsDotted, IsOid}
 use Rattle.subtree_spec.specs.Parts.{is_oid}
-
--- a digit, as a fact and as a test
-digit_passes : (c : ℕ) → IsAsciiDigit c → is_ascii_digit c ≡ true
-digit_passes c digit = grind (arith, nat_tests)
-
-passes_digit : (c : ℕ) → is_ascii_digit c ≡ true → IsAsciiDigit c
-passes_digit c passes = grind (arith, nat_tests)
 
 -- a number of the one grammar is one of the other
 number-numeral : (digits : List ℕ) → IsNumber digits → IsNumeral digits

@@ -2,23 +2,22 @@
 use Prim.Native.Nat.{zero}
 use Rattle.std.proofs.Common.{◌≡◌, ℕ, suc, ◌≤◌, ◌<◌, Bool, true, false, List, [], ◌∷◌, ◌++◌, length, All, Option, Some, None, option_map, option_and_then, refl, sym, ap, ◌∙◌, subst, arith}
 use Rattle.std.specs.Prelude.{◌&&◌, Result, Ok, Err, slice_get, if◌then◌else◌}
-use Rattle.std.specs.Char.{IsAsciiDigit, is_ascii_digit}
-use Rattle.std.specs.List.{AllByRecursion, list_all, join_with_byte}
+use Rattle.std.specs.Char.{IsAsciiDigit}
+use Rattle.std.specs.List.{list_all, join_with_byte}
 use Rattle.std.specs.Result.{result_ok}
 use Rattle.std.specs.Str.{is_utf8}
-use Rattle.std.proofs.lemmas.Bool.Decides.{nat_tests}
 use Rattle.std.proofs.lemmas.List.Elements.{All-head, All-tail}
 use Rattle.std.proofs.lemmas.Str.{is_utf8-from_IsUtf8}
 use Rattle.std.proofs.lemmas.Bool.{and_parts}
 use Rattle.schema_core.specs.Classes.{Class, classes, class_at, class_of, class_oid_of}
 use Rattle.schema_core.specs.Oid.{IsNumber, is_dotted_oid}
-use Rattle.schema_core.proofs.Theorems.{IsDottedOid-from}
+use Rattle.schema_core.proofs.Theorems.{IsDottedOid-from, digit_passes}
 use Rattle.dn_names.specs.declared.error.BadName.{BadName}
-use Rattle.dn_names.specs.Names.{TypeAndValue, RdnSequence, IsTextRdn, IsTextName}
-use Rattle.dn_names.specs.GoodNames.{IsGoodPair, IsGoodRdn, IsGoodName}
+use Rattle.dn_names.specs.Names.{RdnSequence, IsTextRdn}
+use Rattle.dn_names.specs.GoodNames.{IsGoodName}
 use Rattle.dn_names.specs.NameText.{read_name}
 use Rattle.dn_names.specs.Printing.{print_name}
-use Rattle.dn_names.proofs.Theorems.{read_name-print_name, NameText-read_name, IsGoodName-from_NameText, IsUtf8-print_name, is_utf8-naming_value, all_reverse}
+use Rattle.dn_names.proofs.Theorems.{read_name-print_name, NameText-read_name, IsGoodName-from_NameText, IsUtf8-print_name, all_reverse, text_name}
 use Rattle.gser_tree.specs.Lexemes as lexemes
 use Rattle.gser_tree.specs.Lexemes.{is_letter, is_word}
 use Rattle.gser_tree.specs.declared.part.Part.{Part}
@@ -32,18 +31,10 @@ use Rattle.subtree_spec.specs.SubtreePrinted.{print_dn}
 
 -- ---- names
 
-text_pairs : (rdn : List TypeAndValue) → AllByRecursion IsGoodPair rdn → IsTextRdn rdn
-text_pairs [] good = tt
-text_pairs (pair ∷ rdn) good = (is_utf8-naming_value pair.kind pair.value.octets pair.value good.0, text_pairs rdn good.1)
-
-text_rdns : (rdns : RdnSequence) → AllByRecursion IsGoodRdn rdns → IsTextName rdns
-text_rdns [] good = tt
-text_rdns (rdn ∷ rdns) good = (text_pairs rdn good.0.good, text_rdns rdns good.1)
-
 -- the printed form of a name is a text
 pub is_utf8-print_name : (value : RdnSequence) → IsGoodName value → is_utf8 (print_name value) ≡ true
 is_utf8-print_name value good =
-    is_utf8-from_IsUtf8 (print_name value) (IsUtf8-print_name value (all_reverse IsTextRdn value (text_rdns value good.good)))
+    is_utf8-from_IsUtf8 (print_name value) (IsUtf8-print_name value (all_reverse IsTextRdn value (text_name value good.good)))
 
 name_of-print_name : (value : RdnSequence) → IsGoodName value → name_of (print_name value) ≡ Some value
 unfolding name_of
@@ -87,13 +78,10 @@ letters_append (x ∷ one) other h k = inner (is_letter (lexemes.class_of x)) h 
     inner true h again = again h
     inner false h again = cc
 
-digit_test : (x : ℕ) → IsAsciiDigit x → is_ascii_digit x ≡ true
-digit_test x h = grind (arith, nat_tests)
-
 digits_letters : (digits : List ℕ) → All IsAsciiDigit digits → are_letters digits ≡ true
 digits_letters [] all = refl
 digits_letters (x ∷ digits) all =
-    rw (is_letter-digit x (digit_test x (All-head IsAsciiDigit x digits all))) (digits_letters digits (All-tail IsAsciiDigit x digits all))
+    rw (is_letter-digit x (digit_passes x (All-head IsAsciiDigit x digits all))) (digits_letters digits (All-tail IsAsciiDigit x digits all))
 
 joined_letters : (numbers : List (List ℕ)) → All IsNumber numbers → are_letters (join_with_byte 46 numbers) ≡ true
 joined_letters [] all = refl

@@ -6,16 +6,11 @@ use Rattle.std.proofs.lemmas.Simd.{map-map}
 use Rattle.std.specs.Prelude.{map, Some, None, ◌==◌, if◌then◌else◌}
 use Rattle.dn_names.specs.Names.{RdnSequence}
 use Rattle.gser_tree.specs.Lexemes.{Lexeme}
-use Rattle.gser_tree.specs.Writing.{text_of, print_choice, print_braces, print_filled, separator, ending, PutsMembers}
-use Rattle.gser_tree.proofs.Theorems.{put_choice, PutsMembers-one, PutsMembers-append, PutsMembers-braces}
+use Rattle.gser_tree.specs.Writing.{text_of, print_braces, print_filled, separator, ending, PutsMembers}
+use Rattle.gser_tree.proofs.Theorems.{PutsMembers-one, PutsMembers-append, PutsMembers-braces}
 use Rattle.subtree_spec.specs.declared.spec.Refinement.{Refinement}
 use Rattle.subtree_spec.specs.Subtrees.{Choice, gathered, choice_of}
 use Rattle.subtree_spec.specs.SubtreePrinted.{print_exclusions, print_refinement, print_refinements}
-
--- a kind and its value
-pub put_kind_value : (old middle new kind : List ℕ) (value : List Lexeme) → middle ≡ old ++ text_of (print_choice kind [])
-    → new ≡ middle ++ text_of value → new ≡ old ++ text_of (print_choice kind value)
-put_kind_value old middle new kind value begun rest = put_choice old middle new kind value begun rest
 
 -- the printed refinements of a set, one by one
 pub print_refinements-gathered : (choices : List Choice) → print_refinements (gathered choices) ≡ map print_refinement choices

@@ -188,7 +188,7 @@ unfolding class_of
 filter_word = refl
 
 -- a value that is there is read where the value is
-there_prints : {A : Type 0} (most : ℕ) (reader : Shape → Read A) (lexemes : List Lexeme) (value : A) → Prints most reader lexemes value
+pub there_prints : {A : Type 0} (most : ℕ) (reader : Shape → Read A) (lexemes : List Lexeme) (value : A) → Prints most reader lexemes value
     → Prints most (there reader) lexemes (Some value)
 there_prints most reader lexemes value prints = λ place.
     let inner = prints place in

@@ -1,5 +1,5 @@
 -- Lists: what tests find in them, and what is left where elements are left out.
-use Rattle.std.proofs.Common.{◌≡◌, inl, inr, Bool, true, false, ◌&&◌, List, [], ◌∷◌, refl, map, filter, find}
+use Rattle.std.proofs.Common.{◌≡◌, inl, inr, Bool, true, false, ◌&&◌, List, [], ◌∷◌, refl, filter, find}
 use Rattle.std.specs.List.{AllByRecursion, list_any}
 use Rattle.std.proofs.lemmas.Bool.{cases_Bool, or_parts}
 use Rattle.base_laws.proofs.Theorems.{all_map, none_passes, list_any-none}
@@ -39,11 +39,3 @@ all_left q g (x ∷ xs) h =
     second : (a b : Bool) → a ≡ true → (a && b) ≡ false → b ≡ false
     second true b e f = f
     second false b e f = absurd cc
-
--- what is left of what is made of each element
-pub filter-map : {A B : Type 0} (f : A → B) (q : B → Bool) (xs : List A) → map f (filter (λ x. q (f x)) xs) ≡ filter q (map f xs)
-filter-map f q [] = refl
-filter-map f q (x ∷ xs) = elim (cases_Bool (q (f x))) [
-  | inl e ↦ rw (e, filter-map f q xs) refl
-  | inr e ↦ rw e (filter-map f q xs)
-]

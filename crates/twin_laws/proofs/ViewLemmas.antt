@@ -2,7 +2,7 @@
 use Rattle.std.proofs.Common.{◌≡◌, inl, inr, Bool, true, false, not, ◌&&◌, List, ap, ◌∙◌}
 use Rattle.std.specs.List.{list_any}
 use Rattle.std.proofs.lemmas.Bool.{and_cases, and_left, and_right, not-true}
-use Rattle.base_laws.proofs.Theorems.{all_map, map-agree}
+use Rattle.base_laws.proofs.Theorems.{all_map, map-agree, filter-map}
 use std.Path.{fun_ext}
 use Rattle.dn_names.specs.Names.{RdnSequence}
 use Rattle.dir_tree.specs.Entries.{EntryInformation}
@@ -18,7 +18,7 @@ use Rattle.acdf_filters.proofs.Theorems.{granted-without}
 use Rattle.read_model.specs.Views.{Row, view_of}
 use Rattle.twin_laws.specs.Groups.{lists_group}
 use Rattle.twin_laws.specs.Twins.{rows_outside, IsUnseen}
-use Rattle.twin_laws.proofs.ListLemmas.{list_any-from, all_left, filter-map}
+use Rattle.twin_laws.proofs.ListLemmas.{list_any-from, all_left}
 use Rattle.twin_laws.proofs.GroupLemmas.{lists_group-none}
 
 -- no access control subentry, where there is no subentry

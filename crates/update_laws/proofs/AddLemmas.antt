@@ -21,8 +21,9 @@ use Rattle.ldap_msg.specs.declared.kinds.LdapResult.{LdapResult}
 use Rattle.op_update.specs.Adding.{taken_refusal, refuses_entry, rule_refusal, add_refusal}
 use Rattle.op_update.specs.NewEntries.{read_attributes, new_entry}
 use Rattle.op_update.specs.Updates.{added_entry, added_named, added}
-use Rattle.op_update.proofs.Theorems.{not_broken, none_of, none_from, not_when, when_not, unless-good, unless-refused}
+use Rattle.op_update.proofs.Theorems.{not_broken, unless-good, unless-refused}
 use Rattle.update_laws.proofs.ReadingLemmas.{name-new_entry, good-new_entry}
+use Rattle.plain_values.proofs.Theorems.{none_of, none_from, not_when, when_not}
 
 -- what a new entry meets that is added
 pub record IsAddable (entries : List EntryInformation) (who : Requester) (name : RdnSequence) (entry : EntryInformation) : Type 0 where

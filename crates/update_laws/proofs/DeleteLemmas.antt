@@ -17,9 +17,10 @@ use Rattle.ldap_msg.specs.declared.kinds.LdapResult.{LdapResult}
 use Rattle.op_asking.specs.Targets.{is_suffix}
 use Rattle.op_update.specs.Deleting.{delete_refusal}
 use Rattle.op_update.specs.Updates.{unless, deleted_target, deleted_named, deleted, IsChanged}
-use Rattle.op_update.proofs.Theorems.{none_of, none_from, not_when, when_not, unless-good, unless-refused, unless-made}
+use Rattle.op_update.proofs.Theorems.{unless-good, unless-refused, unless-made}
 use Rattle.update_laws.specs.Granting.{MayDelete}
 use Rattle.schema_rules.proofs.Theorems.{AreGood-taken_out}
+use Rattle.plain_values.proofs.Theorems.{none_of, none_from, not_when, when_not}
 
 -- the suffix stays where another entry is taken out
 kept_first : (mine : Bool) (first : EntryInformation) (later : List EntryInformation) → mine ≡ false → (if not mine then first ∷ later else later) ≢ []

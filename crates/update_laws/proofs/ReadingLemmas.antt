@@ -3,6 +3,7 @@ use Rattle.std.proofs.Common.{◌≡◌, ◌≢◌, ℕ, ◌==◌, Bool, true, f
 use Rattle.std.specs.List.{AllByRecursion, list_any}
 use Rattle.std.proofs.lemmas.Bool.{or_parts}
 use Rattle.plain_values.specs.Results.{◌>>=◌}
+use Rattle.plain_values.proofs.Theorems.{both_given}
 use Rattle.schema_core.specs.Attributes.{attr_of}
 use Rattle.dn_names.specs.Names.{RdnSequence, last_rdn}
 use Rattle.dir_tree.specs.Entries.{Attribute, kinds_of, is_match, IsGoodAttribute, IsGoodAttributes}
@@ -10,7 +11,7 @@ use Rattle.op_write.proofs.Theorems.{name-with_pairs, good-with_pairs}
 use Rattle.ldap_msg.specs.declared.operations.ResultCode.{ResultCode}
 use Rattle.ldap_msg.specs.declared.kinds.KindValues.{KindValues}
 use Rattle.op_update.specs.NewEntries.{read_values, read_known, read_attribute, read_each, repeats, has_twice, without_twice, lacks_values, read_attributes, new_entry}
-use Rattle.op_update.proofs.Theorems.{distinct-repeats as IsDistinct-from_repeats, values-filled as filled-read_values, both_given}
+use Rattle.op_update.proofs.Theorems.{distinct-repeats as IsDistinct-from_repeats, values-filled as filled-read_values}
 
 -- the attribute has a value
 abbrev IsFilled : Attribute → Type 0

@@ -47,7 +47,7 @@ was_stopped-push (first ∷ journal) item =
     ap (λ rest. stops first || rest) (was_stopped-push journal item) ∙ sym (or_assoc (stops first) (was_stopped journal) (stops item))
 
 -- on hold, with one more item
-hold_after_all-push :
+pub hold_after_all-push :
     (conn : ℕ) (before : Bool) (journal : List Item) (item : Item)
     → hold_after_all conn before (journal ++ item ∷ []) ≡ hold_after conn (hold_after_all conn before journal) item
 unfolding hold_after_all

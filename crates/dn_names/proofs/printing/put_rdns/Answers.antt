@@ -2,8 +2,9 @@
 use Rattle.std.proofs.Common.{reverse, take}
 use Rattle.dn_names.specs.Names.{IsTextRdn, rdns_of}
 use Rattle.dn_names.specs.Printing.{print_rdn, shown_of}
-use Rattle.dn_names.proofs.PrintLemmas.{drop-reverse, take-reverse, AllByRecursion-push, next_item}
+use Rattle.dn_names.proofs.PrintLemmas.{drop-reverse, take-reverse, next_item}
 use Rattle.dn_names.proofs.printing.put_rdns.Goals as goal
+use Rattle.base_laws.proofs.Theorems.{all_push}
 
 pub loop-index-preserved : goal.loop-index-preserved
 loop-index-preserved c =
@@ -15,5 +16,5 @@ loop-index-preserved c =
     record {
       exact = next_item 44 (print_rdn (shown_of c.args.shown)) (reverse (rdns_of rdns)) l.index rdn.value l.out.items c.put_mark.new.out.items c.put_rdn.new.out.items _
           (drop-reverse rdns l.index rdn c.loop-index-test.true c.index-rdns-rdns.is) c.in_ok-put_mark.ensures.ok more l.invariant.exact;
-      text = rw (take-reverse rdns l.index rdn c.loop-index-test.true c.index-rdns-rdns.is) (AllByRecursion-push IsTextRdn (take l.index (reverse (rdns_of rdns))) rdn.value l.invariant.text text);
+      text = rw (take-reverse rdns l.index rdn c.loop-index-test.true c.index-rdns-rdns.is) (all_push IsTextRdn (take l.index (reverse (rdns_of rdns))) rdn.value l.invariant.text text);
     }
