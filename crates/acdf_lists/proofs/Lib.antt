@@ -3,5 +3,4 @@ pub mod MakingLemmas
 pub mod NewcomerLemmas
 pub mod DropLemmas
 pub mod RemovalLemmas
-pub mod FreeLemmas
 pub mod Theorems

@@ -1,30 +1,25 @@
 -- What is kept grows by the next number, and the last of them covers all entries.
-use Rattle.std.proofs.Common.{◌≡◌, ◌⊎◌, inl, inr, ℕ, ◌<◌, ◌==◌, true, false, List, [], ◌∷◌, ◌++◌, length, map, get_or, Some, find, refl, sym, ap, subst, ◌∙◌, arith, length-append}
-use Rattle.std.specs.Prelude.{suc}
+use Rattle.std.proofs.Common.{◌≡◌, ◌⊎◌, inl, inr, ℕ, ◌<◌, List, [], ◌∷◌, ◌++◌, length, map, get_or, Some, sym, ap, subst, ◌∙◌, arith, length-append}
 use Rattle.std.specs.List.{AllByRecursion}
-use Rattle.std.specs.Option.{option_map}
-use Rattle.std.proofs.lemmas.Bool.{cases_Bool, cases_eq, eqb-true, cond-false}
-use Rattle.std.proofs.lemmas.List.{map-append, get_or_append_left}
+use Rattle.std.proofs.lemmas.Bool.{cases_eq}
+use Rattle.std.proofs.lemmas.List.{length-map, map-append, get_or_append_left}
 use Rattle.std.proofs.Math.Seq.{get_or-append_seam}
 use Rattle.dir_tree.specs.Entries.{EntryInformation}
 use Rattle.dir_tree.specs.Numbered.{Numbered, entry_of}
+use Rattle.dir_tree.proofs.TreeTheorems.{all_known}
 use Rattle.acdf_lists.specs.declared.kept.Kept.{Kept}
 use Rattle.acdf_lists.specs.Lists.{Lists, lists_of, no_lists, lists_at, AreOf, IsKept, IsKeptBelow}
-
-length-mapped : {A B : Type 0} (f : A → B) (xs : List A) → length (map f xs) ≡ length xs
-length-mapped f [] = refl
-length-mapped f (x ∷ xs) = ap suc (length-mapped f xs)
 
 -- one more
 lists_at-before : (kept : List Kept) (next : Kept) (id : ℕ) → id < length kept → lists_at (kept ++ next ∷ []) id ≡ lists_at kept id
 lists_at-before kept next id h =
     ap (λ (xs : List Lists). get_or xs id no_lists) (map-append lists_of kept (next ∷ []))
-    ∙ get_or_append_left (map lists_of kept) (lists_of next ∷ []) no_lists id (subst (λ n. id < n) (sym (length-mapped lists_of kept)) h)
+    ∙ get_or_append_left (map lists_of kept) (lists_of next ∷ []) no_lists id (subst (λ n. id < n) (sym (length-map kept lists_of)) h)
 
 lists_at-next : (kept : List Kept) (next : Kept) → lists_at (kept ++ next ∷ []) (length kept) ≡ lists_of next
 lists_at-next kept next =
     ap (λ (xs : List Lists). get_or xs (length kept) no_lists) (map-append lists_of kept (next ∷ []))
-    ∙ ap (λ n. get_or (map lists_of kept ++ lists_of next ∷ []) n no_lists) (sym (length-mapped lists_of kept))
+    ∙ ap (λ n. get_or (map lists_of kept ++ lists_of next ∷ []) n no_lists) (sym (length-map kept lists_of))
     ∙ get_or-append_seam (map lists_of kept) (lists_of next) [] no_lists
 
 pub kept-next : (kept : List Kept) (next : Kept) (rows : List Numbered) → IsKeptBelow kept rows
@@ -40,14 +35,6 @@ kept-next kept next rows below made id entry h known = by (cases_eq id (length k
         let within : id < length kept = omega (arith, length-append kept (next ∷ [])) in
         subst (AreOf rows entry) (sym (lists_at-before kept next id within)) (below id entry within known)
 
--- a number in use is below the bound
-in_use_below : (bound id : ℕ) (entry : EntryInformation) (rows : List Numbered) → AllByRecursion (λ row. row.id < bound) rows → entry_of id rows ≡ Some entry → id < bound
-in_use_below bound id entry [] h known = absurd cc
-in_use_below bound id entry (x ∷ rows) h known = by (cases_Bool (x.id == id)) (in_use_below bound id entry rows h.1)
-  where
-    by : (((x.id == id) ≡ true) ⊎ ((x.id == id) ≡ false)) → (entry_of id rows ≡ Some entry → id < bound) → id < bound
-    by (inl e) later = subst (λ n. n < bound) (eqb-true x.id id e) h.0
-    by (inr e) later = later (sym (ap (option_map (λ (row : Numbered). row.entry)) (cond-false (x.id == id) (Some x) (find (λ row. row.id == id) rows) e)) ∙ known)
-
+-- each number in use is one of those that are kept
 pub kept-all : (kept : List Kept) (rows : List Numbered) → AllByRecursion (λ row. row.id < length kept) rows → IsKeptBelow kept rows → IsKept kept rows
-kept-all kept rows h below id entry known = below id entry (in_use_below (length kept) id entry rows h known) known
+kept-all kept rows h below id entry known = below id entry (all_known (λ row. row.id < length kept) id entry rows h known) known

@@ -1,17 +1,13 @@
 -- What is kept without a number is kept of the entries without its entry.
-use Rattle.std.proofs.Common.{◌≡◌, ◌≢◌, ◌⊎◌, inl, inr, ◌≤◌, ◌==◌, ℕ, true, false, not, ◌&&◌, List, [], ◌∷◌, map, filter, Option, Some, None, refl, sym, ap, subst, ◌∙◌}
+use Rattle.std.proofs.Common.{◌≡◌, ◌⊎◌, inl, inr, ◌==◌, ℕ, true, false, not, List, [], ◌∷◌, map, filter, Option, Some, None, refl, sym, ap, subst, ◌∙◌}
 use Rattle.std.specs.Prelude.{IsSome}
 use Rattle.std.specs.List.{AllByRecursion}
 use Rattle.std.specs.Option.{option_map, option_and_then}
-use Rattle.std.proofs.lemmas.Bool.{cases_Bool, eqb-true, eqb-false, false_from_ne_true, or_parts}
-use Rattle.dn_names.specs.Names.{RdnSequence}
-use Rattle.dn_names.specs.NameOrder.{is_same}
+use Rattle.std.proofs.lemmas.Bool.{cases_Bool, eqb-true, eqb-false}
 use Rattle.dir_tree.specs.Entries.{EntryInformation}
-use Rattle.dir_tree.specs.Points.{is_access_subentry}
-use Rattle.dir_tree.specs.Trees.{is_named, is_below, has_below, taken_out}
-use Rattle.dir_tree.specs.Scopes.{is_within}
-use Rattle.dir_tree.specs.Numbered.{Numbered, IsNumberedTree, ids_of, entries_of, entry_of, entries_at, subentry_rows, without}
-use Rattle.dir_tree.proofs.TreeTheorems.{entries_of-without, same_itself, all_known_entry as at_number, at_base as same_at_front, left_out, entry_of-gone, entry_of-other}
+use Rattle.dir_tree.specs.Trees.{has_below, taken_out}
+use Rattle.dir_tree.specs.Numbered.{Numbered, IsNumberedTree, entries_of, entry_of, entries_at, without}
+use Rattle.dir_tree.proofs.TreeTheorems.{entries_of-without, same_itself, entry_of-other, unlisted-without, number_left, other_name, outside}
 use Rattle.subtree_spec.specs.Subtrees.{subtree_of}
 use Rattle.admin_scope.specs.InForce.{subtree_of_entry, in_force}
 use Rattle.admin_scope.specs.declared.subtrees.AccessSubentry.{AccessSubentry}
@@ -29,50 +25,9 @@ subentries-filter number (one ∷ list) = elim (cases_Bool (one.number.0 == numb
   | inr e ↦ rw e (ap (λ (ids : List ℕ). one.number.0 ∷ ids) (subentries-filter number list))
 ]
 
-subentry_rows-without : (number : ℕ) (rows : List Numbered) → ids_of (subentry_rows (without number rows)) ≡ filter (λ id. not (id == number)) (ids_of (subentry_rows rows))
-subentry_rows-without number [] = refl
-subentry_rows-without number (x ∷ rows) = elim (cases_Bool (x.id == number)) [
-  | inl e ↦ elim (cases_Bool (is_access_subentry x.entry)) [
-    | inl f ↦ rw (e, f, e) (subentry_rows-without number rows)
-    | inr f ↦ rw (e, f) (subentry_rows-without number rows)
-  ]
-  | inr e ↦ elim (cases_Bool (is_access_subentry x.entry)) [
-    | inl f ↦ rw (e, f, e) (ap (λ (ids : List ℕ). x.id ∷ ids) (subentry_rows-without number rows))
-    | inr f ↦ rw (e, f) (subentry_rows-without number rows)
-  ]
-]
-
--- a number that is left is another
-other_number : (id number : ℕ) (entry : EntryInformation) (rows : List Numbered) → entry_of id (without number rows) ≡ Some entry → id ≢ number
-other_number id number entry rows known is =
-    let gone : entry_of id (without number rows) ≡ None = ap (λ n. entry_of n (without number rows)) is ∙ entry_of-gone number rows in
-    let clash : Some entry ≡ None = sym known ∙ gone in
-    absurd cc
-
--- where none stands below a name, no entry does
-no_longer_below : (name : RdnSequence) (entries : List EntryInformation) → has_below name entries ≡ false → AllByRecursion (λ entry. is_below name entry.name ≡ false) entries
-no_longer_below name [] h = tt
-no_longer_below name (x ∷ entries) h =
-    let parts = or_parts (is_below name x.name) (has_below name entries) h in
-    (parts.0, no_longer_below name entries parts.1)
-
 module _ (number : ℕ) (old : EntryInformation) (rows : List Numbered) (tree : IsNumberedTree rows) (known : entry_of number rows ≡ Some old) where
   left_entries : entries_of (without number rows) ≡ taken_out old.name (entries_of rows)
   left_entries = entries_of-without number old rows tree known
-
-  -- an entry that is left has another name
-  other_name : (id : ℕ) (entry : EntryInformation) → entry_of id (without number rows) ≡ Some entry → is_same old.name entry.name ≡ false
-  other_name id entry there =
-      at_number (λ left. is_named old.name left ≡ false) id entry (without number rows)
-      (subst (λ (entries : List EntryInformation). AllByRecursion (λ left. is_named old.name left ≡ false) entries) (sym left_entries) (left_out old.name (entries_of rows))) there
-
-  -- and where none stood below, it is neither at nor below the name
-  pub outside : has_below old.name (entries_of rows) ≡ false → (id : ℕ) (entry : EntryInformation) → entry_of id (without number rows) ≡ Some entry → is_within old.name entry ≡ false
-  outside alone id entry there =
-      let was : entry_of id rows ≡ Some entry = sym (entry_of-other id number rows (other_number id number entry rows there)) ∙ there in
-      let apart = at_number (λ left. is_below old.name left.name ≡ false) id entry rows (no_longer_below old.name (entries_of rows) alone) was in
-      let differs = other_name id entry there in
-      false_from_ne_true (is_within old.name entry) (λ front. let clash : true ≡ false = sym (same_at_front old.name entry.name front apart) ∙ differs in absurd cc)
 
   -- the entries of the numbers that are left
   entries_at-left : (ids : List ℕ) → entries_at (without number rows) (filter (λ id. not (id == number)) ids) ≡ taken_out old.name (entries_at rows ids)
@@ -88,7 +43,7 @@ module _ (number : ℕ) (old : EntryInformation) (rows : List Numbered) (tree : 
       at : (o : Option EntryInformation) → (id == number) ≡ false → entry_of id rows ≡ o → entry_of id (without number rows) ≡ o → Later → Goal
       at None e was there later = rw (e, there, was) later
       at (Some entry) e was there later =
-          let differs = other_name id entry there in
+          let differs = other_name number old rows tree known id entry there in
           rw (e, there, was, differs) (ap (λ (xs : List EntryInformation). entry ∷ xs) later)
 
       by : (((id == number) ≡ true) ⊎ ((id == number) ≡ false)) → Later → Goal
@@ -115,7 +70,7 @@ module _ (number : ℕ) (old : EntryInformation) (rows : List Numbered) (tree : 
     in_force =
         entries_at-left lists.in_force
         ∙ ap (taken_out old.name) are.in_force
-        ∙ sym (in_force-taken old.name (entries_of rows) entry (outside alone id entry there))
+        ∙ sym (in_force-taken old.name (entries_of rows) entry (outside number old rows tree known alone id entry there))
         ∙ ap (λ entries. in_force entries entry) (sym left_entries);
     live = live-left lists.in_force are.live;
     prescriptive = are.prescriptive;
@@ -143,11 +98,11 @@ module _ (number : ℕ) (old : EntryInformation) (rows : List Numbered) (tree : 
           numbers =
               subentries-filter number one.subtrees.items
               ∙ ap (filter (λ id. not (id == number))) held.subtrees.numbers
-              ∙ sym (subentry_rows-without number rows);
+              ∙ unlisted-without number rows;
           subtrees = subtrees-left one.subtrees.items held.subtrees.subtrees;
         });
     lists = λ id entry there.
-        let differs = other_number id number entry rows there in
+        let differs = number_left id number entry rows there in
         let was : entry_of id rows ≡ Some entry = sym (entry_of-other id number rows differs) ∙ there in
         subst (AreOf (without number rows) entry) (sym (forgotten.lists id differs))
         (lists-left alone id entry (lists_at one.lists.items id) there (held.lists id entry was));

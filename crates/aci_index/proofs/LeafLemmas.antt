@@ -4,9 +4,10 @@ use Rattle.dir_tree.specs.Entries.{EntryInformation}
 use Rattle.dir_tree.specs.Numbered.{Numbered, IsNumberedTree, entries_of, entry_of, put_entry, without}
 use Rattle.dir_tree.specs.Refusals.{insert_refusal, remove_refusal}
 use Rattle.dir_tree.specs.Scopes.{is_within}
+use Rattle.dir_tree.proofs.TreeTheorems.{new_removable, removed_alone, outside}
 use Rattle.acdf_lists.specs.declared.kept.Holdings.{Holdings}
 use Rattle.acdf_lists.specs.Holdings.{IsHeld, IsForgotten}
-use Rattle.acdf_lists.proofs.Theorems.{outside, held-without, new_removable, removed_alone}
+use Rattle.acdf_lists.proofs.Theorems.{held-without}
 use Rattle.scope_laws.proofs.Theorems.{aside-beside, change-put, change-taken, entry_of-new}
 use Rattle.aci_index.specs.Steps.{IsKeptOf, OthersStay}
 use Rattle.aci_index.proofs.SubtreeLemmas.{IsOrdinary}

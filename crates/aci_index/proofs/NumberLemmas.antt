@@ -1,13 +1,13 @@
 -- Numbers below a bound: of the entries that are reached, and of those after a change.
 use Rattle.std.proofs.Common.{◌≡◌, inl, inr, ℕ, ◌<◌, ◌==◌, List, [], ◌∷◌, filter, subst, ap, sym, refl, Option, Some, None, ◌≤◌, arith}
 use Rattle.std.specs.List.{AllByRecursion}
-use Rattle.std.proofs.lemmas.Bool.{cases_Bool, eqb-true}
+use Rattle.std.proofs.lemmas.Bool.{cases_Bool}
 use Rattle.dir_tree.specs.Entries.{EntryInformation}
 use Rattle.dir_tree.specs.Trees.{is_before}
 use Rattle.dir_tree.specs.Numbered.{Numbered, ids_of, entry_of, put_row, without}
 use Rattle.dir_tree.specs.Scopes.{is_within, in_scope, scoped}
 use Rattle.dir_tree.specs.declared.scope.Scope.TheVariants.{Sub}
-use Rattle.dir_tree.proofs.TreeTheorems.{found_later}
+use Rattle.dir_tree.proofs.TreeTheorems.{all_known}
 use Rattle.aci_index.specs.Reach.{AreBelow}
 
 pub below-more : (bound more : ℕ) (rows : List Numbered) → bound ≤ more → AreBelow bound rows → AreBelow more rows
@@ -43,15 +43,8 @@ below_without bound id (x ∷ rows) h = elim (cases_Bool (x.id == id)) [
   | inr e ↦ rw e (h.0, below_without bound id rows h.1)
 ]
 
-below_known : (bound id : ℕ) (old : EntryInformation) (rows : List Numbered) → AreBelow bound rows → entry_of id rows ≡ Some old → id < bound
-below_known bound id old [] h known = absurd cc
-below_known bound id old (x ∷ rows) h known = elim (cases_Bool (x.id == id)) [
-  | inl e ↦ subst (λ (n : ℕ). n < bound) (eqb-true x.id id e) h.0
-  | inr e ↦ below_known bound id old rows h.1 (found_later id old x rows e known)
-]
-
 -- and those after an entry took another's place
 pub below-replaced : (bound id : ℕ) (old one : EntryInformation) (rows : List Numbered) → AreBelow bound rows → entry_of id rows ≡ Some old
     → AreBelow bound (put_row (record { id = id; entry = one }) (without id rows))
 below-replaced bound id old one rows h known =
-    below_put bound (record { id = id; entry = one }) (without id rows) (below_known bound id old rows h known) (below_without bound id rows h)
+    below_put bound (record { id = id; entry = one }) (without id rows) (all_known (λ row. row.id < bound) id old rows h known) (below_without bound id rows h)

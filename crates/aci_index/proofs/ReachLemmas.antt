@@ -1,37 +1,17 @@
 -- The entries that a write does not reach are neither at nor below the top of what it reaches.
-use Rattle.std.proofs.Common.{◌≡◌, ◌≢◌, ◌⊎◌, inl, inr, ℕ, ◌+◌, ◌-◌, ◌<◌, ◌==◌, true, false, List, [], ◌∷◌, length, take, find, filter, Option, Some, None, refl, sym, ap, subst, ◌∙◌, arith}
+use Rattle.std.proofs.Common.{◌≡◌, ◌≢◌, ◌⊎◌, inl, inr, ℕ, ◌==◌, true, false, List, [], ◌∷◌, filter, Option, Some, None, refl, sym, ap, subst, ◌∙◌}
 use Rattle.std.specs.Prelude.{is_some, unwrap_or}
 use Rattle.std.specs.List.{AllByRecursion}
-use Rattle.std.specs.Option.{option_map, option_and_then}
-use Rattle.std.proofs.lemmas.Bool.{cases_Bool, cond-true, cond-false, eqb-true, eq-eqb, and_from, cases_eq}
-use Rattle.std.proofs.lemmas.List.{length-take-le}
+use Rattle.std.specs.Option.{option_and_then}
+use Rattle.std.proofs.lemmas.Bool.{cases_Bool, cond-true, cond-false, eqb-true, cases_eq}
 use Rattle.dn_names.specs.Names.{RdnSequence}
-use Rattle.dn_names.specs.NameOrder.{is_same, is_prefix_of}
+use Rattle.dn_names.specs.NameOrder.{is_same}
 use Rattle.dir_tree.specs.Entries.{EntryInformation}
-use Rattle.dir_tree.specs.Trees.{is_named, named_in, superior_name}
+use Rattle.dir_tree.specs.Trees.{named_in, superior_name}
 use Rattle.dir_tree.specs.Numbered.{Numbered, IsNumberedTree, ids_of, entries_of, find_name, entry_of, suffix_of, superior_of}
-use Rattle.dir_tree.specs.Scopes.{is_within, is_child, in_scope, scoped}
+use Rattle.dir_tree.specs.Scopes.{is_within, in_scope, scoped}
 use Rattle.dir_tree.specs.declared.scope.Scope.TheVariants.{Sub}
-use Rattle.dir_tree.proofs.TreeTheorems.{entry_of-found, superior_of-others, scoped-Sub}
-use Rattle.dir_tree.proofs.TreeTheorems.{length-same, found_same}
-use Rattle.dir_tree.proofs.TreeTheorems.{found_row, found_later}
-
--- an entry whose superior has the name stands immediately below the name
-pub child_under : (base : RdnSequence) (one : EntryInformation) → one.name ≢ [] → is_same (superior_name one.name) base ≡ true → is_child base one ≡ true
-unfolding is_prefix_of
-child_under base one filled e =
-    let alike = length-same (superior_name one.name) base e in
-    let some = not_empty one.name filled in
-    let size = length-take-le (length one.name - 1) one.name (omega arith) in
-    let less : length base ≡ length one.name - 1 = omega arith in
-    let long : length one.name ≡ length base + 1 = omega arith in
-    and_from (is_prefix_of base one.name) (length one.name == length base + 1)
-    (ap (λ (n : ℕ). is_same (take n one.name) base) less ∙ e)
-    (eq-eqb (length one.name) (length base + 1) long)
-  where
-    not_empty : (name : RdnSequence) → name ≢ [] → 0 < length name
-    not_empty [] h = absurd (h refl)
-    not_empty (r ∷ rs) h = omega arith
+use Rattle.dir_tree.proofs.TreeTheorems.{entry_of-found, superior_of-others, scoped-Sub, found_same, found_both, found_row, found_later}
 
 -- a number in use is among the numbers
 used_among : (number : ℕ) (entry : EntryInformation) (rows : List Numbered) → entry_of number rows ≡ Some entry → AllByRecursion (λ id. id ≢ number) (ids_of rows) → ⊥
@@ -70,19 +50,6 @@ unreached-Sub top base number entry rows at known h =
     unreached base.name number entry rows known
     (subst (λ (ids : List ℕ). AllByRecursion (λ id. id ≢ number) ids) (ap (λ o. in_scope Sub top o rows) at) h)
 
-none_named : (name : RdnSequence) (rows : List Numbered) (id : ℕ) → find_name name rows ≡ Some id → named_in name (entries_of rows) ≡ None → ⊥
-none_named name [] id e f = absurd cc
-none_named name (x ∷ rows) id e f = by (cases_Bool (is_named name x.entry)) (none_named name rows id)
-  where
-    by : ((is_named name x.entry ≡ true) ⊎ (is_named name x.entry ≡ false)) → (find_name name rows ≡ Some id → named_in name (entries_of rows) ≡ None → ⊥) → ⊥
-    by (inl g) later =
-        let is : Some x.entry ≡ None = sym (cond-true (is_named name x.entry) (Some x.entry) (named_in name (entries_of rows)) g) ∙ f in
-        absurd cc
-    by (inr g) later =
-        later
-        (sym (ap (option_map (λ (row : Numbered). row.id)) (cond-false (is_named name x.entry) (Some x) (find (λ row. is_named name row.entry) rows) g)) ∙ e)
-        (sym (cond-false (is_named name x.entry) (Some x.entry) (named_in name (entries_of rows)) g) ∙ f)
-
 -- a name that the superior of the one has, and that the entry is neither at nor below
 pub record IsApart (one entry : EntryInformation) : Type 0 where
   pub top : RdnSequence
@@ -104,7 +71,9 @@ unreached-around id one number entry rows tree known there h = by (superior_of i
     reached_at o e = subst (λ (found : Option ℕ). AllByRecursion (λ other. other ≢ number) (scoped Sub (unwrap_or found id) rows)) e h
 
     found : (top : ℕ) → superior_of id rows ≡ Some top → (o : Option EntryInformation) → named_in (superior_name one.name) (entries_of rows) ≡ o → IsApart one entry
-    found top e None f = absurd (none_named (superior_name one.name) rows top (sym above ∙ e) f)
+    found top e None f =
+        let clash : true ≡ false = sym (ap is_some (sym above ∙ e)) ∙ found_both (superior_name one.name) rows ∙ ap is_some f in
+        absurd cc
     found top e (Some base) f =
         let at : entry_of top rows ≡ Some base =
         sym (ap (option_and_then (λ n. entry_of n rows)) (sym above ∙ e)) ∙ entry_of-found (superior_name one.name) rows tree.distinct ∙ f in

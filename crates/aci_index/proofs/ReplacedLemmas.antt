@@ -11,12 +11,11 @@ use Rattle.dir_tree.specs.Numbered.{Numbered, IsNumberedTree, entries_of, entry_
 use Rattle.dir_tree.specs.Refusals.{refusal_in_place, replace_refusal}
 use Rattle.dir_tree.specs.Points.{is_access_subentry}
 use Rattle.dir_tree.specs.Scopes.{is_within}
-use Rattle.dir_tree.proofs.TreeTheorems.{same_itself, elsewhere_filled as elsewhere-filled, elsewhere_under as elsewhere-under, prefix_same}
+use Rattle.dir_tree.proofs.TreeTheorems.{same_itself, elsewhere_filled as elsewhere-filled, elsewhere_under as elsewhere-under, prefix_same, outside}
 use Rattle.dir_tree.proofs.TreeTheorems.{all_known_entry}
 use Rattle.dir_tree.proofs.TreeTheorems.{IsAllowedThere, allowed_there}
 use Rattle.acdf_lists.specs.declared.kept.Holdings.{Holdings}
 use Rattle.acdf_lists.specs.Holdings.{IsHeld}
-use Rattle.acdf_lists.proofs.Theorems.{outside}
 use Rattle.scope_laws.specs.Aside.{IsAside}
 use Rattle.scope_laws.proofs.Theorems.{aside-beside, change-taken, change-replaced, entry_of-new}
 use Rattle.aci_index.specs.declared.anew.Reach.{Reach}

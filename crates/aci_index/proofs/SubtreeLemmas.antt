@@ -1,14 +1,13 @@
 -- The subtrees stay those of the subentries, where an entry comes, goes or changes that is no access control subentry.
-use Rattle.std.proofs.Common.{◌≡◌, ◌≢◌, ℕ, false, ◌==◌, List, [], ◌∷◌, map, refl, ap, sym, subst, ◌∙◌, inl, inr, Option, Some, None}
+use Rattle.std.proofs.Common.{◌≡◌, ◌≢◌, ℕ, false, ◌==◌, List, [], ◌∷◌, map, ap, sym, subst, ◌∙◌, inl, inr, Option, Some, None}
 use Rattle.std.specs.Prelude.{IfSome}
 use Rattle.std.specs.List.{AllByRecursion}
 use Rattle.std.specs.Option.{option_map, option_and_then}
 use Rattle.std.proofs.lemmas.Bool.{cases_Bool, eqb-false}
 use Rattle.dir_tree.specs.Entries.{EntryInformation}
 use Rattle.dir_tree.specs.Points.{is_access_subentry}
-use Rattle.dir_tree.specs.Trees.{is_before}
-use Rattle.dir_tree.specs.Numbered.{Numbered, IsNumberedTree, ids_of, entry_of, subentry_rows, put_row, without}
-use Rattle.dir_tree.proofs.TreeTheorems.{put_row-taken, without-absent as without-unused}
+use Rattle.dir_tree.specs.Numbered.{Numbered, IsNumberedTree, ids_of, entry_of, subentry_rows, without}
+use Rattle.dir_tree.proofs.TreeTheorems.{put_row-taken, without-absent as without-unused, filter-put_other}
 use Rattle.subtree_spec.specs.Subtrees.{subtree_of}
 use Rattle.admin_scope.specs.InForce.{subtree_of_entry}
 use Rattle.admin_scope.specs.Finding.{AreSubtrees, subtree_at}
@@ -20,24 +19,13 @@ use Rattle.scope_laws.proofs.Theorems.{entry_of-new}
 abbrev pub IsOrdinary : EntryInformation → Type 0
 IsOrdinary entry = is_access_subentry entry ≡ false
 
--- one that is put in is not among the subentries
-subentry_rows-put : (row : Numbered) (rows : List Numbered) → IsOrdinary row.entry → subentry_rows (put_row row rows) ≡ subentry_rows rows
-subentry_rows-put row [] e = rw e refl
-subentry_rows-put row (x ∷ rows) e = elim (cases_Bool (is_before x.entry.name row.entry.name)) [
-  | inl f ↦ elim (cases_Bool (is_access_subentry x.entry)) [
-    | inl g ↦ rw (f, g) (ap (λ (xs : List Numbered). x ∷ xs) (subentry_rows-put row rows e))
-    | inr g ↦ rw (f, g) (subentry_rows-put row rows e)
-  ]
-  | inr f ↦ rw (f, e) refl
-]
-
 -- the subentries are those of other numbers
 subentry_rows-others : (id : ℕ) (rows : List Numbered) (one : Option EntryInformation) → IsNumberedTree rows → entry_of id rows ≡ one → IfSome one IsOrdinary
     → subentry_rows rows ≡ subentry_rows (without id rows)
 subentry_rows-others id rows None tree e h = ap subentry_rows (sym (without-unused id rows e))
 subentry_rows-others id rows (Some one) tree e h =
     ap subentry_rows (sym (put_row-taken id one rows tree e))
-    ∙ subentry_rows-put (record { id = id; entry = one }) (without id rows) h
+    ∙ filter-put_other (λ row. is_access_subentry row.entry) (record { id = id; entry = one }) (without id rows) h
 
 others_only : (id : ℕ) (rows : List Numbered) → AllByRecursion (λ number. number ≢ id) (ids_of (subentry_rows (without id rows)))
 others_only id [] = tt

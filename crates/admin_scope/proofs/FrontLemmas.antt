@@ -1,12 +1,12 @@
 -- Names that are fronts of one name.
-use Rattle.std.proofs.Common.{◌≡◌, ℕ, ◌+◌, ◌<◌, ◌≤◌, true, map, length, take, sym, ap, subst, ◌∙◌, arith, inl, inr}
+use Rattle.std.proofs.Common.{◌≡◌, ℕ, ◌<◌, ◌≤◌, true, map, length, take, sym, ap, subst, ◌∙◌, arith, inl, inr}
 use Rattle.std.specs.Ordering.{ordering_reverse, is_eq}
 use Rattle.std.specs.declared.cmp.Ordering.TheVariants.{Less, Greater}
 use Rattle.std.proofs.lemmas.Bool.{cases_lt}
-use Rattle.std.proofs.lemmas.List.{length-map, length-append, length-take-le, take-map, take-take}
+use Rattle.std.proofs.lemmas.List.{length-take-le, take-map, take-take}
 use Rattle.dn_names.specs.Names.{RdnSequence}
 use Rattle.dn_names.specs.NameOrder.{name_cmp, is_same, is_prefix_of, type_and_key, types_and_keys}
-use Rattle.dn_names.proofs.Theorems.{name_cmp_total, is_same-types_and_keys, is_prefix_of-types_and_keys, name_cmp-prefix}
+use Rattle.dn_names.proofs.Theorems.{name_cmp_total, is_same-types_and_keys, name_cmp-prefix}
 use Rattle.dir_tree.proofs.TreeTheorems.{length-same}
 
 -- the front of so many RDNs, by its types and keys
@@ -16,15 +16,6 @@ types_and_keys-take k name = sym (take-map (map type_and_key) k name)
 types_and_keys-front : (front name : RdnSequence) → is_prefix_of front name ≡ true → types_and_keys front ≡ take (length front) (types_and_keys name)
 unfolding is_prefix_of
 types_and_keys-front front name e = sym ((is_same-types_and_keys (take (length front) name) front).0 e) ∙ types_and_keys-take (length front) name
-
--- a front has at most as many RDNs
-pub length-front : (front name : RdnSequence) → is_prefix_of front name ≡ true → length front ≤ length name
-length-front front name e =
-    let rest = (is_prefix_of-types_and_keys front name).0 e in
-    let sum : length name ≡ length front + length rest.0 =
-    sym (length-map name (map type_and_key)) ∙ ap length rest.1 ∙ length-append (types_and_keys front) rest.0
-    ∙ ap (λ (n : ℕ). n + length rest.0) (length-map front (map type_and_key)) in
-    omega arith
 
 -- of two fronts the one that is no longer is a front of the other
 front_of_front : (x y name : RdnSequence) → is_prefix_of x name ≡ true → is_prefix_of y name ≡ true → length y ≤ length x → is_prefix_of y x ≡ true

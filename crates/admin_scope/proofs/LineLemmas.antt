@@ -11,8 +11,9 @@ use Rattle.dn_names.specs.Names.{RdnSequence}
 use Rattle.dn_names.specs.NameOrder.{name_cmp, is_same, is_prefix_of}
 use Rattle.dir_tree.specs.Entries.{EntryInformation}
 use Rattle.dir_tree.specs.Trees.{is_named, named_in, IsInOrder}
+use Rattle.dir_tree.proofs.TreeTheorems.{length-front}
 use Rattle.admin_scope.specs.Areas.{line_of}
-use Rattle.admin_scope.proofs.FrontLemmas.{length-front, longer_front, length-named, front-named, named-front}
+use Rattle.admin_scope.proofs.FrontLemmas.{longer_front, length-named, front-named, named-front}
 
 -- the entries of the fronts of at most so many RDNs, the longest first
 abbrev pub line_up : ℕ → RdnSequence → List EntryInformation → List EntryInformation

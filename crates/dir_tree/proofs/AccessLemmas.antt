@@ -4,6 +4,7 @@ use Rattle.std.specs.List.{AllByRecursion}
 use Rattle.std.proofs.lemmas.Bool.{cases_Bool, cond-true, cond-false}
 use Rattle.std.proofs.lemmas.Bool.Decides.{nat_tests}
 use Rattle.std.proofs.lemmas.List.{map-append, take-map, drop-map, drop_more, drop_all}
+use Rattle.base_laws.proofs.Theorems.{all_filter}
 use Rattle.dn_names.specs.Names.{RdnSequence}
 use Rattle.dir_tree.specs.Entries.{EntryInformation}
 use Rattle.dir_tree.specs.Points.{is_access_subentry}
@@ -44,13 +45,6 @@ put_row-first : (row : Numbered) (rows : List Numbered) → AllByRecursion (λ l
 put_row-first row [] none = refl
 put_row-first row (x ∷ rows) none = rw none.0 refl
 
-all_kept : (P : Numbered → Type 0) (test : Numbered → Bool) (rows : List Numbered) → AllByRecursion P rows → AllByRecursion P (filter test rows)
-all_kept P test [] h = tt
-all_kept P test (x ∷ rows) h = elim (cases_Bool (test x)) [
-  | inl e ↦ rw e (h.0, all_kept P test rows h.1)
-  | inr e ↦ rw e (all_kept P test rows h.1)
-]
-
 -- what passes a test of the rows with one put in
 pub filter-put_row : (test : Numbered → Bool) (row : Numbered) (rows : List Numbered) → test row ≡ true → IsInOrder (entries_of rows) → filter test (put_row row rows) ≡ put_row row (filter test rows)
 filter-put_row test row [] passes o = rw passes refl
@@ -62,7 +56,7 @@ filter-put_row test row (x ∷ rows) passes o = elim (cases_Bool (is_before x.en
   | inr e ↦ (
       let later = fails_after (stands_before row.entry.name) (stands_before_down row.entry.name) x rows e o.0 in
       let all : AllByRecursion (λ (later : Numbered). stands_before row.entry.name later ≡ false) (x ∷ rows) = (e, later) in
-      rw (e, passes) (sym (put_row-first row (filter test (x ∷ rows)) (all_kept (λ (later : Numbered). stands_before row.entry.name later ≡ false) test (x ∷ rows) all))))
+      rw (e, passes) (sym (put_row-first row (filter test (x ∷ rows)) (all_filter (λ (later : Numbered). stands_before row.entry.name later ≡ false) test (x ∷ rows) all))))
 ]
 
 pub filter-put_other : (test : Numbered → Bool) (row : Numbered) (rows : List Numbered) → test row ≡ false → filter test (put_row row rows) ≡ filter test rows

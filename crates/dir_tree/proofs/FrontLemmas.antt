@@ -1,10 +1,10 @@
 -- Names that begin others, and what names that are the same begin.
-use Rattle.std.proofs.Common.{◌≡◌, ◌≢◌, ℕ, ◌+◌, ◌-◌, ◌≤◌, ◌==◌, Bool, true, false, ◌&&◌, List, [], ◌∷◌, ◌++◌, length, take, refl, sym, ap, ◌∙◌, nat_lt, arith}
+use Rattle.std.proofs.Common.{◌≡◌, ◌≢◌, ℕ, ◌+◌, ◌-◌, ◌≤◌, ◌==◌, Bool, true, false, ◌&&◌, List, [], ◌∷◌, ◌++◌, length, map, take, refl, sym, ap, ◌∙◌, nat_lt, arith}
 use Rattle.std.specs.Cmp.{both_ways}
 use Rattle.std.proofs.lemmas.Bool.Decides.{nat_tests}
-use Rattle.std.proofs.lemmas.List.{take_all, length-take-le}
+use Rattle.std.proofs.lemmas.List.{take_all, length-map, length-append, length-take-le}
 use Rattle.dn_names.specs.Names.{RdnSequence}
-use Rattle.dn_names.specs.NameOrder.{is_same, is_prefix_of, types_and_keys}
+use Rattle.dn_names.specs.NameOrder.{is_same, is_prefix_of, type_and_key, types_and_keys}
 use Rattle.dn_names.proofs.Theorems.{is_same-types_and_keys, is_prefix_of-types_and_keys}
 use Rattle.dir_tree.specs.Entries.{EntryInformation}
 use Rattle.dir_tree.specs.Trees.{is_below, superior_name}
@@ -49,6 +49,15 @@ at_base base name within not_below =
     let shorter : nat_lt (length base) (length name) ≡ false = rw within at not_below in
     let short : length name ≤ length base = grind (arith, nat_tests) in
     same_back name base (ap (λ front. is_same front base) (sym (take_all (length base) name short)) ∙ within)
+
+-- a front has at most as many RDNs
+pub length-front : (front name : RdnSequence) → is_prefix_of front name ≡ true → length front ≤ length name
+length-front front name e =
+    let rest = (is_prefix_of-types_and_keys front name).0 e in
+    let sum : length name ≡ length front + length rest.0 =
+    sym (length-map name (map type_and_key)) ∙ ap length rest.1 ∙ length-append (types_and_keys front) rest.0
+    ∙ ap (λ (n : ℕ). n + length rest.0) (length-map front (map type_and_key)) in
+    omega arith
 
 -- how many RDNs a superior has
 pub length-superior : (name : RdnSequence) → length (superior_name name) ≡ length name - 1

@@ -1,15 +1,11 @@
 -- A change leaves attributes of distinct types.
 use Rattle.std.proofs.Common.{◌≡◌, ℕ, ◌==◌, Bool, true, false, not, cond, filter, map, List, [], ◌∷◌, ◌++◌, refl, arith, if◌then◌else◌}
 use Rattle.std.specs.List.{AllByRecursion, IsDistinct}
-use Rattle.std.proofs.lemmas.Bool.Decides.{nat_tests}
+use Rattle.base_laws.proofs.Theorems.{all_filter, number_apart}
 use Rattle.dn_names.specs.Names.{Keyed}
 use Rattle.dir_tree.specs.Entries.{Attribute, EntryInformation, kinds_of, values_of, has_key, IsGoodAttribute, IsGoodAttributes}
 use Rattle.dir_tree.specs.Changes.{put_value, with_value, cut_attribute, is_filled, without_value, without_kind}
-use Rattle.dir_tree.proofs.GoodLemmas.{good-put_value, good-cut_attributes, all-filter}
-
--- the test that types differ, either way round
-apart_back : (one other : ℕ) → (one == other) ≡ false → (other == one) ≡ false
-apart_back one other apart = grind (arith, nat_tests)
+use Rattle.dir_tree.proofs.GoodLemmas.{good-put_value, good-cut_attributes}
 
 apart_case :
     (mine : Bool) (number kind : ℕ) (value : Keyed) (first : Attribute) (rest later : List Attribute)
@@ -50,7 +46,7 @@ unfolding IsDistinct
 distinct-put_value kind value [] distinct = (tt, tt)
 distinct-put_value kind value (first ∷ rest) distinct =
     put_case (kind == first.kind) kind value first rest (put_value kind value rest) distinct.0
-    (λ other. apart-put_value first.kind kind value rest (apart_back kind first.kind other) distinct.0)
+    (λ other. apart-put_value first.kind kind value rest (number_apart kind first.kind other) distinct.0)
     distinct.1 (distinct-put_value kind value rest distinct.1)
 
 -- a filter
@@ -124,6 +120,6 @@ pub good-without_kind :
     (kind : ℕ) (entry : EntryInformation) → IsGoodAttributes entry.attributes
     → IsGoodAttributes (without_kind kind entry).attributes
 good-without_kind kind entry good = record {
-  good = all-filter IsGoodAttribute (λ attribute. not (kind == attribute.kind)) entry.attributes good.good;
+  good = all_filter IsGoodAttribute (λ attribute. not (kind == attribute.kind)) entry.attributes good.good;
   distinct = distinct-filter_kinds (λ attribute. not (kind == attribute.kind)) entry.attributes good.distinct;
 }

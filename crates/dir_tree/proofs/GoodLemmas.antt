@@ -6,6 +6,7 @@ use Rattle.std.specs.List.{AllByRecursion, IsDistinct}
 use Rattle.std.specs.Map.{keys_of}
 use Rattle.std.proofs.lemmas.Cmp.{on_equiv}
 use Rattle.std.proofs.lemmas.Map.Keys.{IsDistinct-push}
+use Rattle.base_laws.proofs.Theorems.{all_filter}
 use Rattle.schema_core.specs.declared.kinds.AttrId.{AttrId}
 use Rattle.dn_names.specs.Names.{Keyed}
 use Rattle.dir_tree.specs.Entries.{Attribute, kinds_of, values_of, has_key, is_match, IsGoodAttribute}
@@ -59,13 +60,6 @@ module _ {A : Type 0} where
   all_case true P x xs here rest = (here refl, rest)
   all_case false P x xs here rest = rest
 
-  -- a filter keeps what holds of each
-  pub all-filter :
-      (P : A → Type 0) (test : A → Bool) (xs : List A) → AllByRecursion P xs → AllByRecursion P (filter test xs)
-  all-filter P test [] all = tt
-  all-filter P test (x ∷ xs) all =
-      all_case (test x) P x (filter test xs) (λ _. all.0) (all-filter P test xs all.1)
-
   distinct_case :
       (b : Bool) (eq : A → A → Bool) (x : A) (xs : List A) → AllByRecursion (λ y. eq x y ≡ false) xs
       → IsDistinct eq xs → IsDistinct eq (cond b (x ∷ xs) xs)
@@ -80,7 +74,7 @@ module _ {A : Type 0} where
   distinct-filter eq test [] distinct = tt
   distinct-filter eq test (x ∷ xs) distinct =
       distinct_case (test x) eq x (filter test xs)
-      (all-filter (λ y. eq x y ≡ false) test xs distinct.0) (distinct-filter eq test xs distinct.1)
+      (all_filter (λ y. eq x y ≡ false) test xs distinct.0) (distinct-filter eq test xs distinct.1)
 
 -- an attribute that is cut keeps distinct values
 cut-distinct :

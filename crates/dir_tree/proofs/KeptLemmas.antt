@@ -3,7 +3,7 @@ use Rattle.std.proofs.Common.{◌≡◌, ◌≢◌, ◌⊎◌, inl, inr, ℕ, �
 use Rattle.std.specs.Prelude.{is_some, IsSome}
 use Rattle.std.specs.List.{list_any}
 use Rattle.std.specs.Option.{option_map}
-use Rattle.std.proofs.lemmas.Bool.{cases_Bool, not-false, eqb-true, eqb-false}
+use Rattle.std.proofs.lemmas.Bool.{cases_Bool, eqb-true, eqb-false}
 use Rattle.std.proofs.lemmas.List.{length-map, length-set}
 use Rattle.std.proofs.lemmas.List.Edits.{length-remove}
 use Rattle.dn_names.specs.Names.{RdnSequence}
@@ -14,6 +14,7 @@ use Rattle.dir_tree.specs.Refusals.{insert_refusal}
 use Rattle.dir_tree.specs.Places.{place_of, no_row}
 use Rattle.dir_tree.specs.Slots.{slot_of, row_at, rows_of, has_id, count_full, HasSameSlots, IsOrderedTree, IsKept}
 use Rattle.dir_tree.proofs.PlaceLemmas.{place_of-le}
+use Rattle.dir_tree.proofs.NamedLemmas.{none_or_under}
 use Rattle.dir_tree.proofs.OrderedLemmas.{ordered_put, ordered_without}
 use Rattle.dir_tree.proofs.NumberedLemmas.{StandsAt, stands_at, without-remove, entries_of-put_row, entries_of-others}
 use Rattle.dir_tree.proofs.CountLemmas.{count_full-empty, full_within}
@@ -40,10 +41,6 @@ pub record IsAllowed (name : RdnSequence) (entries : List EntryInformation) : Ty
   pub under : (entries ≡ []) ⊎ (has_name (superior_name name) entries ≡ true)
   pub room : length entries ≢ 200000
 
-has_superior : (name : RdnSequence) (entries : List EntryInformation) → lacks_superior name entries ≡ false → (entries ≡ []) ⊎ (has_name (superior_name name) entries ≡ true)
-has_superior name [] e = inl refl
-has_superior name (x ∷ entries) e = inr (not-false (has_name (superior_name name) (x ∷ entries)) e)
-
 pub allowed : (name : RdnSequence) (entries : List EntryInformation) → insert_refusal name entries ≡ None → IsAllowed name entries
 allowed name entries e = by (cases_Bool (has_name name entries)) (cases_Bool (lacks_superior name entries)) (cases_Bool (length entries == 200000))
   where
@@ -51,7 +48,7 @@ allowed name entries e = by (cases_Bool (has_name name entries)) (cases_Bool (la
     by (inl f) g h = (let is = rw f at e in absurd cc)
     by (inr f) (inl g) h = (let is = rw (f, g) at e in absurd cc)
     by (inr f) (inr g) (inl h) = (let is = rw (f, g, h) at e in absurd cc)
-    by (inr f) (inr g) (inr h) = record { absent = f; under = has_superior name entries g; room = eqb-false (length entries) 200000 h }
+    by (inr f) (inr g) (inr h) = record { absent = f; under = none_or_under name entries g; room = eqb-false (length entries) 200000 h }
 
 -- slots that are the same at each number keep the same tree
 pub kept_slots : (slots other : List (Option EntryInformation)) (order : List ℕ) → IsKept slots order → HasSameSlots slots other → count_full other ≡ length order → length other ≤ 200000 → IsKept other order

@@ -30,4 +30,6 @@ pub mod TreeLemmas
 pub mod TreeExamples
 pub mod StayLaws
 pub mod TreeLaws
+pub mod FreeLemmas
+pub mod BesideLemmas
 pub mod TreeTheorems

@@ -9,12 +9,11 @@ use Rattle.std.specs.Cmp.Lexicographic.{slice_cmp}
 use Rattle.std.specs.declared.cmp.Ordering.TheVariants.{Less, Equal, Greater}
 use Rattle.std.proofs.lemmas.Bool.{cases_Bool, false_from_ne_true, or_parts, cond-false}
 use Rattle.std.proofs.lemmas.Bool.Decides.{Decides-eqb}
-use Rattle.std.proofs.lemmas.Map.Text.{is_eq-slice_cmp}
-use Rattle.std.proofs.lemmas.Slice.Eq.{bytes_eq-Decides, starts_is}
+use Rattle.std.proofs.lemmas.Slice.Eq.{starts_is}
 use Rattle.dn_names.specs.Names.{RdnSequence}
 use Rattle.dn_names.specs.NameOrder.{name_cmp, is_same, is_prefix_of}
 use Rattle.dn_names.specs.PathKeys.{path_key}
-use Rattle.dn_names.proofs.Theorems.{octets_cmp-path_key, is_prefix_of-path_key}
+use Rattle.dn_names.proofs.Theorems.{tied_octets, octets_cmp-path_key, is_prefix_of-path_key}
 use Rattle.dir_tree.specs.Entries.{EntryInformation}
 use Rattle.dir_tree.specs.Trees.{is_named, is_before, has_name, IsInOrder}
 use Rattle.dir_tree.specs.Numbered.{Numbered, entries_of, find_name}
@@ -24,12 +23,9 @@ use Rattle.dir_tree.specs.Maps.{AreKeyed}
 use Rattle.dir_tree.proofs.NameLemmas.{Less-from_before, Equal-from_same, same-from_Equal, is_gt-turned, before_chain, before_not_back, before_not_same, same_back, same_not_before}
 use Rattle.dir_tree.proofs.OrderLemmas.{absent_before}
 
--- octets that tie are the same, and so are the path keys of names that are the same
-tied : (one other : List ℕ) → slice_cmp nat_cmp one other ≡ Equal → one ≡ other
-tied one other e = (bytes_eq-Decides one other).0 (sym (is_eq-slice_cmp one other) ∙ ap is_eq e)
-
+-- the path keys of names that are the same are the same
 pub path_key-same : (one other : RdnSequence) → is_same one other ≡ true → path_key one ≡ path_key other
-path_key-same one other e = tied (path_key one) (path_key other) (octets_cmp-path_key one other ∙ Equal-from_same one other e)
+path_key-same one other e = tied_octets (path_key one) (path_key other) (octets_cmp-path_key one other ∙ Equal-from_same one other e)
 
 -- a path key begins with another where the name does
 pub starts-prefix : (base name : RdnSequence) → starts_with nat_eq (path_key name) (path_key base) ≡ is_prefix_of base name
@@ -99,7 +95,7 @@ module _ {K : Type 0} (octets : K → List ℕ) (slots : List (Option EntryInfor
     where
       by : (o : Ordering) → cmp key x.0 ≡ o → AreKeyed octets slots (insert_entry cmp places key id) → AreKeyed octets slots (match_ordering o ((key, id) ∷ x ∷ places) ((x.0, id) ∷ places) (x ∷ insert_entry cmp places key id))
       by Less f later = (e, keyed)
-      by Equal f later = (sym (tied (octets key) (octets x.0) f) ∙ e, keyed.1)
+      by Equal f later = (sym (tied_octets (octets key) (octets x.0) f) ∙ e, keyed.1)
       by Greater f later = (keyed.0, later)
 
   -- a key taken out

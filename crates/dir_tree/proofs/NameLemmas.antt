@@ -6,6 +6,7 @@ use Rattle.std.specs.Cmp.Lexicographic.{slice_cmp}
 use Rattle.std.proofs.lemmas.Cmp.{tied_itself, tied_back, alike_right}
 use Rattle.std.proofs.lemmas.List.{length-map, take-map, take_all, length-take-le}
 use Rattle.std.proofs.lemmas.Bool.{and_from, and_left, and_right, cases_lt, lt-ltb, le-ltb, true_from_ne_false, not_from_false, not_from_true}
+use Rattle.base_laws.proofs.Theorems.{is_equal}
 use Rattle.dn_names.specs.Names.{RdnSequence}
 use Rattle.dn_names.specs.NameOrder.{rdn_cmp, name_cmp, is_same, is_prefix_of, type_and_key}
 use Rattle.dn_names.proofs.Theorems.{name_cmp_total, is_same-types_and_keys, name_cmp-prefix}
@@ -15,11 +16,6 @@ is_less : (o : Ordering) → is_lt o ≡ true → o ≡ Less
 is_less Less e = refl
 is_less Equal e = absurd cc
 is_less Greater e = absurd cc
-
-is_equal : (o : Ordering) → is_eq o ≡ true → o ≡ Equal
-is_equal Less e = absurd cc
-is_equal Equal e = refl
-is_equal Greater e = absurd cc
 
 turned : (o : Ordering) → is_gt o ≡ is_lt (ordering_reverse o)
 turned Less = refl
@@ -58,6 +54,9 @@ like_same x y z e = ap is_eq (alike_right name_cmp_total x y z (Equal-from_same 
 
 pub before_like : (x y z : RdnSequence) → is_same x y ≡ true → is_before x z ≡ is_before y z
 before_like x y z e = ap is_lt (name_cmp_total.congr x y z (Equal-from_same x y e))
+
+pub like_before : (x y z : RdnSequence) → is_same x y ≡ true → is_before z x ≡ is_before z y
+like_before x y z e = ap is_lt (alike_right name_cmp_total x y z (Equal-from_same x y e))
 
 -- the order chains, and has one answer
 pub before_chain : (x y z : RdnSequence) → is_before x y ≡ true → is_before y z ≡ true → is_before x z ≡ true

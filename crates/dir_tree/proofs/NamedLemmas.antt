@@ -1,9 +1,9 @@
 -- The entry that a name finds in a list of entries, and the names that are left where it is taken out.
-use Rattle.std.proofs.Common.{◌≡◌, ◌≢◌, Bool, true, false, not, ◌||◌, List, [], ◌∷◌, Option, Some, None, find, if◌then◌else◌, refl, sym, ap, ◌∙◌, inl, inr}
+use Rattle.std.proofs.Common.{◌≡◌, ◌≢◌, ◌⊎◌, Bool, true, false, not, ◌||◌, List, [], ◌∷◌, Option, Some, None, find, if◌then◌else◌, refl, sym, ap, ◌∙◌, inl, inr}
 use Rattle.std.specs.List.{AllByRecursion, list_any}
-use Rattle.std.specs.Ordering.{is_eq}
+use Rattle.std.specs.Ordering.{is_eq, is_lt}
 use Rattle.std.specs.declared.cmp.Ordering.TheVariants.{Less}
-use Rattle.std.proofs.lemmas.Bool.{cases_Bool, cond-true, cond-false, false_from_ne_true, not_from_true, true≢false}
+use Rattle.std.proofs.lemmas.Bool.{cases_Bool, cond-true, cond-false, false_from_ne_true, not_from_true, not-false, true≢false}
 use Rattle.std.proofs.lemmas.Option.{same_Some}
 use Rattle.dn_names.specs.Names.{RdnSequence}
 use Rattle.dn_names.specs.NameOrder.{name_cmp, is_same}
@@ -12,6 +12,7 @@ use Rattle.dir_tree.specs.Entries.{EntryInformation}
 use Rattle.dir_tree.specs.Trees.{is_before, is_named, has_name, named_in, superior_name, lacks_superior, put_in, taken_out}
 use Rattle.dir_tree.proofs.NameLemmas.{Equal-from_same, same_itself}
 use Rattle.dir_tree.proofs.FrontLemmas.{same_over}
+use Rattle.dir_tree.proofs.OrderLemmas.{other_way}
 
 -- what is found has the name, and is found by the name that it has
 pub found_same : (name : RdnSequence) (target : EntryInformation) (entries : List EntryInformation) → named_in name entries ≡ Some target → is_same name target.name ≡ true
@@ -45,10 +46,13 @@ none_named test (first ∷ rest) none =
       | false ↦ λ none. none_named test rest none
     ]) none
 
--- a name that comes before another is not the same, and one of two entries in order alone has a name
+-- a name that comes before another is not the same, either way round, and one of two entries in order alone has a name
 pub not_same : (one other : RdnSequence) → name_cmp one other ≡ Less → is_same one other ≡ false
 unfolding is_same
 not_same one other less = ap is_eq less
+
+pub not_same_back : (one other : RdnSequence) → name_cmp one other ≡ Less → is_same other one ≡ false
+not_same_back one other less = other_way other one (ap is_lt less)
 
 pub later-other : (name : RdnSequence) (first later : EntryInformation) → is_named name first ≡ true → name_cmp first.name later.name ≡ Less → is_named name later ≡ false
 unfolding is_same
@@ -70,7 +74,11 @@ left_out name (x ∷ entries) = elim (cases_Bool (is_named name x)) [
   | inr e ↦ rw e (e, left_out name entries)
 ]
 
--- a name whose superior an entry has does not lack it
+-- a name whose superior an entry has does not lack it, and one that does not lack it has it, where there are entries
 pub has_superior : (name : RdnSequence) (entries : List EntryInformation) → has_name (superior_name name) entries ≡ true → lacks_superior name entries ≡ false
 has_superior name [] has = refl
 has_superior name (first ∷ rest) has = not_from_true (has_name (superior_name name) (first ∷ rest)) has
+
+pub none_or_under : (name : RdnSequence) (entries : List EntryInformation) → lacks_superior name entries ≡ false → (entries ≡ []) ⊎ (has_name (superior_name name) entries ≡ true)
+none_or_under name [] e = inl refl
+none_or_under name (first ∷ rest) e = inr (not-false (has_name (superior_name name) (first ∷ rest)) e)

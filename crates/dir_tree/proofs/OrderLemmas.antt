@@ -1,5 +1,5 @@
 -- Entries in the order of their names: found, put in and taken out.
-use Rattle.std.proofs.Common.{◌≡◌, inl, inr, Bool, true, false, cond, List, [], ◌∷◌, Some, refl, sym, ap, ◌∙◌, filter}
+use Rattle.std.proofs.Common.{◌≡◌, inl, inr, Bool, true, false, cond, List, [], ◌∷◌, ◌++◌, Some, if◌then◌else◌, refl, sym, ap, subst, ◌∙◌}
 use Rattle.std.specs.List.{AllByRecursion}
 use Rattle.std.specs.Ordering.{is_lt}
 use Rattle.std.proofs.lemmas.Bool.{cases_Bool, cond-true, cond-false, cond_both, false_from_ne_true, or_parts, or_from}
@@ -11,22 +11,12 @@ use Rattle.dir_tree.specs.Entries.{EntryInformation}
 use Rattle.dir_tree.specs.Trees.{is_before, is_named, has_name, named_in, put_in, taken_out, IsInOrder}
 use Rattle.dir_tree.proofs.NameLemmas.{before_chain, before_not_back, before_not_same, same_itself, same_back, which_first}
 
--- what holds of all holds of those kept, of those put in, and of all that it leads to
-pub all_filter : (P : EntryInformation → Type 0) (test : EntryInformation → Bool) (entries : List EntryInformation) → AllByRecursion P entries → AllByRecursion P (filter test entries)
-all_filter P test [] h = tt
-all_filter P test (x ∷ entries) h =
-    let later = all_filter P test entries h.1 in
-    cond_both (test x) (x ∷ filter test entries) (filter test entries) (λ xs. AllByRecursion P xs) (λ _. (h.0, later)) (λ _. later)
-
+-- what holds of all, and of one that is put in, holds of all with it
 pub all_put : (P : EntryInformation → Type 0) (entry : EntryInformation) (entries : List EntryInformation) → P entry → AllByRecursion P entries → AllByRecursion P (put_in entry entries)
 all_put P entry [] p h = (p, tt)
 all_put P entry (x ∷ entries) p h =
     let later = all_put P entry entries p h.1 in
     cond_both (is_before x.name entry.name) (x ∷ put_in entry entries) (entry ∷ x ∷ entries) (λ xs. AllByRecursion P xs) (λ _. (h.0, later)) (λ _. (p, h))
-
-pub all_from : (P Q : EntryInformation → Type 0) → ((entry : EntryInformation) → P entry → Q entry) → (entries : List EntryInformation) → AllByRecursion P entries → AllByRecursion Q entries
-all_from P Q f [] h = tt
-all_from P Q f (x ∷ entries) h = (f x h.0, all_from P Q f entries h.1)
 
 -- and of the one put in, and of those beside it
 pub all_put_back : (P : EntryInformation → Type 0) (entry : EntryInformation) (entries : List EntryInformation) → AllByRecursion P (put_in entry entries) → P entry
@@ -66,6 +56,11 @@ absent_before name first [] e h = refl
 absent_before name first (x ∷ rest) e h =
     let before = before_chain name first.name x.name e (ap is_lt h.0) in
     or_from (is_named name x) (has_name name rest) (before_not_same name x.name before) (absent_before name first rest e h.1)
+
+-- nor does one that comes after an entry of a name have it
+pub none_after : (entry : EntryInformation) (entries : List EntryInformation) → AllByRecursion (λ later. name_cmp entry.name later.name ≡ Less) entries → has_name entry.name entries ≡ false
+none_after entry [] h = refl
+none_after entry (x ∷ entries) h = or_from (is_named entry.name x) (has_name entry.name entries) (before_not_same entry.name x.name (ap is_lt h.0)) (none_after entry entries h.1)
 
 -- an absent name takes nothing out
 pub taken_out-absent : (name : RdnSequence) (entries : List EntryInformation) → has_name name entries ≡ false → taken_out name entries ≡ entries
@@ -114,7 +109,30 @@ put_in-taken_out entry (x ∷ entries) o f = elim (cases_Bool (is_named entry.na
       let before : is_before x.name entry.name ≡ true = ap is_lt less in
       rw (e, before) (ap (λ (xs : List EntryInformation). x ∷ xs) (put_in-taken_out entry entries o.1 known)))
 ]
-  where
-    none_after : (one : EntryInformation) (rest : List EntryInformation) → AllByRecursion (λ later. name_cmp one.name later.name ≡ Less) rest → has_name one.name rest ≡ false
-    none_after one [] h = refl
-    none_after one (y ∷ rest) h = or_from (is_named one.name y) (has_name one.name rest) (before_not_same one.name y.name (ap is_lt h.0)) (none_after one rest h.1)
+
+-- where an entry stands that is put in, or taken out
+pub record IsPut (entry : EntryInformation) (entries new_entries : List EntryInformation) : Type 0 where
+  pub front : List EntryInformation
+  pub back : List EntryInformation
+  pub old : entries ≡ front ++ back
+  pub new : new_entries ≡ front ++ entry ∷ back
+
+pub is_put : (entry : EntryInformation) (entries : List EntryInformation) → IsPut entry entries (put_in entry entries)
+is_put entry [] = record { front = []; back = []; old = refl; new = refl }
+is_put entry (first ∷ rest) =
+    let later = is_put entry rest in
+    elim (is_before first.name entry.name)
+    as (λ b. IsPut entry (first ∷ rest) (if b then first ∷ put_in entry rest else entry ∷ first ∷ rest)) [
+      | true ↦ record {
+        front = first ∷ later.front;
+        back = later.back;
+        old = ap (λ entries. first ∷ entries) later.old;
+        new = ap (λ entries. first ∷ entries) later.new;
+      }
+      | false ↦ record { front = []; back = first ∷ rest; old = refl; new = refl }
+    ]
+
+pub taken_at : (entry : EntryInformation) (entries : List EntryInformation) → IsInOrder entries → named_in entry.name entries ≡ Some entry → IsPut entry (taken_out entry.name entries) entries
+taken_at entry entries sorted known =
+    subst (λ (all : List EntryInformation). IsPut entry (taken_out entry.name entries) all) (put_in-taken_out entry entries sorted known)
+    (is_put entry (taken_out entry.name entries))

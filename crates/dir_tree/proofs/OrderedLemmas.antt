@@ -96,7 +96,7 @@ module _ (old : EntryInformation) (others : List EntryInformation) (ordered : Is
     rooted = rooted_same old new others e ordered.rooted;
   }
 
-  under_others : has_below old.name (put_in old others) ≡ false → (others ≡ []) ⊎ (has_name (superior_name old.name) others ≡ true)
+  pub under_others : has_below old.name (put_in old others) ≡ false → (others ≡ []) ⊎ (has_name (superior_name old.name) others ≡ true)
   under_others none = elim (cases_Bool (has_before old.name (put_in old others))) [
     | inl e ↦ (
         let named = all_put_back (λ other. other.name ≢ []) old others ordered.named in

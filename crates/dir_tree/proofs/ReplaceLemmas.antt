@@ -19,7 +19,8 @@ use Rattle.dir_tree.proofs.NameLemmas.{before_not_itself}
 use Rattle.dir_tree.proofs.PlaceLemmas.{stands_before_down, fails_after, front_none, place_of-le}
 use Rattle.dir_tree.proofs.NumberedLemmas.{stands_at, found_row, found_later, all_known_entry, keep_all, put_row-insert, any_put_row, entries_of-put_row, entries_of-others}
 use Rattle.dir_tree.proofs.CountLemmas.{count_full-change, full_within}
-use Rattle.dir_tree.proofs.RootLemmas.{has_name_like, none_after}
+use Rattle.dir_tree.proofs.OrderLemmas.{none_after}
+use Rattle.dir_tree.proofs.RootLemmas.{has_name_like}
 use Rattle.dir_tree.proofs.OrderedLemmas.{ordered_same, ordered_renamed}
 use Rattle.dir_tree.proofs.SlotLemmas.{distinct_rows, has_id-rows_of, slot_of-set, slot_of-set_other, rows_of-insert}
 use Rattle.dir_tree.proofs.KeptLemmas.{full, place_within, rows_left, shown_set, others_without}

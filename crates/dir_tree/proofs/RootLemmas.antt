@@ -4,13 +4,14 @@ use Rattle.std.specs.List.{AllByRecursion, list_any}
 use Rattle.std.specs.Ordering.{is_lt}
 use Rattle.std.proofs.lemmas.Bool.{cond_both, false_from_ne_true, or_parts, or_left, or_right, or_cases, or_from}
 use Rattle.std.specs.declared.cmp.Ordering.TheVariants.{Less}
+use Rattle.base_laws.proofs.Theorems.{all_map}
 use Rattle.dn_names.specs.Names.{RdnSequence}
 use Rattle.dn_names.specs.NameOrder.{name_cmp, is_same, is_prefix_of}
 use Rattle.dir_tree.specs.Entries.{EntryInformation}
 use Rattle.dir_tree.specs.Trees.{is_before, is_below, is_named, has_name, has_below, superior_name, put_in, IsInOrder}
 use Rattle.dir_tree.specs.Slots.{has_before, HasSuperiors}
 use Rattle.dir_tree.proofs.NameLemmas.{Less-from_before, before_chain, before_not_same, before_like, same_back, same_like, like_same, same-superior, length-same, same-take, superior_before, below_superior}
-use Rattle.dir_tree.proofs.OrderLemmas.{all_put, all_put_back, all_left, all_from, comes_before}
+use Rattle.dir_tree.proofs.OrderLemmas.{all_put, all_put_back, all_left, comes_before, none_after}
 
 -- a test of the entries with one put in
 or_swap : (a b c : Bool) → (a || (b || c)) ≡ (b || (a || c))
@@ -78,7 +79,7 @@ sorted_put entry (x ∷ entries) o h =
     let before = comes_before entry.name x.name e parts.0 in (
       (
         Less-from_before entry.name x.name before,
-        all_from (λ later. name_cmp x.name later.name ≡ Less) (λ later. name_cmp entry.name later.name ≡ Less)
+        all_map (λ later. name_cmp x.name later.name ≡ Less) (λ later. name_cmp entry.name later.name ≡ Less)
             (λ later g. Less-from_before entry.name later.name (before_chain entry.name x.name later.name before (ap is_lt g))) entries o.0,
       ),
       o,
@@ -91,10 +92,6 @@ sorted_left entry (x ∷ entries) o = by (is_before x.name entry.name) (sorted_l
     by : (b : Bool) → (IsInOrder (put_in entry entries) → IsInOrder entries) → IsInOrder (cond b (x ∷ put_in entry entries) (entry ∷ x ∷ entries)) → IsInOrder (x ∷ entries)
     by true later k = (all_left (λ later. name_cmp x.name later.name ≡ Less) entry entries k.0, later k.1)
     by false later k = k.1
-
-pub none_after : (entry : EntryInformation) (entries : List EntryInformation) → AllByRecursion (λ later. name_cmp entry.name later.name ≡ Less) entries → has_name entry.name entries ≡ false
-none_after entry [] h = refl
-none_after entry (x ∷ entries) h = or_from (is_named entry.name x) (has_name entry.name entries) (before_not_same entry.name x.name (ap is_lt h.0)) (none_after entry entries h.1)
 
 -- a name put in where all is in order was not there
 pub absent_from_sorted : (entry : EntryInformation) (entries : List EntryInformation) → IsInOrder (put_in entry entries) → has_name entry.name entries ≡ false

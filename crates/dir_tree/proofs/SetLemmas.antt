@@ -3,6 +3,7 @@ use Rattle.std.proofs.Common.{◌≡◌, ◌≢◌, ℕ, ◌==◌, false, List, 
 use Rattle.std.specs.List.{AllByRecursion, IsDistinct}
 use Rattle.std.proofs.lemmas.Bool.{cases_Bool}
 use Rattle.std.proofs.lemmas.Bool.Decides.{nat_tests}
+use Rattle.base_laws.proofs.Theorems.{number_apart}
 use Rattle.indexmap.specs.IndexMap.{insert_entry}
 use Rattle.schema_core.specs.declared.kinds.AttrId.{AttrId}
 use Rattle.dn_names.specs.Names.{Keyed}
@@ -39,9 +40,6 @@ apart-set_in number kind values (first ∷ rest) new apart = elim (cases_Bool (k
   | inr other ↦ rw other (apart.0, apart-set_in number kind values rest new apart.1)
 ]
 
-apart_back : (one other : ℕ) → (one == other) ≡ false → (other == one) ≡ false
-apart_back one other apart = grind (arith, nat_tests)
-
 pub distinct-set_in :
     (kind : ℕ) (values : List Keyed) (attributes : List Attribute)
     → IsDistinct (λ one other. one == other) (kinds_of attributes)
@@ -51,7 +49,7 @@ distinct-set_in kind values [] distinct = (tt, tt)
 distinct-set_in kind values (first ∷ rest) distinct = elim (cases_Bool (kind == first.kind)) [
   | inl mine ↦ rw mine (distinct.0, distinct.1)
   | inr other ↦ rw other (
-    apart-set_in first.kind kind values rest (apart_back kind first.kind other) distinct.0,
+    apart-set_in first.kind kind values rest (number_apart kind first.kind other) distinct.0,
     distinct-set_in kind values rest distinct.1,
   )
 ]

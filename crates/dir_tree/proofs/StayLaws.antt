@@ -2,7 +2,7 @@
 use Rattle.std.proofs.Common.{◌≡◌, ◌≢◌, ◌⊎◌, inl, inr, ℕ, ◌-◌, ◌<◌, ◌≤◌, zero, suc, Bool, true, false, ◌||◌, List, [], ◌∷◌, length, take, Some, refl, sym, ap, ◌∙◌, arith, length-take}
 use Rattle.std.specs.List.{AllByRecursion}
 use Rattle.std.specs.Ordering.{is_lt}
-use Rattle.std.proofs.lemmas.Bool.{cases_Bool, cond_both, not-false, or_left, or_cases, true≢false}
+use Rattle.std.proofs.lemmas.Bool.{cases_Bool, cond_both, or_left, or_cases, true≢false}
 use Rattle.std.proofs.lemmas.List.{take_all, take-take, length-take-le}
 use Rattle.std.specs.declared.cmp.Ordering.TheVariants.{Less}
 use Rattle.dn_names.specs.Names.{RdnSequence}
@@ -14,7 +14,8 @@ use Rattle.dir_tree.specs.Slots.{has_before, HasSuperiors, IsOrderedTree}
 use Rattle.dir_tree.proofs.NameLemmas.{same_itself, same_back, same-superior, length-same, before_like, before_not_back, before_not_itself}
 use Rattle.dir_tree.proofs.OrderLemmas.{put_in-taken_out}
 use Rattle.dir_tree.proofs.RootLemmas.{has_name_like, named_filled}
-use Rattle.dir_tree.proofs.OrderedLemmas.{ordered_put, ordered_without, ordered_same, ordered_renamed}
+use Rattle.dir_tree.proofs.NamedLemmas.{none_or_under}
+use Rattle.dir_tree.proofs.OrderedLemmas.{ordered_put, ordered_without, ordered_same, ordered_renamed, under_others}
 use Rattle.dir_tree.proofs.TreeLemmas.{IsRooted-ordered}
 
 -- what holds of some entry of a name
@@ -24,6 +25,11 @@ named_by P R name f (x ∷ entries) h e = elim (or_cases (is_named name x) (has_
   | inl g ↦ f x h.0 g
   | inr g ↦ named_by P R name f entries h.1 g
 ]
+
+-- the superior of each name but the first is there
+pub later_superior : (first : EntryInformation) (rest : List EntryInformation) → AllByRecursion (λ later. has_name (superior_name later.name) (first ∷ rest) ≡ true) rest → (name : RdnSequence) → has_name name rest ≡ true → has_name (superior_name name) (first ∷ rest) ≡ true
+later_superior first rest rooted name e = named_by (λ entry. has_name (superior_name entry.name) (first ∷ rest) ≡ true) (has_name (superior_name name) (first ∷ rest) ≡ true) name
+    (λ entry under same. has_name_like (superior_name name) (superior_name entry.name) (first ∷ rest) (same-superior name entry.name same) ∙ under) rest rooted e
 
 prefix_longer : (base name : RdnSequence) → is_prefix_of base (superior_name name) ≡ true → is_prefix_of base name ≡ true
 unfolding is_prefix_of
@@ -48,15 +54,11 @@ module _ (first : EntryInformation) (rest : List EntryInformation) (tree : IsTre
         let long = length-same name first.name g in
         let whole : take (length first.name) name ≡ name = take_all (length first.name) name (omega arith) in
         rw whole g)
-    | inr g ↦ prefix_longer first.name name (under_suffix most (superior_name name) (shorter name h) (superior name g))
+    | inr g ↦ prefix_longer first.name name (under_suffix most (superior_name name) (shorter name h) (later_superior first rest tree.rooted name g))
   ]
     where
       shorter : (other : RdnSequence) → length other ≤ suc most → length (superior_name other) ≤ most
       shorter other k = rw (length-take-le (length other - 1) other (omega arith)) (omega arith)
-
-      superior : (other : RdnSequence) → has_name other rest ≡ true → has_name (superior_name other) (first ∷ rest) ≡ true
-      superior other g = named_by (λ entry. has_name (superior_name entry.name) (first ∷ rest) ≡ true) (has_name (superior_name other) (first ∷ rest) ≡ true) other
-          (λ entry under same. has_name_like (superior_name other) (superior_name entry.name) (first ∷ rest) (same-superior other entry.name same) ∙ under) rest tree.rooted g
 
   all_here : (part : List EntryInformation) → ((entry : EntryInformation) → has_name entry.name part ≡ true → has_name entry.name (first ∷ rest) ≡ true) → AllByRecursion (λ entry. is_within first.name entry ≡ true) part
   all_here [] is = tt
@@ -97,8 +99,7 @@ ordered-from_tree entries tree = record { sorted = tree.sorted; named = tree.nam
           let not_first : is_before first.name name ≡ false = before_like first.name name name (same_back name first.name e) ∙ before_not_itself name in
           let none : has_before name (first ∷ rest) ≡ false = rw not_first (none_first name first rest e t.sorted.0) in
           absurd (true≢false (sym before ∙ none)))
-      | inr e ↦ named_by (λ entry. has_name (superior_name entry.name) (first ∷ rest) ≡ true) (has_name (superior_name name) (first ∷ rest) ≡ true) name
-          (λ entry under same. has_name_like (superior_name name) (superior_name entry.name) (first ∷ rest) (same-superior name entry.name same) ∙ under) rest t.rooted e
+      | inr e ↦ later_superior first rest t.rooted name e
     ]
 
 pub tree-from_ordered : (entries : List EntryInformation) → IsOrderedTree entries → length entries ≤ 200000 → IsTree entries
@@ -113,11 +114,7 @@ length-put_in entry (x ∷ entries) =
 -- an entry put in
 pub tree-put_in : (entry : EntryInformation) (entries : List EntryInformation) → IsTree entries → entry.name ≢ [] → has_name entry.name entries ≡ false → lacks_superior entry.name entries ≡ false → length entries < 200000 → IsTree (put_in entry entries)
 tree-put_in entry entries tree named absent has room =
-    tree-from_ordered (put_in entry entries) (ordered_put entry entries named (ordered-from_tree entries tree) absent (under entries has)) (omega (arith, length-put_in entry entries))
-  where
-    under : (all : List EntryInformation) → lacks_superior entry.name all ≡ false → (all ≡ []) ⊎ (has_name (superior_name entry.name) all ≡ true)
-    under [] e = inl refl
-    under (x ∷ all) e = inr (not-false (has_name (superior_name entry.name) (x ∷ all)) e)
+    tree-from_ordered (put_in entry entries) (ordered_put entry entries named (ordered-from_tree entries tree) absent (none_or_under entry.name entries has)) (omega (arith, length-put_in entry entries))
 
 -- an entry taken out that has none below, and one in its place
 module _ (old : EntryInformation) (entries : List EntryInformation) (tree : IsTree entries) (known : named_in old.name entries ≡ Some old) where
@@ -129,6 +126,10 @@ module _ (old : EntryInformation) (entries : List EntryInformation) (tree : IsTr
 
   fewer : suc (length (taken_out old.name entries)) ≤ 200000
   fewer = omega (arith, tree.fits, sym (length-put_in old (taken_out old.name entries)) ∙ ap length back)
+
+  -- its superior is left, or none is
+  pub superior_left : has_below old.name entries ≡ false → (taken_out old.name entries ≡ []) ⊎ (has_name (superior_name old.name) (taken_out old.name entries) ≡ true)
+  superior_left none = under_others old (taken_out old.name entries) whole (rw back none)
 
   pub tree-taken_out : has_below old.name entries ≡ false → IsTree (taken_out old.name entries)
   tree-taken_out none =

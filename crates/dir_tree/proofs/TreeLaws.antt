@@ -1,12 +1,13 @@
 -- Laws of trees: superiors, scopes, and entries put in again.
-use Rattle.std.proofs.Common.{◌≡◌, ◌≢◌, ◌⊎◌, inl, inr, ℕ, ◌+◌, ◌-◌, ◌<◌, ◌==◌, Bool, true, false, ◌&&◌, List, [], ◌∷◌, length, take, Option, Some, None, refl, sym, ap, subst, ◌∙◌, arith, find, filter}
+use Rattle.std.proofs.Common.{◌≡◌, ◌≢◌, ◌⊎◌, inl, inr, ℕ, ◌+◌, ◌-◌, ◌==◌, Bool, true, false, ◌&&◌, List, [], ◌∷◌, length, take, Option, Some, None, refl, sym, ap, subst, ◌∙◌, arith, filter}
 use Rattle.std.specs.Prelude.{is_some, IsSome}
 use Rattle.std.specs.List.{AllByRecursion}
-use Rattle.std.specs.Option.{option_map, option_and_then}
+use Rattle.std.specs.Option.{option_and_then}
 use Rattle.std.specs.Ordering.{is_lt}
 use Rattle.std.specs.declared.cmp.Ordering.TheVariants.{Less}
-use Rattle.std.proofs.lemmas.Bool.{cases_Bool, cond-true, cond-false, eqb-true, eqb-false, ne_eqb, eq-eqb, and_right, false_from_ne_true}
+use Rattle.std.proofs.lemmas.Bool.{cases_Bool, eqb-true, eqb-false, ne_eqb, eq-eqb, and_right, false_from_ne_true}
 use Rattle.std.proofs.lemmas.List.{length-take-le}
+use Rattle.base_laws.proofs.Theorems.{all_true, filter-none}
 use Rattle.dn_names.specs.Names.{RdnSequence}
 use Rattle.dn_names.specs.NameOrder.{name_cmp, is_same, is_prefix_of}
 use Rattle.dir_tree.specs.Entries.{EntryInformation}
@@ -15,7 +16,8 @@ use Rattle.dir_tree.specs.Numbered.{Numbered, ids_of, entries_of, find_name, ent
 use Rattle.dir_tree.specs.Scopes.{is_within, is_child, in_scope, scoped, is_number, is_superior}
 use Rattle.dir_tree.specs.declared.scope.Scope.TheVariants.{One, Sub}
 use Rattle.dir_tree.proofs.NameLemmas.{same_like, before_not_same, superior_before, length-same}
-use Rattle.dir_tree.proofs.EntryOfLemmas.{other_number}
+use Rattle.dir_tree.proofs.FrontLemmas.{filled as name_filled}
+use Rattle.dir_tree.proofs.EntryOfLemmas.{none_here, further, other_number}
 use Rattle.dir_tree.proofs.NumberedLemmas.{find_none, found_row, found_later, all_known_entry, put_row-without, keep_all, entries_of-others}
 use Rattle.dir_tree.proofs.OrderLemmas.{taken_out-put_in}
 use Rattle.dir_tree.proofs.RootLemmas.{absent_from_sorted}
@@ -48,11 +50,11 @@ superior_of-others id entry (first ∷ rows) tree known other =
 -- each row's number is that of its entry
 pub own_entries : (rows : List Numbered) → AreDistinct rows → AllByRecursion (λ row. entry_of row.id rows ≡ Some row.entry) rows
 own_entries [] d = tt
-own_entries (x ∷ rows) d = (rw (eq-eqb x.id x.id refl) refl, further rows d.0 (own_entries rows d.1))
+own_entries (x ∷ rows) d = (rw (eq-eqb x.id x.id refl) refl, others rows d.0 (own_entries rows d.1))
   where
-    further : (part : List Numbered) → AllByRecursion (λ later. later.id ≢ x.id) part → AllByRecursion (λ row. entry_of row.id rows ≡ Some row.entry) part → AllByRecursion (λ row. entry_of row.id (x ∷ rows) ≡ Some row.entry) part
-    further [] h k = tt
-    further (y ∷ part) h k = (rw (ne_eqb x.id y.id (λ e. h.0 (sym e))) k.0, further part h.1 k.1)
+    others : (part : List Numbered) → AllByRecursion (λ later. later.id ≢ x.id) part → AllByRecursion (λ row. entry_of row.id rows ≡ Some row.entry) part → AllByRecursion (λ row. entry_of row.id (x ∷ rows) ≡ Some row.entry) part
+    others [] h k = tt
+    others (y ∷ part) h k = (further y.id x rows (λ e. h.0 (sym e)) ∙ k.0, others part h.1 k.1)
 
 -- the number found for a name is another's where the number's entry has another name
 not_found : (id : ℕ) (name : RdnSequence) (rows : List Numbered) → AllByRecursion (λ later. later.id ≢ id) rows → is_number id (find_name name rows) ≡ false
@@ -81,14 +83,10 @@ found_is id base name (x ∷ rows) o d f = by (cases_Bool (x.id == id)) (cases_B
     by (inr e) (inr g) later = rw g (later (found_later id base x rows e f))
 
 -- immediately below a name stands what has the name for its superior's
-child_is : (base : RdnSequence) (entry : EntryInformation) → entry.name ≢ [] → is_child base entry ≡ is_same (superior_name entry.name) base
+pub child_is : (base : RdnSequence) (entry : EntryInformation) → entry.name ≢ [] → is_child base entry ≡ is_same (superior_name entry.name) base
 unfolding is_prefix_of
 child_is base entry filled = by (cases_Bool (length entry.name == length base + 1))
   where
-    not_empty : (name : RdnSequence) → name ≢ [] → 0 < length name
-    not_empty [] h = absurd (h refl)
-    not_empty (r ∷ rs) h = omega arith
-
     by : (((length entry.name == length base + 1) ≡ true) ⊎ ((length entry.name == length base + 1) ≡ false)) → is_child base entry ≡ is_same (superior_name entry.name) base
     by (inl e) =
         let long = eqb-true (length entry.name) (length base + 1) e in
@@ -100,7 +98,7 @@ child_is base entry filled = by (cases_Bool (length entry.name == length base + 
         and_true false = refl
     by (inr e) =
         let other = eqb-false (length entry.name) (length base + 1) e in
-        let some = not_empty entry.name filled in
+        let some = name_filled entry.name filled in
         and_right (is_same (take (length base) entry.name) base) (length entry.name == length base + 1) e
         ∙ sym (false_from_ne_true (is_same (superior_name entry.name) base) (λ f.
         other (omega (arith, length-same (superior_name entry.name) base f, length-take-le (length entry.name - 1) entry.name (omega arith), some))))
@@ -113,24 +111,12 @@ all_both : (P Q R : Numbered → Type 0) → ((row : Numbered) → P row → Q r
 all_both P Q R f [] h k = tt
 all_both P Q R f (x ∷ rows) h k = (f x h.0 k.0, all_both P Q R f rows h.1 k.1)
 
-all_true : (P : Numbered → Type 0) → ((row : Numbered) → P row) → (rows : List Numbered) → AllByRecursion P rows
-all_true P f [] = tt
-all_true P f (x ∷ rows) = (f x, all_true P f rows)
-
-filter_none : (test : Numbered → Bool) (rows : List Numbered) → AllByRecursion (λ row. test row ≡ false) rows → filter test rows ≡ []
-filter_none test [] h = refl
-filter_none test (x ∷ rows) h = rw h.0 (filter_none test rows h.1)
-
 -- a number that has no entry is no row's
 absent_id : (id : ℕ) (rows : List Numbered) → entry_of id rows ≡ None → AllByRecursion (λ row. row.id ≢ id) rows
 absent_id id [] e = tt
-absent_id id (x ∷ rows) e = elim (cases_Bool (x.id == id)) [
-  | inl f ↦ (let is : Some x.entry ≡ None = sym (ap (option_map (λ (row : Numbered). row.entry)) (cond-true (x.id == id) (Some x) (find (λ row. row.id == id) rows) f)) ∙ e in absurd cc)
-  | inr f ↦ (
-    eqb-false x.id id f,
-    absent_id id rows (sym (ap (option_map (λ (row : Numbered). row.entry)) (cond-false (x.id == id) (Some x) (find (λ row. row.id == id) rows) f)) ∙ e),
-  )
-]
+absent_id id (x ∷ rows) e =
+    let none = none_here id x rows e in
+    (eqb-false x.id id none.0, absent_id id rows none.1)
 
 no_superior_of : (id : ℕ) (rows : List Numbered) → AllByRecursion (λ row. row.id ≢ id) rows → (o : Option EntryInformation) → is_number id (option_and_then (λ e. find_name (superior_name e.name) rows) o) ≡ false
 no_superior_of id rows h None = refl
@@ -148,7 +134,7 @@ scoped-One id rows tree = by (entry_of id rows) refl
     by : (o : Option EntryInformation) → entry_of id rows ≡ o → scoped One id rows ≡ ids_of (filter (λ row. is_superior id row.id rows) rows)
     by None e =
         ap (λ (o : Option EntryInformation). in_scope One id o rows) e
-        ∙ ap ids_of (sym (filter_none (λ row. is_superior id row.id rows) rows (all_true (λ row. is_superior id row.id rows ≡ false) (λ row. no_superior_of id rows (absent_id id rows e) (entry_of row.id rows)) rows)))
+        ∙ ap ids_of (sym (filter-none (λ row. is_superior id row.id rows) rows (all_true (λ row. is_superior id row.id rows ≡ false) (λ row. no_superior_of id rows (absent_id id rows e) (entry_of row.id rows)) rows)))
     by (Some base) e =
         ap (λ (o : Option EntryInformation). in_scope One id o rows) e
         ∙ ap ids_of (filter_like_all (λ row. is_child base.name row.entry) (λ row. is_superior id row.id rows) rows
@@ -213,12 +199,12 @@ pub entry_of-found : (name : RdnSequence) (rows : List Numbered) → AreDistinct
 entry_of-found name [] d = refl
 entry_of-found name (x ∷ rows) d = elim (cases_Bool (is_named name x.entry)) [
   | inl e ↦ rw (e, eq-eqb x.id x.id refl) refl
-  | inr e ↦ rw e (further (find_name name rows) (other_number name x.id rows d.0) ∙ entry_of-found name rows d.1)
+  | inr e ↦ rw e (beyond (find_name name rows) (other_number name x.id rows d.0) ∙ entry_of-found name rows d.1)
 ]
   where
-    further : (found : Option ℕ) → ((id : ℕ) → found ≡ Some id → id ≢ x.id) → option_and_then (λ id. entry_of id (x ∷ rows)) found ≡ option_and_then (λ id. entry_of id rows) found
-    further None h = refl
-    further (Some id) h = rw (ne_eqb x.id id (λ e. h id refl (sym e))) refl
+    beyond : (found : Option ℕ) → ((id : ℕ) → found ≡ Some id → id ≢ x.id) → option_and_then (λ id. entry_of id (x ∷ rows)) found ≡ option_and_then (λ id. entry_of id rows) found
+    beyond None h = refl
+    beyond (Some id) h = further id x rows (λ e. h id refl (sym e))
 
 -- put in again, and taken out again
 pub put_row-taken : (id : ℕ) (entry : EntryInformation) (rows : List Numbered) → IsNumberedTree rows → entry_of id rows ≡ Some entry → put_row (record { id = id; entry = entry }) (without id rows) ≡ rows

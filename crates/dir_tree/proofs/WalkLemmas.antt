@@ -8,6 +8,7 @@ use Rattle.std.specs.Map.{values_of}
 use Rattle.std.specs.declared.cmp.Ordering.TheVariants.{Less, Equal, Greater}
 use Rattle.std.proofs.lemmas.List.{take_all}
 use Rattle.std.proofs.lemmas.Bool.{cases_Bool, cond_both, and_right, eqb-true}
+use Rattle.base_laws.proofs.Theorems.{filter-none, filter-filter}
 use Rattle.dn_names.specs.Names.{RdnSequence}
 use Rattle.dn_names.specs.NameOrder.{name_cmp, is_same, is_prefix_of}
 use Rattle.dn_names.specs.PathKeys.{path_key}
@@ -37,22 +38,10 @@ at_both Less = refl
 at_both Equal = refl
 at_both Greater = refl
 
--- tests that fail for all keep none
-none_kept : {A : Type 0} (test : A → Bool) (xs : List A) → AllByRecursion (λ x. test x ≡ false) xs → filter test xs ≡ []
-none_kept test [] h = refl
-none_kept test (x ∷ xs) h = rw h.0 (none_kept test xs h.1)
-
-filter_true : {A : Type 0} (xs : List A) → filter (λ x. true) xs ≡ xs
+-- a test of nothing keeps all
+pub filter_true : {A : Type 0} (xs : List A) → filter (λ x. true) xs ≡ xs
 filter_true [] = refl
 filter_true {A} (x ∷ xs) = ap (λ (xs : List A). x ∷ xs) (filter_true xs)
-
-filter_both : {A : Type 0} (test other : A → Bool) (xs : List A) → filter other (filter test xs) ≡ filter (λ x. test x && other x) xs
-filter_both test other [] = refl
-filter_both {A} test other (x ∷ xs) = by (test x) (filter_both test other xs)
-  where
-    by : (b : Bool) → filter other (filter test xs) ≡ filter (λ x. test x && other x) xs → filter other (cond b (x ∷ filter test xs) (filter test xs)) ≡ cond (b && other x) (x ∷ filter (λ x. test x && other x) xs) (filter (λ x. test x && other x) xs)
-    by true later = ap (λ (xs : List A). cond (other x) (x ∷ xs) xs) later
-    by false later = later
 
 -- a name begins one that is the same, and has below it what comes after it and begins with it
 same-prefix : (name other : RdnSequence) → is_same name other ≡ true → is_prefix_of name other ≡ true
@@ -78,7 +67,7 @@ filter-named id entry (x ∷ rows) o known = elim (cases_Bool (x.id == id)) [
       let is = found_row id entry x rows e known in
       let name : x.entry.name ≡ entry.name = ap (λ (row : Numbered). row.entry.name) is in
       let here : is_named entry.name x.entry ≡ true = subst (λ (n : RdnSequence). is_same n x.entry.name ≡ true) name (same_itself x.entry.name) in
-      rw here (ap (λ (xs : List Numbered). x.id ∷ ids_of xs) (none_kept (λ row. is_named entry.name row.entry) rows (others name rows o.0)) ∙ ap (λ (n : ℕ). n ∷ []) (eqb-true x.id id e)))
+      rw here (ap (λ (xs : List Numbered). x.id ∷ ids_of xs) (filter-none (λ row. is_named entry.name row.entry) rows (others name rows o.0)) ∙ ap (λ (n : ℕ). n ∷ []) (eqb-true x.id id e)))
   | inr e ↦ (
       let later = found_later id entry x rows e known in
       let before : is_before x.entry.name entry.name ≡ true = ap is_lt (all_known_entry (λ later. name_cmp x.entry.name later.name ≡ Less) id entry rows o.0 later) in
@@ -152,13 +141,13 @@ module _ {K : Type 0} (octets : K → List ℕ) (slots : List (Option EntryInfor
         by (inr e) (inr f) later =
             let within : is_le (slice_cmp nat_cmp path (octets x.0)) ≡ true = from ∙ ap not e in
             let no : starts_with nat_eq (octets x.0) path ≡ false = starts x keyed.0 ∙ f in
-            rw (within, no) (sym (none_kept (λ (place : K × ℕ). starts_with nat_eq (octets place.0) path) places (none_begin places keyed.1 (not_within x places e f o.0))))
+            rw (within, no) (sym (filter-none (λ (place : K × ℕ). starts_with nat_eq (octets place.0) path) places (none_begin places keyed.1 (not_within x places e f o.0))))
 
     pub walked-within : (depth : Option ℕ) (places : List (K × ℕ)) → AreKeyed octets slots places → IsInOrder (entries_of (rows_of slots (values_of places))) → walked octets depth slots path (filter (λ place. is_le (slice_cmp nat_cmp path (octets place.0)) && true) places) ≡ ids_of (filter (λ row. is_within name row.entry && is_one_below depth row.entry.name) (rows_of slots (values_of places)))
     unfolding walked
     walked-within depth places keyed o =
         ap (λ (xs : List (K × ℕ)). values_of (filter (λ place. is_at_depth depth slots place.1) xs)) (front-from places keyed o)
-        ∙ ap values_of (filter_both (λ (place : K × ℕ). starts_with nat_eq (octets place.0) path) (λ place. is_at_depth depth slots place.1) places)
+        ∙ ap values_of (filter-filter (λ (place : K × ℕ). is_at_depth depth slots place.1) (λ place. starts_with nat_eq (octets place.0) path) places)
         ∙ values-filter (λ place. starts_with nat_eq (octets place.0) path && is_at_depth depth slots place.1) (λ row. is_within name row.entry && is_one_below depth row.entry.name) places
         (all_keyed (λ place. (starts_with nat_eq (octets place.0) path && is_at_depth depth slots place.1) ≡ (is_within name (row_at slots place.1).entry && is_one_below depth (row_at slots place.1).entry.name)) (λ place e. ap (λ (b : Bool). b && is_at_depth depth slots place.1) (starts place e)) places keyed)
 

@@ -82,7 +82,7 @@ octets_cmp-path_key (x ∷ xs) (y ∷ ys) =
     ∙ ap (ordering_then (rdn_cmp x y)) (octets_cmp-path_key xs ys)
 
 -- octets that tie are the same
-tied_octets : (xs ys : List ℕ) → slice_cmp nat_cmp xs ys ≡ Equal → xs ≡ ys
+pub tied_octets : (xs ys : List ℕ) → slice_cmp nat_cmp xs ys ≡ Equal → xs ≡ ys
 tied_octets xs ys e = sym (map-id xs) ∙ equal_same nat_cmp (λ x. x) nat_equal xs ys e ∙ map-id ys
 
 same_tied : (xs : List ℕ) → slice_cmp nat_cmp xs xs ≡ Equal

@@ -7,7 +7,7 @@ pub use Rattle.dn_names.proofs.GoodNameLemmas.{IsGoodName-from_NameText, IsGoodN
 pub use Rattle.dn_names.proofs.PrintedNameLemmas.{NameText-print_name}
 pub use Rattle.dn_names.proofs.NameLaws.{SpellsName-unique, NameText-unique, NameText-print_name-from, read_name-print_name, drop-join, is_prefix_of-join, join-drop, is_same-name_key, IsGoodName-append, IsGoodName-drop}
 pub use Rattle.dn_names.proofs.OrderLaws.{name_cmp_total, is_same-types_and_keys, is_prefix_of-types_and_keys, name_cmp-prefix}
-pub use Rattle.dn_names.proofs.PathKeyLaws.{octets_cmp-path_key, is_prefix_of-path_key}
+pub use Rattle.dn_names.proofs.PathKeyLaws.{tied_octets, octets_cmp-path_key, is_prefix_of-path_key}
 pub use Rattle.dn_names.proofs.FirstBadLemmas.{resolve-Part, resolve-TooMany, resolve-Ok}
 pub use Rattle.dn_names.proofs.PrintTextLemmas.{IsUtf8-print_name}
 pub use Rattle.dn_names.proofs.NamingTextLemmas.{value_of-octets, is_utf8-naming_value, text_rdn, text_name}

@@ -2,6 +2,7 @@
 use Rattle.std.proofs.Common.{◌≡◌, ℕ, ◌+◌, ◌≤◌, ◌==◌, ◌&&◌, not, Bool, List, [], ◌∷◌, length, drop, Option, Some, None, Result, Ok, Err, subst, arith}
 use Rattle.std.specs.List.{AllByRecursion, filter_map, slice_split}
 use Rattle.std.specs.Str.Lines.{lines}
+use Rattle.base_laws.proofs.Theorems.{all_filter}
 use Rattle.dn_names.specs.declared.error.BadName.{BadName}
 use Rattle.dn_names.specs.Names.{Keyed, RdnSequence}
 use Rattle.dn_names.specs.NameText.{read_name}
@@ -24,7 +25,7 @@ use Rattle.op_write.specs.declared.fault.LoadCause.TheVariants.{Twice, Order, Ru
 use Rattle.op_write.specs.Loading.{RecordFault, named, loaded_value, with_new_value, with_new_kind, with_line, with_lines, with_own_values, entry_of_record, ruled, placed, loaded_entry}
 use Rattle.op_write.specs.Loading as loading
 use Rattle.op_write.specs.DataFile.{FileFault, in_file, record_entry, loads_after, loads_records, loads, file_start}
-use Rattle.load_laws.proofs.PartLemmas.{either_way, all_filter, all_slice_split}
+use Rattle.load_laws.proofs.PartLemmas.{either_way, all_slice_split}
 
 -- the lines of a file are counted from 1
 abbrev IsCounted : Line → Type 0

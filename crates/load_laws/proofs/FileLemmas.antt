@@ -2,12 +2,13 @@
 use Rattle.std.proofs.Common.{ℕ, ◌+◌, ◌-◌, ◌<◌, ◌==◌, List, [], ◌∷◌, ◌++◌, length, take, drop, slice_index}
 use Rattle.std.specs.List.{AllByRecursion, slice_split}
 use Rattle.std.specs.Str.Lines.{strip_carriage_return, lines_of_parts, lines}
+use Rattle.base_laws.proofs.Theorems.{all_filter}
 use Rattle.ldif_core.specs.declared.types.Position.{Position}
 use Rattle.ldif_core.specs.Lines.{Line, numbered, is_continuation, continued, unfolded, beginning, logical}
 use Rattle.ldif_core.specs.Records.{without_comments, is_version, without_version}
 use Rattle.ldif_core.specs.Places.{physical_from, logical_from, content_from, body_from}
 use Rattle.load_laws.proofs.OctetLemmas.{AreBelow, below_take, below_drop, AreBelow-append}
-use Rattle.load_laws.proofs.PartLemmas.{either_way, all_filter, all_slice_split}
+use Rattle.load_laws.proofs.PartLemmas.{either_way, all_slice_split}
 
 -- a line of octets, and lines of octets
 abbrev pub OfOctets : Line → Type 0

@@ -5,12 +5,13 @@ use Rattle.std.specs.Str.{IsUtf8}
 use Rattle.std.proofs.Math.Utf8.{encode, encodes, scalar, scalars, scalar_cases}
 use Rattle.std.proofs.lemmas.Bool.{cond_both, and_parts, ltb-true}
 use Rattle.std.proofs.Math.Dec.{ltb}
+use Rattle.base_laws.proofs.Theorems.{all_append}
 use Rattle.base64.specs.GeneralPurpose.{IsBytes}
 use Rattle.dn_names.specs.Names.{RdnSequence, IsTextRdn}
 use Rattle.dn_names.specs.GoodNames.{IsGoodName}
 use Rattle.dn_names.specs.Printing.{print_name}
 use Rattle.dn_names.proofs.Theorems.{all_reverse, IsUtf8-print_name, text_name}
-use Rattle.load_laws.proofs.PartLemmas.{all_take, all_drop, all_append}
+use Rattle.load_laws.proofs.PartLemmas.{all_take, all_drop}
 
 -- each is an octet
 abbrev pub AreBelow : List ℕ → Type 0

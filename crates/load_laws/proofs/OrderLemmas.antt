@@ -1,17 +1,16 @@
 -- Entries in the order of their names, each but the first with its superior: what this says at a place of the list.
-use Rattle.std.proofs.Common.{◌≡◌, ◌≢◌, ◌-◌, true, false, ◌||◌, List, [], ◌∷◌, ◌++◌, length, take, refl, sym, ap, ◌∙◌, arith, inl, inr}
+use Rattle.std.proofs.Common.{◌≡◌, ◌≢◌, true, false, ◌||◌, List, [], ◌∷◌, ◌++◌, refl, sym, ap, ◌∙◌, inl, inr}
 use Rattle.std.specs.List.{AllByRecursion}
-use Rattle.std.specs.Ordering.{is_lt, is_eq, ordering_reverse}
+use Rattle.std.specs.Ordering.{is_lt}
 use Rattle.std.specs.declared.cmp.Ordering.TheVariants.{Less}
 use Rattle.std.proofs.lemmas.Bool.{or_cases, or_from, not_from_true, true≢false}
-use Rattle.std.proofs.lemmas.List.{length-take-le}
 use Rattle.std.proofs.lemmas.List.Folds.{list_any-append}
 use Rattle.dn_names.specs.Names.{RdnSequence}
-use Rattle.dn_names.specs.NameOrder.{name_cmp, is_same, is_prefix_of}
-use Rattle.dn_names.proofs.Theorems.{name_cmp_total, name_cmp-prefix, is_same-types_and_keys}
+use Rattle.dn_names.specs.NameOrder.{name_cmp, is_same}
+use Rattle.dn_names.proofs.Theorems.{name_cmp_total}
 use Rattle.dir_tree.specs.Entries.{EntryInformation}
-use Rattle.dir_tree.specs.Trees.{is_before, is_named, has_name, lacks_superior, superior_name, put_in, IsInOrder, IsRooted}
-use Rattle.dir_tree.proofs.TreeTheorems.{not_same as same-before}
+use Rattle.dir_tree.specs.Trees.{is_before, has_name, lacks_superior, superior_name, put_in, IsInOrder, IsRooted}
+use Rattle.dir_tree.proofs.TreeTheorems.{not_same as same-before, not_same_back, Less-from_before, superior_before}
 use Rattle.schema_rules.proofs.Theorems.{all_at}
 
 -- the entries before a place, and those after it
@@ -40,18 +39,13 @@ put_in-last entry (first ∷ front) before =
     let test : is_before first.name entry.name ≡ true = ap is_lt before.0 in
     rw test (ap (λ later. first ∷ later) (put_in-last entry front before.1))
 
--- a name that comes before another is not the same, either way round
-same-after : (one other : RdnSequence) → name_cmp one other ≡ Less → is_same other one ≡ false
-unfolding is_same
-same-after one other before = ap is_eq (name_cmp_total.antisymm other one ∙ ap ordering_reverse before)
-
 -- a name that comes after all is none of theirs
 pub has_name-after :
     (name : RdnSequence) (front : List EntryInformation)
     → AllByRecursion (λ (other : EntryInformation). name_cmp other.name name ≡ Less) front → has_name name front ≡ false
 has_name-after name [] before = refl
 has_name-after name (first ∷ front) before =
-    or_from (is_same name first.name) (has_name name front) (same-after first.name name before.0) (has_name-after name front before.1)
+    or_from (is_same name first.name) (has_name name front) (not_same_back first.name name before.0) (has_name-after name front before.1)
 
 -- a name that comes before that of an entry before them is none of theirs
 pub apart-before :
@@ -69,18 +63,7 @@ has_name-apart name [] apart = refl
 has_name-apart name (first ∷ back) apart =
     or_from (is_same name first.name) (has_name name back) apart.0 (has_name-apart name back apart.1)
 
--- the superior comes first
-pub superior-before : (name : RdnSequence) → name ≢ [] → name_cmp (superior_name name) name ≡ Less
-unfolding is_prefix_of
-superior-before [] filled = absurd (filled refl)
-superior-before (rdn ∷ rdns) filled =
-    let name : RdnSequence = rdn ∷ rdns in
-    let short : length (superior_name name) ≡ length name - 1 = length-take-le (length name - 1) name (omega arith) in
-    let same : is_same (take (length (superior_name name)) name) (superior_name name) ≡ true =
-    rw short ((is_same-types_and_keys (superior_name name) (superior_name name)).1 refl) in
-    name_cmp-prefix (superior_name name) name same (omega arith)
-
--- so it stands before the entry, where another does
+-- the superior stands before the entry, where another does
 pub lacks_superior-front :
     (front back : List EntryInformation) (entry : EntryInformation) → IsInOrder (front ++ entry ∷ back)
     → IsRooted (front ++ entry ∷ back) → entry.name ≢ [] → lacks_superior entry.name front ≡ false
@@ -90,7 +73,7 @@ lacks_superior-front (first ∷ front) back entry sorted rooted filled =
     let there : has_name name ((first ∷ front) ++ entry ∷ back) ≡ true =
     all_at (λ (later : EntryInformation). has_name (superior_name later.name) ((first ∷ front) ++ entry ∷ back) ≡ true)
     front back entry rooted in
-    let before = superior-before entry.name filled in
+    let before = Less-from_before (superior_name entry.name) entry.name (superior_before entry.name filled) in
     let apart = apart-before name entry.name back before (after_place (first ∷ front) back entry sorted) in
     let later : has_name name (entry ∷ back) ≡ false =
     or_from (is_same name entry.name) (has_name name back) (same-before name entry.name before) (has_name-apart name back apart) in

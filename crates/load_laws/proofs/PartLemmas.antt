@@ -1,6 +1,7 @@
 -- What is true of each element of a list is true of those of its parts.
-use Rattle.std.proofs.Common.{ℕ, zero, suc, Bool, true, false, if◌then◌else◌, List, [], ◌∷◌, ◌++◌, cond, take, drop, filter}
+use Rattle.std.proofs.Common.{ℕ, zero, suc, Bool, true, false, if◌then◌else◌, List, [], ◌∷◌, ◌++◌, cond, take, drop}
 use Rattle.std.specs.List.{AllByRecursion, flat_map, slice_split, onto_first}
+use Rattle.base_laws.proofs.Theorems.{all_append}
 
 module _ {A : Type 0} (P : A → Type 0) where
   -- of either of two
@@ -19,27 +20,12 @@ module _ {A : Type 0} (P : A → Type 0) where
   all_drop (suc count) [] all = tt
   all_drop (suc count) (item ∷ items) all = all_drop count items all.1
 
-  -- of two lists in a row, and of lists in a row
-  pub all_append : (front back : List A) → AllByRecursion P front → AllByRecursion P back → AllByRecursion P (front ++ back)
-  all_append [] back one other = other
-  all_append (item ∷ front) back one other = (one.0, all_append front back one.1 other)
-
+  -- of lists in a row
   pub all_joined :
       (lists : List (List A)) → AllByRecursion (λ list. AllByRecursion P list) lists
       → AllByRecursion P (flat_map (λ list. list) lists)
   all_joined [] all = tt
-  all_joined (list ∷ lists) all = all_append list (flat_map (λ list. list) lists) all.0 (all_joined lists all.1)
-
-  -- of those that pass a test
-  kept_or_not :
-      (test : Bool) (item : A) (items : List A) → P item → AllByRecursion P items
-      → AllByRecursion P (cond test (item ∷ items) items)
-  kept_or_not true item items here later = (here, later)
-  kept_or_not false item items here later = later
-
-  pub all_filter : (test : A → Bool) (items : List A) → AllByRecursion P items → AllByRecursion P (filter test items)
-  all_filter test [] all = tt
-  all_filter test (item ∷ items) all = kept_or_not (test item) item (filter test items) all.0 (all_filter test items all.1)
+  all_joined (list ∷ lists) all = all_append P list (flat_map (λ list. list) lists) all.0 (all_joined lists all.1)
 
   -- of the parts between those that pass one
   all_onto_first :
@@ -59,10 +45,3 @@ module _ {A : Type 0} (P : A → Type 0) where
       → AllByRecursion (λ part. AllByRecursion P part) (slice_split test items)
   all_slice_split test [] all = (tt, tt)
   all_slice_split test (item ∷ items) all = cut_or_not (test item) item (slice_split test items) all.0 (all_slice_split test items all.1)
-
-  -- and so is what follows from it
-  pub all_from :
-      (Q : A → Type 0) → ((item : A) → P item → Q item) → (items : List A) → AllByRecursion P items
-      → AllByRecursion Q items
-  all_from Q each [] all = tt
-  all_from Q each (item ∷ items) all = (each item all.0, all_from Q each items all.1)

@@ -10,10 +10,11 @@ use Rattle.dn_names.specs.NameOrder.{is_same}
 use Rattle.dir_tree.specs.Entries.{EntryInformation}
 use Rattle.dir_tree.specs.Points.{is_access_subentry, access_subentries}
 use Rattle.dir_tree.specs.Trees.{has_name, lacks_superior, superior_name, IsInOrder, IsRooted}
+use Rattle.dir_tree.proofs.TreeTheorems.{Less-from_before, superior_before}
 use Rattle.aci_item.specs.Rules.{broken_rule, stands_wrong, is_misplaced, is_past_limits}
 use Rattle.schema_rules.proofs.Theorems.{nothing_found, Meets-from_broken_rule, broken_rule-from_Meets, fewer}
 use Rattle.op_write.specs.Loading.{ruled, placed}
-use Rattle.load_laws.proofs.OrderLemmas.{before_place, after_place, apart-before, superior-before, has_name-after, lacks_superior-front}
+use Rattle.load_laws.proofs.OrderLemmas.{before_place, after_place, apart-before, has_name-after, lacks_superior-front}
 
 -- the superior is not looked for after the entry
 or_none : {X : Type 0} (found : Option X) → option_or found None ≡ found
@@ -77,5 +78,5 @@ unfolding placed
 placed-front front back line entry sorted rooted filled unbroken =
     let absent : has_name entry.name front ≡ false = has_name-after entry.name front (before_place front back entry sorted) in
     let has : lacks_superior entry.name front ≡ false = lacks_superior-front front back entry sorted rooted filled in
-    let apart = apart-before (superior_name entry.name) entry.name back (superior-before entry.name filled) (after_place front back entry sorted) in
+    let apart = apart-before (superior_name entry.name) entry.name back (Less-from_before (superior_name entry.name) entry.name (superior_before entry.name filled)) (after_place front back entry sorted) in
     rw (absent, has) (ap (ruled line entry) (broken_rule-front front back entry apart unbroken))

@@ -1,8 +1,8 @@
 -- The types of an entry that meets the rules on classes are in the table.
-use Rattle.std.proofs.Common.{◌≡◌, ℕ, ◌==◌, ◌<◌, Bool, true, false, not, ◌&&◌, ◌||◌, List, [], ◌∷◌, ◌++◌, length, Option, Some, None, refl, sym, subst, ◌∙◌, inl, inr, append_assoc, arith}
+use Rattle.std.proofs.Common.{◌≡◌, ℕ, ◌==◌, ◌<◌, Bool, true, false, not, ◌&&◌, ◌||◌, List, [], ◌∷◌, ◌++◌, Option, Some, None, refl, sym, subst, ◌∙◌, inl, inr, append_assoc, arith}
 use Rattle.std.specs.List.{AllByRecursion, filter_map, list_any}
 use Rattle.std.specs.Option.{option_map_or}
-use Rattle.std.proofs.lemmas.Bool.{or_cases, or_parts, not-false, eqb-true, and_parts}
+use Rattle.std.proofs.lemmas.Bool.{or_cases, or_parts, eqb-true, and_parts}
 use Rattle.schema_core.specs.Attributes.{IsAttrId, attributes, attr_of}
 use Rattle.schema_core.specs.Classes.{Class, class_at, numbers_of, required_of, allowed_of}
 use Rattle.schema_core.proofs.Theorems.{IsAttrId-from_attr_of}

@@ -3,6 +3,7 @@ use Rattle.std.proofs.Common.{◌≡◌, ℕ, ◌-◌, ◌&&◌, nat_le, Bool, t
 use Rattle.std.specs.List.{AllByRecursion}
 use Rattle.std.specs.Option.{option_map, option_and_then}
 use Rattle.std.proofs.lemmas.Str.{IsUtf8-from_is_utf8}
+use Rattle.base_laws.proofs.Theorems.{all_map}
 use Rattle.base64.specs.GeneralPurpose.{IsBytes}
 use Rattle.schema_core.specs.declared.kinds.Syntax.{Syntax}
 use Rattle.schema_core.specs.declared.kinds.Syntax.TheVariants.{Text, Ascii, Phone, Country, Octets, Oid, Name, Subtree, Aci}
@@ -16,7 +17,7 @@ use Rattle.dn_names.proofs.Theorems.{is_utf8-naming_value, value_of-octets}
 use Rattle.op_write.specs.Loading.{loaded_value}
 use Rattle.load_laws.specs.Loadable.{IsLoadableValue}
 use Rattle.load_laws.proofs.OctetLemmas.{IsBytes-from_IsUtf8}
-use Rattle.load_laws.proofs.PartLemmas.{all_drop, all_joined, all_from}
+use Rattle.load_laws.proofs.PartLemmas.{all_drop, all_joined}
 
 -- the octets with their key, where there is one
 abbrev with_key : List ℕ → Option (List ℕ) → Option Keyed
@@ -91,10 +92,10 @@ IsOwn-from_IsGoodPair pair good = record {
 
 -- and so are those of the own RDN of a good name
 own_pairs : (rdn : List TypeAndValue) → IsGoodRdn rdn → AllByRecursion IsOwn rdn
-own_pairs rdn good = all_from IsGoodPair IsOwn IsOwn-from_IsGoodPair rdn good.good
+own_pairs rdn good = all_map IsGoodPair IsOwn IsOwn-from_IsGoodPair rdn good.good
 
 pub last_rdn-own : (name : RdnSequence) → IsGoodName name → AllByRecursion IsOwn (last_rdn name)
 last_rdn-own name good =
     all_joined IsOwn (drop (length name - 1) name)
-    (all_from IsGoodRdn (λ rdn. AllByRecursion IsOwn rdn) own_pairs (drop (length name - 1) name)
+    (all_map IsGoodRdn (λ rdn. AllByRecursion IsOwn rdn) own_pairs (drop (length name - 1) name)
     (all_drop IsGoodRdn (length name - 1) name good.good))

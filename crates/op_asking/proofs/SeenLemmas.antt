@@ -4,16 +4,16 @@ use Rattle.std.specs.Prelude.{reverse}
 use Rattle.std.specs.List.{AllByRecursion, list_any}
 use Rattle.std.specs.Option.{option_map, option_map_or, option_and_then}
 use Rattle.std.specs.declared.cmp.Ordering.TheVariants.{Less}
-use Rattle.std.proofs.lemmas.Bool.{cases_Bool, eq-eqb}
+use Rattle.std.proofs.lemmas.Bool.{cases_Bool}
 use Rattle.std.proofs.Math.Bool.{or-false}
 use mathlib.Core.List.{reverse_aux}
 use Rattle.base_laws.proofs.Theorems.{find-map, list_any-map}
 use Rattle.dn_names.specs.Names.{RdnSequence}
-use Rattle.dn_names.specs.NameOrder.{name_cmp, is_same}
+use Rattle.dn_names.specs.NameOrder.{name_cmp}
 use Rattle.dn_names.specs.Printing.{print_name, print_by}
 use Rattle.dir_tree.specs.Entries.{EntryInformation}
 use Rattle.dir_tree.specs.Trees.{is_named, is_below, named_in, IsInOrder}
-use Rattle.dir_tree.specs.Numbered.{Numbered, IsNumberedTree, entries_of, entry_of, find_name, suffix_of}
+use Rattle.dir_tree.specs.Numbered.{Numbered, IsNumberedTree, entries_of, entry_of, find_name}
 use Rattle.dir_tree.proofs.TreeTheorems.{entry_of-found, later-other}
 use Rattle.dir_tree.specs.declared.number.EntryNo.{EntryNo}
 use Rattle.aci_item.specs.declared.permission.Permission.TheVariants.{DiscloseOnError}
@@ -24,7 +24,6 @@ use Rattle.acdf_filters.specs.Granted.{granted}
 use Rattle.acdf_core.specs.Nearest.{IsEntryOf}
 use Rattle.ldap_msg.specs.declared.operations.ResultCode.TheVariants as code
 use Rattle.read_model.specs.Views.{Row, View, row_of, view_of, matched_name, discloses, is_disclosed, no_such_object, result_of, result_with}
-use Rattle.op_asking.specs.Targets.{is_suffix}
 use Rattle.op_asking.specs.Asking.{view_in}
 use Rattle.op_asking.specs.Nearest.{nearest_name, without_object}
 
@@ -125,31 +124,3 @@ named-found name rows tree found number e is = named-by name rows tree found e �
 
 pub named-none : (name : RdnSequence) (rows : List Numbered) → IsNumberedTree rows → (found : Option EntryNo) → option_map (λ no. no.0) found ≡ find_name name rows → found ≡ None → named_in name (entries_of rows) ≡ None
 named-none name rows tree found e is = named-by name rows tree found e ∙ ap (λ (found : Option EntryNo). option_and_then (λ (no : EntryNo). entry_of no.0 rows) found) is
-
--- the suffix is the first entry
-pub suffix-none : (name : RdnSequence) (rows : List Numbered) (found : Option EntryNo) → option_map (λ no. no.0) found ≡ suffix_of rows → found ≡ None → is_suffix name (entries_of rows) ≡ false
-suffix-none name [] found e is = refl
-suffix-none name (row ∷ rows) found e is = (let none : None ≡ Some row.id = sym (ap (option_map (λ (no : EntryNo). no.0)) is) ∙ e in absurd cc)
-
-suffix-at : (name : RdnSequence) (rows : List Numbered) (number : ℕ) (first : EntryInformation) → Some number ≡ suffix_of rows → Some first ≡ entry_of number rows → is_suffix name (entries_of rows) ≡ is_same name first.name
-suffix-at name [] number first e f = absurd cc
-suffix-at name (row ∷ rows) number first e f =
-    let same : number ≡ row.id = cc in
-    let own : entry_of number (row ∷ rows) ≡ Some row.entry = rw (eq-eqb row.id number (sym same)) refl in
-    let is : Some first ≡ Some row.entry = f ∙ own in
-    let entry : row.entry ≡ first = cc in
-    ap (λ (entry : EntryInformation). is_same name entry.name) entry
-
-pub suffix-found : (name : RdnSequence) (rows : List Numbered) (found : Option EntryNo) (number : EntryNo) (first : EntryInformation) → option_map (λ no. no.0) found ≡ suffix_of rows → found ≡ Some number → Some first ≡ entry_of number.0 rows → is_suffix name (entries_of rows) ≡ is_same name first.name
-suffix-found name rows found number first e is f = suffix-at name rows number.0 first (sym (ap (option_map (λ (no : EntryNo). no.0)) is) ∙ e) f
-
-pub suffix-lost : (name : RdnSequence) (rows : List Numbered) (found : Option EntryNo) (number : EntryNo) → option_map (λ no. no.0) found ≡ suffix_of rows → found ≡ Some number → None ≡ entry_of number.0 rows → is_suffix name (entries_of rows) ≡ false
-suffix-lost name rows found number e is f = by rows (sym (ap (option_map (λ (no : EntryNo). no.0)) is) ∙ e) f
-  where
-    by : (rows : List Numbered) → Some number.0 ≡ suffix_of rows → None ≡ entry_of number.0 rows → is_suffix name (entries_of rows) ≡ false
-    by [] e f = refl
-    by (row ∷ rows) e f =
-        let same : number.0 ≡ row.id = cc in
-        let own : entry_of number.0 (row ∷ rows) ≡ Some row.entry = rw (eq-eqb row.id number.0 (sym same)) refl in
-        let none : None ≡ Some row.entry = f ∙ own in
-        absurd cc

@@ -6,7 +6,6 @@ use Rattle.std.proofs.lemmas.Bool.{ne_eqb, eq-eqb}
 use Rattle.std.proofs.lemmas.Grind.{flat_map-append}
 use Rattle.dn_names.specs.Names.{Keyed, RdnSequence}
 use Rattle.dn_names.specs.declared.error.BadName.{BadName}
-use Rattle.dn_names.specs.Printing.{print_name, print_by}
 use Rattle.schema_core.specs.Attributes.{attr_of}
 use Rattle.ldap_msg.specs.declared.operations.ResultCode.TheVariants as code
 use Rattle.ldap_msg.specs.declared.kinds.CompareRequest.{CompareRequest}
@@ -14,18 +13,10 @@ use Rattle.ldap_msg.specs.declared.kinds.SearchRequest.{SearchRequest}
 use Rattle.ldap_msg.specs.declared.kinds.Reply.{Reply}
 use Rattle.ldap_msg.specs.declared.kinds.Reply.TheVariants as reply
 use Rattle.ldap_msg.specs.Replies.{reply_octets}
-use Rattle.read_model.specs.Views.{View, result_of, result_with}
+use Rattle.read_model.specs.Views.{View, result_of}
 use Rattle.read_model.specs.CompareReplies.{readable, compared_in, compared_value, compared_kind, compared_by}
 use Rattle.read_model.specs.SearchReplies.{replies_at, replies_by, replies_octets}
 use Rattle.read_model.specs.RootEntry.{root_replies, finds_root, root_entry}
-
--- the name of the root is printed as nothing
-pub print-root : print_name [] ≡ []
-unfolding print_name print_by
-print-root = refl
-
-pub result-root : result_of code.NoSuchObject ≡ result_with code.NoSuchObject []
-result-root = ap (λ (text : List ℕ). record { code = 32; matched = text }) (sym print-root)
 
 -- ---- compares
 

@@ -1,11 +1,8 @@
 -- The root DSE, its attributes one after the other.
-use Rattle.std.proofs.Common.{◌≡◌, ℕ, List, [], ◌∷◌, ◌++◌, Some, None, refl, sym, ap, ◌∙◌, append_assoc}
+use Rattle.std.proofs.Common.{◌≡◌, List, [], ◌++◌, sym, ap, ◌∙◌, append_assoc}
 use Rattle.std.specs.Prelude.{flat_map}
-use Rattle.std.proofs.lemmas.Bool.{eq-eqb}
 use Rattle.std.proofs.lemmas.List.{append-nil}
-use Rattle.dn_names.specs.Printing.{print_name}
-use Rattle.dir_tree.specs.Entries.{EntryInformation}
-use Rattle.dir_tree.specs.Numbered.{Numbered, entry_of, suffix_of}
+use Rattle.dir_tree.specs.Numbered.{Numbered}
 use Rattle.acdf_filters.specs.declared.asking.Requester.{Requester}
 use Rattle.ldap_msg.specs.declared.kinds.KindValues.{KindValues}
 use Rattle.ldap_msg.specs.declared.kinds.SearchRequest.{SearchRequest}
@@ -14,25 +11,6 @@ use Rattle.read_model.specs.RootEntry.{RootAttribute, suffix_name, root_attribut
 use Rattle.op_asking.specs.Asking.{view_in}
 use Rattle.op_read.specs.Rooting.{root_sent_of, roots_with}
 use Rattle.op_read.proofs.ChoosingLemmas.{roots-one}
-
-pub suffix-none : (rows : List Numbered) (who : Requester) → None ≡ suffix_of rows → [] ≡ suffix_name (view_in rows who)
-suffix-none [] who e = refl
-suffix-none (row ∷ rows) who e = absurd cc
-
-pub suffix-found : (rows : List Numbered) (who : Requester) (id : ℕ) (entry : EntryInformation) → Some id ≡ suffix_of rows → Some entry ≡ entry_of id rows → print_name entry.name ≡ suffix_name (view_in rows who)
-suffix-found [] who id entry e f = absurd cc
-suffix-found (row ∷ rows) who id entry e f =
-    let same : row.id ≡ id = cc in
-    let first : Some entry ≡ Some row.entry = f ∙ rw (eq-eqb row.id id same) refl in
-    let is : entry ≡ row.entry = cc in
-    ap (λ (e : EntryInformation). print_name e.name) is
-
-pub suffix-lost : (rows : List Numbered) (who : Requester) (id : ℕ) → Some id ≡ suffix_of rows → None ≡ entry_of id rows → [] ≡ suffix_name (view_in rows who)
-suffix-lost [] who id e f = absurd cc
-suffix-lost (row ∷ rows) who id e f =
-    let same : row.id ≡ id = cc in
-    let first : None ≡ Some row.entry = f ∙ rw (eq-eqb row.id id same) refl in
-    absurd cc
 
 -- four lists, one behind the other
 pub four : (a b c d : List KindValues) → ((([] ++ a) ++ b) ++ c) ++ d ≡ a ++ (b ++ (c ++ (d ++ [])))

@@ -1,96 +1,26 @@
--- The entries beside the one whose place is taken: how many there are, what a test finds among them, and which has a name.
-use Rattle.std.proofs.Common.{◌≡◌, ◌≢◌, ℕ, ◌+◌, ◌-◌, ◌==◌, Bool, true, false, ◌||◌, if◌then◌else◌, List, [], ◌∷◌, ◌⊎◌, length, filter, Option, Some, None, refl, sym, ap, subst, ◌∙◌, inl, inr, arith}
-use Rattle.std.specs.List.{AllByRecursion, list_any}
+-- The entries beside the one whose place is taken: how many there are, and which has a name.
+use Rattle.std.proofs.Common.{◌≡◌, ◌≢◌, ℕ, ◌+◌, ◌-◌, ◌==◌, Bool, true, false, if◌then◌else◌, List, [], ◌∷◌, ◌⊎◌, length, Option, Some, None, refl, sym, ap, ◌∙◌, inl, inr, arith}
 use Rattle.std.specs.Option.{option_map_or, option_and_then}
-use Rattle.std.proofs.lemmas.Bool.{cases_Bool, eqb-true, eqb-false, eq-eqb, ne_eqb, false_from_ne_true, true≢false}
+use Rattle.std.proofs.lemmas.Bool.{cases_Bool, eqb-true, eqb-false, eq-eqb, ne_eqb}
 use Rattle.std.proofs.lemmas.List.{length-map}
-use Rattle.std.proofs.lemmas.Option.{same_Some}
-use Rattle.std.specs.declared.cmp.Ordering.TheVariants.{Less}
 use Rattle.dn_names.specs.Names.{RdnSequence}
-use Rattle.dn_names.specs.NameOrder.{name_cmp, is_same}
 use Rattle.dir_tree.specs.Entries.{EntryInformation}
 use Rattle.dir_tree.specs.Points.{is_access_subentry, access_subentries}
 use Rattle.dir_tree.specs.Trees.{is_named, named_in, superior_name, IsInOrder}
 use Rattle.dir_tree.specs.Numbered.{Numbered, IsNumberedTree, AreDistinct, entries_of, entry_of, find_name, without}
-use Rattle.dir_tree.proofs.TreeTheorems.{keep_all, not_same, same_over, same_back, other_number}
+use Rattle.dir_tree.specs.Scopes.{is_number}
+use Rattle.dir_tree.proofs.TreeTheorems.{entry_of-found, further, other_number, one_if, count_beside, length_beside, none_beside}
 use Rattle.schema_rules.specs.Checking.{IsSuperior, replaced, others}
 use Rattle.schema_rules.specs.Beside.{entry_beside}
-use Rattle.schema_rules.proofs.TreeLemmas.{superior-found}
 
--- nor does that of the first take out one of the rest
-rest_kept : (id : ℕ) (row : Numbered) (rows : List Numbered) → AreDistinct (row ∷ rows) → (row.id == id) ≡ true → without id rows ≡ rows
-rest_kept id row rows distinct here =
-    keep_all id rows (subst (λ (number : ℕ). AllByRecursion (λ later. later.id ≢ number) rows) (eqb-true row.id id here) distinct.0)
-
--- how many one is, that may pass a test
-abbrev one_if : Bool → ℕ
-one_if passes = if passes then 1 else 0
-
--- one that passes is among them, or is the one whose place is taken
-pub count_beside :
-    (test : EntryInformation → Bool) (id : ℕ) (rows : List Numbered) → AreDistinct rows
-    → length (filter test (entries_of rows))
-    ≡ length (filter test (entries_of (without id rows))) + option_map_or (λ old. one_if (test old)) (entry_of id rows) 0
-count_beside test id [] distinct = refl
-count_beside test id (row ∷ rows) distinct = by (cases_Bool (row.id == id)) (cases_Bool (test row.entry)) (count_beside test id rows distinct.1)
-  where
-    by :
-        ((row.id == id) ≡ true) ⊎ ((row.id == id) ≡ false) → (test row.entry ≡ true) ⊎ (test row.entry ≡ false)
-        → length (filter test (entries_of rows))
-        ≡ length (filter test (entries_of (without id rows))) + option_map_or (λ old. one_if (test old)) (entry_of id rows) 0
-        → length (filter test (entries_of (row ∷ rows)))
-        ≡ length (filter test (entries_of (without id (row ∷ rows)))) + option_map_or (λ old. one_if (test old)) (entry_of id (row ∷ rows)) 0
-    by (inl here) (inl passes) later = rw (here, passes, rest_kept id row rows distinct here) (omega arith)
-    by (inl here) (inr fails) later = rw (here, fails, rest_kept id row rows distinct here) (omega arith)
-    by (inr other) (inl passes) later = rw (other, passes) (omega (arith, later))
-    by (inr other) (inr fails) later = rw (other, fails) later
-
--- so of all
-filter_all : {X : Type 0} (xs : List X) → filter (λ x. true) xs ≡ xs
-filter_all [] = refl
-filter_all (x ∷ xs) = ap (λ xs. x ∷ xs) (filter_all xs)
-
-pub length_beside :
-    (id : ℕ) (rows : List Numbered) → AreDistinct rows
-    → length (entries_of rows) ≡ length (entries_of (without id rows)) + option_map_or (λ old. 1) (entry_of id rows) 0
-length_beside id rows distinct =
-    sym (ap length (filter_all (entries_of rows))) ∙ count_beside (λ entry. true) id rows distinct
-    ∙ ap (λ kept. length kept + option_map_or (λ old. 1) (entry_of id rows) 0) (filter_all (entries_of (without id rows)))
-
--- a test that the old entry fails finds the same beside it
-pub any_beside :
-    (test : EntryInformation → Bool) (id : ℕ) (old : EntryInformation) (rows : List Numbered) → AreDistinct rows
-    → entry_of id rows ≡ Some old → test old ≡ false
-    → list_any test (entries_of rows) ≡ list_any test (entries_of (without id rows))
-any_beside test id old [] distinct known fails = refl
-any_beside test id old (row ∷ rows) distinct known fails = elim (cases_Bool (row.id == id)) [
-  | inl here ↦
-      let same : row.entry ≡ old = same_Some row.entry old (rw here at known) in
-      let not_here : test row.entry ≡ false = ap test same ∙ fails in
-      rw (here, not_here, rest_kept id row rows distinct here) refl
-  | inr other ↦
-      rw other (ap (λ later. test row.entry || later) (any_beside test id old rows distinct.1 (rw other at known) fails))
-]
-
--- after an entry of a name none has it
-none_after :
-    (id : ℕ) (name : RdnSequence) (first : EntryInformation) (rows : List Numbered) → is_same name first.name ≡ true
-    → AllByRecursion (λ later. name_cmp first.name later.name ≡ Less) (entries_of rows)
-    → named_in name (entries_of (without id rows)) ≡ None
-none_after id name first [] same sorted = refl
-none_after id name first (row ∷ rows) same sorted =
-    let apart : is_named name row.entry ≡ false =
-    false_from_ne_true _ (λ again. true≢false (sym (same_over first.name name row.entry.name (same_back name first.name same) again) ∙ not_same first.name row.entry.name sorted.0)) in
-    elim (cases_Bool (row.id == id)) [
-      | inl here ↦ rw here (none_after id name first rows same sorted.1)
-      | inr other ↦ rw (other, apart) (none_after id name first rows same sorted.1)
-    ]
-
-further :
+-- a row that does not have the number is passed over
+passed_over :
     (old : Option ℕ) (row : Numbered) (rows : List Numbered) (found : Option ℕ) → ((id : ℕ) → found ≡ Some id → id ≢ row.id)
     → option_and_then (entry_beside old (row ∷ rows)) found ≡ option_and_then (entry_beside old rows) found
-further old row rows None apart = refl
-further old row rows (Some id) apart = rw (ne_eqb row.id id (λ e. apart id refl (sym e))) refl
+passed_over old row rows None apart = refl
+passed_over old row rows (Some id) apart =
+    ap (λ (entry : Option EntryInformation). if is_number id old then None else entry)
+    (further id row rows (λ e. apart id refl (sym e)))
 
 -- the entry of a name beside it
 named_beside :
@@ -104,19 +34,20 @@ named_beside id name (row ∷ rows) sorted distinct = by (cases_Bool (is_named n
         → option_and_then (entry_beside (Some id) rows) (find_name name rows) ≡ named_in name (entries_of (without id rows))
         → option_and_then (entry_beside (Some id) (row ∷ rows)) (find_name name (row ∷ rows)) ≡ named_in name (entries_of (without id (row ∷ rows)))
     by (inl named) (inl here) later =
-        rw (named, here, eq-eqb id row.id (sym (eqb-true row.id id here))) (sym (none_after id name row.entry rows named sorted.0))
+        rw (named, here, eq-eqb id row.id (sym (eqb-true row.id id here))) (sym (none_beside id name row.entry rows named sorted.0))
     by (inl named) (inr other) later =
         rw (named, other, ne_eqb id row.id (λ e. eqb-false row.id id other (sym e)), eq-eqb row.id row.id refl, named) refl
     by (inr apart) (inl here) later =
-        rw (apart, here) (further (Some id) row rows (find_name name rows) (λ number. other_number name row.id rows distinct.0 number) ∙ later)
+        rw (apart, here) (passed_over (Some id) row rows (find_name name rows) (λ number. other_number name row.id rows distinct.0 number) ∙ later)
     by (inr apart) (inr other) later =
-        rw (apart, other, apart) (further (Some id) row rows (find_name name rows) (λ number. other_number name row.id rows distinct.0 number) ∙ later)
+        rw (apart, other, apart) (passed_over (Some id) row rows (find_name name rows) (λ number. other_number name row.id rows distinct.0 number) ∙ later)
 
 -- so the superior
 pub superior_beside :
     (old number : Option ℕ) (entry : EntryInformation) (rows : List Numbered) → IsNumberedTree rows → IsSuperior number entry rows
     → option_and_then (entry_beside old rows) number ≡ named_in (superior_name entry.name) (others old rows)
-superior_beside None number entry rows tree is = superior-found number entry rows tree.distinct is
+superior_beside None number entry rows tree is =
+    ap (option_and_then (entry_beside None rows)) is ∙ entry_of-found (superior_name entry.name) rows tree.distinct
 superior_beside (Some id) number entry rows tree is =
     ap (option_and_then (entry_beside (Some id) rows)) is
     ∙ named_beside id (superior_name entry.name) rows tree.tree.sorted tree.distinct

@@ -9,11 +9,10 @@ use Rattle.dir_tree.specs.Points.{is_point, is_subentry}
 use Rattle.dir_tree.specs.Numbered.{Numbered, IsNumberedTree, entries_of, entry_of, without}
 use Rattle.dir_tree.specs.Scopes.{is_child, scoped}
 use Rattle.dir_tree.specs.declared.scope.Scope.TheVariants.{One}
-use Rattle.dir_tree.proofs.TreeTheorems.{scoped-One-entries}
+use Rattle.dir_tree.proofs.TreeTheorems.{scoped-One-entries, any_beside}
 use Rattle.aci_item.specs.Rules.{stands_wrong_above}
 use Rattle.schema_rules.specs.Beside.{stands_wrong_below, takes_all_below, is_wrong_below}
 use Rattle.schema_rules.proofs.ListLemmas.{list_any-filter, list_any-filter_map}
-use Rattle.schema_rules.proofs.BesideLemmas.{any_beside}
 
 -- no entry stands immediately below itself
 no_child_of_itself : (entry : EntryInformation) (test : Bool) → (is_child entry.name entry && test) ≡ false

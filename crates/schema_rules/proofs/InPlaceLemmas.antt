@@ -1,21 +1,20 @@
 -- Good entries stay so where an entry of the same name takes another's place and breaks no rule there.
-use Rattle.std.proofs.Common.{◌≡◌, ◌≢◌, ◌+◌, ◌==◌, Bool, true, false, not, ◌&&◌, ◌||◌, List, [], ◌∷◌, ◌++◌, ◌⊎◌, length, find, None, Some, refl, sym, ap, subst, ◌∙◌, inl, inr, append_assoc, arith}
+use Rattle.std.proofs.Common.{◌≡◌, ◌≢◌, Bool, true, false, not, ◌&&◌, ◌||◌, List, [], ◌∷◌, ◌++◌, ◌⊎◌, find, None, Some, refl, sym, ap, subst, ◌∙◌, inl, inr, append_assoc}
 use Rattle.std.specs.List.{AllByRecursion, list_any}
-use Rattle.std.proofs.lemmas.Bool.{cases_Bool, and_from, or_parts, or_from, false_from_ne_true, true≢false}
-use Rattle.std.proofs.lemmas.Bool.Decides.{nat_tests}
+use Rattle.std.proofs.lemmas.Bool.{cases_Bool, or_parts, or_from, false_from_ne_true, true≢false}
+use Rattle.base_laws.proofs.Theorems.{all_map, all_filter}
 use Rattle.dn_names.specs.NameOrder.{is_same}
 use Rattle.dn_names.specs.GoodNames.{IsGoodName}
 use Rattle.dir_tree.specs.Entries.{EntryInformation, IsGoodAttributes}
 use Rattle.dir_tree.specs.Points.{is_point, is_subentry}
 use Rattle.dir_tree.specs.Scopes.{is_child}
 use Rattle.dir_tree.specs.Trees.{is_named, named_in, superior_name, put_in, taken_out}
-use Rattle.dir_tree.proofs.TreeTheorems.{tree-same_name, left_out as none_named, length-same, length-superior, filled, same_back, same_over, all_put as all_put_in}
+use Rattle.dir_tree.proofs.TreeTheorems.{tree-same_name, left_out as none_named, child_is, same_back, same_over, all_put as all_put_in, is_put, taken_at}
 use Rattle.aci_item.specs.Rules.{broken_rule, has_other_structural, is_misplaced, is_past_limits, stands_wrong, stands_wrong_above, Meets, MeetsRules, AreGood}
 use Rattle.schema_rules.proofs.ListPlaceLemmas.{stands as stands_put, all_at}
-use Rattle.schema_rules.proofs.ListTakenLemmas.{stands as stands_taken, all_filter}
+use Rattle.schema_rules.proofs.ListTakenLemmas.{stands as stands_taken}
 use Rattle.schema_rules.proofs.RuleLemmas.{Meets-from_broken_rule, broken_rule-from_Meets, misplaced-past, limits-past}
-use Rattle.schema_rules.proofs.StayLemmas.{is_put}
-use Rattle.schema_rules.proofs.TakenLemmas.{taken_at, front_of_superior, limits-without}
+use Rattle.schema_rules.proofs.TakenLemmas.{limits-without}
 
 -- an entry that meets the rules in a place meets them beside the same others
 pub unbroken_as_new :
@@ -51,10 +50,6 @@ all_but : {X : Type 0} (P : X → Type 0) (front back : List X) (x : X) → AllB
 all_but P [] back x all = all.1
 all_but P (first ∷ front) back x all = (all.0, all_but P front back x all.1)
 
-all_from : {X : Type 0} (P Q : X → Type 0) → ((x : X) → P x → Q x) → (xs : List X) → AllByRecursion P xs → AllByRecursion Q xs
-all_from P Q leads [] all = tt
-all_from P Q leads (x ∷ xs) all = (leads x all.0, all_from P Q leads xs all.1)
-
 -- the entries of a tree with one in the place of another, each looked at beside the rest
 module _ (old new : EntryInformation) (left : List EntryInformation) (same : is_same new.name old.name ≡ true) (gone : AllByRecursion (λ entry. is_named old.name entry ≡ false) left) (filled_left : AllByRecursion (λ (entry : EntryInformation). entry.name ≢ []) left) (meets_new : Meets (Some old) left new) where
   -- an entry whose superior has the new name stood immediately below the old one
@@ -62,11 +57,7 @@ module _ (old new : EntryInformation) (left : List EntryInformation) (same : is_
   child_of_old other named below =
       let above : is_same (superior_name other.name) old.name ≡ true =
       same_over (superior_name other.name) new.name old.name below same in
-      let some = filled other.name named in
-      let long = length-same (superior_name other.name) old.name above in
-      let shorter = length-superior other.name in
-      let length_is : (length other.name == length old.name + 1) ≡ true = grind (arith, nat_tests) in
-      and_from _ _ (front_of_superior old.name other.name named above) length_is
+      child_is old.name other named ∙ above
 
   -- so the new one takes it
   placed_below_new :
@@ -88,7 +79,7 @@ module _ (old new : EntryInformation) (left : List EntryInformation) (same : is_
       → is_same (superior_name other.name) new.name ≡ true
       → AllByRecursion (λ (entry : EntryInformation). is_same (superior_name other.name) entry.name ≡ false) (c ++ d)
   rest_apart c d other at below =
-      all_from (λ (entry : EntryInformation). is_named old.name entry ≡ false) (λ (entry : EntryInformation). is_same (superior_name other.name) entry.name ≡ false)
+      all_map (λ (entry : EntryInformation). is_named old.name entry ≡ false) (λ (entry : EntryInformation). is_same (superior_name other.name) entry.name ≡ false)
       (λ entry apart. false_from_ne_true _ (λ again.
       true≢false (sym (same_over old.name new.name entry.name (same_back new.name old.name same) (same_over new.name (superior_name other.name) entry.name (same_back (superior_name other.name) new.name below) again)) ∙ apart)))
       (c ++ d) (all_but (λ entry. is_named old.name entry ≡ false) c d other
@@ -212,8 +203,8 @@ meets_in_place old new entries good known same unbroken before after other is =
           ∙ ap (λ entry. broken_rule None (taken_out old.name entries) entry) (sym here.0)
           ∙ unbroken_as_new old new (taken_out old.name entries) unbroken
       | inr beside ↦
-          let met = met_before old other taken.front taken.back beside.c beside.d (subst MeetsRules taken.before good.meets)
-          (sym taken.after ∙ put.old ∙ beside.at) in
+          let met = met_before old other taken.front taken.back beside.c beside.d (subst MeetsRules taken.new good.meets)
+          (sym taken.old ∙ put.old ∙ beside.at) in
           ap (λ entries. broken_rule None entries other) beside.is
           ∙ unbroken_beside_new old new (taken_out old.name entries) same (none_named old.name entries)
           (all_filter (λ (entry : EntryInformation). entry.name ≢ []) (λ entry. not (is_named old.name entry)) entries good.tree.named)

@@ -2,10 +2,8 @@ pub mod ListLemmas
 pub mod ClassLemmas
 pub mod ContentLemmas
 pub mod EntryLemmas
-pub mod TreeLemmas
 pub mod ListPlaceLemmas
 pub mod RuleLemmas
-pub mod RootLemmas
 pub mod BesideLemmas
 pub mod ChildLemmas
 pub mod StayLemmas

@@ -1,7 +1,5 @@
 -- A list without the element at a place, looked at around another element.
 use Rattle.std.proofs.Common.{◌≡◌, ◌≤◌, Bool, true, false, List, [], ◌∷◌, ◌++◌, ◌⊎◌, length, filter, if◌then◌else◌, refl, inl, inr, length-append, arith}
-use Rattle.std.specs.List.{AllByRecursion}
-use Rattle.std.proofs.lemmas.Bool.{cond_both}
 
 -- the element stands before the place
 pub record StandsBefore {X : Type 0} (front back before after : List X) (x : X) : Type 0 where
@@ -38,14 +36,6 @@ stands (first ∷ front) back (second ∷ before) after x is =
     let same : first ≡ second = cc in
     let rest : front ++ back ≡ before ++ x ∷ after = cc in
     one_more first second front back before after x same (stands front back before after x rest)
-
--- what holds of all holds of those kept
-pub all_filter :
-    {X : Type 0} (P : X → Type 0) (test : X → Bool) (xs : List X) → AllByRecursion P xs → AllByRecursion P (filter test xs)
-all_filter P test [] all = tt
-all_filter P test (x ∷ xs) all =
-    let later = all_filter P test xs all.1 in
-    cond_both (test x) (x ∷ filter test xs) (filter test xs) (λ kept. AllByRecursion P kept) (λ _. (all.0, later)) (λ _. later)
 
 -- no more pass
 pub filter-fewer :

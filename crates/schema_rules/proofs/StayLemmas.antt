@@ -1,39 +1,16 @@
 -- The entries of a tree still meet the rules where one that meets them is added.
-use Rattle.std.proofs.Common.{◌≡◌, ◌≢◌, ℕ, ◌<◌, nat_le, true, false, List, [], ◌∷◌, ◌++◌, length, if◌then◌else◌, None, refl, sym, ap, subst, ◌∙◌, inl, inr, append_assoc, arith}
+use Rattle.std.proofs.Common.{◌≡◌, ◌≢◌, ℕ, ◌<◌, nat_le, false, List, [], ◌∷◌, ◌++◌, length, None, sym, ap, subst, ◌∙◌, inl, inr, append_assoc, arith}
 use Rattle.std.specs.List.{AllByRecursion}
 use Rattle.std.proofs.lemmas.Bool.{or_parts}
 use Rattle.std.proofs.lemmas.Bool.Decides.{nat_tests}
 use Rattle.dn_names.specs.NameOrder.{is_same}
 use Rattle.dn_names.specs.GoodNames.{IsGoodName}
 use Rattle.dir_tree.specs.Entries.{EntryInformation, IsGoodAttributes}
-use Rattle.dir_tree.specs.Trees.{IsTree, is_before, put_in, has_name, lacks_superior, superior_name}
-use Rattle.dir_tree.proofs.TreeTheorems.{tree-put_in, all_put as all_put_in}
+use Rattle.dir_tree.specs.Trees.{IsTree, put_in, has_name, lacks_superior, superior_name}
+use Rattle.dir_tree.proofs.TreeTheorems.{tree-put_in, all_put as all_put_in, is_put, superiors_apart}
 use Rattle.aci_item.specs.Rules.{broken_rule, is_past_limits, MeetsRules, AreGood}
 use Rattle.schema_rules.proofs.ListPlaceLemmas.{stands, all_at}
 use Rattle.schema_rules.proofs.RuleLemmas.{Meets-from_broken_rule, broken_rule-past}
-use Rattle.schema_rules.proofs.RootLemmas.{superiors_apart}
-
--- where an entry is put in
-pub record IsPut (entry : EntryInformation) (entries new_entries : List EntryInformation) : Type 0 where
-  pub front : List EntryInformation
-  pub back : List EntryInformation
-  pub old : entries ≡ front ++ back
-  pub new : new_entries ≡ front ++ entry ∷ back
-
-pub is_put : (entry : EntryInformation) (entries : List EntryInformation) → IsPut entry entries (put_in entry entries)
-is_put entry [] = record { front = []; back = []; old = refl; new = refl }
-is_put entry (first ∷ rest) =
-    let later = is_put entry rest in
-    elim (is_before first.name entry.name)
-    as (λ b. IsPut entry (first ∷ rest) (if b then first ∷ put_in entry rest else entry ∷ first ∷ rest)) [
-      | true ↦ record {
-        front = first ∷ later.front;
-        back = later.back;
-        old = ap (λ entries. first ∷ entries) later.old;
-        new = ap (λ entries. first ∷ entries) later.new;
-      }
-      | false ↦ record { front = []; back = first ∷ rest; old = refl; new = refl }
-    ]
 
 -- no entry of the list has the new one as its superior
 abbrev AreApart : List EntryInformation → EntryInformation → Type 0
@@ -99,7 +76,7 @@ MeetsRules-put_in entries entry tree meets named absent has unbroken before afte
     let put = is_put entry entries in
     let P : List EntryInformation → Type 0 = λ entries. AreApart entries entry in
     stays put.front put.back before after entry other (subst MeetsRules put.old meets)
-    (subst P put.old (superiors_apart entries entry.name tree named absent has))
+    (subst P put.old (superiors_apart entries entry.name tree absent has))
     (ap (λ entries. broken_rule None entries entry) (sym put.old) ∙ unbroken) (sym put.new ∙ is)
 
 -- no entries are good

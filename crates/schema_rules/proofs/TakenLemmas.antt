@@ -1,80 +1,24 @@
 -- Good entries stay good where one is taken out below which none stands.
-use Rattle.std.proofs.Common.{◌≡◌, ◌≢◌, ℕ, ◌-◌, ◌≤◌, nat_le, nat_lt, Bool, true, false, not, ◌&&◌, ◌||◌, List, [], ◌∷◌, ◌++◌, length, take, if◌then◌else◌, None, Some, refl, sym, ap, subst, ◌∙◌, inl, inr, append_assoc, arith}
+use Rattle.std.proofs.Common.{◌≡◌, ℕ, ◌≤◌, nat_le, Bool, true, false, not, ◌&&◌, ◌||◌, List, ◌∷◌, ◌++◌, length, None, Some, refl, sym, ap, subst, ◌∙◌, inl, inr, append_assoc, arith}
 use Rattle.std.specs.List.{AllByRecursion}
-use Rattle.std.proofs.lemmas.Bool.{and_from, or_parts, or_from, false_from_ne_true, true≢false}
+use Rattle.std.proofs.lemmas.Bool.{or_parts, or_from}
 use Rattle.std.proofs.lemmas.Bool.Decides.{nat_tests}
+use Rattle.base_laws.proofs.Theorems.{all_filter}
 use Rattle.dn_names.specs.Names.{RdnSequence}
-use Rattle.dn_names.specs.NameOrder.{is_same, is_prefix_of}
+use Rattle.dn_names.specs.NameOrder.{is_same}
 use Rattle.dn_names.specs.GoodNames.{IsGoodName}
 use Rattle.dir_tree.specs.Entries.{EntryInformation, IsGoodAttributes}
 use Rattle.dir_tree.specs.Points.{is_access_subentry, access_subentries}
-use Rattle.dir_tree.specs.Trees.{is_before, is_named, is_below, has_below, named_in, superior_name, put_in, taken_out, IsInOrder}
-use Rattle.dir_tree.proofs.TreeTheorems.{put_in-taken_out, tree-taken_out, length-same, length-superior, filled}
+use Rattle.dir_tree.specs.Trees.{is_named, has_below, named_in, superior_name, taken_out}
+use Rattle.dir_tree.proofs.TreeTheorems.{taken_at, tree-taken_out, apart_from_leaf}
 use Rattle.aci_item.specs.Rules.{broken_rule, is_misplaced, is_past_limits, stands_wrong, MeetsRules, AreGood}
 use Rattle.schema_rules.proofs.ListPlaceLemmas.{all_at, find-past}
-use Rattle.schema_rules.proofs.ListTakenLemmas.{stands, all_filter, filter-fewer, length-fewer}
+use Rattle.schema_rules.proofs.ListTakenLemmas.{stands, filter-fewer, length-fewer}
 use Rattle.schema_rules.proofs.RuleLemmas.{Meets-from_broken_rule, broken_rule-from_Meets}
-
--- where an entry was taken out
-pub record IsTaken (old : EntryInformation) (entries left : List EntryInformation) : Type 0 where
-  pub front : List EntryInformation
-  pub back : List EntryInformation
-  pub before : entries ≡ front ++ old ∷ back
-  pub after : left ≡ front ++ back
-
-taken_after_put : (old : EntryInformation) (left : List EntryInformation) → IsTaken old (put_in old left) left
-taken_after_put old [] = record { front = []; back = []; before = refl; after = refl }
-taken_after_put old (first ∷ rest) =
-    let later = taken_after_put old rest in
-    elim (is_before first.name old.name)
-    as (λ b. IsTaken old (if b then first ∷ put_in old rest else old ∷ first ∷ rest) (first ∷ rest)) [
-      | true ↦ record {
-        front = first ∷ later.front;
-        back = later.back;
-        before = ap (λ entries. first ∷ entries) later.before;
-        after = ap (λ entries. first ∷ entries) later.after;
-      }
-      | false ↦ record { front = []; back = first ∷ rest; before = refl; after = refl }
-    ]
-
-pub taken_at :
-    (old : EntryInformation) (entries : List EntryInformation) → IsInOrder entries → named_in old.name entries ≡ Some old
-    → IsTaken old entries (taken_out old.name entries)
-taken_at old entries sorted known =
-    subst (λ (all : List EntryInformation). IsTaken old all (taken_out old.name entries)) (put_in-taken_out old entries sorted known)
-    (taken_after_put old (taken_out old.name entries))
-
--- a name begins with that of its superior, and stands below it
-pub front_of_superior :
-    (base name : RdnSequence) → name ≢ [] → is_same (superior_name name) base ≡ true → is_prefix_of base name ≡ true
-unfolding is_prefix_of
-front_of_superior base name named same =
-    let some = filled name named in
-    let long = length-same (superior_name name) base same in
-    let front : length name - 1 ≡ length base = sym (length-superior name) ∙ long in
-    subst (λ (count : ℕ). is_same (take count name) base ≡ true) front same
-
-below_superior : (base name : RdnSequence) → name ≢ [] → is_same (superior_name name) base ≡ true → is_below base name ≡ true
-below_superior base name named same =
-    let some = filled name named in
-    let long = length-same (superior_name name) base same in
-    let shorter = length-superior name in
-    let less : nat_lt (length base) (length name) ≡ true = grind (arith, nat_tests) in
-    and_from _ _ (front_of_superior base name named same) less
 
 -- the entry's superior has another name
 abbrev IsApart : RdnSequence → EntryInformation → Type 0
 IsApart name entry = is_same (superior_name entry.name) name ≡ false
-
-apart_from_leaf :
-    (name : RdnSequence) (entries : List EntryInformation) → AllByRecursion (λ entry. entry.name ≢ []) entries
-    → has_below name entries ≡ false → AllByRecursion (IsApart name) entries
-apart_from_leaf name [] named none = tt
-apart_from_leaf name (entry ∷ entries) named none =
-    let parts = or_parts (is_below name entry.name) (has_below name entries) none in (
-      false_from_ne_true _ (λ same. true≢false (sym (below_superior name entry.name named.0 same) ∙ parts.0)),
-      apart_from_leaf name entries named.1 parts.1,
-    )
 
 -- an entry that is not the superior changes nothing of it
 misplaced-without :
@@ -173,7 +117,7 @@ AreGood-taken_out old entries good known alone =
       tree = tree-taken_out old entries good.tree known alone;
       names = all_filter (λ (entry : EntryInformation). IsGoodName entry.name) (λ entry. not (is_named old.name entry)) entries good.names;
       attributes = all_filter (λ (entry : EntryInformation). IsGoodAttributes entry.attributes) (λ entry. not (is_named old.name entry)) entries good.attributes;
-      meets = subst MeetsRules (sym taken.after)
-          (MeetsRules-without taken.front taken.back old (subst MeetsRules taken.before good.meets)
-          (subst (λ entries. AllByRecursion (IsApart old.name) entries) taken.before apart));
+      meets = subst MeetsRules (sym taken.old)
+          (MeetsRules-without taken.front taken.back old (subst MeetsRules taken.new good.meets)
+          (subst (λ entries. AllByRecursion (IsApart old.name) entries) taken.new apart));
     }

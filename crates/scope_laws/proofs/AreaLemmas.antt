@@ -10,9 +10,9 @@ use Rattle.dir_tree.specs.Entries.{EntryInformation}
 use Rattle.dir_tree.specs.Trees.{is_before, put_in}
 use Rattle.dir_tree.specs.Points.{is_specific_point}
 use Rattle.dir_tree.specs.Scopes.{is_within}
+use Rattle.dir_tree.proofs.TreeTheorems.{like_before}
 use Rattle.admin_scope.specs.Areas.{line_of, is_access_point, points_from, to_specific, areas}
 use Rattle.scope_laws.specs.Aside.{is_point_over}
-use Rattle.scope_laws.proofs.PlaceLemmas.{before_same}
 
 -- two points over the entry, of one place and one kind
 pub record IsLike (entry one other : EntryInformation) : Type 0 where
@@ -64,13 +64,13 @@ like-put_in entry one other (x ∷ entries) like e f =
 
     by : ((is_before x.name one.name ≡ true) ⊎ (is_before x.name one.name ≡ false)) → Later → Goal
     by (inl g) later =
-        let also : is_before x.name other.name ≡ true = sym (before_same one.name other.name x.name like.named) ∙ g in
+        let also : is_before x.name other.name ≡ true = sym (like_before one.name other.name x.name like.named) ∙ g in
         elim (cases_Bool (is_point_over entry x)) [
           | inl k ↦ rw (g, also, k) (like_itself entry x k, later)
           | inr k ↦ rw (g, also, k) later
         ]
     by (inr g) later =
-        let also : is_before x.name other.name ≡ false = sym (before_same one.name other.name x.name like.named) ∙ g in
+        let also : is_before x.name other.name ≡ false = sym (like_before one.name other.name x.name like.named) ∙ g in
         rw (g, also, e, f) (like, are_like_itself entry (x ∷ entries))
 
 -- the lists turned round

@@ -1,8 +1,9 @@
 -- Lists of numbers of subentries in force stay right for an entry, where what changes stands aside from it.
-use Rattle.std.proofs.Common.{◌≡◌, ◌≢◌, ℕ, true, ◌==◌, List, [], ◌∷◌, ◌++◌, refl, ap, sym, subst, ◌∙◌, inl, inr, Option, Some, None}
+use Rattle.std.proofs.Common.{◌≡◌, ◌≢◌, ℕ, true, ◌==◌, List, [], ◌∷◌, refl, ap, sym, subst, ◌∙◌, inl, inr, Option, Some, None}
 use Rattle.std.specs.Prelude.{flat_map, IsSome, IfSome}
 use Rattle.std.specs.List.{AllByRecursion}
 use Rattle.std.proofs.lemmas.Bool.{cases_Bool}
+use Rattle.base_laws.proofs.Theorems.{all_append}
 use Rattle.dir_tree.specs.Entries.{EntryInformation}
 use Rattle.dir_tree.specs.Points.{is_subentry}
 use Rattle.dir_tree.specs.Scopes.{is_within}
@@ -24,11 +25,6 @@ unfolding IsSometimeInForce
 sometime-never entry subentry never h = let clash = sym (never h.0 h.1) ∙ h.2 in absurd cc
 
 -- each of those that are in force is so
-all_append : (P : EntryInformation → Type 0) (xs ys : List EntryInformation) → AllByRecursion P xs → AllByRecursion P ys
-    → AllByRecursion P (xs ++ ys)
-all_append P [] ys h k = k
-all_append P (x ∷ xs) ys h k = (h.0, all_append P xs ys h.1 k)
-
 all_under : (entry point : EntryInformation) (entries : List EntryInformation) → is_within point.name entry ≡ true
     → AllByRecursion (IsSometimeInForce entry) (in_force_at entry point entries)
 unfolding IsSometimeInForce

@@ -1,31 +1,19 @@
--- Names that are the same: what comes before them, what is below them, and what is in force under them.
+-- Names that are the same: what is below them, and what is in force under them.
 use Rattle.std.proofs.Common.{◌≡◌, ℕ, ◌+◌, Bool, true, false, ◌&&◌, ◌++◌, map, length, drop, refl, sym, ap, ◌∙◌, Option, Some, None}
 use Rattle.std.specs.Prelude.{◌==◌}
 use Rattle.std.specs.Option.{option_map_or}
-use Rattle.std.specs.Ordering.{is_lt}
-use Rattle.std.proofs.lemmas.Cmp.{alike_right}
-use Rattle.std.proofs.lemmas.List.{length-map, map-append}
-use Rattle.base_laws.proofs.Theorems.{is_equal}
+use Rattle.std.proofs.lemmas.List.{map-append}
 use Rattle.dn_names.specs.Names.{RdnSequence}
-use Rattle.dn_names.specs.NameOrder.{name_cmp, is_same, is_prefix_of, type_and_key, types_and_keys}
-use Rattle.dn_names.proofs.Theorems.{name_cmp_total, is_same-types_and_keys}
+use Rattle.dn_names.specs.NameOrder.{is_same, is_prefix_of, type_and_key, types_and_keys}
+use Rattle.dn_names.proofs.Theorems.{is_same-types_and_keys}
 use Rattle.dir_tree.specs.Entries.{EntryInformation}
-use Rattle.dir_tree.specs.Trees.{is_before}
 use Rattle.dir_tree.specs.Points.{is_access_subentry}
 use Rattle.dir_tree.specs.Scopes.{is_child}
-use Rattle.dir_tree.proofs.TreeTheorems.{begins_both, child_same}
+use Rattle.dir_tree.proofs.TreeTheorems.{begins_both, child_same, length-same}
 use Rattle.subtree_spec.specs.Subtrees.{Subtree}
 use Rattle.subtree_spec.specs.Membership.{holds_below, holds_rest}
 use Rattle.admin_scope.specs.Refinements.{holds, meets_filter}
 use Rattle.admin_scope.specs.InForce.{subtree_of_entry, subtree_holds, reaches}
-
-same_length : (x y : RdnSequence) → types_and_keys x ≡ types_and_keys y → length x ≡ length y
-same_length x y e = sym (length-map x (map type_and_key)) ∙ ap length e ∙ length-map y (map type_and_key)
-
--- what comes before a name comes before what is the same
-pub before_same : (x y z : RdnSequence) → is_same x y ≡ true → is_before z x ≡ is_before z y
-unfolding is_same
-before_same x y z e = ap is_lt (alike_right name_cmp_total x y z (is_equal (name_cmp x y) e))
 
 -- a subtree holds below a name what it holds below what is the same
 holds_below-same : (subtree : Subtree) (x y name : RdnSequence) → is_same x y ≡ true
@@ -40,7 +28,7 @@ holds_below-same subtree x y name e =
     ap (λ (b : Bool). b && holds_rest subtree (drop (length x + length subtree.base) name))
     (begins_both (x ++ subtree.base) (y ++ subtree.base) name joined)
     ∙ ap (λ (n : ℕ). is_prefix_of (y ++ subtree.base) name && holds_rest subtree (drop (n + length subtree.base) name))
-    (same_length x y same)
+    (length-same x y e)
 
 holds-same : (subtree : Subtree) (x y : RdnSequence) (entry : EntryInformation) → is_same x y ≡ true
     → holds subtree x entry ≡ holds subtree y entry

@@ -8,6 +8,7 @@ use Rattle.dn_names.specs.Names.{RdnSequence}
 use Rattle.gser_tree.specs.Lexemes.{Lexeme}
 use Rattle.gser_tree.specs.Writing.{text_of, print_braces, print_filled, separator, ending, PutsMembers}
 use Rattle.gser_tree.proofs.Theorems.{PutsMembers-one, PutsMembers-append, PutsMembers-braces}
+pub use Rattle.gser_tree.proofs.Theorems.{put_choice}
 use Rattle.subtree_spec.specs.declared.spec.Refinement.{Refinement}
 use Rattle.subtree_spec.specs.Subtrees.{Choice, gathered, choice_of}
 use Rattle.subtree_spec.specs.SubtreePrinted.{print_exclusions, print_refinement, print_refinements}

@@ -127,7 +127,7 @@ fn put_maximum(out: &mut String, first: bool, maximum: Option<u32>) -> Result<bo
 }
 
 // Writes a refinement.
-#[tactic(auto, using(crate::proofs::PrintedLemmas::put_kind_value))]
+#[tactic(auto, using(crate::proofs::PrintedLemmas::put_choice))]
 #[cycle(put_refinement)]
 fn put_refinement(out: &mut String, refinement: &Refinement) -> Result<(), AllocError>
     ensures ok { OnOk result (string_bytes out.new ≡ string_bytes out.old ++ text_of (print_refinement (choice_of refinement.now))) }

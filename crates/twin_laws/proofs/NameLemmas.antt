@@ -3,9 +3,9 @@ use Rattle.std.proofs.Common.{◌≡◌, true, false, ◌∙◌, length, nat_lt,
 use Rattle.std.proofs.lemmas.Bool.{false_from_ne_true, both_ways, and_parts, ltb-true}
 use Rattle.dn_names.specs.Names.{RdnSequence}
 use Rattle.dn_names.specs.NameOrder.{is_same, is_prefix_of}
-use Rattle.admin_scope.proofs.Theorems.{prefix_chain, length-front}
+use Rattle.admin_scope.proofs.Theorems.{prefix_chain}
 use Rattle.dir_tree.specs.Trees.{is_below}
-use Rattle.dir_tree.proofs.TreeTheorems.{prefix_like as same_below, same_back}
+use Rattle.dir_tree.proofs.TreeTheorems.{prefix_like as same_below, same_back, length-front}
 
 -- a name outside is none of those at or below
 pub same_outside : (top base name : RdnSequence) → is_prefix_of top base ≡ false → is_prefix_of top name ≡ true

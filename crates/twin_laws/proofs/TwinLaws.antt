@@ -8,10 +8,11 @@ use Rattle.base_laws.proofs.Theorems.{all_filter}
 use Rattle.dn_names.specs.Names.{RdnSequence}
 use Rattle.dn_names.specs.NameOrder.{name_cmp, is_prefix_of}
 use Rattle.dn_names.proofs.Theorems.{name_cmp_total, name_cmp-prefix}
-use Rattle.admin_scope.proofs.Theorems.{prefix_chain, in_force-without, length-front}
+use Rattle.admin_scope.proofs.Theorems.{prefix_chain, in_force-without}
 use Rattle.dir_tree.specs.Entries.{EntryInformation}
 use Rattle.dir_tree.specs.Trees.{named_in, is_below, IsTree}
 use Rattle.dir_tree.specs.Scopes.{is_within}
+use Rattle.dir_tree.proofs.TreeTheorems.{length-front}
 use Rattle.admin_scope.specs.Areas.{without_subtree}
 use Rattle.admin_scope.specs.InForce.{in_force}
 use Rattle.acdf_filters.specs.declared.asking.Requester.{Requester}

@@ -3,7 +3,7 @@ use Rattle.std.proofs.Common.{ap, ◌∙◌}
 use Rattle.dir_tree.specs.Numbered.{without}
 use Rattle.dir_tree.specs.Refusals.{remove_refusal}
 use Rattle.dir_tree.proofs.TreeTheorems.{without-put_row}
-use Rattle.acdf_lists.proofs.FreeLemmas.{new_removable}
+use Rattle.dir_tree.proofs.TreeTheorems.{new_removable}
 use Rattle.acdf_lists.proofs.changing.insert_into.Goals as goal
 
 pub take_back-requires : goal.take_back-requires

@@ -5,7 +5,7 @@ use Rattle.dir_tree.specs.Refusals.{remove_refusal}
 use Rattle.dir_tree.proofs.TreeTheorems.{without-put_row}
 use Rattle.scope_laws.proofs.Theorems.{change-put}
 use Rattle.acdf_lists.specs.Holdings.{IsHeld}
-use Rattle.acdf_lists.proofs.Theorems.{new_removable}
+use Rattle.dir_tree.proofs.TreeTheorems.{new_removable}
 use Rattle.aci_index.specs.Reach.{IsAnew}
 use Rattle.aci_index.specs.declared.anew.Reach.TheVariants.{Around}
 use Rattle.aci_index.proofs.HeldLemmas.{held-same}

@@ -6,7 +6,7 @@ use Rattle.dir_tree.proofs.TreeTheorems.{without-put_row}
 use Rattle.admin_scope.specs.Finding.{AreSubtrees}
 use Rattle.scope_laws.proofs.Theorems.{change-put}
 use Rattle.acdf_lists.specs.Holdings.{IsHeld}
-use Rattle.acdf_lists.proofs.Theorems.{new_removable}
+use Rattle.dir_tree.proofs.TreeTheorems.{new_removable}
 use Rattle.aci_index.specs.Steps.{IsKeptOf}
 use Rattle.aci_index.proofs.SubtreeLemmas.{subtrees-stay}
 use Rattle.aci_index.proofs.HeldLemmas.{held-unused}

@@ -1,5 +1,5 @@
 -- The tree keeps the number of each access control subentry.
-use Rattle.schema_rules.proofs.Theorems.{count-numbers}
+use Rattle.dir_tree.proofs.TreeTheorems.{count-numbers}
 use Rattle.acl_program.proofs.data.count_subentries.Goals as goal
 
 pub returns : goal.returns

@@ -1,5 +1,5 @@
 -- The tree keeps the number of each access control subentry.
-use Rattle.schema_rules.proofs.TreeLemmas.{count-numbers}
+use Rattle.dir_tree.proofs.TreeTheorems.{count-numbers}
 use Rattle.schema_rules.proofs.limits.count_subentries.Goals as goal
 
 pub returns : goal.returns

@@ -2,7 +2,7 @@
 use Rattle.std.proofs.Common.{List, sym, subst}
 use Rattle.dir_tree.specs.Numbered.{Numbered}
 use Rattle.acdf_lists.specs.Holdings.{IsHeld}
-use Rattle.acdf_lists.proofs.FreeLemmas.{removed_alone}
+use Rattle.dir_tree.proofs.TreeTheorems.{removed_alone}
 use Rattle.acdf_lists.proofs.RemovalLemmas.{held-without}
 use Rattle.acdf_lists.proofs.plain_dir.PlainDirDir.remove.Goals as goal
 
