@@ -3,7 +3,7 @@ use aci_item::Level;
 use dir_tree::{Entry, Tree};
 use dn_names::{Value, make_value, parse, print};
 use ldap_msg::{Auth, BindRequest};
-use op_bind::{Bound, bind};
+use op_bind::{Bound, bind, bind_with_password};
 use plain_values::Octets;
 use schema_core::{AttrId, attr_named};
 use std::alloc::Global;
@@ -187,5 +187,18 @@ fn a_bind_comes_to_the_first_row_that_applies(rt: HostRuntime) -> Result<(), Fai
         assert_eq!(rt; bound.code.number(), *code, "code of row {index}");
         assert_eq!(rt; told.as_str(), *who, "requester of row {index}");
     }
+    Ok(())
+}
+
+#[test]
+fn a_lent_name_and_password_come_to_the_same(rt: HostRuntime) -> Result<(), Fail> {
+    let tree = tree(rt.alloc())?;
+    let bound = bind_with_password(rt.alloc(), &tree, b"UID = bOB , DC = eXAMPLE", b"bob1")?;
+    assert_eq!(rt; bound.code.number(), 0, "code");
+    assert_eq!(rt;
+        told(rt.alloc(), &bound)?.as_str(),
+        "uid=Bob,dc=Example simple",
+        "requester"
+    );
     Ok(())
 }

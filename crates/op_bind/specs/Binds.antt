@@ -69,3 +69,7 @@ bound_auth entries name (Simple password) = bound_text entries (read_name name) 
 unfoldable pub bind_answer : List EntryInformation → BindRequest → Bound
 bind_answer entries request =
     if request.version == 3 then bound_auth entries request.name request.auth else ended code.ProtocolError
+
+-- a bind of version 3 with a password
+abbrev pub with_password : List ℕ → List ℕ → BindRequest
+with_password name password = record { version = 3; name = name; auth = Simple password }

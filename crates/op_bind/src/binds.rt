@@ -4,7 +4,7 @@ ghost use Rattle.std.specs.Prelude.{◌≡◌, IfOk};
 ghost use Rattle.dn_names.specs.NameText.{read_name};
 ghost use Rattle.dir_tree.specs.Numbered.{entries_of};
 ghost use Rattle.op_bind.specs.Binds.{ended, bound_name, bound_password, bound_entry, bound_nobody, bound_named};
-ghost use Rattle.op_bind.specs.Binds.{bound_text, bound_auth, bind_answer};
+ghost use Rattle.op_bind.specs.Binds.{bound_text, bound_auth, bind_answer, with_password};
 
 use crate::entry::{entry_named, has_password};
 use acdf_filters::Requester;
@@ -136,4 +136,17 @@ pub fn bind(alloc: Global, tree: &Tree, request: &BindRequest) -> Result<Bound, 
     } else {
         Ok(ended(ResultCode::ProtocolError))
     }
+}
+
+/// The same for a bind of version 3 with a password, whose name and password are lent.
+#[tactic(auto, unfolding(crate::specs::Binds::bind_answer))]
+pub fn bind_with_password(
+    alloc: Global,
+    tree: &Tree,
+    name: &[u8],
+    password: &[u8],
+) -> Result<Bound, NoMemory>
+    ensures ok { IfOk result (λ bound. bound ≡ bind_answer (entries_of tree.now) (with_password name.now password.now)) }
+{
+    bind_simple(alloc, tree, name, password)
 }

@@ -10,6 +10,7 @@ pub mod Twins
 pub mod Loops
 -- for the inside of the crate alone
 pub mod Answers
+pub mod SimpleBinds
 pub mod Connections
 pub mod Telling
 pub mod Adding

@@ -2,6 +2,7 @@
 #![tactic(auto)]
 
 mod alike;
+mod binds;
 mod block;
 mod connection;
 mod controls;
@@ -12,9 +13,11 @@ mod laws;
 mod messages;
 mod places;
 mod requester;
+mod results;
 mod sent;
 mod serve;
 mod serving;
+mod simple;
 mod spoken;
 mod stream;
 mod waiting;

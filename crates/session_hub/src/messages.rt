@@ -4,41 +4,33 @@ ghost use Rattle.std.specs.Prelude.{◌≡◌, ◌≤◌, ◌++◌, [], ◌∷�
 ghost use Rattle.dir_tree.specs.Numbered.{entries_of};
 ghost use Rattle.ldap_msg.specs.Streams.{frame_at};
 ghost use Rattle.ldap_msg.specs.declared.operations.ResultCode.TheVariants as code;
-ghost use Rattle.read_model.specs.Views.{view_of, result_of as result_with};
+ghost use Rattle.read_model.specs.Views.{view_of};
 ghost use Rattle.read_model.specs.SearchReplies.{replies_octets};
 ghost use Rattle.read_model.specs.CompareReplies.{compare_result};
 ghost use Rattle.ldap_msg.specs.declared.kinds.Reply.TheVariants as reply;
 ghost use Rattle.op_update.specs.Updates.{IsChanged};
 ghost use Rattle.session_hub.specs.Parties.{DirectoryEntries, Requester};
 ghost use Rattle.session_hub.specs.Controls.{subentries_asked};
-ghost use Rattle.session_hub.specs.Answering.{rules, response_to as response_of, replies_in, ended_with, asking, searched, bound, change_of, changing, operated, answered, is_unbind, answer_read};
+ghost use Rattle.session_hub.specs.Answering.{rules, response_to as response_of, replies_in, ended_with, asking, searched, change_of, changing, operated, answered, is_unbind, answer_read};
 ghost use Rattle.session_hub.specs.Answers.{Gives, Sends};
 
+use crate::binds::{answer_bind, answer_simple_bind};
 use crate::controls::{is_refused, subentries_asked};
 use crate::requester::anonymous;
+use crate::results::result_of;
+use crate::simple::simple_bind;
 use acdf_filters::Requester;
 use acdf_lists::Dir;
 use ldap_msg::{
-    BindRequest, CompareRequest, Frame, LdapResult, Message, ReadFault, Reply, Request, ResultCode,
+    CompareRequest, Frame, LdapResult, Message, ReadFault, Reply, Request, ResultCode,
     SearchRequest, put_notice, put_reply, read_request,
 };
 use modify_laws::a_refused_change_leaves_the_entries;
-use op_bind::bind;
 use op_modify::{modify, rename};
 use op_read::{compare, search};
 use op_update::{add, delete};
-use plain_values::Octets;
 use std::alloc::{AllocError, Global};
 use update_laws::a_refusal_leaves_the_entries;
-
-fn result_of(alloc: Global, code: ResultCode) -> LdapResult
-    ensures { result ≡ result_with code }
-{
-    LdapResult {
-        code: code.number(),
-        matched: Octets::from_vec(Vec::new(alloc)),
-    }
-}
 
 fn response_to(request: &Request, ended: LdapResult) -> Option<Reply>
     ensures { result ≡ response_of request.now ended }
@@ -105,26 +97,6 @@ fn begin_asking(who: &mut Requester, request: &Request)
     if let Request::Bind(_) = request {
         *who = anonymous();
     }
-}
-
-/// Binds over the directory. After `AllocError` the requester is who it was.
-fn answer_bind<D: Dir>(
-    alloc: Global,
-    dir: &D,
-    who: &mut Requester,
-    id: u32,
-    request: &BindRequest,
-    out: &mut Vec<u8>,
-) -> Result<(), AllocError>
-    ensures ok { OnOk result (Sends id (bound (entries_of (D.rows dir.now)) request.now)
-        out.old.items out.new.items (entries_of (D.rows dir.now)) who.new) }
-    ensures err { OnErr result (out.new.items ≡ out.old.items) }
-    ensures kept { OnErr result (who.new ≡ who.old) }
-{
-    let bound = bind(alloc, dir.tree(), request)?;
-    put_reply(out, id, &Reply::Bind(result_of(alloc, bound.code)))?;
-    *who = bound.who;
-    Ok(())
 }
 
 /// Appends the replies to a search, with what its controls of subentries ask for.
@@ -335,10 +307,31 @@ fn refuse_octets(out: &mut Vec<u8>) -> Result<bool, AllocError>
     Ok(true)
 }
 
+/// Answers the octets of any message.
+#[inline(never)] // what it needs is not to be cleared for each bind
+fn answer_any<D: Dir>(
+    alloc: Global,
+    dir: &mut D,
+    who: &mut Requester,
+    bytes: &[u8],
+    out: &mut Vec<u8>,
+) -> Result<bool, AllocError>
+    ensures ok { IfOk result (λ closes. Gives (rules.answer (entries_of (D.rows dir.old)) who.old bytes.now)
+        out.old.items out.new.items (entries_of (D.rows dir.new)) who.new closes) }
+    ensures err { OnErr result (out.new.items ≡ out.old.items) }
+    ensures asker { OnErr result (who.new ≡ who.old) }
+    ensures entries { OnErr result (entries_of (D.rows dir.new) ≡ entries_of (D.rows dir.old)) }
+{
+    match read_request(alloc, bytes) {
+        Ok(message) => answer_message(alloc, dir, who, &message, out),
+        Err(ReadFault::NoMemory) => Err(AllocError),
+        Err(ReadFault::BadMessage) => refuse_octets(out),
+    }
+}
+
 /// Answers the octets of one message for the requester, appends the replies (RFC 4511 4.1.1), and
 /// says whether the connection closes. Octets that are no message get the notice of disconnection
 /// (4.4.1). `AllocError` comes for want of memory alone, and then all is as it was.
-#[tactic(auto, unfolding(crate::specs::Answering::rules))]
 pub fn answer<D: Dir>(
     alloc: Global,
     dir: &mut D,
@@ -353,9 +346,8 @@ pub fn answer<D: Dir>(
     ensures asker { OnErr result (who.new ≡ who.old) }
     ensures entries { OnErr result (entries_of (D.rows dir.new) ≡ entries_of (D.rows dir.old)) }
 {
-    match read_request(alloc, bytes) {
-        Ok(message) => answer_message(alloc, dir, who, &message, out),
-        Err(ReadFault::NoMemory) => Err(AllocError),
-        Err(ReadFault::BadMessage) => refuse_octets(out),
+    match simple_bind(bytes) {
+        Some(request) => answer_simple_bind(alloc, dir, who, &request, out),
+        None => answer_any(alloc, dir, who, bytes, out),
     }
 }

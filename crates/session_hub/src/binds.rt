@@ -1,0 +1,74 @@
+//! Binds answered.
+
+ghost use Rattle.std.specs.Prelude.{◌≡◌, ◌++◌, [], ◌∷◌, IfOk, OnOk, OnErr, Some};
+ghost use Rattle.dir_tree.specs.Numbered.{entries_of};
+ghost use Rattle.ldap_msg.specs.declared.kinds.Reply.TheVariants as reply;
+ghost use Rattle.read_model.specs.Views.{result_of as result_with};
+ghost use Rattle.read_model.specs.SearchReplies.{replies_octets};
+ghost use Rattle.session_hub.specs.Answering.{bound, answer_read};
+ghost use Rattle.session_hub.specs.Answers.{Gives, Sends};
+ghost use Rattle.session_hub.specs.SimpleBinds.{message_for};
+
+use crate::results::result_of;
+use crate::simple::SimpleBind;
+use acdf_filters::Requester;
+use acdf_lists::Dir;
+use ldap_msg::{BindRequest, Reply, put_reply};
+use op_bind::{Bound, bind, bind_with_password};
+use std::alloc::{AllocError, Global};
+
+/// Appends the reply to a bind, and the requester is whom it made. After `AllocError` the requester is who it was.
+fn put_bound(
+    alloc: Global,
+    who: &mut Requester,
+    id: u32,
+    bound: Bound,
+    out: &mut Vec<u8>,
+) -> Result<(), AllocError>
+    ensures ok { OnOk result (out.new.items ≡ out.old.items
+        ++ replies_octets id (reply.Bind (result_with bound.code) ∷ [])) }
+    ensures asked { OnOk result (who.new ≡ bound.who) }
+    ensures err { OnErr result (out.new.items ≡ out.old.items) }
+    ensures kept { OnErr result (who.new ≡ who.old) }
+{
+    put_reply(out, id, &Reply::Bind(result_of(alloc, bound.code)))?;
+    *who = bound.who;
+    Ok(())
+}
+
+/// Binds over the directory. After `AllocError` the requester is who it was.
+pub fn answer_bind<D: Dir>(
+    alloc: Global,
+    dir: &D,
+    who: &mut Requester,
+    id: u32,
+    request: &BindRequest,
+    out: &mut Vec<u8>,
+) -> Result<(), AllocError>
+    ensures ok { OnOk result (Sends id (bound (entries_of (D.rows dir.now)) request.now)
+        out.old.items out.new.items (entries_of (D.rows dir.now)) who.new) }
+    ensures err { OnErr result (out.new.items ≡ out.old.items) }
+    ensures kept { OnErr result (who.new ≡ who.old) }
+{
+    let bound = bind(alloc, dir.tree(), request)?;
+    put_bound(alloc, who, id, bound, out)
+}
+
+/// The same for a simple bind, which leaves the connection open.
+pub fn answer_simple_bind<D: Dir>(
+    alloc: Global,
+    dir: &D,
+    who: &mut Requester,
+    request: &SimpleBind<'_>,
+    out: &mut Vec<u8>,
+) -> Result<bool, AllocError>
+    ensures ok { IfOk result (λ closes.
+        Gives (answer_read (entries_of (D.rows dir.now)) who.old (Some (message_for request.now)))
+        out.old.items out.new.items (entries_of (D.rows dir.now)) who.new closes) }
+    ensures err { OnErr result (out.new.items ≡ out.old.items) }
+    ensures kept { OnErr result (who.new ≡ who.old) }
+{
+    let bound = bind_with_password(alloc, dir.tree(), request.name, request.password)?;
+    put_bound(alloc, who, request.id, bound, out)?;
+    Ok(false)
+}

@@ -1,0 +1,18 @@
+//! Results with no matched name.
+
+ghost use Rattle.std.specs.Prelude.{◌≡◌};
+ghost use Rattle.read_model.specs.Views.{result_of};
+
+use ldap_msg::{LdapResult, ResultCode};
+use plain_values::Octets;
+use std::alloc::Global;
+
+/// The result of this code, with no matched name (RFC 4511 4.1.9). This takes no memory.
+pub fn result_of(alloc: Global, code: ResultCode) -> LdapResult
+    ensures { result ≡ result_of code }
+{
+    LdapResult {
+        code: code.number(),
+        matched: Octets::from_vec(Vec::new(alloc)),
+    }
+}
