@@ -47,6 +47,11 @@ pub record AreOf (rows : List Numbered) (entry : EntryInformation) (lists : List
   pub own : lists.own ≡ highest_first (tuples_in (items_in entry_aci entry))
   pub below : lists.below ≡ highest_first (tuples_in (items_in subentry_aci entry))
 
+-- the numbers are those of the access control subentries in force for the entry, which need not be in the tree
+pub record AreInForce (rows : List Numbered) (entry : EntryInformation) (ids : List ℕ) : Type 0 where
+  pub exact : entries_at rows ids ≡ in_force (entries_of rows) entry
+  pub live : AllByRecursion (λ id. IsSome (entry_of id rows)) ids
+
 -- of each number that is in use its entry's lists are kept
 abbrev pub IsKept : List Kept → List Numbered → Type 0
 IsKept kept rows = (id : ℕ) (entry : EntryInformation) → entry_of id rows ≡ Some entry → AreOf rows entry (lists_at kept id)

@@ -14,8 +14,8 @@ use acdf_filters::{Question, Standing};
 use acdf_order::weigh_in_order;
 use dir_tree::EntryNo;
 
-// The state with the tuples of the subentries of the numbers weighed.
-fn weigh_subentries(
+/// The state with the tuples of the subentries of the numbers weighed.
+pub(crate) fn weigh_subentries(
     question: &Question<'_>,
     kept: &[Kept],
     numbers: &[EntryNo],

@@ -9,6 +9,7 @@ ghost use Rattle.admin_scope.specs.InForce.{in_force};
 ghost use Rattle.acdf_filters.specs.Asking.{protected_of};
 ghost use Rattle.acdf_filters.specs.Granted.{granted, granted_new};
 ghost use Rattle.acdf_filters.specs.Weighing.{AreMemberships};
+ghost use Rattle.acdf_lists.specs.Lists.{AreInForce};
 
 use acdf_filters::{Item, Membership, Requester};
 use aci_item::Permission;
@@ -41,18 +42,27 @@ pub trait Dir {
             (λ entry. granted (entries_of (rows self.now)) who.now entry (protected_of item.entry) permission)
             (entry_of number.0 (rows self.now)) false };
 
-    /// Whether the requester has the permission for the item of an entry that is to be added (X.501 18.8): its areas begin
-    /// at its superior, and its own entryACI does not count; of a subentry the superior's subentryACI alone counts. No
-    /// memory is taken.
+    /// The numbers of the access control subentries in force for an entry that is to be added (X.501 18.3): its areas
+    /// begin at its superior, and for a subentry there are none. Found once for many decisions, they hold as long as the
+    /// directory stays. The error comes where memory is wanted.
+    fn in_force_new(&self, alloc: Global, entry: &Entry) -> Result<Vec<EntryNo>, NoMemory>
+        ensures ok { IfOk result (λ found.
+            AreInForce (rows self.now) entry.now (map (λ no. no.0) found.items)) };
+
+    /// Whether the requester has the permission for the item of an entry that is to be added (X.501 18.8), by the numbers
+    /// of the subentries in force for it: its own entryACI does not count; of a subentry the superior's subentryACI alone
+    /// counts. No memory is taken.
     fn decide_new(
         &self,
         who: &Requester,
         known: &[Membership],
         entry: &Entry,
+        in_force: &[EntryNo],
         item: Item<'_>,
         permission: Permission,
     ) -> bool
         requires known { AreMemberships (entries_of (rows self.now)) who.now.name known.now }
+        requires in_force { AreInForce (rows self.now) entry.now (map (λ no. no.0) in_force.now) }
         ensures exact { result
             ≡ granted_new (entries_of (rows self.now)) who.now entry.now (protected_of item.entry) permission };
 

@@ -17,6 +17,6 @@ pub use dir::Dir;
 pub use groups::{memberships_in, put_groups_of};
 pub use kept::{Holdings, Kept, in_force_at, no_lists};
 pub use making::{hold, lists_for, make_at};
-pub use newcomers::decide_new_by;
+pub use newcomers::{decide_new_by, in_force_new_by};
 pub use plain_dir::PlainDir;
 pub use replacing::{Replaced, replace_in};

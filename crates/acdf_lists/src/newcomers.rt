@@ -1,79 +1,35 @@
 //! The decision on an entry that is to be added, by what is kept.
 
-ghost use Rattle.std.specs.Prelude.{◌≡◌, [], ◌∷◌, flat_map, fold, option_map};
+ghost use Rattle.std.specs.Prelude.{◌≡◌, IfOk, fold, map, option_map};
 ghost use Rattle.dir_tree.specs.Numbered.{entries_of, find_name};
 ghost use Rattle.dir_tree.specs.Trees.{superior_name};
-ghost use Rattle.admin_scope.specs.Finding.{AreSubtrees, applying_by, numbers_by};
+ghost use Rattle.admin_scope.specs.Finding.{AreSubtrees};
 ghost use Rattle.acdf_filters.specs.Asking.{protected_of};
 ghost use Rattle.acdf_filters.specs.Granted.{granted_new};
 ghost use Rattle.acdf_filters.specs.Standings.{initial};
 ghost use Rattle.acdf_filters.specs.Weighing.{KnowsGroups, weighed_for};
-ghost use Rattle.acdf_lists.specs.Lists.{IsKept, tuples_at, tuples_below};
+ghost use Rattle.acdf_lists.specs.Lists.{AreInForce, IsKept, tuples_below};
 
-use crate::kept::{Kept, below_at, prescriptive_at};
+use crate::decision::weigh_subentries;
+use crate::kept::{Kept, below_at};
 use acdf_filters::{Question, Standing};
 use acdf_order::weigh_in_order;
-use admin_scope::{
-    AccessSubentry, PointWalk, holds_under, points, subentries_are_found_below_the_points,
-};
-use dir_tree::{Entry, EntryNo};
+use admin_scope::{AccessSubentry, in_force_by};
+use dir_tree::{Entry, EntryNo, NoMemory, Tree};
+use std::alloc::Global;
 
-// The state with the tuples of the subentry weighed, where it applies to the entry below the point.
-fn weigh_applying(
-    question: &Question<'_>,
-    kept: &[Kept],
-    subentry: &AccessSubentry,
-    point: &Entry,
-    seen: Standing,
-) -> Standing
-    requires { KnowsGroups question.now }
-    ensures exact { result ≡ fold (weighed_for question.now) seen (tuples_at kept.now
-        (applying_by question.now.tree.now question.now.entry.now (subentry.now ∷ []) point.now)) }
-{
-    if holds_under(question.tree, subentry, point, question.entry) {
-        weigh_in_order(question, prescriptive_at(kept, subentry.number), seen)
-    } else {
-        seen
-    }
-}
-
-// The state with those weighed that apply below the point of the number.
-fn weigh_point(
-    question: &Question<'_>,
-    kept: &[Kept],
+/// The numbers of the access control subentries in force for an entry that is to be added (X.501 18.3), by the subtrees
+/// of the tree's subentries. The error comes where memory is wanted.
+pub fn in_force_new_by(
+    alloc: Global,
+    tree: &Tree,
     subtrees: &[AccessSubentry],
-    number: EntryNo,
-    seen: Standing,
-) -> Standing
-    requires { KnowsGroups question.now }
-    ensures exact { result ≡ fold (weighed_for question.now) seen (tuples_at kept.now
-        (numbers_by question.now.tree.now question.now.entry.now subtrees.now number.0)) }
+    entry: &Entry,
+) -> Result<Vec<EntryNo>, NoMemory>
+    requires subtrees { AreSubtrees subtrees.now tree.now }
+    ensures ok { IfOk result (λ found. AreInForce tree.now entry.now (map (λ no. no.0) found.items)) }
 {
-    let mut now = seen;
-    if let Some(point) = question.tree.at(number) {
-        for subentry in subtrees {
-            now = weigh_applying(question, kept, subentry, point, now);
-        }
-    }
-    now
-}
-
-// The state with those weighed that apply below the points.
-fn weigh_points(
-    question: &Question<'_>,
-    kept: &[Kept],
-    subtrees: &[AccessSubentry],
-    walk: PointWalk<'_>,
-) -> Standing
-    requires { KnowsGroups question.now }
-    ensures exact { result ≡ fold (weighed_for question.now) initial (tuples_at kept.now
-        (flat_map (numbers_by question.now.tree.now question.now.entry.now subtrees.now) walk.entry)) }
-{
-    let mut now = Standing::new();
-    for point in walk {
-        now = weigh_point(question, kept, subtrees, point, now);
-    }
-    now
+    in_force_by(alloc, tree, subtrees, entry)
 }
 
 // The number of the entry above the name of the entry.
@@ -99,21 +55,19 @@ fn weigh_above(question: &Question<'_>, kept: &[Kept]) -> Standing
     }
 }
 
-/// Whether the requester has the permission for the item of the entry, which is to be added (X.501 18.8): its areas begin
-/// at its superior, and its own items do not count. No memory is taken.
-pub fn decide_new_by(question: &Question<'_>, kept: &[Kept], subtrees: &[AccessSubentry]) -> bool
+/// Whether the requester has the permission for the item of the entry, which is to be added (X.501 18.8), by the numbers
+/// of the subentries in force for it: its own items do not count. No memory is taken.
+pub fn decide_new_by(question: &Question<'_>, kept: &[Kept], in_force: &[EntryNo]) -> bool
     requires known { KnowsGroups question.now }
     requires kept { IsKept kept.now question.now.tree.now }
-    requires subtrees { AreSubtrees subtrees.now question.now.tree.now }
+    requires in_force { AreInForce question.now.tree.now question.now.entry.now (map (λ no. no.0) in_force.now) }
     ensures exact { result ≡ granted_new (entries_of question.now.tree.now) question.now.who.now question.now.entry.now
         (protected_of question.now.item) question.now.permission }
 {
     question.tree.entries_form_a_tree();
-    subentries_are_found_below_the_points();
     if question.entry.is_subentry() {
         weigh_above(question, kept).is_granted()
     } else {
-        let walk = points(question.tree, question.entry.name());
-        weigh_points(question, kept, subtrees, walk).is_granted()
+        weigh_subentries(question, kept, in_force, Standing::new()).is_granted()
     }
 }

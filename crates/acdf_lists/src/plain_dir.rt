@@ -12,7 +12,7 @@ use crate::dir::Dir;
 use crate::groups::memberships_in;
 use crate::kept::{Holdings, in_force_at};
 use crate::making::hold;
-use crate::newcomers::decide_new_by;
+use crate::newcomers::{decide_new_by, in_force_new_by};
 use crate::replacing::replace_in;
 use acdf_filters::{Item, Membership, Question, Requester};
 use aci_item::Permission;
@@ -95,11 +95,16 @@ impl Dir for PlainDir {
         }
     }
 
+    fn in_force_new(&self, alloc: Global, entry: &Entry) -> Result<Vec<EntryNo>, NoMemory> {
+        in_force_new_by(alloc, &self.tree, &self.held.subtrees, entry)
+    }
+
     fn decide_new(
         &self,
         who: &Requester,
         known: &[Membership],
         entry: &Entry,
+        in_force: &[EntryNo],
         item: Item<'_>,
         permission: Permission,
     ) -> bool {
@@ -111,7 +116,7 @@ impl Dir for PlainDir {
             tree: &self.tree,
             known,
         };
-        decide_new_by(&question, &self.held.lists, &self.held.subtrees)
+        decide_new_by(&question, &self.held.lists, in_force)
     }
 
     fn memberships(&self, alloc: Global, who: &Requester) -> Result<Vec<Membership>, NoMemory> {

@@ -10,7 +10,9 @@ use crate::inserting::insert_step;
 use crate::removing::remove_step;
 use crate::replacing::replace_step;
 use acdf_filters::{Item, Membership, Question, Requester};
-use acdf_lists::{Dir, Holdings, decide_by, decide_new_by, hold, in_force_at, memberships_in};
+use acdf_lists::{
+    Dir, Holdings, decide_by, decide_new_by, hold, in_force_at, in_force_new_by, memberships_in,
+};
 use aci_item::Permission;
 use dir_tree::{Entry, EntryNo, InsertRefusal, NoMemory, RemoveRefusal, ReplaceRefusal, Tree};
 use std::alloc::Global;
@@ -98,11 +100,16 @@ impl Dir for IndexedDir {
         }
     }
 
+    fn in_force_new(&self, alloc: Global, entry: &Entry) -> Result<Vec<EntryNo>, NoMemory> {
+        in_force_new_by(alloc, &self.tree, &self.held.subtrees, entry)
+    }
+
     fn decide_new(
         &self,
         who: &Requester,
         known: &[Membership],
         entry: &Entry,
+        in_force: &[EntryNo],
         item: Item<'_>,
         permission: Permission,
     ) -> bool {
@@ -114,7 +121,7 @@ impl Dir for IndexedDir {
             tree: &self.tree,
             known,
         };
-        decide_new_by(&question, &self.held.lists, &self.held.subtrees)
+        decide_new_by(&question, &self.held.lists, in_force)
     }
 
     fn memberships(&self, alloc: Global, who: &Requester) -> Result<Vec<Membership>, NoMemory> {

@@ -75,7 +75,15 @@ pub fn kept_at<D: Dir>(alloc: Global, dir: &D, number: EntryNo) -> Result<String
     Ok(out)
 }
 
-/// The same as the entries say.
+/// The same of an entry that is to be added.
+pub fn new_at<D: Dir>(alloc: Global, dir: &D, entry: &Entry) -> Result<String, Fail> {
+    let mut out = String::new(alloc);
+    let numbers = dir.in_force_new(alloc, entry)?;
+    put_names(alloc, dir.tree(), numbers.as_slice(), &mut out)?;
+    Ok(out)
+}
+
+/// The names of those in force for the entry of the number as the entries say.
 pub fn said_at(alloc: Global, tree: &Tree, number: EntryNo) -> Result<String, Fail> {
     let mut out = String::new(alloc);
     let numbers = admin_scope::in_force(alloc, tree, number)?;

@@ -1,6 +1,6 @@
 //! Writes of every kind, one after the other, to both directories.
 
-use crate::directories::{Attributes, entry, kept, kept_at, number, said, tree};
+use crate::directories::{Attributes, entry, kept, kept_at, new_at, number, said, tree};
 use acdf_lists::{Dir, PlainDir};
 use aci_index::IndexedDir;
 use std::alloc::Global;
@@ -226,6 +226,35 @@ fn after_each_write_both_directories_keep_what_the_entries_say(
         make_write(alloc, &mut plain, *what)?;
         make_write(alloc, &mut indexed, *what)?;
         let found = told(alloc, &plain, &indexed, name)?;
+        assert_eq!(rt; found.as_str(), *want, "in force for {name}");
+    }
+    Ok(())
+}
+
+// An entry that is to be added, and the subentries in force for it: a point is not yet one for itself, and for a subentry
+// none are.
+static NEW: [(&str, Attributes, &str); 5] = [
+    ("cn=f,ou=a,ou=u", DEVICE, "cn=top,ou=u "),
+    (
+        "cn=f,ou=a,ou=u",
+        DEVICE_WITH_UID,
+        "cn=top,ou=u cn=uid,ou=u ",
+    ),
+    ("ou=h,ou=u", SPECIFIC, "cn=top,ou=u "),
+    (MORE, ALL, ""),
+    ("cn=f,ou=v", DEVICE, ""),
+];
+
+#[test]
+fn for_a_new_entry_what_stands_above_it_is_in_force(rt: HostRuntime) -> Result<(), Fail> {
+    let alloc = rt.alloc();
+    let plain = PlainDir::new(alloc, tree(alloc, &ENTRIES)?)?;
+    let indexed = IndexedDir::new(alloc, tree(alloc, &ENTRIES)?)?;
+    for (name, attributes, want) in &NEW {
+        let new = entry(alloc, name, attributes)?;
+        let found = new_at(alloc, &plain, &new)?;
+        assert_eq!(rt; found.as_str(), *want, "in force for {name}");
+        let found = new_at(alloc, &indexed, &new)?;
         assert_eq!(rt; found.as_str(), *want, "in force for {name}");
     }
     Ok(())

@@ -5,7 +5,7 @@ ghost use Rattle.std.specs.Option.{option_map};
 ghost use Rattle.dir_tree.specs.Trees.{named_in};
 ghost use Rattle.dir_tree.specs.Numbered.{entry_of, entries_of};
 ghost use Rattle.acdf_filters.specs.Asking.{protected_of};
-ghost use Rattle.acdf_filters.specs.Granted.{granted, granted_new};
+ghost use Rattle.acdf_filters.specs.Granted.{granted};
 ghost use Rattle.op_asking.specs.Asking.{Knows, knows-prop};
 
 use acdf_filters::{Item, Membership, Requester};
@@ -53,14 +53,5 @@ impl<'a, D: Dir> Asking<'a, D> {
     {
         self.dir
             .decide(self.who, self.known, target.number, item, permission)
-    }
-
-    /// The same of an entry that is to be added: what it itself would grant doesn't count.
-    pub fn allows_new(&self, entry: &Entry, item: Item<'_>, permission: Permission) -> bool
-        ensures exact { result ≡ granted_new (entries_of (D.rows self.now.dir.now)) self.now.who.now
-            entry.now (protected_of item.entry) permission }
-    {
-        self.dir
-            .decide_new(self.who, self.known, entry, item, permission)
     }
 }

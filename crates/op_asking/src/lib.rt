@@ -5,12 +5,14 @@
 
 mod asking;
 mod hiding;
+mod newcomer;
 mod results;
 mod targets;
 mod texts;
 
 pub use asking::{Asking, Target, find_target};
 pub use hiding::{discloses, hidden, no_such_object};
+pub use newcomer::Newcomer;
 pub use results::{result_numbered, result_of, result_with};
 pub use targets::{is_suffix, not_leaf};
 pub use texts::{copied, printed, read_named};

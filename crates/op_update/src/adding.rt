@@ -21,7 +21,7 @@ use dir_tree::{Entry, NoMemory, Tree};
 use dn_names::{Dn, Value};
 use ldap_msg::{AddRequest, KindValues, LdapResult, ResultCode};
 use op_asking::{
-    Asking, Target, find_target, no_such_object, read_named, result_numbered, result_of,
+    Asking, Newcomer, Target, find_target, no_such_object, read_named, result_numbered, result_of,
 };
 use schema_core::AttrId;
 use schema_rules::{Broken, check_entry};
@@ -71,52 +71,44 @@ fn has_superior(tree: &Tree, name: &Dn) -> bool
 }
 
 // Whether the value may not be added.
-fn refuses_value<D: Dir>(asking: &Asking<'_, D>, entry: &Entry, kind: AttrId, value: &Value) -> bool
-    ensures exact { result ≡ not (granted_new (entries_of (D.rows asking.now.dir.now)) asking.now.who.now
-        entry.now (protected.Value kind.0 value.now) permission.Add) }
+fn refuses_value<D: Dir>(newcomer: &Newcomer<'_, '_, D>, kind: AttrId, value: &Value) -> bool
+    ensures exact { result ≡ not (granted_new (entries_of (D.rows newcomer.now.asking.now.dir.now))
+        newcomer.now.asking.now.who.now newcomer.now.entry.now (protected.Value kind.0 value.now) permission.Add) }
 {
-    !asking.allows_new(entry, Item::Value(kind, value), Permission::Add)
+    !newcomer.allows(Item::Value(kind, value), Permission::Add)
 }
 
 // Whether one of the values may not be added.
-fn refuses_values<D: Dir>(
-    asking: &Asking<'_, D>,
-    entry: &Entry,
-    kind: AttrId,
-    values: &[Value],
-) -> bool
+fn refuses_values<D: Dir>(newcomer: &Newcomer<'_, '_, D>, kind: AttrId, values: &[Value]) -> bool
     ensures exact { result ≡ list_any
-        (λ value. not (granted_new (entries_of (D.rows asking.now.dir.now)) asking.now.who.now entry.now
-        (protected.Value kind.0 value) permission.Add)) values.now }
+        (λ value. not (granted_new (entries_of (D.rows newcomer.now.asking.now.dir.now))
+        newcomer.now.asking.now.who.now newcomer.now.entry.now (protected.Value kind.0 value) permission.Add))
+        values.now }
 {
     values
         .iter()
-        .any(|value| refuses_value(asking, entry, kind, value))
+        .any(|value| refuses_value(newcomer, kind, value))
 }
 
 // Whether the attribute may not be added: its type, or one of its values.
-fn refuses_attribute<D: Dir>(
-    asking: &Asking<'_, D>,
-    entry: &Entry,
-    kind: AttrId,
-    values: &[Value],
-) -> bool
+fn refuses_attribute<D: Dir>(newcomer: &Newcomer<'_, '_, D>, kind: AttrId, values: &[Value]) -> bool
     ensures exact { result
-        ≡ refuses_attribute (granted_new (entries_of (D.rows asking.now.dir.now)) asking.now.who.now entry.now)
+        ≡ refuses_attribute (granted_new (entries_of (D.rows newcomer.now.asking.now.dir.now))
+        newcomer.now.asking.now.who.now newcomer.now.entry.now)
         (record { kind = kind.0; values = values.now }) }
 {
-    !asking.allows_new(entry, Item::Kind(kind), Permission::Add)
-        || refuses_values(asking, entry, kind, values)
+    !newcomer.allows(Item::Kind(kind), Permission::Add) || refuses_values(newcomer, kind, values)
 }
 
 // Whether an attribute may not be added.
-fn refuses_attributes<D: Dir>(asking: &Asking<'_, D>, entry: &Entry) -> bool
+fn refuses_attributes<D: Dir>(newcomer: &Newcomer<'_, '_, D>) -> bool
     ensures exact { result ≡ list_any
-        (refuses_attribute (granted_new (entries_of (D.rows asking.now.dir.now)) asking.now.who.now entry.now))
-        entry.now.attributes }
+        (refuses_attribute (granted_new (entries_of (D.rows newcomer.now.asking.now.dir.now))
+        newcomer.now.asking.now.who.now newcomer.now.entry.now))
+        newcomer.now.entry.now.attributes }
 {
-    for (kind, values) in entry.attributes() {
-        if refuses_attribute(asking, entry, kind, values) {
+    for (kind, values) in newcomer.entry.attributes() {
+        if refuses_attribute(newcomer, kind, values) {
             return true;
         }
     }
@@ -125,12 +117,12 @@ fn refuses_attributes<D: Dir>(asking: &Asking<'_, D>, entry: &Entry) -> bool
 
 // Whether the entry may not be added: itself, or one of its attributes.
 #[tactic(auto, unfolding(crate::specs::Adding::refuses_entry))]
-fn refuses_entry<D: Dir>(asking: &Asking<'_, D>, entry: &Entry) -> bool
+fn refuses_entry<D: Dir>(newcomer: &Newcomer<'_, '_, D>) -> bool
     ensures exact { result
-        ≡ refuses_entry (granted_new (entries_of (D.rows asking.now.dir.now)) asking.now.who.now entry.now)
-        entry.now }
+        ≡ refuses_entry (granted_new (entries_of (D.rows newcomer.now.asking.now.dir.now))
+        newcomer.now.asking.now.who.now newcomer.now.entry.now) newcomer.now.entry.now }
 {
-    !asking.allows_new(entry, Item::Entry, Permission::Add) || refuses_attributes(asking, entry)
+    !newcomer.allows(Item::Entry, Permission::Add) || refuses_attributes(newcomer)
 }
 
 // The refusal where a rule is broken.
@@ -162,7 +154,8 @@ fn add_refusal<D: Dir>(
     if !has_superior(tree, entry.name()) {
         return Ok(Some(no_such_object(alloc, asking, entry.name())?));
     }
-    if refuses_entry(asking, entry) {
+    let newcomer = Newcomer::new(alloc, asking, entry)?;
+    if refuses_entry(&newcomer) {
         return Ok(Some(result_of(alloc, ResultCode::InsufficientAccessRights)));
     }
     rule_refusal(alloc, tree, entry)

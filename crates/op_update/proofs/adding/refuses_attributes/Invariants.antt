@@ -8,5 +8,5 @@ use Rattle.op_update.proofs.adding.refuses_attributes.Given as goal
 
 abbrev pub invariant-loop-kind : goal.invariant-loop-kind
 invariant-loop-kind g l =
-    list_any (refuses_attribute (granted_new (entries_of (g.D.Dir.rows l.asking.dir.now)) l.asking.who.now l.entry)) l.entry.attributes
-    ≡ list_any (refuses_attribute (granted_new (entries_of (g.D.Dir.rows l.asking.dir.now)) l.asking.who.now l.entry)) l.kind-iterator
+    let allows = granted_new (entries_of (g.D.Dir.rows l.newcomer.asking.now.dir.now)) l.newcomer.asking.now.who.now l.newcomer.entry.now in
+    list_any (refuses_attribute allows) l.newcomer.entry.now.attributes ≡ list_any (refuses_attribute allows) l.kind-iterator
