@@ -70,7 +70,7 @@ entries_at-flat_map rows tree entry (id ∷ ids) = by (entry_of id rows) refl (e
         split e = rw e refl
 
 -- so what is found below the points is what is in force
-pub in_force-found : (rows : List Numbered) → IsNumberedTree rows → (entry : EntryInformation) → is_subentry entry ≡ false → (ids : List ℕ) → entries_at rows ids ≡ areas (entries_of rows) entry → entries_at rows (flat_map (numbers_at rows entry) ids) ≡ in_force (entries_of rows) entry
+in_force-found : (rows : List Numbered) → IsNumberedTree rows → (entry : EntryInformation) → is_subentry entry ≡ false → (ids : List ℕ) → entries_at rows ids ≡ areas (entries_of rows) entry → entries_at rows (flat_map (numbers_at rows entry) ids) ≡ in_force (entries_of rows) entry
 unfolding in_force
 in_force-found rows tree entry ordinary ids e =
     entries_at-flat_map rows tree entry ids
@@ -102,7 +102,7 @@ live-numbers_at rows entry id = by (entry_of id rows)
     by None = tt
     by (Some point) = live-filter rows (λ subentry. holds_under point subentry entry) (ids_of (subentry_rows rows))
 
-pub live-flat_map : (rows : List Numbered) (entry : EntryInformation) (ids : List ℕ) → AllByRecursion (λ id. IsSome (entry_of id rows)) (flat_map (numbers_at rows entry) ids)
+live-flat_map : (rows : List Numbered) (entry : EntryInformation) (ids : List ℕ) → AllByRecursion (λ id. IsSome (entry_of id rows)) (flat_map (numbers_at rows entry) ids)
 live-flat_map rows entry [] = tt
 live-flat_map rows entry (id ∷ ids) = all_append _ _ _ (live-numbers_at rows entry id) (live-flat_map rows entry ids)
 

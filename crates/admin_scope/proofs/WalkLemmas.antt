@@ -67,10 +67,6 @@ own_points rows tree entry =
     ∙ ap (λ o. unwrap_or o []) (walk rows tree.distinct (length entry.name) entry.name (omega arith))
     ∙ begun entry.name rows)
 
--- those of an entry of the name
-pub areas-points_up : (rows : List Numbered) → IsNumberedTree rows → (name : RdnSequence) (entry : EntryInformation) → entry.name ≡ name → entries_at rows (points_up (first_front name rows) name rows) ≡ areas (entries_of rows) entry
-areas-points_up rows tree name entry e = subst (λ n. entries_at rows (points_up (first_front n rows) n rows) ≡ areas (entries_of rows) entry) e (own_points rows tree entry)
-
 -- what passes a test is there
 pub live-stands : (test : EntryInformation → Bool) (id : ℕ) (rows : List Numbered) → stands test id rows ≡ true → IsSome (entry_of id rows)
 live-stands test id rows e = by (entry_of id rows) e
@@ -80,7 +76,7 @@ live-stands test id rows e = by (entry_of id rows) e
     by (Some x) f = refl
 
 -- each number of the walk is that of an entry
-pub live-points_up : (len : ℕ) (name : RdnSequence) (rows : List Numbered) → AllByRecursion (λ id. IsSome (entry_of id rows)) (points_up len name rows)
+live-points_up : (len : ℕ) (name : RdnSequence) (rows : List Numbered) → AllByRecursion (λ id. IsSome (entry_of id rows)) (points_up len name rows)
 unfolding points_up
 live-points_up zero name rows = tt
 live-points_up (suc len) name rows = with (find_front (suc len) name rows) (points_up len name rows) (live-points_up len name rows)

@@ -1,16 +1,13 @@
 //! The laws of areas: each function computes nothing, and what it ensures is a law.
 
-ghost use Rattle.std.specs.Prelude.{◌≡◌, ℕ, true, false, List, flat_map, IsSome};
-ghost use Rattle.std.specs.List.{AllByRecursion};
+ghost use Rattle.std.specs.Prelude.{◌≡◌, false, List};
 ghost use Rattle.dn_names.specs.Names.{RdnSequence};
 ghost use Rattle.dir_tree.specs.Entries.{EntryInformation};
-ghost use Rattle.dir_tree.specs.Points.{is_subentry, is_access_subentry};
-ghost use Rattle.dir_tree.specs.Numbered.{Numbered, entries_of, entry_of, entries_at, IsNumberedTree};
+ghost use Rattle.dir_tree.specs.Points.{is_access_subentry};
 ghost use Rattle.dir_tree.specs.Scopes.{is_within};
 ghost use Rattle.dir_tree.specs.Trees.{taken_out};
 ghost use Rattle.admin_scope.specs.Areas.{areas, without_subtree, has_within};
 ghost use Rattle.admin_scope.specs.InForce.{in_force};
-ghost use Rattle.admin_scope.specs.Finding.{numbers_at};
 
 /// Leaving out all entries at or below a name changes no area of an entry that is not among them; and no list of
 /// subentries in force, where no access control subentry is among them.
@@ -30,15 +27,4 @@ pub fn an_entry_taken_out_changes_no_area_beside_it()
     ensures in_force { (top : RdnSequence) (entries : List EntryInformation) (entry : EntryInformation)
         → is_within top entry ≡ false
         → in_force (taken_out top entries) entry ≡ taken_out top (in_force entries entry) }
-{}
-
-/// The subentries in force for an entry that is no subentry are found by numbers: below each of its points those whose
-/// entries apply to it. Each number that is so found is in use.
-pub fn subentries_are_found_below_the_points()
-    ensures exact { (rows : List Numbered) (entry : EntryInformation) (points : List ℕ)
-        → IsNumberedTree rows → is_subentry entry ≡ false
-        → entries_at rows points ≡ areas (entries_of rows) entry
-        → entries_at rows (flat_map (numbers_at rows entry) points) ≡ in_force (entries_of rows) entry }
-    ensures live { (rows : List Numbered) (entry : EntryInformation) (points : List ℕ)
-        → AllByRecursion (λ id. IsSome (entry_of id rows)) (flat_map (numbers_at rows entry) points) }
 {}

@@ -12,10 +12,8 @@ mod upwards;
 
 pub use laws::{
     a_subtree_without_subentries_changes_no_area, an_entry_taken_out_changes_no_area_beside_it,
-    subentries_are_found_below_the_points,
 };
 pub use membership::holds;
 pub use point_list::areas;
 pub use subentries::{applies, in_force, in_force_by, in_force_for};
-pub use subtrees::{AccessSubentry, access_subtrees, holds_under, subtree};
-pub use upwards::{PointWalk, points};
+pub use subtrees::{AccessSubentry, access_subtrees, subtree};

@@ -104,7 +104,12 @@ fn holds_read(subtree: &Option<Spec>, point: &Entry, entry: &Entry) -> bool
 }
 
 /// Whether the subentry stands immediately below the point, and its subtree holds the entry. No memory is taken.
-pub fn holds_under(tree: &Tree, subentry: &AccessSubentry, point: &Entry, entry: &Entry) -> bool
+pub(crate) fn holds_under(
+    tree: &Tree,
+    subentry: &AccessSubentry,
+    point: &Entry,
+    entry: &Entry,
+) -> bool
     ensures exact { result ≡ holds_by tree.now entry.now point.now subentry.now }
 {
     match tree.at(subentry.number) {

@@ -1,11 +1,7 @@
 //! The points of a name, without memory.
 
-ghost use Rattle.std.specs.Prelude.{◌≡◌, [], ◌∷◌, IsSome, MatchOption, false, length};
-ghost use Rattle.std.specs.List.{AllByRecursion};
+ghost use Rattle.std.specs.Prelude.{◌≡◌, [], ◌∷◌, MatchOption, false, length};
 ghost use Rattle.std.specs.Option.{option_map_or};
-ghost use Rattle.dir_tree.specs.Entries.{EntryInformation};
-ghost use Rattle.dir_tree.specs.Numbered.{entry_of, entries_of, entries_at};
-ghost use Rattle.admin_scope.specs.Areas.{areas};
 ghost use Rattle.admin_scope.specs.Walking.{points_up, is_specific_front, has_specific, first_front, walk_of};
 
 use crate::roles::{is_inner, is_specific};
@@ -15,7 +11,7 @@ use std::marker::Model;
 
 /// The numbers of the points of a name, from the name upwards. Contracts see the numbers that are left.
 #[derive(Drop)]
-pub struct PointWalk<'a> {
+pub(crate) struct PointWalk<'a> {
     tree: &'a Tree,
     name: &'a Dn,
     len: usize,
@@ -101,22 +97,12 @@ fn first_front(tree: &Tree, name: &Dn) -> usize
     }
 }
 
-/// The walk over the points of the name.
+/// The walk over the points that govern an entry of the name (X.501 14.3): the inner points from the name upwards, up to
+/// and including the first specific one; none where no specific one stands above it. No entry needs to have the name: the
+/// points of an entry that is not in the tree yet begin at its superior. Takes no memory.
 pub(crate) fn walk<'a>(tree: &'a Tree, name: &'a Dn) -> PointWalk<'a>
     ensures exact { result ≡ walk_of name.now tree.now }
 {
     let len = first_front(tree, name);
     PointWalk { tree, name, len }
-}
-
-/// The numbers of the points that govern an entry of this name (X.501 14.3): the inner points from the name upwards, up
-/// to and including the first specific one; none where no specific one stands above it. No entry needs to have the name:
-/// the points of an entry that is not in the tree yet begin at its superior. Takes no memory.
-pub fn points<'a>(tree: &'a Tree, name: &'a Dn) -> PointWalk<'a>
-    ensures exact { (entry : EntryInformation) → entry.name ≡ name.now
-        → entries_at tree.now result ≡ areas (entries_of tree.now) entry }
-    ensures live { AllByRecursion (λ id. IsSome (entry_of id tree.now)) result }
-{
-    tree.entries_form_a_tree();
-    walk(tree, name)
 }

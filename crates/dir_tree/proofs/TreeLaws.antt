@@ -206,6 +206,13 @@ entry_of-found name (x ∷ rows) d = elim (cases_Bool (is_named name x.entry)) [
     beyond None h = refl
     beyond (Some id) h = further id x rows (λ e. h id refl (sym e))
 
+-- so the entry of a name is the one of the number that is found for it, and there is none where no number is
+pub named-found : (name : RdnSequence) (rows : List Numbered) → AreDistinct rows → (id : ℕ) → find_name name rows ≡ Some id → named_in name (entries_of rows) ≡ entry_of id rows
+named-found name rows d id e = sym (entry_of-found name rows d) ∙ ap (λ (found : Option ℕ). option_and_then (λ id. entry_of id rows) found) e
+
+pub named-none : (name : RdnSequence) (rows : List Numbered) → AreDistinct rows → find_name name rows ≡ None → named_in name (entries_of rows) ≡ None
+named-none name rows d e = sym (entry_of-found name rows d) ∙ ap (λ (found : Option ℕ). option_and_then (λ id. entry_of id rows) found) e
+
 -- put in again, and taken out again
 pub put_row-taken : (id : ℕ) (entry : EntryInformation) (rows : List Numbered) → IsNumberedTree rows → entry_of id rows ≡ Some entry → put_row (record { id = id; entry = entry }) (without id rows) ≡ rows
 put_row-taken id entry rows tree known = put_row-without id entry rows tree.tree.sorted tree.distinct known

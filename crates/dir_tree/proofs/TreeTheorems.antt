@@ -1,5 +1,5 @@
 -- What crates above may cite of trees.
-pub use Rattle.dir_tree.proofs.TreeLaws.{superior_of-suffix, superior_of-others, scoped-One, scoped-Sub, own_entries, child_is, entry_of-found, entries_at-kept, scoped-One-entries, scoped-Sub-entries, entries_of-without, put_row-taken, without-put_row}
+pub use Rattle.dir_tree.proofs.TreeLaws.{superior_of-suffix, superior_of-others, scoped-One, scoped-Sub, own_entries, child_is, entry_of-found, named-found, named-none, entries_at-kept, scoped-One-entries, scoped-Sub-entries, entries_of-without, put_row-taken, without-put_row}
 pub use Rattle.dir_tree.proofs.NumberedLemmas.{entries_of-put_row, found_row, found_later, all_known_entry, all_known, keep_all}
 pub use Rattle.dir_tree.proofs.OrderLemmas.{taken_out-put_in, put_in-taken_out, all_named, all_put, IsPut, is_put, taken_at}
 pub use Rattle.dir_tree.proofs.StayLaws.{named_by, all_under_suffix, tree-put_in, tree-taken_out, tree-same_name, tree-renamed, superior_left}

@@ -13,8 +13,8 @@ use Rattle.dn_names.specs.NameOrder.{name_cmp}
 use Rattle.dn_names.specs.Printing.{print_name, print_by}
 use Rattle.dir_tree.specs.Entries.{EntryInformation}
 use Rattle.dir_tree.specs.Trees.{is_named, is_below, named_in, IsInOrder}
-use Rattle.dir_tree.specs.Numbered.{Numbered, IsNumberedTree, entries_of, entry_of, find_name}
-use Rattle.dir_tree.proofs.TreeTheorems.{entry_of-found, later-other}
+use Rattle.dir_tree.specs.Numbered.{Numbered, IsNumberedTree, entries_of, entry_of}
+use Rattle.dir_tree.proofs.TreeTheorems.{later-other}
 use Rattle.dir_tree.specs.declared.number.EntryNo.{EntryNo}
 use Rattle.aci_item.specs.declared.permission.Permission.TheVariants.{DiscloseOnError}
 use Rattle.acdf_filters.specs.declared.asking.Requester.{Requester}
@@ -108,19 +108,3 @@ print-root = refl
 
 pub result-root : result_of code.NoSuchObject ≡ result_with code.NoSuchObject []
 result-root = ap (λ (text : List ℕ). record { code = 32; matched = text }) (sym print-root)
-
--- ---- the entry of a name, by its number
-
-named-by : (name : RdnSequence) (rows : List Numbered) → IsNumberedTree rows → (found : Option EntryNo) → option_map (λ no. no.0) found ≡ find_name name rows → named_in name (entries_of rows) ≡ option_and_then (λ (no : EntryNo). entry_of no.0 rows) found
-named-by name rows tree found e =
-    sym (entry_of-found name rows tree.distinct) ∙ ap (λ (found : Option ℕ). option_and_then (λ id. entry_of id rows) found) (sym e) ∙ inner found
-  where
-    inner : (found : Option EntryNo) → option_and_then (λ id. entry_of id rows) (option_map (λ (no : EntryNo). no.0) found) ≡ option_and_then (λ (no : EntryNo). entry_of no.0 rows) found
-    inner None = refl
-    inner (Some number) = refl
-
-pub named-found : (name : RdnSequence) (rows : List Numbered) → IsNumberedTree rows → (found : Option EntryNo) (number : EntryNo) → option_map (λ no. no.0) found ≡ find_name name rows → found ≡ Some number → named_in name (entries_of rows) ≡ entry_of number.0 rows
-named-found name rows tree found number e is = named-by name rows tree found e ∙ ap (λ (found : Option EntryNo). option_and_then (λ (no : EntryNo). entry_of no.0 rows) found) is
-
-pub named-none : (name : RdnSequence) (rows : List Numbered) → IsNumberedTree rows → (found : Option EntryNo) → option_map (λ no. no.0) found ≡ find_name name rows → found ≡ None → named_in name (entries_of rows) ≡ None
-named-none name rows tree found e is = named-by name rows tree found e ∙ ap (λ (found : Option EntryNo). option_and_then (λ (no : EntryNo). entry_of no.0 rows) found) is

@@ -1,12 +1,11 @@
 -- What is seen of a numbered tree, by the numbers of its entries.
 use Rattle.std.proofs.Common.{◌≡◌, ℕ, true, false, List, [], Option, Some, None, refl, sym, ap, subst, ◌∙◌, filter}
-use Rattle.std.specs.Option.{option_map, option_and_then}
+use Rattle.std.specs.Option.{option_map}
 use Rattle.dn_names.specs.Names.{RdnSequence}
 use Rattle.dir_tree.specs.Entries.{EntryInformation}
 use Rattle.dir_tree.specs.Trees.{named_in}
 use Rattle.dir_tree.specs.Numbered.{Numbered, IsNumberedTree, entries_of, entry_of, find_name}
 use Rattle.dir_tree.specs.declared.number.EntryNo.{EntryNo}
-use Rattle.dir_tree.proofs.TreeTheorems.{entry_of-found}
 use Rattle.aci_item.specs.declared.permission.Permission.TheVariants.{Read}
 use Rattle.acdf_filters.specs.declared.asking.Requester.{Requester}
 use Rattle.acdf_filters.specs.Asking.{Entry}
@@ -16,11 +15,6 @@ use Rattle.op_asking.specs.Asking.{view_in}
 use Rattle.op_read.specs.Seeing.{row_in, one_or_none}
 use Rattle.op_read.proofs.ListLemmas.{kept-one, dropped-one}
 use Rattle.op_read.proofs.NameLemmas.{only-named}
-
--- the entry of a name, by its number
-pub named-found : (rows : List Numbered) → IsNumberedTree rows → (name : RdnSequence) (id : ℕ) → find_name name rows ≡ Some id → named_in name (entries_of rows) ≡ entry_of id rows
-named-found rows tree name id e =
-    sym (entry_of-found name rows tree.distinct) ∙ ap (λ (found : Option ℕ). option_and_then (λ id. entry_of id rows) found) e
 
 -- a tree of a directory is numbered
 pub tree-rows : (tree rows : List Numbered) → tree ≡ rows → IsNumberedTree tree → IsNumberedTree rows

@@ -14,7 +14,7 @@ use Rattle.dir_tree.specs.Numbered.{Numbered, IsNumberedTree, entries_of, entrie
 use Rattle.dir_tree.specs.Scopes.{scoped, in_scope, is_child, is_within}
 use Rattle.dir_tree.specs.declared.scope.Scope.{Scope}
 use Rattle.dir_tree.specs.declared.scope.Scope.TheVariants.{Base, One, Sub}
-use Rattle.dir_tree.proofs.TreeTheorems.{scoped-One-entries, scoped-Sub-entries, has_name-find, child_same}
+use Rattle.dir_tree.proofs.TreeTheorems.{scoped-One-entries, scoped-Sub-entries, named-found, has_name-find, child_same}
 use Rattle.acdf_filters.specs.declared.asking.Requester.{Requester}
 use Rattle.ldap_msg.specs.declared.kinds.SearchRequest.{SearchRequest}
 use Rattle.ldap_msg.specs.declared.kinds.Reply.TheVariants as reply
@@ -27,7 +27,6 @@ use Rattle.op_read.specs.Seeing.{row_in, one_or_none, scope_of}
 use Rattle.op_read.specs.Sending.{shown_among}
 use Rattle.op_read.proofs.ListLemmas.{filter-two, among}
 use Rattle.op_read.proofs.NameLemmas.{named-entries, within-like}
-use Rattle.op_read.proofs.SeenLemmas.{named-found}
 
 -- the entries of a scope are those that it takes in
 base-entries : (id : ℕ) (entry : EntryInformation) (name : RdnSequence) (rows : List Numbered) → IsNumberedTree rows → entry_of id rows ≡ Some entry → named_in name (entries_of rows) ≡ Some entry
@@ -82,7 +81,7 @@ in-use rows tree name id e = by (find (λ row. is_named name row.entry) rows) re
     by None f = (let lost : None ≡ Some id = sym (ap (option_map (λ (row : Numbered). row.id)) f) ∙ e in absurd cc)
     by (Some row) f = (
       row.entry,
-      sym (named-found rows tree name id e) ∙ find-map (λ (row : Numbered). row.entry) (is_named name) rows ∙ ap (option_map (λ (row : Numbered). row.entry)) f,
+      sym (named-found name rows tree.distinct id e) ∙ find-map (λ (row : Numbered). row.entry) (is_named name) rows ∙ ap (option_map (λ (row : Numbered). row.entry)) f,
     )
 
 -- those that are selected
@@ -93,7 +92,7 @@ selected-among request subentries name id rows who tree found =
     let known = in-use rows tree name id found in
     among (λ id. entry_of id rows) (row_in rows who) (is_shown request subentries) (scoped (scope_of request.scope) id rows)
     ∙ ap (λ (entries : List EntryInformation). filter (is_shown request subentries) (map (row_in rows who) entries))
-    (scope-entries request.scope id known.0 name rows tree known.1 (named-found rows tree name id found ∙ known.1))
+    (scope-entries request.scope id known.0 name rows tree known.1 (named-found name rows tree.distinct id found ∙ known.1))
     ∙ sym (filter-two (row_in rows who) (takes_in request.scope name) (λ row. takes_in request.scope name row.entry) (is_shown request subentries) (λ entry. refl) (entries_of rows))
 
 -- ---- a base that is a name

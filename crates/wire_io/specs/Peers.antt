@@ -47,10 +47,15 @@ ChangesPeer old conn item new = (other : ℕ) → state_of new other ≡ (if con
 unfoldable pub TracksPeers : BTreeMap ℕ Peer → List Item → Type 0
 TracksPeers peers journal = (conn : ℕ) → state_of peers conn ≡ state_in journal conn
 
--- a journal is kept whole: what it says of each connection, and the numbers opened
-pub record IsTracked (journal : List Item) (peers : BTreeMap ℕ Peer) (opened : List ℕ) : Type 0 where
+-- no connection is on hold
+unfoldable pub NoneHeld : List Item → Type 0
+NoneHeld journal = (conn : ℕ) → is_on_hold conn journal ≡ false
+
+-- a journal is kept whole: what it says of each connection, the numbers opened, and whether any was ever put on hold
+pub record IsTracked (journal : List Item) (peers : BTreeMap ℕ Peer) (opened : List ℕ) (held : Bool) : Type 0 where
   pub states : TracksPeers peers journal
   pub numbers : opened ≡ opened_by journal
+  pub holds : held ≡ false → NoneHeld journal
 
 -- the item opens no connection, and says nothing of what was taken, held or hung up
 abbrev pub IsQuiet : Item → Type 0

@@ -40,19 +40,28 @@ pub(crate) fn add_peer(
 }
 
 #[tactic(auto, unfolding(crate::specs::Peers::KeepsPeers, crate::specs::Peers::ChangesPeer))]
-/// Adds octets taken for the connection, which is kept.
+/// Adds octets taken for the connection, of which nothing may be kept yet. One that is kept is looked
+/// up once.
 pub(crate) fn take(
+    alloc: Global,
     peers: &mut BTreeMap<u32, Peer>,
     conn: u32,
     octets: &[u8],
 ) -> Result<(), AllocError>
-    requires { IsSome (get nat_cmp peers.old conn) }
     ensures ok { OnOk result (ChangesPeer peers.old conn (Item.Taken conn octets.now) peers.new) }
     ensures err { OnErr result (KeepsPeers peers.old peers.new) }
 {
     if let Some(peer) = peers.get_mut(&conn) {
-        peer.taken.extend_from_slice(octets)?;
+        return peer.taken.extend_from_slice(octets);
     }
+    let mut taken = Vec::new(alloc);
+    taken.extend_from_slice(octets)?;
+    let peer = Peer {
+        taken,
+        on_hold: false,
+        hung_up: false,
+    };
+    peers.insert(conn, peer)?;
     Ok(())
 }
 

@@ -25,6 +25,8 @@ pub(crate) struct TrackedJournal {
     log: Log,
     peers: BTreeMap<u32, Peer>,
     opened: Vec<u32>,
+    // whether any connection was put on hold so far
+    held: bool,
 }
 
 impl Model for TrackedJournal {
@@ -36,7 +38,7 @@ impl Model for TrackedJournal {
 
     ghost view = { λ journal. journal.log.items };
 
-    ghost invariant = { λ journal. IsTracked journal.log.items journal.peers journal.opened.items };
+    ghost invariant = { λ journal. IsTracked journal.log.items journal.peers journal.opened.items journal.held };
 }
 
 impl TrackedJournal {
@@ -49,6 +51,7 @@ impl TrackedJournal {
             log: Log::new(alloc),
             peers: BTreeMap::new(alloc),
             opened: Vec::new(alloc),
+            held: false,
         }
     }
 
@@ -76,6 +79,9 @@ impl TrackedJournal {
     pub(crate) fn on_hold(&self, conn: u32) -> bool
         ensures exact { result ≡ is_on_hold conn self.now }
     {
+        if !self.held {
+            return false;
+        }
         match self.peers.get(&conn) {
             Some(peer) => peer.on_hold,
             None => false,
@@ -102,8 +108,7 @@ impl TrackedJournal {
         ensures err { OnErr result (self.new ≡ self.old) }
     {
         self.log.reserve(octets.len())?;
-        add_peer(self.alloc, &mut self.peers, conn)?;
-        take(&mut self.peers, conn, octets)?;
+        take(self.alloc, &mut self.peers, conn, octets)?;
         self.log.put(Note::Taken, conn, octets);
         Ok(())
     }
@@ -116,6 +121,7 @@ impl TrackedJournal {
         self.log.reserve(0)?;
         add_peer(self.alloc, &mut self.peers, conn)?;
         set_on_hold(&mut self.peers, conn, true);
+        self.held = true;
         self.log.put(Note::Held, conn, &[]);
         Ok(())
     }

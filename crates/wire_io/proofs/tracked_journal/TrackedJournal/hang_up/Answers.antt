@@ -1,7 +1,7 @@
 use Rattle.std.proofs.Common.{refl}
 use Rattle.wire_io.specs.declared.journal.Item.TheVariants.{HungUp}
 use Rattle.wire_io.proofs.PeersLemmas.{IsOf}
-use Rattle.wire_io.proofs.TrackedLemmas.{IsTracked-kept, IsTracked-changed}
+use Rattle.wire_io.proofs.TrackedLemmas.{IsTracked-kept, IsTracked-changed, frees-hung_up}
 use Rattle.wire_io.proofs.tracked_journal.TrackedJournal.hang_up.Goals as goal
 
 -- room for the connection was not found, or was made
@@ -12,5 +12,5 @@ invariant_of-self-in_err-add_peer c = IsTracked-kept c.reserve.ensures.kept c.se
 pub invariant_of-self-2 : goal.invariant_of-self-2
 unfolding IsOf
 invariant_of-self-2 c =
-    IsTracked-changed c.args.conn (HungUp c.args.conn) refl (cc)
+    IsTracked-changed c.args.conn (HungUp c.args.conn) refl (frees-hung_up c.args.conn) (cc)
     (IsTracked-kept c.reserve.ensures.kept c.self.invariant c.add_peer.ensures.kept) (c.set_hung_up.ensures.exact)

@@ -1,7 +1,5 @@
 use Rattle.std.proofs.Common.{refl}
-use Rattle.wire_io.specs.declared.journal.Item.TheVariants.{Held}
-use Rattle.wire_io.proofs.PeersLemmas.{IsOf}
-use Rattle.wire_io.proofs.TrackedLemmas.{IsTracked-kept, IsTracked-changed}
+use Rattle.wire_io.proofs.TrackedLemmas.{IsTracked-kept, IsTracked-held}
 use Rattle.wire_io.proofs.tracked_journal.TrackedJournal.hold.Goals as goal
 
 -- room for the connection was not found, or was made
@@ -10,7 +8,6 @@ invariant_of-self-in_err-add_peer c = IsTracked-kept c.reserve.ensures.kept c.se
 
 -- the connection was changed
 pub invariant_of-self-2 : goal.invariant_of-self-2
-unfolding IsOf
 invariant_of-self-2 c =
-    IsTracked-changed c.args.conn (Held c.args.conn) refl (cc)
+    IsTracked-held c.args.conn (cc)
     (IsTracked-kept c.reserve.ensures.kept c.self.invariant c.add_peer.ensures.kept) (c.set_on_hold.ensures.held refl)
