@@ -1,7 +1,7 @@
 -- The points that are found front by front are the areas.
 use Rattle.std.proofs.Common.{◌≡◌, ℕ, zero, suc, ◌-◌, ◌<◌, ◌≤◌, Bool, true, false, ◌||◌, List, [], ◌∷◌, ◌++◌, length, take, filter, Option, Some, None, refl, sym, ap, subst, ◌∙◌, arith, inl, inr}
 use Rattle.std.specs.Prelude.{option_to_list, option_map, unwrap_or, IsSome, if◌then◌else◌}
-use Rattle.std.specs.List.{AllByRecursion}
+use Rattle.std.specs.List.{AllByRecursion, list_any}
 use Rattle.std.specs.Option.{option_and_then, option_map_or}
 use Rattle.std.proofs.lemmas.Bool.{cases_Bool, le-leb}
 use Rattle.dn_names.specs.Names.{RdnSequence}
@@ -143,6 +143,44 @@ has_specific-other len name rows h e = has_specific-step len name rows h ∙ rw 
 
 pub has_specific-end : (len : ℕ) (name : RdnSequence) (rows : List Numbered) → len ≡ 0 → has_specific len name rows ≡ false
 has_specific-end len name rows e = ap (λ n. has_specific n name rows) e ∙ has_specific-none name rows
+
+-- one of the points that are found is specific exactly where one of the fronts is
+pub any_specific : List Numbered → List ℕ → Bool
+any_specific rows ids = list_any (λ id. stands is_specific_point id rows) ids
+
+pub specific-found : (len : ℕ) (name : RdnSequence) (rows : List Numbered) → any_specific rows (points_up len name rows) ≡ has_specific len name rows
+unfolding any_specific points_up has_specific
+specific-found zero name rows = refl
+specific-found (suc len) name rows = by (find_front (suc len) name rows) (points_up len name rows) (has_specific len name rows) (specific-found len name rows)
+  where
+    by : (front : Option ℕ) (above : List ℕ) (there : Bool) → list_any (λ id. stands is_specific_point id rows) above ≡ there
+        → list_any (λ id. stands is_specific_point id rows) (with_front rows front above) ≡ (option_map_or (λ id. stands is_specific_point id rows) front false || there)
+    by None above there h = h
+    by (Some id) above there h = elim (cases_Bool (stands is_specific_point id rows)) [
+      | inl e ↦ rw (e, e) refl
+      | inr e ↦ elim (cases_Bool (stands is_inner_point id rows)) [
+        | inl f ↦ rw (e, f, e) h
+        | inr f ↦ rw (e, f) h
+      ]
+    ]
+
+pub specific-step : (rows : List Numbered) (left rest : List ℕ) (point : ℕ) (was is there : Bool) → left ≡ point ∷ rest → was ≡ false → is ≡ stands is_specific_point point rows
+    → (was || any_specific rows left) ≡ there → (is || any_specific rows rest) ≡ there
+unfolding any_specific
+specific-step rows left rest point was is there e not_yet one h =
+    ap (λ (test : Bool). test || any_specific rows rest) one
+    ∙ ap (any_specific rows) (sym e)
+    ∙ ap (λ (test : Bool). test || any_specific rows left) (sym not_yet)
+    ∙ h
+
+-- where none is, no point governs the name
+pub walk-none : (name : RdnSequence) (rows : List Numbered) (left : List ℕ) (was : Bool) → left ≡ [] → was ≡ false
+    → (was || any_specific rows left) ≡ has_specific (length name) name rows → walk_of name rows ≡ []
+unfolding any_specific
+walk-none name rows left was none not_yet h =
+    let absent : has_specific (length name) name rows ≡ false =
+    sym h ∙ ap (λ (test : Bool). test || any_specific rows left) not_yet ∙ ap (any_specific rows) none in
+    ap (λ (there : Bool). points_up (if there then length name else 0) name rows) absent ∙ points_up-none name rows
 
 -- the same of a list of the numbers
 pub areas-gathered : (rows : List Numbered) → IsNumberedTree rows → (entry : EntryInformation) (ids : List ℕ) → ids ≡ walk_of entry.name rows → entries_at rows ids ≡ areas (entries_of rows) entry

@@ -10,8 +10,9 @@ ghost use Rattle.admin_scope.specs.Walking.{walk_of};
 ghost use Rattle.admin_scope.specs.Finding.{AreSubtrees, numbers_by};
 
 use crate::membership::holds;
+use crate::roles::is_specific;
 use crate::subtrees::{AccessSubentry, access_subtrees, holds_under, subtree};
-use crate::upwards::walk;
+use crate::upwards::walk_up;
 use dir_tree::{Entry, EntryNo, NoMemory, Tree};
 use std::alloc::Global;
 
@@ -56,7 +57,8 @@ fn list_below(
     Ok(())
 }
 
-// Those below each point of the entry.
+// Those below each point of the entry. Whether a specific point is above it shows at the end of the walk alone: without one
+// no point governs the entry.
 fn below_points(
     alloc: Global,
     tree: &Tree,
@@ -67,10 +69,16 @@ fn below_points(
         ≡ flat_map (numbers_by tree.now entry.now subtrees.now) (walk_of entry.now.name tree.now)) }
 {
     let mut found = Vec::new(alloc);
-    for point in walk(tree, entry.name()) {
+    let mut is_governed = false;
+    for point in walk_up(tree, entry.name()) {
         list_below(tree, subtrees, point, entry, &mut found)?;
+        is_governed = is_governed || is_specific(tree, point);
     }
-    Ok(found)
+    if is_governed {
+        Ok(found)
+    } else {
+        Ok(Vec::new(alloc))
+    }
 }
 
 /// The numbers of the access control subentries in force for an entry (X.501 18.3, RFC 3672 section 2), which need not be

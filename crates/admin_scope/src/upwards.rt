@@ -97,6 +97,18 @@ fn first_front(tree: &Tree, name: &Dn) -> usize
     }
 }
 
+/// The walk over the inner points from the name upwards, up to and including the first specific one, or up to the root
+/// where there is no specific one. Takes no memory.
+pub(crate) fn walk_up<'a>(tree: &'a Tree, name: &'a Dn) -> PointWalk<'a>
+    ensures exact { result ≡ points_up (length name.now) name.now tree.now }
+{
+    PointWalk {
+        tree,
+        name,
+        len: name.len(),
+    }
+}
+
 /// The walk over the points that govern an entry of the name (X.501 14.3): the inner points from the name upwards, up to
 /// and including the first specific one; none where no specific one stands above it. No entry needs to have the name: the
 /// points of an entry that is not in the tree yet begin at its superior. Takes no memory.
