@@ -4,8 +4,9 @@
 These are the names in the tables of docs/PROMISES.md, the line counts of the definitions that it lists, the clauses
 that docs/ARCHITECTURE.md names for each arrow, the words and files of docs/GLOSSARY.md, and README's calls and clauses
 with their files. Each that is not found
-is printed, and the status is then 1. It reads the sources as text: that a clause says what the sentence beside it
-says is for a reader.
+is printed, and the status is then 1. It looks too whether the crates keep to the rules of their map: few that each
+names, one stem a module, one module of laws, and no lemma cited past a crate's theorems. It reads the sources as text:
+that a clause says what the sentence beside it says is for a reader.
 """
 
 import pathlib
@@ -15,6 +16,8 @@ import sys
 TOP = pathlib.Path(__file__).resolve().parent.parent
 CRATES = TOP / "crates"
 COLUMNS = 6
+MOST_NAMED = 6
+MOST_OF_A_GROUP = 8
 MOST_OCTETS = 8192
 
 
@@ -35,8 +38,8 @@ def labels_of_functions(code):
 
 
 def sources(crate, folder, ending):
-    """The texts of a crate's folder, by file."""
-    return {path: path.read_text() for path in sorted((CRATES / crate / folder).glob("*" + ending))}
+    """The texts of a crate's folder and of those in it, by file."""
+    return {path: path.read_text() for path in sorted((CRATES / crate / folder).rglob("*" + ending))}
 
 
 class Names:
@@ -160,11 +163,78 @@ def faults_of_word(cells):
             yield f"{word} stands in none of its files"
 
 
-def stands_on():
+def named_below():
     """The crates that each crate names in crates.txt."""
     lines = (TOP / "crates.txt").read_text().splitlines()
     pairs = [line.split(":", 1) for line in lines if ":" in line and not line.startswith("#")]
     return {name.strip(): below.split() for name, below in pairs}
+
+
+def handed_on(crate):
+    """The crates below that a crate hands on to those above it, as code, words or theorems."""
+    lines = [path.read_text() for path in sorted((CRATES / crate).glob("*/[Ll]ib.*"))]
+    return {name for text in lines for name in re.findall(r"^pub use (?:\w+::)*([a-z]\w*);", text, re.M)
+            + re.findall(r"^pub use Rattle\..* as (\w+?)(?:_proofs)?$", text, re.M)}
+
+
+def stands_on(named):
+    """The crates that each crate may cite: those that it names, and those that they hand on."""
+    return {crate: set(below).union(*(handed_on(other) for other in below if other in named))
+            for crate, below in named.items()}
+
+
+def stem(module):
+    """A module of definitions or lemmas as a module of code would be named."""
+    return re.sub(r"(?<!^)([A-Z])", r"_\1", module).lower()
+
+
+def faults_of_modules(crate):
+    """Modules of definitions and lemmas that stand under no module of code, though code is written in them."""
+    folder = CRATES / crate
+    code = {path.stem: path.read_text() for path in (folder / "src").glob("*.rt")}
+    for path in sorted(folder.glob("specs/*")) + sorted(folder.glob("proofs/*")):
+        if path.stem.islower() and path.stem not in code:
+            yield f"{path.relative_to(CRATES)}: no module of code has that stem"
+    concepts = {path.stem for path in folder.glob("specs/[A-Z]*.antt")} - {"Lib"}
+    alone = {module for module in concepts if stem(module) not in code}
+    for module in sorted(alone):
+        if any(re.search(rf"\bRattle\.{crate}\.specs\.{module}\b", text) for text in code.values()):
+            yield f"{crate} has code in the words of {module}, and no module of code of that stem"
+    for path in sorted(folder.glob("proofs/[A-Z]*.antt")):
+        if not re.fullmatch(r"Lib|\w*(Theorems|Examples)", path.stem) and not alone:
+            yield f"{crate} has lemmas of no module of code, {path.stem}"
+
+
+def faults_of_laws(crate):
+    """Laws that are not in the one public module of laws."""
+    code = {path.stem: path.read_text() for path in (CRATES / crate / "src").glob("*.rt")}
+    front = code.get("lib", "")
+    if ("laws" in code and "pub mod laws;" not in front) or "pub use laws::" in front:
+        yield f"{crate} has no public module of laws"
+    yield from (f"{crate} has laws in {module}" for module in sorted(code) if module.endswith("_laws"))
+
+
+def faults_of_citations(crate, crates):
+    """Lemmas of other crates that are cited past their theorems."""
+    for path in sorted(path for path in (CRATES / crate).rglob("*.antt") if path.stem != "Lib"):
+        cited = re.findall(r"\bRattle\.(?:\w+\.proofs\.)?(\w+?)(?:\.proofs|_proofs)\.(\w+)", path.read_text())
+        for other, module in cited:
+            if other in crates and other != crate and not module.endswith("Theorems"):
+                yield f"{path.relative_to(CRATES)} cites {module} of {other}"
+
+
+def faults_of_rooms(named):
+    """What is against the rules of rooms: few crates to stand on, one stem a module, one module of laws."""
+    for crate, below in named.items():
+        if len(below) > MOST_NAMED:
+            yield f"{crate} names {len(below)} crates"
+        yield from faults_of_modules(crate)
+        yield from faults_of_laws(crate)
+        yield from faults_of_citations(crate, named)
+    for group in (TOP / "crates.txt").read_text().split("\n\n"):
+        count = sum(":" in line for line in group.splitlines() if not line.startswith("#"))
+        if count > MOST_OF_A_GROUP:
+            yield f"a group of {count} crates"
 
 
 def faults_of_front(names):
@@ -192,7 +262,8 @@ def faults_of_promises(names):
 
 
 def main():
-    names, below = Names(), stands_on()
+    names, below = Names(), named_below()
+    reached = stands_on(below)
     faults, rows = faults_of_promises(names)
     faults = ["PROMISES: " + fault for fault in faults]
     faults += ["README: " + fault for fault in faults_of_front(names)]
@@ -202,12 +273,13 @@ def main():
         if cells[1].startswith("`"):
             rows += 1
             drawn.update((crate, other) for crate in quoted(cells[0]) for other in quoted(cells[1]))
-            faults += [f"ARCHITECTURE line {number}: {fault}" for fault in faults_of_arrow(names, cells, below)]
+            faults += [f"ARCHITECTURE line {number}: {fault}" for fault in faults_of_arrow(names, cells, reached)]
     faults += [f"ARCHITECTURE: no arrow from {crate} to {other}" for crate, others in below.items()
                if not crate.endswith("_tests") for other in others if other in below and (crate, other) not in drawn]
     for number, cells in rows_of((TOP / "docs" / "GLOSSARY.md").read_text(), 4):
         rows += 1
         faults += [f"GLOSSARY line {number}: {fault}" for fault in faults_of_word(cells)]
+    faults += ["rooms: " + fault for fault in faults_of_rooms(below)]
     for fault in faults:
         print(fault)
     print(f"{rows} rows of the documents looked up, {len(faults)} names not found")

@@ -1,8 +1,8 @@
 //! Administrative areas and subentries in force, in small trees.
 use admin_scope::{areas, in_force};
+use dir_tree::dn_names::{make_value, parse};
+use dir_tree::schema_core::attr;
 use dir_tree::{Entry, EntryNo, Tree};
-use dn_names::{make_value, parse};
-use schema_core::attr;
 use std::alloc::Global;
 use std::process::Abort;
 use std::test::Fail;
@@ -48,7 +48,7 @@ fn names(alloc: Global, tree: &Tree, numbers: &[EntryNo]) -> Result<String, Fail
     let mut out = String::new(alloc);
     for number in numbers {
         let entry = tree.at(*number).ok_or("no such entry")?;
-        dn_names::print(alloc, entry.name(), &mut out)?;
+        dir_tree::dn_names::print(alloc, entry.name(), &mut out)?;
         out.push_str(" ")?;
     }
     Ok(out)

@@ -1,4 +1,0 @@
-pub mod NearestLemmas
-pub mod CandidateLemmas
-pub mod MappedLemmas
-pub mod ExplainedLemmas

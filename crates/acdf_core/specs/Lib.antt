@@ -1,6 +1,5 @@
 -- what public clauses cite
-pub mod Nearest
-pub mod Explained
+pub mod nearest
+pub mod explaining
 -- for the inside of the crate alone
-pub mod Fronts
 pub mod Candidates

@@ -2,19 +2,19 @@
 
 ghost use Rattle.std.specs.Prelude.{◌≡◌, ◌++◌, ◌∷◌, [], Some, IfOk, OnOk, map, flat_map};
 ghost use Rattle.std.specs.Option.{option_map_or};
-ghost use Rattle.dir_tree.specs.Numbered.{entry_of, entries_of, entries_at, superior_of};
-ghost use Rattle.admin_scope.specs.InForce.{in_force};
-ghost use Rattle.aci_item.specs.Views.{tuple_of};
-ghost use Rattle.acdf_filters.specs.Tuples.{listed_by, listed_in, inherited, tuples_of, prescriptive_aci, subentry_aci};
-ghost use Rattle.acdf_filters.specs.Weighing.{KnowsGroups, tagged_of};
-ghost use Rattle.acdf_core.specs.Explained.{name_at};
+ghost use Rattle.dir_tree.specs.tree.Numbered.{entry_of, entries_of, entries_at, superior_of};
+ghost use Rattle.acdf_filters.specs.admin_scope.subentries.InForce.{in_force};
+ghost use Rattle.acdf_filters.specs.aci_item.item.Views.{tuple_of};
+ghost use Rattle.acdf_filters.specs.reading.Tuples.{listed_by, listed_in, inherited, tuples_of, prescriptive_aci, subentry_aci};
+ghost use Rattle.acdf_filters.specs.weighing.Weighing.{KnowsGroups, tagged_of};
+ghost use Rattle.acdf_core.specs.explaining.Explained.{name_at};
 ghost use Rattle.acdf_core.specs.Candidates.{described_for, described_all, listed_at};
 
 use crate::facts::{Facts, facts_for};
+use acdf_filters::aci_item::AciTuple;
 use acdf_filters::{Question, TaggedTuples, read_items};
-use aci_item::AciTuple;
+use dir_tree::schema_core::AttrId;
 use dir_tree::{EntryNo, NoMemory};
-use schema_core::AttrId;
 use std::alloc::Global;
 
 /// A tuple that counts for an entry.

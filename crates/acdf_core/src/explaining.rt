@@ -2,20 +2,20 @@
 
 ghost use Rattle.std.specs.Prelude.{◌≡◌, ◌++◌, ◌∷◌, [], Some, IfOk, OnOk, map};
 ghost use Rattle.std.specs.List.{list_all};
-ghost use Rattle.dir_tree.specs.Entries.{EntryInformation};
-ghost use Rattle.dir_tree.specs.Numbered.{Numbered, entry_of, entries_of, entries_at};
-ghost use Rattle.admin_scope.specs.InForce.{in_force};
+ghost use Rattle.dir_tree.specs.Entry.{EntryInformation};
+ghost use Rattle.dir_tree.specs.tree.Numbered.{Numbered, entry_of, entries_of, entries_at};
+ghost use Rattle.acdf_filters.specs.admin_scope.subentries.InForce.{in_force};
 ghost use Rattle.acdf_filters.specs.Asking.{protected_of};
-ghost use Rattle.acdf_filters.specs.Weighing.{KnowsGroups, asked_of};
-ghost use Rattle.acdf_core.specs.Explained.{IsExplained, kept_at};
+ghost use Rattle.acdf_filters.specs.weighing.Weighing.{KnowsGroups, asked_of};
+ghost use Rattle.acdf_core.specs.explaining.Explained.{IsExplained, kept_at};
 ghost use Rattle.acdf_core.specs.Candidates.{kept_from, all_grant};
 
 use crate::candidates::{Candidate, list_candidates};
 use crate::filters::keep_deciding;
 use crate::steps::{Counts, KeptTuple, Steps};
+use acdf_filters::aci_item::Permission;
 use acdf_filters::{Item, Question, Requester};
 use acdf_lists::Dir;
-use aci_item::Permission;
 use dir_tree::{Entry, EntryNo, NoMemory};
 use std::alloc::Global;
 

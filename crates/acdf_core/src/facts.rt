@@ -1,13 +1,13 @@
 //! What the filters ask of a tuple.
 
 ghost use Rattle.std.specs.Prelude.{◌≡◌};
-ghost use Rattle.aci_item.specs.Views.{tuple_of};
-ghost use Rattle.acdf_filters.specs.Filters.{stays, rank};
-ghost use Rattle.acdf_filters.specs.Weighing.{KnowsGroups, asked_of, asked_ranks};
+ghost use Rattle.acdf_filters.specs.aci_item.item.Views.{tuple_of};
+ghost use Rattle.acdf_filters.specs.laws.Filters.{stays, rank};
+ghost use Rattle.acdf_filters.specs.weighing.Weighing.{KnowsGroups, asked_of, asked_ranks};
 ghost use Rattle.acdf_core.specs.Candidates.{facts_of};
 
+use acdf_filters::aci_item::AciTuple;
 use acdf_filters::{Question, class_of, covers, is_explicit, listed_class};
-use aci_item::AciTuple;
 
 /// What the filters ask of a tuple, answered.
 #[derive(Clone, Copy)]

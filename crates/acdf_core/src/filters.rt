@@ -2,7 +2,7 @@
 
 ghost use Rattle.std.specs.Prelude.{◌≡◌, ◌==◌, filter, map, length};
 ghost use Rattle.std.specs.List.{list_any};
-ghost use Rattle.acdf_filters.specs.Choices.{greatest, least, highest, lowest, passing_or_all};
+ghost use Rattle.acdf_filters.specs.users.Choices.{greatest, least, highest, lowest, passing_or_all};
 ghost use Rattle.acdf_core.specs.Candidates.{AreCounted, deciding};
 
 use crate::candidates::Candidate;

@@ -1,18 +1,18 @@
 //! The nearest entry above a name of which a requester may know.
 
 ghost use Rattle.std.specs.Prelude.{◌≡◌, ◌<◌, length, take};
-ghost use Rattle.dir_tree.specs.Numbered.{entries_of, entry_of};
-ghost use Rattle.dir_tree.specs.Trees.{named_in};
-ghost use Rattle.acdf_filters.specs.Granted.{is_disclosed, matched};
-ghost use Rattle.acdf_filters.specs.Weighing.{AreMemberships};
-ghost use Rattle.acdf_core.specs.Nearest.{IsEntryOf};
-ghost use Rattle.acdf_core.specs.Fronts.{where_passes};
+ghost use Rattle.dir_tree.specs.tree.Numbered.{entries_of, entry_of};
+ghost use Rattle.dir_tree.specs.tree.Trees.{named_in};
+ghost use Rattle.acdf_filters.specs.laws.Granted.{is_disclosed, matched};
+ghost use Rattle.acdf_filters.specs.weighing.Weighing.{AreMemberships};
+ghost use Rattle.acdf_core.specs.nearest.Nearest.{IsEntryOf};
+ghost use Rattle.acdf_core.specs.nearest.Fronts.{where_passes};
 
+use acdf_filters::aci_item::Permission;
 use acdf_filters::{Item, Membership, Requester};
 use acdf_lists::Dir;
-use aci_item::Permission;
 use dir_tree::EntryNo;
-use dn_names::Dn;
+use dir_tree::dn_names::Dn;
 
 // The number, if the requester may know of its entry.
 fn if_disclosed<D: Dir>(

@@ -1,10 +1,4 @@
-pub mod ListLemmas
-pub mod ChoiceLemmas
-pub mod StandingLaw
-pub mod UserLemmas
-pub mod NamedLemmas
-pub mod WeighLemmas
-pub mod DecisionLaw
-pub mod UnseenLaw
 pub mod Theorems
 mod Examples
+-- the theorems of crates below, handed on
+pub use Rattle.admin_scope.proofs as admin_scope_proofs

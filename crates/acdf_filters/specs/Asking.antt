@@ -1,6 +1,6 @@
 -- What is asked of the access control decision function (X.501 18.8.1): by whom, on what, and for which permission.
 use Rattle.std.specs.Prelude.{ℕ}
-use Rattle.dn_names.specs.Names.{Keyed}
+use Rattle.dir_tree.specs.dn_names.name.Names.{Keyed}
 use Rattle.aci_item.specs.declared.permission.Permission.{Permission}
 use Rattle.acdf_filters.specs.declared.asking.Requester.{Requester}
 use Rattle.acdf_filters.specs.declared.asking.Item as code

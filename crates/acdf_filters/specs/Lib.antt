@@ -1,15 +1,16 @@
 -- what public clauses cite
 pub mod Asking
-pub mod Tuples
-pub mod Users
+pub mod reading
+pub mod users
 pub mod Covering
-pub mod Choices
-pub mod Filters
-pub mod Granted
-pub mod Unseen
-pub mod Weighing
-pub mod Memberships
+pub mod laws
+pub mod weighing
+pub mod question
 -- for the inside of the crate alone
-pub mod LastFilters
 pub mod Named
-pub mod Standings
+pub mod Standing
+-- the words of crates below, handed on
+pub use Rattle.aci_item.specs as aci_item
+pub use Rattle.admin_scope.specs as admin_scope
+pub use Rattle.aci_item.specs.subtree_spec as subtree_spec
+pub use Rattle.aci_item.specs.gser_tree as gser_tree

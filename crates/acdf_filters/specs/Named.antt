@@ -1,7 +1,7 @@
 -- The key of a requester's name, where it was made.
 use Rattle.std.specs.Prelude.{◌≡◌, Option, Some, None}
-use Rattle.dn_names.specs.Names.{Keyed, RdnSequence}
-use Rattle.dn_names.specs.Printing.{name_key}
+use Rattle.dir_tree.specs.dn_names.name.Names.{Keyed, RdnSequence}
+use Rattle.dir_tree.specs.dn_names.Printing.{name_key}
 
 -- what was made, if anything, is a value with the key of the name
 abbrev pub IsKeyOf : RdnSequence → Option Keyed → Type 0

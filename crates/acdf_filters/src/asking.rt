@@ -1,8 +1,8 @@
 //! What is asked of the decision function.
 
 use aci_item::Level;
-use dn_names::{Dn, Value};
-use schema_core::AttrId;
+use dir_tree::dn_names::{Dn, Value};
+use dir_tree::schema_core::AttrId;
 
 /// Who asks: an anonymous requester has no name.
 #[derive(Drop)]

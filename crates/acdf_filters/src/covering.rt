@@ -1,16 +1,16 @@
 //! What protected items cover.
 
 ghost use Rattle.std.specs.Prelude.{◌≡◌, map};
-ghost use Rattle.dn_names.specs.Printing.{name_key};
-ghost use Rattle.aci_item.specs.Views.{items_of};
+ghost use Rattle.dir_tree.specs.dn_names.Printing.{name_key};
+ghost use Rattle.aci_item.specs.item.Views.{items_of};
 ghost use Rattle.acdf_filters.specs.Asking.{protected_of};
 ghost use Rattle.acdf_filters.specs.Covering.{has_type, is_user_attribute, is_equal, has_equal, is_name_syntax, has_names, is_self, is_explicit, covers_type, covers_value, covers};
 
 use crate::asking::Item;
 use crate::users::is_key;
 use aci_item::{AttributeTypeAndValue, ProtectedItems};
-use dn_names::{Dn, Value};
-use schema_core::{AttrId, Syntax, row};
+use dir_tree::dn_names::{Dn, Value};
+use dir_tree::schema_core::{AttrId, Syntax, row};
 
 // Whether the type is listed.
 fn has_type(kind: AttrId, kinds: &[AttrId]) -> bool

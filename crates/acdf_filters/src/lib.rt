@@ -4,7 +4,7 @@
 
 mod asking;
 mod covering;
-mod laws;
+pub mod laws;
 mod named;
 mod question;
 mod reading;
@@ -12,11 +12,11 @@ mod standing;
 mod users;
 mod weighing;
 
+pub use aci_item;
+pub use aci_item::{gser_tree, subtree_spec};
+pub use admin_scope;
 pub use asking::{Item, Requester};
 pub use covering::{covers, is_explicit};
-pub use laws::{
-    an_unseen_subtree_changes_no_decision, the_running_state_is_that_of_the_six_filters,
-};
 pub use named::NamedRequester;
 pub use question::{Membership, Question};
 pub use reading::read_items;

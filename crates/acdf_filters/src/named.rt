@@ -1,15 +1,16 @@
 //! A requester by its name, of which groups are asked.
 
 ghost use Rattle.std.specs.Prelude.{◌≡◌, ◌||◌, IfOk};
-ghost use Rattle.dn_names.specs.Printing.{name_key};
-ghost use Rattle.dir_tree.specs.Entries.{values_of, has_key};
-ghost use Rattle.dir_tree.specs.Numbered.{entries_of};
-ghost use Rattle.acdf_filters.specs.Users.{member, unique_member, has_member, is_in_group};
+ghost use Rattle.dir_tree.specs.dn_names.Printing.{name_key};
+ghost use Rattle.dir_tree.specs.Entry.{values_of, has_key};
+ghost use Rattle.dir_tree.specs.tree.Numbered.{entries_of};
+ghost use Rattle.acdf_filters.specs.users.Users.{member, unique_member, has_member, is_in_group};
 
 use crate::users::{entry_named, has_member};
+use dir_tree::dn_names::laws::a_printed_name_is_read_again;
+use dir_tree::dn_names::{Dn, Value, make_value, print};
+use dir_tree::schema_core::AttrId;
 use dir_tree::{Entry, NoMemory, Tree};
-use dn_names::{Dn, Value, a_printed_name_is_read_again, make_value, print};
-use schema_core::AttrId;
 use std::alloc::{AllocError, Global};
 use std::marker::Model;
 
@@ -24,7 +25,7 @@ pub struct NamedRequester<'a> {
 }
 
 impl<'a> Model for NamedRequester<'a> {
-    ghost use Rattle.dn_names.specs.Names.{RdnSequence};
+    ghost use Rattle.dir_tree.specs.dn_names.name.Names.{RdnSequence};
     ghost use Rattle.acdf_filters.specs.Named.{IsKeyOf};
 
     ghost Value = { RdnSequence };

@@ -2,8 +2,8 @@
 
 use crate::asking::{Item, Requester};
 use aci_item::Permission;
+use dir_tree::dn_names::Dn;
 use dir_tree::{Entry, Tree};
-use dn_names::Dn;
 
 /// Whether the requester is a member of a group.
 #[derive(Drop)]

@@ -1,8 +1,8 @@
 //! The running state of a decision.
 
 ghost use Rattle.std.specs.Prelude.{◌≡◌};
-ghost use Rattle.acdf_filters.specs.Standings.{initial, with_like, with_item, with_class, with_one};
-ghost use Rattle.acdf_filters.specs.Weighing.{is_granted};
+ghost use Rattle.acdf_filters.specs.Standing.{initial, with_like, with_item, with_class, with_one};
+ghost use Rattle.acdf_filters.specs.weighing.Weighing.{is_granted};
 
 /// What of the tuples that were weighed so far decides: those of the highest precedence, of these those of the most
 /// specific user class, and of these those that name the item explicitly, if any does.

@@ -4,23 +4,23 @@ ghost use Rattle.std.specs.Prelude.{◌≡◌, ◌||◌, Some, map};
 ghost use Rattle.std.specs.List.{list_any};
 ghost use Rattle.std.specs.Option.{option_map};
 ghost use Rattle.std.specs.Str.{bytes_eq};
-ghost use Rattle.dn_names.specs.NameOrder.{is_same};
-ghost use Rattle.dn_names.specs.Printing.{name_key};
-ghost use Rattle.dir_tree.specs.Entries.{values_of, has_key};
-ghost use Rattle.dir_tree.specs.Trees.{named_in};
-ghost use Rattle.dir_tree.specs.Numbered.{entries_of};
-ghost use Rattle.subtree_spec.specs.Subtrees.{subtree_of};
-ghost use Rattle.aci_item.specs.Views.{classes_of};
-ghost use Rattle.acdf_filters.specs.Choices.{least, is_filled};
-ghost use Rattle.acdf_filters.specs.Users.{has_member, is_in_group, is_in_groups, is_held, ranks_of, listed_ranks};
-ghost use Rattle.acdf_filters.specs.Weighing.{AreMemberships, known_member, least_class, class_of_all, first_rank};
+ghost use Rattle.dir_tree.specs.dn_names.order.NameOrder.{is_same};
+ghost use Rattle.dir_tree.specs.dn_names.Printing.{name_key};
+ghost use Rattle.dir_tree.specs.Entry.{values_of, has_key};
+ghost use Rattle.dir_tree.specs.tree.Trees.{named_in};
+ghost use Rattle.dir_tree.specs.tree.Numbered.{entries_of};
+ghost use Rattle.aci_item.specs.subtree_spec.spec.Subtrees.{subtree_of};
+ghost use Rattle.aci_item.specs.item.Views.{classes_of};
+ghost use Rattle.acdf_filters.specs.users.Choices.{least, is_filled};
+ghost use Rattle.acdf_filters.specs.users.Users.{has_member, is_in_group, is_in_groups, is_held, ranks_of, listed_ranks};
+ghost use Rattle.acdf_filters.specs.weighing.Weighing.{AreMemberships, known_member, least_class, class_of_all, first_rank};
 
 use crate::question::{Membership, Question};
 use aci_item::UserClasses;
+use aci_item::subtree_spec::{Spec, holds_name};
+use dir_tree::dn_names::{Dn, is_key_of, same};
+use dir_tree::schema_core::AttrId;
 use dir_tree::{Entry, Tree};
-use dn_names::{Dn, is_key_of, same};
-use schema_core::AttrId;
-use subtree_spec::{Spec, holds_name};
 
 /// Whether the octets are the key of the name.
 pub(crate) fn is_key(name: &Dn, key: &[u8]) -> bool
@@ -124,7 +124,7 @@ fn is_in_subtrees(subtrees: &[Spec], name: &Dn) -> bool
 }
 
 // The rank of the most specific class in which a requester of this name is; None where it is in none.
-#[tactic(auto, unfolding(crate::specs::Users::ranks_of))]
+#[tactic(auto, unfolding(crate::specs::users::Users::ranks_of))]
 fn class_of_name(question: &Question<'_>, name: &Dn, classes: &UserClasses) -> Option<u8>
     requires { AreMemberships (entries_of question.now.tree.now) (Some name.now) question.now.known.now }
     ensures exact { result ≡ least_class

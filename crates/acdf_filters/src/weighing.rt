@@ -1,9 +1,9 @@
 //! Tuples, weighed one after the other.
 
 ghost use Rattle.std.specs.Prelude.{◌≡◌};
-ghost use Rattle.aci_item.specs.Views.{tuple_of};
-ghost use Rattle.acdf_filters.specs.Standings.{with_one};
-ghost use Rattle.acdf_filters.specs.Weighing.{KnowsGroups, asked_of, asked_ranks, alone_at, by_class, with_class_of, with_item_of, with_permission_of, weighed_for};
+ghost use Rattle.aci_item.specs.item.Views.{tuple_of};
+ghost use Rattle.acdf_filters.specs.Standing.{with_one};
+ghost use Rattle.acdf_filters.specs.weighing.Weighing.{KnowsGroups, asked_of, asked_ranks, alone_at, by_class, with_class_of, with_item_of, with_permission_of, weighed_for};
 
 use crate::covering::{covers, is_explicit};
 use crate::question::Question;

@@ -1,3 +1,2 @@
 -- what public clauses cite
-pub mod Lists
-pub mod Holdings
+pub mod kept

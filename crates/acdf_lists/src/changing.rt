@@ -1,14 +1,14 @@
 //! What is kept, where an entry is put in or taken out.
 
 ghost use Rattle.std.specs.Prelude.{◌≡◌, ◌≢◌, ◌==◌, ◌⊎◌, ℕ, not, [], Some, None, IfOk, IfErr, OnOk, OnErr, map, filter};
-ghost use Rattle.dir_tree.specs.Numbered.{entry_of, entries_of, put_entry, without};
+ghost use Rattle.dir_tree.specs.tree.Numbered.{entry_of, entries_of, put_entry, without};
 ghost use Rattle.dir_tree.specs.Refusals.{insert_refusal, remove_refusal};
-ghost use Rattle.acdf_lists.specs.Lists.{lists_at, lists_of};
-ghost use Rattle.acdf_lists.specs.Holdings.{IsHeld, IsForgotten, without_number, without_subentry};
+ghost use Rattle.acdf_lists.specs.kept.Lists.{lists_at, lists_of, no_lists};
+ghost use Rattle.acdf_lists.specs.kept.Holdings.{IsHeld, IsForgotten, without_number, without_subentry};
 
 use crate::kept::{Holdings, Kept, no_lists};
 use crate::making::hold;
-use admin_scope::AccessSubentry;
+use acdf_filters::admin_scope::AccessSubentry;
 use dir_tree::{Entry, EntryNo, InsertRefusal, Tree};
 use std::alloc::Global;
 
@@ -87,7 +87,8 @@ fn drop_everywhere(kept: &mut [Kept], number: EntryNo)
 
 /// Keeps nothing of the number. Takes no memory.
 pub fn empty_lists(alloc: Global, kept: &mut [Kept], number: EntryNo)
-    ensures { (id : ℕ) → id ≢ number.0 → lists_at kept.new id ≡ lists_at kept.old id }
+    ensures gone { lists_at kept.new number.0 ≡ no_lists }
+    ensures others { (id : ℕ) → id ≢ number.0 → lists_at kept.new id ≡ lists_at kept.old id }
 {
     let index = number.0 as usize;
     if index < kept.len() {

@@ -1,13 +1,13 @@
 //! The decision by what is kept.
 
 ghost use Rattle.std.specs.Prelude.{◌≡◌, Some, map, fold};
-ghost use Rattle.dir_tree.specs.Entries.{EntryInformation};
-ghost use Rattle.dir_tree.specs.Numbered.{entry_of, entries_of, superior_of};
+ghost use Rattle.dir_tree.specs.Entry.{EntryInformation};
+ghost use Rattle.dir_tree.specs.tree.Numbered.{entry_of, entries_of, superior_of};
 ghost use Rattle.acdf_filters.specs.Asking.{protected_of};
-ghost use Rattle.acdf_filters.specs.Granted.{granted};
-ghost use Rattle.acdf_filters.specs.Standings.{initial};
-ghost use Rattle.acdf_filters.specs.Weighing.{KnowsGroups, weighed_for, is_granted};
-ghost use Rattle.acdf_lists.specs.Lists.{IsKept, lists_at, tuples_at, tuples_below, tuples_inherited, tuples_kept};
+ghost use Rattle.acdf_filters.specs.laws.Granted.{granted};
+ghost use Rattle.acdf_filters.specs.Standing.{initial};
+ghost use Rattle.acdf_filters.specs.weighing.Weighing.{KnowsGroups, weighed_for, is_granted};
+ghost use Rattle.acdf_lists.specs.kept.Lists.{IsKept, lists_at, tuples_at, tuples_below, tuples_inherited, tuples_kept};
 
 use crate::kept::{Kept, below_at, in_force_at, own_at, prescriptive_at};
 use acdf_filters::{Question, Standing};

@@ -2,24 +2,24 @@
 
 ghost use Rattle.std.specs.Prelude.{◌≡◌, ◌≢◌, ◌⊎◌, [], Some, None, IfOk, IfErr, OnOk, OnErr, false, map};
 ghost use Rattle.std.specs.Option.{option_map_or};
-ghost use Rattle.dir_tree.specs.Entries.{EntryInformation};
-ghost use Rattle.dir_tree.specs.Numbered.{entry_of, entries_of, entries_at, put_entry, without};
+ghost use Rattle.dir_tree.specs.Entry.{EntryInformation};
+ghost use Rattle.dir_tree.specs.tree.Numbered.{entry_of, entries_of, entries_at, put_entry, without};
 ghost use Rattle.dir_tree.specs.Refusals.{insert_refusal, remove_refusal, replace_refusal};
-ghost use Rattle.admin_scope.specs.InForce.{in_force};
+ghost use Rattle.acdf_filters.specs.admin_scope.subentries.InForce.{in_force};
 ghost use Rattle.acdf_filters.specs.Asking.{protected_of};
-ghost use Rattle.acdf_filters.specs.Granted.{granted, granted_new};
-ghost use Rattle.acdf_filters.specs.Weighing.{AreMemberships};
-ghost use Rattle.acdf_lists.specs.Lists.{AreInForce};
+ghost use Rattle.acdf_filters.specs.laws.Granted.{granted, granted_new};
+ghost use Rattle.acdf_filters.specs.weighing.Weighing.{AreMemberships};
+ghost use Rattle.acdf_lists.specs.kept.Lists.{AreInForce};
 
+use acdf_filters::aci_item::Permission;
 use acdf_filters::{Item, Membership, Requester};
-use aci_item::Permission;
 use dir_tree::{Entry, EntryNo, InsertRefusal, NoMemory, RemoveRefusal, ReplaceRefusal, Tree};
 use std::alloc::Global;
 
 /// A directory. Contracts see its numbered entries.
 pub trait Dir {
     ghost use Rattle.std.specs.Prelude.{List};
-    ghost use Rattle.dir_tree.specs.Numbered.{Numbered};
+    ghost use Rattle.dir_tree.specs.tree.Numbered.{Numbered};
 
     ghost rows: { Self → List Numbered };
 

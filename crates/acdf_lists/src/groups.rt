@@ -1,15 +1,15 @@
 //! The groups that the items of a directory name, and in which of them a requester is.
 
 ghost use Rattle.std.specs.Prelude.{◌≡◌, Some, IfOk, map};
-ghost use Rattle.dir_tree.specs.Numbered.{entries_of};
-ghost use Rattle.acdf_filters.specs.Weighing.{AreMemberships};
-ghost use Rattle.acdf_filters.specs.Memberships.{groups_of};
+ghost use Rattle.dir_tree.specs.tree.Numbered.{entries_of};
+ghost use Rattle.acdf_filters.specs.weighing.Weighing.{AreMemberships};
+ghost use Rattle.acdf_filters.specs.question.Memberships.{groups_of};
 
 use crate::kept::Kept;
+use acdf_filters::aci_item::AciTuple;
 use acdf_filters::{Membership, NamedRequester, Requester};
-use aci_item::AciTuple;
+use dir_tree::dn_names::{Dn, compare_names};
 use dir_tree::{NoMemory, Tree};
-use dn_names::{Dn, compare_names};
 use std::alloc::Global;
 
 // Puts a group in its place among those in the order of names, where it is not there yet.

@@ -1,15 +1,15 @@
 //! What is kept of an entry.
 
 ghost use Rattle.std.specs.Prelude.{◌≡◌, map};
-ghost use Rattle.aci_item.specs.Views.{tuple_of};
-ghost use Rattle.acdf_order.specs.Order.{IsHighestFirst};
-ghost use Rattle.acdf_lists.specs.Lists.{lists_at, lists_of, no_lists};
+ghost use Rattle.acdf_filters.specs.aci_item.item.Views.{tuple_of};
+ghost use Rattle.acdf_order.specs.ordering.Order.{IsHighestFirst};
+ghost use Rattle.acdf_lists.specs.kept.Lists.{lists_at, lists_of, no_lists};
 
+use acdf_filters::aci_item::AciTuple;
+use acdf_filters::admin_scope::AccessSubentry;
 use acdf_order::OrderedTuples;
-use aci_item::AciTuple;
-use admin_scope::AccessSubentry;
 use dir_tree::EntryNo;
-use dn_names::Dn;
+use dir_tree::dn_names::Dn;
 use std::alloc::Global;
 
 /// What is kept of an entry: the subentries that are in force for it, and the tuples of its own access control

@@ -1,22 +1,22 @@
 //! What is kept, made of a tree.
 
 ghost use Rattle.std.specs.Prelude.{◌≡◌, map, ◌+◌, ◌<◌, ℕ, Some, IfOk, OnOk, length};
-ghost use Rattle.dir_tree.specs.Entries.{EntryInformation};
-ghost use Rattle.dir_tree.specs.Numbered.{entry_of};
-ghost use Rattle.admin_scope.specs.Finding.{AreSubtrees};
-ghost use Rattle.aci_item.specs.Views.{tuple_of};
-ghost use Rattle.acdf_filters.specs.Tuples.{items_in};
-ghost use Rattle.acdf_order.specs.Order.{highest_first};
-ghost use Rattle.acdf_lists.specs.Lists.{AreOf, IsKept, IsKeptBelow, lists_of, tuples_in};
-ghost use Rattle.acdf_lists.specs.Holdings.{IsHeld};
+ghost use Rattle.dir_tree.specs.Entry.{EntryInformation};
+ghost use Rattle.dir_tree.specs.tree.Numbered.{entry_of};
+ghost use Rattle.acdf_filters.specs.admin_scope.subtrees.Finding.{AreSubtrees};
+ghost use Rattle.acdf_filters.specs.aci_item.item.Views.{tuple_of};
+ghost use Rattle.acdf_filters.specs.reading.Tuples.{items_in};
+ghost use Rattle.acdf_order.specs.ordering.Order.{highest_first};
+ghost use Rattle.acdf_lists.specs.kept.Lists.{AreOf, IsKept, IsKeptBelow, lists_of, tuples_in};
+ghost use Rattle.acdf_lists.specs.kept.Holdings.{IsHeld};
 
 use crate::groups::named_groups;
 use crate::kept::{Holdings, Kept, no_lists};
+use acdf_filters::admin_scope::{AccessSubentry, access_subtrees, in_force_by};
 use acdf_filters::read_items;
 use acdf_order::{OrderedTuples, order_tuples};
-use admin_scope::{AccessSubentry, access_subtrees, in_force_by};
+use dir_tree::schema_core::AttrId;
 use dir_tree::{Entry, EntryNo, NoMemory, Tree};
-use schema_core::AttrId;
 use std::alloc::Global;
 
 // The tuples of the entry's values of the type, those of the highest precedence first.

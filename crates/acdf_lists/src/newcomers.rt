@@ -1,20 +1,20 @@
 //! The decision on an entry that is to be added, by what is kept.
 
 ghost use Rattle.std.specs.Prelude.{◌≡◌, IfOk, fold, map, option_map};
-ghost use Rattle.dir_tree.specs.Numbered.{entries_of, find_name};
-ghost use Rattle.dir_tree.specs.Trees.{superior_name};
-ghost use Rattle.admin_scope.specs.Finding.{AreSubtrees};
+ghost use Rattle.dir_tree.specs.tree.Numbered.{entries_of, find_name};
+ghost use Rattle.dir_tree.specs.tree.Trees.{superior_name};
+ghost use Rattle.acdf_filters.specs.admin_scope.subtrees.Finding.{AreSubtrees};
 ghost use Rattle.acdf_filters.specs.Asking.{protected_of};
-ghost use Rattle.acdf_filters.specs.Granted.{granted_new};
-ghost use Rattle.acdf_filters.specs.Standings.{initial};
-ghost use Rattle.acdf_filters.specs.Weighing.{KnowsGroups, weighed_for};
-ghost use Rattle.acdf_lists.specs.Lists.{AreInForce, IsKept, tuples_below};
+ghost use Rattle.acdf_filters.specs.laws.Granted.{granted_new};
+ghost use Rattle.acdf_filters.specs.Standing.{initial};
+ghost use Rattle.acdf_filters.specs.weighing.Weighing.{KnowsGroups, weighed_for};
+ghost use Rattle.acdf_lists.specs.kept.Lists.{AreInForce, IsKept, tuples_below};
 
 use crate::decision::weigh_subentries;
 use crate::kept::{Kept, below_at};
+use acdf_filters::admin_scope::{AccessSubentry, in_force_by};
 use acdf_filters::{Question, Standing};
 use acdf_order::weigh_in_order;
-use admin_scope::{AccessSubentry, in_force_by};
 use dir_tree::{Entry, EntryNo, NoMemory, Tree};
 use std::alloc::Global;
 

@@ -1,10 +1,10 @@
 //! A directory that keeps what decisions need.
 
 ghost use Rattle.std.specs.Prelude.{◌≡◌, Some, IfOk};
-ghost use Rattle.dir_tree.specs.Numbered.{entry_of, entries_of};
+ghost use Rattle.dir_tree.specs.tree.Numbered.{entry_of, entries_of};
 ghost use Rattle.acdf_filters.specs.Asking.{protected_of};
-ghost use Rattle.acdf_filters.specs.Granted.{granted};
-ghost use Rattle.acdf_filters.specs.Weighing.{AreMemberships};
+ghost use Rattle.acdf_filters.specs.laws.Granted.{granted};
+ghost use Rattle.acdf_filters.specs.weighing.Weighing.{AreMemberships};
 
 use crate::changing::{forget, insert_into};
 use crate::decision::decide_by;
@@ -14,8 +14,8 @@ use crate::kept::{Holdings, in_force_at};
 use crate::making::hold;
 use crate::newcomers::{decide_new_by, in_force_new_by};
 use crate::replacing::replace_in;
+use acdf_filters::aci_item::Permission;
 use acdf_filters::{Item, Membership, Question, Requester};
-use aci_item::Permission;
 use dir_tree::{Entry, EntryNo, InsertRefusal, NoMemory, RemoveRefusal, ReplaceRefusal, Tree};
 use std::alloc::Global;
 use std::marker::Model;
@@ -29,8 +29,8 @@ pub struct PlainDir {
 
 impl Model for PlainDir {
     ghost use Rattle.std.specs.Prelude.{List};
-    ghost use Rattle.dir_tree.specs.Numbered.{Numbered};
-    ghost use Rattle.acdf_lists.specs.Holdings.{IsHeld};
+    ghost use Rattle.dir_tree.specs.tree.Numbered.{Numbered};
+    ghost use Rattle.acdf_lists.specs.kept.Holdings.{IsHeld};
 
     ghost Value = { List Numbered };
 

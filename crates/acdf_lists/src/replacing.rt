@@ -1,9 +1,9 @@
 //! What is kept, where an entry takes another's place.
 
 ghost use Rattle.std.specs.Prelude.{◌≡◌, ◌⊎◌, Some, None, IfOk, IfErr, OnOk, OnErr};
-ghost use Rattle.dir_tree.specs.Numbered.{entry_of, put_entry, without};
+ghost use Rattle.dir_tree.specs.tree.Numbered.{entry_of, put_entry, without};
 ghost use Rattle.dir_tree.specs.Refusals.{replace_refusal};
-ghost use Rattle.acdf_lists.specs.Holdings.{IsHeld};
+ghost use Rattle.acdf_lists.specs.kept.Holdings.{IsHeld};
 
 use crate::kept::{Holdings, no_holdings};
 use crate::making::hold;
@@ -25,7 +25,7 @@ struct Holder {
 }
 
 impl TreeReader for Holder {
-    ghost use Rattle.acdf_lists.specs.Holdings.{IsHeld};
+    ghost use Rattle.acdf_lists.specs.kept.Holdings.{IsHeld};
 
     ghost has_read = { λ before holder rows. IsHeld holder.held rows };
 

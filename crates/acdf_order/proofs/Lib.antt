@@ -1,4 +1,2 @@
-pub mod OrderLemmas
-pub mod WeighLemmas
 pub mod Theorems
 mod Examples

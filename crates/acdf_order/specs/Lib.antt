@@ -1,2 +1,2 @@
 -- what public clauses cite
-pub mod Order
+pub mod ordering

@@ -2,12 +2,11 @@
 //! 18.8.4).
 #![tactic(auto)]
 
-mod laws;
+pub mod laws;
 mod ordering;
 mod tuples;
 mod weighing;
 
-pub use laws::the_order_of_tuples_changes_no_state;
 pub use ordering::order_tuples;
 pub use tuples::OrderedTuples;
 pub use weighing::weigh_in_order;

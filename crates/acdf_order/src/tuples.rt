@@ -1,10 +1,10 @@
 //! Tuples in the order of precedence.
 
 ghost use Rattle.std.specs.Prelude.{◌≡◌, [], map};
-ghost use Rattle.aci_item.specs.Views.{tuple_of};
-ghost use Rattle.acdf_order.specs.Order.{IsHighestFirst, ordered-prop};
+ghost use Rattle.acdf_filters.specs.aci_item.item.Views.{tuple_of};
+ghost use Rattle.acdf_order.specs.ordering.Order.{IsHighestFirst, ordered-prop};
 
-use aci_item::AciTuple;
+use acdf_filters::aci_item::AciTuple;
 use std::alloc::Global;
 
 /// Tuples, those of the highest precedence first.

@@ -1,12 +1,12 @@
 //! Tuples in the order of precedence, weighed one after the other.
 
 ghost use Rattle.std.specs.Prelude.{◌≡◌, map, fold};
-ghost use Rattle.aci_item.specs.Views.{tuple_of};
-ghost use Rattle.acdf_filters.specs.Weighing.{KnowsGroups, weighed_for};
-ghost use Rattle.acdf_order.specs.Order.{IsHighestFirst};
+ghost use Rattle.acdf_filters.specs.aci_item.item.Views.{tuple_of};
+ghost use Rattle.acdf_filters.specs.weighing.Weighing.{KnowsGroups, weighed_for};
+ghost use Rattle.acdf_order.specs.ordering.Order.{IsHighestFirst};
 
+use acdf_filters::aci_item::AciTuple;
 use acdf_filters::{Question, Standing, weigh};
-use aci_item::AciTuple;
 
 /// The state with tuples weighed one after the other, of which those of the highest precedence come first. No tuple is
 /// looked at after the first of a lower precedence than those seen, since none of them changes the state. No memory is

@@ -1,3 +1,6 @@
 -- for the inside of the crate alone
-pub mod Steps
-pub mod Reach
+pub mod anew
+pub mod points
+-- the words of crates below, handed on
+pub use Rattle.acdf_lists.specs as acdf_lists
+pub use Rattle.acdf_filters.specs as acdf_filters

@@ -1,19 +1,19 @@
 //! A directory that keeps what decisions need, and changes it by small steps.
 
 ghost use Rattle.std.specs.Prelude.{◌≡◌, Some, IfOk, map};
-ghost use Rattle.dir_tree.specs.Numbered.{entry_of, entries_of, ids_of, subentry_rows};
+ghost use Rattle.dir_tree.specs.tree.Numbered.{entry_of, entries_of, ids_of, subentry_rows};
 ghost use Rattle.acdf_filters.specs.Asking.{protected_of};
-ghost use Rattle.acdf_filters.specs.Granted.{granted};
-ghost use Rattle.acdf_filters.specs.Weighing.{AreMemberships};
+ghost use Rattle.acdf_filters.specs.laws.Granted.{granted};
+ghost use Rattle.acdf_filters.specs.weighing.Weighing.{AreMemberships};
 
 use crate::inserting::insert_step;
 use crate::removing::remove_step;
 use crate::replacing::replace_step;
+use acdf_filters::aci_item::Permission;
 use acdf_filters::{Item, Membership, Question, Requester};
 use acdf_lists::{
     Dir, Holdings, decide_by, decide_new_by, hold, in_force_at, in_force_new_by, memberships_in,
 };
-use aci_item::Permission;
 use dir_tree::{Entry, EntryNo, InsertRefusal, NoMemory, RemoveRefusal, ReplaceRefusal, Tree};
 use std::alloc::Global;
 use std::marker::Model;
@@ -27,8 +27,8 @@ pub struct IndexedDir {
 
 impl Model for IndexedDir {
     ghost use Rattle.std.specs.Prelude.{List};
-    ghost use Rattle.dir_tree.specs.Numbered.{Numbered};
-    ghost use Rattle.acdf_lists.specs.Holdings.{IsHeld};
+    ghost use Rattle.dir_tree.specs.tree.Numbered.{Numbered};
+    ghost use Rattle.acdf_lists.specs.kept.Holdings.{IsHeld};
 
     ghost Value = { List Numbered };
 

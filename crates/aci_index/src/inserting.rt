@@ -1,10 +1,10 @@
 //! What is kept, where an entry is put in.
 
 ghost use Rattle.std.specs.Prelude.{◌≡◌, ◌≢◌, ◌⊎◌, [], true, false, Some, None, IfOk, IfErr, OnOk, OnErr};
-ghost use Rattle.dir_tree.specs.Numbered.{entry_of, entries_of, put_entry};
-ghost use Rattle.dir_tree.specs.Points.{is_access_subentry};
+ghost use Rattle.dir_tree.specs.tree.Numbered.{entry_of, entries_of, put_entry};
+ghost use Rattle.dir_tree.specs.subentries.Points.{is_access_subentry};
 ghost use Rattle.dir_tree.specs.Refusals.{insert_refusal};
-ghost use Rattle.acdf_lists.specs.Holdings.{IsHeld};
+ghost use Rattle.acdf_lists.specs.kept.Holdings.{IsHeld};
 
 use crate::anew::{Reach, make_anew_with_room, put_anew};
 use crate::putting::{keep_anew, make_lists};

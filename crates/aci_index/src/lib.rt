@@ -9,4 +9,6 @@ mod putting;
 mod removing;
 mod replacing;
 
+pub use acdf_filters;
+pub use acdf_lists;
 pub use indexed_dir::IndexedDir;

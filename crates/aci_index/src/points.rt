@@ -2,40 +2,15 @@
 
 ghost use Rattle.std.specs.Prelude.{◌≡◌, false};
 ghost use Rattle.std.specs.Option.{option_map_or};
-ghost use Rattle.dir_tree.specs.Entries.{has_key, values_of};
-ghost use Rattle.dir_tree.specs.Numbered.{entry_of};
-ghost use Rattle.dir_tree.specs.Points.{administrative_role, is_specific_point, is_inner_point};
-ghost use Rattle.admin_scope.specs.Areas.{is_access_point};
-ghost use Rattle.aci_index.specs.Reach.{reach_of};
-ghost use Rattle.aci_index.specs.Steps.{are_alike, are_ordinary, has_same_roles, is_same_point, is_own_change};
+ghost use Rattle.dir_tree.specs.tree.Numbered.{entry_of};
+ghost use Rattle.acdf_filters.specs.admin_scope.point_list.Areas.{is_access_point};
+ghost use Rattle.aci_index.specs.points.Reach.{reach_of};
+ghost use Rattle.aci_index.specs.anew.Steps.{are_alike, are_ordinary, has_same_roles, is_same_point, is_own_change};
 
 use crate::anew::Reach;
+use acdf_filters::admin_scope::{is_inner_point, is_specific_point};
+use dir_tree::dn_names::same;
 use dir_tree::{Entry, EntryNo, Tree};
-use dn_names::same;
-use schema_core::AttrId;
-
-// Whether the entry has the role of the object identifier.
-fn has_role(entry: &Entry, oid: &str) -> bool
-    ensures exact { result ≡ has_key oid.now (values_of administrative_role entry.now.attributes) }
-{
-    entry.has_value(AttrId::ADMINISTRATIVE_ROLE, oid.as_bytes())
-}
-
-// Whether the entry is a specific point.
-#[tactic(auto, unfolding(dir_tree::specs::Points::is_specific_point))]
-fn is_specific_point(entry: &Entry) -> bool
-    ensures exact { result ≡ is_specific_point entry.now }
-{
-    has_role(entry, "2.5.23.1") || has_role(entry, "2.5.23.2")
-}
-
-// Whether the entry is an inner point.
-#[tactic(auto, unfolding(dir_tree::specs::Points::is_inner_point))]
-fn is_inner_point(entry: &Entry) -> bool
-    ensures exact { result ≡ is_inner_point entry.now }
-{
-    has_role(entry, "2.5.23.3") && !is_specific_point(entry)
-}
 
 // Whether the entry is a point for access control.
 fn is_access_point(entry: &Entry) -> bool
@@ -74,7 +49,7 @@ fn are_ordinary(one: &Entry, other: &Entry) -> bool
 }
 
 // Whether the one in place of the other changes no lists but its own.
-#[tactic(auto, unfolding(crate::specs::Steps::is_own_change))]
+#[tactic(auto, unfolding(crate::specs::anew::Steps::is_own_change))]
 fn is_own_change(one: &Entry, other: &Entry) -> bool
     ensures exact { result ≡ is_own_change one.now other.now }
 {

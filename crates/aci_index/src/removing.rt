@@ -1,11 +1,12 @@
 //! What is kept, where an entry is taken out.
 
 ghost use Rattle.std.specs.Prelude.{◌≡◌, ◌⊎◌, true, false, Some, None, IfOk, IfErr, OnOk, OnErr};
-ghost use Rattle.dir_tree.specs.Numbered.{entry_of, without};
-ghost use Rattle.dir_tree.specs.Points.{is_access_subentry};
+ghost use Rattle.dir_tree.specs.tree.Numbered.{entry_of, without};
+ghost use Rattle.dir_tree.specs.subentries.Points.{is_access_subentry};
 ghost use Rattle.dir_tree.specs.Refusals.{remove_refusal};
-ghost use Rattle.acdf_lists.specs.Holdings.{IsForgotten, IsHeld};
-ghost use Rattle.aci_index.specs.Steps.{OthersStay};
+ghost use Rattle.acdf_lists.specs.kept.Holdings.{IsForgotten, IsHeld};
+ghost use Rattle.acdf_lists.specs.kept.Lists.{lists_at, no_lists};
+ghost use Rattle.aci_index.specs.anew.Steps.{OthersStay};
 
 use acdf_lists::{Holdings, empty_lists, forget};
 use dir_tree::{Entry, EntryNo, RemoveRefusal, Tree};
@@ -14,6 +15,7 @@ use std::alloc::Global;
 // Keeps nothing of the entry of the number, which was taken out.
 fn drop_kept(alloc: Global, held: &mut Holdings, number: EntryNo, entry: &Entry)
     ensures subentry { is_access_subentry entry.now ≡ true → IsForgotten number.0 held.old held.new }
+    ensures gone { lists_at held.new.lists.items number.0 ≡ no_lists }
     ensures ordinary { is_access_subentry entry.now ≡ false → OthersStay number.0 held.old held.new }
 {
     if entry.is_access_subentry() {

@@ -1,17 +1,18 @@
 -- what public clauses cite
-pub mod Levels
-pub mod Permissions
-pub mod Items
-pub mod AciTuples
-pub mod Views
-pub mod ItemPrinted
+pub mod Level
+pub mod Permission
+pub mod item
+pub mod splitting
+pub mod printing
 pub mod Sets
-pub mod ItemParts
-pub mod AciText
-pub mod GoodItems
+pub mod members
+pub mod reading
+pub mod laws
 -- what the rules of entries are said in: they and a decision share them
 pub mod Listed
 pub mod Rules
 -- for the inside of the crate alone
-pub mod Rows
-pub mod Gathering
+pub mod bits
+-- the words of crates below, handed on
+pub use Rattle.subtree_spec.specs as subtree_spec
+pub use Rattle.gser_tree.specs as gser_tree

@@ -2,13 +2,13 @@
 use Rattle.std.specs.Prelude.{ℕ, Bool, true, false, ◌||◌, List, ◌++◌, filter}
 use Rattle.std.specs.List.{filter_map, flat_map}
 use Rattle.std.specs.Option.{option_map_or}
-pub use Rattle.plain_values.specs.Numbers.{has as is_among}
-use Rattle.schema_core.specs.declared.kinds.ClassKind.{ClassKind}
-use Rattle.schema_core.specs.declared.kinds.ClassKind.TheVariants.{Abstract, Structural, Auxiliary}
-use Rattle.schema_core.specs.Classes.{class_with, kind_of, required_of, allowed_of}
-use Rattle.schema_core.specs.Superclasses.{with_superclasses}
-use Rattle.dir_tree.specs.Entries.{Attribute, values_of}
-use Rattle.dir_tree.specs.EntryClasses.{object_class}
+pub use Rattle.dir_tree.specs.plain_values.Numbers.{has as is_among}
+use Rattle.dir_tree.specs.schema_core.declared.kinds.ClassKind.{ClassKind}
+use Rattle.dir_tree.specs.schema_core.declared.kinds.ClassKind.TheVariants.{Abstract, Structural, Auxiliary}
+use Rattle.dir_tree.specs.schema_core.classes.Classes.{class_with, kind_of, required_of, allowed_of}
+use Rattle.dir_tree.specs.schema_core.Superclasses.{with_superclasses}
+use Rattle.dir_tree.specs.Entry.{Attribute, values_of}
+use Rattle.dir_tree.specs.classes.EntryClasses.{object_class}
 
 -- the numbers of the listed classes that are in the table, in order
 abbrev pub listed_classes : List Attribute → List ℕ

@@ -1,6 +1,6 @@
 //! User classes.
 
-use dn_names::Dn;
+use dir_tree::dn_names::Dn;
 use subtree_spec::Spec;
 
 /// User classes (X.501 18.4.2.5): a requester is in them where it is in one of them. The names, and the subtrees, stand

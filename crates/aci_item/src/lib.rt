@@ -4,7 +4,7 @@
 mod bits;
 mod classes;
 mod item;
-mod laws;
+pub mod laws;
 mod level;
 mod members;
 mod parts;
@@ -17,12 +17,13 @@ mod splitting;
 
 pub use bits::Bits;
 pub use classes::UserClasses;
+pub use gser_tree;
 pub use item::{AciItem, First, ItemPermission, UserPermission};
-pub use laws::{a_printed_item_is_read_again, sets_are_in_order, sets_are_their_members_sorted};
 pub use level::Level;
 pub use permission::Permission;
 pub use printing::print;
 pub use protected::{AttributeTypeAndValue, ProtectedItems};
 pub use reading::read;
 pub use splitting::{AciTuple, tuples};
+pub use subtree_spec;
 pub use subtree_spec::BadText;

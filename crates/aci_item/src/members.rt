@@ -1,24 +1,24 @@
 //! The sets of items from their texts.
 
 ghost use Rattle.std.specs.Prelude.{◌≡◌, [], IfOk, codes, map, string_bytes};
-ghost use Rattle.gser_tree.specs.Trees.{shape_of};
+ghost use Rattle.gser_tree.specs.Tree.{shape_of};
 ghost use Rattle.gser_tree.specs.Reading.{Reads, optional};
 ghost use Rattle.gser_tree.specs.Writing.{text_of};
-ghost use Rattle.subtree_spec.specs.Subtrees.{subtree_of};
-ghost use Rattle.subtree_spec.specs.SubtreePrinted.{print_subtree};
-ghost use Rattle.aci_item.specs.ItemParts.{user, kind, kind_and_value, class_subtree};
-ghost use Rattle.aci_item.specs.ItemPrinted.{print_user, print_kind, print_value};
-ghost use Rattle.aci_item.specs.AciText.{sorted_set, kinds};
-ghost use Rattle.aci_item.specs.Gathering.{behind};
+ghost use Rattle.subtree_spec.specs.spec.Subtrees.{subtree_of};
+ghost use Rattle.subtree_spec.specs.printing.SubtreePrinted.{print_subtree};
+ghost use Rattle.aci_item.specs.members.ItemParts.{user, kind, kind_and_value, class_subtree};
+ghost use Rattle.aci_item.specs.printing.ItemPrinted.{print_user, print_kind, print_value};
+ghost use Rattle.aci_item.specs.reading.AciText.{sorted_set, kinds};
+ghost use Rattle.aci_item.specs.members.Gathering.{behind};
 
 use crate::parts::{class_subtree, kind, kind_and_value, user};
 use crate::printing::{put_attribute, put_user, put_value};
 use crate::protected::AttributeTypeAndValue;
 use crate::sets::{Printed, into_values, put};
-use dn_names::Dn;
+use dir_tree::dn_names::Dn;
+use dir_tree::plain_values::Text;
+use dir_tree::schema_core::AttrId;
 use gser_tree::{Bad, Stop, Tree, component};
-use plain_values::Text;
-use schema_core::AttrId;
 use std::alloc::{AllocError, Global};
 use subtree_spec::Spec;
 

@@ -2,25 +2,25 @@
 
 ghost use Rattle.std.specs.Prelude.{◌≡◌, [], ◌∷◌, codes, IfOk, IfSome, true, length, map, option_map, ◌==◌, min, if◌then◌else◌};
 ghost use Rattle.std.specs.Str.{is_utf8};
-ghost use Rattle.schema_core.specs.Attributes.{IsAttrId};
-ghost use Rattle.dn_names.specs.NameValues.{value_of};
-ghost use Rattle.gser_tree.specs.Trees.{shape_of};
-ghost use Rattle.gser_tree.specs.Looking.{flag};
+ghost use Rattle.dir_tree.specs.schema_core.Attributes.{IsAttrId};
+ghost use Rattle.dir_tree.specs.dn_names.make.NameValues.{value_of};
+ghost use Rattle.gser_tree.specs.Tree.{shape_of};
+ghost use Rattle.gser_tree.specs.looking.Looking.{flag};
 ghost use Rattle.gser_tree.specs.Reading.{Reads, part, required};
 ghost use Rattle.subtree_spec.specs.Parts.{name};
-ghost use Rattle.subtree_spec.specs.Subtrees.{subtree_of};
-ghost use Rattle.aci_item.specs.ItemParts.{level_word, basic_levels, level_by, level, bit, bits, named_user, user_by, user, kind, no_octets, assertion, kind_and_value, filter_place, least, class_subtree, flag_by};
-ghost use Rattle.aci_item.specs.Rows.{bit_of};
-ghost use Rattle.aci_item.specs.Gathering.{behind};
+ghost use Rattle.subtree_spec.specs.spec.Subtrees.{subtree_of};
+ghost use Rattle.aci_item.specs.members.ItemParts.{level_word, basic_levels, level_by, level, bit, bits, named_user, user_by, user, kind, no_octets, assertion, kind_and_value, filter_place, least, class_subtree, flag_by};
+ghost use Rattle.aci_item.specs.bits.Rows.{bit_of};
+ghost use Rattle.aci_item.specs.members.Gathering.{behind};
 
 use crate::bits::{Bits, bit_named};
 use crate::level::{Level, level_named};
 use crate::permission::Permission;
 use crate::protected::AttributeTypeAndValue;
-use dn_names::{Dn, Value, make_value};
+use dir_tree::dn_names::{Dn, Value, make_value};
+use dir_tree::match_rules::PrepareFault;
+use dir_tree::schema_core::{AttrId, attr};
 use gser_tree::{Bad, Part, Stop, Tree, component, flag};
-use match_rules::PrepareFault;
-use schema_core::{AttrId, attr};
 use std::alloc::{AllocError, Global};
 use subtree_spec::{Spec, name, oid, subtree};
 
@@ -43,7 +43,7 @@ pub(crate) fn flagged<'a>(name: &str, trees: &'a [Tree]) -> (bool, &'a [Tree])
 }
 
 // The word of a level.
-#[tactic(auto, unfolding(crate::specs::ItemParts::level_word))]
+#[tactic(auto, unfolding(crate::specs::members::ItemParts::level_word))]
 fn level_word(tree: &Tree, bad: &Bad) -> Result<Level, Stop>
     ensures read { Reads (λ level. level) result bad.now.first
         (level_word (shape_of tree.now) bad.now.first) }
@@ -53,7 +53,7 @@ fn level_word(tree: &Tree, bad: &Bad) -> Result<Level, Stop>
 }
 
 // The level of basicLevels.
-#[tactic(auto, unfolding(crate::specs::ItemParts::basic_levels))]
+#[tactic(auto, unfolding(crate::specs::members::ItemParts::basic_levels))]
 fn basic_levels(tree: &Tree, bad: &Bad) -> Result<Level, Stop>
     ensures read { Reads (λ level. level) result bad.now.first
         (basic_levels (shape_of tree.now) bad.now.first) }
@@ -68,7 +68,7 @@ fn basic_levels(tree: &Tree, bad: &Bad) -> Result<Level, Stop>
 }
 
 /// An authentication level.
-#[tactic(auto, unfolding(crate::specs::ItemParts::level))]
+#[tactic(auto, unfolding(crate::specs::members::ItemParts::level))]
 pub(crate) fn level(tree: &Tree, bad: &Bad) -> Result<Level, Stop>
     ensures read { Reads (λ level. level) result bad.now.first (level (shape_of tree.now) bad.now.first) }
 {
@@ -80,7 +80,7 @@ pub(crate) fn level(tree: &Tree, bad: &Bad) -> Result<Level, Stop>
 }
 
 // A bit.
-#[tactic(auto, unfolding(crate::specs::ItemParts::bit))]
+#[tactic(auto, unfolding(crate::specs::members::ItemParts::bit))]
 fn bit(tree: &Tree, bad: &Bad) -> Result<(Permission, bool), Stop>
     ensures read { Reads bit_of result bad.now.first (bit (shape_of tree.now) bad.now.first) }
 {
@@ -89,7 +89,7 @@ fn bit(tree: &Tree, bad: &Bad) -> Result<(Permission, bool), Stop>
 }
 
 /// Grants and denials.
-#[tactic(auto, unfolding(crate::specs::ItemParts::bits))]
+#[tactic(auto, unfolding(crate::specs::members::ItemParts::bits))]
 pub(crate) fn bits(tree: &Tree, bad: &Bad) -> Result<Bits, Stop>
     ensures read { Reads (λ bits. bits) result bad.now.first (bits (shape_of tree.now) bad.now.first) }
 {
@@ -103,7 +103,7 @@ pub(crate) fn bits(tree: &Tree, bad: &Bad) -> Result<Bits, Stop>
 }
 
 // The name of a sequence.
-#[tactic(auto, unfolding(crate::specs::ItemParts::named_user))]
+#[tactic(auto, unfolding(crate::specs::members::ItemParts::named_user))]
 fn named_user(alloc: Global, trees: &[Tree], bad: &mut Bad) -> Result<Dn, Stop>
     ensures read { Reads (λ name. name) result bad.new.first
         (named_user (map shape_of trees.now) bad.old.first) }
@@ -117,7 +117,7 @@ fn named_user(alloc: Global, trees: &[Tree], bad: &mut Bad) -> Result<Dn, Stop>
 }
 
 /// A user or a group.
-#[tactic(auto, unfolding(crate::specs::ItemParts::user))]
+#[tactic(auto, unfolding(crate::specs::members::ItemParts::user))]
 pub(crate) fn user(alloc: Global, tree: &Tree, bad: &mut Bad) -> Result<Dn, Stop>
     ensures read { Reads (λ name. name) result bad.new.first (user (shape_of tree.now) bad.old.first) }
 {
@@ -128,7 +128,7 @@ pub(crate) fn user(alloc: Global, tree: &Tree, bad: &mut Bad) -> Result<Dn, Stop
 }
 
 /// An attribute type; of one that is not in the table the place is bad, and objectClass stands for it.
-#[tactic(auto, unfolding(crate::specs::ItemParts::kind))]
+#[tactic(auto, unfolding(crate::specs::members::ItemParts::kind))]
 pub(crate) fn kind(tree: &Tree, bad: &mut Bad) -> Result<AttrId, Stop>
     ensures read { Reads (λ kind. kind.0) result bad.new.first (kind (shape_of tree.now) bad.old.first) }
     ensures fits { IfOk result (λ kind. IsAttrId kind.0) }
@@ -168,7 +168,7 @@ fn value_of(alloc: Global, kind: AttrId, text: &str) -> Result<Option<Value>, Al
 }
 
 // A value of a type; of a text that is not of its syntax the place is bad, and no octets stand for it.
-#[tactic(auto, unfolding(crate::specs::ItemParts::assertion))]
+#[tactic(auto, unfolding(crate::specs::members::ItemParts::assertion))]
 fn assertion(alloc: Global, kind: AttrId, tree: &Tree, bad: &mut Bad) -> Result<Value, Stop>
     requires { IsAttrId kind.0 }
     ensures read { Reads (λ value. value) result bad.new.first
@@ -186,7 +186,7 @@ fn assertion(alloc: Global, kind: AttrId, tree: &Tree, bad: &mut Bad) -> Result<
 }
 
 /// A type with a value.
-#[tactic(auto, using(crate::proofs::PartLemmas::left_misfits), unfolding(crate::specs::ItemParts::kind_and_value))]
+#[tactic(auto, using(crate::proofs::parts::PartLemmas::left_misfits), unfolding(crate::specs::members::ItemParts::kind_and_value))]
 pub(crate) fn kind_and_value(
     alloc: Global,
     tree: &Tree,
@@ -207,7 +207,7 @@ pub(crate) fn kind_and_value(
 }
 
 // The place of the refinement of a subtree specification.
-#[tactic(auto, unfolding(crate::specs::ItemParts::filter_place))]
+#[tactic(auto, unfolding(crate::specs::members::ItemParts::filter_place))]
 fn filter_place(tree: &Tree) -> Option<usize>
     ensures exact { result ≡ filter_place (shape_of tree.now) }
 {
@@ -229,7 +229,7 @@ fn least(bad: Option<usize>, place: Option<usize>) -> Option<usize>
 }
 
 /// A subtree of users; the place of a refinement is bad.
-#[tactic(auto, unfolding(crate::specs::ItemParts::class_subtree))]
+#[tactic(auto, unfolding(crate::specs::members::ItemParts::class_subtree))]
 pub(crate) fn class_subtree(alloc: Global, tree: &Tree, bad: &mut Bad) -> Result<Spec, Stop>
     ensures read { Reads subtree_of result bad.new.first (class_subtree (shape_of tree.now) bad.old.first) }
 {

@@ -1,7 +1,7 @@
 //! Permissions.
 
 ghost use Rattle.std.specs.Prelude.{◌≡◌, ◌<◌};
-ghost use Rattle.aci_item.specs.Permissions.{place_of, permissions};
+ghost use Rattle.aci_item.specs.Permission.{place_of, permissions};
 
 /// What may be granted or denied (X.501 18.2.3 and 18.2.4), in the order of the bits of grantsAndDenials.
 #[derive(Clone, Copy, PartialEq, Eq, Debug, Drop)]

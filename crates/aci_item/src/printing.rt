@@ -1,21 +1,21 @@
 //! Items as text.
 
 ghost use Rattle.std.specs.Prelude.{◌≡◌, [], ◌∷◌, ◌++◌, IfOk, OnOk, OnErr, true, codes, map, option_map, string_bytes};
-ghost use Rattle.schema_core.specs.Attributes.{name_of};
+ghost use Rattle.dir_tree.specs.schema_core.Attributes.{name_of};
 ghost use Rattle.gser_tree.specs.Writing.{text_of, print_braces, print_word, print_component, print_filled, print_flag, print_number, print_optional, PutsMembers};
-ghost use Rattle.subtree_spec.specs.Subtrees.{subtree_of};
-ghost use Rattle.subtree_spec.specs.SubtreePrinted.{print_subtree};
-ghost use Rattle.aci_item.specs.ItemPrinted.{print_bits, print_classes, print_first, print_item, print_item_first, print_item_permission, print_items, print_kind, print_level, print_precedence, print_set, print_user, print_user_first, print_user_permission, print_value};
-ghost use Rattle.aci_item.specs.Views.{classes_of, first_of, item_of_code, item_permission_of, items_of, user_permission_of};
+ghost use Rattle.subtree_spec.specs.spec.Subtrees.{subtree_of};
+ghost use Rattle.subtree_spec.specs.printing.SubtreePrinted.{print_subtree};
+ghost use Rattle.aci_item.specs.printing.ItemPrinted.{print_bits, print_classes, print_first, print_item, print_item_first, print_item_permission, print_items, print_kind, print_level, print_precedence, print_set, print_user, print_user_first, print_user_permission, print_value};
+ghost use Rattle.aci_item.specs.item.Views.{classes_of, first_of, item_of_code, item_permission_of, items_of, user_permission_of};
 
 use crate::bits::{Bits, put_bits};
 use crate::classes::UserClasses;
 use crate::item::{AciItem, First, ItemPermission, UserPermission};
 use crate::level::{Level, level_name};
 use crate::protected::{AttributeTypeAndValue, ProtectedItems};
-use dn_names::Dn;
+use dir_tree::dn_names::Dn;
+use dir_tree::schema_core::{AttrId, row};
 use gser_tree::{put_end, put_kind, put_name, put_number, put_separator, put_string};
-use schema_core::{AttrId, row};
 use std::alloc::{AllocError, Global};
 use subtree_spec::Spec;
 
@@ -36,7 +36,7 @@ pub(crate) fn put_user(alloc: Global, out: &mut String, name: &Dn) -> Result<(),
     ensures ok { OnOk result (string_bytes out.new ≡ string_bytes out.old ++ text_of (print_user name.now)) }
 {
     let mut text = String::new(alloc);
-    dn_names::print(alloc, name, &mut text)?;
+    dir_tree::dn_names::print(alloc, name, &mut text)?;
     put_name(out, true, "dn")?;
     put_string(out, text.as_str())?;
     put_end(out, false)?;
@@ -109,7 +109,7 @@ fn put_subtrees(
 }
 
 // Writes user classes.
-#[tactic(auto, unfolding(crate::specs::ItemPrinted::print_classes))]
+#[tactic(auto, unfolding(crate::specs::printing::ItemPrinted::print_classes))]
 fn put_classes(alloc: Global, out: &mut String, classes: &UserClasses) -> Result<(), AllocError>
     ensures ok { OnOk result (string_bytes out.new ≡ string_bytes out.old ++ text_of (print_classes (classes_of classes.now))) }
 {
@@ -209,7 +209,7 @@ fn put_values(
 }
 
 // Writes protected items.
-#[tactic(auto, unfolding(crate::specs::ItemPrinted::print_items))]
+#[tactic(auto, unfolding(crate::specs::printing::ItemPrinted::print_items))]
 fn put_items(out: &mut String, items: &ProtectedItems) -> Result<(), AllocError>
     ensures ok { OnOk result (string_bytes out.new ≡ string_bytes out.old ++ text_of (print_items (items_of items.now))) }
 {
@@ -245,7 +245,7 @@ fn put_precedence(out: &mut String, precedence: Option<u8>) -> Result<bool, Allo
 }
 
 /// Writes an item permission.
-#[tactic(auto, unfolding(crate::specs::ItemPrinted::print_item_permission))]
+#[tactic(auto, unfolding(crate::specs::printing::ItemPrinted::print_item_permission))]
 pub(crate) fn put_item_permission(
     alloc: Global,
     out: &mut String,
@@ -263,7 +263,7 @@ pub(crate) fn put_item_permission(
 }
 
 /// Writes a user permission.
-#[tactic(auto, unfolding(crate::specs::ItemPrinted::print_user_permission))]
+#[tactic(auto, unfolding(crate::specs::printing::ItemPrinted::print_user_permission))]
 pub(crate) fn put_user_permission(
     out: &mut String,
     permission: &UserPermission,
@@ -353,7 +353,7 @@ fn put_user_first(
 }
 
 // Writes what an item begins with.
-#[tactic(auto, unfolding(crate::specs::ItemPrinted::print_first))]
+#[tactic(auto, unfolding(crate::specs::printing::ItemPrinted::print_first))]
 fn put_first(alloc: Global, out: &mut String, first: &First) -> Result<(), AllocError>
     ensures ok { OnOk result (string_bytes out.new ≡ string_bytes out.old ++ text_of (print_first (first_of first.now))) }
 {
@@ -376,7 +376,7 @@ fn put_level(out: &mut String, level: Level) -> Result<(), AllocError>
 }
 
 // Writes an item.
-#[tactic(auto, unfolding(crate::specs::ItemPrinted::print_item))]
+#[tactic(auto, unfolding(crate::specs::printing::ItemPrinted::print_item))]
 fn put_item(alloc: Global, out: &mut String, item: &AciItem) -> Result<(), AllocError>
     ensures ok { OnOk result (string_bytes out.new ≡ string_bytes out.old ++ text_of (print_item (item_of_code item.now))) }
 {

@@ -3,8 +3,8 @@
 ghost use Rattle.std.specs.Prelude.{◌≡◌, true};
 ghost use Rattle.std.specs.Str.{IsUtf8, is_utf8};
 
-use dn_names::Value;
-use schema_core::AttrId;
+use dir_tree::dn_names::Value;
+use dir_tree::schema_core::AttrId;
 use std::marker::Model;
 use std::str;
 
@@ -18,7 +18,7 @@ pub struct AttributeTypeAndValue {
 impl Model for AttributeTypeAndValue {
     ghost use Rattle.std.specs.Str.{is_utf8};
     ghost use Rattle.std.specs.Prelude.{◌≡◌, true};
-    ghost use Rattle.dn_names.specs.Names.{TypeAndValue};
+    ghost use Rattle.dir_tree.specs.dn_names.name.Names.{TypeAndValue};
 
     ghost Value = { TypeAndValue };
 

@@ -1,19 +1,19 @@
 //! Items from their texts.
 
 ghost use Rattle.std.specs.Prelude.{◌≡◌, ◌≤◌, None, Ok, Err, codes, map, option_map, IfOk, string_bytes};
-ghost use Rattle.plain_values.specs.Answers.{Answers};
-ghost use Rattle.gser_tree.specs.Shapes.{Shape, nest};
-ghost use Rattle.gser_tree.specs.TextOf.{IsTextOf};
-ghost use Rattle.gser_tree.specs.Trees.{shape_of};
+ghost use Rattle.dir_tree.specs.plain_values.Answers.{Answers};
+ghost use Rattle.gser_tree.specs.looking.Shapes.{Shape, nest};
+ghost use Rattle.gser_tree.specs.part.TextOf.{IsTextOf};
+ghost use Rattle.gser_tree.specs.Tree.{shape_of};
 ghost use Rattle.gser_tree.specs.Reading.{Reads, optional};
 ghost use Rattle.gser_tree.specs.Writing.{text_of};
 ghost use Rattle.subtree_spec.specs.declared.error.BadText.TheVariants as fault;
-ghost use Rattle.subtree_spec.specs.SubtreeText.{there, judged, fault_of};
-ghost use Rattle.aci_item.specs.Items.{Item};
-ghost use Rattle.aci_item.specs.ItemPrinted.{print_item_permission, print_user_permission};
-ghost use Rattle.aci_item.specs.AciText.{sorted_set, classes, items, precedence, item_permission, user_permission, item_first, user_first, first, tag, aci_item, AciText, read_item};
-ghost use Rattle.aci_item.specs.Views.{classes_of, items_of, item_permission_of, user_permission_of, first_of, item_of_code};
-ghost use Rattle.aci_item.specs.Gathering.{behind};
+ghost use Rattle.subtree_spec.specs.reading.SubtreeText.{there, judged, fault_of};
+ghost use Rattle.aci_item.specs.item.Items.{Item};
+ghost use Rattle.aci_item.specs.printing.ItemPrinted.{print_item_permission, print_user_permission};
+ghost use Rattle.aci_item.specs.reading.AciText.{sorted_set, classes, items, precedence, item_permission, user_permission, item_first, user_first, first, tag, aci_item, AciText, read_item};
+ghost use Rattle.aci_item.specs.item.Views.{classes_of, items_of, item_permission_of, user_permission_of, first_of, item_of_code};
+ghost use Rattle.aci_item.specs.members.Gathering.{behind};
 
 use crate::bits::Bits;
 use crate::classes::UserClasses;
@@ -23,8 +23,8 @@ use crate::parts::{bits, flagged, is_end, level};
 use crate::printing::{put_item_permission, put_user_permission};
 use crate::protected::ProtectedItems;
 use crate::sets::{Printed, into_values, put};
+use dir_tree::plain_values::Text;
 use gser_tree::{Bad, Stop, Tree, component, number, read_tree};
-use plain_values::Text;
 use std::alloc::{AllocError, Global};
 use std::rc::Rc;
 use subtree_spec::BadText;
@@ -32,7 +32,7 @@ use subtree_spec::BadText;
 const MOST: u32 = 255;
 
 // User classes.
-#[tactic(auto, using(crate::proofs::PartLemmas::left_misfits), unfolding(crate::specs::AciText::classes))]
+#[tactic(auto, using(crate::proofs::parts::PartLemmas::left_misfits), unfolding(crate::specs::reading::AciText::classes))]
 fn classes(alloc: Global, tree: &Tree, bad: &mut Bad) -> Result<UserClasses, Stop>
     ensures read { Reads classes_of result bad.new.first (classes (shape_of tree.now) bad.old.first) }
 {
@@ -56,7 +56,7 @@ fn classes(alloc: Global, tree: &Tree, bad: &mut Bad) -> Result<UserClasses, Sto
 }
 
 // Protected items.
-#[tactic(auto, using(crate::proofs::PartLemmas::left_misfits), unfolding(crate::specs::AciText::items))]
+#[tactic(auto, using(crate::proofs::parts::PartLemmas::left_misfits), unfolding(crate::specs::reading::AciText::items))]
 fn items(alloc: Global, tree: &Tree, bad: &mut Bad) -> Result<ProtectedItems, Stop>
     ensures read { Reads items_of result bad.new.first (items (shape_of tree.now) bad.old.first) }
 {
@@ -104,7 +104,7 @@ fn own_precedence<'a>(trees: &'a [Tree], bad: &mut Bad) -> Result<(Option<u8>, &
 }
 
 // An item permission.
-#[tactic(auto, using(crate::proofs::PartLemmas::left_misfits), unfolding(crate::specs::AciText::item_permission))]
+#[tactic(auto, using(crate::proofs::parts::PartLemmas::left_misfits), unfolding(crate::specs::reading::AciText::item_permission))]
 fn item_permission(alloc: Global, tree: &Tree, bad: &mut Bad) -> Result<ItemPermission, Stop>
     ensures read { Reads item_permission_of result bad.new.first
         (item_permission (shape_of tree.now) bad.old.first) }
@@ -127,7 +127,7 @@ fn item_permission(alloc: Global, tree: &Tree, bad: &mut Bad) -> Result<ItemPerm
 }
 
 // A user permission.
-#[tactic(auto, using(crate::proofs::PartLemmas::left_misfits), unfolding(crate::specs::AciText::user_permission))]
+#[tactic(auto, using(crate::proofs::parts::PartLemmas::left_misfits), unfolding(crate::specs::reading::AciText::user_permission))]
 fn user_permission(alloc: Global, tree: &Tree, bad: &mut Bad) -> Result<UserPermission, Stop>
     ensures read { Reads user_permission_of result bad.new.first
         (user_permission (shape_of tree.now) bad.old.first) }
@@ -210,7 +210,7 @@ fn user_permissions(alloc: Global, tree: &Tree, bad: &mut Bad) -> Result<Vec<Use
 }
 
 // The alternative itemFirst.
-#[tactic(auto, using(crate::proofs::PartLemmas::left_misfits), unfolding(crate::specs::AciText::item_first))]
+#[tactic(auto, using(crate::proofs::parts::PartLemmas::left_misfits), unfolding(crate::specs::reading::AciText::item_first))]
 fn item_first(alloc: Global, tree: &Tree, bad: &mut Bad) -> Result<First, Stop>
     ensures read { Reads first_of result bad.new.first (item_first (shape_of tree.now) bad.old.first) }
 {
@@ -227,7 +227,7 @@ fn item_first(alloc: Global, tree: &Tree, bad: &mut Bad) -> Result<First, Stop>
 }
 
 // The alternative userFirst.
-#[tactic(auto, using(crate::proofs::PartLemmas::left_misfits), unfolding(crate::specs::AciText::user_first))]
+#[tactic(auto, using(crate::proofs::parts::PartLemmas::left_misfits), unfolding(crate::specs::reading::AciText::user_first))]
 fn user_first(alloc: Global, tree: &Tree, bad: &mut Bad) -> Result<First, Stop>
     ensures read { Reads first_of result bad.new.first (user_first (shape_of tree.now) bad.old.first) }
 {
@@ -244,7 +244,7 @@ fn user_first(alloc: Global, tree: &Tree, bad: &mut Bad) -> Result<First, Stop>
 }
 
 // What an item begins with.
-#[tactic(auto, unfolding(crate::specs::AciText::first))]
+#[tactic(auto, unfolding(crate::specs::reading::AciText::first))]
 fn first(alloc: Global, tree: &Tree, bad: &mut Bad) -> Result<First, Stop>
     ensures read { Reads first_of result bad.new.first (first (shape_of tree.now) bad.old.first) }
 {
@@ -268,7 +268,7 @@ fn tag(alloc: Global, tree: &Tree, bad: &Bad) -> Result<String, Stop>
 }
 
 // The item that a value is.
-#[tactic(auto, using(crate::proofs::PartLemmas::left_misfits), unfolding(crate::specs::AciText::aci_item))]
+#[tactic(auto, using(crate::proofs::parts::PartLemmas::left_misfits), unfolding(crate::specs::reading::AciText::aci_item))]
 fn item(alloc: Global, tree: &Tree, bad: &mut Bad) -> Result<AciItem, Stop>
     ensures read { Reads item_of_code result bad.new.first (aci_item (shape_of tree.now) bad.old.first) }
 {
@@ -312,7 +312,7 @@ pub fn read(alloc: Global, text: &[u8]) -> Result<AciItem, BadText>
 }
 
 // As `read`, by the function of the text.
-#[tactic(auto, unfolding(crate::specs::AciText::read_item))]
+#[tactic(auto, unfolding(crate::specs::reading::AciText::read_item))]
 fn read_all(alloc: Global, text: &[u8]) -> Result<AciItem, BadText>
     ensures exact { Answers item_of_code fault_of result (read_item text.now) }
 {

@@ -2,10 +2,10 @@
 
 ghost use Rattle.std.specs.Prelude.{◌≡◌, true, false, [], ◌∷◌, ◌++◌, IfOk, OnOk, map};
 ghost use Rattle.std.specs.List.{list_any};
-ghost use Rattle.aci_item.specs.Permissions.{is_same};
-ghost use Rattle.aci_item.specs.AciTuples.{kept, split, split_first, tuple_with, tuples_of_item};
-ghost use Rattle.aci_item.specs.Items.{ItemFirst, UserFirst};
-ghost use Rattle.aci_item.specs.Views.{classes_of, items_of, item_permission_of, user_permission_of, item_of_code, tuple_of};
+ghost use Rattle.aci_item.specs.Permission.{is_same};
+ghost use Rattle.aci_item.specs.splitting.AciTuples.{kept, split, split_first, tuple_with, tuples_of_item};
+ghost use Rattle.aci_item.specs.item.Items.{ItemFirst, UserFirst};
+ghost use Rattle.aci_item.specs.item.Views.{classes_of, items_of, item_permission_of, user_permission_of, item_of_code, tuple_of};
 
 use crate::bits::Bits;
 use crate::classes::UserClasses;
@@ -142,7 +142,7 @@ fn user_tuples(
 /// The tuples of an item: each permission, in their order, is split into what it grants and then what it denies, and
 /// those with a permission stay. A permission's own precedence stands in place of the item's. The error comes where
 /// memory is refused.
-#[tactic(auto, unfolding(crate::specs::AciTuples::tuples_of_item))]
+#[tactic(auto, unfolding(crate::specs::splitting::AciTuples::tuples_of_item))]
 pub fn tuples(alloc: Global, item: &AciItem) -> Result<Vec<AciTuple>, AllocError>
     ensures ok { IfOk result (λ tuples. map tuple_of tuples.items ≡ tuples_of_item (item_of_code item.now)) }
 {

@@ -1,13 +1,1 @@
 mod Examples
-mod EndsLemmas
-mod PrintLemmas
-mod JournalLemmas
-mod PlayLemmas
-mod ServeLemmas
-mod OutcomeLemmas
-mod DueLemmas
-mod PerformLemmas
-mod ExplainLemmas
-mod SampleLemmas
-mod RunLemmas
-mod TwinReplays

@@ -1,15 +1,10 @@
 -- what public clauses cite
-pub mod Outside
-pub mod Lines
-pub mod Serving
-pub mod Explaining
-pub mod Sampling
-pub mod Outcomes
-pub mod Causes
-pub mod Running
-pub mod Twins
+pub mod program
+pub mod printing
+pub mod serve
+pub mod explain
+pub mod sample
+pub mod status
 -- for the inside of the crate alone
 pub mod Troubles
-pub mod Playing
-pub mod Asked
-pub mod Listening
+pub mod replay

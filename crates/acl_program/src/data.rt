@@ -1,21 +1,21 @@
 //! The commands `check` and `dump`: a data file loaded, and counted or put again.
 
 ghost use Rattle.std.specs.Prelude.{◌≡◌, IfOk, string_bytes};
-ghost use Rattle.command_words.specs.Command.{Check, Dump};
-ghost use Rattle.dir_tree.specs.Points.{access_subentries};
-ghost use Rattle.dir_tree.specs.Numbered.{entries_of};
-ghost use Rattle.aci_item.specs.Rules.{IsGoodTree};
-ghost use Rattle.acl_program.specs.Outcomes.{Checked, Dumped, status_of, text_of};
-ghost use Rattle.acl_program.specs.Outside.{Linked, outside, written};
-ghost use Rattle.acl_program.specs.Playing.{Ends, Performs};
+ghost use Rattle.command_words.specs.command.Command.{Check, Dump};
+ghost use Rattle.command_files.specs.dir_tree.subentries.Points.{access_subentries};
+ghost use Rattle.command_files.specs.dir_tree.tree.Numbered.{entries_of};
+ghost use Rattle.command_files.specs.aci_item.Rules.{IsGoodTree};
+ghost use Rattle.acl_program.specs.status.Outcomes.{Checked, Dumped, status_of, text_of};
+ghost use Rattle.acl_program.specs.program.Outside.{Linked, outside, written};
+ghost use Rattle.acl_program.specs.program.Playing.{Ends, Performs};
 
 use crate::status::Status;
 use crate::troubles::print_trouble;
+use command_files::data_file::put_tree;
+use command_files::dir_tree::Tree;
 use command_files::load_data;
-use data_file::put_tree;
-use dir_tree::Tree;
+use command_files::wire_io::{Shelf, Sink, write_all};
 use std::alloc::{AllocError, Global};
-use wire_io::{Shelf, Sink, write_all};
 
 /// Loads the data file, and prints how many entries and access control subentries it has.
 pub(crate) fn check<H: Shelf, K: Sink>(
@@ -36,7 +36,7 @@ pub(crate) fn check<H: Shelf, K: Sink>(
 }
 
 /// Prints how many entries and access control subentries the tree has.
-#[tactic(auto, unfolding(crate::specs::Outcomes::text_of, crate::specs::Outcomes::status_of))]
+#[tactic(auto, unfolding(crate::specs::status::Outcomes::text_of, crate::specs::status::Outcomes::status_of))]
 fn print_counts<K: Sink>(alloc: Global, tree: &Tree, out: &mut K) -> Status
     ensures ends { Ends (Checked (entries_of tree.now)) (written (K.put out.old) (K.faults out.old)) result
         (written (K.put out.new) (K.faults out.new)) }
@@ -48,7 +48,7 @@ fn print_counts<K: Sink>(alloc: Global, tree: &Tree, out: &mut K) -> Status
     Status::Done.after(put)
 }
 
-#[tactic(auto, unfolding(crate::specs::Outcomes::text_of))]
+#[tactic(auto, unfolding(crate::specs::status::Outcomes::text_of))]
 fn counts(alloc: Global, tree: &Tree) -> Result<String, AllocError>
     ensures { IfOk result (λ text. string_bytes text ≡ text_of (Checked (entries_of tree.now))) }
 {
@@ -83,7 +83,7 @@ pub(crate) fn dump<H: Shelf, K: Sink>(
 }
 
 /// Prints the tree as a data file.
-#[tactic(auto, unfolding(crate::specs::Outcomes::text_of, crate::specs::Outcomes::status_of))]
+#[tactic(auto, unfolding(crate::specs::status::Outcomes::text_of, crate::specs::status::Outcomes::status_of))]
 fn print_tree<K: Sink>(alloc: Global, tree: &Tree, out: &mut K) -> Status
     requires { IsGoodTree (entries_of tree.now) }
     ensures ends { Ends (Dumped (entries_of tree.now)) (written (K.put out.old) (K.faults out.old)) result

@@ -1,24 +1,24 @@
 //! The command `explain`: one access control decision over a data file's tree, filter by filter.
 
 ghost use Rattle.std.specs.Prelude.{◌≡◌, ℕ, List, Some};
-ghost use Rattle.command_words.specs.Command.{Explain};
-ghost use Rattle.dir_tree.specs.Numbered.{entries_of};
-ghost use Rattle.question_words.specs.Questions.{question_view};
-ghost use Rattle.question_words.specs.Reading.{question_of};
-ghost use Rattle.acl_program.specs.Explaining.{text_explained};
-ghost use Rattle.acl_program.specs.Outcomes.{Explained};
-ghost use Rattle.acl_program.specs.Outside.{Linked, outside, written};
-ghost use Rattle.acl_program.specs.Playing.{Ends, Performs};
+ghost use Rattle.command_words.specs.command.Command.{Explain};
+ghost use Rattle.command_files.specs.dir_tree.tree.Numbered.{entries_of};
+ghost use Rattle.explain_text.specs.question_words.asked.Questions.{question_view};
+ghost use Rattle.explain_text.specs.question_words.Reading.{question_of};
+ghost use Rattle.explain_text.specs.Texts.{text_explained};
+ghost use Rattle.acl_program.specs.status.Outcomes.{Explained};
+ghost use Rattle.acl_program.specs.program.Outside.{Linked, outside, written};
+ghost use Rattle.acl_program.specs.program.Playing.{Ends, Performs};
 
 use crate::status::Status;
 use crate::troubles::{print_trouble, print_usage};
 use aci_index::IndexedDir;
+use command_files::dir_tree::Tree;
 use command_files::load_data;
-use dir_tree::Tree;
+use command_files::wire_io::{Shelf, Sink, write_all};
 use explain_text::explain_text;
-use question_words::{AskedDecision, read_question};
+use explain_text::question_words::{AskedDecision, read_question};
 use std::alloc::Global;
-use wire_io::{Shelf, Sink, write_all};
 
 /// What an explanation is asked for: its data file, and the four words of its question.
 #[derive(Clone, Copy, Debug)]
@@ -84,7 +84,7 @@ fn explain_tree<K: Sink>(alloc: Global, tree: Tree, question: &AskedDecision, ou
 }
 
 /// Prints the decision over the directory.
-#[tactic(auto, unfolding(crate::specs::Outcomes::text_of, crate::specs::Outcomes::status_of))]
+#[tactic(auto, unfolding(crate::specs::status::Outcomes::text_of, crate::specs::status::Outcomes::status_of))]
 fn print_explained<K: Sink>(
     alloc: Global,
     dir: &IndexedDir,
@@ -94,10 +94,7 @@ fn print_explained<K: Sink>(
     ensures ends { Ends (Explained (text_explained (entries_of dir.now) (question_view question.now)))
         (written (K.put out.old) (K.faults out.old)) result (written (K.put out.new) (K.faults out.new)) }
 {
-    let who = &question.who;
-    let target = &question.target;
-    let item = question.item.item();
-    let Ok(text) = explain_text(alloc, dir, who, target, item, question.permission) else {
+    let Ok(text) = explain_text(alloc, dir, question) else {
         return Status::NoMemory;
     };
     let put = write_all(out, text.as_bytes());

@@ -2,15 +2,15 @@
 
 ghost use Rattle.std.specs.Prelude.{◌≡◌, ◌++◌, IfOk, string_bytes, decimal, codes};
 ghost use Rattle.std.specs.Option.{option_map};
-ghost use Rattle.acl_program.specs.Lines.{shown, ending, line_of};
-ghost use Rattle.acl_program.specs.Playing.{journal_lines, journal_text, dumped_text, IsDumpable};
-ghost use Rattle.wire_io.specs.Putting.{PutsAll, PutCause};
-ghost use Rattle.wire_io.specs.Journal.{taken_of, is_hung_up};
+ghost use Rattle.acl_program.specs.printing.Lines.{shown, ending, line_of};
+ghost use Rattle.acl_program.specs.program.Playing.{journal_lines, journal_text, dumped_text, IsDumpable};
+ghost use Rattle.command_files.specs.wire_io.sink.Putting.{PutsAll, PutCause};
+ghost use Rattle.command_files.specs.wire_io.Journal.{taken_of, is_hung_up};
 
-use data_file::put_tree;
-use dir_tree::Tree;
+use command_files::data_file::put_tree;
+use command_files::dir_tree::Tree;
+use command_files::wire_io::{PutFault, ScriptLink, Sink, write_all};
 use std::alloc::{AllocError, Global};
-use wire_io::{PutFault, ScriptLink, Sink, write_all};
 
 /// Prints the lines of all connections that the link opened, and then the tree, where there is one to print.
 pub(crate) fn print_replay<K: Sink>(
@@ -140,7 +140,7 @@ fn shown(alloc: Global, octets: &[u8]) -> Result<String, AllocError>
     if octets.is_empty() {
         return String::from_str(alloc, "-");
     }
-    hex::encode(alloc, octets)
+    command_files::hex::encode(alloc, octets)
 }
 
 fn ending(hung_up: bool) -> &'static str

@@ -1,15 +1,15 @@
 //! The program's one call.
 
 ghost use Rattle.std.specs.Prelude.{◌≡◌, map, string_bytes};
-ghost use Rattle.plain_values.specs.Counts.{Rose};
-ghost use Rattle.acl_program.specs.Causes.{AsksServing, IsNoCommand, IsDue};
-ghost use Rattle.acl_program.specs.Outcomes.{Outcome};
-ghost use Rattle.acl_program.specs.Outside.{linked, outside};
-ghost use Rattle.acl_program.specs.Running.{Prints, EndsAs, IsCause, EndsAtFaults};
-ghost use Rattle.acl_program.specs.Playing.{Runs, Performs};
-ghost use Rattle.acl_program.specs.Twins.{PrintsAlike};
-ghost use Rattle.acl_program.specs.Sampling.{IsFew};
-ghost use Rattle.command_words.specs.Command.{view};
+ghost use Rattle.command_files.specs.plain_values.Counts.{Rose};
+ghost use Rattle.acl_program.specs.program.Causes.{AsksServing, IsNoCommand, IsDue};
+ghost use Rattle.acl_program.specs.status.Outcomes.{Outcome};
+ghost use Rattle.acl_program.specs.program.Outside.{linked, outside};
+ghost use Rattle.acl_program.specs.program.Running.{Prints, EndsAs, IsCause, EndsAtFaults};
+ghost use Rattle.acl_program.specs.program.Playing.{Runs, Performs};
+ghost use Rattle.acl_program.specs.program.Twins.{PrintsAlike};
+ghost use Rattle.acl_program.specs.sample.Sampling.{IsFew};
+ghost use Rattle.command_words.specs.command.Command.{view};
 
 use crate::data::{check, dump};
 use crate::explain::{Explaining, explain};
@@ -18,9 +18,9 @@ use crate::sample::sample;
 use crate::serve::{Serving, serve};
 use crate::status::Status;
 use crate::troubles::print_usage;
+use command_files::wire_io::{Link, Shelf, Sink};
 use command_words::{Command, read_words};
 use std::alloc::Global;
-use wire_io::{Link, Shelf, Sink};
 
 /// Does what the words after the program's name ask for, and says how it ended.
 ///
@@ -108,7 +108,7 @@ fn run_words<H: Shelf, K: Sink, L: Link>(
 }
 
 /// Does what a command asks for.
-#[tactic(auto, unfolding(crate::specs::Playing::Performs))]
+#[tactic(auto, unfolding(crate::specs::program::Playing::Performs))]
 fn perform<H: Shelf, K: Sink, L: Link>(
     alloc: Global,
     command: Command<'_>,

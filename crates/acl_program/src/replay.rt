@@ -2,25 +2,26 @@
 
 ghost use Rattle.std.specs.Prelude.{◌≡◌, [], Some};
 ghost use Rattle.std.specs.Option.{option_map};
-ghost use Rattle.command_words.specs.Command.{Replay};
-ghost use Rattle.wire_io.specs.Scripted.{fresh_link};
-ghost use Rattle.dir_tree.specs.Numbered.{entries_of};
-ghost use Rattle.aci_item.specs.Rules.{IsGoodTree};
-ghost use Rattle.acl_program.specs.Outcomes.{Replayed, dump_text};
-ghost use Rattle.acl_program.specs.Outside.{Linked, outside, written};
-ghost use Rattle.acl_program.specs.Asked.{Replays, replay_asked};
-ghost use Rattle.acl_program.specs.Playing.{Performs, Plays, Shows, Ends, dumped_text, IsDumpable};
+ghost use Rattle.command_words.specs.command.Command.{Replay};
+ghost use Rattle.command_files.specs.wire_io.script_link.Scripted.{fresh_link};
+ghost use Rattle.command_files.specs.dir_tree.tree.Numbered.{entries_of};
+ghost use Rattle.command_files.specs.aci_item.Rules.{IsGoodTree};
+ghost use Rattle.acl_program.specs.status.Outcomes.{Replayed, dump_text};
+ghost use Rattle.acl_program.specs.program.Outside.{Linked, outside, written};
+ghost use Rattle.acl_program.specs.replay.Asked.{Replays, replay_asked};
+ghost use Rattle.acl_program.specs.program.Playing.{Performs, Plays, Shows, Ends, dumped_text, IsDumpable};
 
 use crate::printing::print_replay;
 use crate::status::Status;
 use crate::troubles::print_trouble;
-use acdf_lists::Dir;
 use aci_index::IndexedDir;
+use aci_index::acdf_lists::Dir;
+use command_files::dir_tree::Tree;
+use command_files::wire_io::{ScriptLink, Shelf, Sink};
 use command_files::{load_data, load_script};
-use dir_tree::Tree;
-use session_hub::{Ended, serve_loop, sessions_keep_a_directory_good};
+use session_hub::laws::sessions_keep_a_directory_good;
+use session_hub::{Ended, serve_loop};
 use std::alloc::Global;
-use wire_io::{ScriptLink, Shelf, Sink};
 
 /// What a replay is asked for: its two files, how many events are heard at most, and whether the tree is put.
 #[derive(Clone, Copy, Debug)]

@@ -2,31 +2,31 @@
 //! its persons.
 
 ghost use Rattle.std.specs.Prelude.{◌≡◌, ◌≤◌, [], ℕ, Option, Ok, IfErr, IfOk, OnOk, string_bytes};
-ghost use Rattle.command_words.specs.Command.{Sample};
-ghost use Rattle.plain_values.specs.Answers.{IsFaultOf};
-ghost use Rattle.data_file.specs.Files.{fault_of};
-ghost use Rattle.dir_tree.specs.Numbered.{entries_of};
-ghost use Rattle.op_write.specs.DataFile.{loads};
-ghost use Rattle.sample_input.specs.SampleFile.{sample_file};
-ghost use Rattle.sample_input.specs.SampleEvents.{sample_events};
-ghost use Rattle.wire_io.specs.Files.{Files};
-ghost use Rattle.wire_io.specs.Journal.{taken_of};
-ghost use Rattle.wire_io.specs.Scripted.{fresh_link};
-ghost use Rattle.acl_program.specs.Outcomes.{Sampled};
-ghost use Rattle.acl_program.specs.Outside.{Linked, outside, written};
-ghost use Rattle.acl_program.specs.Playing.{Ends, Performs};
-ghost use Rattle.acl_program.specs.Sampling.{sample_text, sample_replies, summary};
+ghost use Rattle.command_words.specs.command.Command.{Sample};
+ghost use Rattle.command_files.specs.plain_values.Answers.{IsFaultOf};
+ghost use Rattle.command_files.specs.data_file.loading.Files.{fault_of};
+ghost use Rattle.command_files.specs.dir_tree.tree.Numbered.{entries_of};
+ghost use Rattle.command_files.specs.op_write.load.DataFile.{loads};
+ghost use Rattle.sample_input.specs.file.SampleFile.{sample_file};
+ghost use Rattle.sample_input.specs.events.SampleEvents.{sample_events};
+ghost use Rattle.command_files.specs.wire_io.shelf.Files.{Files};
+ghost use Rattle.command_files.specs.wire_io.Journal.{taken_of};
+ghost use Rattle.command_files.specs.wire_io.script_link.Scripted.{fresh_link};
+ghost use Rattle.acl_program.specs.status.Outcomes.{Sampled};
+ghost use Rattle.acl_program.specs.program.Outside.{Linked, outside, written};
+ghost use Rattle.acl_program.specs.program.Playing.{Ends, Performs};
+ghost use Rattle.acl_program.specs.sample.Sampling.{sample_text, sample_replies, summary};
 
 use crate::status::Status;
 use crate::troubles::print_bad_data;
-use acdf_lists::Dir;
 use aci_index::IndexedDir;
-use data_file::{DataFault, load};
-use dir_tree::{NoMemory, Tree};
+use aci_index::acdf_lists::Dir;
+use command_files::data_file::{DataFault, load};
+use command_files::dir_tree::{NoMemory, Tree};
+use command_files::wire_io::{ScriptLink, Sink, write_all};
 use sample_input::{count_found, sample_events, sample_file};
 use session_hub::{Ended, serve_loop};
 use std::alloc::{AllocError, Global};
-use wire_io::{ScriptLink, Sink, write_all};
 
 /// How many events are heard at most.
 const TURNS: u64 = 1_000_000_000_000;
@@ -72,7 +72,7 @@ fn sample_link(alloc: Global, count: u32) -> Result<ScriptLink, NoMemory>
 }
 
 /// The same over the tree.
-#[tactic(auto, unfolding(crate::specs::Outcomes::text_of, crate::specs::Outcomes::status_of))]
+#[tactic(auto, unfolding(crate::specs::status::Outcomes::text_of, crate::specs::status::Outcomes::status_of))]
 fn sample_over<K: Sink>(alloc: Global, tree: Tree, count: u32, out: &mut K) -> Status
     requires few { count ≤ 20000 }
     ensures ends { Ends (Sampled (sample_text (entries_of tree) count))
@@ -121,7 +121,7 @@ fn serve_sample(alloc: Global, dir: &mut IndexedDir, link: &mut ScriptLink) -> R
 }
 
 /// The summary of the replies that were sent.
-#[tactic(auto, unfolding(crate::specs::Sampling::summary))]
+#[tactic(auto, unfolding(crate::specs::sample::Sampling::summary))]
 fn summary(alloc: Global, entries: usize, replies: &[u8]) -> Result<String, AllocError>
     ensures { IfOk result (λ text. string_bytes text ≡ summary entries replies.now) }
 {

@@ -1,23 +1,23 @@
 //! The command `serve`: a data file's tree served over the link's connections.
 
 ghost use Rattle.std.specs.Prelude.{◌≡◌, ℕ, List, IfOk, string_bytes};
-ghost use Rattle.command_words.specs.Command.{Serve};
-ghost use Rattle.dir_tree.specs.Numbered.{entries_of};
-ghost use Rattle.wire_io.specs.Putting.{PutsAll, PutCause};
-ghost use Rattle.acl_program.specs.Listening.{Listens, ListensOn, ServesOpened};
-ghost use Rattle.acl_program.specs.Outcomes.{Served};
-ghost use Rattle.acl_program.specs.Outside.{Shelved, beside, linked, outside, written};
-ghost use Rattle.acl_program.specs.Playing.{Ends, Performs};
-ghost use Rattle.acl_program.specs.Serving.{NotOpened, ServeAsked, ended_text, listening_text, loop_status, serve_asked};
+ghost use Rattle.command_words.specs.command.Command.{Serve};
+ghost use Rattle.command_files.specs.dir_tree.tree.Numbered.{entries_of};
+ghost use Rattle.command_files.specs.wire_io.sink.Putting.{PutsAll, PutCause};
+ghost use Rattle.acl_program.specs.serve.Listening.{Listens, ListensOn, ServesOpened};
+ghost use Rattle.acl_program.specs.status.Outcomes.{Served};
+ghost use Rattle.acl_program.specs.program.Outside.{Shelved, beside, linked, outside, written};
+ghost use Rattle.acl_program.specs.program.Playing.{Ends, Performs};
+ghost use Rattle.acl_program.specs.serve.Serving.{NotOpened, ServeAsked, ended_text, listening_text, loop_status, serve_asked};
 
 use crate::status::Status;
 use crate::troubles::print_trouble;
 use aci_index::IndexedDir;
+use command_files::dir_tree::Tree;
 use command_files::load_data;
-use dir_tree::Tree;
+use command_files::wire_io::{Link, NextFault, PutFault, Shelf, Sink, write_all};
 use session_hub::{Ended, serve_loop};
 use std::alloc::{AllocError, Global};
-use wire_io::{Link, NextFault, PutFault, Shelf, Sink, write_all};
 
 /// What serving is asked for: its data file, the address, after how many connections the link stops, never with 0, and
 /// how many events are heard at most.
@@ -178,7 +178,7 @@ fn loop_status(ended: Ended) -> Status
 }
 
 /// Prints that the link failed.
-#[tactic(auto, unfolding(crate::specs::Outcomes::text_of, crate::specs::Outcomes::status_of))]
+#[tactic(auto, unfolding(crate::specs::status::Outcomes::text_of, crate::specs::status::Outcomes::status_of))]
 fn print_link_fault<K: Sink>(out: &mut K) -> Status
     ensures ends { (asked : ServeAsked) → Ends (Served asked NotOpened) (written (K.put out.old) (K.faults out.old)) result
         (written (K.put out.new) (K.faults out.new)) }

@@ -1,9 +1,9 @@
 //! How the program ends.
 
 ghost use Rattle.std.specs.Prelude.{◌≡◌, Ok, Err};
-ghost use Rattle.acl_program.specs.Outcomes.{number_of, settled};
+ghost use Rattle.acl_program.specs.status.Outcomes.{number_of, settled};
 
-use wire_io::PutFault;
+use command_files::wire_io::PutFault;
 
 /// How the program ended, with one number each for the system.
 #[derive(Clone, Copy, Debug, PartialEq, Eq)]

@@ -1,7 +1,7 @@
 -- what public clauses cite
 pub mod Refinements
-pub mod Areas
-pub mod InForce
-pub mod Finding
+pub mod point_list
+pub mod subentries
+pub mod subtrees
 -- for the inside of the crate alone
-pub mod Walking
+pub mod upwards

@@ -1,7 +1,7 @@
 //! Administrative areas (X.501 14.3 and 18.3), and the access control subentries that are in force for an entry.
 #![tactic(auto)]
 
-mod laws;
+pub mod laws;
 mod membership;
 mod point_list;
 mod refinements;
@@ -10,10 +10,8 @@ mod subentries;
 mod subtrees;
 mod upwards;
 
-pub use laws::{
-    a_subtree_without_subentries_changes_no_area, an_entry_taken_out_changes_no_area_beside_it,
-};
 pub use membership::holds;
 pub use point_list::areas;
+pub use roles::{is_inner_point, is_specific_point};
 pub use subentries::{applies, in_force, in_force_by, in_force_for};
 pub use subtrees::{AccessSubentry, access_subtrees, subtree};

@@ -1,12 +1,12 @@
 //! Which entries belong to a subtree.
 
 ghost use Rattle.std.specs.Prelude.{◌≡◌};
-ghost use Rattle.subtree_spec.specs.Subtrees.{subtree_of};
+ghost use Rattle.subtree_spec.specs.spec.Subtrees.{subtree_of};
 ghost use Rattle.admin_scope.specs.Refinements.{holds};
 
 use crate::refinements::meets_filter;
 use dir_tree::Entry;
-use dn_names::Dn;
+use dir_tree::dn_names::Dn;
 use subtree_spec::{Spec, holds_below};
 
 /// Whether the subtree of a point of this name holds the entry (X.501 12.3): the entry stands in its place, and its

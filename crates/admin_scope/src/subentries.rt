@@ -3,11 +3,11 @@
 ghost use Rattle.std.specs.Prelude.{◌≡◌, ◌++◌, ℕ, map, flat_map, Some, IsSome, IfOk, OnOk, false, []};
 ghost use Rattle.std.specs.List.{AllByRecursion};
 ghost use Rattle.std.specs.Option.{option_map_or};
-ghost use Rattle.dir_tree.specs.Entries.{EntryInformation};
-ghost use Rattle.dir_tree.specs.Numbered.{entry_of, entries_of, entries_at};
-ghost use Rattle.admin_scope.specs.InForce.{applies, in_force};
-ghost use Rattle.admin_scope.specs.Walking.{walk_of};
-ghost use Rattle.admin_scope.specs.Finding.{AreSubtrees, numbers_by};
+ghost use Rattle.dir_tree.specs.Entry.{EntryInformation};
+ghost use Rattle.dir_tree.specs.tree.Numbered.{entry_of, entries_of, entries_at};
+ghost use Rattle.admin_scope.specs.subentries.InForce.{applies, in_force};
+ghost use Rattle.admin_scope.specs.upwards.Walking.{walk_of};
+ghost use Rattle.admin_scope.specs.subtrees.Finding.{AreSubtrees, numbers_by};
 
 use crate::membership::holds;
 use crate::roles::is_specific;
@@ -18,7 +18,7 @@ use std::alloc::Global;
 
 /// Whether the subentry, immediately below the point, is in force for the entry as far as they alone say: whether it is
 /// an access control subentry whose subtree holds the entry. The error comes where memory is wanted.
-#[tactic(auto, unfolding(crate::specs::InForce::subtree_holds))]
+#[tactic(auto, unfolding(crate::specs::subentries::InForce::subtree_holds))]
 pub fn applies(
     alloc: Global,
     point: &Entry,

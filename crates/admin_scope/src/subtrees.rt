@@ -2,16 +2,16 @@
 
 ghost use Rattle.std.specs.Prelude.{◌≡◌, ◌==◌, ◌+◌, length, IfOk, option_map};
 ghost use Rattle.std.specs.Result.{result_ok};
-ghost use Rattle.dir_tree.specs.Scopes.{is_child};
-ghost use Rattle.subtree_spec.specs.Subtrees.{subtree_of};
-ghost use Rattle.subtree_spec.specs.SubtreeText.{read_subtree};
-ghost use Rattle.admin_scope.specs.InForce.{subtree_of_entry};
-ghost use Rattle.admin_scope.specs.Finding.{AreSubtrees, holds_by, holds_read, subtree_at};
+ghost use Rattle.dir_tree.specs.Scope.{is_child};
+ghost use Rattle.subtree_spec.specs.spec.Subtrees.{subtree_of};
+ghost use Rattle.subtree_spec.specs.reading.SubtreeText.{read_subtree};
+ghost use Rattle.admin_scope.specs.subentries.InForce.{subtree_of_entry};
+ghost use Rattle.admin_scope.specs.subtrees.Finding.{AreSubtrees, holds_by, holds_read, subtree_at};
 
 use crate::membership::holds;
+use dir_tree::dn_names::{Dn, is_prefix};
+use dir_tree::schema_core::AttrId;
 use dir_tree::{Entry, EntryNo, NoMemory, Tree};
-use dn_names::{Dn, is_prefix};
-use schema_core::AttrId;
 use std::alloc::{AllocError, Global};
 use subtree_spec::{BadText, Spec, read};
 
@@ -37,7 +37,7 @@ fn read_octets(alloc: Global, octets: &[u8]) -> Result<Option<Spec>, NoMemory>
 
 /// The subtree of a subentry, from the text of its subtreeSpecification (RFC 3672 section 2.1); None where it has no
 /// value, or one that is no such text. The error comes where memory is wanted.
-#[tactic(auto, unfolding(crate::specs::InForce::subtree_of_entry))]
+#[tactic(auto, unfolding(crate::specs::subentries::InForce::subtree_of_entry))]
 pub fn subtree(alloc: Global, subentry: &Entry) -> Result<Option<Spec>, NoMemory>
     ensures exact { IfOk result (λ spec. option_map subtree_of spec ≡ subtree_of_entry subentry.now) }
 {

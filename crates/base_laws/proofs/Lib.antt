@@ -1,5 +1,1 @@
-pub mod TestLemmas
-pub mod EachLemmas
-pub mod FilterLemmas
-pub mod MapLemmas
 pub mod Theorems

@@ -2,9 +2,9 @@
 use Rattle.std.proofs.Common.{◌≡◌, ◌^◌, ◌-◌, [], ◌∷◌, Some, None, refl}
 use Rattle.std.specs.Prelude.{pos, negsuc}
 use Rattle.ber_core.specs.declared.kinds.Header.TheVariants.{Head, Short, Bad}
-use Rattle.ber_core.specs.Heading.{length_at, header_at}
+use Rattle.ber_core.specs.read.Heading.{length_at, header_at}
 use Rattle.ber_core.specs.Integer.{int_at, int_octets}
-use Rattle.ber_core.specs.Spelling.{length_octets, header_octets}
+use Rattle.ber_core.specs.write.Spelling.{length_octets, header_octets}
 
 -- each form of the length 5, and the front of one
 short_form : header_at (4 ∷ 5 ∷ []) ≡ Head 4 2 5

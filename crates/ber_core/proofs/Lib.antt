@@ -1,10 +1,2 @@
-pub mod NumberLemmas
-pub mod IntegerLemmas
-pub mod HeadingLemmas
-pub mod ElementLemmas
-pub mod SpellingLemmas
-pub mod WrittenIntegers
-pub mod OneForm
-pub mod OneInteger
 pub mod Theorems
 pub mod Examples

@@ -1,7 +1,7 @@
 -- The content of an INTEGER or an ENUMERATED: two's complement in the fewest octets (X.690 8.3).
 use Rattle.std.specs.Prelude.{◌≡◌, ℕ, ◌-◌, ◌<◌, ◌≤◌, ℤ, pos, negsuc, List, [], ◌∷◌, length, map, Bool, true, false, Option, Some, None, ◌==◌, ◌&&◌, not, nat_lt, nat_le, int_lt, if◌then◌else◌}
 use Rattle.std.specs.Int.{w64, to_be_bytes}
-use Rattle.ber_core.specs.Element.{number_after}
+use Rattle.ber_core.specs.write.Element.{number_after}
 
 -- ---- the relation
 

@@ -4,10 +4,10 @@ use Rattle.std.specs.Int.{w64}
 use Rattle.std.specs.List.{AllByRecursion}
 use Rattle.ber_core.specs.declared.kinds.Header.{Header}
 use Rattle.ber_core.specs.declared.kinds.Header.TheVariants.{Head}
-use Rattle.ber_core.specs.Element.{SpellsLength, IsTag, IsHeader, Elem}
-use Rattle.ber_core.specs.Heading.{IsHeading, header_at}
+use Rattle.ber_core.specs.write.Element.{SpellsLength, IsTag, IsHeader, Elem}
+use Rattle.ber_core.specs.read.Heading.{IsHeading, header_at}
 use Rattle.ber_core.specs.Integer.{IsInteger, int_at, int_octets}
-use Rattle.ber_core.specs.Spelling.{length_octets, header_octets}
+use Rattle.ber_core.specs.write.Spelling.{length_octets, header_octets}
 
 -- equal octets that begin with elements begin with one element
 pub record SameElement (tag tag' : ℕ) (content content' bytes bytes' rest rest' : List ℕ) : Type 0 where

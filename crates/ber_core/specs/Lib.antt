@@ -1,6 +1,5 @@
 -- what public clauses cite
-pub mod Element
-pub mod Heading
+pub mod write
+pub mod read
 pub mod Integer
-pub mod Spelling
 pub mod Laws

@@ -3,16 +3,12 @@
 
 mod integer;
 mod kinds;
-mod laws;
+pub mod laws;
 mod number;
 mod read;
 mod write;
 
 pub use integer::{int_len, put_int, read_int};
 pub use kinds::{Header, NoMemory};
-pub use laws::{
-    headers_read_again, integers_read_again, lengths_are_shortest, one_element, one_heading,
-    one_integer,
-};
 pub use read::header;
 pub use write::{header_len, put_header};

@@ -1,7 +1,7 @@
 //! Numbers from octets, the most significant first.
 
 ghost use Rattle.std.specs.Prelude.{◌≡◌, ◌≤◌, ◌<◌, ◌+◌, ◌*◌, ◌^◌, length};
-ghost use Rattle.ber_core.specs.Element.{number_after};
+ghost use Rattle.ber_core.specs.write.Element.{number_after};
 ghost use Rattle.ber_core.specs.Integer.{turned};
 
 /// The number that some octets spell after a first octet.

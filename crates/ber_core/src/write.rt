@@ -1,12 +1,12 @@
 //! Headers written.
 
 ghost use Rattle.std.specs.Prelude.{◌≡◌, ◌≢◌, ◌+◌, ◌<◌, ◌≤◌, ◌^◌, ◌++◌, length, OnOk, OnErr};
-ghost use Rattle.ber_core.specs.Element.{IsTag};
-ghost use Rattle.ber_core.specs.Spelling.{length_octets, header_octets};
+ghost use Rattle.ber_core.specs.write.Element.{IsTag};
+ghost use Rattle.ber_core.specs.write.Spelling.{length_octets, header_octets};
 
 use crate::kinds::NoMemory;
 
-#[tactic(auto, unfolding(crate::specs::Spelling::length_octets))]
+#[tactic(auto, unfolding(crate::specs::write::Spelling::length_octets))]
 fn put_octets(out: &mut Vec<u8>, tag: u8, len: u32) -> Result<(), NoMemory>
     ensures ok { OnOk result (out.new.items ≡ out.old.items ++ header_octets tag len) }
     ensures err { OnErr result (out.new.items ≡ out.old.items) }
@@ -39,7 +39,7 @@ pub fn put_header(out: &mut Vec<u8>, tag: u8, len: usize) -> Result<(), NoMemory
 }
 
 /// How many octets `put_header` appends, with any tag. This takes no memory.
-#[tactic(auto, unfolding(crate::specs::Spelling::length_octets))]
+#[tactic(auto, unfolding(crate::specs::write::Spelling::length_octets))]
 pub fn header_len(len: usize) -> usize
     ensures exact { result ≡ 1 + length (length_octets len) }
     ensures bound { result ≤ 6 }

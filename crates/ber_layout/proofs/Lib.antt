@@ -1,12 +1,2 @@
-pub mod PieceLemmas
-pub mod StepLemmas
-pub mod ComponentLemmas
-pub mod EachLemmas
-pub mod LayoutLemmas
-pub mod SpellingLemmas
-pub mod EncloseLemmas
-pub mod FaultLemmas
-pub mod WritingLemmas
-pub mod RangeLemmas
 pub mod Theorems
 pub mod Examples

@@ -1,9 +1,6 @@
 -- what public clauses cite
-pub mod Pieces
-pub mod Flags
-pub mod Components
-pub mod Layouts
-pub mod Spellings
-pub mod Ranges
-pub mod Reading
-pub mod Laws
+pub mod element
+pub mod components
+pub mod laid
+pub mod write
+pub mod laws

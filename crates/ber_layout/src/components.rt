@@ -1,11 +1,11 @@
 //! The components of a SEQUENCE, read where they lie; only the fields' octets are copied.
 
 ghost use Rattle.std.specs.Prelude.{◌≡◌, ◌≤◌, ℕ, Bool, map, option_map, IfOk, OnOk, ◌++◌, ◌∷◌, []};
-ghost use Rattle.ber_layout.specs.Flags.{flag_of};
-ghost use Rattle.ber_layout.specs.Components.{any_of, required_of, optional_of, marked_of, each_of};
-ghost use Rattle.ber_layout.specs.Layouts.{reads};
-ghost use Rattle.ber_layout.specs.Layouts.Layout.{AnyOctets, Ignored, Number, Skipped, Flag, End, Each};
-ghost use Rattle.ber_layout.specs.Reading.{Gives};
+ghost use Rattle.ber_layout.specs.components.Flags.{flag_of};
+ghost use Rattle.ber_layout.specs.components.Components.{any_of, required_of, optional_of, marked_of, each_of};
+ghost use Rattle.ber_layout.specs.laid.Layouts.{reads};
+ghost use Rattle.ber_layout.specs.laid.Layouts.Layout.{AnyOctets, Ignored, Number, Skipped, Flag, End, Each};
+ghost use Rattle.ber_layout.specs.element.Reading.{Gives};
 
 use crate::element::{Element, any_element, begins, number, tagged};
 use crate::kinds::{Component, NoMemory, ReadFault};
@@ -14,7 +14,7 @@ use plain_values::{Octets, OneOrMany};
 use std::alloc::{AllocError, Global};
 
 /// A value in an element with this tag.
-#[tactic(auto, unfolding(crate::specs::Components::required_of))]
+#[tactic(auto, unfolding(crate::specs::components::Components::required_of))]
 pub fn required<T: Laid>(
     alloc: Global,
     tag: u8,
@@ -31,7 +31,7 @@ pub fn required<T: Laid>(
 }
 
 /// A value in an element with this tag, or none where the octets begin with another.
-#[tactic(auto, unfolding(crate::specs::Components::optional_of))]
+#[tactic(auto, unfolding(crate::specs::components::Components::optional_of))]
 pub fn optional<T: Laid>(
     alloc: Global,
     tag: u8,
@@ -53,7 +53,7 @@ pub fn optional<T: Laid>(
 }
 
 /// A number from `low` to `high` in an element with this tag.
-#[tactic(auto, unfolding(crate::specs::Components::required_of, crate::specs::Layouts::reads_into))]
+#[tactic(auto, unfolding(crate::specs::components::Components::required_of, crate::specs::laid::Layouts::reads_into))]
 pub fn integer(tag: u8, low: u32, high: u32, bytes: &[u8]) -> Result<Component<'_, u32>, ReadFault>
     ensures value { Gives (λ found. record { value = found.value; rest = found.rest.now }) result (required_of tag (reads (Number low high)) bytes.now) }
     ensures range { IfOk result (λ found. (low ≤ found.value) × (found.value ≤ high)) }
@@ -67,7 +67,7 @@ pub fn integer(tag: u8, low: u32, high: u32, bytes: &[u8]) -> Result<Component<'
 }
 
 /// An element with any tag.
-#[tactic(auto, unfolding(crate::specs::Components::any_of))]
+#[tactic(auto, unfolding(crate::specs::components::Components::any_of))]
 pub fn any(bytes: &[u8]) -> Result<Element<'_>, ReadFault>
     ensures { Gives (λ found. record { value = (found.tag, found.content.now); rest = found.rest.now }) result (any_of bytes.now) }
 {
@@ -75,7 +75,7 @@ pub fn any(bytes: &[u8]) -> Result<Element<'_>, ReadFault>
 }
 
 /// What follows an element with this tag, whatever its content.
-#[tactic(auto, unfolding(crate::specs::Components::required_of, crate::specs::Layouts::reads_into))]
+#[tactic(auto, unfolding(crate::specs::components::Components::required_of, crate::specs::laid::Layouts::reads_into))]
 pub fn ignored(tag: u8, bytes: &[u8]) -> Result<&[u8], ReadFault>
     ensures { Gives (λ rest. record { value = tt; rest = rest.now }) result (required_of tag (reads Ignored) bytes.now) }
 {
@@ -84,7 +84,7 @@ pub fn ignored(tag: u8, bytes: &[u8]) -> Result<&[u8], ReadFault>
 }
 
 /// What follows a number from `low` to `high` in an element with this tag.
-#[tactic(auto, unfolding(crate::specs::Components::required_of, crate::specs::Layouts::reads_into))]
+#[tactic(auto, unfolding(crate::specs::components::Components::required_of, crate::specs::laid::Layouts::reads_into))]
 pub fn skipped(tag: u8, low: u32, high: u32, bytes: &[u8]) -> Result<&[u8], ReadFault>
     ensures { Gives (λ rest. record { value = tt; rest = rest.now }) result (required_of tag (reads (Skipped low high)) bytes.now) }
 {
@@ -103,7 +103,7 @@ fn flag_in(content: &[u8]) -> Result<bool, ReadFault>
 }
 
 /// A BOOLEAN in an element with this tag.
-#[tactic(auto, unfolding(crate::specs::Components::required_of, crate::specs::Layouts::reads_into))]
+#[tactic(auto, unfolding(crate::specs::components::Components::required_of, crate::specs::laid::Layouts::reads_into))]
 pub fn flag(tag: u8, bytes: &[u8]) -> Result<Component<'_, bool>, ReadFault>
     ensures { Gives (λ found. record { value = found.value; rest = found.rest.now }) result (required_of tag (reads Flag) bytes.now) }
 {
@@ -116,7 +116,7 @@ pub fn flag(tag: u8, bytes: &[u8]) -> Result<Component<'_, bool>, ReadFault>
 }
 
 /// A BOOLEAN in an element with this tag, or FALSE where the octets begin with another.
-#[tactic(auto, unfolding(crate::specs::Components::required_of, crate::specs::Components::marked_of))]
+#[tactic(auto, unfolding(crate::specs::components::Components::required_of, crate::specs::components::Components::marked_of))]
 pub fn marked(tag: u8, bytes: &[u8]) -> Result<Component<'_, bool>, ReadFault>
     ensures { Gives (λ found. record { value = found.value; rest = found.rest.now }) result (marked_of tag bytes.now) }
 {
@@ -164,7 +164,7 @@ pub fn each<T: Laid>(
     })
 }
 
-#[tactic(auto, unfolding(crate::specs::Layouts::reads_into))]
+#[tactic(auto, unfolding(crate::specs::laid::Layouts::reads_into))]
 fn elements<T: Laid>(alloc: Global, tag: u8, content: &[u8]) -> Result<OneOrMany<T>, ReadFault>
     ensures { Gives (λ values. (map T.parts values, tt)) result (reads (Each tag T.layout End) content.now) }
 {
@@ -176,7 +176,7 @@ fn elements<T: Laid>(alloc: Global, tag: u8, content: &[u8]) -> Result<OneOrMany
 }
 
 /// The values of the elements, each with the tag `tag`, in an element with the tag `outer`.
-#[tactic(auto, unfolding(crate::specs::Components::required_of))]
+#[tactic(auto, unfolding(crate::specs::components::Components::required_of))]
 pub fn list<T: Laid>(
     alloc: Global,
     outer: u8,

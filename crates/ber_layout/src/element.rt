@@ -1,9 +1,9 @@
 //! Elements read where they lie.
 
 ghost use Rattle.std.specs.Prelude.{◌≡◌, ◌<◌, ◌≤◌, ◌^◌, ℕ, IfOk, Some};
-ghost use Rattle.ber_layout.specs.Pieces.{Piece, piece_of, piece_at, tagged_at, number_in, natural_in, are_pieces, any_tag, other_than};
-ghost use Rattle.ber_layout.specs.Components.{begins};
-ghost use Rattle.ber_layout.specs.Reading.{Gives, Finds, piece_view};
+ghost use Rattle.ber_layout.specs.element.Pieces.{Piece, piece_of, piece_at, tagged_at, number_in, natural_in, are_pieces, any_tag, other_than};
+ghost use Rattle.ber_layout.specs.components.Components.{begins};
+ghost use Rattle.ber_layout.specs.element.Reading.{Gives, Finds, piece_view};
 
 use crate::kinds::ReadFault;
 use ber_core::{Header, header, read_int};
@@ -17,7 +17,7 @@ pub struct Element<'a> {
 }
 
 /// The element at the front, if there is one. This takes no memory.
-#[tactic(auto, unfolding(crate::specs::Pieces::piece_at, crate::specs::Pieces::piece_of))]
+#[tactic(auto, unfolding(crate::specs::element::Pieces::piece_at, crate::specs::element::Pieces::piece_of))]
 pub fn first_element(bytes: &[u8]) -> Option<Element<'_>>
     ensures { Finds piece_view result (piece_at bytes.now) }
 {
@@ -46,7 +46,7 @@ pub fn any_element(bytes: &[u8]) -> Result<Element<'_>, ReadFault>
 }
 
 /// The element at the front, which has this tag.
-#[tactic(auto, unfolding(crate::specs::Pieces::tagged_at))]
+#[tactic(auto, unfolding(crate::specs::element::Pieces::tagged_at))]
 pub fn tagged(tag: u8, bytes: &[u8]) -> Result<Element<'_>, ReadFault>
     ensures { Gives piece_view result (tagged_at tag bytes.now) }
 {
@@ -68,7 +68,7 @@ pub fn begins(tag: u8, bytes: &[u8]) -> bool
 }
 
 /// The natural number of a content, from `low` to `high`.
-#[tactic(auto, unfolding(crate::specs::Pieces::number_in))]
+#[tactic(auto, unfolding(crate::specs::element::Pieces::number_in))]
 pub fn number(low: u32, high: u32, content: &[u8]) -> Result<u32, ReadFault>
     ensures value { Gives (λ value. value) result (number_in low high content.now) }
     ensures range { IfOk result (λ number. (low ≤ number) × (number ≤ high)) }

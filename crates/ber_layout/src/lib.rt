@@ -6,7 +6,7 @@ mod components;
 mod element;
 mod kinds;
 mod laid;
-mod laws;
+pub mod laws;
 mod write;
 
 pub use components::{
@@ -18,9 +18,6 @@ pub use element::{
 };
 pub use kinds::{Component, NoMemory, ReadFault};
 pub use laid::Laid;
-pub use laws::{
-    reading_is_complete, reading_is_sound, short_values_fit, writing_is_read_again, writing_says,
-};
 pub use write::{
     enclose, put_each_octets, put_element, put_flag, put_inside, put_list, put_mark, put_number,
     put_octets_list, put_optional,

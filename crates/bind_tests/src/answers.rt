@@ -1,11 +1,11 @@
 //! What binds come to over a small tree.
-use aci_item::Level;
+use acdf_filters::aci_item::Level;
+use dir_tree::dn_names::{Value, make_value, parse, print};
+use dir_tree::schema_core::{AttrId, attr_named};
 use dir_tree::{Entry, Tree};
-use dn_names::{Value, make_value, parse, print};
+use ldap_msg::plain_values::Octets;
 use ldap_msg::{Auth, BindRequest};
 use op_bind::{Bound, bind, bind_with_password};
-use plain_values::Octets;
-use schema_core::{AttrId, attr_named};
 use std::alloc::Global;
 use std::process::Abort;
 use std::test::Fail;

@@ -1,2 +1,12 @@
-pub mod Accepting
-pub mod Loading
+pub mod loading
+-- the words of crates below, handed on
+pub use Rattle.data_file.specs as data_file
+pub use Rattle.data_file.specs.op_write as op_write
+pub use Rattle.data_file.specs.ldif_core as ldif_core
+pub use Rattle.aci_item.specs as aci_item
+pub use Rattle.dir_tree.specs as dir_tree
+pub use Rattle.dir_tree.specs.dn_names as dn_names
+pub use Rattle.wire_io.specs.plain_values as plain_values
+pub use Rattle.wire_io.specs as wire_io
+pub use Rattle.wire_io.specs.script_text as script_text
+pub use Rattle.wire_io.specs.hex as hex

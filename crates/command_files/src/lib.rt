@@ -3,4 +3,11 @@
 
 mod loading;
 
+pub use aci_item;
+pub use data_file;
+pub use data_file::{ldif_core, op_write};
+pub use dir_tree;
+pub use dir_tree::dn_names;
 pub use loading::{Trouble, load_data, load_script};
+pub use wire_io;
+pub use wire_io::{hex, plain_values, script_text};

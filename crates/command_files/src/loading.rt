@@ -1,14 +1,14 @@
 //! Reading a data file and a script from a shelf.
 
 ghost use Rattle.std.specs.Prelude.{◌≡◌, ◌≤◌, length};
-ghost use Rattle.command_files.specs.Accepting.{most_data, most_script};
-ghost use Rattle.command_files.specs.Loading.{LoadsScript, LoadsData, ReadsScript, ReadsData, data_trouble_of_file, trouble_of_data, trouble_of_file, trouble_of_script};
+ghost use Rattle.command_files.specs.loading.Accepting.{most_data, most_script};
+ghost use Rattle.command_files.specs.loading.Loading.{LoadsScript, LoadsData, ReadsScript, ReadsData, data_trouble_of_file, trouble_of_data, trouble_of_file, trouble_of_script};
 
+use data_file::op_write::LoadCause;
 use data_file::{DataCause, DataFault, load};
 use dir_tree::Tree;
-use op_write::LoadCause;
-use script_text::ScriptFault;
 use std::alloc::Global;
+use wire_io::script_text::ScriptFault;
 use wire_io::{ReadFault, ScriptLink, Shelf, read_all};
 
 /// The most octets that a data file may have.

@@ -10,9 +10,9 @@ use Rattle.command_words.specs.declared.table.CommandName.TheVariants as command
 use Rattle.command_words.specs.Table.{row_of}
 use Rattle.command_words.specs.Number.{number_of, number_within}
 use Rattle.command_words.specs.Address.{is_address, address_of}
-use Rattle.command_words.specs.Command.{CommandView, Serve, Replay, Check, Dump, Explain, Sample}
-use Rattle.command_words.specs.Parser.{app_for, id_of}
-use Rattle.command_words.specs.Asked.{command_said, said_by}
+use Rattle.command_words.specs.command.Command.{CommandView, Serve, Replay, Check, Dump, Explain, Sample}
+use Rattle.command_words.specs.parser.Parser.{app_for, id_of}
+use Rattle.command_words.specs.parser.Asked.{command_said, said_by}
 
 -- what the words after a command's name ask for, by clap's matches, where it has no fault
 abbrev read : CommandName → List (List ℕ) → Option CommandView

@@ -1,20 +1,2 @@
-mod Numbers
-mod Addresses
-mod Rows
-mod Tables
-mod Rules
-mod Steps
-mod Words
-mod Options
-mod Uses
-mod Lines
-mod Walks
-mod Sound
-mod Complete
-mod Sayings
-mod Defaults
-mod Said
-mod Strict
-mod Commands
 pub mod Theorems
 mod Examples

@@ -2,9 +2,9 @@
 use Rattle.std.proofs.Common.{◌≡◌, ◌∙◌, ℕ, List, [], ◌∷◌, sym, subst}
 use Rattle.std.proofs.lemmas.Option.{same_Some}
 use Rattle.command_words.specs.declared.table.CommandName.{CommandName}
-use Rattle.command_words.specs.Command.{CommandView, IsCommand}
-use Rattle.command_words.specs.Asked.{IsAsked}
-use Rattle.command_words.proofs.Commands.{Named, asked-once, command-named}
+use Rattle.command_words.specs.command.Command.{CommandView, IsCommand}
+use Rattle.command_words.specs.parser.Asked.{IsAsked}
+use Rattle.command_words.proofs.command.Commands.{Named, asked-once, command-named}
 
 -- words are one command at most
 pub IsCommand-unique : (words : List (List ℕ)) (one other : CommandView) → IsCommand words one → IsCommand words other → one ≡ other

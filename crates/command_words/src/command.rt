@@ -1,9 +1,9 @@
 //! The commands, and the words that ask for them.
 
 ghost use Rattle.std.specs.Prelude.{◌≡◌, ◌∷◌, map, option_map, string_bytes, Some, IfOk, IfSome};
-ghost use Rattle.command_words.specs.Command.{CommandView, IsCommand, view};
-ghost use Rattle.command_words.specs.Parser.{kept_in};
-ghost use Rattle.command_words.specs.Asked.{IsRead, IsReading, kept_said, said_by};
+ghost use Rattle.command_words.specs.command.Command.{CommandView, IsCommand, view};
+ghost use Rattle.command_words.specs.parser.Parser.{kept_in};
+ghost use Rattle.command_words.specs.parser.Asked.{IsRead, IsReading, kept_said, said_by};
 
 use crate::address::address_of;
 use crate::number::{number_said, number_within};
@@ -116,7 +116,7 @@ fn read_line<'a>(
 }
 
 /// What the matches say, where they have as many operands as the command wants.
-#[tactic(auto, unfolding(crate::specs::Asked::said_by))]
+#[tactic(auto, unfolding(crate::specs::parser::Asked::said_by))]
 fn read_matches<'a>(command: CommandName, matches: &ArgMatches<'a>) -> Option<Command<'a>>
     ensures { option_map view result ≡ said_by command (kept_in matches.now) }
 {
@@ -141,7 +141,7 @@ fn read_kept<'a>(command: CommandName, matches: &ArgMatches<'a>) -> Option<Comma
     }
 }
 
-#[tactic(auto, unfolding(crate::specs::Asked::command_said))]
+#[tactic(auto, unfolding(crate::specs::parser::Asked::command_said))]
 fn read_serve<'a>(matches: &ArgMatches<'a>) -> Option<Command<'a>>
     ensures { option_map view result ≡ kept_said CommandName.Serve (kept_in matches.now) }
 {
@@ -160,7 +160,7 @@ fn read_serve<'a>(matches: &ArgMatches<'a>) -> Option<Command<'a>>
     })
 }
 
-#[tactic(auto, unfolding(crate::specs::Asked::command_said))]
+#[tactic(auto, unfolding(crate::specs::parser::Asked::command_said))]
 fn read_replay<'a>(matches: &ArgMatches<'a>) -> Option<Command<'a>>
     ensures { option_map view result ≡ kept_said CommandName.Replay (kept_in matches.now) }
 {
@@ -177,7 +177,7 @@ fn read_replay<'a>(matches: &ArgMatches<'a>) -> Option<Command<'a>>
     })
 }
 
-#[tactic(auto, unfolding(crate::specs::Asked::command_said))]
+#[tactic(auto, unfolding(crate::specs::parser::Asked::command_said))]
 fn read_check<'a>(matches: &ArgMatches<'a>) -> Option<Command<'a>>
     ensures { option_map view result ≡ kept_said CommandName.Check (kept_in matches.now) }
 {
@@ -185,7 +185,7 @@ fn read_check<'a>(matches: &ArgMatches<'a>) -> Option<Command<'a>>
     Some(Command::Check { data })
 }
 
-#[tactic(auto, unfolding(crate::specs::Asked::command_said))]
+#[tactic(auto, unfolding(crate::specs::parser::Asked::command_said))]
 fn read_dump<'a>(matches: &ArgMatches<'a>) -> Option<Command<'a>>
     ensures { option_map view result ≡ kept_said CommandName.Dump (kept_in matches.now) }
 {
@@ -193,7 +193,7 @@ fn read_dump<'a>(matches: &ArgMatches<'a>) -> Option<Command<'a>>
     Some(Command::Dump { data })
 }
 
-#[tactic(auto, unfolding(crate::specs::Asked::command_said))]
+#[tactic(auto, unfolding(crate::specs::parser::Asked::command_said))]
 fn read_explain<'a>(matches: &ArgMatches<'a>) -> Option<Command<'a>>
     ensures { option_map view result ≡ kept_said CommandName.Explain (kept_in matches.now) }
 {
@@ -211,7 +211,7 @@ fn read_explain<'a>(matches: &ArgMatches<'a>) -> Option<Command<'a>>
     })
 }
 
-#[tactic(auto, unfolding(crate::specs::Asked::command_said))]
+#[tactic(auto, unfolding(crate::specs::parser::Asked::command_said))]
 fn read_sample<'a>(matches: &ArgMatches<'a>) -> Option<Command<'a>>
     ensures { option_map view result ≡ kept_said CommandName.Sample (kept_in matches.now) }
 {

@@ -1,7 +1,7 @@
 //! Laws of the words, for every list of words.
 
 ghost use Rattle.std.specs.Prelude.{◌≡◌, ℕ, List};
-ghost use Rattle.command_words.specs.Command.{CommandView, IsCommand};
+ghost use Rattle.command_words.specs.command.Command.{CommandView, IsCommand};
 
 /// Words are one command at most.
 pub fn words_have_one_command()

@@ -3,10 +3,9 @@
 
 mod address;
 mod command;
-mod laws;
+pub mod laws;
 mod number;
 mod parser;
 mod table;
 
 pub use command::{Command, read_words};
-pub use laws::words_have_one_command;

@@ -3,8 +3,8 @@
 ghost use Rattle.std.specs.Prelude.{◌≡◌, IfOk, false, map, option_map, option_copied, string_bytes};
 ghost use Rattle.clap.specs.Walk.{rule_of};
 ghost use Rattle.clap.specs.Simple.{app_of};
-ghost use Rattle.command_words.specs.Parser.{operand_rule, option_rule, app_for, kept_in, kept_text, is_set};
-ghost use Rattle.command_words.specs.Asked.{Parses, kept_count};
+ghost use Rattle.command_words.specs.parser.Parser.{operand_rule, option_rule, app_for, kept_in, kept_text, is_set};
+ghost use Rattle.command_words.specs.parser.Asked.{Parses, kept_count};
 ghost use Rattle.command_words.specs.Table.{row_of};
 
 use crate::table::{CommandName, OptionName, Sought};

@@ -1,4 +1,1 @@
-pub mod LoadLemmas
-pub mod WalkLemmas
-pub mod PutLemmas
 pub mod Examples

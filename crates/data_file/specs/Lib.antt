@@ -1,4 +1,7 @@
 -- what public clauses cite
-pub mod Files
+pub mod loading
 -- for the inside of the crate alone
-pub mod Steps
+pub mod writing
+-- the words of crates below, handed on
+pub use Rattle.op_write.specs as op_write
+pub use Rattle.op_write.specs.ldif_core as ldif_core

@@ -1,7 +1,7 @@
 //! Why a data file isn't accepted.
 
-use ldif_core::LineCause;
 use op_write::LoadCause;
+use op_write::ldif_core::LineCause;
 use std::alloc::AllocError;
 use thiserror::Error;
 

@@ -1,19 +1,19 @@
 //! A tree, written as a data file.
 
 ghost use Rattle.std.specs.Prelude.{◌≡◌, ◌∷◌, flat_map, OnOk};
-ghost use Rattle.wire_io.specs.Putting.{PutsAll, PutCause};
-ghost use Rattle.dir_tree.specs.Scopes.{scoped};
+ghost use Rattle.wire_io.specs.sink.Putting.{PutsAll, PutCause};
+ghost use Rattle.dir_tree.specs.Scope.{scoped};
 ghost use Rattle.dir_tree.specs.declared.scope.Scope.TheVariants.{Sub};
-ghost use Rattle.ldif_core.specs.Written.{AreInTable};
-ghost use Rattle.ldif_core.specs.WrittenFile.{written_file, written_record, written_records};
-ghost use Rattle.dir_tree.specs.Numbered.{entries_of};
+ghost use Rattle.op_write.specs.ldif_core.writing.Written.{AreInTable};
+ghost use Rattle.op_write.specs.ldif_core.writing.WrittenFile.{written_file, written_record, written_records};
+ghost use Rattle.dir_tree.specs.tree.Numbered.{entries_of};
 ghost use Rattle.aci_item.specs.Rules.{IsGoodTree};
-ghost use Rattle.data_file.specs.Steps.{AreOfTable, text_at};
+ghost use Rattle.data_file.specs.writing.Steps.{AreOfTable, text_at};
 
 use crate::fault::NoMemory;
 use dir_tree::{Entry, EntryNo, Scope, Tree};
-use ldif_core::put_entry;
-use load_laws::the_types_of_good_entries_are_in_the_table;
+use load_laws::laws::the_types_of_good_entries_are_in_the_table;
+use op_write::ldif_core::put_entry;
 use std::alloc::Global;
 use wire_io::{PutFault, Sink, write_all};
 

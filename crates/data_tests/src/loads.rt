@@ -1,14 +1,14 @@
 //! Records of a data file, loaded: the entries that they leave, and each fault with its line and cause.
 use crate::reading::read_all;
+use dir_tree::dn_names::print;
+use dir_tree::schema_core::row;
 use dir_tree::{Entry, Scope, Tree};
-use dn_names::print;
-use ldif_core::{BadLine, KindText, Record, RecordLine, RecordLines};
+use op_write::ldif_core::{BadLine, KindText, Record, RecordLine, RecordLines};
 use op_write::{LoadFault, load_record};
-use plain_values::Octets;
-use schema_core::row;
 use std::alloc::Global;
 use std::str;
 use std::test::Fail;
+use wire_io::plain_values::Octets;
 
 // Loads the records of a file in order, up to the first fault.
 fn load_all(alloc: Global, tree: &mut Tree, text: &[u8]) -> Result<Result<(), LoadFault>, BadLine> {

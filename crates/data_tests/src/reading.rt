@@ -1,5 +1,5 @@
 //! Data files, read whole.
-use ldif_core::{BadLine, Position, Record, next_record};
+use op_write::ldif_core::{BadLine, Position, Record, next_record};
 use std::alloc::Global;
 
 // The records of a file.

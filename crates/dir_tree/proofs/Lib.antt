@@ -1,35 +1,9 @@
-pub mod RowLemmas
-pub mod ChangeLemmas
-pub mod GoodLemmas
-pub mod SetLemmas
-pub mod ClassLemmas
 pub mod Examples
-pub mod ValuesLaws
-pub mod GoodLaws
 pub mod Theorems
-pub mod NameLemmas
-pub mod PlaceLemmas
-pub mod FrontLemmas
-pub mod NamedLemmas
-pub mod EntryOfLemmas
-pub mod OrderLemmas
-pub mod NumberedLemmas
-pub mod RootLemmas
-pub mod OrderedLemmas
-pub mod CountLemmas
-pub mod SlotLemmas
-pub mod WalkLemmas
-pub mod MapLemmas
-pub mod PathLemmas
-pub mod KeptLemmas
-pub mod AccessLemmas
-pub mod ReplaceLemmas
-pub mod CopyLemmas
-pub mod MappedLemmas
-pub mod TreeLemmas
 pub mod TreeExamples
-pub mod StayLaws
-pub mod TreeLaws
-pub mod FreeLemmas
-pub mod BesideLemmas
 pub mod TreeTheorems
+-- the theorems of crates below, handed on
+pub use Rattle.dn_names.proofs as dn_names_proofs
+pub use Rattle.schema_core.proofs as schema_core_proofs
+pub use Rattle.dn_names.proofs.plain_values_proofs as plain_values_proofs
+pub use Rattle.base_laws.proofs as base_laws_proofs

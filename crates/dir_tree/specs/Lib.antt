@@ -1,17 +1,19 @@
 -- what public clauses cite
-pub mod Entries
-pub mod Changes
-pub mod EntryClasses
-pub mod Points
-pub mod Trees
-pub mod Numbered
-pub mod Scopes
+pub mod Entry
+pub mod attributes
+pub mod classes
+pub mod subentries
+pub mod tree
+pub mod Scope
 pub mod Refusals
-pub mod Vacancies
+pub mod Vacancy
 -- for the inside of the crate alone
-pub mod Rows
-pub mod Places
-pub mod Slots
-pub mod Maps
-pub mod Walks
-pub mod Removals
+pub mod slots
+pub mod paths
+pub mod Walk
+pub mod remove
+-- the words of crates below, handed on
+pub use Rattle.dn_names.specs as dn_names
+pub use Rattle.schema_core.specs as schema_core
+pub use Rattle.dn_names.specs.match_rules as match_rules
+pub use Rattle.dn_names.specs.plain_values as plain_values

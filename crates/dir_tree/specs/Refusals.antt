@@ -1,10 +1,10 @@
 -- When a tree does not take a change, by the first cause that is found.
 use Rattle.std.specs.Prelude.{ℕ, ◌==◌, Bool, true, not, ◌&&◌, List, [], ◌∷◌, length, if◌then◌else◌, Option, Some, None}
-use Rattle.dn_names.specs.Names.{RdnSequence}
-use Rattle.dn_names.specs.NameOrder.{is_same}
-use Rattle.dir_tree.specs.Entries.{EntryInformation}
-use Rattle.dir_tree.specs.Trees.{most_entries, has_name, lacks_superior, has_below, superior_name}
-use Rattle.dir_tree.specs.Numbered.{Numbered, entries_of, entry_of, without}
+use Rattle.dn_names.specs.name.Names.{RdnSequence}
+use Rattle.dn_names.specs.order.NameOrder.{is_same}
+use Rattle.dir_tree.specs.Entry.{EntryInformation}
+use Rattle.dir_tree.specs.tree.Trees.{most_entries, has_name, lacks_superior, has_below, superior_name}
+use Rattle.dir_tree.specs.tree.Numbered.{Numbered, entries_of, entry_of, without}
 use Rattle.dir_tree.specs.declared.refusals.InsertRefusal.{InsertRefusal}
 use Rattle.dir_tree.specs.declared.refusals.InsertRefusal.TheVariants as inserting
 use Rattle.dir_tree.specs.declared.refusals.RemoveRefusal.{RemoveRefusal}

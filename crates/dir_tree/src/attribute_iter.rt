@@ -1,7 +1,7 @@
 //! The attributes of an entry, one after another.
 
 ghost use Rattle.std.specs.Prelude.{◌≡◌};
-ghost use Rattle.dir_tree.specs.Rows.{attributes_of};
+ghost use Rattle.dir_tree.specs.attributes.Rows.{attributes_of};
 
 use dn_names::Value;
 use indexmap::IndexMap;
@@ -19,8 +19,8 @@ pub struct Attributes<'a> {
 
 impl<'a> Model for Attributes<'a> {
     ghost use Rattle.std.specs.Prelude.{List};
-    ghost use Rattle.dir_tree.specs.Entries.{Attribute};
-    ghost use Rattle.dir_tree.specs.Rows.{attributes_of};
+    ghost use Rattle.dir_tree.specs.Entry.{Attribute};
+    ghost use Rattle.dir_tree.specs.attributes.Rows.{attributes_of};
 
     ghost Value = { List Attribute };
 

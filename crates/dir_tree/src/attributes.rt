@@ -1,9 +1,9 @@
 //! The attributes of an entry, kept by their types.
 
 ghost use Rattle.std.specs.Prelude.{◌≡◌, ◌++◌, [], ◌∷◌, true, false, nat_lt, filter, map, length, IfOk, OnOk, OnErr};
-ghost use Rattle.dir_tree.specs.Entries.{values_of, has_key, has_kind};
-ghost use Rattle.dir_tree.specs.Changes.{put_value, set_in, cut_attribute, is_filled, other_attributes};
-ghost use Rattle.dir_tree.specs.Rows.{attributes_of};
+ghost use Rattle.dir_tree.specs.Entry.{values_of, has_key, has_kind};
+ghost use Rattle.dir_tree.specs.attributes.Changes.{put_value, set_in, cut_attribute, is_filled, other_attributes};
+ghost use Rattle.dir_tree.specs.attributes.Rows.{attributes_of};
 
 use dn_names::Value;
 use indexmap::IndexMap;

@@ -13,10 +13,10 @@ use crate::vacancy::Vacancy;
 use std::alloc::AllocError;
 
 impl Tree {
-    ghost use Rattle.dir_tree.specs.Trees.{most_entries};
-    ghost use Rattle.dir_tree.specs.Numbered.{entries_of, entry_of, put_entry};
+    ghost use Rattle.dir_tree.specs.tree.Trees.{most_entries};
+    ghost use Rattle.dir_tree.specs.tree.Numbered.{entries_of, entry_of, put_entry};
     ghost use Rattle.dir_tree.specs.Refusals.{insert_refusal};
-    ghost use Rattle.dir_tree.specs.Vacancies.{IsVacancy};
+    ghost use Rattle.dir_tree.specs.Vacancy.{IsVacancy};
 
     /// Puts the entry in, and gives the number by which it is known: one that is not in use. Its name shares memory
     /// with that of its superior, and the memory that its attributes do not need is given back.

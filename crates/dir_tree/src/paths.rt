@@ -2,11 +2,11 @@
 
 ghost use Rattle.std.specs.Prelude.{◌≡◌, IfOk};
 ghost use Rattle.std.specs.Option.{option_map};
-ghost use Rattle.dn_names.specs.Names.{RdnSequence};
-ghost use Rattle.dn_names.specs.NameOrder.{is_same};
-ghost use Rattle.dn_names.specs.PathKeys.{path_key};
-ghost use Rattle.dir_tree.specs.Trees.{superior_name};
-ghost use Rattle.dir_tree.specs.Maps.{HasSamePlaces};
+ghost use Rattle.dn_names.specs.name.Names.{RdnSequence};
+ghost use Rattle.dn_names.specs.order.NameOrder.{is_same};
+ghost use Rattle.dn_names.specs.path.PathKeys.{path_key};
+ghost use Rattle.dir_tree.specs.tree.Trees.{superior_name};
+ghost use Rattle.dir_tree.specs.paths.Maps.{HasSamePlaces};
 
 use crate::number::EntryNo;
 use crate::tree::Tree;
@@ -15,7 +15,7 @@ use std::alloc::AllocError;
 use std::collections::BTreeMap;
 
 impl Tree {
-    ghost use Rattle.dir_tree.specs.Numbered.{find_name};
+    ghost use Rattle.dir_tree.specs.tree.Numbered.{find_name};
 
     /// The number of the entry whose name has the path key.
     pub(crate) fn number_of(&self, path: &[u8]) -> Option<EntryNo>

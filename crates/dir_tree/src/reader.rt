@@ -8,7 +8,7 @@ use crate::tree::Tree;
 /// What is made of a tree as a change would leave it.
 pub trait TreeReader {
     ghost use Rattle.std.specs.Prelude.{List};
-    ghost use Rattle.dir_tree.specs.Numbered.{Numbered};
+    ghost use Rattle.dir_tree.specs.tree.Numbered.{Numbered};
 
     // the reader before, and after, and the tree that it read
     ghost has_read: { Self → Self → List Numbered → Type 0 };

@@ -2,7 +2,7 @@
 
 ghost use Rattle.std.specs.Prelude.{◌≡◌, Some, None, IfOk, IfErr, OnOk, OnErr, IsSomeAnd, MatchResult, true, false};
 ghost use Rattle.std.specs.Option.{option_map_or};
-ghost use Rattle.dir_tree.specs.Removals.{IsRemovable};
+ghost use Rattle.dir_tree.specs.remove.Removals.{IsRemovable};
 
 use crate::entry::Entry;
 use crate::number::EntryNo;
@@ -14,8 +14,8 @@ use dn_names::Dn;
 use std::ops::Bound;
 
 impl Tree {
-    ghost use Rattle.dir_tree.specs.Trees.{has_below};
-    ghost use Rattle.dir_tree.specs.Numbered.{entries_of, entry_of, without};
+    ghost use Rattle.dir_tree.specs.tree.Trees.{has_below};
+    ghost use Rattle.dir_tree.specs.tree.Numbered.{entries_of, entry_of, without};
     ghost use Rattle.dir_tree.specs.Refusals.{remove_refusal};
 
     /// Takes the entry of the number out, which then is not in use. Takes no memory.

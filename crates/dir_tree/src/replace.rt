@@ -2,8 +2,8 @@
 
 ghost use Rattle.std.specs.Prelude.{◌≡◌, ◌⊎◌, ◌&&◌, not, true, false, Some, None, IfOk, IfErr, OnOk, OnErr};
 ghost use Rattle.std.specs.Option.{option_map_or};
-ghost use Rattle.dn_names.specs.NameOrder.{is_same};
-ghost use Rattle.dir_tree.specs.Removals.{IsReplaceable};
+ghost use Rattle.dn_names.specs.order.NameOrder.{is_same};
+ghost use Rattle.dir_tree.specs.remove.Removals.{IsReplaceable};
 ghost use Rattle.dir_tree.specs.Refusals.{is_elsewhere};
 
 use crate::entry::Entry;
@@ -19,8 +19,8 @@ use std::alloc::AllocError;
 use std::mem::replace;
 
 impl Tree {
-    ghost use Rattle.dir_tree.specs.Trees.{has_name, has_below};
-    ghost use Rattle.dir_tree.specs.Numbered.{entries_of, entry_of, without, put_entry};
+    ghost use Rattle.dir_tree.specs.tree.Trees.{has_name, has_below};
+    ghost use Rattle.dir_tree.specs.tree.Numbered.{entries_of, entry_of, without, put_entry};
     ghost use Rattle.dir_tree.specs.Refusals.{refusal_in_place, replace_refusal};
 
     /// Gives the entry's place to another, which is known by the same number. The memory that the attributes of the

@@ -2,8 +2,8 @@
 
 ghost use Rattle.std.specs.Prelude.{◌≡◌, ◌≢◌, ℕ, ◌<◌, ◌≤◌, ◌+◌, length, IfSome, IsSome, is_some, IfOk, Some, None, true, insert, set, vec_len, vec_capacity, OnOk, OnErr};
 ghost use Rattle.std.specs.Option.{option_map};
-ghost use Rattle.dir_tree.specs.Slots.{slot_of, count_full, HasSameSlots, with_room};
-ghost use Rattle.dir_tree.specs.Trees.{most_entries};
+ghost use Rattle.dir_tree.specs.slots.Slots.{slot_of, count_full, HasSameSlots, with_room};
+ghost use Rattle.dir_tree.specs.tree.Trees.{most_entries};
 
 use crate::entry::Entry;
 use std::alloc::AllocError;

@@ -25,9 +25,9 @@ pub struct Tree {
 impl Model for Tree {
     ghost use Rattle.std.specs.Prelude.{List};
     ghost use Rattle.std.specs.BTreeMap.{values};
-    ghost use Rattle.dir_tree.specs.Numbered.{Numbered};
-    ghost use Rattle.dir_tree.specs.Slots.{rows_of, numbers_in};
-    ghost use Rattle.dir_tree.specs.Maps.{IsMapped};
+    ghost use Rattle.dir_tree.specs.tree.Numbered.{Numbered};
+    ghost use Rattle.dir_tree.specs.slots.Slots.{rows_of, numbers_in};
+    ghost use Rattle.dir_tree.specs.paths.Maps.{IsMapped};
 
     ghost Value = { List Numbered };
 
@@ -38,8 +38,8 @@ impl Model for Tree {
 }
 
 impl Tree {
-    ghost use Rattle.dir_tree.specs.Trees.{most_entries};
-    ghost use Rattle.dir_tree.specs.Numbered.{IsNumberedTree, ids_of, entries_of, subentry_rows, entry_of, suffix_of, find_name, find_front, superior_of};
+    ghost use Rattle.dir_tree.specs.tree.Trees.{most_entries};
+    ghost use Rattle.dir_tree.specs.tree.Numbered.{IsNumberedTree, ids_of, entries_of, subentry_rows, entry_of, suffix_of, find_name, find_front, superior_of};
 
     /// A tree without entries. Takes no memory.
     pub fn new(alloc: Global) -> Tree

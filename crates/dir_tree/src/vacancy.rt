@@ -37,10 +37,10 @@ impl Vacancy {
 }
 
 impl Tree {
-    ghost use Rattle.dir_tree.specs.Trees.{has_name, lacks_superior, superior_name};
-    ghost use Rattle.dir_tree.specs.Numbered.{entries_of, find_name};
+    ghost use Rattle.dir_tree.specs.tree.Trees.{has_name, lacks_superior, superior_name};
+    ghost use Rattle.dir_tree.specs.tree.Numbered.{entries_of, find_name};
     ghost use Rattle.dir_tree.specs.Refusals.{insert_refusal};
-    ghost use Rattle.dir_tree.specs.Vacancies.{IsVacancy};
+    ghost use Rattle.dir_tree.specs.Vacancy.{IsVacancy};
 
     /// Where an entry of the name may be put in, and below which superior. Takes no memory.
     ///

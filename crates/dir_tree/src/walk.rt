@@ -1,7 +1,7 @@
 //! A walk over the entries of a scope.
 
 ghost use Rattle.std.specs.Prelude.{◌≡◌, ◌≤◌, ◌&&◌, ◌∷◌, ℕ, [], length, filter, IfSome, None};
-ghost use Rattle.dir_tree.specs.Walks.{walked, is_one_below, is_at_depth};
+ghost use Rattle.dir_tree.specs.Walk.{walked, is_one_below, is_at_depth};
 
 use crate::entry::Entry;
 use crate::number::EntryNo;
@@ -25,7 +25,7 @@ pub struct Walk<'a> {
 
 impl<'a> Model for Walk<'a> {
     ghost use Rattle.std.specs.Prelude.{ℕ, List, [], if◌then◌else◌};
-    ghost use Rattle.dir_tree.specs.Walks.{walked};
+    ghost use Rattle.dir_tree.specs.Walk.{walked};
 
     ghost Value = { List ℕ };
 
@@ -99,9 +99,9 @@ fn is_one_below(name: &Dn, depth: Option<usize>) -> bool
 }
 
 impl Tree {
-    ghost use Rattle.dir_tree.specs.Trees.{most_entries, is_named};
-    ghost use Rattle.dir_tree.specs.Numbered.{ids_of, entry_of};
-    ghost use Rattle.dir_tree.specs.Scopes.{is_within, scoped};
+    ghost use Rattle.dir_tree.specs.tree.Trees.{most_entries, is_named};
+    ghost use Rattle.dir_tree.specs.tree.Numbered.{ids_of, entry_of};
+    ghost use Rattle.dir_tree.specs.Scope.{is_within, scoped};
 
     /// The numbers of the entries that the scope takes in, from the entry of the number on, in the order of the
     /// names; none where the number is not in use.

@@ -1,30 +1,4 @@
-pub mod BareLemmas
-pub mod MachineOfNames
 pub mod Examples
-pub mod ClassLemmas
-pub mod PartsLemmas
-pub mod ValueLemmas
-pub mod PairLemmas
-pub mod SpelledInGrammar
-pub mod GrammarIsSpelled
-pub mod OctetsLemmas
-pub mod NameOrderLemmas
-pub mod LastLemmas
-pub mod PutPairLemmas
-pub mod NamingTextLemmas
-pub mod ResolveLemmas
-pub mod ParseLemmas
-pub mod PrintLemmas
-pub mod PrintTextLemmas
-pub mod OrderedLemmas
-pub mod GoodNameLemmas
-pub mod PrintedLemmas
-pub mod PrintedNameLemmas
-pub mod StripLemmas
-pub mod OrderLaws
-pub mod PathKeyLaws
-pub mod PathLemmas
-pub mod NameLaws
 pub mod Theorems
-pub mod FirstBadLemmas
-pub mod CauseLemmas
+-- the theorems of crates below, handed on
+pub use Rattle.plain_values.proofs as plain_values_proofs

@@ -6,7 +6,7 @@ use Rattle.dn_names.specs.declared.classes.Class.TheVariants.{Space, Hash, Mark,
 use Rattle.dn_names.specs.declared.printing.Shown.{Shown}
 use Rattle.dn_names.specs.declared.printing.Shown.TheVariants.{Octets, Key}
 use Rattle.dn_names.specs.Classes.{class_of}
-use Rattle.dn_names.specs.Names.{TypeAndValue, RdnSequence}
+use Rattle.dn_names.specs.name.Names.{TypeAndValue, RdnSequence}
 
 -- a backslash stands before an octet of the class: a space at either end, # at the front, special characters
 abbrev pub is_escaped : Bool → Bool → Class → Bool

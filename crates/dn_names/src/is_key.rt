@@ -2,10 +2,10 @@
 
 ghost use Rattle.std.specs.Prelude.{◌≡◌, ◌↔◌, ◌==◌, ◌++◌, List, [], ◌∷◌, IsTrue, map, reverse, if◌then◌else◌};
 ghost use Rattle.std.specs.Option.{option_map};
-ghost use Rattle.dn_names.specs.Names.{rdns_of};
+ghost use Rattle.dn_names.specs.name.Names.{rdns_of};
 ghost use Rattle.dn_names.specs.Printing.{print_octet, print_value, print_pair, print_rdn, shown_of, print_by, name_key};
 ghost use Rattle.dn_names.specs.declared.printing.Shown.TheVariants.{Key};
-ghost use Rattle.dn_names.specs.KeyReading.{strip};
+ghost use Rattle.dn_names.specs.is_key.KeyReading.{strip};
 
 use crate::name::{Dn, Pair, Rdn};
 use crate::printing::{is_escaped, type_name};
@@ -80,7 +80,7 @@ fn after_equals<'a>(octets: &'a [u8], key: &[u8]) -> Option<&'a [u8]>
 }
 
 // The octets after a printed pair with its key.
-#[tactic(auto, using(crate::proofs::StripLemmas::strip_some, crate::proofs::StripLemmas::strip_none))]
+#[tactic(auto, using(crate::proofs::is_key::StripLemmas::strip_some, crate::proofs::is_key::StripLemmas::strip_none))]
 fn after_pair<'a>(octets: &'a [u8], pair: &Pair) -> Option<&'a [u8]>
     ensures exact { option_map (λ rest. rest.now) result ≡ strip (print_pair (shown_of Key) pair.now) octets.now }
 {
@@ -102,7 +102,7 @@ fn after_mark(octets: &[u8], mark: u8, first: bool) -> Option<&[u8]>
 }
 
 // The octets after a mark and a pair.
-#[tactic(auto, using(crate::proofs::StripLemmas::strip_some, crate::proofs::StripLemmas::strip_none))]
+#[tactic(auto, using(crate::proofs::is_key::StripLemmas::strip_some, crate::proofs::is_key::StripLemmas::strip_none))]
 fn after_marked_pair<'a>(octets: &'a [u8], pair: &Pair, first: bool) -> Option<&'a [u8]>
     ensures exact { option_map (λ rest. rest.now) result
         ≡ strip ((if first then [] else 43 ∷ []) ++ print_pair (shown_of Key) pair.now) octets.now }
@@ -128,7 +128,7 @@ fn after_rdn<'a>(octets: &'a [u8], rdn: &[Pair]) -> Option<&'a [u8]>
 }
 
 // The octets after a mark and an RDN.
-#[tactic(auto, using(crate::proofs::StripLemmas::strip_some, crate::proofs::StripLemmas::strip_none))]
+#[tactic(auto, using(crate::proofs::is_key::StripLemmas::strip_some, crate::proofs::is_key::StripLemmas::strip_none))]
 fn after_marked_rdn<'a>(octets: &'a [u8], rdn: &[Pair], first: bool) -> Option<&'a [u8]>
     ensures exact { option_map (λ rest. rest.now) result
         ≡ strip ((if first then [] else 44 ∷ []) ++ print_rdn (shown_of Key) rdn.now) octets.now }

@@ -3,8 +3,8 @@
 ghost use Rattle.std.specs.Prelude.{◌≡◌, ◌↔◌, Some, None, IfOk, IsErrOf};
 ghost use Rattle.match_rules.specs.declared.errors.PrepareFault.TheVariants.{NotOfSyntax};
 ghost use Rattle.schema_core.specs.Attributes.{IsAttrId};
-ghost use Rattle.dn_names.specs.NameText.{read_name};
-ghost use Rattle.dn_names.specs.NameValues.{read_key, value_key, value_of};
+ghost use Rattle.dn_names.specs.parsing.NameText.{read_name};
+ghost use Rattle.dn_names.specs.make.NameValues.{read_key, value_key, value_of};
 
 use crate::error::BadName;
 use crate::keys::{has_own_key, make_key};
@@ -19,7 +19,7 @@ use std::alloc::Global;
 /// are not of the type's syntax, and `NoMemory` may come in place of any answer.
 ///
 /// Of the syntaxes of subtrees and of access control items any octets are taken, and the key is the octets.
-#[tactic(auto, unfolding(crate::specs::NameValues::value_of))]
+#[tactic(auto, unfolding(crate::specs::make::NameValues::value_of))]
 pub fn make_value(alloc: Global, kind: AttrId, octets: Vec<u8>) -> Result<Value, PrepareFault>
     requires { IsAttrId kind.0 }
     ensures ok { IfOk result (λ value. value_of kind.0 octets.items ≡ Some value) }

@@ -2,9 +2,9 @@
 
 ghost use Rattle.std.specs.Prelude.{◌≡◌, ◌++◌, [], Some, None, IfOk, OnOk, length, take, slice_get, nat_le, if◌then◌else◌};
 ghost use Rattle.std.specs.Option.{option_map};
-ghost use Rattle.dn_names.specs.Names.{last_rdn, rdns_of};
-ghost use Rattle.dn_names.specs.GoodNames.{IsGoodName};
-ghost use Rattle.dn_names.specs.PathKeys.{path_key};
+ghost use Rattle.dn_names.specs.name.Names.{last_rdn, rdns_of};
+ghost use Rattle.dn_names.specs.name.GoodNames.{IsGoodName};
+ghost use Rattle.dn_names.specs.path.PathKeys.{path_key};
 
 use crate::path::{make_path, path_front};
 use crate::value::Value;
@@ -24,7 +24,7 @@ pub struct Pair {
 impl Model for Pair {
     ghost use Rattle.std.specs.Str.{is_utf8};
     ghost use Rattle.std.specs.Prelude.{◌≡◌, true};
-    ghost use Rattle.dn_names.specs.Names.{TypeAndValue};
+    ghost use Rattle.dn_names.specs.name.Names.{TypeAndValue};
 
     ghost Value = { TypeAndValue };
 
@@ -61,8 +61,8 @@ pub struct Dn {
 }
 
 impl Model for Dn {
-    ghost use Rattle.dn_names.specs.Names.{RdnSequence, rdns_of};
-    ghost use Rattle.dn_names.specs.PathKeys.{IsKept};
+    ghost use Rattle.dn_names.specs.name.Names.{RdnSequence, rdns_of};
+    ghost use Rattle.dn_names.specs.path.PathKeys.{IsKept};
 
     ghost Value = { RdnSequence };
 

@@ -1,13 +1,13 @@
 //! Which names are the same, which are prefixes, and which come first: by types and keys alone.
 
 ghost use Rattle.std.specs.Prelude.{◌≡◌, take};
-ghost use Rattle.dn_names.specs.NameOrder.{name_cmp, is_same, is_prefix_of};
+ghost use Rattle.dn_names.specs.order.NameOrder.{name_cmp, is_same, is_prefix_of};
 
 use crate::name::Dn;
 use std::cmp::Ordering;
 
 /// Whether the names are the same.
-#[tactic(auto, unfolding(crate::specs::NameOrder::is_same))]
+#[tactic(auto, unfolding(crate::specs::order::NameOrder::is_same))]
 pub fn same(one: &Dn, other: &Dn) -> bool
     ensures exact { result ≡ is_same one.now other.now }
 {
@@ -15,7 +15,7 @@ pub fn same(one: &Dn, other: &Dn) -> bool
 }
 
 /// Whether `front` is a prefix of `name`, or the same name.
-#[tactic(auto, unfolding(crate::specs::NameOrder::is_same, crate::specs::NameOrder::is_prefix_of))]
+#[tactic(auto, unfolding(crate::specs::order::NameOrder::is_same, crate::specs::order::NameOrder::is_prefix_of))]
 pub fn is_prefix(front: &Dn, name: &Dn) -> bool
     ensures exact { result ≡ is_prefix_of front.now name.now }
 {

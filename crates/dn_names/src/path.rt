@@ -1,9 +1,9 @@
 //! The path keys of names: octets that compare as names do.
 
 ghost use Rattle.std.specs.Prelude.{◌≡◌, ◌≤◌, ◌++◌, ◌∷◌, List, ℕ, IfOk, OnOk, length, take, drop};
-ghost use Rattle.dn_names.specs.Names.{TypeAndValue, RdnSequence, rdns_of};
-ghost use Rattle.dn_names.specs.PathKeys.{escape_octet, escape, pair_part, rdn_part, path_key};
-ghost use Rattle.dn_names.specs.PathReading.{after_key};
+ghost use Rattle.dn_names.specs.name.Names.{TypeAndValue, RdnSequence, rdns_of};
+ghost use Rattle.dn_names.specs.path.PathKeys.{escape_octet, escape, pair_part, rdn_part, path_key};
+ghost use Rattle.dn_names.specs.path.PathReading.{after_key};
 
 use crate::name::{Pair, Rdn};
 use crate::short::front;
@@ -16,7 +16,7 @@ const RDN_END: u8 = 1;
 const PAIR: u8 = 2;
 
 /// The path key of RDNs.
-#[tactic(auto, unfolding(crate::specs::PathKeys::path_key))]
+#[tactic(auto, unfolding(crate::specs::path::PathKeys::path_key))]
 pub(crate) fn make_path(alloc: Global, rdns: &[Rdn]) -> Result<Vec<u8>, AllocError>
     ensures ok { IfOk result (λ path. path.items ≡ path_key (rdns_of rdns.now)) }
 {
@@ -104,7 +104,7 @@ pub(crate) fn path_front(path: &[u8], count: usize) -> &[u8]
 }
 
 // The path key of what stands behind the first RDNs, so many of them.
-#[tactic(auto, unfolding(crate::specs::PathKeys::path_key))]
+#[tactic(auto, unfolding(crate::specs::path::PathKeys::path_key))]
 fn after_rdns(path: &[u8], count: usize) -> &[u8]
     ensures exact { (name : RdnSequence) → path.now ≡ path_key name → count ≤ length name
         → result.now ≡ path_key (drop count name) }

@@ -2,9 +2,9 @@
 
 ghost use Rattle.std.specs.Prelude.{◌≡◌, ◌++◌, ◌==◌, List, [], ◌∷◌, ℕ, true, false, length, drop, reverse, IfOk, OnOk, OnErr, IsUtf8, string_bytes, if◌then◌else◌};
 ghost use Rattle.dn_names.specs.Classes.{class_of};
-ghost use Rattle.dn_names.specs.Names.{TypeAndValue, rdns_of};
+ghost use Rattle.dn_names.specs.name.Names.{TypeAndValue, rdns_of};
 ghost use Rattle.dn_names.specs.Printing.{is_escaped, print_octet, print_from, print_value, join_from, print_pair, print_rdn, shown_of, print_by, print_name, name_key};
-ghost use Rattle.dn_names.specs.Names.{IsTextRdn, IsTextName};
+ghost use Rattle.dn_names.specs.name.Names.{IsTextRdn, IsTextName};
 ghost use Rattle.std.specs.Str.{is_utf8};
 ghost use Rattle.schema_core.specs.Attributes.{name_of};
 

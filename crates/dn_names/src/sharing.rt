@@ -1,7 +1,7 @@
 //! Names that keep equal RDNs in one memory.
 
 ghost use Rattle.std.specs.Prelude.{◌≡◌, ◌↔◌, IsTrue};
-ghost use Rattle.dn_names.specs.Names.{rdns_of};
+ghost use Rattle.dn_names.specs.name.Names.{rdns_of};
 
 use crate::name::{Dn, Pair, Rdn};
 use crate::value::Value;

@@ -1,7 +1,7 @@
 //! Values of attributes.
 
 ghost use Rattle.std.specs.Prelude.{◌≡◌, ◌++◌, IfOk};
-ghost use Rattle.dn_names.specs.Pieces.{split_of};
+ghost use Rattle.dn_names.specs.value.Pieces.{split_of};
 
 use crate::short::{Text, append, front};
 use std::alloc::{AllocError, Global};
@@ -16,8 +16,8 @@ pub struct Value {
 }
 
 impl Model for Value {
-    ghost use Rattle.dn_names.specs.Names.{Keyed};
-    ghost use Rattle.dn_names.specs.Pieces.{octets_in, key_in};
+    ghost use Rattle.dn_names.specs.name.Names.{Keyed};
+    ghost use Rattle.dn_names.specs.value.Pieces.{octets_in, key_in};
 
     ghost Value = { Keyed };
 

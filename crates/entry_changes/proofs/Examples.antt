@@ -2,14 +2,14 @@
 use Rattle.std.proofs.Common.{◌≡◌, ℕ, true, false, [], ◌∷◌, List, Some, None, Ok, Err, refl}
 use Rattle.std.specs.Prelude.{codes}
 use Prim.Native.String.{String}
-use Rattle.dn_names.specs.Names.{Keyed, TypeAndValue, RdnSequence}
-use Rattle.dir_tree.specs.Entries.{EntryInformation, kinds_of, values_of}
-use Rattle.op_write.specs.Loading.{with_pairs}
-use Rattle.aci_item.specs.declared.permission.Permission.TheVariants.{Add, Remove, DiscloseOnError}
+use Rattle.dir_tree.specs.dn_names.name.Names.{Keyed, TypeAndValue, RdnSequence}
+use Rattle.dir_tree.specs.Entry.{EntryInformation, kinds_of, values_of}
+use Rattle.op_write.specs.load.Loading.{with_pairs}
+use Rattle.acdf_filters.specs.aci_item.declared.permission.Permission.TheVariants.{Add, Remove, DiscloseOnError}
 use Rattle.acdf_filters.specs.Asking.{Kind, Value}
 use Rattle.ldap_msg.specs.declared.operations.ResultCode.TheVariants as code
 use Rattle.entry_changes.specs.declared.kind.ChangeKind.TheVariants as change_kind
-use Rattle.entry_changes.specs.Changes.{Asks, add_refusal, delete_refusal, replace_refusal, left_by, changed_by}
+use Rattle.entry_changes.specs.Change.{Asks, add_refusal, delete_refusal, replace_refusal, left_by, changed_by}
 use Rattle.entry_changes.specs.Renaming.{gone_pairs, without_pairs, renamed_entry}
 
 -- a value of its octets and its key

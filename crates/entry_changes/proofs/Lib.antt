@@ -1,5 +1,2 @@
 mod Examples
-mod EffectLemmas
-mod RefusalLemmas
-mod GoodLemmas
 pub mod Theorems

@@ -1,3 +1,3 @@
 -- What crates above may cite of changes.
-pub use Rattle.entry_changes.proofs.GoodLemmas.{good-changed_by, name-changed_by, good-renamed_entry, name-renamed_entry}
-pub use Rattle.entry_changes.proofs.EffectLemmas.{filled_from}
+pub use Rattle.entry_changes.proofs.laws.GoodLemmas.{good-changed_by, name-changed_by, good-renamed_entry, name-renamed_entry}
+pub use Rattle.entry_changes.proofs.effects.EffectLemmas.{filled_from}

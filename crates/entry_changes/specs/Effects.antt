@@ -1,8 +1,8 @@
 -- What is known where a change is made.
 use Rattle.std.specs.Prelude.{◌≡◌, Bool, false, List}
 use Rattle.std.specs.List.{list_any}
-use Rattle.dn_names.specs.Names.{Keyed}
-use Rattle.dir_tree.specs.Entries.{has_key}
+use Rattle.dir_tree.specs.dn_names.name.Names.{Keyed}
+use Rattle.dir_tree.specs.Entry.{has_key}
 use Rattle.entry_changes.specs.declared.kind.ChangeKind.{ChangeKind}
 use Rattle.entry_changes.specs.declared.kind.ChangeKind.TheVariants.{Add, Delete, Replace}
 

@@ -2,11 +2,11 @@
 
 ghost use Rattle.std.specs.Prelude.{◌≡◌};
 ghost use Rattle.std.specs.List.{IsDistinct};
-ghost use Rattle.dir_tree.specs.Entries.{is_match};
+ghost use Rattle.dir_tree.specs.Entry.{is_match};
 
 use crate::kind::ChangeKind;
-use dn_names::Value;
-use schema_core::AttrId;
+use dir_tree::dn_names::Value;
+use dir_tree::schema_core::AttrId;
 use std::marker::Model;
 
 /// One change of an entry: values of one attribute type come, go, or take the place of those that are there. No two of
@@ -20,8 +20,8 @@ pub struct EntryChange {
 
 impl Model for EntryChange {
     ghost use Rattle.std.specs.List.{IsDistinct};
-    ghost use Rattle.dir_tree.specs.Entries.{is_match};
-    ghost use Rattle.entry_changes.specs.Changes.{Modification};
+    ghost use Rattle.dir_tree.specs.Entry.{is_match};
+    ghost use Rattle.entry_changes.specs.Change.{Modification};
 
     ghost Value = { Modification };
 

@@ -1,8 +1,8 @@
 //! Changes of an entry.
 
 ghost use Rattle.std.specs.Prelude.{◌≡◌, Ok, IfErr, OnOk};
-ghost use Rattle.plain_values.specs.Answers.{Answers, IsFaultOf};
-ghost use Rattle.entry_changes.specs.Changes.{changed, changed_by, cause_of};
+ghost use Rattle.ldap_msg.specs.plain_values.Answers.{Answers, IsFaultOf};
+ghost use Rattle.entry_changes.specs.Change.{changed, changed_by, cause_of};
 
 use crate::ask::Ask;
 use crate::change::EntryChange;

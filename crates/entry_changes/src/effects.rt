@@ -2,9 +2,9 @@
 
 ghost use Rattle.std.specs.Prelude.{◌≡◌, ◌++◌, false, IfOk, OnOk};
 ghost use Rattle.std.specs.List.{IsDistinct};
-ghost use Rattle.dir_tree.specs.Entries.{values_of, is_match};
+ghost use Rattle.dir_tree.specs.Entry.{values_of, is_match};
 ghost use Rattle.entry_changes.specs.declared.kind.ChangeKind.TheVariants as change_kind;
-ghost use Rattle.entry_changes.specs.Changes.{with_each, without_each, left_by};
+ghost use Rattle.entry_changes.specs.Change.{with_each, without_each, left_by};
 ghost use Rattle.entry_changes.specs.Effects.{has_any_key, IsAdmitted};
 
 use crate::change::EntryChange;
@@ -12,8 +12,8 @@ use crate::fault::NoMemory;
 use crate::kind::ChangeKind;
 use crate::refusing::are_none;
 use dir_tree::Entry;
-use dn_names::Value;
-use schema_core::AttrId;
+use dir_tree::dn_names::Value;
+use dir_tree::schema_core::AttrId;
 use std::alloc::Global;
 
 // Puts the values at the end.

@@ -2,9 +2,9 @@
 
 ghost use Rattle.std.specs.Prelude.{◌≡◌, Bool, List, IfOk};
 ghost use Rattle.std.specs.List.{AllByRecursion, IsDistinct};
-ghost use Rattle.dn_names.specs.Names.{RdnSequence};
-ghost use Rattle.dir_tree.specs.Entries.{EntryInformation, is_match, IsGoodAttributes};
-ghost use Rattle.entry_changes.specs.Changes.{Asks, Modification, changed_by};
+ghost use Rattle.dir_tree.specs.dn_names.name.Names.{RdnSequence};
+ghost use Rattle.dir_tree.specs.Entry.{EntryInformation, is_match, IsGoodAttributes};
+ghost use Rattle.entry_changes.specs.Change.{Asks, Modification, changed_by};
 ghost use Rattle.entry_changes.specs.Renaming.{renamed_entry};
 
 /// Changes keep the name, and a rename gives it; both leave attributes of distinct types, each with a value, and no two of

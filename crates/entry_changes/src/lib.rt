@@ -8,7 +8,7 @@ mod changing;
 mod effects;
 mod fault;
 mod kind;
-mod laws;
+pub mod laws;
 mod refusing;
 mod renaming;
 
@@ -17,5 +17,4 @@ pub use change::EntryChange;
 pub use changing::change_entry;
 pub use fault::{ChangeFault, NoMemory};
 pub use kind::ChangeKind;
-pub use laws::changes_keep_attributes_good;
 pub use renaming::rename_entry;

@@ -1,19 +1,19 @@
 //! Why a change isn't made. No memory is taken.
 
 ghost use Rattle.std.specs.Prelude.{◌≡◌, ◌++◌, [], map};
-ghost use Rattle.dir_tree.specs.Entries.{has_key};
+ghost use Rattle.dir_tree.specs.Entry.{has_key};
 ghost use Rattle.acdf_filters.specs.Asking.{protected_of};
-ghost use Rattle.plain_values.specs.Refusals.{first_some};
-ghost use Rattle.entry_changes.specs.Changes.{are_none, withheld, exists_already, add_value_refusal, add_refusal, delete_value_refusal, delete_refusal, has_octets, goes_refusal, comes_refusal, replace_refusal, change_refusal};
+ghost use Rattle.ldap_msg.specs.plain_values.Refusals.{first_some};
+ghost use Rattle.entry_changes.specs.Change.{are_none, withheld, exists_already, add_value_refusal, add_refusal, delete_value_refusal, delete_refusal, has_octets, goes_refusal, comes_refusal, replace_refusal, change_refusal};
 
 use crate::ask::Ask;
 use crate::change::EntryChange;
 use crate::kind::ChangeKind;
 use acdf_filters::Item;
-use aci_item::Permission;
-use dn_names::Value;
+use acdf_filters::aci_item::Permission;
+use dir_tree::dn_names::Value;
+use dir_tree::schema_core::AttrId;
 use ldap_msg::ResultCode;
-use schema_core::AttrId;
 
 /// Whether there are no values.
 pub(crate) fn are_none(values: &[Value]) -> bool
@@ -97,7 +97,7 @@ fn add_values_refusal<A: Ask>(
 }
 
 // Why the values are not added.
-#[tactic(auto, unfolding(crate::specs::Changes::add_refusal))]
+#[tactic(auto, unfolding(crate::specs::Change::add_refusal))]
 fn add_refusal<A: Ask>(
     asker: &A,
     kind: AttrId,
@@ -149,7 +149,7 @@ fn delete_values_refusal<A: Ask>(
 }
 
 // Why the attribute is not deleted.
-#[tactic(auto, unfolding(crate::specs::Changes::delete_refusal))]
+#[tactic(auto, unfolding(crate::specs::Change::delete_refusal))]
 fn delete_kind_refusal<A: Ask>(asker: &A, kind: AttrId, old: &[Value]) -> Option<ResultCode>
     ensures exact { result ≡ delete_refusal (A.asks asker.now) kind.0 old.now [] }
 {
@@ -261,7 +261,7 @@ fn values_refusal<A: Ask>(
 }
 
 // Why the values don't take the place of the old ones.
-#[tactic(auto, unfolding(crate::specs::Changes::replace_refusal))]
+#[tactic(auto, unfolding(crate::specs::Change::replace_refusal))]
 fn replace_refusal<A: Ask>(
     asker: &A,
     kind: AttrId,

@@ -1,12 +1,12 @@
 //! Renames of an entry.
 
 ghost use Rattle.std.specs.Prelude.{◌≡◌, IfOk, if◌then◌else◌};
-ghost use Rattle.dir_tree.specs.Changes.{without_value};
+ghost use Rattle.dir_tree.specs.attributes.Changes.{without_value};
 ghost use Rattle.entry_changes.specs.Renaming.{is_same_pair, has_pair, gone_among, without_pairs, renamed_entry};
 
 use crate::fault::NoMemory;
 use dir_tree::Entry;
-use dn_names::{Dn, Pair};
+use dir_tree::dn_names::{Dn, Pair};
 use op_write::add_own_values;
 use std::alloc::Global;
 

@@ -1,8 +1,8 @@
 //! Entries: what each change leaves, and the classes of RFC 4519 and RFC 2798 with their superclasses.
 use crate::fixtures::{entry, name, put, set_one};
 use dir_tree::Entry;
-use dn_names::same;
-use schema_core::{AttrId, row};
+use dir_tree::dn_names::same;
+use dir_tree::schema_core::{AttrId, row};
 use std::alloc::Global;
 use std::process::Abort;
 use std::str;

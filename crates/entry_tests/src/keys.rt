@@ -1,6 +1,6 @@
 //! Keys: the Unicode Standard's own examples of case folding (section 3.13) and of NFKC (UAX #15), and each rule's
 //! good and bad octets.
-use match_rules::{
+use dir_tree::match_rules::{
     Part, PrepareFault, Rule, equal, is_own_key, order, prepare, prepare_part, substring,
 };
 use std::alloc::Global;

@@ -1,10 +1,10 @@
 //! Names: the examples of RFC 4514 section 4, and each refusal with its place or its number.
 use crate::fixtures::{name, value};
-use dn_names::{
+use dir_tree::dn_names::{
     BadName, Dn, Pair, compare_front, compare_names, is_key_of, is_prefix, join, local, make_value,
     parse, parse_rdn, print, same,
 };
-use schema_core::{attr, row};
+use dir_tree::schema_core::{attr, row};
 use std::alloc::Global;
 use std::process::Abort;
 use std::str;

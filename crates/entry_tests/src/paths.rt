@@ -1,6 +1,6 @@
 //! Path keys: their octets, their order, and those of the fronts of a name.
 use crate::fixtures::name;
-use dn_names::{Dn, compare_names, is_prefix};
+use dir_tree::dn_names::{Dn, compare_names, is_prefix};
 use std::alloc::Global;
 use std::cmp::Ordering;
 use std::process::Abort;

@@ -1,7 +1,7 @@
 //! Trees: each call once, and each refusal in its order.
 use crate::fixtures::{entry, name};
+use dir_tree::dn_names::{Dn, print, same};
 use dir_tree::{Entry, EntryNo, InsertRefusal, Scope, Tree};
-use dn_names::{Dn, print, same};
 use std::alloc::Global;
 use std::process::Abort;
 use std::test::Fail;

@@ -1,2 +1,4 @@
 -- what public clauses cite
-pub mod Text
+pub mod Texts
+-- the words of crates below, handed on
+pub use Rattle.question_words.specs as question_words

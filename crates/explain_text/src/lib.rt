@@ -4,4 +4,5 @@
 mod lines;
 mod texts;
 
+pub use question_words;
 pub use texts::explain_text;

@@ -2,14 +2,14 @@
 
 ghost use Rattle.std.specs.Prelude.{◌≡◌, ◌++◌, [], OnOk, codes, decimal, flat_map, map, string_bytes};
 ghost use Rattle.std.specs.Option.{option_map_or};
-ghost use Rattle.dn_names.specs.Printing.{print_name};
-ghost use Rattle.dir_tree.specs.Numbered.{entry_of, entries_at};
-ghost use Rattle.acdf_core.specs.Explained.{name_at, kept_at};
-ghost use Rattle.explain_text.specs.Text.{subentry_line, count_line, effect, kept_line, outcome_line};
+ghost use Rattle.dir_tree.specs.dn_names.Printing.{print_name};
+ghost use Rattle.dir_tree.specs.tree.Numbered.{entry_of, entries_at};
+ghost use Rattle.acdf_core.specs.explaining.Explained.{name_at, kept_at};
+ghost use Rattle.explain_text.specs.Texts.{subentry_line, count_line, effect, kept_line, outcome_line};
 
 use acdf_core::{Counts, KeptTuple};
+use acdf_filters::gser_tree::put_string;
 use dir_tree::{Entry, EntryNo, NoMemory, Tree};
-use gser_tree::put_string;
 use std::alloc::Global;
 
 // Writes the line of a subentry.
@@ -17,7 +17,7 @@ fn put_subentry(alloc: Global, subentry: &Entry, out: &mut String) -> Result<(),
     ensures ok { OnOk result (string_bytes out.new ≡ string_bytes out.old ++ subentry_line subentry.now) }
 {
     out.push_str("subentry ")?;
-    dn_names::print(alloc, subentry.name(), out)?;
+    dir_tree::dn_names::print(alloc, subentry.name(), out)?;
     out.push_str("\n")
 }
 
@@ -105,7 +105,7 @@ fn put_name_at(
     ensures ok { OnOk result (string_bytes out.new ≡ string_bytes out.old ++ print_name (name_at tree.now number.0)) }
 {
     match tree.at(number) {
-        Some(entry) => dn_names::print(alloc, entry.name(), out),
+        Some(entry) => dir_tree::dn_names::print(alloc, entry.name(), out),
         None => Ok(()),
     }
 }

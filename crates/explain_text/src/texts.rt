@@ -1,18 +1,20 @@
 //! The text of a decision.
 
 ghost use Rattle.std.specs.Prelude.{◌≡◌, Some, IfOk, string_bytes};
-ghost use Rattle.dir_tree.specs.Entries.{EntryInformation};
-ghost use Rattle.dir_tree.specs.Numbered.{entry_of, entries_of};
+ghost use Rattle.dir_tree.specs.Entry.{EntryInformation};
+ghost use Rattle.dir_tree.specs.tree.Numbered.{entry_of, entries_of};
 ghost use Rattle.acdf_filters.specs.Asking.{protected_of};
-ghost use Rattle.explain_text.specs.Text.{entry_text, explained_text};
+ghost use Rattle.question_words.specs.asked.Questions.{question_view};
+ghost use Rattle.explain_text.specs.Texts.{entry_text, explained_text, text_explained};
 
 use crate::lines::{outcome_line, put_all_kept, put_counts, put_subentries};
 use acdf_core::explain;
+use acdf_filters::aci_item::Permission;
 use acdf_filters::{Item, Requester};
 use acdf_lists::Dir;
-use aci_item::Permission;
+use dir_tree::dn_names::Dn;
 use dir_tree::{EntryNo, NoMemory};
-use dn_names::Dn;
+use question_words::AskedDecision;
 use std::alloc::Global;
 
 // The text of the decision on the entry of the number.
@@ -37,11 +39,8 @@ fn entry_text<D: Dir>(
     Ok(text)
 }
 
-/// The text of the access control decision on the item of the entry of the name (X.501 18.8): the subentries in force for
-/// the entry, how many tuples count for it and how many are left by each filter, those that are left at the end, and
-/// whether access is granted; `absent` where no entry has the name. Each line ends in LF. The error comes where memory is
-/// wanted.
-pub fn explain_text<D: Dir>(
+// The text of the decision on the item of the entry of the name.
+fn target_text<D: Dir>(
     alloc: Global,
     dir: &D,
     who: &Requester,
@@ -57,4 +56,25 @@ pub fn explain_text<D: Dir>(
         Some(number) => entry_text(alloc, dir, who, number, item, permission),
         None => String::from_str(alloc, "absent\n"),
     }
+}
+
+/// The text of the access control decision that the question asks for (X.501 18.8): the subentries in force for the entry,
+/// how many tuples count for it and how many are left by each filter, those that are left at the end, and whether access
+/// is granted; `absent` where no entry has the name. Each line ends in LF. The error comes where memory is wanted.
+pub fn explain_text<D: Dir>(
+    alloc: Global,
+    dir: &D,
+    question: &AskedDecision,
+) -> Result<String, NoMemory>
+    ensures ok { IfOk result (λ text. string_bytes text ≡ text_explained (entries_of (D.rows dir.now)) (question_view question.now)) }
+{
+    let item = question.item.item();
+    target_text(
+        alloc,
+        dir,
+        &question.who,
+        &question.target,
+        item,
+        question.permission,
+    )
 }

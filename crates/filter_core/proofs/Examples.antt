@@ -3,22 +3,22 @@ use Rattle.std.proofs.Common.{◌≡◌, ℕ, true, false, [], ◌∷◌, Some, 
 use Rattle.std.specs.Prelude.{codes, ◌==◌, not}
 use Rattle.std.specs.Str.{bytes_eq}
 use Prim.Native.String.{String}
-use Rattle.schema_core.specs.Attributes.{attributes}
-use Rattle.schema_core.specs.Classes.{classes}
-use Rattle.dn_names.specs.Names.{Keyed}
-use Rattle.dn_names.specs.NameValues.{value_of}
-use Rattle.match_rules.specs.Keys.{key_of}
-use Rattle.match_rules.specs.Syntaxes.{is_of}
-use Rattle.dir_tree.specs.Entries.{EntryInformation}
-use Rattle.ldap_filter.specs.Filters.{Filter}
-use Rattle.ldap_filter.specs.Filters.Filter.{And, Or, Not, Equal, Parts, AtLeast, Present, Extensible}
-use Rattle.ldap_filter.specs.Filters.Filters.{Nil, Cons}
+use Rattle.dir_tree.specs.schema_core.Attributes.{attributes}
+use Rattle.dir_tree.specs.schema_core.classes.Classes.{classes}
+use Rattle.dir_tree.specs.dn_names.name.Names.{Keyed}
+use Rattle.dir_tree.specs.dn_names.make.NameValues.{value_of}
+use Rattle.dir_tree.specs.match_rules.Keys.{key_of}
+use Rattle.dir_tree.specs.match_rules.rules.Syntaxes.{is_of}
+use Rattle.dir_tree.specs.Entry.{EntryInformation}
+use Rattle.ldap_filter.specs.filter.Filters.{Filter}
+use Rattle.ldap_filter.specs.filter.Filters.Filter.{And, Or, Not, Equal, Parts, AtLeast, Present, Extensible}
+use Rattle.ldap_filter.specs.filter.Filters.Filters.{Nil, Cons}
 use Rattle.filter_core.specs.declared.truth.Truth.TheVariants.{True, False, Undefined}
-use Rattle.filter_core.specs.Substrings.{is_substring}
-use Rattle.filter_core.specs.Tests.{equal_test, order_test, parts_test, present_test, rule_of, test_of}
-use Rattle.filter_core.specs.Tests.Assertion.{HasKey, IsClass, IsAtLeast, IsAtMost}
-use Rattle.filter_core.specs.Tests.Test.{Nothing, IsThere, HasValue}
-use Rattle.filter_core.specs.Truths.{Permits, matches, has_match, test_truth, truth}
+use Rattle.filter_core.specs.matching.Substrings.{is_substring}
+use Rattle.filter_core.specs.prepared.Tests.{equal_test, order_test, parts_test, present_test, rule_of, test_of}
+use Rattle.filter_core.specs.prepared.Tests.Assertion.{HasKey, IsClass, IsAtLeast, IsAtMost}
+use Rattle.filter_core.specs.prepared.Tests.Test.{Nothing, IsThere, HasValue}
+use Rattle.filter_core.specs.Truth.{Permits, matches, has_match, test_truth, truth}
 
 -- ---- what items ask
 

@@ -1,6 +1,6 @@
 -- What crates above may cite.
 
 -- the test of parts by cuts says that the key has the parts
-pub use Rattle.filter_core.proofs.SubstringsLemmas.{is_substring-IsSubstring}
+pub use Rattle.filter_core.proofs.matching.SubstringsLemmas.{is_substring-IsSubstring}
 -- what the answers of all members say together is what the and or the or is
-pub use Rattle.filter_core.proofs.JoinLemmas.{answer-all_of, answer-any_of, answer-negated}
+pub use Rattle.filter_core.proofs.evaluating.JoinLemmas.{answer-all_of, answer-any_of, answer-negated}

@@ -1,10 +1,9 @@
 -- what public clauses cite: what items ask, and what a filter is of an entry
-pub mod Substrings
-pub mod Tests
-pub mod Truths
+pub mod matching
+pub mod prepared
+pub mod Truth
 -- for the inside of the crate alone
 pub mod Asked
 pub mod Preparing
-pub mod Walks
-pub mod Judging
-pub mod OnTheWay
+pub mod walk
+pub mod evaluating

@@ -1,8 +1,8 @@
 -- What the steps of preparing an item give.
 use Rattle.std.specs.Prelude.{Bool, true, false, Option, Result}
-use Rattle.plain_values.specs.Answers.{IsNothing, AnswersAny}
-use Rattle.match_rules.specs.declared.errors.PrepareFault.{PrepareFault}
-use Rattle.match_rules.specs.declared.errors.PrepareFault.TheVariants.{NotOfSyntax, NoMemory}
+use Rattle.dir_tree.specs.plain_values.Answers.{IsNothing, AnswersAny}
+use Rattle.dir_tree.specs.match_rules.declared.errors.PrepareFault.{PrepareFault}
+use Rattle.dir_tree.specs.match_rules.declared.errors.PrepareFault.TheVariants.{NotOfSyntax, NoMemory}
 
 -- the fault says that the octets are of no value
 abbrev pub is_of_syntax : PrepareFault → Bool

@@ -1,10 +1,10 @@
 //! Permission to match.
 
 ghost use Rattle.std.specs.Prelude.{◌≡◌, ℕ, Bool};
-ghost use Rattle.filter_core.specs.Truths.{Permits};
+ghost use Rattle.filter_core.specs.Truth.{Permits};
 
-use dn_names::Value;
-use schema_core::AttrId;
+use dir_tree::dn_names::Value;
+use dir_tree::schema_core::AttrId;
 
 /// What the requester may match filters against, of one entry: the permission FilterMatch (X.501 18.2).
 pub trait Allow {

@@ -1,10 +1,10 @@
 //! What the items of a filter ask, prepared.
 
 ghost use Rattle.std.specs.Prelude.{◌≡◌};
-ghost use Rattle.filter_core.specs.Tests.Test.{Nothing};
+ghost use Rattle.filter_core.specs.prepared.Tests.Test.{Nothing};
 
-use dn_names::Value;
-use schema_core::AttrId;
+use dir_tree::dn_names::Value;
+use dir_tree::schema_core::AttrId;
 use std::marker::Model;
 
 /// What an item asks of an entry. Contracts see the type by its number, and keys as lists of octets.
@@ -40,7 +40,7 @@ pub(crate) enum Asserted {
 }
 
 impl Model for Test {
-    ghost use Rattle.filter_core.specs.Tests as tests;
+    ghost use Rattle.filter_core.specs.prepared.Tests as tests;
 
     ghost Value = { tests.Test };
 

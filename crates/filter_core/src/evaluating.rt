@@ -1,9 +1,9 @@
 //! Filters evaluated over entries.
 
 ghost use Rattle.std.specs.Prelude.{◌≡◌, true};
-ghost use Rattle.filter_core.specs.Judging.{judged, possible};
-ghost use Rattle.filter_core.specs.Truths.{truth, is_true};
-ghost use Rattle.filter_core.specs.Walks.{answer};
+ghost use Rattle.filter_core.specs.evaluating.Judging.{judged, possible};
+ghost use Rattle.filter_core.specs.Truth.{truth, is_true};
+ghost use Rattle.filter_core.specs.walk.Walks.{answer};
 
 use crate::allow::Allow;
 use crate::exact::Exact;

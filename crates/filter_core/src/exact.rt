@@ -1,9 +1,9 @@
 //! Items answered by the entry and by permission.
 
 ghost use Rattle.std.specs.Prelude.{◌≡◌};
-ghost use Rattle.filter_core.specs.Judging.{exact};
-ghost use Rattle.filter_core.specs.Truths.{if_permitted, test_truth};
-ghost use Rattle.filter_core.specs.Walks.{answer};
+ghost use Rattle.filter_core.specs.evaluating.Judging.{exact};
+ghost use Rattle.filter_core.specs.Truth.{if_permitted, test_truth};
+ghost use Rattle.filter_core.specs.walk.Walks.{answer};
 
 use crate::allow::Allow;
 use crate::asked::{Asks, Test};
@@ -11,7 +11,7 @@ use crate::judge::Judge;
 use crate::matching::has_match;
 use crate::question::Question;
 use dir_tree::Entry;
-use schema_core::AttrId;
+use dir_tree::schema_core::AttrId;
 
 /// Answers by the entry and by permission.
 #[derive(Drop)]
@@ -32,7 +32,7 @@ fn if_permitted<A: Allow>(question: Question, kind: AttrId, found: bool, allow: 
 }
 
 /// The answer of a test.
-#[tactic(auto, unfolding(crate::specs::Truths::test_truth))]
+#[tactic(auto, unfolding(crate::specs::Truth::test_truth))]
 fn answer_of<A: Allow>(question: Question, test: &Test, entry: &Entry, allow: &A) -> bool
     ensures { result ≡ answer question (test_truth (A.permits allow.now) entry.now test.now) }
 {

@@ -7,7 +7,7 @@ mod asked;
 mod evaluating;
 mod exact;
 mod judge;
-mod laws;
+pub mod laws;
 mod matching;
 mod possible;
 mod prepared;
@@ -18,6 +18,5 @@ mod walk;
 
 pub use allow::Allow;
 pub use evaluating::{evaluate, is_true};
-pub use laws::substrings_are_cuts;
 pub use prepared::{NoMemory, Prepared, prepare_filter};
 pub use truth::Truth;

@@ -3,19 +3,19 @@
 ghost use Rattle.std.specs.Prelude.{◌≡◌, ◌&&◌, map};
 ghost use Rattle.std.specs.List.{list_any};
 ghost use Rattle.std.specs.Str.{bytes_eq};
-ghost use Rattle.dir_tree.specs.Entries.{values_of};
-ghost use Rattle.dir_tree.specs.EntryClasses.{own_oid, oids_of, oids_of_listed};
+ghost use Rattle.dir_tree.specs.Entry.{values_of};
+ghost use Rattle.dir_tree.specs.classes.EntryClasses.{own_oid, oids_of, oids_of_listed};
 ghost use Rattle.filter_core.specs.Asked.{assertion_asked};
-ghost use Rattle.filter_core.specs.Judging.{has_value};
-ghost use Rattle.filter_core.specs.Substrings.{is_substring};
-ghost use Rattle.filter_core.specs.Truths.{matches, has_match};
+ghost use Rattle.filter_core.specs.evaluating.Judging.{has_value};
+ghost use Rattle.filter_core.specs.matching.Substrings.{is_substring};
+ghost use Rattle.filter_core.specs.Truth.{matches, has_match};
 
 use crate::allow::Allow;
 use crate::asked::Asserted;
 use dir_tree::Entry;
-use dn_names::Value;
-use match_rules::{order, substring};
-use schema_core::{AttrId, ClassId, class_oid, class_with, superior};
+use dir_tree::dn_names::Value;
+use dir_tree::match_rules::{order, substring};
+use dir_tree::schema_core::{AttrId, ClassId, class_oid, class_with, superior};
 
 /// Whether the class has the object identifier.
 fn has_oid(class: ClassId, oid: &[u8]) -> bool
@@ -61,7 +61,7 @@ fn has_parts(key: &[u8], first: &[u8], middle: &[Vec<u8>], last: &[u8]) -> bool
 }
 
 /// Whether the value is as asserted.
-#[tactic(auto, unfolding(crate::specs::Truths::matches))]
+#[tactic(auto, unfolding(crate::specs::Truth::matches))]
 fn matches(asserted: &Asserted, value: &Value) -> bool
     ensures exact { result ≡ matches (assertion_asked asserted.now) value.now }
 {
@@ -92,7 +92,7 @@ fn is_match<A: Allow>(asserted: &Asserted, kind: AttrId, value: &Value, allow: &
 }
 
 /// Whether the entry has a value of the type that is as asserted, and permitted.
-#[tactic(auto, unfolding(crate::specs::Truths::has_match))]
+#[tactic(auto, unfolding(crate::specs::Truth::has_match))]
 pub(crate) fn has_match<A: Allow>(
     asserted: &Asserted,
     kind: AttrId,

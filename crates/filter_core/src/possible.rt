@@ -1,7 +1,7 @@
 //! Items answered by the entry alone.
 
 ghost use Rattle.std.specs.Prelude.{◌≡◌};
-ghost use Rattle.filter_core.specs.Judging.{possible, has_possible};
+ghost use Rattle.filter_core.specs.evaluating.Judging.{possible, has_possible};
 
 use crate::asked::{Asks, Test};
 use crate::judge::Judge;
@@ -16,7 +16,7 @@ pub(crate) struct Possible<'a> {
 }
 
 /// Whether the test may be True of the entry.
-#[tactic(auto, unfolding(crate::specs::Judging::has_possible))]
+#[tactic(auto, unfolding(crate::specs::evaluating::Judging::has_possible))]
 fn may_be_true(test: &Test, entry: &Entry) -> bool
     ensures { result ≡ has_possible entry.now test.now }
 {

@@ -1,9 +1,9 @@
 //! Filters prepared.
 
 ghost use Rattle.std.specs.Prelude.{◌≡◌, ◌++◌, ◌∷◌, [], IfOk, OnOk};
-ghost use Rattle.ldap_filter.specs.Nodes.{filter_of_node};
-ghost use Rattle.filter_core.specs.Tests.{test_of};
-ghost use Rattle.filter_core.specs.Walks.{tests_of};
+ghost use Rattle.ldap_filter.specs.filter.Nodes.{filter_of_node};
+ghost use Rattle.filter_core.specs.prepared.Tests.{test_of};
+ghost use Rattle.filter_core.specs.walk.Walks.{tests_of};
 
 use crate::asked::Test;
 use crate::preparing::prepare_item;
@@ -25,14 +25,14 @@ pub struct Prepared<'a> {
 
 impl<'a> Model for Prepared<'a> {
     ghost use Rattle.std.specs.Prelude.{◌≡◌};
-    ghost use Rattle.ldap_filter.specs.Filters as filters;
-    ghost use Rattle.ldap_filter.specs.Codes.{coded_filter};
+    ghost use Rattle.ldap_filter.specs.filter.Filters as filters;
+    ghost use Rattle.ldap_filter.specs.filter.Codes.{coded_filter};
 
     ghost Value = { filters.Filter };
 
     ghost coded = { coded_filter };
 
-    ghost use Rattle.filter_core.specs.Walks.{tests_of};
+    ghost use Rattle.filter_core.specs.walk.Walks.{tests_of};
 
     ghost view = { λ prepared. prepared.filter.now };
 

@@ -1,7 +1,7 @@
 //! What is asked of a filter, or of a part of it.
 
 ghost use Rattle.std.specs.Prelude.{◌≡◌};
-ghost use Rattle.filter_core.specs.Walks.{turned, asks_all_of_and, asks_all_of_or, asked_next, join};
+ghost use Rattle.filter_core.specs.walk.Walks.{turned, asks_all_of_and, asks_all_of_or, asked_next, join};
 
 /// What is asked.
 #[derive(Clone, Copy, PartialEq, Eq)]

@@ -1,9 +1,9 @@
 //! The walk down a filter.
 
 ghost use Rattle.std.specs.Prelude.{◌≡◌, ◌∷◌, []};
-ghost use Rattle.filter_core.specs.Judging.{judged};
-ghost use Rattle.filter_core.specs.Tests as items;
-ghost use Rattle.filter_core.specs.Walks.{tests_of, Walks};
+ghost use Rattle.filter_core.specs.evaluating.Judging.{judged};
+ghost use Rattle.filter_core.specs.prepared.Tests as items;
+ghost use Rattle.filter_core.specs.walk.Walks.{tests_of, Walks};
 
 use crate::asked::Test;
 use crate::judge::Judge;

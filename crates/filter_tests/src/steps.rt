@@ -1,6 +1,6 @@
 //! Filters made step by step: items first, and then what joins those before it.
+use dir_tree::plain_values::{Octets, OneOrMany};
 use ldap_filter::{Filter, Node};
-use plain_values::{Octets, OneOrMany};
 use std::alloc::Global;
 use std::test::Fail;
 

@@ -1,9 +1,0 @@
-pub mod DottedLemmas
-pub mod FrontLemmas
-pub mod KeptLemmas
-pub mod MarkLemmas
-pub mod NumberLemmas
-pub mod OidLemmas
-pub mod ReachLemmas
-pub mod StringLemmas
-pub mod WritingLemmas

@@ -2,7 +2,7 @@
 use Rattle.std.specs.Prelude.{ℕ, zero, suc, ◌+◌, Bool, false, ◌==◌, List, [], ◌∷◌, length, drop, get_or, encode_utf8, if◌then◌else◌}
 use Rattle.std.specs.Char.{is_ascii_alphabetic, is_ascii_lowercase, is_ascii_digit}
 use Rattle.std.specs.List.{prefix_len, common_prefix_len}
-use Rattle.gser_core.specs.Productions.{is_key}
+use Rattle.gser_core.specs.cursor.Productions.{is_key}
 
 -- an octet of one kind, and the octets of another behind it
 abbrev pub led_len : (ℕ → Bool) → (ℕ → Bool) → List ℕ → ℕ

@@ -1,6 +1,5 @@
 -- what public clauses cite
-pub mod Productions
-pub mod Cursors
+pub mod cursor
 pub mod Counts
 -- what the crate's inside promises itself
 pub mod Strings

@@ -1,6 +1,6 @@
 -- What stands between the quotation marks of a string, and what stays in a text that is written on.
 use Rattle.std.specs.Prelude.{◌≡◌, ℕ, List, length, take}
-use Rattle.gser_core.specs.Productions.{doubled}
+use Rattle.gser_core.specs.cursor.Productions.{doubled}
 
 -- each quotation mark stands twice
 abbrev pub IsDoubled : List ℕ → Type 0

@@ -3,7 +3,7 @@
 ghost use Rattle.std.specs.Prelude.{◌≡◌, ◌≤◌, length};
 ghost use Rattle.std.specs.Char.{is_ascii_digit};
 ghost use Rattle.std.specs.List.{prefix_len, common_prefix_len};
-ghost use Rattle.gser_core.specs.Productions.{is_blank, is_key};
+ghost use Rattle.gser_core.specs.cursor.Productions.{is_blank, is_key};
 ghost use Rattle.gser_core.specs.Counts.{closed_len, dotted_len, identifier_len, is_same, joined_len, numeral_len, oid_len, oid_reach, pointed_len, string_len};
 
 fn is_key(octet: u8) -> bool
@@ -129,7 +129,7 @@ pub(crate) fn oid_reach(octets: &[u8]) -> usize
 }
 
 /// How many octets two texts share at their fronts.
-#[tactic(auto, using(crate::proofs::MarkLemmas::shared_end, crate::proofs::MarkLemmas::shared_stop))]
+#[tactic(auto, using(crate::proofs::cursor::MarkLemmas::shared_end, crate::proofs::cursor::MarkLemmas::shared_stop))]
 pub(crate) fn shared_len(octets: &[u8], others: &[u8]) -> usize
     ensures exact { result ≡ common_prefix_len is_same octets.now others.now }
     ensures within { (result ≤ length octets.now) × (result ≤ length others.now) }
@@ -160,7 +160,7 @@ pub(crate) fn blanks(octets: &[u8]) -> usize
 
 /// How many octets are the rest of a string behind its first quotation mark: through its last one,
 /// which the longest has. 0 where there is none.
-#[tactic(auto, using(crate::proofs::StringLemmas::passed_two, crate::proofs::StringLemmas::ended_last, crate::proofs::StringLemmas::ended_before))]
+#[tactic(auto, using(crate::proofs::strings::StringLemmas::passed_two, crate::proofs::strings::StringLemmas::ended_last, crate::proofs::strings::StringLemmas::ended_before))]
 fn closed_len(octets: &[u8]) -> usize
     ensures exact { result ≡ closed_len octets.now }
     ensures within { result ≤ length octets.now }

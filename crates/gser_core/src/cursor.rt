@@ -3,10 +3,10 @@
 ghost use Rattle.std.specs.Prelude.{◌≡◌, ◌+◌, ◌-◌, ◌≤◌, ◌<◌, length, take, drop, IfOk, OnOk, get_or, string_bytes, encode_utf8, Decides};
 ghost use Rattle.std.specs.Result.{IfErr};
 ghost use Rattle.gser_core.specs.declared.error.TextFault.TheVariants.{Expected};
-ghost use Rattle.gser_core.specs.Productions.{is_blank, quoted, BeginsWith, IsIdentifier, IsMark, IsNumeral, IsOid, IsSpaces, IsString};
+ghost use Rattle.gser_core.specs.cursor.Productions.{is_blank, quoted, BeginsWith, IsIdentifier, IsMark, IsNumeral, IsOid, IsSpaces, IsString};
 ghost use Rattle.std.specs.List.{prefix_len};
 ghost use Rattle.gser_core.specs.Counts.{shared_len, string_reach};
-ghost use Rattle.gser_core.specs.Cursors.{Standing, rest_of, moved, Takes, Lacks, LacksOrFails};
+ghost use Rattle.gser_core.specs.cursor.Cursors.{Standing, rest_of, moved, Takes, Lacks, LacksOrFails};
 
 use crate::counts::{
     blanks, identifier_len, numeral_len, oid_len, oid_reach, shared_len, string_len,
@@ -24,7 +24,7 @@ pub struct Cursor<'a> {
 }
 
 impl<'a> Model for Cursor<'a> {
-    ghost use Rattle.gser_core.specs.Cursors.{Standing};
+    ghost use Rattle.gser_core.specs.cursor.Cursors.{Standing};
     ghost use Rattle.std.specs.Prelude.{IsUtf8};
     ghost use Rattle.std.specs.Str.{IsCharBoundary};
 

@@ -1,13 +1,13 @@
 //! Strings, which stand in quotation marks with each quotation mark in them twice.
 
 ghost use Rattle.std.specs.Prelude.{◌≡◌, ◌++◌, OnOk, OnErr, IfOk, string_bytes};
-ghost use Rattle.gser_core.specs.Productions.{doubled, quoted, IsString};
+ghost use Rattle.gser_core.specs.cursor.Productions.{doubled, quoted, IsString};
 ghost use Rattle.gser_core.specs.Strings.{IsDoubled, IsKept};
 
 use std::alloc::{AllocError, Global};
 
 // Writes the octets of a text, each quotation mark twice. What was written before stays.
-#[tactic(auto, using(crate::proofs::KeptLemmas::kept_more))]
+#[tactic(auto, using(crate::proofs::strings::KeptLemmas::kept_more))]
 fn put_doubled(out: &mut String, text: &str) -> Result<(), AllocError>
     ensures ok { OnOk result (string_bytes out.new ≡ string_bytes out.old ++ doubled text.now) }
     ensures kept { IsKept (string_bytes out.old) (string_bytes out.new) }
@@ -22,7 +22,7 @@ fn put_doubled(out: &mut String, text: &str) -> Result<(), AllocError>
 }
 
 // Writes a string of a text. What was written before stays.
-#[tactic(auto, using(crate::proofs::KeptLemmas::kept_more, crate::proofs::KeptLemmas::kept_on))]
+#[tactic(auto, using(crate::proofs::strings::KeptLemmas::kept_more, crate::proofs::strings::KeptLemmas::kept_on))]
 fn put_quoted(out: &mut String, text: &str) -> Result<(), AllocError>
     ensures ok { OnOk result (string_bytes out.new ≡ string_bytes out.old ++ quoted text.now) }
     ensures kept { IsKept (string_bytes out.old) (string_bytes out.new) }

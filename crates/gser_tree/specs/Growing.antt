@@ -5,7 +5,7 @@ use Rattle.gser_tree.specs.declared.marks.Mark.TheVariants.{Open, Close, Comma, 
 use Rattle.gser_tree.specs.declared.part.Part.{Part}
 use Rattle.gser_tree.specs.declared.token.Token.{Token}
 use Rattle.gser_tree.specs.declared.token.Token.TheVariants as token
-use Rattle.gser_tree.specs.Shapes.{Shape, Shapes, Word, Quoted, Braces, Named, Chosen, None, Some}
+use Rattle.gser_tree.specs.looking.Shapes.{Shape, Shapes, Word, Quoted, Braces, Named, Chosen, None, Some}
 use Rattle.gser_tree.specs.Lexing.{lex}
 
 -- what has come of values in braces, from their end: nothing, values behind a comma, a value before others, or one

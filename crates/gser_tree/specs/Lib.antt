@@ -1,9 +1,8 @@
 -- what public clauses cite
-pub mod Lexemes
-pub mod Shapes
-pub mod Trees
-pub mod TextOf
-pub mod Looking
+pub mod marks
+pub mod looking
+pub mod Tree
+pub mod part
 pub mod Reading
 pub mod Writing
 -- for the inside of the crate alone

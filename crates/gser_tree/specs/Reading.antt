@@ -5,8 +5,8 @@ use Rattle.std.specs.List.{list_all}
 use Rattle.std.specs.Str.Parse.{digits_value}
 use Rattle.gser_tree.specs.declared.reading.Stop.{Stop}
 use Rattle.gser_tree.specs.declared.reading.Stop.TheVariants.{Misfit, NoMemory}
-use Rattle.gser_tree.specs.Shapes.{Shape}
-use Rattle.gser_tree.specs.Looking.{Behind, component, word_in}
+use Rattle.gser_tree.specs.looking.Shapes.{Shape}
+use Rattle.gser_tree.specs.looking.Looking.{Behind, component, word_in}
 
 -- what was read, and the place of the first bad part
 pub record Found (A : Type 0) : Type 0 where

@@ -1,11 +1,11 @@
 //! The value of tokens, from the last token to the first.
 
 ghost use Rattle.std.specs.Prelude.{◌≡◌, ◌==◌, ◌&&◌, IfOk, Some, length, map, reverse, option_map, option_and_then};
-ghost use Rattle.gser_tree.specs.Shapes.{gathered};
+ghost use Rattle.gser_tree.specs.looking.Shapes.{gathered};
 ghost use Rattle.gser_tree.specs.declared.token.Token.TheVariants as token;
 ghost use Rattle.gser_tree.specs.declared.marks.Mark.TheVariants.{Close};
 ghost use Rattle.gser_tree.specs.Growing.{with_word, with_value, with_comma, with_colon, all_of, with_braces, on_top, grow, value_of, value_in, tree_of};
-ghost use Rattle.gser_tree.specs.Trees.{shape_of, from_end, frame_of, stack_of};
+ghost use Rattle.gser_tree.specs.Tree.{shape_of, from_end, frame_of, stack_of};
 
 use crate::lexing::lex;
 use crate::marks::Mark;

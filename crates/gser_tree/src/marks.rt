@@ -1,7 +1,7 @@
 //! The octets that the encoding rules tell apart.
 
 ghost use Rattle.std.specs.Prelude.{◌≡◌};
-ghost use Rattle.gser_tree.specs.Lexemes.{class_of};
+ghost use Rattle.gser_tree.specs.marks.Lexemes.{class_of};
 
 /// A mark between words and strings.
 #[derive(Clone, Copy)]
@@ -32,7 +32,7 @@ pub(crate) enum Class {
 }
 
 /// The class of an octet.
-#[tactic(auto, unfolding(crate::specs::Lexemes::class_of))]
+#[tactic(auto, unfolding(crate::specs::marks::Lexemes::class_of))]
 pub(crate) fn classify(octet: u8) -> Class
     ensures exact { result ≡ class_of octet }
 {

@@ -3,7 +3,7 @@
 ghost use Rattle.std.specs.Prelude.{◌≡◌, IsTrue, None, Some, option_map, length, nat_le};
 ghost use Rattle.gser_tree.specs.declared.reading.Stop.TheVariants.{NoMemory};
 ghost use Rattle.gser_tree.specs.Reading.{noted, is_number, at_most, number, Reads};
-ghost use Rattle.gser_tree.specs.Trees.{shape_of};
+ghost use Rattle.gser_tree.specs.Tree.{shape_of};
 
 use crate::tree::Tree;
 use gser_core::Cursor;

@@ -1,9 +1,9 @@
 //! Entries and directories of texts, and what directories keep as text.
 
 use acdf_lists::Dir;
+use dir_tree::dn_names::{make_value, parse, print};
+use dir_tree::schema_core::attr;
 use dir_tree::{Entry, EntryNo, Scope, Tree};
-use dn_names::{make_value, parse, print};
-use schema_core::attr;
 use std::alloc::Global;
 use std::test::Fail;
 
@@ -86,7 +86,7 @@ pub fn new_at<D: Dir>(alloc: Global, dir: &D, entry: &Entry) -> Result<String, F
 /// The names of those in force for the entry of the number as the entries say.
 pub fn said_at(alloc: Global, tree: &Tree, number: EntryNo) -> Result<String, Fail> {
     let mut out = String::new(alloc);
-    let numbers = admin_scope::in_force(alloc, tree, number)?;
+    let numbers = acdf_filters::admin_scope::in_force(alloc, tree, number)?;
     put_names(alloc, tree, numbers.as_slice(), &mut out)?;
     Ok(out)
 }

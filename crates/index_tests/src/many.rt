@@ -1,10 +1,10 @@
 //! Many decisions over many long subtrees, and many writes of a large directory.
 
 use crate::directories::{kept_at, number, put, said_at};
+use acdf_filters::aci_item::{Level, Permission};
 use acdf_filters::{Item, Membership, Requester};
 use acdf_lists::Dir;
 use aci_index::IndexedDir;
-use aci_item::{Level, Permission};
 use dir_tree::{EntryNo, Tree};
 use std::alloc::Global;
 use std::test::Fail;

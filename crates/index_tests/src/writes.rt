@@ -271,7 +271,7 @@ fn the_access_control_subentries_are_listed_in_the_order_of_names(
     let mut found = String::new(alloc);
     for number in dir.subentries() {
         let entry = dir.tree().at(*number).ok_or("no entry of the number")?;
-        dn_names::print(alloc, entry.name(), &mut found)?;
+        dir_tree::dn_names::print(alloc, entry.name(), &mut found)?;
         found.push(' ')?;
     }
     assert_eq!(rt; found.as_str(), "cn=first,ou=u cn=top,ou=u cn=uid,ou=u ");

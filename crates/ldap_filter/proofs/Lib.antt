@@ -1,5 +1,1 @@
-pub mod JoinedLemmas
-pub mod SoundLemmas
-pub mod CompleteLemmas
-pub mod SpellingLemmas
 pub mod Theorems

@@ -1,10 +1,10 @@
 //! An attribute's type and a value that is asserted of it (RFC 4511 4.1.6).
 
 ghost use Rattle.std.specs.Prelude.{◌≡◌, ◌++◌, OnOk};
-ghost use Rattle.ber_core.specs.Element.{IsTag};
-ghost use Rattle.ber_layout.specs.Layouts.{writes};
-ghost use Rattle.ber_layout.specs.Spellings.{Extends, element_octets};
-ghost use Rattle.ldap_filter.specs.Assertions.{assertion_layout};
+ghost use Rattle.ber_core.specs.write.Element.{IsTag};
+ghost use Rattle.ber_layout.specs.laid.Layouts.{writes};
+ghost use Rattle.ber_layout.specs.write.Spellings.{Extends, element_octets};
+ghost use Rattle.ldap_filter.specs.Assertion.{assertion_layout};
 
 use ber_layout::{Laid, NoMemory, ReadFault, enclose, put_element, required};
 use plain_values::Octets;
@@ -18,13 +18,13 @@ pub struct Assertion {
 }
 
 impl Laid for Assertion {
-    ghost use Rattle.ldap_filter.specs.Assertions.{assertion_layout, assertion_parts};
+    ghost use Rattle.ldap_filter.specs.Assertion.{assertion_layout, assertion_parts};
 
     ghost layout = { assertion_layout };
 
     ghost parts = { assertion_parts };
 
-    #[tactic(auto, unfolding(ber_layout::specs::Layouts::reads_into))]
+    #[tactic(auto, unfolding(ber_layout::specs::laid::Layouts::reads_into))]
     fn read(alloc: Global, content: &[u8]) -> Result<Assertion, ReadFault> {
         let kind = required::<Octets>(alloc, 0x04, content)?;
         let value = required::<Octets>(alloc, 0x04, kind.rest)?;

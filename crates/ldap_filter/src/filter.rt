@@ -34,21 +34,21 @@ pub enum Node {
 }
 
 impl Model for Filter {
-    ghost use Rattle.ldap_filter.specs.Filters as filters;
-    ghost use Rattle.ldap_filter.specs.Codes.{coded_filter};
+    ghost use Rattle.ldap_filter.specs.filter.Filters as filters;
+    ghost use Rattle.ldap_filter.specs.filter.Codes.{coded_filter};
 
     ghost Value = { filters.Filter };
 
     ghost coded = { coded_filter };
 
-    ghost use Rattle.ldap_filter.specs.Nodes.{filter_of_node};
-    ghost use Rattle.ldap_filter.specs.Filters.{depth};
+    ghost use Rattle.ldap_filter.specs.filter.Nodes.{filter_of_node};
+    ghost use Rattle.ldap_filter.specs.filter.Filters.{depth};
 
     ghost view = { λ f. filter_of_node f.node };
 
     ghost size = { depth };
 
-    ghost use Rattle.ldap_filter.specs.Sizes.{node_falls};
+    ghost use Rattle.ldap_filter.specs.filter.Sizes.{node_falls};
 
     ghost size_decreases = { λ a h. node_falls a.node };
 }

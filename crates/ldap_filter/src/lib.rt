@@ -3,12 +3,11 @@
 
 mod assertion;
 mod filter;
-mod laws;
+pub mod laws;
 mod reading;
 mod writing;
 
 pub use assertion::{Assertion, put_assertion};
 pub use filter::{Filter, Node};
-pub use laws::{filters_are_read, filters_are_read_again};
 pub use reading::{MOST_DEEP, read_filter};
 pub use writing::put_filter;

@@ -1,11 +1,11 @@
 //! Filters read where they lie; only the fields' octets are copied.
 
 ghost use Rattle.std.specs.Prelude.{◌≡◌, ◌++◌, ◌∷◌, [], OnOk, IfOk, Some, None};
-ghost use Rattle.ber_layout.specs.Layouts.{reads};
-ghost use Rattle.ber_layout.specs.Reading.{Gives};
-ghost use Rattle.ldap_filter.specs.Filters.Filter.{Not, Equal, AtLeast, AtMost, Present, Approx, Extensible};
-ghost use Rattle.ldap_filter.specs.Filters.{filters_of};
-ghost use Rattle.ldap_filter.specs.FilterReading.{asserted, substrings_from, parts_in, item_of, all_of, only_of, level_of, filter_at as filter_within, filter_of};
+ghost use Rattle.ber_layout.specs.laid.Layouts.{reads};
+ghost use Rattle.ber_layout.specs.element.Reading.{Gives};
+ghost use Rattle.ldap_filter.specs.filter.Filters.Filter.{Not, Equal, AtLeast, AtMost, Present, Approx, Extensible};
+ghost use Rattle.ldap_filter.specs.filter.Filters.{filters_of};
+ghost use Rattle.ldap_filter.specs.reading.FilterReading.{asserted, substrings_from, parts_in, item_of, all_of, only_of, level_of, filter_at as filter_within, filter_of};
 
 use crate::assertion::Assertion;
 use crate::filter::{Filter, Node};
@@ -64,14 +64,14 @@ struct Substrings {
 }
 
 impl Laid for Substrings {
-    ghost use Rattle.ldap_filter.specs.FilterLayouts.{substrings_layout};
-    ghost use Rattle.ldap_filter.specs.SubstringParts.{substrings_parts};
+    ghost use Rattle.ldap_filter.specs.reading.FilterLayouts.{substrings_layout};
+    ghost use Rattle.ldap_filter.specs.reading.SubstringParts.{substrings_parts};
 
     ghost layout = { substrings_layout };
 
     ghost parts = { substrings_parts };
 
-    #[tactic(auto, unfolding(ber_layout::specs::Layouts::reads_into))]
+    #[tactic(auto, unfolding(ber_layout::specs::laid::Layouts::reads_into))]
     fn read(alloc: Global, content: &[u8]) -> Result<Substrings, ReadFault> {
         let initial = optional_octets(alloc, 0x80, content)?;
         let any = each_octets(alloc, 0x81, initial.rest)?;
@@ -128,7 +128,7 @@ fn without_initial(
     }
 }
 
-#[tactic(auto, unfolding(ber_layout::specs::Layouts::reads_into))]
+#[tactic(auto, unfolding(ber_layout::specs::laid::Layouts::reads_into))]
 fn parts(alloc: Global, content: &[u8]) -> Result<Filter, ReadFault>
     ensures { Gives (λ filter. filter) result (parts_in content.now) }
 {
@@ -140,7 +140,7 @@ fn parts(alloc: Global, content: &[u8]) -> Result<Filter, ReadFault>
     with_substrings(kind.value, found.value)
 }
 
-#[tactic(auto, unfolding(ber_layout::specs::Layouts::reads_into))]
+#[tactic(auto, unfolding(ber_layout::specs::laid::Layouts::reads_into))]
 fn octets(alloc: Global, content: &[u8]) -> Result<Octets, ReadFault>
     ensures { Gives (λ octets. octets) result (Some content.now) }
 {
@@ -203,7 +203,7 @@ fn negated(alloc: Global, member: Filter) -> Result<Filter, NoMemory>
 
 /// The filter that a tag and a content say, where it is at most `deep` deep.
 #[cycle(filter_at)]
-#[tactic(auto, unfolding(crate::specs::FilterReading::filter_at))]
+#[tactic(auto, unfolding(crate::specs::reading::FilterReading::filter_at))]
 fn filter_at(alloc: Global, deep: u8, tag: u8, content: &[u8]) -> Result<Filter, ReadFault>
     ensures { Gives (λ filter. filter) result (filter_within deep (tag, content.now)) }
 {
@@ -270,7 +270,7 @@ fn only(alloc: Global, deep: u8, content: &[u8]) -> Result<Filter, ReadFault>
 /// The filter that the tag and the content of an element say. `BadMessage` comes exactly where they
 /// say none, or one that is more than `MOST_DEEP` deep, and `NoMemory` may come in place of any
 /// answer.
-#[tactic(auto, unfolding(crate::specs::FilterReading::filter_of))]
+#[tactic(auto, unfolding(crate::specs::reading::FilterReading::filter_of))]
 pub fn read_filter(alloc: Global, tag: u8, content: &[u8]) -> Result<Filter, ReadFault>
     ensures { Gives (λ filter. filter) result (filter_of (tag, content.now)) }
 {

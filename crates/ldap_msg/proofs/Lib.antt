@@ -1,13 +1,3 @@
-pub mod StreamLemmas
-pub mod WholeLemmas
-pub mod OuterLemmas
-pub mod LongestLemmas
-pub mod PartLemmas
-pub mod SearchLemmas
-pub mod ContentLemmas
-pub mod MessageLemmas
-pub mod ReplyLemmas
-pub mod AnswerLemmas
-pub mod PlainLemmas
-pub mod WrittenLemmas
 pub mod Theorems
+-- the theorems of crates below, handed on
+pub use Rattle.plain_values.proofs as plain_values_proofs

@@ -1,15 +1,17 @@
 -- what public clauses cite
-pub mod Streams
-pub mod Operations
-pub mod ResultCodes
+pub mod framing
+pub mod operations
 pub mod Attributes
 pub mod Binds
 pub mod Kinds
-pub mod Searches
+pub mod Search
 pub mod Controls
-pub mod Contents
-pub mod Messages
+pub mod reading
 pub mod Results
 pub mod Replies
-pub mod Ranges
-pub mod Laws
+pub mod laws
+-- the words of crates below, handed on
+pub use Rattle.ldap_filter.specs as ldap_filter
+pub use Rattle.ber_layout.specs as ber_layout
+pub use Rattle.ber_core.specs as ber_core
+pub use Rattle.plain_values.specs as plain_values

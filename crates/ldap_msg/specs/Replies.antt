@@ -1,20 +1,20 @@
 -- Replies and their octets (RFC 4511 4.1.1, 4.1.9, 4.2.2, 4.5.2, 4.12).
 use Rattle.std.specs.Prelude.{◌≡◌, ℕ, List, [], ◌∷◌, length, map, Option, Some, None, ◌==◌, if◌then◌else◌}
-use Rattle.ber_layout.specs.Pieces.{◌>>=◌}
-use Rattle.ber_layout.specs.Components.{Follows, required_of}
-use Rattle.ber_layout.specs.Spellings.{element_octets}
-use Rattle.ber_layout.specs.Layouts.{Layout, Value, Says as SaysLayout, reads, writes}
-use Rattle.ber_layout.specs.Layouts.Layout.{Number, FurtherBut, AnyElement, Then, Maybe}
+use Rattle.ber_layout.specs.element.Pieces.{◌>>=◌}
+use Rattle.ber_layout.specs.components.Components.{Follows, required_of}
+use Rattle.ber_layout.specs.write.Spellings.{element_octets}
+use Rattle.ber_layout.specs.laid.Layouts.{Layout, Value, Says as SaysLayout, reads, writes}
+use Rattle.ber_layout.specs.laid.Layouts.Layout.{Number, FurtherBut, AnyElement, Then, Maybe}
 use Rattle.ldap_msg.specs.declared.kinds.LdapResult.{LdapResult}
 use Rattle.ldap_msg.specs.declared.kinds.Reply.{Reply}
 use Rattle.ldap_msg.specs.declared.kinds.Reply.TheVariants as reply
 use Rattle.ldap_msg.specs.declared.operations.Response.{Response}
 use Rattle.ldap_msg.specs.declared.operations.Response.TheVariants as response
-use Rattle.ldap_msg.specs.Operations.{response_tag, response_of}
+use Rattle.ldap_msg.specs.operations.Operations.{response_tag, response_of}
 use Rattle.ldap_msg.specs.Attributes.{attribute_from}
 use Rattle.ldap_msg.specs.Results.{result_layout, result_parts, result_from, entry_layout, entry_parts, answered_layout, answered_parts}
 use Rattle.ldap_msg.specs.Controls.{controls_layout}
-use Rattle.ldap_msg.specs.Contents.{SaysBy}
+use Rattle.ldap_msg.specs.reading.Contents.{SaysBy}
 
 -- LDAPMessage, whose messageID may be 0 in a reply (4.4)
 abbrev pub reply_layout : Layout

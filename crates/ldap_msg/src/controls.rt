@@ -1,10 +1,10 @@
 //! Controls (RFC 4511 4.1.11).
 
 ghost use Rattle.std.specs.Prelude.{◌≡◌, ◌++◌, OnOk, map, option_map};
-ghost use Rattle.ber_layout.specs.Components.{optional_of};
-ghost use Rattle.ber_layout.specs.Layouts.{reads, writes};
-ghost use Rattle.ber_layout.specs.Reading.{Gives};
-ghost use Rattle.ber_layout.specs.Spellings.{Extends, optional_octets as optional_spelling};
+ghost use Rattle.ber_layout.specs.components.Components.{optional_of};
+ghost use Rattle.ber_layout.specs.laid.Layouts.{reads, writes};
+ghost use Rattle.ber_layout.specs.element.Reading.{Gives};
+ghost use Rattle.ber_layout.specs.write.Spellings.{Extends, optional_octets as optional_spelling};
 ghost use Rattle.ldap_msg.specs.Controls.{controls_layout, controls_parts, control_parts};
 
 use crate::kinds::{Control, NoMemory};
@@ -22,7 +22,7 @@ impl Laid for Control {
 
     ghost parts = { control_parts };
 
-    #[tactic(auto, unfolding(ber_layout::specs::Layouts::reads_into))]
+    #[tactic(auto, unfolding(ber_layout::specs::laid::Layouts::reads_into))]
     fn read(alloc: Global, content: &[u8]) -> Result<Control, ReadFault> {
         let kind = required::<Octets>(alloc, 0x04, content)?;
         let critical = marked(0x01, kind.rest)?;
@@ -45,7 +45,7 @@ impl Laid for Control {
 }
 
 /// The controls at the front of what follows an operation, if there are any.
-#[tactic(auto, unfolding(ber_layout::specs::Components::optional_of))]
+#[tactic(auto, unfolding(ber_layout::specs::components::Components::optional_of))]
 pub fn controls(
     alloc: Global,
     bytes: &[u8],

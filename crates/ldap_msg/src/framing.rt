@@ -2,12 +2,12 @@
 
 ghost use Rattle.std.specs.Prelude.{◌≡◌};
 ghost use Rattle.ldap_msg.specs.declared.kinds.Frame.{Frame};
-ghost use Rattle.ldap_msg.specs.Streams.{IsFrame, framed, frame_at};
+ghost use Rattle.ldap_msg.specs.framing.Streams.{IsFrame, framed, frame_at};
 
 use crate::kinds::{Frame, MAX_CONTENT};
 use ber_core::{Header, header};
 
-#[tactic(auto, unfolding(crate::specs::Streams::frame_at, crate::specs::Streams::framed))]
+#[tactic(auto, unfolding(crate::specs::framing::Streams::frame_at, crate::specs::framing::Streams::framed))]
 fn framing(bytes: &[u8]) -> Frame
     ensures { result ≡ frame_at bytes.now }
 {

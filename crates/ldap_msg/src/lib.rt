@@ -7,7 +7,7 @@ mod controls;
 mod extended;
 mod framing;
 mod kinds;
-mod laws;
+pub mod laws;
 mod operations;
 mod plain;
 mod reading;
@@ -18,6 +18,8 @@ mod room;
 mod search;
 mod writing;
 
+pub use ber_core;
+pub use ber_layout;
 pub use ber_layout::ReadFault;
 pub use framing::frame;
 pub use kinds::{
@@ -25,13 +27,10 @@ pub use kinds::{
     KindValues, LdapResult, MAX_CONTENT, Message, ModifyRequest, NoMemory, RenameRequest, Reply,
     Request, SearchRequest,
 };
-pub use laws::{
-    broken_streams, messages_are_longest, messages_are_read, one_message, replies_are_read,
-    replies_are_read_again, replies_have_octets, requests_are_read_again, rests_are_done,
-    streams_go_on, streams_step,
-};
+pub use ldap_filter;
 pub use ldap_filter::{Filter, Node};
 pub use operations::{Operation, Response, ResultCode};
+pub use plain_values;
 pub use reading::read_request;
 pub use replies::{put_notice, put_reply, read_reply};
 pub use writing::put_request;

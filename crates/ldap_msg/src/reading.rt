@@ -2,12 +2,12 @@
 
 ghost use Rattle.std.specs.Prelude.{◌≡◌, IfOk, MatchResult, map, option_map};
 ghost use Rattle.ber_layout.specs.declared.kinds.ReadFault.TheVariants.{NoMemory};
-ghost use Rattle.ber_layout.specs.Reading.{Gives};
+ghost use Rattle.ber_layout.specs.element.Reading.{Gives};
 ghost use Rattle.ldap_msg.specs.declared.kinds.Message.{Message};
 ghost use Rattle.ldap_msg.specs.declared.operations.Operation.TheVariants as operation_is;
 ghost use Rattle.ldap_msg.specs.Controls.{control_parts, controls_from};
-ghost use Rattle.ldap_msg.specs.Contents.{request_in, request_of};
-ghost use Rattle.ldap_msg.specs.Messages.{Says, message_in, message_of};
+ghost use Rattle.ldap_msg.specs.reading.Contents.{request_in, request_of};
+ghost use Rattle.ldap_msg.specs.reading.Messages.{Says, message_in, message_of};
 
 use crate::binds::bind;
 use crate::controls::controls;
@@ -51,7 +51,7 @@ fn delete(alloc: Global, content: &[u8]) -> Result<Request, ReadFault>
     Ok(Request::Delete(DeleteRequest { name }))
 }
 
-#[tactic(auto, unfolding(ber_layout::specs::Layouts::reads_into))]
+#[tactic(auto, unfolding(ber_layout::specs::laid::Layouts::reads_into))]
 fn unbind(content: &[u8]) -> Result<Request, ReadFault>
     ensures { Gives (λ request. request) result (request_in operation_is.Unbind content.now) }
 {
@@ -61,7 +61,7 @@ fn unbind(content: &[u8]) -> Result<Request, ReadFault>
     Ok(Request::Unbind)
 }
 
-#[tactic(auto, unfolding(ber_layout::specs::Layouts::reads_into))]
+#[tactic(auto, unfolding(ber_layout::specs::laid::Layouts::reads_into))]
 fn abandon(content: &[u8]) -> Result<Request, ReadFault>
     ensures { Gives (λ request. request) result (request_in operation_is.Abandon content.now) }
 {
@@ -105,7 +105,7 @@ fn known(alloc: Global, controls: Option<OneOrMany<Control>>) -> OneOrMany<Contr
     }
 }
 
-#[tactic(auto, unfolding(ber_layout::specs::Layouts::reads_into, crate::specs::Messages::message_in))]
+#[tactic(auto, unfolding(ber_layout::specs::laid::Layouts::reads_into, crate::specs::reading::Messages::message_in))]
 fn components(alloc: Global, content: &[u8]) -> Result<Message, ReadFault>
     ensures { Gives (λ message. message) result (message_in content.now) }
 {
@@ -123,7 +123,7 @@ fn components(alloc: Global, content: &[u8]) -> Result<Message, ReadFault>
     })
 }
 
-#[tactic(auto, unfolding(crate::specs::Messages::message_of, ber_layout::specs::Components::required_of))]
+#[tactic(auto, unfolding(crate::specs::reading::Messages::message_of, ber_layout::specs::components::Components::required_of))]
 fn message(alloc: Global, bytes: &[u8]) -> Result<Message, ReadFault>
     ensures { Gives (λ message. message) result (message_of bytes.now) }
 {

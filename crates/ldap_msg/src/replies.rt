@@ -2,12 +2,12 @@
 
 ghost use Rattle.std.specs.Prelude.{◌≡◌, ◌++◌, ℕ, IfOk, MatchResult, OnOk, OnErr, Some, None};
 ghost use Rattle.ber_layout.specs.declared.kinds.ReadFault.TheVariants.{NoMemory as no_memory};
-ghost use Rattle.ber_layout.specs.Layouts.{reads, writes};
-ghost use Rattle.ber_layout.specs.Reading.{Gives};
-ghost use Rattle.ber_layout.specs.Spellings.{Extends, element_octets};
+ghost use Rattle.ber_layout.specs.laid.Layouts.{reads, writes};
+ghost use Rattle.ber_layout.specs.element.Reading.{Gives};
+ghost use Rattle.ber_layout.specs.write.Spellings.{Extends, element_octets};
 ghost use Rattle.ldap_msg.specs.declared.kinds.Reply.{Reply};
 ghost use Rattle.ldap_msg.specs.declared.operations.Response.TheVariants as response_is;
-ghost use Rattle.ldap_msg.specs.Operations.{response_tag};
+ghost use Rattle.ldap_msg.specs.operations.Operations.{response_tag};
 ghost use Rattle.ldap_msg.specs.Results.{entry_layout, entry_parts, names_layout, answered_layout, answered_parts};
 ghost use Rattle.ldap_msg.specs.Replies.{Replies, response_for, reply_layout, reply_content, reply_parts, reply_octets, reply_in, reply_at, answer_in, reply_of, notice_octets};
 
@@ -169,7 +169,7 @@ pub fn put_notice(out: &mut Vec<u8>) -> Result<(), NoMemory>
     out.extend_from_slice(&NOTICE)
 }
 
-#[tactic(auto, unfolding(ber_layout::specs::Layouts::reads_into))]
+#[tactic(auto, unfolding(ber_layout::specs::laid::Layouts::reads_into))]
 fn entry(alloc: Global, content: &[u8]) -> Result<(Octets, OneOrMany<KindValues>), ReadFault>
     ensures { Gives (λ found. entry_parts found.0 found.1) result (reads entry_layout content.now) }
 {
@@ -188,7 +188,7 @@ fn entry_reply(alloc: Global, content: &[u8]) -> Result<Reply, ReadFault>
     Ok(Reply::Entry(name, attributes))
 }
 
-#[tactic(auto, unfolding(ber_layout::specs::Layouts::reads_into))]
+#[tactic(auto, unfolding(ber_layout::specs::laid::Layouts::reads_into))]
 fn answered(alloc: Global, content: &[u8]) -> Result<Reply, ReadFault>
     ensures { Gives (λ reply. reply) result (reply_in response_is.Extended content.now) }
 {
@@ -233,7 +233,7 @@ fn response_at(alloc: Global, tag: u8, content: &[u8]) -> Result<Reply, ReadFaul
     }
 }
 
-#[tactic(auto, unfolding(ber_layout::specs::Layouts::reads_into, crate::specs::Replies::answer_in))]
+#[tactic(auto, unfolding(ber_layout::specs::laid::Layouts::reads_into, crate::specs::Replies::answer_in))]
 fn components(alloc: Global, content: &[u8]) -> Result<(u32, Reply), ReadFault>
     ensures { Gives (λ found. (found.0, found.1)) result (answer_in content.now) }
 {
@@ -247,7 +247,7 @@ fn components(alloc: Global, content: &[u8]) -> Result<(u32, Reply), ReadFault>
     Ok((id.value, reply))
 }
 
-#[tactic(auto, unfolding(crate::specs::Replies::reply_of, ber_layout::specs::Components::required_of))]
+#[tactic(auto, unfolding(crate::specs::Replies::reply_of, ber_layout::specs::components::Components::required_of))]
 fn message(alloc: Global, bytes: &[u8]) -> Result<(u32, Reply), ReadFault>
     ensures { Gives (λ found. (found.0, found.1)) result (reply_of bytes.now) }
 {

@@ -1,10 +1,10 @@
 //! Search requests (RFC 4511 4.5.1).
 
 ghost use Rattle.std.specs.Prelude.{◌≡◌, ◌++◌, OnOk};
-ghost use Rattle.ber_layout.specs.Layouts.{writes};
-ghost use Rattle.ber_layout.specs.Reading.{Gives};
-ghost use Rattle.ber_layout.specs.Spellings.{Extends};
-ghost use Rattle.ldap_msg.specs.Searches.{search_layout, limits_layout, search_of, search_parts};
+ghost use Rattle.ber_layout.specs.laid.Layouts.{writes};
+ghost use Rattle.ber_layout.specs.element.Reading.{Gives};
+ghost use Rattle.ber_layout.specs.write.Spellings.{Extends};
+ghost use Rattle.ldap_msg.specs.Search.{search_layout, limits_layout, search_of, search_parts};
 
 use crate::kinds::{NoMemory, SearchRequest};
 use crate::reading::MAX_ID;
@@ -17,7 +17,7 @@ use plain_values::Octets;
 use std::alloc::Global;
 
 /// The search that a content says.
-#[tactic(auto, unfolding(ber_layout::specs::Layouts::reads_into))]
+#[tactic(auto, unfolding(ber_layout::specs::laid::Layouts::reads_into))]
 pub fn search(alloc: Global, content: &[u8]) -> Result<SearchRequest, ReadFault>
     ensures { Gives (λ search. search) result (search_of content.now) }
 {

@@ -1,11 +1,11 @@
 //! Requests written.
 
 ghost use Rattle.std.specs.Prelude.{◌≡◌, ◌++◌, OnOk, OnErr};
-ghost use Rattle.ber_layout.specs.Layouts.{writes};
-ghost use Rattle.ber_layout.specs.Spellings.{Extends, element_octets};
-ghost use Rattle.ldap_msg.specs.Operations.{request_tag};
-ghost use Rattle.ldap_msg.specs.Contents.{operation_for, content_octets};
-ghost use Rattle.ldap_msg.specs.Messages.{message_layout, message_parts, request_octets, HasOwnTag};
+ghost use Rattle.ber_layout.specs.laid.Layouts.{writes};
+ghost use Rattle.ber_layout.specs.write.Spellings.{Extends, element_octets};
+ghost use Rattle.ldap_msg.specs.operations.Operations.{request_tag};
+ghost use Rattle.ldap_msg.specs.reading.Contents.{operation_for, content_octets};
+ghost use Rattle.ldap_msg.specs.reading.Messages.{message_layout, message_parts, request_octets, HasOwnTag};
 
 use crate::binds::put_bind;
 use crate::controls::put_controls;
@@ -76,7 +76,7 @@ fn put_components(out: &mut Vec<u8>, message: &Message) -> Result<(), NoMemory>
     put_controls(out, message.controls.as_slice())
 }
 
-#[tactic(auto, unfolding(crate::specs::Messages::request_octets))]
+#[tactic(auto, unfolding(crate::specs::reading::Messages::request_octets))]
 fn put_message(out: &mut Vec<u8>, message: &Message) -> Result<(), NoMemory>
     requires { HasOwnTag message.now.request }
     ensures ok { OnOk result (out.new.items ≡ out.old.items ++ request_octets message.now) }

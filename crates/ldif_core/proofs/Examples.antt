@@ -3,11 +3,11 @@ use Rattle.std.proofs.Common.{◌≡◌, ℕ, [], ◌∷◌, ◌++◌, List, Res
 use Rattle.std.specs.Prelude.{codes, flat_map}
 use Rattle.ldif_core.specs.declared.types.Record.{Record}
 use Rattle.ldif_core.specs.declared.types.RecordLine.{RecordLine}
-use Rattle.ldif_core.specs.Faults.{LineFault, Bad}
+use Rattle.ldif_core.specs.reading.Faults.{LineFault, Bad}
 use Rattle.ldif_core.specs.declared.types.LineCause.TheVariants.{Syntax, Changetype, Base64}
-use Rattle.ldif_core.specs.Places.{file_start, records_from}
-use Rattle.ldif_core.specs.Written.{written_line}
-use Rattle.ldif_core.proofs.OnLiterals.{ldif_on_literals}
+use Rattle.ldif_core.specs.lines.Places.{file_start, records_from}
+use Rattle.ldif_core.specs.writing.Written.{written_line}
+use Rattle.ldif_core.proofs.laws.OnLiterals.{ldif_on_literals}
 
 -- lines that end in LF, as a file
 abbrev ended : List (List ℕ) → List ℕ

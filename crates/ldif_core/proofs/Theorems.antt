@@ -1,12 +1,12 @@
 -- What crates above may cite: what is written is read again, and the types of the table stay as values come.
 use Rattle.std.proofs.Common.{◌≡◌, ℕ, ◌==◌, refl, Bool, true, false, List, [], ◌∷◌}
-use Rattle.schema_core.specs.Attributes.{IsAttrId}
-use Rattle.dn_names.specs.Names.{Keyed}
-use Rattle.dir_tree.specs.Entries.{Attribute, EntryInformation, values_of, has_key}
-use Rattle.dir_tree.specs.Changes.{put_value, with_value}
-use Rattle.ldif_core.specs.Written.{AreInTable}
-pub use Rattle.ldif_core.proofs.RereadLemmas.{file-reread, entry-reread, value-reread, decoded-exact}
-pub use Rattle.ldif_core.proofs.KindForms.{IsNext-kinds, is_kind-ascii}
+use Rattle.dir_tree.specs.schema_core.Attributes.{IsAttrId}
+use Rattle.dir_tree.specs.dn_names.name.Names.{Keyed}
+use Rattle.dir_tree.specs.Entry.{Attribute, EntryInformation, values_of, has_key}
+use Rattle.dir_tree.specs.attributes.Changes.{put_value, with_value}
+use Rattle.ldif_core.specs.writing.Written.{AreInTable}
+pub use Rattle.ldif_core.proofs.laws.RereadLemmas.{file-reread, entry-reread, value-reread, decoded-exact}
+pub use Rattle.ldif_core.proofs.laws.KindForms.{IsNext-kinds, is_kind-ascii}
 
 put-in_table : (kind : ℕ) (value : Keyed) (first : Attribute) (rest : List Attribute) (same : Bool) → (kind == first.kind) ≡ same → AreInTable (first ∷ rest) → AreInTable (put_value kind value rest)
     → AreInTable (put_value kind value (first ∷ rest))

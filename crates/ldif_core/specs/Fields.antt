@@ -5,12 +5,12 @@ use Rattle.std.specs.Result.{result_ok}
 use Rattle.std.specs.Str.{bytes_eq, str_eq_ignore_ascii_case}
 use Rattle.base64.specs.Engines.{standard}
 use Rattle.base64.specs.GeneralPurpose.{decode_of}
-use Rattle.schema_core.specs.Naming.{is_keystring}
-use Rattle.schema_core.specs.Oid.{is_dotted_oid}
+use Rattle.dir_tree.specs.schema_core.Naming.{is_keystring}
+use Rattle.dir_tree.specs.schema_core.Oids.{is_dotted_oid}
 use Rattle.ldif_core.specs.declared.types.RecordLine.{RecordLine}
-use Rattle.ldif_core.specs.Faults.{LineFault, Bad}
+use Rattle.ldif_core.specs.reading.Faults.{LineFault, Bad}
 use Rattle.ldif_core.specs.declared.types.LineCause.TheVariants.{Syntax, Changetype, Base64}
-use Rattle.ldif_core.specs.Lines.{Line, begins_with}
+use Rattle.ldif_core.specs.lines.Lines.{Line, begins_with}
 
 -- the text of a type: a keystring or a numericoid (RFC 4512 1.4)
 unfoldable pub is_kind : List ℕ → Bool

@@ -1,9 +1,9 @@
 //! The lines that are no comments.
 
 ghost use Rattle.std.specs.Prelude.{◌≡◌, ◌<◌, [], false, IfOk, IfSome, IfNone};
-ghost use Rattle.ldif_core.specs.Records.{records};
-ghost use Rattle.ldif_core.specs.Places.{IsPlace, IsLinesAfter, content_from, body_from, records_from};
-ghost use Rattle.ldif_core.specs.Steps.{IsRead, ahead, is_blank_ahead, ends_ahead, is_version_ahead};
+ghost use Rattle.ldif_core.specs.reading.Records.{records};
+ghost use Rattle.ldif_core.specs.lines.Places.{IsPlace, IsLinesAfter, content_from, body_from, records_from};
+ghost use Rattle.ldif_core.specs.reading.Steps.{IsRead, ahead, is_blank_ahead, ends_ahead, is_version_ahead};
 
 use crate::lines::begins_with;
 use crate::types::{NoMemory, Position};
@@ -32,7 +32,7 @@ pub(crate) fn next_content(
 }
 
 // Whether the line gives the version.
-#[tactic(auto, unfolding(crate::specs::Records::is_version))]
+#[tactic(auto, unfolding(crate::specs::reading::Records::is_version))]
 fn is_version(line: &Option<Unfolded<'_>>) -> bool
     ensures { result ≡ is_version_ahead line.now }
 {

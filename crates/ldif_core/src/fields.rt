@@ -2,10 +2,10 @@
 
 ghost use Rattle.std.specs.Prelude.{◌≡◌, IfOk};
 ghost use Rattle.std.specs.Option.{option_map};
-ghost use Rattle.plain_values.specs.Answers.{Answers};
+ghost use Rattle.dir_tree.specs.plain_values.Answers.{Answers};
 ghost use Rattle.ldif_core.specs.Fields.{after_spaces, field_after, field_of, decoded, value_of, attribute_line, name_line};
-ghost use Rattle.ldif_core.specs.Faults.{fault_of};
-ghost use Rattle.ldif_core.specs.Steps.{field_in};
+ghost use Rattle.ldif_core.specs.reading.Faults.{fault_of};
+ghost use Rattle.ldif_core.specs.reading.Steps.{field_in};
 
 use crate::kind_text::KindText;
 use crate::kinds::{is_changetype, is_dn, is_kind};
@@ -14,7 +14,7 @@ use crate::types::{BadLine, LineCause, NoMemory, RecordLine};
 use crate::unfolded::Unfolded;
 use base64::DecodeAllocError;
 use base64::engine::general_purpose::STANDARD;
-use plain_values::{Octets, position_of};
+use dir_tree::plain_values::{Octets, position_of};
 use std::alloc::{AllocError, Global};
 
 /// A type, and the text of its value, as it stands or in base64.

@@ -3,10 +3,10 @@
 ghost use Rattle.std.specs.Prelude.{◌≡◌, ◌==◌, ◌||◌};
 ghost use Rattle.std.specs.Char.{is_ascii_alphanumeric};
 ghost use Rattle.std.specs.List.{list_all};
-ghost use Rattle.schema_core.specs.Naming.{is_keystring};
+ghost use Rattle.dir_tree.specs.schema_core.Naming.{is_keystring};
 ghost use Rattle.ldif_core.specs.Fields.{is_kind, is_changetype, is_dn};
 
-use schema_core::is_dotted_oid;
+use dir_tree::schema_core::is_dotted_oid;
 
 // Whether each octet is a letter, a digit or a hyphen.
 fn are_key_octets(octets: &[u8]) -> bool

@@ -4,18 +4,18 @@ ghost use Rattle.std.specs.Prelude.{◌≡◌, ◌↔◌, ℕ, List, [], ◌∷�
 ghost use Rattle.std.specs.List.{AllByRecursion};
 ghost use Rattle.base64.specs.Engines.{standard};
 ghost use Rattle.base64.specs.GeneralPurpose.{IsBytes, encode_of};
-ghost use Rattle.schema_core.specs.Attributes.{IsAttrId};
-ghost use Rattle.schema_core.specs.Naming.{is_keystring};
-ghost use Rattle.dn_names.specs.Names.{Keyed};
-ghost use Rattle.dir_tree.specs.Entries.{EntryInformation};
-ghost use Rattle.dir_tree.specs.Changes.{with_value};
+ghost use Rattle.dir_tree.specs.schema_core.Attributes.{IsAttrId};
+ghost use Rattle.dir_tree.specs.schema_core.Naming.{is_keystring};
+ghost use Rattle.dir_tree.specs.dn_names.name.Names.{Keyed};
+ghost use Rattle.dir_tree.specs.Entry.{EntryInformation};
+ghost use Rattle.dir_tree.specs.attributes.Changes.{with_value};
 ghost use Rattle.std.specs.Str.{IsAscii};
 ghost use Rattle.ldif_core.specs.declared.types.Position.{Position};
 ghost use Rattle.ldif_core.specs.declared.types.Record.{Record};
 ghost use Rattle.ldif_core.specs.Fields.{is_kind, decoded};
-ghost use Rattle.ldif_core.specs.Places.{file_start, IsNext, records_from};
-ghost use Rattle.ldif_core.specs.Written.{AreInTable, written_line, written_entry};
-ghost use Rattle.ldif_core.specs.WrittenFile.{IsWritable, record_from, entry_records, written_file};
+ghost use Rattle.ldif_core.specs.lines.Places.{file_start, IsNext, records_from};
+ghost use Rattle.ldif_core.specs.writing.Written.{AreInTable, written_line, written_entry};
+ghost use Rattle.ldif_core.specs.writing.WrittenFile.{IsWritable, record_from, entry_records, written_file};
 
 /// A file of entries, as it is written, gives the records of the entries in their order when it is read; and the
 /// record of one entry gives this one record.

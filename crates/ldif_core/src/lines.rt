@@ -1,9 +1,9 @@
 //! The lines of a file as they stand.
 
 ghost use Rattle.std.specs.Prelude.{◌≡◌, ◌<◌, ◌∷◌, length, true};
-ghost use Rattle.ldif_core.specs.Lines.{begins_with};
-ghost use Rattle.ldif_core.specs.Places.{IsPlace, IsLinesAfter, physical_from};
-ghost use Rattle.ldif_core.specs.Steps.{goes_on};
+ghost use Rattle.ldif_core.specs.lines.Lines.{begins_with};
+ghost use Rattle.ldif_core.specs.lines.Places.{IsPlace, IsLinesAfter, physical_from};
+ghost use Rattle.ldif_core.specs.reading.Steps.{goes_on};
 
 use crate::types::Position;
 
@@ -27,7 +27,7 @@ pub(crate) fn first_line(text: &[u8], at: Position) -> (&[u8], Position)
     ensures place { IsPlace text.now result.1 }
     ensures passed { IsLinesAfter text.now at result.1 }
 {
-    let (line, taken) = plain_values::first_line(text.split_at(at.offset).1);
+    let (line, taken) = dir_tree::plain_values::first_line(text.split_at(at.offset).1);
     let after = Position {
         offset: at.offset + taken,
         line: at.line + 1,

@@ -1,11 +1,11 @@
 //! Records, read one by one.
 
 ghost use Rattle.std.specs.Prelude.{◌≡◌, ◌≤◌, [], ◌∷◌, false, Ok, IfOk, IfErr, IfSome, IfNone, List, ℕ};
-ghost use Rattle.plain_values.specs.Answers.{IsFaultOf};
-ghost use Rattle.ldif_core.specs.Faults.{fault_of};
-ghost use Rattle.ldif_core.specs.Records.{attribute_lines, record_of, records, first_of, is_blank};
-ghost use Rattle.ldif_core.specs.Places.{IsPlace, IsLinesAfter, IsNext, content_from, records_from};
-ghost use Rattle.ldif_core.specs.Steps.{ahead, before_blank, after_blank};
+ghost use Rattle.dir_tree.specs.plain_values.Answers.{IsFaultOf};
+ghost use Rattle.ldif_core.specs.reading.Faults.{fault_of};
+ghost use Rattle.ldif_core.specs.reading.Records.{attribute_lines, record_of, records, first_of, is_blank};
+ghost use Rattle.ldif_core.specs.lines.Places.{IsPlace, IsLinesAfter, IsNext, content_from, records_from};
+ghost use Rattle.ldif_core.specs.reading.Steps.{ahead, before_blank, after_blank};
 
 use crate::content::{ends, first_filled, next_content};
 use crate::fields::{attribute_line, name_line};

@@ -4,7 +4,7 @@ ghost use Rattle.std.specs.Prelude.{◌≡◌};
 ghost use Rattle.ldif_core.specs.declared.types.BadLine.TheVariants.{NoMemory};
 
 use crate::kind_text::KindText;
-use plain_values::Octets;
+use dir_tree::plain_values::Octets;
 use std::alloc::{AllocError, AllocFailed};
 use std::marker::Model;
 use thiserror::Error;

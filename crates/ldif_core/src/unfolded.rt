@@ -1,12 +1,12 @@
 //! Lines with their continuations.
 
 ghost use Rattle.std.specs.Prelude.{◌≡◌, ◌<◌, ◌≤◌, ◌++◌, ◌∷◌, length, IfOk};
-ghost use Rattle.ldif_core.specs.Lines.{continued, beginning};
-ghost use Rattle.ldif_core.specs.Places.{IsPlace, IsLinesAfter, physical_from, logical_from};
+ghost use Rattle.ldif_core.specs.lines.Lines.{continued, beginning};
+ghost use Rattle.ldif_core.specs.lines.Places.{IsPlace, IsLinesAfter, physical_from, logical_from};
 
 use crate::lines::{first_line, goes_on};
 use crate::types::{NoMemory, Position};
-use plain_values::Octets;
+use dir_tree::plain_values::Octets;
 use std::alloc::Global;
 use std::marker::Model;
 
@@ -21,7 +21,7 @@ pub(crate) struct Unfolded<'a> {
 
 impl<'a> Model for Unfolded<'a> {
     ghost use Rattle.std.specs.Prelude.{unwrap_or};
-    ghost use Rattle.ldif_core.specs.Lines.{Line};
+    ghost use Rattle.ldif_core.specs.lines.Lines.{Line};
 
     ghost Value = { Line };
 

@@ -2,16 +2,16 @@
 
 ghost use Rattle.std.specs.Prelude.{◌≡◌, ◌++◌, codes, OnOk, OnErr, take};
 ghost use Rattle.std.specs.List.{list_all};
-ghost use Rattle.schema_core.specs.Attributes.{name_of};
-ghost use Rattle.dn_names.specs.Printing.{print_name};
-ghost use Rattle.ldif_core.specs.Written.{is_plain_octet, ends_with_space, is_plain, written_value, written_line, written_values, written_attributes, written_entry, AreInTable};
+ghost use Rattle.dir_tree.specs.schema_core.Attributes.{name_of};
+ghost use Rattle.dir_tree.specs.dn_names.Printing.{print_name};
+ghost use Rattle.ldif_core.specs.writing.Written.{is_plain_octet, ends_with_space, is_plain, written_value, written_line, written_values, written_attributes, written_entry, AreInTable};
 
 use crate::lines::begins_with;
 use crate::types::NoMemory;
 use base64::engine::general_purpose::STANDARD;
 use dir_tree::Entry;
-use dn_names::{Dn, Value, print};
-use schema_core::{AttrId, row};
+use dir_tree::dn_names::{Dn, Value, print};
+use dir_tree::schema_core::{AttrId, row};
 
 // Whether the octet may stand as it is.
 fn is_plain_octet(octet: u8) -> bool
@@ -35,7 +35,7 @@ fn ends_with_space(octets: &[u8]) -> bool
 }
 
 // Whether the value may stand as it is.
-#[tactic(auto, unfolding(crate::specs::Written::is_plain))]
+#[tactic(auto, unfolding(crate::specs::writing::Written::is_plain))]
 fn is_plain(value: &[u8]) -> bool
     ensures { result ≡ is_plain value.now }
 {
@@ -47,7 +47,7 @@ fn is_plain(value: &[u8]) -> bool
 }
 
 // Writes what stands after the type.
-#[tactic(auto, unfolding(crate::specs::Written::written_value))]
+#[tactic(auto, unfolding(crate::specs::writing::Written::written_value))]
 fn put_value(out: &mut Vec<u8>, value: &[u8]) -> Result<(), NoMemory>
     ensures { OnOk result (out.new.items ≡ out.old.items ++ written_value value.now) }
 {
@@ -121,7 +121,7 @@ fn put_attributes(out: &mut Vec<u8>, entry: &Entry) -> Result<(), NoMemory>
 ///
 /// The entry's types are all in the table. The error comes where memory is refused; `out` is then as before. The empty
 /// line between records is not written.
-#[tactic(auto, unfolding(crate::specs::Written::written_entry))]
+#[tactic(auto, unfolding(crate::specs::writing::Written::written_entry))]
 pub fn put_entry(out: &mut Vec<u8>, entry: &Entry) -> Result<(), NoMemory>
     requires { AreInTable entry.now.attributes }
     ensures ok { OnOk result (out.new.items ≡ out.old.items ++ written_entry entry.now) }

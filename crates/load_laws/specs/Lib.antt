@@ -1,2 +1,2 @@
 -- what public clauses cite
-pub mod Loadable
+pub mod laws

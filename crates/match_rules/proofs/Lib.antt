@@ -1,15 +1,2 @@
-pub mod AsciiLemmas
-pub mod CutLemmas
 pub mod Examples
-pub mod FoldingLemmas
-pub mod JoinLemmas
-pub mod KeysLemmas
-pub mod LawsLemmas
-pub mod LowerLemmas
-pub mod OwnLemmas
-pub mod OrderLemmas
-pub mod SpaceLawLemmas
-pub mod SpacesLemmas
-pub mod SubstringsLemmas
-pub mod SyntaxesLemmas
 pub mod Theorems

@@ -1,12 +1,10 @@
 -- what the contracts of public functions cite
 pub mod Keys
 pub mod Laws
-pub mod OwnKeys
+pub mod own
 pub mod Parts
-pub mod Substrings
-pub mod Syntaxes
+pub mod substrings
+pub mod rules
 -- what those definitions are made of
 pub mod Folding
 pub mod Spaces
--- for the inside of the crate alone
-pub mod PartsInOrder

@@ -2,8 +2,8 @@
 
 ghost use Rattle.std.specs.Prelude.{◌↔◌, map, IsTrue};
 ghost use Rattle.std.specs.Option.{option_copied};
-ghost use Rattle.match_rules.specs.Substrings.{InOrder, IsSubstring};
-ghost use Rattle.match_rules.specs.PartsInOrder.{IsTextBehind, IsTextBetween};
+ghost use Rattle.match_rules.specs.substrings.Substrings.{InOrder, IsSubstring};
+ghost use Rattle.match_rules.specs.substrings.PartsInOrder.{IsTextBehind, IsTextBetween};
 
 use memchr::memmem;
 

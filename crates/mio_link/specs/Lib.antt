@@ -1,1 +1,1 @@
-pub mod SystemLink
+pub mod link

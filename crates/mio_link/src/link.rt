@@ -1,7 +1,7 @@
 //! The link over the system's sockets.
 
 ghost use Rattle.std.specs.Prelude.{◌≡◌, IfOk};
-ghost use Rattle.mio_link.specs.SystemLink.{link_faults, lost_connections};
+ghost use Rattle.mio_link.specs.link.SystemLink.{link_faults, lost_connections};
 
 use crate::sockets::Sockets;
 use plain_values::raised;
@@ -46,7 +46,7 @@ impl<R: Net> Link for MioLink<R> {
     ghost lost = { λ link. link.lost };
 
     /// Listens at the address, an IP address and a port.
-    #[tactic(auto, unfolding(wire_io::specs::Telling::OpenTells, wire_io::specs::Answers::LinkCause, wire_io::specs::Answers::IsPlanned))]
+    #[tactic(auto, unfolding(wire_io::specs::link::Telling::OpenTells, wire_io::specs::Answers::LinkCause, wire_io::specs::Answers::IsPlanned))]
     fn open(&mut self, address: &str, sessions: u64) -> Result<(), NextFault> {
         match self.sockets.open(&self.rt, address, sessions) {
             Ok(()) => Ok(()),
@@ -59,7 +59,7 @@ impl<R: Net> Link for MioLink<R> {
     }
 
     /// Waits for the next event; Stop once as many connections ended as there were to be sessions.
-    #[tactic(auto, unfolding(wire_io::specs::Telling::NextTells, wire_io::specs::Playing::NextPlays, wire_io::specs::Answers::LinkCause, wire_io::specs::Answers::IsPlanned))]
+    #[tactic(auto, unfolding(wire_io::specs::link::Telling::NextTells, wire_io::specs::script::Playing::NextPlays, wire_io::specs::Answers::LinkCause, wire_io::specs::Answers::IsPlanned))]
     fn next(&mut self, buf: &mut [u8]) -> Result<Heard, NextFault> {
         if self.sockets.are_done() {
             return Ok(Heard::Stop);
@@ -75,7 +75,7 @@ impl<R: Net> Link for MioLink<R> {
     }
 
     /// Offers octets; a connection that was reset, or whose peer takes no more, is lost.
-    #[tactic(auto, unfolding(wire_io::specs::Telling::TookTells, wire_io::specs::Answers::WriteCause, wire_io::specs::Answers::IsPlanned))]
+    #[tactic(auto, unfolding(wire_io::specs::link::Telling::TookTells, wire_io::specs::Answers::WriteCause, wire_io::specs::Answers::IsPlanned))]
     fn write(&mut self, conn: u32, bytes: &[u8]) -> Took {
         let took = self.sockets.write(conn, bytes);
         if took == Took::Gone {
@@ -84,19 +84,19 @@ impl<R: Net> Link for MioLink<R> {
         took
     }
 
-    #[tactic(auto, unfolding(wire_io::specs::Telling::NoteTells))]
+    #[tactic(auto, unfolding(wire_io::specs::link::Telling::NoteTells))]
     fn hold(&mut self, conn: u32) -> Result<(), NoMemory> {
         self.sockets.set_on_hold(conn, true);
         Ok(())
     }
 
-    #[tactic(auto, unfolding(wire_io::specs::Telling::NoteTells))]
+    #[tactic(auto, unfolding(wire_io::specs::link::Telling::NoteTells))]
     fn release(&mut self, conn: u32) -> Result<(), NoMemory> {
         self.sockets.set_on_hold(conn, false);
         Ok(())
     }
 
-    #[tactic(auto, unfolding(wire_io::specs::Telling::NoteTells))]
+    #[tactic(auto, unfolding(wire_io::specs::link::Telling::NoteTells))]
     fn hang_up(&mut self, conn: u32) -> Result<(), NoMemory> {
         self.sockets.hang_up(conn);
         Ok(())

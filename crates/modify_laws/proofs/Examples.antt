@@ -1,9 +1,9 @@
 -- When changes may be made, on known cases.
 use Rattle.std.proofs.Common.{◌≡◌, true, false, [], ◌∷◌, refl}
-use Rattle.dn_names.specs.Names.{Keyed}
+use Rattle.dir_tree.specs.dn_names.name.Names.{Keyed}
 use Rattle.entry_changes.specs.declared.kind.ChangeKind.TheVariants.{Add, Delete, Replace}
-use Rattle.entry_changes.specs.Changes.{Asks}
-use Rattle.modify_laws.specs.Changing.{MayDo}
+use Rattle.entry_changes.specs.Change.{Asks}
+use Rattle.modify_laws.specs.laws.Changing.{MayDo}
 
 -- one who may do everything, and one who may do nothing
 abbrev everything : Asks

@@ -1,11 +1,1 @@
-pub mod TableLemmas
-pub mod FoundLemmas
-pub mod NameLemmas
-pub mod ReadLemmas
-pub mod ChangeLemmas
-pub mod ModifyLemmas
-pub mod ModifiedLemmas
-pub mod RenamingLemmas
-pub mod RenameLemmas
-pub mod RenamedLemmas
 pub mod Examples

@@ -1,3 +1,5 @@
 -- what public clauses cite
-pub mod Changing
-pub mod Granting
+pub mod laws
+-- the words of crates below, handed on
+pub use Rattle.op_modify.specs as op_modify
+pub use Rattle.op_update.specs as op_update

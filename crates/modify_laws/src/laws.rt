@@ -1,20 +1,20 @@
 //! The laws of modifies and renames: each function computes nothing, and what it ensures is a law.
 
 ghost use Rattle.std.specs.Prelude.{◌≡◌, List, Some, None};
-ghost use Rattle.dir_tree.specs.Entries.{EntryInformation};
-ghost use Rattle.dir_tree.specs.Trees.{put_in, taken_out};
-ghost use Rattle.aci_item.specs.Rules.{IsGoodTree};
+ghost use Rattle.dir_tree.specs.Entry.{EntryInformation};
+ghost use Rattle.dir_tree.specs.tree.Trees.{put_in, taken_out};
+ghost use Rattle.acdf_filters.specs.aci_item.Rules.{IsGoodTree};
 ghost use Rattle.acdf_filters.specs.declared.asking.Requester.{Requester};
 ghost use Rattle.ldap_msg.specs.declared.kinds.ModifyRequest.{ModifyRequest};
 ghost use Rattle.ldap_msg.specs.declared.kinds.RenameRequest.{RenameRequest};
 ghost use Rattle.ldap_msg.specs.declared.kinds.LdapResult.{LdapResult};
-ghost use Rattle.op_update.specs.Updates.{IsChanged};
+ghost use Rattle.op_update.specs.adding.Updates.{IsChanged};
 ghost use Rattle.op_modify.specs.Modifying.{modified};
 ghost use Rattle.op_modify.specs.Renames.{renamed};
-ghost use Rattle.modify_laws.specs.Granting.{MayModify, MayRename};
+ghost use Rattle.modify_laws.specs.laws.Granting.{MayModify, MayRename};
 
-use entry_changes::changes_keep_attributes_good;
-use schema_rules::a_tree_stays_good_in_place;
+use entry_changes::laws::changes_keep_attributes_good;
+use op_update::schema_rules::laws::a_tree_stays_good_in_place;
 
 /// A good tree stays good, whatever is modified or renamed, and by whom.
 pub fn a_good_tree_stays_good_when_changed()

@@ -2,9 +2,7 @@
 //! refuses is made.
 #![tactic(auto)]
 
-mod laws;
+pub mod laws;
 
-pub use laws::{
-    a_good_tree_stays_good_when_changed, a_refused_change_leaves_the_entries,
-    exactly_what_may_be_changed_is_changed,
-};
+pub use op_modify;
+pub use op_update;

@@ -1,17 +1,17 @@
 -- The definitions on small cases.
 use Rattle.std.proofs.Common.{◌≡◌, ℕ, true, false, [], ◌∷◌, List, None, refl}
 use Rattle.std.specs.Prelude.{codes}
-use Rattle.dn_names.specs.Names.{Keyed, RdnSequence}
-use Rattle.dn_names.specs.NameOrder.{name_cmp, is_same}
-use Rattle.dir_tree.specs.Entries.{EntryInformation}
+use Rattle.dir_tree.specs.dn_names.name.Names.{Keyed, RdnSequence}
+use Rattle.dir_tree.specs.dn_names.order.NameOrder.{name_cmp, is_same}
+use Rattle.dir_tree.specs.Entry.{EntryInformation}
 use Rattle.acdf_filters.specs.declared.asking.Requester.{Requester}
 use Rattle.acdf_filters.specs.Asking.{Entry}
-use Rattle.acdf_filters.specs.Granted.{granted}
-use Rattle.aci_item.specs.declared.permission.Permission.TheVariants.{DiscloseOnError}
+use Rattle.acdf_filters.specs.laws.Granted.{granted}
+use Rattle.acdf_filters.specs.aci_item.declared.permission.Permission.TheVariants.{DiscloseOnError}
 use Rattle.ldap_msg.specs.declared.operations.ResultCode.TheVariants as code
 use Rattle.read_model.specs.Views.{view_of, no_such_object, result_of}
 use Rattle.op_asking.specs.Targets.{is_suffix, not_leaf}
-use Rattle.op_asking.specs.Nearest.{nearest_name}
+use Rattle.op_asking.specs.hiding.Nearest.{nearest_name}
 
 -- a value whose key is its octets
 plain_value : List ℕ → Keyed

@@ -1,2 +1,1 @@
-mod SeenLemmas
 mod Examples

@@ -2,10 +2,10 @@
 use Rattle.std.specs.Prelude.{◌≡◌, List}
 use Rattle.std.specs.List.{AllByRecursion-prop}
 use Rattle.std.proofs.Math.Bool.{Bool-set}
-use Rattle.dir_tree.specs.Numbered.{Numbered, entries_of}
+use Rattle.dir_tree.specs.tree.Numbered.{Numbered, entries_of}
 use Rattle.acdf_filters.specs.declared.asking.Requester.{Requester}
 use Rattle.acdf_filters.specs.declared.question.Membership.{Membership}
-use Rattle.acdf_filters.specs.Weighing.{AreMemberships, is_member}
+use Rattle.acdf_filters.specs.weighing.Weighing.{AreMemberships, is_member}
 use Rattle.read_model.specs.Views.{View, view_of}
 
 -- the rows' entries as the requester sees them

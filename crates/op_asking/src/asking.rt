@@ -2,17 +2,17 @@
 
 ghost use Rattle.std.specs.Prelude.{◌≡◌, Some, IfSome};
 ghost use Rattle.std.specs.Option.{option_map};
-ghost use Rattle.dir_tree.specs.Trees.{named_in};
-ghost use Rattle.dir_tree.specs.Numbered.{entry_of, entries_of};
+ghost use Rattle.dir_tree.specs.tree.Trees.{named_in};
+ghost use Rattle.dir_tree.specs.tree.Numbered.{entry_of, entries_of};
 ghost use Rattle.acdf_filters.specs.Asking.{protected_of};
-ghost use Rattle.acdf_filters.specs.Granted.{granted};
+ghost use Rattle.acdf_filters.specs.laws.Granted.{granted};
 ghost use Rattle.op_asking.specs.Asking.{Knows, knows-prop};
 
+use acdf_filters::aci_item::Permission;
 use acdf_filters::{Item, Membership, Requester};
 use acdf_lists::Dir;
-use aci_item::Permission;
+use dir_tree::dn_names::Dn;
 use dir_tree::{Entry, EntryNo, Tree};
-use dn_names::Dn;
 
 /// A requester asks a directory, with the groups in which it is known to be or not to be: what
 /// [`Dir::memberships`](acdf_lists::Dir::memberships) says, once for all that one request asks.

@@ -3,16 +3,16 @@
 ghost use Rattle.std.specs.Prelude.{◌≡◌, IfOk};
 ghost use Rattle.read_model.specs.Views.{discloses, hidden, no_such_object};
 ghost use Rattle.op_asking.specs.Asking.{view_in};
-ghost use Rattle.op_asking.specs.Nearest.{without_object, nearest_name};
+ghost use Rattle.op_asking.specs.hiding.Nearest.{without_object, nearest_name};
 
 use crate::asking::{Asking, find_target};
 use crate::results::{result_of, result_with};
 use acdf_core::matched;
 use acdf_filters::Item;
+use acdf_filters::aci_item::Permission;
 use acdf_lists::Dir;
-use aci_item::Permission;
+use dir_tree::dn_names::Dn;
 use dir_tree::{EntryNo, NoMemory};
-use dn_names::Dn;
 use ldap_msg::{LdapResult, ResultCode};
 use std::alloc::Global;
 

@@ -10,6 +10,7 @@ mod results;
 mod targets;
 mod texts;
 
+pub use acdf_lists;
 pub use asking::{Asking, Target, find_target};
 pub use hiding::{discloses, hidden, no_such_object};
 pub use newcomer::Newcomer;

@@ -2,15 +2,15 @@
 
 ghost use Rattle.std.specs.Prelude.{◌≡◌, map, IfOk};
 ghost use Rattle.std.proofs.Props.{props};
-ghost use Rattle.dir_tree.specs.Numbered.{entries_of};
+ghost use Rattle.dir_tree.specs.tree.Numbered.{entries_of};
 ghost use Rattle.acdf_filters.specs.Asking.{protected_of};
-ghost use Rattle.acdf_filters.specs.Granted.{granted_new};
-ghost use Rattle.acdf_lists.specs.Lists.{AreInForce};
+ghost use Rattle.acdf_filters.specs.laws.Granted.{granted_new};
+ghost use Rattle.acdf_lists.specs.kept.Lists.{AreInForce};
 
 use crate::asking::Asking;
 use acdf_filters::Item;
+use acdf_filters::aci_item::Permission;
 use acdf_lists::Dir;
-use aci_item::Permission;
 use dir_tree::{Entry, EntryNo, NoMemory};
 use std::alloc::Global;
 

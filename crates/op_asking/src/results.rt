@@ -5,9 +5,9 @@ ghost use Rattle.read_model.specs.Views.{result_with, result_of};
 
 use crate::texts::printed;
 use dir_tree::NoMemory;
-use dn_names::Dn;
+use dir_tree::dn_names::Dn;
+use ldap_msg::plain_values::Octets;
 use ldap_msg::{LdapResult, ResultCode};
-use plain_values::Octets;
 use std::alloc::Global;
 
 /// The result with the number of a code and no name.

@@ -1,17 +1,17 @@
 //! What a target's place in the tree forbids.
 
 ghost use Rattle.std.specs.Prelude.{◌≡◌, Some, IfOk};
-ghost use Rattle.dir_tree.specs.Numbered.{entry_of, entries_of};
+ghost use Rattle.dir_tree.specs.tree.Numbered.{entry_of, entries_of};
 ghost use Rattle.op_asking.specs.Targets.{is_suffix, not_leaf};
 
 use crate::asking::{Asking, Target};
 use crate::hiding::no_such_object;
 use crate::results::result_of;
 use acdf_filters::Item;
+use acdf_filters::aci_item::Permission;
 use acdf_lists::Dir;
-use aci_item::Permission;
+use dir_tree::dn_names::{Dn, same};
 use dir_tree::{NoMemory, Tree};
-use dn_names::{Dn, same};
 use ldap_msg::{LdapResult, ResultCode};
 use std::alloc::Global;
 

@@ -2,12 +2,12 @@
 
 ghost use Rattle.std.specs.Prelude.{◌≡◌, IfOk};
 ghost use Rattle.std.specs.Result.{result_ok};
-ghost use Rattle.dn_names.specs.NameText.{read_name};
-ghost use Rattle.dn_names.specs.Printing.{print_name};
+ghost use Rattle.dir_tree.specs.dn_names.parsing.NameText.{read_name};
+ghost use Rattle.dir_tree.specs.dn_names.Printing.{print_name};
 
 use dir_tree::NoMemory;
-use dn_names::{BadName, Dn, parse, print};
-use plain_values::Octets;
+use dir_tree::dn_names::{BadName, Dn, parse, print};
+use ldap_msg::plain_values::Octets;
 use std::alloc::{AllocError, Global};
 
 /// The name that the octets say (RFC 4514); None where they say none. The error comes where memory is wanted.

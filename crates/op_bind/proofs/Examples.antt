@@ -4,10 +4,10 @@ use Rattle.std.specs.Prelude.{codes}
 use Rattle.sha2.specs.Sha256.{sha256, digest_bytes}
 use Rattle.sha2.proofs.Facts256.{digest_of_abc_256}
 use Rattle.base64.specs.Rfc4648.{encode_symbols}
-use Rattle.dn_names.specs.Names.{RdnSequence}
-use Rattle.dn_names.specs.declared.error.BadName.TheVariants.{TooMany}
-use Rattle.dn_names.specs.NameOrder.{name_cmp, is_same}
-use Rattle.dir_tree.specs.Entries.{EntryInformation}
+use Rattle.dir_tree.specs.dn_names.name.Names.{RdnSequence}
+use Rattle.dir_tree.specs.dn_names.declared.error.BadName.TheVariants.{TooMany}
+use Rattle.dir_tree.specs.dn_names.order.NameOrder.{name_cmp, is_same}
+use Rattle.dir_tree.specs.Entry.{EntryInformation}
 use Rattle.ldap_msg.specs.declared.operations.ResultCode.TheVariants.{Success, ProtocolError, AuthMethodNotSupported, InvalidDnSyntax, InvalidCredentials, UnwillingToPerform}
 use Rattle.ldap_msg.specs.declared.kinds.Auth.TheVariants.{Other}
 use Rattle.op_bind.specs.Passwords.{accepts, digest_text}

@@ -1,4 +1,2 @@
-mod PasswordLemmas
-pub mod UnseenLaw
 pub mod Theorems
 mod Examples

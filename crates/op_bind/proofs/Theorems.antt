@@ -1,2 +1,2 @@
 -- What crates above may cite of binds.
-pub use Rattle.op_bind.proofs.UnseenLaw.{bind_answer-without}
+pub use Rattle.op_bind.proofs.laws.UnseenLaw.{bind_answer-without}

@@ -2,12 +2,12 @@
 -- permission, and each but a successful one with a name leaves the requester anonymous.
 use Rattle.std.specs.Prelude.{ℕ, ◌==◌, Bool, List, [], ◌∷◌, Option, Some, None, Result, Ok, Err, if◌then◌else◌}
 use Rattle.std.specs.List.{list_any}
-use Rattle.dn_names.specs.Names.{RdnSequence}
-use Rattle.dn_names.specs.declared.error.BadName.{BadName}
-use Rattle.dn_names.specs.NameText.{read_name}
-use Rattle.dir_tree.specs.Entries.{EntryInformation, values_of}
-use Rattle.dir_tree.specs.Trees.{named_in}
-use Rattle.aci_item.specs.declared.level.Level.TheVariants as level
+use Rattle.dir_tree.specs.dn_names.name.Names.{RdnSequence}
+use Rattle.dir_tree.specs.dn_names.declared.error.BadName.{BadName}
+use Rattle.dir_tree.specs.dn_names.parsing.NameText.{read_name}
+use Rattle.dir_tree.specs.Entry.{EntryInformation, values_of}
+use Rattle.dir_tree.specs.tree.Trees.{named_in}
+use Rattle.acdf_filters.specs.aci_item.declared.level.Level.TheVariants as level
 use Rattle.ldap_msg.specs.declared.operations.ResultCode.{ResultCode}
 use Rattle.ldap_msg.specs.declared.operations.ResultCode.TheVariants as code
 use Rattle.ldap_msg.specs.declared.kinds.Auth.{Auth}

@@ -1,16 +1,16 @@
 //! What a bind comes to.
 
 ghost use Rattle.std.specs.Prelude.{◌≡◌, IfOk};
-ghost use Rattle.dn_names.specs.NameText.{read_name};
-ghost use Rattle.dir_tree.specs.Numbered.{entries_of};
+ghost use Rattle.dir_tree.specs.dn_names.parsing.NameText.{read_name};
+ghost use Rattle.dir_tree.specs.tree.Numbered.{entries_of};
 ghost use Rattle.op_bind.specs.Binds.{ended, bound_name, bound_password, bound_entry, bound_nobody, bound_named};
 ghost use Rattle.op_bind.specs.Binds.{bound_text, bound_auth, bind_answer, with_password};
 
 use crate::entry::{entry_named, has_password};
 use acdf_filters::Requester;
-use aci_item::Level;
+use acdf_filters::aci_item::Level;
+use dir_tree::dn_names::{BadName, Dn, parse};
 use dir_tree::{Entry, Tree};
-use dn_names::{BadName, Dn, parse};
 use ldap_msg::{Auth, BindRequest, ResultCode};
 use std::alloc::{AllocError, Global};
 

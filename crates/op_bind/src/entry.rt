@@ -2,14 +2,14 @@
 
 ghost use Rattle.std.specs.Prelude.{◌≡◌};
 ghost use Rattle.std.specs.Option.{option_map};
-ghost use Rattle.dir_tree.specs.Trees.{named_in};
-ghost use Rattle.dir_tree.specs.Numbered.{entries_of};
+ghost use Rattle.dir_tree.specs.tree.Trees.{named_in};
+ghost use Rattle.dir_tree.specs.tree.Numbered.{entries_of};
 ghost use Rattle.op_bind.specs.Binds.{has_password};
 
 use crate::passwords::accepts;
+use dir_tree::dn_names::Dn;
+use dir_tree::schema_core::AttrId;
 use dir_tree::{Entry, Tree};
-use dn_names::Dn;
-use schema_core::AttrId;
 
 /// The entry of the name.
 pub(crate) fn entry_named<'a>(tree: &'a Tree, name: &Dn) -> Option<&'a Entry>

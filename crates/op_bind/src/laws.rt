@@ -1,11 +1,11 @@
 //! The law of binds: the function computes nothing, and what it ensures is a law.
 
 ghost use Rattle.std.specs.Prelude.{◌≡◌, false, List, IfOk};
-ghost use Rattle.dn_names.specs.Names.{RdnSequence};
-ghost use Rattle.dn_names.specs.NameOrder.{is_prefix_of};
-ghost use Rattle.dn_names.specs.NameText.{read_name};
-ghost use Rattle.dir_tree.specs.Entries.{EntryInformation};
-ghost use Rattle.admin_scope.specs.Areas.{without_subtree};
+ghost use Rattle.dir_tree.specs.dn_names.name.Names.{RdnSequence};
+ghost use Rattle.dir_tree.specs.dn_names.order.NameOrder.{is_prefix_of};
+ghost use Rattle.dir_tree.specs.dn_names.parsing.NameText.{read_name};
+ghost use Rattle.dir_tree.specs.Entry.{EntryInformation};
+ghost use Rattle.acdf_filters.specs.admin_scope.point_list.Areas.{without_subtree};
 ghost use Rattle.ldap_msg.specs.declared.kinds.BindRequest.{BindRequest};
 ghost use Rattle.op_bind.specs.Binds.{bind_answer};
 

@@ -3,9 +3,8 @@
 
 mod binds;
 mod entry;
-mod laws;
+pub mod laws;
 mod passwords;
 
 pub use binds::{Bound, NoMemory, bind, bind_with_password};
-pub use laws::an_unseen_subtree_changes_no_bind;
 pub use passwords::accepts;

@@ -3,22 +3,22 @@ use Rattle.std.proofs.Common.{◌≡◌, ℕ, true, false, [], ◌∷◌, List, 
 use Rattle.std.specs.Prelude.{codes}
 use Rattle.std.specs.Str.{is_utf8, chars}
 use lib.Utf8.{encode}
-use Rattle.schema_core.specs.Attributes.{attributes}
-use Rattle.match_rules.specs.Keys.{key_of}
-use Rattle.match_rules.specs.Syntaxes.{is_of}
-use Rattle.dn_names.specs.Names.{Keyed, RdnSequence}
-use Rattle.dn_names.specs.NameValues.{value_of}
-use Rattle.dn_names.specs.NameOrder.{name_cmp, is_same}
-use Rattle.dn_names.specs.declared.error.BadName.TheVariants.{TooMany}
-use Rattle.dir_tree.specs.Entries.{EntryInformation}
+use Rattle.dir_tree.specs.schema_core.Attributes.{attributes}
+use Rattle.dir_tree.specs.match_rules.Keys.{key_of}
+use Rattle.dir_tree.specs.match_rules.rules.Syntaxes.{is_of}
+use Rattle.dir_tree.specs.dn_names.name.Names.{Keyed, RdnSequence}
+use Rattle.dir_tree.specs.dn_names.make.NameValues.{value_of}
+use Rattle.dir_tree.specs.dn_names.order.NameOrder.{name_cmp, is_same}
+use Rattle.dir_tree.specs.dn_names.declared.error.BadName.TheVariants.{TooMany}
+use Rattle.dir_tree.specs.Entry.{EntryInformation}
 use Rattle.acdf_filters.specs.declared.asking.Requester.{Requester}
 use Rattle.entry_changes.specs.declared.kind.ChangeKind.TheVariants as kind
 use Rattle.ldap_msg.specs.declared.operations.ResultCode.TheVariants as code
 use Rattle.ldap_msg.specs.declared.kinds.Change.{Change}
 use Rattle.read_model.specs.Views.{result_of}
-use Rattle.op_update.specs.NewEntries.{read_values, repeats}
-use Rattle.op_update.specs.Updates.{refused}
-use Rattle.op_modify.specs.ReadChanges.{is_no_change, change_of, read_each, read_changes}
+use Rattle.op_update.specs.reading.NewEntries.{read_values, repeats}
+use Rattle.op_update.specs.adding.Updates.{refused}
+use Rattle.op_modify.specs.reading.ReadChanges.{is_no_change, change_of, read_each, read_changes}
 use Rattle.op_modify.specs.Modifying.{modified_as, modified_named}
 use Rattle.op_modify.specs.Renames.{moves, is_unwilling, new_name, taken_refusal, other_named, renamed_by}
 

@@ -1,4 +1,1 @@
-mod ReadingLemmas
-mod ChangeLemmas
-mod NameLemmas
 mod Examples

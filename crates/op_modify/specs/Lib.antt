@@ -1,7 +1,11 @@
 -- what public clauses cite
-pub mod ReadChanges
+pub mod reading
 pub mod Modifying
 pub mod Renames
 -- for the inside of the crate alone
-pub mod Asked
-pub mod Steps
+pub mod asker
+pub mod replacing
+-- the words of crates below, handed on
+pub use Rattle.op_update.specs as op_update
+pub use Rattle.acdf_filters.specs.aci_item as aci_item
+pub use Rattle.ldap_msg.specs as ldap_msg

@@ -1,25 +1,25 @@
 -- What a modify comes to (RFC 4511 4.6, X.511 11.3): the changes are made in their order on a copy of the entry, which then
 -- takes the entry's place. Each decision is taken over the entries before, and a change that is refused refuses them all.
 use Rattle.std.specs.Prelude.{List, [], ◌∷◌, Option, Some, None, Result, Ok, Err, if◌then◌else◌}
-use Rattle.dn_names.specs.Names.{RdnSequence}
-use Rattle.dn_names.specs.declared.error.BadName.{BadName}
-use Rattle.dn_names.specs.NameText.{read_name}
-use Rattle.dir_tree.specs.Entries.{EntryInformation}
-use Rattle.dir_tree.specs.Trees.{named_in, put_in, taken_out}
-use Rattle.aci_item.specs.Rules.{broken_rule}
-use Rattle.aci_item.specs.declared.permission.Permission.TheVariants.{Modify}
+use Rattle.dir_tree.specs.dn_names.name.Names.{RdnSequence}
+use Rattle.dir_tree.specs.dn_names.declared.error.BadName.{BadName}
+use Rattle.dir_tree.specs.dn_names.parsing.NameText.{read_name}
+use Rattle.dir_tree.specs.Entry.{EntryInformation}
+use Rattle.dir_tree.specs.tree.Trees.{named_in, put_in, taken_out}
+use Rattle.acdf_filters.specs.aci_item.Rules.{broken_rule}
+use Rattle.acdf_filters.specs.aci_item.declared.permission.Permission.TheVariants.{Modify}
 use Rattle.acdf_filters.specs.declared.asking.Requester.{Requester}
 use Rattle.acdf_filters.specs.Asking.{Entry}
-use Rattle.acdf_filters.specs.Granted.{granted}
-use Rattle.entry_changes.specs.Changes.{Modification, changed_by}
+use Rattle.acdf_filters.specs.laws.Granted.{granted}
+use Rattle.entry_changes.specs.Change.{Modification, changed_by}
 use Rattle.ldap_msg.specs.declared.operations.ResultCode.{ResultCode}
 use Rattle.ldap_msg.specs.declared.operations.ResultCode.TheVariants as code
 use Rattle.ldap_msg.specs.declared.kinds.Change.{Change}
 use Rattle.ldap_msg.specs.declared.kinds.ModifyRequest.{ModifyRequest}
 use Rattle.read_model.specs.Views.{view_of, hidden, result_of}
-use Rattle.op_update.specs.Adding.{rule_refusal}
-use Rattle.op_update.specs.Updates.{Changed, refused, unless}
-use Rattle.op_modify.specs.ReadChanges.{read_changes}
+use Rattle.op_update.specs.adding.Adding.{rule_refusal}
+use Rattle.op_update.specs.adding.Updates.{Changed, refused, unless}
+use Rattle.op_modify.specs.reading.ReadChanges.{read_changes}
 
 -- the entry that the changes leave takes the target's place, unless it breaks a rule there
 abbrev pub modified_as : List EntryInformation → EntryInformation → Result EntryInformation ResultCode → Changed

@@ -4,25 +4,25 @@
 use Rattle.std.specs.Prelude.{ℕ, Bool, false, not, ◌||◌, ◌==◌, List, [], ◌∷◌, ◌++◌, length, Option, Some, None, if◌then◌else◌}
 use Rattle.std.specs.Option.{option_map, option_map_or, option_and_then}
 use Rattle.std.specs.Result.{result_ok}
-use Rattle.dn_names.specs.Names.{RdnSequence}
-use Rattle.dn_names.specs.NameOrder.{is_same}
-use Rattle.dn_names.specs.NameText.{read_name, read_rdn}
-use Rattle.dir_tree.specs.Entries.{EntryInformation}
-use Rattle.dir_tree.specs.Trees.{named_in, has_below, superior_name, put_in, taken_out}
-use Rattle.aci_item.specs.Rules.{broken_rule}
-use Rattle.aci_item.specs.declared.permission.Permission.TheVariants.{Rename, DiscloseOnError}
+use Rattle.dir_tree.specs.dn_names.name.Names.{RdnSequence}
+use Rattle.dir_tree.specs.dn_names.order.NameOrder.{is_same}
+use Rattle.dir_tree.specs.dn_names.parsing.NameText.{read_name, read_rdn}
+use Rattle.dir_tree.specs.Entry.{EntryInformation}
+use Rattle.dir_tree.specs.tree.Trees.{named_in, has_below, superior_name, put_in, taken_out}
+use Rattle.acdf_filters.specs.aci_item.Rules.{broken_rule}
+use Rattle.acdf_filters.specs.aci_item.declared.permission.Permission.TheVariants.{Rename, DiscloseOnError}
 use Rattle.acdf_filters.specs.declared.asking.Requester.{Requester}
 use Rattle.acdf_filters.specs.Asking.{Entry}
-use Rattle.acdf_filters.specs.Granted.{granted}
-use Rattle.plain_values.specs.Refusals.{when, first_some}
+use Rattle.acdf_filters.specs.laws.Granted.{granted}
+use Rattle.ldap_msg.specs.plain_values.Refusals.{when, first_some}
 use Rattle.entry_changes.specs.Renaming.{renamed_entry}
 use Rattle.ldap_msg.specs.declared.operations.ResultCode.TheVariants as code
 use Rattle.ldap_msg.specs.declared.kinds.LdapResult.{LdapResult}
 use Rattle.ldap_msg.specs.declared.kinds.RenameRequest.{RenameRequest}
 use Rattle.read_model.specs.Views.{view_of, hidden, result_of}
-use Rattle.op_asking.specs.Targets.{is_suffix, not_leaf}
-use Rattle.op_update.specs.Adding.{rule_refusal}
-use Rattle.op_update.specs.Updates.{Changed, refused, unless}
+use Rattle.op_update.specs.op_asking.Targets.{is_suffix, not_leaf}
+use Rattle.op_update.specs.adding.Adding.{rule_refusal}
+use Rattle.op_update.specs.adding.Updates.{Changed, refused, unless}
 use Rattle.op_modify.specs.declared.renaming.Renaming.{Renaming}
 
 -- ---- what a request says

@@ -1,13 +1,13 @@
 //! What is asked of one entry.
 
-ghost use Rattle.op_modify.specs.Asked.{granted_at};
+ghost use Rattle.op_modify.specs.asker.Asked.{granted_at};
 
 use acdf_filters::Item;
-use acdf_lists::Dir;
-use aci_item::Permission;
+use acdf_filters::aci_item::Permission;
 use dir_tree::EntryNo;
 use entry_changes::Ask;
-use op_asking::Asking;
+use op_update::acdf_lists::Dir;
+use op_update::op_asking::Asking;
 
 /// A requester asks of the entry of a number.
 #[derive(Drop)]

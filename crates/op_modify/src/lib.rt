@@ -9,5 +9,8 @@ mod renames;
 mod renaming;
 mod replacing;
 
+pub use acdf_filters::aci_item;
+pub use ldap_msg;
 pub use modifying::modify;
+pub use op_update;
 pub use renames::rename;

@@ -1,27 +1,27 @@
 //! Modifies.
 
 ghost use Rattle.std.specs.Prelude.{◌≡◌, Some, Ok, IfOk, OnErr};
-ghost use Rattle.dir_tree.specs.Trees.{named_in};
-ghost use Rattle.dir_tree.specs.Numbered.{entry_of, entries_of};
-ghost use Rattle.acdf_filters.specs.Granted.{granted};
-ghost use Rattle.entry_changes.specs.Changes.{changed_by};
-ghost use Rattle.op_update.specs.Updates.{IsChanged};
-ghost use Rattle.op_modify.specs.ReadChanges.{read_changes};
+ghost use Rattle.dir_tree.specs.tree.Trees.{named_in};
+ghost use Rattle.dir_tree.specs.tree.Numbered.{entry_of, entries_of};
+ghost use Rattle.acdf_filters.specs.laws.Granted.{granted};
+ghost use Rattle.entry_changes.specs.Change.{changed_by};
+ghost use Rattle.op_update.specs.adding.Updates.{IsChanged};
+ghost use Rattle.op_modify.specs.reading.ReadChanges.{read_changes};
 ghost use Rattle.op_modify.specs.Modifying.{modified_as, modified_target, modified_by, modified_named, modified};
-ghost use Rattle.op_modify.specs.Steps.{IsChecked};
+ghost use Rattle.op_modify.specs.replacing.Steps.{IsChecked};
 
 use crate::asker::EntryAsker;
 use crate::reading::read_changes;
 use crate::replacing::{Checked, make, rule_refusal};
+use acdf_filters::aci_item::Permission;
 use acdf_filters::{Item, Requester};
-use acdf_lists::Dir;
-use aci_item::Permission;
+use dir_tree::dn_names::Dn;
 use dir_tree::{Entry, NoMemory};
-use dn_names::Dn;
 use entry_changes::{ChangeFault, EntryChange, change_entry};
 use ldap_msg::{Change, LdapResult, ModifyRequest, ResultCode};
-use op_asking::{Asking, Target, find_target, hidden, read_named, result_of};
 use op_update::Fault;
+use op_update::acdf_lists::Dir;
+use op_update::op_asking::{Asking, Target, find_target, hidden, read_named, result_of};
 use std::alloc::{AllocError, Global};
 
 // What comes of the entry that the changes leave.

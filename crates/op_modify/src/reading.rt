@@ -2,9 +2,9 @@
 
 ghost use Rattle.std.specs.Prelude.{◌≡◌};
 ghost use Rattle.std.specs.List.{list_any};
-ghost use Rattle.plain_values.specs.Answers.{Answers};
-ghost use Rattle.op_update.specs.Reading.{cause_of, attribute_of};
-ghost use Rattle.op_modify.specs.ReadChanges.{is_no_change, change_of, change_with, read_change, read_each, read_changes};
+ghost use Rattle.ldap_msg.specs.plain_values.Answers.{Answers};
+ghost use Rattle.op_update.specs.reading.Reading.{cause_of, attribute_of};
+ghost use Rattle.op_modify.specs.reading.ReadChanges.{is_no_change, change_of, change_with, read_change, read_each, read_changes};
 
 use entry_changes::{ChangeKind, EntryChange};
 use ldap_msg::{Change, ResultCode};
@@ -74,7 +74,7 @@ fn read_each(alloc: Global, given: &[Change]) -> Result<Vec<EntryChange>, Fault>
 }
 
 /// The changes of a modify request, in their order: each is one that may be asked for, and then each is read.
-#[tactic(auto, unfolding(crate::specs::ReadChanges::read_changes))]
+#[tactic(auto, unfolding(crate::specs::reading::ReadChanges::read_changes))]
 pub(crate) fn read_changes(alloc: Global, given: &[Change]) -> Result<Vec<EntryChange>, Fault>
     ensures exact { Answers (λ changes. changes.items) cause_of result (read_changes given.now) }
 {

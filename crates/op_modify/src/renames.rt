@@ -1,25 +1,25 @@
 //! Renames.
 
 ghost use Rattle.std.specs.Prelude.{◌≡◌, ◌++◌, Some, None, IfOk, OnErr};
-ghost use Rattle.dir_tree.specs.Trees.{named_in};
-ghost use Rattle.dir_tree.specs.Numbered.{entry_of, entries_of};
+ghost use Rattle.dir_tree.specs.tree.Trees.{named_in};
+ghost use Rattle.dir_tree.specs.tree.Numbered.{entry_of, entries_of};
 ghost use Rattle.read_model.specs.Views.{result_of};
-ghost use Rattle.plain_values.specs.Refusals.{first_some};
+ghost use Rattle.ldap_msg.specs.plain_values.Refusals.{first_some};
 ghost use Rattle.entry_changes.specs.Renaming.{renamed_entry};
-ghost use Rattle.op_update.specs.Updates.{IsChanged};
+ghost use Rattle.op_update.specs.adding.Updates.{IsChanged};
 ghost use Rattle.op_modify.specs.Renames.{new_name, other_named, taken_refusal, renamed_as, renamed_target, renamed_by, renamed};
-ghost use Rattle.op_modify.specs.Steps.{IsChecked, target_rows, place_rows};
+ghost use Rattle.op_modify.specs.replacing.Steps.{IsChecked, target_rows, place_rows};
 
 use crate::renaming::{Renaming, is_unwilling, read_renaming};
 use crate::replacing::{Checked, make, rule_refusal};
+use acdf_filters::aci_item::Permission;
 use acdf_filters::{Item, Requester};
-use acdf_lists::Dir;
-use aci_item::Permission;
+use dir_tree::dn_names::{Dn, join, same};
 use dir_tree::{Entry, NoMemory, Tree};
-use dn_names::{Dn, join, same};
 use entry_changes::rename_entry;
 use ldap_msg::{LdapResult, RenameRequest, ResultCode};
-use op_asking::{Asking, Target, find_target, hidden, is_suffix, not_leaf, result_of};
+use op_update::acdf_lists::Dir;
+use op_update::op_asking::{Asking, Target, find_target, hidden, is_suffix, not_leaf, result_of};
 use std::alloc::{AllocError, Global};
 
 // Why the target, which has the name, is not renamed, whatever the new name is.

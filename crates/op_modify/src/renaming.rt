@@ -2,14 +2,14 @@
 
 ghost use Rattle.std.specs.Prelude.{◌≡◌, Some, IfOk};
 ghost use Rattle.std.specs.Result.{result_ok};
-ghost use Rattle.dn_names.specs.NameText.{read_rdn};
+ghost use Rattle.dir_tree.specs.dn_names.parsing.NameText.{read_rdn};
 ghost use Rattle.op_modify.specs.Renames.{read_superior, read_renaming, moves, is_unwilling};
 
 use dir_tree::NoMemory;
-use dn_names::{BadName, Dn, compare_front, parse_rdn};
+use dir_tree::dn_names::{BadName, Dn, compare_front, parse_rdn};
 use ldap_msg::RenameRequest;
-use op_asking::read_named;
-use plain_values::Octets;
+use ldap_msg::plain_values::Octets;
+use op_update::op_asking::read_named;
 use std::alloc::{AllocError, Global};
 
 /// A rename request, read.
@@ -77,7 +77,6 @@ pub(crate) fn read_renaming(
 }
 
 // Whether the superior is another than that of the name.
-#[tactic(auto, unfolding(dn_names::specs::NameOrder::is_same))]
 fn is_elsewhere(name: &Dn, superior: &Dn) -> bool
     ensures exact { result ≡ moves name.now (Some superior.now) }
 {

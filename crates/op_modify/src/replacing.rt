@@ -1,19 +1,19 @@
 //! Entries that take another's place.
 
 ghost use Rattle.std.specs.Prelude.{◌≡◌, Some, IfOk, OnOk, OnErr};
-ghost use Rattle.dir_tree.specs.Entries.{EntryInformation};
-ghost use Rattle.dir_tree.specs.Trees.{put_in, taken_out};
-ghost use Rattle.dir_tree.specs.Numbered.{entry_of, entries_of};
-ghost use Rattle.aci_item.specs.Rules.{broken_rule};
-ghost use Rattle.op_update.specs.Adding.{rule_refusal};
-ghost use Rattle.op_update.specs.Updates.{Changed, IsChanged};
-ghost use Rattle.op_modify.specs.Steps.{IsChecked};
+ghost use Rattle.dir_tree.specs.Entry.{EntryInformation};
+ghost use Rattle.dir_tree.specs.tree.Trees.{put_in, taken_out};
+ghost use Rattle.dir_tree.specs.tree.Numbered.{entry_of, entries_of};
+ghost use Rattle.acdf_filters.specs.aci_item.Rules.{broken_rule};
+ghost use Rattle.op_update.specs.adding.Adding.{rule_refusal};
+ghost use Rattle.op_update.specs.adding.Updates.{Changed, IsChanged};
+ghost use Rattle.op_modify.specs.replacing.Steps.{IsChecked};
 
-use acdf_lists::Dir;
 use dir_tree::{Entry, EntryNo, NoMemory, Tree};
 use ldap_msg::LdapResult;
-use op_asking::{Target, result_numbered};
-use schema_rules::{Broken, check_entry};
+use op_update::acdf_lists::Dir;
+use op_update::op_asking::{Target, result_numbered};
+use op_update::schema_rules::{Broken, check_entry};
 use std::alloc::{AllocError, Global};
 
 /// What came of the checks of a change.

@@ -1,9 +1,2 @@
-mod ListLemmas
-mod NameLemmas
-mod SeenLemmas
-mod SelectingLemmas
-mod ChoosingLemmas
-mod SendingLemmas
-mod AnsweringLemmas
-mod RootLemmas
-mod AlikeLemmas
+-- the theorems of crates below, handed on
+pub use Rattle.twin_laws.proofs as twin_laws_proofs

@@ -1,7 +1,13 @@
 -- what public clauses cite
-pub mod Alike
+pub mod comparing
 -- for the inside of the crate alone
-pub mod Seeing
-pub mod Choices
-pub mod Rooting
+pub mod seen
+pub mod choosing
+pub mod root_entry
 pub mod Sending
+-- the words of crates below, handed on
+pub use Rattle.read_model.specs as read_model
+pub use Rattle.twin_laws.specs as twin_laws
+pub use Rattle.op_asking.specs.acdf_lists as acdf_lists
+pub use Rattle.acdf_filters.specs as acdf_filters
+pub use Rattle.acdf_filters.specs.aci_item as aci_item

@@ -1,7 +1,7 @@
 -- What a search sends, one entry after the other.
 use Rattle.std.specs.Prelude.{◌≡◌, ◌≢◌, ℕ, ◌+◌, Bool, true, false, List, [], ◌∷◌, ◌++◌, length, filter, flat_map}
-use Rattle.dir_tree.specs.Numbered.{Numbered, entry_of}
-use Rattle.dn_names.specs.Names.{RdnSequence}
+use Rattle.dir_tree.specs.tree.Numbered.{Numbered, entry_of}
+use Rattle.dir_tree.specs.dn_names.name.Names.{RdnSequence}
 use Rattle.acdf_filters.specs.declared.asking.Requester.{Requester}
 use Rattle.ldap_msg.specs.declared.operations.ResultCode.TheVariants as code
 use Rattle.ldap_msg.specs.declared.kinds.LdapResult.{LdapResult}
@@ -13,7 +13,7 @@ use Rattle.read_model.specs.SearchReplies.{within_limit, limit_code, nothing_fou
 use Rattle.op_read.specs.declared.sending.Sent.{Sent}
 use Rattle.op_read.specs.declared.sending.Found.{Found}
 use Rattle.op_read.specs.declared.sending.Found.TheVariants.{Nothing, Some as FoundSome, TooMany}
-use Rattle.op_read.specs.Seeing.{row_in, one_or_none}
+use Rattle.op_read.specs.seen.Seeing.{row_in, one_or_none}
 
 -- there are some
 abbrev pub is_filled : View → Bool

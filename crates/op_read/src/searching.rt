@@ -1,26 +1,26 @@
 //! Searches.
 
 ghost use Rattle.std.specs.Prelude.{◌≡◌, ◌++◌, ◌∷◌, [], Some, Ok, OnOk, OnErr, if◌then◌else◌};
-ghost use Rattle.dir_tree.specs.Numbered.{IsNumberedTree, entries_of, find_name};
-ghost use Rattle.ber_layout.specs.Spellings.{Extends};
+ghost use Rattle.dir_tree.specs.tree.Numbered.{IsNumberedTree, entries_of, find_name};
+ghost use Rattle.ldap_msg.specs.ber_layout.write.Spellings.{Extends};
 ghost use Rattle.ldap_msg.specs.declared.kinds.Reply.TheVariants as reply;
 ghost use Rattle.read_model.specs.Views.{view_of, hidden};
 ghost use Rattle.read_model.specs.Selecting.{selected};
 ghost use Rattle.read_model.specs.RootEntry.{finds_root, root_entry, root_replies};
 ghost use Rattle.read_model.specs.SearchReplies.{replies_octets, found_replies, replies_at, replies_by, search_replies};
 ghost use Rattle.op_asking.specs.Asking.{view_in};
-ghost use Rattle.op_read.specs.Alike.{SendsAlike};
+ghost use Rattle.op_read.specs.comparing.Alike.{SendsAlike};
 
 use crate::choosing::{Selection, read_choices};
 use crate::root_entry::{finds_root, root_entry};
 use crate::sending::{Search, ended_by, put_done, put_found};
 use acdf_filters::Requester;
-use acdf_lists::Dir;
+use dir_tree::dn_names::Dn;
 use dir_tree::{EntryNo, NoMemory};
-use dn_names::Dn;
-use filter_core::prepare_filter;
 use ldap_msg::{ResultCode, SearchRequest, put_reply};
+use op_asking::acdf_lists::Dir;
 use op_asking::{Asking, hidden, read_named, result_of};
+use read_model::filter_core::prepare_filter;
 use std::alloc::Global;
 
 /// A request to search, with the number of its message and what the control of subentries says (RFC 3672 3).

@@ -1,19 +1,19 @@
 //! Entries as a requester sees them.
 
 ghost use Rattle.std.specs.Prelude.{◌≡◌, Some};
-ghost use Rattle.dir_tree.specs.Numbered.{entry_of};
+ghost use Rattle.dir_tree.specs.tree.Numbered.{entry_of};
 ghost use Rattle.acdf_filters.specs.Asking.{protected_of};
 ghost use Rattle.read_model.specs.Selecting.{permits_of};
 ghost use Rattle.op_asking.specs.Asking.{Knows, knows-prop};
-ghost use Rattle.op_read.specs.Seeing.{row_in};
+ghost use Rattle.op_read.specs.seen.Seeing.{row_in};
 
+use acdf_filters::aci_item::Permission;
 use acdf_filters::{Item, Membership, Requester};
-use acdf_lists::Dir;
-use aci_item::Permission;
+use dir_tree::dn_names::Value;
+use dir_tree::schema_core::AttrId;
 use dir_tree::{Entry, EntryNo};
-use dn_names::Value;
-use filter_core::Allow;
-use schema_core::AttrId;
+use op_asking::acdf_lists::Dir;
+use read_model::filter_core::Allow;
 
 /// An entry of the directory, as the requester sees it.
 #[derive(Drop)]

@@ -2,14 +2,14 @@
 
 ghost use Rattle.std.specs.Prelude.{◌≡◌};
 ghost use Rattle.read_model.specs.Selecting.{is_seen, is_found};
-ghost use Rattle.op_read.specs.Seeing.{row_in, scope_of};
+ghost use Rattle.op_read.specs.seen.Seeing.{row_in, scope_of};
 
 use crate::seen::Seen;
 use acdf_filters::Item;
-use acdf_lists::Dir;
-use aci_item::Permission;
+use acdf_filters::aci_item::Permission;
 use dir_tree::{Entry, Scope};
-use filter_core::{Prepared, is_true};
+use op_asking::acdf_lists::Dir;
+use read_model::filter_core::{Prepared, is_true};
 
 /// The scope of the number (RFC 4511 4.5.1.2).
 pub(crate) fn scope_of(number: u8) -> Scope

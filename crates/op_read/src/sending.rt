@@ -2,26 +2,26 @@
 
 ghost use Rattle.std.specs.Prelude.{◌≡◌, ◌++◌, ◌∷◌, [], ℕ, IfOk, OnOk, filter};
 ghost use Rattle.std.specs.List.{list_any};
-ghost use Rattle.dir_tree.specs.Scopes.{scoped};
-ghost use Rattle.ber_layout.specs.Spellings.{Extends};
+ghost use Rattle.dir_tree.specs.Scope.{scoped};
+ghost use Rattle.ldap_msg.specs.ber_layout.write.Spellings.{Extends};
 ghost use Rattle.ldap_msg.specs.declared.kinds.Reply.TheVariants as reply;
 ghost use Rattle.read_model.specs.Selecting.{is_shown};
 ghost use Rattle.read_model.specs.Choosing.{is_chosen};
 ghost use Rattle.read_model.specs.SearchReplies.{replies_octets, nothing_found};
 ghost use Rattle.op_asking.specs.Asking.{view_in};
-ghost use Rattle.op_read.specs.Choices.{chooses};
-ghost use Rattle.op_read.specs.Seeing.{row_in, scope_of};
+ghost use Rattle.op_read.specs.choosing.Choices.{chooses};
+ghost use Rattle.op_read.specs.seen.Seeing.{row_in, scope_of};
 ghost use Rattle.op_read.specs.Sending.{shown_at, shown_among, entry_octets, Goes, IsSent, ended_by};
 
 use crate::choosing::{Selection, sent_entry};
 use crate::seen::Seen;
 use crate::selecting::{is_found, is_seen, scope_of};
-use acdf_lists::Dir;
+use dir_tree::dn_names::Dn;
 use dir_tree::{EntryNo, NoMemory};
-use dn_names::Dn;
-use filter_core::Prepared;
 use ldap_msg::{LdapResult, Reply, ResultCode, SearchRequest, put_reply};
+use op_asking::acdf_lists::Dir;
 use op_asking::{Asking, discloses, no_such_object, result_of};
+use read_model::filter_core::Prepared;
 use std::alloc::Global;
 
 /// A search, with what is made of its request once for all entries.

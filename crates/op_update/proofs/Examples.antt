@@ -3,26 +3,26 @@ use Rattle.std.proofs.Common.{◌≡◌, ℕ, true, false, Bool, not, [], ◌∷
 use Rattle.std.specs.Prelude.{codes, ◌==◌}
 use lib.Utf8.{encode}
 use Rattle.std.specs.Str.{is_utf8, chars}
-use Rattle.schema_core.specs.Attributes.{attributes}
-use Rattle.schema_core.specs.Classes.{classes}
-use Rattle.schema_core.specs.Roles.{roles}
-use Rattle.schema_core.specs.Oid.{is_dotted_oid}
-use Rattle.match_rules.specs.Keys.{key_of}
-use Rattle.match_rules.specs.Syntaxes.{is_of}
-use Rattle.dn_names.specs.Names.{Keyed, RdnSequence}
-use Rattle.dn_names.specs.NameValues.{value_of}
-use Rattle.dn_names.specs.declared.error.BadName.TheVariants.{TooMany}
-use Rattle.dir_tree.specs.Entries.{EntryInformation}
-use Rattle.op_write.specs.Loading.{with_pairs}
-use Rattle.aci_item.specs.declared.permission.Permission.{Permission}
+use Rattle.dir_tree.specs.schema_core.Attributes.{attributes}
+use Rattle.dir_tree.specs.schema_core.classes.Classes.{classes}
+use Rattle.dir_tree.specs.schema_core.roles.Roles.{roles}
+use Rattle.dir_tree.specs.schema_core.Oids.{is_dotted_oid}
+use Rattle.dir_tree.specs.match_rules.Keys.{key_of}
+use Rattle.dir_tree.specs.match_rules.rules.Syntaxes.{is_of}
+use Rattle.dir_tree.specs.dn_names.name.Names.{Keyed, RdnSequence}
+use Rattle.dir_tree.specs.dn_names.make.NameValues.{value_of}
+use Rattle.dir_tree.specs.dn_names.declared.error.BadName.TheVariants.{TooMany}
+use Rattle.dir_tree.specs.Entry.{EntryInformation}
+use Rattle.op_write.specs.load.Loading.{with_pairs}
+use Rattle.acdf_filters.specs.aci_item.declared.permission.Permission.{Permission}
 use Rattle.acdf_filters.specs.declared.asking.Requester.{Requester}
 use Rattle.acdf_filters.specs.Asking.{Protected, Entry, Kind, Value}
 use Rattle.ldap_msg.specs.declared.operations.ResultCode.TheVariants as code
 use Rattle.ldap_msg.specs.declared.kinds.KindValues.{KindValues}
 use Rattle.read_model.specs.Views.{result_of}
-use Rattle.op_update.specs.NewEntries.{read_values, read_each, read_attributes, repeats, new_entry}
-use Rattle.op_update.specs.Adding.{refuses_entry, rule_refusal}
-use Rattle.op_update.specs.Updates.{refused, unless, deleted_named, added_named}
+use Rattle.op_update.specs.reading.NewEntries.{read_values, read_each, read_attributes, repeats, new_entry}
+use Rattle.op_update.specs.adding.Adding.{refuses_entry, rule_refusal}
+use Rattle.op_update.specs.adding.Updates.{refused, unless, deleted_named, added_named}
 
 -- a value whose key is its octets
 plain_value : List ℕ → Keyed

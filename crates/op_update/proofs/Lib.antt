@@ -1,6 +1,2 @@
-mod ReadingLemmas
-mod CountLemmas
-mod UpdateLemmas
 mod Examples
-mod TableLemmas
 pub mod Theorems

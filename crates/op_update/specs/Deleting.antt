@@ -1,18 +1,18 @@
 -- Why an entry is not deleted (RFC 4511 4.8, X.511 11.2): a table by rows, of which the first that applies decides. Each
 -- decision is taken over all entries.
 use Rattle.std.specs.Prelude.{not, List, [], ◌∷◌, Option}
-use Rattle.dn_names.specs.Names.{RdnSequence}
-use Rattle.dir_tree.specs.Entries.{EntryInformation}
-use Rattle.dir_tree.specs.Trees.{has_below}
-use Rattle.aci_item.specs.declared.permission.Permission.TheVariants.{Remove}
+use Rattle.dir_tree.specs.dn_names.name.Names.{RdnSequence}
+use Rattle.dir_tree.specs.Entry.{EntryInformation}
+use Rattle.dir_tree.specs.tree.Trees.{has_below}
+use Rattle.acdf_filters.specs.aci_item.declared.permission.Permission.TheVariants.{Remove}
 use Rattle.acdf_filters.specs.declared.asking.Requester.{Requester}
 use Rattle.acdf_filters.specs.Asking.{Entry}
-use Rattle.acdf_filters.specs.Granted.{granted}
+use Rattle.acdf_filters.specs.laws.Granted.{granted}
 use Rattle.ldap_msg.specs.declared.operations.ResultCode.TheVariants as code
 use Rattle.ldap_msg.specs.declared.kinds.LdapResult.{LdapResult}
 use Rattle.read_model.specs.Views.{view_of, hidden, result_of}
 use Rattle.op_asking.specs.Targets.{is_suffix, not_leaf}
-use Rattle.plain_values.specs.Refusals.{when, first_some}
+use Rattle.ldap_msg.specs.plain_values.Refusals.{when, first_some}
 
 -- the table, over the entry that has the name
 abbrev pub delete_rows : List EntryInformation → Requester → RdnSequence → EntryInformation → List (Option LdapResult)

@@ -2,29 +2,29 @@
 
 ghost use Rattle.std.specs.Prelude.{◌≡◌, ◌≢◌, ◌||◌, not, [], None, Ok, IfOk, OnOk, OnErr};
 ghost use Rattle.std.specs.List.{list_any};
-ghost use Rattle.dir_tree.specs.Trees.{put_in, named_in, has_name, superior_name};
-ghost use Rattle.dir_tree.specs.Numbered.{entry_of, entries_of};
-ghost use Rattle.aci_item.specs.Rules.{broken_rule};
-ghost use Rattle.aci_item.specs.declared.permission.Permission.TheVariants as permission;
+ghost use Rattle.dir_tree.specs.tree.Trees.{put_in, named_in, has_name, superior_name};
+ghost use Rattle.dir_tree.specs.tree.Numbered.{entry_of, entries_of};
+ghost use Rattle.acdf_filters.specs.aci_item.Rules.{broken_rule};
+ghost use Rattle.acdf_filters.specs.aci_item.declared.permission.Permission.TheVariants as permission;
 ghost use Rattle.acdf_filters.specs.Asking as protected;
-ghost use Rattle.acdf_filters.specs.Granted.{granted_new};
-ghost use Rattle.op_update.specs.NewEntries.{read_attributes};
-ghost use Rattle.op_update.specs.Adding.{there_already, taken_refusal, refuses_attribute, refuses_entry, rule_refusal, add_refusal};
-ghost use Rattle.op_update.specs.Updates.{IsChanged, unless, added_entry, added_named, added};
+ghost use Rattle.acdf_filters.specs.laws.Granted.{granted_new};
+ghost use Rattle.op_update.specs.reading.NewEntries.{read_attributes};
+ghost use Rattle.op_update.specs.adding.Adding.{there_already, taken_refusal, refuses_attribute, refuses_entry, rule_refusal, add_refusal};
+ghost use Rattle.op_update.specs.adding.Updates.{IsChanged, unless, added_entry, added_named, added};
 
 use crate::fault::Fault;
 use crate::reading::new_entry;
+use acdf_filters::aci_item::Permission;
 use acdf_filters::{Item, Requester};
-use acdf_lists::Dir;
-use aci_item::Permission;
+use dir_tree::dn_names::{Dn, Value};
+use dir_tree::schema_core::AttrId;
 use dir_tree::{Entry, NoMemory, Tree};
-use dn_names::{Dn, Value};
 use ldap_msg::{AddRequest, KindValues, LdapResult, ResultCode};
+use op_asking::acdf_lists::Dir;
 use op_asking::{
     Asking, Newcomer, Target, find_target, no_such_object, read_named, result_numbered, result_of,
 };
-use schema_core::AttrId;
-use schema_rules::{Broken, check_entry};
+use op_write::schema_rules::{Broken, check_entry};
 use std::alloc::{AllocError, Global};
 
 // What is answered where the entry has the name already.
@@ -116,7 +116,7 @@ fn refuses_attributes<D: Dir>(newcomer: &Newcomer<'_, '_, D>) -> bool
 }
 
 // Whether the entry may not be added: itself, or one of its attributes.
-#[tactic(auto, unfolding(crate::specs::Adding::refuses_entry))]
+#[tactic(auto, unfolding(crate::specs::adding::Adding::refuses_entry))]
 fn refuses_entry<D: Dir>(newcomer: &Newcomer<'_, '_, D>) -> bool
     ensures exact { result
         ≡ refuses_entry (granted_new (entries_of (D.rows newcomer.now.asking.now.dir.now))
@@ -138,7 +138,7 @@ fn rule_refusal(alloc: Global, tree: &Tree, entry: &Entry) -> Result<Option<Ldap
 }
 
 // Why the entry is not added.
-#[tactic(auto, unfolding(crate::specs::Adding::add_refusal))]
+#[tactic(auto, unfolding(crate::specs::adding::Adding::add_refusal))]
 fn add_refusal<D: Dir>(
     alloc: Global,
     asking: &Asking<'_, D>,

@@ -1,19 +1,19 @@
 //! Deletes.
 
 ghost use Rattle.std.specs.Prelude.{◌≡◌, Some, Ok, IfOk, OnOk, OnErr};
-ghost use Rattle.dir_tree.specs.Entries.{EntryInformation};
-ghost use Rattle.dir_tree.specs.Trees.{taken_out, named_in};
-ghost use Rattle.dir_tree.specs.Numbered.{entry_of, entries_of};
+ghost use Rattle.dir_tree.specs.Entry.{EntryInformation};
+ghost use Rattle.dir_tree.specs.tree.Trees.{taken_out, named_in};
+ghost use Rattle.dir_tree.specs.tree.Numbered.{entry_of, entries_of};
 ghost use Rattle.op_update.specs.Deleting.{delete_refusal};
-ghost use Rattle.op_update.specs.Updates.{IsChanged, deleted_target, deleted_named, deleted};
-ghost use Rattle.op_update.specs.Steps.{IsChecked};
+ghost use Rattle.op_update.specs.adding.Updates.{IsChanged, deleted_target, deleted_named, deleted};
+ghost use Rattle.op_update.specs.reading.Steps.{IsChecked};
 
+use acdf_filters::aci_item::Permission;
 use acdf_filters::{Item, Requester};
-use acdf_lists::Dir;
-use aci_item::Permission;
+use dir_tree::dn_names::Dn;
 use dir_tree::{EntryNo, NoMemory};
-use dn_names::Dn;
 use ldap_msg::{DeleteRequest, LdapResult, ResultCode};
+use op_asking::acdf_lists::Dir;
 use op_asking::{Asking, Target, find_target, hidden, is_suffix, not_leaf, read_named, result_of};
 use std::alloc::{AllocError, Global};
 

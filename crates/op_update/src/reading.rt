@@ -2,22 +2,22 @@
 
 ghost use Rattle.std.specs.Prelude.{◌≡◌, ◌≢◌, ◌||◌, [], Some, Ok, IfOk, IfErr, OnOk, false};
 ghost use Rattle.std.specs.List.{list_any};
-ghost use Rattle.schema_core.specs.Attributes.{IsAttrId};
-ghost use Rattle.dir_tree.specs.Entries.{has_kind, is_match};
-ghost use Rattle.plain_values.specs.Answers.{Answers, IsFaultOf};
-ghost use Rattle.op_update.specs.NewEntries.{fitting, read_value, read_values, read_attribute, read_filled, repeats, lacks_values, read_attributes};
-ghost use Rattle.op_update.specs.Reading.{cause_of, attribute_of};
-ghost use Rattle.op_update.specs.Steps.{entry_from, IsPut, IsNewEntry};
+ghost use Rattle.dir_tree.specs.schema_core.Attributes.{IsAttrId};
+ghost use Rattle.dir_tree.specs.Entry.{has_kind, is_match};
+ghost use Rattle.ldap_msg.specs.plain_values.Answers.{Answers, IsFaultOf};
+ghost use Rattle.op_update.specs.reading.NewEntries.{fitting, read_value, read_values, read_attribute, read_filled, repeats, lacks_values, read_attributes};
+ghost use Rattle.op_update.specs.reading.Reading.{cause_of, attribute_of};
+ghost use Rattle.op_update.specs.reading.Steps.{entry_from, IsPut, IsNewEntry};
 
 use crate::fault::Fault;
 use crate::twice::repeats;
+use dir_tree::dn_names::{Dn, MOST_OCTETS, Value, make_value};
+use dir_tree::match_rules::PrepareFault;
+use dir_tree::schema_core::{AttrId, attr_named};
 use dir_tree::{Entry, NoMemory};
-use dn_names::{Dn, MOST_OCTETS, Value, make_value};
+use ldap_msg::plain_values::Octets;
 use ldap_msg::{KindValues, ResultCode};
-use match_rules::PrepareFault;
 use op_write::add_own_values;
-use plain_values::Octets;
-use schema_core::{AttrId, attr_named};
 use std::alloc::Global;
 
 /// A type and values of it as a request gives them, read: in the order of the request, and some of them may match.
@@ -151,7 +151,7 @@ fn any_lacks_values(given: &[KindValues]) -> bool
 }
 
 // The entry of the name with the attributes of a request, in their order.
-#[tactic(auto, unfolding(crate::specs::NewEntries::read_attributes))]
+#[tactic(auto, unfolding(crate::specs::reading::NewEntries::read_attributes))]
 fn read_attributes(alloc: Global, name: Dn, given: &[KindValues]) -> Result<Entry, Fault>
     ensures exact { Answers (λ entry. entry) cause_of result (entry_from name (read_attributes given.now)) }
 {

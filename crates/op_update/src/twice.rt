@@ -2,11 +2,11 @@
 
 ghost use Rattle.std.specs.Prelude.{◌≡◌, IfOk};
 ghost use Rattle.std.specs.Set.{distinct_count};
-ghost use Rattle.dir_tree.specs.Entries.{is_match};
-ghost use Rattle.op_update.specs.NewEntries.{repeats};
+ghost use Rattle.dir_tree.specs.Entry.{is_match};
+ghost use Rattle.op_update.specs.reading.NewEntries.{repeats};
 
 use dir_tree::NoMemory;
-use dn_names::Value;
+use dir_tree::dn_names::Value;
 use std::alloc::Global;
 use std::collections::BTreeSet;
 

@@ -3,34 +3,34 @@ use Rattle.std.proofs.Common.{◌≡◌, ℕ, false, [], ◌∷◌, List, Some, 
 use Rattle.std.specs.Prelude.{codes}
 use lib.Utf8.{encode}
 use Rattle.std.specs.Str.{is_utf8, chars}
-use Rattle.dn_names.specs.declared.error.BadName.TheVariants.{TooMany}
-use Rattle.schema_core.specs.Attributes.{attributes}
-use Rattle.schema_core.specs.Classes.{classes}
-use Rattle.schema_core.specs.Roles.{roles}
-use Rattle.schema_core.specs.Oid.{is_dotted_oid}
-use Rattle.match_rules.specs.Keys.{prepared_text, key_of}
-use Rattle.match_rules.specs.Syntaxes.{is_of}
-use Rattle.dn_names.specs.Names.{Keyed, RdnSequence}
-use Rattle.dn_names.specs.NameValues.{value_of}
-use Rattle.dn_names.specs.Resolving.{naming_value, pair_meaning, resolve}
-use Rattle.dn_names.specs.NameText.{read_name}
-use Rattle.dn_names.specs.Modes.{text_fault}
-use Rattle.dn_names.specs.Classes.{class_of}
-use Rattle.dn_names.specs.Reading.{written_of, rdn_of, parts_of, pair_of, value_octets}
+use Rattle.dir_tree.specs.dn_names.declared.error.BadName.TheVariants.{TooMany}
+use Rattle.dir_tree.specs.schema_core.Attributes.{attributes}
+use Rattle.dir_tree.specs.schema_core.classes.Classes.{classes}
+use Rattle.dir_tree.specs.schema_core.roles.Roles.{roles}
+use Rattle.dir_tree.specs.schema_core.Oids.{is_dotted_oid}
+use Rattle.dir_tree.specs.match_rules.Keys.{prepared_text, key_of}
+use Rattle.dir_tree.specs.match_rules.rules.Syntaxes.{is_of}
+use Rattle.dir_tree.specs.dn_names.name.Names.{Keyed, RdnSequence}
+use Rattle.dir_tree.specs.dn_names.make.NameValues.{value_of}
+use Rattle.dir_tree.specs.dn_names.resolve.Resolving.{naming_value, pair_meaning, resolve}
+use Rattle.dir_tree.specs.dn_names.parsing.NameText.{read_name}
+use Rattle.dir_tree.specs.dn_names.Modes.{text_fault}
+use Rattle.dir_tree.specs.dn_names.Classes.{class_of}
+use Rattle.dir_tree.specs.dn_names.octets.Reading.{written_of, rdn_of, parts_of, pair_of, value_octets}
 use Rattle.caseless.proofs.Computing.{caseless}
-use Rattle.match_rules.specs.Folding.{folded_octets}
-use Rattle.dn_names.specs.NameOrder.{name_cmp, is_same}
-use Rattle.dir_tree.specs.Entries.{EntryInformation}
+use Rattle.dir_tree.specs.match_rules.Folding.{folded_octets}
+use Rattle.dir_tree.specs.dn_names.order.NameOrder.{name_cmp, is_same}
+use Rattle.dir_tree.specs.Entry.{EntryInformation}
 use Rattle.ldif_core.specs.declared.types.RecordLine.{RecordLine}
-use Rattle.ldif_core.specs.Lines.{logical, beginning, continued}
-use Rattle.ldif_core.specs.Records.{without_comments, is_version, without_version, records}
-use Rattle.ldif_core.specs.Places.{physical_from, logical_from, content_from, body_from, records_from}
+use Rattle.ldif_core.specs.lines.Lines.{logical, beginning, continued}
+use Rattle.ldif_core.specs.reading.Records.{without_comments, is_version, without_version, records}
+use Rattle.ldif_core.specs.lines.Places.{physical_from, logical_from, content_from, body_from, records_from}
 use Rattle.ldif_core.specs.declared.types.LineCause.TheVariants.{Syntax}
-use Rattle.ldif_core.specs.WrittenFile.{written_file}
-use Rattle.dir_tree.specs.Trees.{lacks_superior, put_in}
+use Rattle.ldif_core.specs.writing.WrittenFile.{written_file}
+use Rattle.dir_tree.specs.tree.Trees.{lacks_superior, put_in}
 use Rattle.op_write.specs.declared.fault.LoadCause.TheVariants.{Name, Kind, Value, Twice, Order, Rule, Limit}
-use Rattle.op_write.specs.Loading.{Bad, named, entry_of_record, with_lines, with_pairs, with_own_values, ruled, placed}
-use Rattle.op_write.specs.DataFile.{OfLine, loads}
+use Rattle.op_write.specs.load.Loading.{Bad, named, entry_of_record, with_lines, with_pairs, with_own_values, ruled, placed}
+use Rattle.op_write.specs.load.DataFile.{OfLine, loads}
 
 -- a line of a record
 line : ℕ → List ℕ → List ℕ → RecordLine

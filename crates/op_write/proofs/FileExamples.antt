@@ -2,22 +2,22 @@
 use Rattle.std.proofs.Common.{◌≡◌, ℕ, [], ◌∷◌, ◌++◌, List, Ok, Err, refl}
 use Rattle.std.specs.Prelude.{codes, flat_map}
 use Prim.Native.String.{String}
-use Rattle.dn_names.specs.Names.{Keyed}
-use Rattle.dn_names.specs.NameOrder.{name_cmp, is_same}
-use Rattle.dn_names.specs.Printing.{print_value, print_by, print_name}
-use Rattle.dir_tree.specs.Entries.{EntryInformation}
-use Rattle.dir_tree.specs.EntryClasses.{has_class}
-use Rattle.dir_tree.specs.Points.{is_subentry, is_access_subentry}
-use Rattle.ldif_core.specs.Lines.{logical, beginning, continued}
+use Rattle.dir_tree.specs.dn_names.name.Names.{Keyed}
+use Rattle.dir_tree.specs.dn_names.order.NameOrder.{name_cmp, is_same}
+use Rattle.dir_tree.specs.dn_names.Printing.{print_value, print_by, print_name}
+use Rattle.dir_tree.specs.Entry.{EntryInformation}
+use Rattle.dir_tree.specs.classes.EntryClasses.{has_class}
+use Rattle.dir_tree.specs.subentries.Points.{is_subentry, is_access_subentry}
+use Rattle.ldif_core.specs.lines.Lines.{logical, beginning, continued}
 use Rattle.ldif_core.specs.Fields.{is_kind, field_of, after_spaces, decoded, is_changetype, is_dn}
-use Rattle.ldif_core.specs.Records.{without_comments, is_version, without_version, attribute_lines, record_of, records}
-use Rattle.ldif_core.specs.Places.{physical_from, logical_from, content_from, body_from, records_from}
-use Rattle.ldif_core.specs.Written.{is_plain, written_value, written_entry}
-use Rattle.ldif_core.specs.WrittenFile.{written_file}
+use Rattle.ldif_core.specs.reading.Records.{without_comments, is_version, without_version, attribute_lines, record_of, records}
+use Rattle.ldif_core.specs.lines.Places.{physical_from, logical_from, content_from, body_from, records_from}
+use Rattle.ldif_core.specs.writing.Written.{is_plain, written_value, written_entry}
+use Rattle.ldif_core.specs.writing.WrittenFile.{written_file}
 use Rattle.aci_item.specs.Rules.{lacks_own_value, has_other_structural, breaks_classes, has_unread, has_two_values, is_misplaced, is_past_limits, broken_rule}
 use Rattle.op_write.specs.declared.fault.LoadCause.TheVariants.{Order, Rule, Twice}
-use Rattle.op_write.specs.Loading.{with_lines, with_pairs, entry_of_record, placed, loaded_entry}
-use Rattle.op_write.specs.DataFile.{OfRecord, loads_after, loads}
+use Rattle.op_write.specs.load.Loading.{with_lines, with_pairs, entry_of_record, placed, loaded_entry}
+use Rattle.op_write.specs.load.DataFile.{OfRecord, loads_after, loads}
 use Rattle.op_write.proofs.Examples.{reading_names}
 
 -- lines that end in LF

@@ -1,9 +1,6 @@
 mod Examples
 mod FileExamples
-mod LineLemmas
-mod OwnLemmas
-mod PlaceLemmas
-mod NameLemmas
-mod FileLemmas
-mod RecordLemmas
 pub mod Theorems
+-- the theorems of crates below, handed on
+pub use Rattle.schema_rules.proofs as schema_rules_proofs
+pub use Rattle.ldif_core.proofs as ldif_core_proofs

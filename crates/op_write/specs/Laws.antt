@@ -1,16 +1,16 @@
 -- The laws of loading: what a record that is loaded makes of the entries, and how a file goes on after it.
 use Rattle.std.specs.Prelude.{◌≡◌, ◌≢◌, ℕ, List, [], Ok, Err}
-use Rattle.dir_tree.specs.Entries.{EntryInformation}
-use Rattle.dir_tree.specs.Trees.{put_in}
-use Rattle.dir_tree.specs.Numbered.{Numbered, entries_of}
+use Rattle.dir_tree.specs.Entry.{EntryInformation}
+use Rattle.dir_tree.specs.tree.Trees.{put_in}
+use Rattle.dir_tree.specs.tree.Numbered.{Numbered, entries_of}
 use Rattle.ldif_core.specs.declared.types.Position.{Position}
 use Rattle.ldif_core.specs.declared.types.Record.{Record}
-use Rattle.ldif_core.specs.Faults.{LineFault}
+use Rattle.ldif_core.specs.reading.Faults.{LineFault}
 use Rattle.ldif_core.specs.declared.types.LineCause.TheVariants.{Syntax}
-use Rattle.ldif_core.specs.Records.{first_of}
-use Rattle.ldif_core.specs.Places.{IsNext, records_from}
-use Rattle.op_write.specs.Loading.{◌>>=◌, RecordFault, loaded_entry, IsLoaded}
-use Rattle.op_write.specs.DataFile.{OfLine, record_fault, line_fault, record_entry, loads_after, file_start, loads}
+use Rattle.ldif_core.specs.reading.Records.{first_of}
+use Rattle.ldif_core.specs.lines.Places.{IsNext, records_from}
+use Rattle.op_write.specs.load.Loading.{◌>>=◌, RecordFault, loaded_entry, IsLoaded}
+use Rattle.op_write.specs.load.DataFile.{OfLine, record_fault, line_fault, record_entry, loads_after, file_start, loads}
 
 -- a record that is loaded puts its entry in
 abbrev pub PutsItsEntryIn : Type 0

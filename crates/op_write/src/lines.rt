@@ -1,18 +1,18 @@
 //! The lines of a record, each put in an entry.
 
 ghost use Rattle.std.specs.Prelude.{◌≡◌, Some, Ok, IfErr, OnOk};
-ghost use Rattle.schema_core.specs.Attributes.{IsAttrId};
-ghost use Rattle.dn_names.specs.NameText.{read_name};
-ghost use Rattle.plain_values.specs.Answers.{Answers, IsFaultOf};
-ghost use Rattle.op_write.specs.Loading.{fault_of, named, loaded_value, with_new_kind, with_new_value, with_line, with_lines};
-ghost use Rattle.op_write.specs.Steps.{value_or_fault};
+ghost use Rattle.dir_tree.specs.schema_core.Attributes.{IsAttrId};
+ghost use Rattle.dir_tree.specs.dn_names.parsing.NameText.{read_name};
+ghost use Rattle.dir_tree.specs.plain_values.Answers.{Answers, IsFaultOf};
+ghost use Rattle.op_write.specs.load.Loading.{fault_of, named, loaded_value, with_new_kind, with_new_value, with_line, with_lines};
+ghost use Rattle.op_write.specs.lines.Steps.{value_or_fault};
 
 use crate::fault::{LoadCause, LoadFault, bad_at};
 use dir_tree::Entry;
-use dn_names::{BadName, Dn, MOST_OCTETS, Value, make_value, parse};
+use dir_tree::dn_names::{BadName, Dn, MOST_OCTETS, Value, make_value, parse};
+use dir_tree::match_rules::PrepareFault;
+use dir_tree::schema_core::{AttrId, attr_named};
 use ldif_core::RecordLine;
-use match_rules::PrepareFault;
-use schema_core::{AttrId, attr_named};
 use std::alloc::Global;
 
 /// The name that the octets of the `dn` line are. `Name` comes exactly where they are none, or the empty one.

@@ -2,15 +2,15 @@
 
 ghost use Rattle.std.specs.Prelude.{◌≡◌, ℕ, Option, Some, None, IfOk, OnOk, OnErr, IfErr, nat_le, length, true, false};
 ghost use Rattle.std.specs.Option.{option_map};
-ghost use Rattle.dir_tree.specs.Entries.{EntryInformation};
-ghost use Rattle.dir_tree.specs.Trees.{most_entries, has_name, lacks_superior, superior_name};
-ghost use Rattle.dir_tree.specs.Numbered.{entries_of, find_name};
+ghost use Rattle.dir_tree.specs.Entry.{EntryInformation};
+ghost use Rattle.dir_tree.specs.tree.Trees.{most_entries, has_name, lacks_superior, superior_name};
+ghost use Rattle.dir_tree.specs.tree.Numbered.{entries_of, find_name};
 ghost use Rattle.dir_tree.specs.Refusals.{insert_refusal};
-ghost use Rattle.dir_tree.specs.Vacancies.{IsVacancy};
-ghost use Rattle.schema_rules.specs.Checking.{IsFor};
+ghost use Rattle.dir_tree.specs.Vacancy.{IsVacancy};
+ghost use Rattle.schema_rules.specs.check.Checking.{IsFor};
 ghost use Rattle.aci_item.specs.Rules.{broken_rule};
-ghost use Rattle.op_write.specs.Loading.{entry_of_record, ruled, placed, loaded_entry, IsLoaded, fault_of};
-ghost use Rattle.plain_values.specs.Answers.{Answers, IsFaultOf};
+ghost use Rattle.op_write.specs.load.Loading.{entry_of_record, ruled, placed, loaded_entry, IsLoaded, fault_of};
+ghost use Rattle.dir_tree.specs.plain_values.Answers.{Answers, IsFaultOf};
 
 use crate::fault::{LoadCause, LoadFault, bad_at};
 use crate::lines::{add_lines, named};

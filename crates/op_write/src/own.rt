@@ -2,12 +2,12 @@
 
 ghost use Rattle.std.specs.Prelude.{◌≡◌, OnOk};
 ghost use Rattle.std.specs.List.{list_all};
-ghost use Rattle.dir_tree.specs.Entries.{has_key, values_of};
-ghost use Rattle.op_write.specs.Loading.{with_pairs, with_own_values};
+ghost use Rattle.dir_tree.specs.Entry.{has_key, values_of};
+ghost use Rattle.op_write.specs.load.Loading.{with_pairs, with_own_values};
 
 use crate::fault::NoMemory;
 use dir_tree::Entry;
-use dn_names::Pair;
+use dir_tree::dn_names::Pair;
 use std::alloc::Global;
 
 // Whether the entry has the value of the pair.

@@ -2,7 +2,7 @@
 -- that refuse, and of decimal digits.
 use Rattle.std.proofs.Common.{ℕ, arith}
 use Rattle.plain_values.specs.Counts.{Rose, NeverFalls}
-pub use Rattle.plain_values.proofs.LinesLemmas.{lines_of_parts-one, lines-unended, lines-ended}
+pub use Rattle.plain_values.proofs.lines.LinesLemmas.{lines_of_parts-one, lines-unended, lines-ended}
 pub use Rattle.plain_values.proofs.ResultLemmas.{both_given}
 pub use Rattle.plain_values.proofs.RefusalLemmas.{none_of, none_from, not_when, when_not}
 pub use Rattle.plain_values.proofs.NumeralLemmas.{decimal_numerals}

@@ -1,7 +1,7 @@
 //! Filters read and written (RFC 4511 4.5.1.7).
 
-use ber_layout::{enclose, tagged};
-use ldap_filter::{put_filter, read_filter};
+use ldap_msg::ber_layout::{enclose, tagged};
+use ldap_msg::ldap_filter::{put_filter, read_filter};
 use std::alloc::Global;
 use std::test::*;
 

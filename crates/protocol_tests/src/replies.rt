@@ -1,9 +1,9 @@
 //! Replies written and read (RFC 4511 section 4).
 
 use ldap_msg::{KindValues, LdapResult, NoMemory, Reply, put_notice, put_reply, read_reply};
-use plain_values::{Octets, OneOrMany};
 use std::alloc::Global;
 use std::test::*;
+use wire_io::plain_values::{Octets, OneOrMany};
 
 fn ended(alloc: Global, code: u8) -> LdapResult {
     LdapResult {

@@ -4,11 +4,11 @@ use ldap_msg::{
     Auth, BindRequest, Change, CompareRequest, KindValues, Message, RenameRequest, Request,
     SearchRequest, read_request,
 };
-use plain_values::Octets;
 use std::alloc::Global;
 use std::process::Abort;
 use std::str;
 use std::test::Fail;
+use wire_io::plain_values::Octets;
 
 fn put_octets(out: &mut String, octets: &Octets) -> Result<(), Fail> {
     let text = str::from_utf8(octets.as_slice())?;

@@ -1,8 +1,8 @@
 //! Script files: their events, and the first bad line of other texts.
 
-use script_text::{EventKind, Head, Recording, read_script};
 use std::alloc::{AllocError, Global};
 use std::test::*;
+use wire_io::script_text::{EventKind, Head, Recording, read_script};
 
 // Each script with the lines of its events.
 static SCRIPTS: [(&str, &str, &str); 14] = [

@@ -1,8 +1,8 @@
 //! Octets, texts, items and lines, and counts.
 
-use plain_values::{Octets, OneOrMany, Text, first_line, position_of, raised};
 use std::alloc::{AllocError, Global};
 use std::test::Fail;
+use wire_io::plain_values::{Octets, OneOrMany, Text, first_line, position_of, raised};
 
 /// The octets back from a value of them; how many they are, whether they are none, whether its slice is they, whether a
 /// copy is equal to it, and whether a value of other octets is.

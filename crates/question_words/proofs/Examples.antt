@@ -1,20 +1,20 @@
 -- The words of a question on known cases.
 use Rattle.std.proofs.Common.{◌≡◌, [], Some, None, refl}
 use Rattle.std.specs.Prelude.{codes}
-use Rattle.schema_core.specs.Attributes.{attributes}
-use Rattle.match_rules.specs.Keys.{key_of}
-use Rattle.match_rules.specs.Syntaxes.{is_of}
-use Rattle.dn_names.specs.Classes.{class_of}
-use Rattle.dn_names.specs.Modes.{text_fault}
-use Rattle.dn_names.specs.NameText.{read_name}
-use Rattle.dn_names.specs.NameValues.{value_of}
-use Rattle.dn_names.specs.Reading.{written_of}
-use Rattle.dn_names.specs.Resolving.{resolve}
-use Rattle.aci_item.specs.declared.permission.Permission.TheVariants.{ReturnDn}
+use Rattle.dir_tree.specs.schema_core.Attributes.{attributes}
+use Rattle.dir_tree.specs.match_rules.Keys.{key_of}
+use Rattle.dir_tree.specs.match_rules.rules.Syntaxes.{is_of}
+use Rattle.dir_tree.specs.dn_names.Classes.{class_of}
+use Rattle.dir_tree.specs.dn_names.Modes.{text_fault}
+use Rattle.dir_tree.specs.dn_names.parsing.NameText.{read_name}
+use Rattle.dir_tree.specs.dn_names.make.NameValues.{value_of}
+use Rattle.dir_tree.specs.dn_names.octets.Reading.{written_of}
+use Rattle.dir_tree.specs.dn_names.resolve.Resolving.{resolve}
+use Rattle.acdf_filters.specs.aci_item.declared.permission.Permission.TheVariants.{ReturnDn}
 use Rattle.acdf_filters.specs.Asking.{Entry, Kind, Value}
-use Rattle.question_words.specs.NameWords.{anonymous, who_of, target_of}
-use Rattle.question_words.specs.ItemWords.{kind_item, value_item, item_of}
-use Rattle.question_words.specs.PermissionWords.{permission_of}
+use Rattle.question_words.specs.names.NameWords.{anonymous, who_of, target_of}
+use Rattle.question_words.specs.item.ItemWords.{kind_item, value_item, item_of}
+use Rattle.question_words.specs.permission.PermissionWords.{permission_of}
 
 -- who asks: the word, the empty name, and a text that is no name
 nobody : who_of (codes "anonymous") ≡ Some anonymous

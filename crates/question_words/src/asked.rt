@@ -2,12 +2,12 @@
 
 ghost use Rattle.std.specs.Prelude.{◌≡◌};
 ghost use Rattle.acdf_filters.specs.Asking.{protected_of};
-ghost use Rattle.question_words.specs.Questions.{item_asked};
+ghost use Rattle.question_words.specs.asked.Questions.{item_asked};
 
+use acdf_filters::aci_item::Permission;
 use acdf_filters::{Item, Requester};
-use aci_item::Permission;
-use dn_names::{Dn, Value};
-use schema_core::AttrId;
+use dir_tree::dn_names::{Dn, Value};
+use dir_tree::schema_core::AttrId;
 use std::alloc::AllocError;
 
 /// Memory is refused.

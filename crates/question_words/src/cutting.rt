@@ -4,7 +4,7 @@ ghost use Rattle.std.specs.Prelude.{◌≡◌};
 ghost use Rattle.std.specs.Option.{option_copied, option_map};
 ghost use Rattle.question_words.specs.Cutting.{after, cut_at_equals, pair_view};
 
-use plain_values::position_of;
+use dir_tree::plain_values::position_of;
 
 /// What follows a front.
 pub fn after<'a>(front: &[u8], text: &'a [u8]) -> Option<&'a [u8]>

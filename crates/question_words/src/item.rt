@@ -2,20 +2,20 @@
 
 ghost use Rattle.std.specs.Prelude.{◌≡◌, IfOk};
 ghost use Rattle.std.specs.Option.{option_map};
-ghost use Rattle.schema_core.specs.Attributes.{IsAttrId};
-ghost use Rattle.dn_names.specs.NameValues.{value_of};
-ghost use Rattle.question_words.specs.Questions.{item_asked};
-ghost use Rattle.question_words.specs.ItemWords.{item_of, kind_item, value_item};
+ghost use Rattle.dir_tree.specs.schema_core.Attributes.{IsAttrId};
+ghost use Rattle.dir_tree.specs.dn_names.make.NameValues.{value_of};
+ghost use Rattle.question_words.specs.asked.Questions.{item_asked};
+ghost use Rattle.question_words.specs.item.ItemWords.{item_of, kind_item, value_item};
 
 use crate::asked::{AskedItem, NoMemory};
 use crate::cutting::{after, cut_at_equals};
-use dn_names::{Value, make_value};
-use match_rules::PrepareFault;
-use schema_core::{AttrId, attr_named};
+use dir_tree::dn_names::{Value, make_value};
+use dir_tree::match_rules::PrepareFault;
+use dir_tree::schema_core::{AttrId, attr_named};
 use std::alloc::{AllocError, Global};
 
 /// The item of `type:NAME`, by the name.
-#[tactic(auto, unfolding(crate::specs::ItemWords::kind_item))]
+#[tactic(auto, unfolding(crate::specs::item::ItemWords::kind_item))]
 fn kind_item(name: &[u8]) -> Option<AskedItem>
     ensures { option_map item_asked result ≡ kind_item name.now }
 {
@@ -39,7 +39,7 @@ fn read_value(alloc: Global, kind: AttrId, octets: &[u8]) -> Result<Option<Value
 }
 
 /// The item of `value:NAME=TEXT`, by what follows the colon.
-#[tactic(auto, unfolding(crate::specs::ItemWords::value_item))]
+#[tactic(auto, unfolding(crate::specs::item::ItemWords::value_item))]
 fn value_item(alloc: Global, body: &[u8]) -> Result<Option<AskedItem>, NoMemory>
     ensures { IfOk result (λ item. option_map item_asked item ≡ value_item body.now) }
 {
@@ -56,7 +56,7 @@ fn value_item(alloc: Global, body: &[u8]) -> Result<Option<AskedItem>, NoMemory>
 }
 
 /// The item that a word says; None where it says none.
-#[tactic(auto, unfolding(crate::specs::ItemWords::item_of))]
+#[tactic(auto, unfolding(crate::specs::item::ItemWords::item_of))]
 pub fn read_item(alloc: Global, word: &str) -> Result<Option<AskedItem>, NoMemory>
     ensures { IfOk result (λ item. option_map item_asked item ≡ item_of word.now) }
 {

@@ -1,12 +1,12 @@
 //! Who asks, and on which entry.
 
 ghost use Rattle.std.specs.Prelude.{◌≡◌, IfOk};
-ghost use Rattle.question_words.specs.NameWords.{anonymous, name_in, named, requester, target_of, who_of};
+ghost use Rattle.question_words.specs.names.NameWords.{anonymous, name_in, named, requester, target_of, who_of};
 
 use crate::asked::NoMemory;
 use acdf_filters::Requester;
-use aci_item::Level;
-use dn_names::{BadName, Dn, parse};
+use acdf_filters::aci_item::Level;
+use dir_tree::dn_names::{BadName, Dn, parse};
 use std::alloc::{AllocError, Global};
 
 /// The name that a text is.
@@ -46,7 +46,7 @@ fn requester(name: Dn) -> Requester
 }
 
 /// The requester that a word says; None where it says none.
-#[tactic(auto, unfolding(crate::specs::NameWords::who_of))]
+#[tactic(auto, unfolding(crate::specs::names::NameWords::who_of))]
 pub fn read_who(alloc: Global, word: &str) -> Result<Option<Requester>, NoMemory>
     ensures { IfOk result (λ who. who ≡ who_of word.now) }
 {
@@ -67,7 +67,7 @@ fn named(name: Dn) -> Option<Dn>
 }
 
 /// The name of the entry that a word says; None where it says none.
-#[tactic(auto, unfolding(crate::specs::NameWords::target_of))]
+#[tactic(auto, unfolding(crate::specs::names::NameWords::target_of))]
 pub fn read_target(alloc: Global, word: &str) -> Result<Option<Dn>, NoMemory>
     ensures { IfOk result (λ name. name ≡ target_of word.now) }
 {

@@ -1,10 +1,10 @@
 //! For which permission.
 
 ghost use Rattle.std.specs.Prelude.{◌≡◌};
-ghost use Rattle.aci_item.specs.ItemPrinted.{permission_name};
-ghost use Rattle.question_words.specs.PermissionWords.{asked_permissions, permission_of};
+ghost use Rattle.acdf_filters.specs.aci_item.printing.ItemPrinted.{permission_name};
+ghost use Rattle.question_words.specs.permission.PermissionWords.{asked_permissions, permission_of};
 
-use aci_item::Permission;
+use acdf_filters::aci_item::Permission;
 
 static ASKED: [Permission; 12] = [
     Permission::Add,

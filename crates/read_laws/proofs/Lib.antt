@@ -1,5 +1,2 @@
-mod FoundLemmas
-pub mod SearchLemmas
-pub mod CompareLemmas
 pub mod Theorems
 mod Examples

@@ -2,13 +2,13 @@
 use Rattle.std.proofs.Common.{◌≡◌, ℕ, List, [], ◌∷◌, Bool, true, false, Some, None, refl}
 use Rattle.std.specs.Prelude.{codes}
 use Prim.Native.String.{String}
-use Rattle.schema_core.specs.Attributes.{attributes}
-use Rattle.dn_names.specs.Names.{Keyed, TypeAndValue, RdnSequence}
-use Rattle.dn_names.specs.NameOrder.{name_cmp, is_same, is_prefix_of}
-use Rattle.dir_tree.specs.Entries.{EntryInformation}
-use Rattle.aci_item.specs.declared.permission.Permission.{Permission}
-use Rattle.aci_item.specs.declared.permission.Permission.TheVariants.{Compare, DiscloseOnError}
-use Rattle.aci_item.specs.Permissions.{is_same as is_same_permission}
+use Rattle.dir_tree.specs.schema_core.Attributes.{attributes}
+use Rattle.dir_tree.specs.dn_names.name.Names.{Keyed, TypeAndValue, RdnSequence}
+use Rattle.dir_tree.specs.dn_names.order.NameOrder.{name_cmp, is_same, is_prefix_of}
+use Rattle.dir_tree.specs.Entry.{EntryInformation}
+use Rattle.acdf_filters.specs.aci_item.declared.permission.Permission.{Permission}
+use Rattle.acdf_filters.specs.aci_item.declared.permission.Permission.TheVariants.{Compare, DiscloseOnError}
+use Rattle.acdf_filters.specs.aci_item.Permission.{is_same as is_same_permission}
 use Rattle.acdf_filters.specs.Asking.{Protected}
 use Rattle.read_model.specs.Views.{Row, View, matched_name, discloses, result_of, hidden}
 use Rattle.ldap_msg.specs.declared.operations.ResultCode.TheVariants as code

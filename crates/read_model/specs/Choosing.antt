@@ -3,11 +3,11 @@ use Rattle.std.specs.Prelude.{ℕ, ◌==◌, Bool, false, not, List, [], ◌∷�
 use Rattle.std.specs.List.{list_any}
 use Rattle.std.specs.Option.{option_map_or}
 use Rattle.std.specs.Str.{bytes_eq}
-use Rattle.schema_core.specs.Attributes.{attr_of, name_of, is_operational}
-use Rattle.dn_names.specs.Names.{Keyed}
-use Rattle.dn_names.specs.Printing.{print_name}
-use Rattle.dir_tree.specs.Entries.{Attribute}
-use Rattle.aci_item.specs.declared.permission.Permission.TheVariants.{Read}
+use Rattle.dir_tree.specs.schema_core.Attributes.{attr_of, name_of, is_operational}
+use Rattle.dir_tree.specs.dn_names.name.Names.{Keyed}
+use Rattle.dir_tree.specs.dn_names.Printing.{print_name}
+use Rattle.dir_tree.specs.Entry.{Attribute}
+use Rattle.acdf_filters.specs.aci_item.declared.permission.Permission.TheVariants.{Read}
 use Rattle.acdf_filters.specs.Asking.{Kind, Value}
 use Rattle.ldap_msg.specs.declared.kinds.KindValues.{KindValues}
 use Rattle.ldap_msg.specs.declared.kinds.Reply.{Reply}

@@ -5,3 +5,5 @@ pub mod Choosing
 pub mod RootEntry
 pub mod SearchReplies
 pub mod CompareReplies
+-- the words of crates below, handed on
+pub use Rattle.filter_core.specs as filter_core

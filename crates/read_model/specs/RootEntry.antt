@@ -3,12 +3,12 @@ use Rattle.std.specs.Prelude.{ℕ, ◌==◌, Bool, true, false, not, ◌&&◌, �
 use Rattle.std.specs.List.{list_any}
 use Rattle.std.specs.Option.{option_map_or}
 use Rattle.std.specs.Str.{bytes_eq}
-use Rattle.schema_core.specs.Attributes.{attr_of}
-use Rattle.schema_core.specs.Naming.{is_same_name}
-use Rattle.dn_names.specs.Printing.{print_name}
-use Rattle.dir_tree.specs.EntryClasses.{object_class}
-use Rattle.ldap_filter.specs.Filters.{Filter}
-use Rattle.ldap_filter.specs.Filters.Filter.{And, Or, Not, Equal, Parts, AtLeast, AtMost, Present, Approx, Extensible}
+use Rattle.dir_tree.specs.schema_core.Attributes.{attr_of}
+use Rattle.dir_tree.specs.schema_core.Naming.{is_same_name}
+use Rattle.dir_tree.specs.dn_names.Printing.{print_name}
+use Rattle.dir_tree.specs.classes.EntryClasses.{object_class}
+use Rattle.ldap_msg.specs.ldap_filter.filter.Filters.{Filter}
+use Rattle.ldap_msg.specs.ldap_filter.filter.Filters.Filter.{And, Or, Not, Equal, Parts, AtLeast, AtMost, Present, Approx, Extensible}
 use Rattle.ldap_msg.specs.declared.operations.ResultCode.TheVariants as code
 use Rattle.ldap_msg.specs.declared.kinds.KindValues.{KindValues}
 use Rattle.ldap_msg.specs.declared.kinds.SearchRequest.{SearchRequest}

@@ -1,9 +1,9 @@
 -- What a search is answered (RFC 4511 4.5, X.511 10.2): entries, and how it ended.
 use Rattle.std.specs.Prelude.{ℕ, ◌==◌, nat_lt, Bool, List, [], ◌∷◌, ◌++◌, length, take, map, flat_map, Option, Result, Ok, Err, if◌then◌else◌}
 use Rattle.std.specs.List.{list_any}
-use Rattle.dn_names.specs.Names.{RdnSequence}
-use Rattle.dn_names.specs.declared.error.BadName.{BadName}
-use Rattle.dn_names.specs.NameText.{read_name}
+use Rattle.dir_tree.specs.dn_names.name.Names.{RdnSequence}
+use Rattle.dir_tree.specs.dn_names.declared.error.BadName.{BadName}
+use Rattle.dir_tree.specs.dn_names.parsing.NameText.{read_name}
 use Rattle.ldap_msg.specs.declared.operations.ResultCode.{ResultCode}
 use Rattle.ldap_msg.specs.declared.operations.ResultCode.TheVariants as code
 use Rattle.ldap_msg.specs.declared.kinds.LdapResult.{LdapResult}

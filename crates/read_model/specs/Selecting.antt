@@ -1,15 +1,15 @@
 -- Which entries a search selects (RFC 4511 4.5.1, X.511 10.2).
 use Rattle.std.specs.Prelude.{ℕ, ◌==◌, Bool, not, ◌&&◌, ◌||◌, filter, Option, Some, None, if◌then◌else◌}
-use Rattle.dn_names.specs.Names.{RdnSequence}
-use Rattle.dir_tree.specs.Entries.{EntryInformation}
-use Rattle.dir_tree.specs.Trees.{is_named}
-use Rattle.dir_tree.specs.Points.{is_subentry}
-use Rattle.dir_tree.specs.Scopes.{is_child, is_within}
-use Rattle.aci_item.specs.declared.permission.Permission.TheVariants.{Browse, ReturnDn, FilterMatch}
+use Rattle.dir_tree.specs.dn_names.name.Names.{RdnSequence}
+use Rattle.dir_tree.specs.Entry.{EntryInformation}
+use Rattle.dir_tree.specs.tree.Trees.{is_named}
+use Rattle.dir_tree.specs.subentries.Points.{is_subentry}
+use Rattle.dir_tree.specs.Scope.{is_child, is_within}
+use Rattle.acdf_filters.specs.aci_item.declared.permission.Permission.TheVariants.{Browse, ReturnDn, FilterMatch}
 use Rattle.acdf_filters.specs.Asking.{Entry, Kind, Value}
-use Rattle.ldap_filter.specs.Filters.{Filter}
+use Rattle.ldap_msg.specs.ldap_filter.filter.Filters.{Filter}
 use Rattle.ldap_msg.specs.declared.kinds.SearchRequest.{SearchRequest}
-use Rattle.filter_core.specs.Truths.{Permits, truth, is_true}
+use Rattle.filter_core.specs.Truth.{Permits, truth, is_true}
 use Rattle.read_model.specs.Views.{Row, View}
 
 -- the scope takes the entry in: baseObject 0, singleLevel 1, wholeSubtree 2

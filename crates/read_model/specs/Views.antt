@@ -3,19 +3,19 @@
 use Rattle.std.specs.Prelude.{Bool, ◌&&◌, List, [], map, reverse, find, if◌then◌else◌}
 use Rattle.std.specs.List.{list_any}
 use Rattle.std.specs.Option.{option_map_or}
-use Rattle.dn_names.specs.Names.{RdnSequence}
-use Rattle.dn_names.specs.Printing.{print_name}
-use Rattle.dir_tree.specs.Entries.{EntryInformation}
-use Rattle.dir_tree.specs.Trees.{is_named, is_below}
-use Rattle.aci_item.specs.declared.permission.Permission.{Permission}
-use Rattle.aci_item.specs.declared.permission.Permission.TheVariants.{DiscloseOnError}
+use Rattle.dir_tree.specs.dn_names.name.Names.{RdnSequence}
+use Rattle.dir_tree.specs.dn_names.Printing.{print_name}
+use Rattle.dir_tree.specs.Entry.{EntryInformation}
+use Rattle.dir_tree.specs.tree.Trees.{is_named, is_below}
+use Rattle.acdf_filters.specs.aci_item.declared.permission.Permission.{Permission}
+use Rattle.acdf_filters.specs.aci_item.declared.permission.Permission.TheVariants.{DiscloseOnError}
 use Rattle.acdf_filters.specs.declared.asking.Requester.{Requester}
 use Rattle.acdf_filters.specs.Asking.{Protected, Entry}
-use Rattle.acdf_filters.specs.Granted.{granted}
+use Rattle.acdf_filters.specs.laws.Granted.{granted}
 use Rattle.ldap_msg.specs.declared.operations.ResultCode.{ResultCode}
 use Rattle.ldap_msg.specs.declared.operations.ResultCode.TheVariants as code
 use Rattle.ldap_msg.specs.declared.kinds.LdapResult.{LdapResult}
-use Rattle.ldap_msg.specs.ResultCodes.{code_number}
+use Rattle.ldap_msg.specs.operations.ResultCodes.{code_number}
 
 -- an entry, and what is allowed on it
 pub record Row : Type 0 where

@@ -1,6 +1,2 @@
-pub mod GrammarLemmas
-pub mod WithinLemmas
-pub mod DerivativeLemmas
-pub mod MachineLemmas
 pub mod Theorems
 pub mod Examples

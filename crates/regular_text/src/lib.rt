@@ -5,8 +5,4 @@
 //! shows that it is the machine of that grammar (`IsMachineOf`) by a table of its steps.
 #![tactic(auto)]
 
-mod laws;
-
-pub use laws::{
-    derivative_is_exact, front_is_longest, machine_is_exact, octets_are_within, place_is_unique,
-};
+pub mod laws;

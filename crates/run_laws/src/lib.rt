@@ -2,9 +2,9 @@
 //! shown nothing of the steps of others.
 #![tactic(auto)]
 
-mod laws;
+pub mod laws;
 
-pub use laws::{
-    held_alike_leaves_the_same, messages_are_answered_alike, runs_are_alike,
-    sessions_are_kept_alike, steps_of_others_do_not_show,
-};
+pub use ldap_msg;
+pub use ldap_msg::{ber_core, ber_layout, ldap_filter};
+pub use session_model;
+pub use session_model::{script_text, wire_io};

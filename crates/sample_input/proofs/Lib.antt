@@ -1,3 +1,1 @@
-mod EventLemmas
-mod CountLemmas
 mod Examples

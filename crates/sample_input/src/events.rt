@@ -1,18 +1,18 @@
 //! The connection of a sample.
 
 ghost use Rattle.std.specs.Prelude.{◌≡◌, ◌<◌, ◌≤◌, ◌++◌, ◌∷◌, [], IfOk, OnOk, codes, string_bytes};
-ghost use Rattle.script_text.specs.Script.{OpensOnce, AreFilled};
-ghost use Rattle.ldap_filter.specs.Filters.Filter.{Present};
+ghost use Rattle.script_text.specs.script.Script.{OpensOnce, AreFilled};
+ghost use Rattle.ldap_msg.specs.ldap_filter.filter.Filters.Filter.{Present};
 ghost use Rattle.script_text.specs.declared.event.ScriptEvent.TheVariants.{Opened, Bytes};
-ghost use Rattle.ldap_msg.specs.Messages.{request_octets, HasOwnTag};
-ghost use Rattle.sample_input.specs.SampleFile.{person_name};
-ghost use Rattle.sample_input.specs.SampleEvents.{sample_bind, sample_search, sample_events};
+ghost use Rattle.ldap_msg.specs.reading.Messages.{request_octets, HasOwnTag};
+ghost use Rattle.sample_input.specs.file.SampleFile.{person_name};
+ghost use Rattle.sample_input.specs.events.SampleEvents.{sample_bind, sample_search, sample_events};
 
 use crate::file::person_name;
-use ldap_filter::{Filter, Node};
+use ldap_msg::ldap_filter::{Filter, Node};
 use ldap_msg::{Auth, BindRequest, Message, Request, SearchRequest, put_request};
-use plain_values::{Octets, OneOrMany};
 use script_text::ScriptEvent;
+use script_text::plain_values::{Octets, OneOrMany};
 use std::alloc::{AllocError, Global};
 
 /// The number of the connection.
@@ -85,7 +85,7 @@ fn bind_event(alloc: Global) -> Result<ScriptEvent, AllocError>
 }
 
 // The events without persons.
-#[tactic(auto, unfolding(crate::specs::SampleEvents::sample_events))]
+#[tactic(auto, unfolding(crate::specs::events::SampleEvents::sample_events))]
 fn without_persons(alloc: Global) -> Result<Vec<ScriptEvent>, AllocError>
     ensures { IfOk result (λ events. events.items ≡ sample_events 0) }
 {
@@ -119,7 +119,7 @@ fn push_search(alloc: Global, events: &mut Vec<ScriptEvent>, number: u32) -> Res
 }
 
 // Appends the events of the searches for so many persons.
-#[tactic(auto, unfolding(crate::specs::SampleEvents::sample_events))]
+#[tactic(auto, unfolding(crate::specs::events::SampleEvents::sample_events))]
 fn push_searches(alloc: Global, events: &mut Vec<ScriptEvent>, count: u32) -> Result<(), AllocError>
     requires few { count ≤ 20000 }
     requires none { events.old.items ≡ sample_events 0 }
@@ -133,7 +133,7 @@ fn push_searches(alloc: Global, events: &mut Vec<ScriptEvent>, count: u32) -> Re
 
 /// The events of a sample of so many persons. No number is opened twice, and no octets are empty. The error comes for want
 /// of memory alone.
-#[tactic(auto, using(crate::proofs::EventLemmas::sample_once, crate::proofs::EventLemmas::sample_filled))]
+#[tactic(auto, using(crate::proofs::events::EventLemmas::sample_once, crate::proofs::events::EventLemmas::sample_filled))]
 pub fn sample_events(alloc: Global, count: u32) -> Result<Vec<ScriptEvent>, AllocError>
     requires few { count ≤ 20000 }
     ensures exact { IfOk result (λ events. events.items ≡ sample_events count) }

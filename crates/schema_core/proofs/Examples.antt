@@ -4,9 +4,9 @@ use Rattle.schema_core.specs.declared.kinds.Syntax.TheVariants.{Country, Aci}
 use Rattle.schema_core.specs.declared.kinds.ClassKind.TheVariants.{Auxiliary}
 use Rattle.schema_core.specs.Naming.{is_keystring}
 use Rattle.schema_core.specs.Attributes.{attributes, attr_of, syntax_of, name_of, is_naming, is_single, is_operational}
-use Rattle.schema_core.specs.Classes.{classes, words, class_of, kind_of, superior_of, required_of, allowed_of}
-use Rattle.schema_core.specs.Roles.{roles}
-use Rattle.schema_core.specs.Oid.{is_dotted_oid, oid_of}
+use Rattle.schema_core.specs.classes.Classes.{classes, words, class_of, kind_of, superior_of, required_of, allowed_of}
+use Rattle.schema_core.specs.roles.Roles.{roles}
+use Rattle.schema_core.specs.Oids.{is_dotted_oid, oid_of}
 
 -- words are cut at their spaces
 two_words : words "sn cn" ≡ codes "sn" ∷ codes "cn" ∷ []

@@ -6,17 +6,17 @@ use Rattle.std.proofs.lemmas.Option.{slice_get_cases}
 use Rattle.std.proofs.lemmas.Bool.{or_left}
 use Rattle.base_laws.proofs.Theorems.{passes_at}
 use Rattle.schema_core.specs.Attributes.{Attribute, attributes, IsAttrId, attribute_at, attr_of, NamesAttribute, name_of}
-use Rattle.schema_core.specs.Classes.{Class, classes, IsClassId, class_at, class_of, class_with, NamesClass}
+use Rattle.schema_core.specs.classes.Classes.{Class, classes, IsClassId, class_at, class_of, class_with, NamesClass}
 use Rattle.schema_core.specs.Naming.{is_named, is_keystring}
-use Rattle.schema_core.specs.Oid.{is_dotted_oid, oid_of, named_attribute, named_class}
-use Rattle.schema_core.proofs.NamingLemmas.{from_same_name}
-use Rattle.schema_core.proofs.TableLemmas.{position_within}
-use Rattle.schema_core.proofs.FoundLemmas.{position_names, names_position}
-use Rattle.schema_core.proofs.NormalLemmas as normal
-use Rattle.schema_core.proofs.TableFacts.{attributes-are_distinct, classes-are_distinct, attributes-are_keystrings, names-are_keystrings, names-are_dotted}
-pub use Rattle.schema_core.proofs.DottedLemmas.{is_dotted_oid-from, IsDottedOid-from, digit_passes, passes_digit}
-pub use Rattle.schema_core.proofs.HierarchyLemmas.{superior_of_below}
-pub use Rattle.schema_core.proofs.SuperclassLemmas.{with_superclasses-first}
+use Rattle.schema_core.specs.Oids.{is_dotted_oid, oid_of, named_attribute, named_class}
+use Rattle.schema_core.proofs.naming.NamingLemmas.{from_same_name}
+use Rattle.schema_core.proofs.attributes.TableLemmas.{position_within}
+use Rattle.schema_core.proofs.laws.FoundLemmas.{position_names, names_position}
+use Rattle.schema_core.proofs.laws.NormalLemmas as normal
+use Rattle.schema_core.proofs.laws.TableFacts.{attributes-are_distinct, classes-are_distinct, attributes-are_keystrings, names-are_keystrings, names-are_dotted}
+pub use Rattle.schema_core.proofs.laws.DottedLemmas.{is_dotted_oid-from, IsDottedOid-from, digit_passes, passes_digit}
+pub use Rattle.schema_core.proofs.superclasses.HierarchyLemmas.{superior_of_below}
+pub use Rattle.schema_core.proofs.superclasses.SuperclassLemmas.{with_superclasses-first}
 
 -- a number that is found is of a row that the text names
 pub NamesAttribute-from_attr_of : (text : List ℕ) (number : ℕ) → attr_of text ≡ Some number → NamesAttribute text number

@@ -1,7 +1,7 @@
 -- The superclasses of a class (RFC 4512 section 2.4.1, X.501 8.3): its superior, the superior of that, and so on.
 use Rattle.std.specs.Prelude.{ℕ, zero, suc, List, [], ◌∷◌}
 use Rattle.std.specs.Option.{option_map_or}
-use Rattle.schema_core.specs.Classes.{superior_of}
+use Rattle.schema_core.specs.classes.Classes.{superior_of}
 
 -- the class, and at most so many superclasses
 abbrev pub classes_up : ℕ → ℕ → List ℕ

@@ -1,6 +1,6 @@
 //! The table of attribute types.
 ghost use Rattle.std.specs.Prelude.{◌≡◌, ◌↔◌, Some, IsSome, IsTrue, IfSome, map, option_map};
-ghost use Rattle.schema_core.specs.Oid.{oid_among, named_attribute};
+ghost use Rattle.schema_core.specs.Oids.{oid_among, named_attribute};
 ghost use Rattle.schema_core.specs.Attributes.{attributes, attribute_of_row, IsAttrId, attr_of, attribute_at};
 
 use crate::kinds::{AttrId, Row, Syntax};
@@ -161,7 +161,7 @@ pub fn attr(text: &str) -> Option<AttrId>
 }
 
 // The object identifier of the attribute type whose name the octets are.
-#[tactic(auto, using(crate::proofs::AttributeLemmas::named_rows))]
+#[tactic(auto, using(crate::proofs::attributes::AttributeLemmas::named_rows))]
 pub(crate) fn attribute_oid_named(octets: &[u8]) -> Option<&'static str>
     ensures exact { option_map (λ oid. oid.now) result ≡ oid_among (map named_attribute attributes) octets.now }
 {

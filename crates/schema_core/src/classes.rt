@@ -1,9 +1,9 @@
 //! The table of object classes.
 ghost use Rattle.std.specs.Prelude.{◌≡◌, ◌<◌, IfSome, map, option_map, position, slice_get};
 ghost use Rattle.std.specs.Str.{bytes_eq};
-ghost use Rattle.schema_core.specs.Oid.{oid_among, named_class};
-ghost use Rattle.schema_core.specs.Classes.{classes, IsClassId, class_at, class_of, class_with, kind_of, class_oid_of, superior_of, required_of, allowed_of};
-ghost use Rattle.schema_core.specs.ClassRows.{named_number, numbered, numbered_of_row};
+ghost use Rattle.schema_core.specs.Oids.{oid_among, named_class};
+ghost use Rattle.schema_core.specs.classes.Classes.{classes, IsClassId, class_at, class_of, class_with, kind_of, class_oid_of, superior_of, required_of, allowed_of};
+ghost use Rattle.schema_core.specs.classes.ClassRows.{named_number, numbered, numbered_of_row};
 
 use crate::kinds::{AttrId, ClassId, ClassKind};
 use crate::naming::{NamedRow, oid_in, place_of};
@@ -87,7 +87,7 @@ impl NamedRow for ClassRow {
 }
 
 // The whole table.
-#[tactic(auto, unfolding(crate::specs::Attributes::attributes, crate::specs::Classes::classes))]
+#[tactic(auto, unfolding(crate::specs::Attributes::attributes, crate::specs::classes::Classes::classes))]
 fn rows() -> &'static [ClassRow]
     ensures exact { map numbered_of_row result.now ≡ map numbered classes }
 {
@@ -136,7 +136,7 @@ fn row_of(rows: &[ClassRow], class: ClassId) -> Option<ClassRow>
 }
 
 // The row of a class.
-#[tactic(auto, using(crate::proofs::ClassLemmas::slice_get_rows))]
+#[tactic(auto, using(crate::proofs::classes::ClassLemmas::slice_get_rows))]
 fn row_at(class: ClassId) -> Option<ClassRow>
     ensures exact { option_map numbered_of_row result ≡ option_map numbered (class_at class.0) }
 {
@@ -189,7 +189,7 @@ pub fn allowed(class: ClassId) -> &'static [AttrId]
 }
 
 // The object identifier of the class whose name the octets are.
-#[tactic(auto, using(crate::proofs::ClassLemmas::named_rows))]
+#[tactic(auto, using(crate::proofs::classes::ClassLemmas::named_rows))]
 pub(crate) fn class_oid_named(octets: &[u8]) -> Option<&'static str>
     ensures exact { option_map (λ oid. oid.now) result ≡ oid_among (map named_class classes) octets.now }
 {

@@ -4,10 +4,10 @@ ghost use Rattle.std.specs.Prelude.{◌≡◌, ℕ, ◌↔◌, ◌++◌, List, [
 ghost use Rattle.std.specs.List.{list_all};
 ghost use Rattle.schema_core.specs.Attributes.{attr_of, NamesAttribute};
 ghost use Rattle.std.specs.Option.{option_map_or};
-ghost use Rattle.schema_core.specs.Classes.{classes, class_of, superior_of, NamesClass};
+ghost use Rattle.schema_core.specs.classes.Classes.{classes, class_of, superior_of, NamesClass};
 ghost use Rattle.schema_core.specs.Superclasses.{with_superclasses};
 ghost use Rattle.schema_core.specs.Naming.{are_distinct, is_keystring};
-ghost use Rattle.schema_core.specs.Oid.{names, is_dotted_oid, IsDottedOid, oid_of};
+ghost use Rattle.schema_core.specs.Oids.{names, is_dotted_oid, IsDottedOid, oid_of};
 
 /// No two rows of the three tables can be named by one text; each name is a keystring, and each object
 /// identifier a numericoid (RFC 4512 section 1.4).

@@ -5,7 +5,7 @@
 mod attributes;
 mod classes;
 mod kinds;
-mod laws;
+pub mod laws;
 mod naming;
 mod numbers;
 mod oids;
@@ -15,11 +15,6 @@ mod superclasses;
 pub use attributes::{attr, attr_named, row};
 pub use classes::{allowed, class, class_kind, class_oid, class_with, required, superior};
 pub use kinds::{AttrId, ClassId, ClassKind, Row, Syntax};
-pub use laws::{
-    a_class_stands_before_its_superclasses, a_dotted_form_is_its_own,
-    a_text_finds_the_row_that_it_names, classes_are_complete, rows_are_distinct,
-    the_dotted_form_is_its_grammar,
-};
 pub use naming::is_keystring;
 pub use numbers::constants_are_rows;
 pub use oids::{is_dotted_oid, oid_of};

@@ -4,7 +4,7 @@ ghost use Rattle.std.specs.Char.{is_ascii_alphanumeric};
 ghost use Rattle.std.specs.List.{list_all};
 ghost use Rattle.std.specs.Option.{option_copied};
 ghost use Rattle.schema_core.specs.Naming.{Named, is_keystring, is_named, is_same_name};
-ghost use Rattle.schema_core.specs.Oid.{oid_among};
+ghost use Rattle.schema_core.specs.Oids.{oid_among};
 
 /// Whether the octets are a keystring (RFC 4512 section 1.4): a letter, and then letters, digits and hyphens.
 pub fn is_keystring(octets: &[u8]) -> bool
@@ -67,7 +67,7 @@ fn row_named<'rows, R: NamedRow>(rows: &'rows [R], octets: &[u8]) -> Option<&'ro
 }
 
 // The object identifier of the first of these rows whose name the octets are.
-#[tactic(auto, using(crate::proofs::TableLemmas::oid_among_map))]
+#[tactic(auto, using(crate::proofs::attributes::TableLemmas::oid_among_map))]
 pub(crate) fn oid_in<R: NamedRow>(rows: &[R], octets: &[u8]) -> Option<&'static str>
     ensures exact { option_map (λ oid. oid.now) result ≡ oid_among (map R.named rows.now) octets.now }
 {

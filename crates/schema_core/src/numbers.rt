@@ -1,7 +1,7 @@
 //! Each attribute type and each class of the tables by its name.
 ghost use Rattle.std.specs.Prelude.{◌≡◌, [], ◌∷◌, ◌++◌, map};
 ghost use Rattle.schema_core.specs.Attributes.{name_of};
-ghost use Rattle.schema_core.specs.Classes.{class_name_of, words};
+ghost use Rattle.schema_core.specs.classes.Classes.{class_name_of, words};
 
 use crate::kinds::{AttrId, ClassId};
 
@@ -118,7 +118,7 @@ impl ClassId {
 }
 
 /// Each constant is the number of the row that it is called after, in the order of the tables.
-#[tactic(auto, unfolding(crate::specs::Attributes::attributes, crate::specs::Classes::classes))]
+#[tactic(auto, unfolding(crate::specs::Attributes::attributes, crate::specs::classes::Classes::classes))]
 pub fn constants_are_rows()
     ensures attributes { map (λ attribute. name_of attribute.0)
         (AttrId.OBJECT_CLASS ∷ AttrId.CN ∷ AttrId.SN ∷ AttrId.SERIAL_NUMBER ∷ AttrId.C ∷

@@ -2,7 +2,7 @@
 ghost use Rattle.std.specs.Prelude.{◌≡◌, ◌==◌, length, option_map};
 ghost use Rattle.std.specs.Char.{is_ascii_digit};
 ghost use Rattle.std.specs.List.{list_all};
-ghost use Rattle.schema_core.specs.Oid.{is_number, is_dotted_oid, parts, names, oid_among, oid_of};
+ghost use Rattle.schema_core.specs.Oids.{is_number, is_dotted_oid, parts, names, oid_among, oid_of};
 
 use crate::attributes::attribute_oid_named;
 use crate::classes::class_oid_named;
@@ -38,7 +38,7 @@ fn part_count(text: &[u8]) -> usize
 
 /// Whether the octets are a dotted object identifier, known or not: two or more numbers, with a dot
 /// after each but the last. They are decimal, and only the number 0 begins with a zero.
-#[tactic(auto, unfolding(crate::specs::Oid::is_dotted_oid))]
+#[tactic(auto, unfolding(crate::specs::Oids::is_dotted_oid))]
 pub fn is_dotted_oid(text: &[u8]) -> bool
     ensures exact { result ≡ is_dotted_oid text.now }
 {

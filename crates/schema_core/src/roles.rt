@@ -1,8 +1,8 @@
 //! The table of roles of administrative points.
 ghost use Rattle.std.specs.Prelude.{◌≡◌, map, option_map};
-ghost use Rattle.schema_core.specs.Oid.{oid_among};
-ghost use Rattle.schema_core.specs.RoleRows.{named_of_row};
-ghost use Rattle.schema_core.specs.Roles.{roles};
+ghost use Rattle.schema_core.specs.Oids.{oid_among};
+ghost use Rattle.schema_core.specs.roles.RoleRows.{named_of_row};
+ghost use Rattle.schema_core.specs.roles.Roles.{roles};
 
 use crate::naming::{NamedRow, oid_in};
 
@@ -33,7 +33,7 @@ impl NamedRow for RoleRow {
 }
 
 // The whole table.
-#[tactic(auto, unfolding(crate::specs::Roles::roles))]
+#[tactic(auto, unfolding(crate::specs::roles::Roles::roles))]
 fn rows() -> &'static [RoleRow]
     ensures exact { map named_of_row result.now ≡ roles }
 {

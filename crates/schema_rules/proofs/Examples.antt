@@ -2,17 +2,17 @@
 use Rattle.std.proofs.Common.{◌≡◌, ℕ, true, false, [], ◌∷◌, Some, None, refl}
 use Rattle.std.specs.Prelude.{List, codes, is_err}
 use Prim.Native.String.{String}
-use Rattle.schema_core.specs.Attributes.{attributes}
-use Rattle.schema_core.specs.Classes.{classes}
-use Rattle.dn_names.specs.Names.{Keyed, RdnSequence}
-use Rattle.dn_names.specs.NameOrder.{name_cmp, is_same, is_prefix_of}
-use Rattle.dir_tree.specs.Entries.{Attribute, EntryInformation}
-use Rattle.dir_tree.specs.EntryClasses.{has_class}
-use Rattle.dir_tree.specs.Points.{is_point, is_subentry, is_access_subentry}
-use Rattle.schema_core.specs.Superclasses.{with_superclasses}
-use Rattle.schema_core.specs.declared.kinds.Syntax.TheVariants.{Subtree, Aci}
-use Rattle.subtree_spec.specs.SubtreeText.{read_subtree}
-use Rattle.aci_item.specs.AciText.{read_item}
+use Rattle.dir_tree.specs.schema_core.Attributes.{attributes}
+use Rattle.dir_tree.specs.schema_core.classes.Classes.{classes}
+use Rattle.dir_tree.specs.dn_names.name.Names.{Keyed, RdnSequence}
+use Rattle.dir_tree.specs.dn_names.order.NameOrder.{name_cmp, is_same, is_prefix_of}
+use Rattle.dir_tree.specs.Entry.{Attribute, EntryInformation}
+use Rattle.dir_tree.specs.classes.EntryClasses.{has_class}
+use Rattle.dir_tree.specs.subentries.Points.{is_point, is_subentry, is_access_subentry}
+use Rattle.dir_tree.specs.schema_core.Superclasses.{with_superclasses}
+use Rattle.dir_tree.specs.schema_core.declared.kinds.Syntax.TheVariants.{Subtree, Aci}
+use Rattle.aci_item.specs.subtree_spec.reading.SubtreeText.{read_subtree}
+use Rattle.aci_item.specs.reading.AciText.{read_item}
 use Rattle.aci_item.specs.Listed.{are_in_line}
 use Rattle.aci_item.specs.Rules.{broken_rule, lacks_own_value, has_other_structural, breaks_classes, is_unread, has_unread, has_two_values, is_misplaced, is_past_limits, stands_wrong, octets_in}
 

@@ -1,15 +1,2 @@
-pub mod ListLemmas
-pub mod ClassLemmas
-pub mod ContentLemmas
-pub mod EntryLemmas
-pub mod ListPlaceLemmas
-pub mod RuleLemmas
-pub mod BesideLemmas
-pub mod ChildLemmas
-pub mod StayLemmas
-pub mod ListTakenLemmas
-pub mod TakenLemmas
-pub mod InPlaceLemmas
-pub mod RenamedLemmas
 pub mod Examples
 pub mod Theorems

@@ -1,5 +1,5 @@
 -- what public clauses cite
-pub mod Checking
+pub mod check
 -- for the inside of the crate alone
 pub mod Classes
-pub mod Beside
+pub mod old

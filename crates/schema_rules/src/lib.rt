@@ -5,7 +5,7 @@ mod broken;
 mod check;
 mod classes;
 mod contents;
-mod laws;
+pub mod laws;
 mod limits;
 mod listed;
 mod marks;
@@ -18,6 +18,3 @@ mod values;
 
 pub use broken::{Broken, NoMemory};
 pub use check::{check_entry, check_entry_below};
-pub use laws::{
-    a_tree_stays_good, a_tree_stays_good_in_place, an_entry_meets_the_rules_or_breaks_one,
-};

@@ -2,11 +2,11 @@
 
 ghost use Rattle.std.specs.Prelude.{◌≡◌, not};
 ghost use Rattle.std.specs.List.{list_any};
-ghost use Rattle.dir_tree.specs.Entries.{has_key, values_of};
+ghost use Rattle.dir_tree.specs.Entry.{has_key, values_of};
 ghost use Rattle.aci_item.specs.Rules.{lacks_own_value};
 
 use dir_tree::Entry;
-use dn_names::{Pair, Value};
+use dir_tree::dn_names::{Pair, Value};
 
 /// Whether a value of the last RDN of the entry's name is none of the entry's values.
 pub(crate) fn lacks_own_value(entry: &Entry) -> bool

@@ -3,17 +3,17 @@
 ghost use Rattle.std.specs.Prelude.{◌≡◌, ◌&&◌, not};
 ghost use Rattle.std.specs.List.{list_any};
 ghost use Rattle.std.specs.Option.{option_map};
-ghost use Rattle.dir_tree.specs.Trees.{superior_name, named_in};
-ghost use Rattle.dir_tree.specs.Numbered.{IsNumberedTree, find_name};
-ghost use Rattle.dir_tree.specs.Scopes.{scoped};
+ghost use Rattle.dir_tree.specs.tree.Trees.{superior_name, named_in};
+ghost use Rattle.dir_tree.specs.tree.Numbered.{IsNumberedTree, find_name};
+ghost use Rattle.dir_tree.specs.Scope.{scoped};
 ghost use Rattle.dir_tree.specs.declared.scope.Scope.TheVariants.{One};
-ghost use Rattle.schema_rules.specs.Checking.{IsSuperior, replaced, others};
-ghost use Rattle.schema_rules.specs.Beside.{stands_wrong_below, takes_all_below, is_wrong_below};
+ghost use Rattle.schema_rules.specs.check.Checking.{IsSuperior, replaced, others};
+ghost use Rattle.schema_rules.specs.old.Beside.{stands_wrong_below, takes_all_below, is_wrong_below};
 ghost use Rattle.aci_item.specs.Rules.{stands_wrong, stands_wrong_above, is_misplaced};
 
 use crate::old::entry_beside;
+use dir_tree::dn_names::Dn;
 use dir_tree::{Entry, EntryNo, Scope, Tree};
-use dn_names::Dn;
 
 /// Whether the entry stands below a subentry, or is a subentry and stands below no administrative point; or whether one
 /// would stand so below it of those immediately below the entry whose place it takes. The second number is that of its

@@ -2,17 +2,17 @@
 
 ghost use Rattle.std.specs.Prelude.{◌≡◌, ◌≤◌, ◌+◌, ◌&&◌, [], false, length, min, nat_lt, slice_get, sum_by, is_err, IfOk};
 ghost use Rattle.std.specs.Option.{option_map_or};
-ghost use Rattle.schema_core.specs.Attributes.{is_single, syntax_of};
-ghost use Rattle.aci_item.specs.AciText.{read_item};
-ghost use Rattle.subtree_spec.specs.SubtreeText.{read_subtree};
+ghost use Rattle.dir_tree.specs.schema_core.Attributes.{is_single, syntax_of};
+ghost use Rattle.aci_item.specs.reading.AciText.{read_item};
+ghost use Rattle.aci_item.specs.subtree_spec.reading.SubtreeText.{read_subtree};
 ghost use Rattle.aci_item.specs.Rules.{is_unread, has_unread_of, has_unread_value, has_unread, has_two_values, octets_in};
 
 use crate::broken::NoMemory;
+use aci_item::subtree_spec::BadText;
 use dir_tree::Entry;
-use dn_names::Value;
-use schema_core::{AttrId, Syntax, row};
+use dir_tree::dn_names::Value;
+use dir_tree::schema_core::{AttrId, Syntax, row};
 use std::alloc::{AllocError, Global};
-use subtree_spec::BadText;
 
 /// Whether there is a value that is none of its syntax.
 pub(crate) fn has_unread(alloc: Global, entry: &Entry) -> Result<bool, NoMemory>
@@ -76,7 +76,7 @@ fn is_unread(alloc: Global, syntax: Syntax, octets: &[u8]) -> Result<bool, NoMem
 fn is_no_subtree(alloc: Global, octets: &[u8]) -> Result<bool, NoMemory>
     ensures exact { IfOk result (λ found. found ≡ is_err (read_subtree octets.now)) }
 {
-    match subtree_spec::read(alloc, octets) {
+    match aci_item::subtree_spec::read(alloc, octets) {
         Ok(_) => Ok(false),
         Err(BadText::NoMemory) => Err(AllocError),
         Err(BadText::Text) => Ok(true),

@@ -1,8 +1,1 @@
-pub mod ListLemmas
-pub mod PlaceLemmas
-pub mod AreaLemmas
-pub mod ForceLemmas
-pub mod RowLemmas
-pub mod NumberLemmas
-pub mod AsideLemmas
 pub mod Theorems

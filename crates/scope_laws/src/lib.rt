@@ -2,9 +2,4 @@
 //! force for another entry.
 #![tactic(auto)]
 
-mod laws;
-
-pub use laws::{
-    a_change_is_of_one_number, the_numbers_in_force_stay, what_stands_aside,
-    what_stands_aside_changes_nothing_in_force,
-};
+pub mod laws;

@@ -1,8 +1,10 @@
 -- What public clauses cite.
-pub mod LineText
-pub mod Script
+pub mod lines
+pub mod script
 pub mod Recording
-pub mod LineReading
-pub mod ScriptReading
+pub mod words
 -- For the inside of the crate alone.
-pub mod Connections
+pub mod reading
+-- the words of crates below, handed on
+pub use Rattle.plain_values.specs as plain_values
+pub use Rattle.hex.specs as hex

@@ -3,10 +3,10 @@
 ghost use Rattle.std.specs.Prelude.{◌≡◌, ◌≢◌, ◌↔◌, ◌++◌, ◌∷◌, [], ℕ, List, All, Some, Ok, Err};
 ghost use Rattle.std.specs.Str.Lines.{lines, strip_carriage_return};
 ghost use Rattle.script_text.specs.declared.event.ScriptEvent.{ScriptEvent};
-ghost use Rattle.script_text.specs.LineText.{Spells};
-ghost use Rattle.script_text.specs.LineReading.{event_of};
-ghost use Rattle.script_text.specs.Script.{IsScript, IsFirstBadLine};
-ghost use Rattle.script_text.specs.ScriptReading.{script_of};
+ghost use Rattle.script_text.specs.lines.LineText.{Spells};
+ghost use Rattle.script_text.specs.words.LineReading.{event_of};
+ghost use Rattle.script_text.specs.script.Script.{IsScript, IsFirstBadLine};
+ghost use Rattle.script_text.specs.script.ScriptReading.{script_of};
 
 /// The lines of a text: one ends at each LF, without the CR before it, and octets after the last LF
 /// are a line as they stand.

@@ -2,7 +2,7 @@
 #![tactic(auto)]
 
 mod event;
-mod laws;
+pub mod laws;
 mod lines;
 mod reading;
 mod recording;
@@ -10,6 +10,7 @@ mod script;
 mod words;
 
 pub use event::{ScriptEvent, ScriptFault};
-pub use laws::{lines_are_cut, lines_are_texts, scripts_are_read};
+pub use hex;
+pub use plain_values;
 pub use recording::{EventKind, Head, Recording};
 pub use script::read_script;

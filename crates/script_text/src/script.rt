@@ -1,9 +1,9 @@
 //! Scripts, line by line.
 
 ghost use Rattle.std.specs.Prelude.{◌≡◌, ℕ, Ok, Err, IfOk, MatchResult, Some};
-ghost use Rattle.script_text.specs.LineText.{is_silent};
-ghost use Rattle.script_text.specs.Script.{IsScript, IsFirstBadLine, OpensOnce, AreFilled};
-ghost use Rattle.script_text.specs.ScriptReading.{Gives, IsCause, admitted, after_line, script_of};
+ghost use Rattle.script_text.specs.lines.LineText.{is_silent};
+ghost use Rattle.script_text.specs.script.Script.{IsScript, IsFirstBadLine, OpensOnce, AreFilled};
+ghost use Rattle.script_text.specs.script.ScriptReading.{Gives, IsCause, admitted, after_line, script_of};
 
 use crate::event::{ScriptEvent, ScriptFault};
 use crate::lines::first_line;
@@ -33,7 +33,7 @@ fn admit(reading: Reading, number: u64, event: ScriptEvent) -> Result<Reading, S
 }
 
 // The events after the line of this number.
-#[tactic(auto, unfolding(crate::specs::ScriptReading::after_line))]
+#[tactic(auto, unfolding(crate::specs::script::ScriptReading::after_line))]
 fn after_line(
     alloc: Global,
     reading: Reading,

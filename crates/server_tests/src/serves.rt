@@ -1,15 +1,15 @@
 //! A data file served over a link.
 
 ghost use Rattle.std.specs.Prelude.{IfOk};
-ghost use Rattle.script_text.specs.Script.{OpensOnce, AreFilled};
+ghost use Rattle.wire_io.specs.script_text.script.Script.{OpensOnce, AreFilled};
 
 use crate::messages::BIND_SCRIPT;
 use crate::runs::{Ran, assert_ran, run_serving};
 use acl_program::Status;
-use script_text::ScriptEvent;
 use std::alloc::{AllocError, Global};
 use std::test::*;
 use wire_io::ScriptLink;
+use wire_io::script_text::ScriptEvent;
 
 const LISTENING: &str = "listening 127.0.0.1:389\n";
 

@@ -1,20 +1,4 @@
-pub mod AddingLemmas
-pub mod FollowingLemmas
-pub mod TwinLemmas
-pub mod StreamLemmas
-pub mod PlaceLemmas
-pub mod HearLemmas
-pub mod HubLemmas
-pub mod AnswerLemmas
-pub mod RefusalLemmas
-pub mod GoodLemmas
-pub mod ServingLemmas
-pub mod BlockLemmas
-pub mod LoopLemmas
-pub mod PlayLemmas
-pub mod CauseLemmas
-pub mod TurnLemmas
-pub mod WaitLemmas
 pub mod Examples
-pub mod TwinExamples
 pub mod Theorems
+-- the theorems of crates below, handed on
+pub use Rattle.run_laws.proofs.session_model_proofs as session_model_proofs

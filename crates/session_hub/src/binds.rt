@@ -1,20 +1,20 @@
 //! Binds answered.
 
 ghost use Rattle.std.specs.Prelude.{◌≡◌, ◌++◌, [], ◌∷◌, IfOk, OnOk, OnErr, Some};
-ghost use Rattle.dir_tree.specs.Numbered.{entries_of};
-ghost use Rattle.ldap_msg.specs.declared.kinds.Reply.TheVariants as reply;
-ghost use Rattle.read_model.specs.Views.{result_of as result_with};
-ghost use Rattle.read_model.specs.SearchReplies.{replies_octets};
-ghost use Rattle.session_hub.specs.Answering.{bound, answer_read};
-ghost use Rattle.session_hub.specs.Answers.{Gives, Sends};
-ghost use Rattle.session_hub.specs.SimpleBinds.{message_for};
+ghost use Rattle.dir_tree.specs.tree.Numbered.{entries_of};
+ghost use Rattle.run_laws.specs.ldap_msg.declared.kinds.Reply.TheVariants as reply;
+ghost use Rattle.op_read.specs.read_model.Views.{result_of as result_with};
+ghost use Rattle.op_read.specs.read_model.SearchReplies.{replies_octets};
+ghost use Rattle.session_hub.specs.messages.Answering.{bound, answer_read};
+ghost use Rattle.session_hub.specs.stream.Answers.{Gives, Sends};
+ghost use Rattle.session_hub.specs.simple.SimpleBinds.{message_for};
 
 use crate::results::result_of;
 use crate::simple::SimpleBind;
-use acdf_filters::Requester;
-use acdf_lists::Dir;
-use ldap_msg::{BindRequest, Reply, put_reply};
 use op_bind::{Bound, bind, bind_with_password};
+use op_read::acdf_filters::Requester;
+use op_read::acdf_lists::Dir;
+use run_laws::ldap_msg::{BindRequest, Reply, put_reply};
 use std::alloc::{AllocError, Global};
 
 /// Appends the reply to a bind, and the requester is whom it made. After `AllocError` the requester is who it was.

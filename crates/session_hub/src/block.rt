@@ -1,22 +1,22 @@
 //! The beginning of a block: an event of a link is heard.
 
 ghost use Rattle.std.specs.Prelude.{List, [], length};
-ghost use Rattle.dir_tree.specs.Numbered.{entries_of};
-ghost use Rattle.wire_io.specs.Answers.{HeardFits};
-ghost use Rattle.wire_io.specs.Telling.{event_of};
-ghost use Rattle.wire_io.specs.declared.journal.Event.TheVariants as event;
-ghost use Rattle.wire_io.specs.declared.journal.Item.{Item};
-ghost use Rattle.session_hub.specs.Parties.{DirectoryEntries};
-ghost use Rattle.session_hub.specs.Hubs.{held};
-ghost use Rattle.session_hub.specs.Telling.{journal_event_of, IsOf};
-ghost use Rattle.session_hub.specs.Adding.{Adds, OnlyServes, IsServing, IsHeard, IsTurnedAway, After};
+ghost use Rattle.dir_tree.specs.tree.Numbered.{entries_of};
+ghost use Rattle.run_laws.specs.wire_io.Answers.{HeardFits};
+ghost use Rattle.run_laws.specs.wire_io.link.Telling.{event_of};
+ghost use Rattle.run_laws.specs.wire_io.declared.journal.Event.TheVariants as event;
+ghost use Rattle.run_laws.specs.wire_io.declared.journal.Item.{Item};
+ghost use Rattle.session_hub.specs.requester.Parties.{DirectoryEntries};
+ghost use Rattle.session_hub.specs.hub.Hubs.{held};
+ghost use Rattle.session_hub.specs.block.Telling.{journal_event_of, IsOf};
+ghost use Rattle.session_hub.specs.serving.Adding.{Adds, OnlyServes, IsServing, IsHeard, IsTurnedAway, After};
 
 use crate::serving::settle_all;
 use crate::waiting::Waiting;
 use crate::{Event, Hub, MAX_CONNECTIONS};
-use acdf_lists::Dir;
+use op_read::acdf_lists::Dir;
+use run_laws::wire_io::{Heard, Link};
 use std::alloc::AllocError;
-use wire_io::{Heard, Link};
 
 /// Begins with a connection that opens: it is held where there is room, and else hung up.
 fn greet<D: Dir, L: Link>(

@@ -1,18 +1,18 @@
 //! The hub of all sessions.
 
 ghost use Rattle.std.specs.Prelude.{◌≡◌, ◌≤◌, length, IfOk, OnOk, OnErr};
-ghost use Rattle.dir_tree.specs.Numbered.{entries_of};
-ghost use Rattle.session_model.specs.Run as run;
-ghost use Rattle.session_model.specs.Kept.{queue_of, closing_of, cut_of, taken_off, forgotten};
-ghost use Rattle.session_hub.specs.Hubs.{held, no_hub, Hears, HearsAnywhere, OpensOne, IsBounded};
-ghost use Rattle.session_hub.specs.Following.{FollowsStart, FollowsStep, FollowsAnywhere, FollowsTaking, QueuesReply, ClosesWith, CountsHeld};
-ghost use Rattle.session_hub.specs.Events.{step_by};
-ghost use Rattle.session_hub.specs.Twins.{HearsAlike};
+ghost use Rattle.dir_tree.specs.tree.Numbered.{entries_of};
+ghost use Rattle.run_laws.specs.session_model.laws.Run as run;
+ghost use Rattle.run_laws.specs.session_model.laws.Kept.{queue_of, closing_of, cut_of, taken_off, forgotten};
+ghost use Rattle.session_hub.specs.hub.Hubs.{held, no_hub, Hears, HearsAnywhere, OpensOne, IsBounded};
+ghost use Rattle.session_hub.specs.hub.Following.{FollowsStart, FollowsStep, FollowsAnywhere, FollowsTaking, QueuesReply, ClosesWith, CountsHeld};
+ghost use Rattle.session_hub.specs.Event.{step_by};
+ghost use Rattle.session_hub.specs.alike.Twins.{HearsAlike};
 
 use crate::Event;
 use crate::connection::Connection;
 use crate::places::{closing_at, cut_at, end_at, forget_at, hear_at, is_at, queue_at, take_off};
-use acdf_lists::Dir;
+use op_read::acdf_lists::Dir;
 use std::alloc::{AllocError, Global};
 use std::marker::Model;
 
@@ -32,7 +32,7 @@ pub struct Hub {
 }
 
 impl Model for Hub {
-    ghost use Rattle.session_hub.specs.Hubs.{HubState, AreHeld};
+    ghost use Rattle.session_hub.specs.hub.Hubs.{HubState, AreHeld};
 
     ghost Value = { HubState };
 

@@ -1,13 +1,13 @@
 //! The laws of sessions in this server: a function here computes nothing, and what it ensures is a law.
 
 ghost use Rattle.std.specs.Prelude.{List};
-ghost use Rattle.aci_item.specs.Rules.{IsGoodTree};
-ghost use Rattle.session_model.specs.Run.{Step, run};
-ghost use Rattle.session_hub.specs.Parties.{DirectoryEntries};
-ghost use Rattle.session_hub.specs.Answering.{rules};
+ghost use Rattle.op_read.specs.aci_item.Rules.{IsGoodTree};
+ghost use Rattle.run_laws.specs.session_model.laws.Run.{Step, run};
+ghost use Rattle.session_hub.specs.requester.Parties.{DirectoryEntries};
+ghost use Rattle.session_hub.specs.messages.Answering.{rules};
 
-use modify_laws::a_good_tree_stays_good_when_changed;
-use update_laws::a_good_tree_stays_good;
+use modify_laws::laws::a_good_tree_stays_good_when_changed;
+use update_laws::laws::a_good_tree_stays_good;
 
 /// What sessions leave of a good tree is a good tree, whatever is asked, by whom and in which order.
 pub fn sessions_keep_a_directory_good()

@@ -9,7 +9,7 @@ mod controls;
 mod ended;
 mod event;
 mod hub;
-mod laws;
+pub mod laws;
 mod messages;
 mod places;
 mod requester;
@@ -26,5 +26,6 @@ pub use alike::{other_sessions_do_not_show, runs_over_twins_are_alike, twins_are
 pub use ended::Ended;
 pub use event::Event;
 pub use hub::{Hub, MAX_CONNECTIONS};
-pub use laws::sessions_keep_a_directory_good;
+pub use run_laws;
+pub use run_laws::session_model;
 pub use serve::{BUFFER_LENGTH, serve_loop};

@@ -1,10 +1,10 @@
 //! Who asks.
 
 ghost use Rattle.std.specs.Prelude.{◌≡◌};
-ghost use Rattle.session_hub.specs.Parties.{nobody};
+ghost use Rattle.session_hub.specs.requester.Parties.{nobody};
 
-use acdf_filters::Requester;
-use aci_item::Level;
+use op_read::acdf_filters::Requester;
+use op_read::aci_item::Level;
 
 /// A requester of whom nothing is known (RFC 4511 4.2): it has no name, and the lowest level.
 pub fn anonymous() -> Requester

@@ -1,19 +1,19 @@
 //! The loop over a link.
 
 ghost use Rattle.std.specs.Prelude.{◌≡◌, [], IfOk, IfNone, IfSome, length, vec_len};
-ghost use Rattle.dir_tree.specs.Numbered.{entries_of};
-ghost use Rattle.plain_values.specs.Counts.{NeverFalls};
-ghost use Rattle.session_hub.specs.Hubs.{held, no_hub};
-ghost use Rattle.session_hub.specs.Adding.{stops_with};
-ghost use Rattle.session_hub.specs.Loops.{buffer_length, Serves, PlaysOut, EndsFor, ends_with};
-ghost use Rattle.session_hub.specs.Turns.{GoesOn, EndsWith};
+ghost use Rattle.dir_tree.specs.tree.Numbered.{entries_of};
+ghost use Rattle.dir_tree.specs.plain_values.Counts.{NeverFalls};
+ghost use Rattle.session_hub.specs.hub.Hubs.{held, no_hub};
+ghost use Rattle.session_hub.specs.serving.Adding.{stops_with};
+ghost use Rattle.session_hub.specs.serve.Loops.{buffer_length, Serves, PlaysOut, EndsFor, ends_with};
+ghost use Rattle.session_hub.specs.serve.Turns.{GoesOn, EndsWith};
 
 use crate::block::serve_event;
 use crate::waiting::Waiting;
 use crate::{Ended, Hub};
-use acdf_lists::Dir;
+use op_read::acdf_lists::Dir;
+use run_laws::wire_io::{Heard, Link, NextFault};
 use std::alloc::{AllocError, Global};
-use wire_io::{Heard, Link, NextFault};
 
 /// The length of the buffer into which the link puts octets.
 pub const BUFFER_LENGTH: usize = 65_536;

@@ -1,20 +1,20 @@
 //! One event of a link, served.
 
 ghost use Rattle.std.specs.Prelude.{◌≡◌, false, [], ◌∷◌, List, ℕ, OnOk};
-ghost use Rattle.session_model.specs.Keeping.{is_listed};
-ghost use Rattle.session_model.specs.Kept.{Held};
-ghost use Rattle.session_model.specs.Serving.{Leads};
-ghost use Rattle.session_model.specs.Working.{Refused, Lost};
-ghost use Rattle.session_hub.specs.Parties.{DirectoryEntries, Requester};
-ghost use Rattle.session_hub.specs.Answering.{rules};
-ghost use Rattle.session_hub.specs.Hubs.{held};
-ghost use Rattle.session_hub.specs.Adding.{Adds, OnlyServes, IsServing, IsSent, IsFree, SentAs, After};
+ghost use Rattle.run_laws.specs.session_model.laws.Keeping.{is_listed};
+ghost use Rattle.run_laws.specs.session_model.laws.Kept.{Held};
+ghost use Rattle.run_laws.specs.session_model.laws.Serving.{Leads};
+ghost use Rattle.run_laws.specs.session_model.laws.Working.{Refused, Lost};
+ghost use Rattle.session_hub.specs.requester.Parties.{DirectoryEntries, Requester};
+ghost use Rattle.session_hub.specs.messages.Answering.{rules};
+ghost use Rattle.session_hub.specs.hub.Hubs.{held};
+ghost use Rattle.session_hub.specs.serving.Adding.{Adds, OnlyServes, IsServing, IsSent, IsFree, SentAs, After};
 
 use crate::Hub;
 use crate::sent::Sent;
 use crate::waiting::Waiting;
+use run_laws::wire_io::{Link, Took};
 use std::alloc::AllocError;
-use wire_io::{Link, Took};
 
 /// Sends the connection's queue as far as the link takes it.
 pub fn send_queue<L: Link>(hub: &mut Hub, link: &mut L, conn: u32) -> Result<Sent, AllocError>

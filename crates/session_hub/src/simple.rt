@@ -1,14 +1,14 @@
 //! Simple binds read where they lie, so that nothing of what other requests need is cleared or copied for them.
 
 ghost use Rattle.std.specs.Prelude.{◌≡◌, IfSome, Some, true};
-ghost use Rattle.ber_layout.specs.Pieces.{number_in};
-ghost use Rattle.ldap_msg.specs.Binds.{bind_of};
-ghost use Rattle.ldap_msg.specs.Messages.{message_in, message_of};
+ghost use Rattle.run_laws.specs.ber_layout.element.Pieces.{number_in};
+ghost use Rattle.run_laws.specs.ldap_msg.Binds.{bind_of};
+ghost use Rattle.run_laws.specs.ldap_msg.reading.Messages.{message_in, message_of};
 ghost use Rattle.op_bind.specs.Binds.{with_password};
-ghost use Rattle.session_hub.specs.SimpleBinds.{message_for};
+ghost use Rattle.session_hub.specs.simple.SimpleBinds.{message_for};
 
-use ber_layout::{any, integer, is_further, tagged};
-use ldap_msg::Operation;
+use run_laws::ber_layout::{any, integer, is_further, tagged};
+use run_laws::ldap_msg::Operation;
 
 /// The greatest messageID (RFC 4511 4.1.1).
 const MAX_ID: u32 = 2_147_483_647;
@@ -29,7 +29,6 @@ struct Credentials<'a> {
 }
 
 /// Whether the content of an INTEGER is that of the version of these binds.
-#[tactic(auto, unfolding(ber_layout::specs::Pieces::number_in, ber_core::specs::Integer::int_at))]
 fn is_version_3(content: &[u8]) -> bool
     ensures { result ≡ true → number_in 1 127 content.now ≡ Some 3 }
 {
@@ -40,7 +39,6 @@ fn is_version_3(content: &[u8]) -> bool
 }
 
 /// The credentials in the content of a simple bind of version 3. None says nothing.
-#[tactic(auto, unfolding(ber_layout::specs::Layouts::reads_into, ber_layout::specs::Components::required_of))]
 fn credentials_in(content: &[u8]) -> Option<Credentials<'_>>
     ensures { IfSome result (λ found. bind_of content.now ≡ Some (with_password found.name.now found.password.now)) }
 {
@@ -63,7 +61,6 @@ fn credentials_in(content: &[u8]) -> Option<Credentials<'_>>
 }
 
 /// The simple bind that the content of a message is, without controls. None says nothing.
-#[tactic(auto, unfolding(ber_layout::specs::Layouts::reads_into, ber_layout::specs::Components::optional_of, ber_layout::specs::Pieces::are_pieces, ber_layout::specs::Pieces::pieces_of, ldap_msg::specs::Messages::message_in))]
 fn bind_in(content: &[u8]) -> Option<SimpleBind<'_>>
     ensures { IfSome result (λ bind. message_in content.now ≡ Some (message_for bind)) }
 {
@@ -86,7 +83,6 @@ fn bind_in(content: &[u8]) -> Option<SimpleBind<'_>>
 
 /// The simple bind of version 3 that the octets say, where they are one and it has no controls. None says nothing: any
 /// message, these binds too, is read by `read_request`. This takes no memory.
-#[tactic(auto, unfolding(ldap_msg::specs::Messages::message_of, ber_layout::specs::Components::required_of))]
 pub fn simple_bind(bytes: &[u8]) -> Option<SimpleBind<'_>>
     ensures { IfSome result (λ bind. message_of bytes.now ≡ Some (message_for bind)) }
 {

@@ -1,13 +1,13 @@
 //! The answers to the messages of a stream.
 
-ghost use Rattle.dir_tree.specs.Numbered.{entries_of};
-ghost use Rattle.session_hub.specs.Answers.{Speaks};
+ghost use Rattle.dir_tree.specs.tree.Numbered.{entries_of};
+ghost use Rattle.session_hub.specs.stream.Answers.{Speaks};
 
 use crate::messages::answer;
 use crate::spoken::{SpeechEnd, Spoken};
-use acdf_filters::Requester;
-use acdf_lists::Dir;
-use ldap_msg::{Frame, frame, put_notice};
+use op_read::acdf_filters::Requester;
+use op_read::acdf_lists::Dir;
+use run_laws::ldap_msg::{Frame, frame, put_notice};
 use std::alloc::Global;
 
 /// Answers the whole messages of a stream in their order until one closes, where they lie, and

@@ -1,20 +1,4 @@
-pub mod KeptLemmas
-pub mod HeldLemmas
-pub mod KeepingLemmas
-pub mod BytesLemmas
-pub mod JournalLemmas
-pub mod MomentLemmas
-pub mod StepLemmas
-pub mod StandLemmas
-pub mod TrackLemmas
-pub mod LeavingLemmas
-pub mod EventLemmas
-pub mod TurnedLemmas
-pub mod ItemLemmas
-pub mod LostLemmas
-pub mod ReplayLemmas
-pub mod SpeechLemmas
-pub mod JoinedLemmas
-pub mod ClaimLemmas
 pub mod Theorems
 pub mod Examples
+-- the theorems of crates below, handed on
+pub use Rattle.wire_io.proofs as wire_io_proofs

@@ -1,16 +1,16 @@
 //! The loop over links whose connections take nothing for a while, or are found lost.
 
 ghost use Rattle.std.specs.Prelude.{◌<◌, length, IfOk};
-ghost use Rattle.script_text.specs.Script.{OpensOnce, AreFilled};
+ghost use Rattle.wire_io.specs.script_text.script.Script.{OpensOnce, AreFilled};
 
 use crate::messages::{BIND, BOUND};
 use acdf_lists::PlainDir;
 use dir_tree::Tree;
-use plain_values::Octets;
-use script_text::ScriptEvent;
 use session_hub::{Ended, serve_loop};
 use std::alloc::{AllocError, Global};
 use std::test::Fail;
+use wire_io::plain_values::Octets;
+use wire_io::script_text::ScriptEvent;
 use wire_io::{Heard, Link, NextFault, NoMemory, ScriptLink, Took};
 
 // The octets of an anonymous bind.
@@ -128,12 +128,12 @@ impl Link for HalfSlow {
 
     ghost lost = { λ _. 0 };
 
-    #[tactic(auto, unfolding(wire_io::specs::Telling::OpenTells, wire_io::specs::Answers::LinkCause, wire_io::specs::Answers::IsPlanned))]
+    #[tactic(auto, unfolding(wire_io::specs::link::Telling::OpenTells, wire_io::specs::Answers::LinkCause, wire_io::specs::Answers::IsPlanned))]
     fn open(&mut self, _address: &str, _sessions: u64) -> Result<(), NextFault> {
         Ok(())
     }
 
-    #[tactic(auto, unfolding(wire_io::specs::Telling::NextTells, wire_io::specs::Playing::NextPlays, wire_io::specs::Answers::LinkCause, wire_io::specs::Answers::IsPlanned))]
+    #[tactic(auto, unfolding(wire_io::specs::link::Telling::NextTells, wire_io::specs::script::Playing::NextPlays, wire_io::specs::Answers::LinkCause, wire_io::specs::Answers::IsPlanned))]
     fn next(&mut self, buf: &mut [u8]) -> Result<Heard, NextFault> {
         let turn = self.given;
         if turn >= 1024 {
@@ -150,7 +150,7 @@ impl Link for HalfSlow {
         Ok(Heard::Idle)
     }
 
-    #[tactic(auto, unfolding(wire_io::specs::Telling::TookTells, wire_io::specs::Answers::WriteCause, wire_io::specs::Answers::IsPlanned))]
+    #[tactic(auto, unfolding(wire_io::specs::link::Telling::TookTells, wire_io::specs::Answers::WriteCause, wire_io::specs::Answers::IsPlanned))]
     fn write(&mut self, conn: u32, bytes: &[u8]) -> Took {
         match self.writes.get_mut(conn as usize) {
             None => Took::Later,
@@ -165,17 +165,17 @@ impl Link for HalfSlow {
         }
     }
 
-    #[tactic(auto, unfolding(wire_io::specs::Telling::NoteTells))]
+    #[tactic(auto, unfolding(wire_io::specs::link::Telling::NoteTells))]
     fn hold(&mut self, _conn: u32) -> Result<(), NoMemory> {
         Ok(())
     }
 
-    #[tactic(auto, unfolding(wire_io::specs::Telling::NoteTells))]
+    #[tactic(auto, unfolding(wire_io::specs::link::Telling::NoteTells))]
     fn release(&mut self, _conn: u32) -> Result<(), NoMemory> {
         Ok(())
     }
 
-    #[tactic(auto, unfolding(wire_io::specs::Telling::NoteTells))]
+    #[tactic(auto, unfolding(wire_io::specs::link::Telling::NoteTells))]
     fn hang_up(&mut self, _conn: u32) -> Result<(), NoMemory> {
         Ok(())
     }

@@ -1,15 +1,2 @@
 pub mod Examples
-pub mod OidLemmas
-pub mod PartsLemmas
-pub mod RefinementLemmas
-pub mod FrontLemmas
-pub mod PairOrderLemmas
-pub mod ReadLemmas
-pub mod PrintedLemmas
-pub mod PartPrints
-pub mod ChopLemmas
-pub mod SubtreePrints
-pub mod SubtreeOnly
-pub mod RoundTrip
-pub mod SubtreeNested
 pub mod Theorems

@@ -1,10 +1,9 @@
 -- what public clauses cite
-pub mod Subtrees
+pub mod spec
 pub mod Parts
-pub mod SubtreeText
-pub mod SubtreePrinted
-pub mod GoodSubtrees
-pub mod Membership
-pub mod Fronts
+pub mod reading
+pub mod printing
+pub mod laws
+pub mod membership
 -- for the inside of the crate alone
-pub mod Excluding
+pub mod exclusions

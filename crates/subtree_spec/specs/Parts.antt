@@ -2,13 +2,13 @@
 use Rattle.std.specs.Prelude.{ℕ, Bool, ◌||◌, List, [], Option, Some, None, option_and_then, if◌then◌else◌}
 use Rattle.std.specs.Result.{result_ok}
 use Rattle.schema_core.specs.Naming.{is_keystring}
-use Rattle.schema_core.specs.Oid.{is_dotted_oid}
-use Rattle.schema_core.specs.Classes.{class_of, class_oid_of}
-use Rattle.dn_names.specs.Names.{RdnSequence}
-use Rattle.dn_names.specs.NameText.{read_name}
+use Rattle.schema_core.specs.Oids.{is_dotted_oid}
+use Rattle.schema_core.specs.classes.Classes.{class_of, class_oid_of}
+use Rattle.dn_names.specs.name.Names.{RdnSequence}
+use Rattle.dn_names.specs.parsing.NameText.{read_name}
 use Rattle.gser_tree.specs.declared.part.Part.{Part}
-use Rattle.gser_tree.specs.Shapes.{Shape}
-use Rattle.gser_tree.specs.Looking.{members_in, word_in, string_in}
+use Rattle.gser_tree.specs.looking.Shapes.{Shape}
+use Rattle.gser_tree.specs.looking.Looking.{members_in, word_in, string_in}
 use Rattle.gser_tree.specs.Reading.{Read, expect, part, give, gather, ◌>>=◌}
 
 -- the name that a text is of

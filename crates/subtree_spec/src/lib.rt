@@ -3,7 +3,7 @@
 
 mod error;
 mod exclusions;
-mod laws;
+pub mod laws;
 mod membership;
 mod parts;
 mod printing;
@@ -12,7 +12,6 @@ mod refinements;
 mod spec;
 
 pub use error::BadText;
-pub use laws::a_printed_specification_is_read_again;
 pub use membership::{holds_below, holds_name};
 pub use parts::{is_oid, name, oid};
 pub use printing::print;

@@ -2,9 +2,9 @@
 
 ghost use Rattle.std.specs.Prelude.{◌≡◌, ◌≤◌, ◌+◌, ◌++◌, ◌&&◌, [], true, false, MatchOption, IfSome, length, drop, nat_lt, slice_index_or};
 ghost use Rattle.std.specs.List.{list_any};
-ghost use Rattle.dn_names.specs.NameOrder.{pair_cmp, rdn_cmp, is_prefix_of};
-ghost use Rattle.subtree_spec.specs.Membership.{is_within, holds_rest, holds_below, holds_name};
-ghost use Rattle.subtree_spec.specs.Subtrees.{subtree_of};
+ghost use Rattle.dn_names.specs.order.NameOrder.{pair_cmp, rdn_cmp, is_prefix_of};
+ghost use Rattle.subtree_spec.specs.membership.Membership.{is_within, holds_rest, holds_below, holds_name};
+ghost use Rattle.subtree_spec.specs.spec.Subtrees.{subtree_of};
 
 use crate::spec::Spec;
 use dn_names::{Dn, Pair, is_prefix};
@@ -69,7 +69,7 @@ fn has_before(names: &[Dn], name: &Dn, at: usize) -> bool
 }
 
 // Whether these RDNs begin with a front, and have more.
-#[tactic(auto, using(crate::proofs::FrontLemmas::drop_length))]
+#[tactic(auto, using(crate::proofs::membership::FrontLemmas::drop_length))]
 fn goes_beyond(name: &Dn, at: usize, front: &Dn) -> bool
     requires { at ≤ length name.now }
     ensures exact { result ≡ (nat_lt (length front.now) (length (drop at name.now)) && is_prefix_of front.now (drop at name.now)) }
@@ -113,7 +113,7 @@ fn holds_rest(spec: &Spec, name: &Dn, at: usize) -> bool
 }
 
 // Where the rest of a name begins that is the point's, then the base, then a rest; None where it is no such name.
-#[tactic(auto, using(crate::proofs::FrontLemmas::prefix_append, crate::proofs::FrontLemmas::prefix_short))]
+#[tactic(auto, using(crate::proofs::membership::FrontLemmas::prefix_append, crate::proofs::membership::FrontLemmas::prefix_short))]
 fn rest_at(point: &Dn, base: &Dn, name: &Dn) -> Option<usize>
     ensures exact { MatchOption result (is_prefix_of (point.now ++ base.now) name.now ≡ false)
         (λ at. (is_prefix_of (point.now ++ base.now) name.now ≡ true) × (at ≡ length point.now + length base.now)) }
@@ -136,7 +136,7 @@ fn rest_at(point: &Dn, base: &Dn, name: &Dn) -> Option<usize>
 
 /// Whether a name belongs to the subtree of a point, the refinement aside: it is the point's, then the base, then a rest
 /// that no exclusion and no distance takes out. No memory is taken.
-#[tactic(auto, unfolding(crate::specs::Membership::holds_below))]
+#[tactic(auto, unfolding(crate::specs::membership::Membership::holds_below))]
 pub fn holds_below(spec: &Spec, point: &Dn, name: &Dn) -> bool
     ensures exact { result ≡ holds_below (subtree_of spec.now) point.now name.now }
 {
@@ -147,7 +147,7 @@ pub fn holds_below(spec: &Spec, point: &Dn, name: &Dn) -> bool
 }
 
 /// The same for a base that is read from the root, as user classes have it.
-#[tactic(auto, using(crate::proofs::FrontLemmas::prefix_short), unfolding(crate::specs::Membership::holds_name))]
+#[tactic(auto, using(crate::proofs::membership::FrontLemmas::prefix_short), unfolding(crate::specs::membership::Membership::holds_name))]
 pub fn holds_name(spec: &Spec, name: &Dn) -> bool
     ensures exact { result ≡ holds_name (subtree_of spec.now) name.now }
 {

@@ -1,7 +1,7 @@
 //! The parts of texts: names and object identifiers.
 
 ghost use Rattle.std.specs.Prelude.{◌≡◌, [], IfOk};
-ghost use Rattle.gser_tree.specs.Trees.{shape_of};
+ghost use Rattle.gser_tree.specs.Tree.{shape_of};
 ghost use Rattle.gser_tree.specs.Reading.{Reads};
 ghost use Rattle.subtree_spec.specs.Parts.{name, name_of, is_oid, oid};
 

@@ -1,16 +1,16 @@
 //! Subtree specifications from their texts.
 
 ghost use Rattle.std.specs.Prelude.{◌≡◌, ◌≤◌, None, Ok, Err, [], codes, map, option_map, IfOk};
-ghost use Rattle.gser_tree.specs.Shapes.{Shape, nest};
-ghost use Rattle.gser_tree.specs.TextOf.{IsTextOf};
+ghost use Rattle.gser_tree.specs.looking.Shapes.{Shape, nest};
+ghost use Rattle.gser_tree.specs.part.TextOf.{IsTextOf};
 ghost use Rattle.subtree_spec.specs.declared.error.BadText.TheVariants.{Text};
-ghost use Rattle.gser_tree.specs.Trees.{shape_of};
+ghost use Rattle.gser_tree.specs.Tree.{shape_of};
 ghost use Rattle.gser_tree.specs.Reading.{Reads, optional};
 ghost use Rattle.subtree_spec.specs.Parts.{name};
-ghost use Rattle.subtree_spec.specs.SubtreeText.{no_chops, exclusions, distance, there, refinement, components, subtree, SubText, read_subtree, judged, fault_of};
-ghost use Rattle.subtree_spec.specs.Excluding.{chops_of, behind};
+ghost use Rattle.subtree_spec.specs.reading.SubtreeText.{no_chops, exclusions, distance, there, refinement, components, subtree, SubText, read_subtree, judged, fault_of};
+ghost use Rattle.subtree_spec.specs.exclusions.Excluding.{chops_of, behind};
 ghost use Rattle.plain_values.specs.Answers.{Answers};
-ghost use Rattle.subtree_spec.specs.Subtrees.{Subtree, choice_of, subtree_of};
+ghost use Rattle.subtree_spec.specs.spec.Subtrees.{Subtree, choice_of, subtree_of};
 
 use crate::error::BadText;
 use crate::exclusions::{Chopped, exclusions};
@@ -80,7 +80,7 @@ fn filter<'a>(
 }
 
 // The components of a specification, and the members behind them.
-#[tactic(auto, unfolding(crate::specs::SubtreeText::components))]
+#[tactic(auto, unfolding(crate::specs::reading::SubtreeText::components))]
 fn components<'a>(
     alloc: Global,
     trees: &'a [Tree],
@@ -106,7 +106,7 @@ fn components<'a>(
 }
 
 /// The specification that a value is.
-#[tactic(auto, unfolding(crate::specs::SubtreeText::subtree))]
+#[tactic(auto, unfolding(crate::specs::reading::SubtreeText::subtree))]
 pub fn subtree(alloc: Global, tree: &Tree, bad: &mut Bad) -> Result<Spec, Stop>
     ensures read { Reads subtree_of result bad.new.first (subtree (shape_of tree.now) bad.old.first) }
 {
@@ -135,7 +135,7 @@ pub fn read(alloc: Global, text: &[u8]) -> Result<Spec, BadText>
 }
 
 // As `read`, by the function of the text.
-#[tactic(auto, unfolding(crate::specs::SubtreeText::read_subtree))]
+#[tactic(auto, unfolding(crate::specs::reading::SubtreeText::read_subtree))]
 fn read_all(alloc: Global, text: &[u8]) -> Result<Spec, BadText>
     ensures exact { Answers subtree_of fault_of result (read_subtree text.now) }
 {

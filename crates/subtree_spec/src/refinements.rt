@@ -1,11 +1,11 @@
 //! Refinements from their texts.
 
 ghost use Rattle.std.specs.Prelude.{◌≡◌, map, option_map, string_bytes};
-ghost use Rattle.gser_tree.specs.Trees.{shape_of};
+ghost use Rattle.gser_tree.specs.Tree.{shape_of};
 ghost use Rattle.gser_tree.specs.Reading.{Reads};
 ghost use Rattle.subtree_spec.specs.Parts.{class_oid, set_of};
-ghost use Rattle.subtree_spec.specs.SubtreeText.{item, alternative, refinement};
-ghost use Rattle.subtree_spec.specs.Subtrees.{choice_of};
+ghost use Rattle.subtree_spec.specs.reading.SubtreeText.{item, alternative, refinement};
+ghost use Rattle.subtree_spec.specs.spec.Subtrees.{choice_of};
 
 use crate::parts::oid;
 use crate::spec::Refinement;
@@ -28,7 +28,7 @@ fn class_oid_of(text: &str) -> Option<&str>
 }
 
 // The object identifier of a class; where it has none its place is bad.
-#[tactic(auto, unfolding(crate::specs::SubtreeText::item))]
+#[tactic(auto, unfolding(crate::specs::reading::SubtreeText::item))]
 fn item(alloc: Global, tree: &Tree, bad: &mut Bad) -> Result<String, Stop>
     ensures read { Reads (λ oid. string_bytes oid) result bad.new.first (item (shape_of tree.now) bad.old.first) }
 {
@@ -43,7 +43,7 @@ fn item(alloc: Global, tree: &Tree, bad: &mut Bad) -> Result<String, Stop>
 }
 
 /// A refinement at most so deep.
-#[tactic(auto, using(crate::proofs::RefinementLemmas::no_level, crate::proofs::RefinementLemmas::one_level))]
+#[tactic(auto, using(crate::proofs::refinements::RefinementLemmas::no_level, crate::proofs::refinements::RefinementLemmas::one_level))]
 #[cycle(refinement)]
 pub(crate) fn refinement(
     alloc: Global,

@@ -1,9 +1,9 @@
 //! Access control items: each spelling, each refusal with its place, sets, tuples, and the order of levels.
+use aci_item::subtree_spec::BadText;
 use aci_item::{AciItem, Level, Permission, print, read, tuples};
 use std::alloc::Global;
 use std::process::Abort;
 use std::test::Fail;
-use subtree_spec::BadText;
 
 // Appends the printed form of what was read of a text, or why nothing was.
 fn put_read(alloc: Global, text: &[u8], out: &mut String) -> Result<(), Fail> {

@@ -1,15 +1,15 @@
 //! Subtree specifications: each spelling, each refusal with its place, and the names that belong to a subtree.
-use dn_names::{Dn, parse};
+use aci_item::subtree_spec::{BadText, Refinement, Spec, holds_below, holds_name, print, read};
+use dir_tree::dn_names::{Dn, parse};
 use std::alloc::Global;
 use std::process::Abort;
 use std::test::Fail;
-use subtree_spec::{BadText, Refinement, Spec, holds_below, holds_name, print, read};
 
 // Appends a name as it is printed.
 fn put_name(alloc: Global, name: &Dn, out: &mut String) -> Result<(), Fail> {
     out.push_str(" ")?;
     out.push_str("<")?;
-    dn_names::print(alloc, name, out)?;
+    dir_tree::dn_names::print(alloc, name, out)?;
     out.push_str(">")?;
     Ok(())
 }

@@ -1,3 +1,2 @@
 -- what public clauses cite
-pub mod Groups
-pub mod Twins
+pub mod laws

@@ -1,15 +1,15 @@
 //! The laws of changes: each function computes nothing, and what it ensures is a law.
 
 ghost use Rattle.std.specs.Prelude.{◌≡◌, List, Some, None};
-ghost use Rattle.dir_tree.specs.Entries.{EntryInformation};
-ghost use Rattle.dir_tree.specs.Trees.{put_in, taken_out};
-ghost use Rattle.aci_item.specs.Rules.{IsGoodTree};
+ghost use Rattle.dir_tree.specs.Entry.{EntryInformation};
+ghost use Rattle.dir_tree.specs.tree.Trees.{put_in, taken_out};
+ghost use Rattle.acdf_filters.specs.aci_item.Rules.{IsGoodTree};
 ghost use Rattle.acdf_filters.specs.declared.asking.Requester.{Requester};
 ghost use Rattle.ldap_msg.specs.declared.kinds.AddRequest.{AddRequest};
 ghost use Rattle.ldap_msg.specs.declared.kinds.DeleteRequest.{DeleteRequest};
 ghost use Rattle.ldap_msg.specs.declared.kinds.LdapResult.{LdapResult};
-ghost use Rattle.op_update.specs.Updates.{deleted, added, IsChanged};
-ghost use Rattle.update_laws.specs.Granting.{MayDelete, MayAdd};
+ghost use Rattle.op_update.specs.adding.Updates.{deleted, added, IsChanged};
+ghost use Rattle.update_laws.specs.laws.Granting.{MayDelete, MayAdd};
 
 /// A good tree stays good, whatever is deleted or added, and by whom.
 pub fn a_good_tree_stays_good()

@@ -1,20 +1,20 @@
 //! Changes of a directory, asked for in texts and told in texts.
 
-use acdf_filters::Requester;
-use acdf_lists::Dir;
 use aci_index::IndexedDir;
-use aci_item::Level;
+use aci_index::acdf_filters::Requester;
+use aci_index::acdf_lists::Dir;
 use data_file::load;
+use dir_tree::dn_names::{parse, print};
+use dir_tree::plain_values::{Octets, OneOrMany};
+use dir_tree::schema_core::{attr, row};
 use dir_tree::{Entry, Scope};
-use dn_names::{parse, print};
-use ldap_msg::{
+use op_modify::aci_item::Level;
+use op_modify::ldap_msg::{
     AddRequest, Change as ValueChange, DeleteRequest, KindValues, LdapResult, ModifyRequest,
     RenameRequest,
 };
+use op_modify::op_update::{add, delete};
 use op_modify::{modify, rename};
-use op_update::{add, delete};
-use plain_values::{Octets, OneOrMany};
-use schema_core::{attr, row};
 use std::alloc::Global;
 use std::process::Abort;
 use std::str;

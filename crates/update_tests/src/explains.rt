@@ -4,7 +4,7 @@ use crate::changes::{Changes, ask_modify, directory};
 use crate::shop::{ANN, BEN, SHOP};
 use aci_index::IndexedDir;
 use explain_text::explain_text;
-use question_words::read_question;
+use explain_text::question_words::read_question;
 use std::alloc::Global;
 use std::process::Abort;
 use std::test::Fail;
@@ -26,15 +26,7 @@ type Row = (&'static str, Changes, Question, &'static str);
 fn explained(alloc: Global, dir: &IndexedDir, question: Question) -> Result<String, Fail> {
     let Question(who, target, item, permission) = question;
     let asked = read_question(alloc, who, target, item, permission)?.ok_or("no question")?;
-    let item = asked.item.item();
-    let text = explain_text(
-        alloc,
-        dir,
-        &asked.who,
-        &asked.target,
-        item,
-        asked.permission,
-    )?;
+    let text = explain_text(alloc, dir, &asked)?;
     Ok(text)
 }
 

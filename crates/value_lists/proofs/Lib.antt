@@ -1,4 +1,1 @@
-pub mod OrderLemmas
-pub mod PlaceLemmas
-pub mod DropLemmas
 pub mod Examples

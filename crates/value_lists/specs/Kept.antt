@@ -1,6 +1,6 @@
 -- One value, few, or many with their order, seen as the list of the values.
 use Rattle.std.specs.Prelude.{List, [], ◌∷◌}
-use Rattle.dn_names.specs.Names.{Keyed}
+use Rattle.dn_names.specs.name.Names.{Keyed}
 use Rattle.value_lists.specs.declared.kept.Kept.{Kept}
 use Rattle.value_lists.specs.declared.kept.Kept.TheVariants.{One, Few, Many}
 

@@ -18,7 +18,7 @@ pub struct Values {
 
 impl Model for Values {
     ghost use Rattle.std.specs.Prelude.{List};
-    ghost use Rattle.dn_names.specs.Names.{Keyed};
+    ghost use Rattle.dn_names.specs.name.Names.{Keyed};
     ghost use Rattle.value_lists.specs.Kept.{values_in};
 
     ghost Value = { List Keyed };

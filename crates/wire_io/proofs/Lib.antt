@@ -1,18 +1,4 @@
-mod CountingLemmas
 mod Examples
-mod JournalLemmas
-mod LawLemmas
-mod LinkLemmas
-mod LogLemmas
-mod NotingLemmas
-mod OrderLemmas
-mod PeersLemmas
-mod PiecesLemmas
-mod PlayableLemmas
-mod PlayingLemmas
-mod PuttingLemmas
-mod ReadLemmas
-mod RisingLemmas
-mod TrackedLemmas
-mod TurnLemmas
 pub mod Theorems
+-- the theorems of crates below, handed on
+pub use Rattle.script_text.proofs as script_text_proofs

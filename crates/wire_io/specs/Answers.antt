@@ -7,7 +7,7 @@ use Rattle.wire_io.specs.declared.answers.Took.{Took}
 use Rattle.wire_io.specs.declared.answers.Took.TheVariants as took
 use Rattle.wire_io.specs.declared.answers.NextFault.{NextFault}
 use Rattle.wire_io.specs.declared.answers.NextFault.TheVariants.{Failed, NoMemory}
-use Rattle.wire_io.specs.Plan.{Plan}
+use Rattle.wire_io.specs.link.Plan.{Plan}
 
 -- octets given are at least one and fit the buffer
 abbrev pub HeardFits : ℕ → Heard → Type 0

@@ -1,16 +1,18 @@
 pub mod Answers
-pub mod Files
+pub mod shelf
 pub mod Journal
-pub mod Laws
+pub mod laws
 pub mod Log
-pub mod MemoryForms
+pub mod memory_shelf
 pub mod Peers
-pub mod Pieces
-pub mod Plan
-pub mod Playing
-pub mod Putting
-pub mod ReadWhole
+pub mod link
+pub mod script
+pub mod sink
+pub mod reading
 pub mod Rising
-pub mod Scripted
-pub mod SystemForms
-pub mod Telling
+pub mod script_link
+pub mod file_shelf
+-- the words of crates below, handed on
+pub use Rattle.script_text.specs as script_text
+pub use Rattle.plain_values.specs as plain_values
+pub use Rattle.script_text.specs.hex as hex

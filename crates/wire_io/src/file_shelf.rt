@@ -1,7 +1,7 @@
 //! The shelf of the system's files.
 
 ghost use Rattle.std.specs.Prelude.{◌≡◌, ◌≤◌, length, IfOk};
-ghost use Rattle.wire_io.specs.SystemForms.{shelf_faults};
+ghost use Rattle.wire_io.specs.file_shelf.SystemForms.{shelf_faults};
 
 use crate::{FetchFault, Shelf};
 use plain_values::raised;
@@ -33,7 +33,7 @@ impl<R: Files> Shelf for FileShelf<R> {
 
     ghost faults = { λ shelf. shelf.faults };
 
-    #[tactic(auto, unfolding(crate::specs::Files::FetchGives, crate::specs::Files::FetchCause))]
+    #[tactic(auto, unfolding(crate::specs::shelf::Files::FetchGives, crate::specs::shelf::Files::FetchCause))]
     fn fetch(&mut self, name: &str, from: u64, buf: &mut [u8]) -> Result<usize, FetchFault> {
         match read_at(&self.rt, name, from, buf) {
             Ok(count) => Ok(count),

@@ -3,8 +3,8 @@
 ghost use Rattle.std.specs.Prelude.{◌≡◌, ◌<◌, length, IfOk};
 ghost use Rattle.plain_values.specs.Counts.{NeverFalls};
 ghost use Rattle.wire_io.specs.Answers.{HeardFits, TookFits, LinkCause, WriteCause};
-ghost use Rattle.wire_io.specs.Telling.{OpenTells, NextTells, TookTells, NoteTells};
-ghost use Rattle.wire_io.specs.Playing.{NextPlays};
+ghost use Rattle.wire_io.specs.link.Telling.{OpenTells, NextTells, TookTells, NoteTells};
+ghost use Rattle.wire_io.specs.script.Playing.{NextPlays};
 
 use crate::{Heard, Item, NextFault, NoMemory, Took};
 
@@ -14,7 +14,7 @@ use crate::{Heard, Item, NextFault, NoMemory, Took};
 pub trait Link {
     ghost use Rattle.std.specs.Prelude.{ℕ, Option, List};
     ghost use Rattle.wire_io.specs.declared.journal.Item.{Item};
-    ghost use Rattle.wire_io.specs.Plan.{Plan};
+    ghost use Rattle.wire_io.specs.link.Plan.{Plan};
 
     ghost journal: { Self → Option (List Item) };
 

@@ -2,8 +2,8 @@
 
 ghost use Rattle.std.specs.Prelude.{◌≡◌, ◌<◌, ◌≤◌, [], Some, length, IfOk};
 ghost use Rattle.plain_values.specs.Counts.{next_count};
-ghost use Rattle.wire_io.specs.Putting.{WriteTells, PutCause};
-ghost use Rattle.wire_io.specs.MemoryForms.{SinkState, SinkWrites};
+ghost use Rattle.wire_io.specs.sink.Putting.{WriteTells, PutCause};
+ghost use Rattle.wire_io.specs.memory_shelf.MemoryForms.{SinkState, SinkWrites};
 
 use crate::listed::is_listed;
 use crate::{PutFault, Sink};
@@ -21,7 +21,7 @@ pub struct MemSink {
 }
 
 impl Model for MemSink {
-    ghost use Rattle.wire_io.specs.MemoryForms.{SinkState};
+    ghost use Rattle.wire_io.specs.memory_shelf.MemoryForms.{SinkState};
 
     ghost Value = { SinkState };
 
@@ -58,7 +58,7 @@ impl Sink for MemSink {
     ghost faults = { λ sink. sink.faults };
 
     /// Takes the piece whole, or fails at the chosen calls.
-    #[tactic(auto, unfolding(crate::specs::Putting::WriteTells, crate::specs::Putting::PutCause, crate::specs::MemoryForms::SinkWrites))]
+    #[tactic(auto, unfolding(crate::specs::sink::Putting::WriteTells, crate::specs::sink::Putting::PutCause, crate::specs::memory_shelf::MemoryForms::SinkWrites))]
     fn write(&mut self, bytes: &[u8]) -> Result<usize, PutFault>
         requires { 0 < length bytes.now }
         ensures fits { IfOk result (λ count. (0 < count) × (count ≤ length bytes.now)) }

@@ -2,10 +2,10 @@
 
 ghost use Rattle.std.specs.Prelude.{◌≡◌, ◌<◌, ◌++◌, min, take, drop, length, Some};
 ghost use Rattle.script_text.specs.Recording.{first_head, first_octets, without_first};
-ghost use Rattle.script_text.specs.Script.{AreFilled};
+ghost use Rattle.script_text.specs.script.Script.{AreFilled};
 ghost use Rattle.wire_io.specs.Answers.{HeardFits};
-ghost use Rattle.wire_io.specs.Playing.{first_conn, front_turn, next_turn, holds_of, left_by};
-ghost use Rattle.wire_io.specs.Telling.{event_of};
+ghost use Rattle.wire_io.specs.script.Playing.{first_conn, front_turn, next_turn, holds_of, left_by};
+ghost use Rattle.wire_io.specs.link.Telling.{event_of};
 
 use crate::copying::copy_front;
 use crate::tracked_journal::TrackedJournal;
@@ -29,7 +29,7 @@ pub(crate) struct Script {
 impl Model for Script {
     ghost use Rattle.std.specs.Prelude.{List, ◌++◌, drop};
     ghost use Rattle.script_text.specs.declared.event.ScriptEvent.{ScriptEvent};
-    ghost use Rattle.wire_io.specs.Playing.{without_front};
+    ghost use Rattle.wire_io.specs.script.Playing.{without_front};
 
     ghost Value = { List ScriptEvent };
 
@@ -86,7 +86,7 @@ impl Script {
         }
     }
 
-    #[tactic(auto, unfolding(crate::specs::Playing::front_turn, crate::specs::Playing::first_turn, crate::specs::Playing::left_over, crate::specs::Telling::event_of))]
+    #[tactic(auto, unfolding(crate::specs::script::Playing::front_turn, crate::specs::script::Playing::first_turn, crate::specs::script::Playing::left_over, crate::specs::link::Telling::event_of))]
     /// Gives the first event, as many of its octets as the buffer has room for; Stop after the last.
     pub(crate) fn give(&self, buf: &mut [u8]) -> Heard
         requires room { 0 < length buf.old }
@@ -162,7 +162,7 @@ fn octets_of_first<'a>(listed: &'a [ScriptEvent], place: usize, recorded: &'a Re
 
 /// The next event, with octets at the front of the buffer: Ready where the first planned one is of a
 /// connection on hold.
-#[tactic(auto, unfolding(crate::specs::Playing::next_turn, crate::specs::Playing::front_turn, crate::specs::Playing::holds_of, crate::specs::Telling::event_of))]
+#[tactic(auto, unfolding(crate::specs::script::Playing::next_turn, crate::specs::script::Playing::front_turn, crate::specs::script::Playing::holds_of, crate::specs::link::Telling::event_of))]
 pub(crate) fn turn(script: &Script, journal: &TrackedJournal, buf: &mut [u8]) -> Heard
     requires room { 0 < length buf.old }
     requires filled { AreFilled script.now }

@@ -2,16 +2,16 @@
 
 ghost use Rattle.std.specs.Prelude.{◌≡◌, ◌<◌, ℕ, [], Ok, Err, Some, IfOk, MatchResult, length, slice_get};
 ghost use Rattle.plain_values.specs.Counts.{NeverFalls, next_count};
-ghost use Rattle.script_text.specs.Script.{OpensOnce, AreFilled, IsScript, IsFirstBadLine};
-ghost use Rattle.script_text.specs.ScriptReading.{IsCause, script_of};
+ghost use Rattle.script_text.specs.script.Script.{OpensOnce, AreFilled, IsScript, IsFirstBadLine};
+ghost use Rattle.script_text.specs.script.ScriptReading.{IsCause, script_of};
 ghost use Rattle.wire_io.specs.declared.journal.Item.{Item};
 ghost use Rattle.wire_io.specs.Answers.{HeardFits, TookFits, LinkCause, WriteCause};
 ghost use Rattle.wire_io.specs.Journal.{is_hung_up, opened_by, taken_of};
-ghost use Rattle.wire_io.specs.MemoryForms.{is_listed};
-ghost use Rattle.wire_io.specs.Playing.{NextPlays};
+ghost use Rattle.wire_io.specs.memory_shelf.MemoryForms.{is_listed};
+ghost use Rattle.wire_io.specs.script.Playing.{NextPlays};
 ghost use Rattle.wire_io.specs.Rising.{rising};
-ghost use Rattle.wire_io.specs.Scripted.{fresh_link, AreApart, LinkOpens, LinkHears, LinkWrites, LinkNotes};
-ghost use Rattle.wire_io.specs.Telling.{OpenTells, NextTells, TookTells, NoteTells};
+ghost use Rattle.wire_io.specs.script_link.Scripted.{fresh_link, AreApart, LinkOpens, LinkHears, LinkWrites, LinkNotes};
+ghost use Rattle.wire_io.specs.link.Telling.{OpenTells, NextTells, TookTells, NoteTells};
 
 use crate::listed::is_listed;
 use crate::log::Note;
@@ -40,7 +40,7 @@ pub struct ScriptLink {
 }
 
 impl Model for ScriptLink {
-    ghost use Rattle.wire_io.specs.Scripted.{LinkState, IsPlayable};
+    ghost use Rattle.wire_io.specs.script_link.Scripted.{LinkState, IsPlayable};
 
     ghost Value = { LinkState };
 
@@ -150,7 +150,7 @@ impl ScriptLink {
         is_listed(call, &self.failing)
     }
 
-    #[tactic(auto, unfolding(crate::specs::Telling::NextTells, crate::specs::Playing::NextPlays))]
+    #[tactic(auto, unfolding(crate::specs::link::Telling::NextTells, crate::specs::script::Playing::NextPlays))]
     /// Gives the next event.
     fn play(&mut self, buf: &mut [u8]) -> Result<Heard, NoMemory>
         requires { 0 < length buf.old }
@@ -178,7 +178,7 @@ impl Link for ScriptLink {
 
     ghost lost = { λ link. link.lost };
 
-    #[tactic(auto, unfolding(crate::specs::Telling::OpenTells, crate::specs::Answers::LinkCause, crate::specs::Answers::IsPlanned, crate::specs::Scripted::LinkOpens))]
+    #[tactic(auto, unfolding(crate::specs::link::Telling::OpenTells, crate::specs::Answers::LinkCause, crate::specs::Answers::IsPlanned, crate::specs::script_link::Scripted::LinkOpens))]
     /// Opens, or fails at the chosen calls.
     fn open(&mut self, address: &str, sessions: u64) -> Result<(), NextFault>
         ensures tells { OpenTells (Some self.old.journal) address.now sessions result (Some self.new.journal) }
@@ -200,7 +200,7 @@ impl Link for ScriptLink {
         Ok(())
     }
 
-    #[tactic(auto, unfolding(crate::specs::Telling::NextTells, crate::specs::Playing::NextPlays, crate::specs::Answers::LinkCause, crate::specs::Answers::IsPlanned, crate::specs::Scripted::LinkHears))]
+    #[tactic(auto, unfolding(crate::specs::link::Telling::NextTells, crate::specs::script::Playing::NextPlays, crate::specs::Answers::LinkCause, crate::specs::Answers::IsPlanned, crate::specs::script_link::Scripted::LinkHears))]
     /// Gives the next event of the script, or fails at the chosen calls.
     fn next(&mut self, buf: &mut [u8]) -> Result<Heard, NextFault>
         requires { 0 < length buf.old }
@@ -221,7 +221,7 @@ impl Link for ScriptLink {
         Ok(heard)
     }
 
-    #[tactic(auto, unfolding(crate::specs::Telling::TookTells, crate::specs::Answers::WriteCause, crate::specs::Answers::IsPlanned, crate::specs::Scripted::LinkWrites))]
+    #[tactic(auto, unfolding(crate::specs::link::Telling::TookTells, crate::specs::Answers::WriteCause, crate::specs::Answers::IsPlanned, crate::specs::script_link::Scripted::LinkWrites))]
     /// Takes the piece whole, or answers Later or Gone at the chosen calls.
     fn write(&mut self, conn: u32, bytes: &[u8]) -> Took
         requires { 0 < length bytes.now }

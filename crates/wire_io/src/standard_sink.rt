@@ -1,7 +1,7 @@
 //! The sink of the system's standard output.
 
 ghost use Rattle.std.specs.Prelude.{◌≡◌};
-ghost use Rattle.wire_io.specs.SystemForms.{sink_faults};
+ghost use Rattle.wire_io.specs.file_shelf.SystemForms.{sink_faults};
 
 use crate::{PutFault, Sink};
 use plain_values::raised;
@@ -30,7 +30,7 @@ impl<R: Print> Sink for StdSink<R> {
 
     ghost faults = { λ sink. sink.faults };
 
-    #[tactic(auto, unfolding(crate::specs::Putting::WriteTells, crate::specs::Putting::PutCause))]
+    #[tactic(auto, unfolding(crate::specs::sink::Putting::WriteTells, crate::specs::sink::Putting::PutCause))]
     fn write(&mut self, bytes: &[u8]) -> Result<usize, PutFault> {
         match self.rt.write_some(bytes) {
             Ok(count) if count > 0 => Ok(count),

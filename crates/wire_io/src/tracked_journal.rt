@@ -6,7 +6,7 @@ ghost use Rattle.wire_io.specs.Log.{IsQuietNote, item_of};
 ghost use Rattle.wire_io.specs.Journal.{is_on_hold, is_hung_up, opened_by, taken_of};
 ghost use Rattle.wire_io.specs.Peers.{IsQuiet};
 ghost use Rattle.wire_io.specs.Rising.{rising};
-ghost use Rattle.wire_io.specs.Telling.{event_of};
+ghost use Rattle.wire_io.specs.link.Telling.{event_of};
 
 use crate::log::{Log, Note};
 use crate::peers::{Peer, add_peer, set_hung_up, set_on_hold, take};
@@ -196,7 +196,7 @@ impl TrackedJournal {
         self.note_apart(Item::OpenedAt(address, sessions, done))
     }
 
-    #[tactic(auto, unfolding(crate::specs::Telling::event_of))]
+    #[tactic(auto, unfolding(crate::specs::link::Telling::event_of))]
     /// The event was heard, with octets at the front of the buffer.
     pub(crate) fn hear(&mut self, heard: Heard, buf: &[u8]) -> Result<(), AllocError>
         requires { HeardFits (length buf.now) heard }

@@ -3,7 +3,7 @@ use Rattle.std.proofs.Common.{List, map, ap, ◌∙◌}
 use Rattle.acdf_core.specs.declared.steps.KeptTuple.{KeptTuple}
 use Rattle.acdf_core.specs.declared.candidates.Candidate.{Candidate}
 use Rattle.acdf_core.specs.Candidates.{kept_from, all_grant}
-use Rattle.acdf_core.proofs.ExplainedLemmas.{explained}
+use Rattle.acdf_core.proofs.explaining.ExplainedLemmas.{explained}
 use Rattle.acdf_core.proofs.explaining.explain_question.Goals as goal
 
 pub returns : goal.returns

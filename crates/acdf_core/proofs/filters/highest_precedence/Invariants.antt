@@ -1,7 +1,7 @@
 -- The highest so far, and those that are left.
 use Rattle.std.proofs.Common.{◌≡◌, map, drop}
 use Rattle.std.specs.Prelude.{max}
-use Rattle.acdf_filters.specs.Choices.{greatest}
+use Rattle.acdf_filters.specs.users.Choices.{greatest}
 use Rattle.acdf_core.proofs.filters.highest_precedence.Given as goal
 
 abbrev pub invariant-loop-one : goal.invariant-loop-one

@@ -1,6 +1,6 @@
 -- The filters in their order, and the lengths between them.
 use Rattle.std.proofs.Common.{◌≡◌, List, filter, length, ap, ◌∙◌, arith}
-use Rattle.acdf_filters.specs.Choices.{highest, lowest, passing_or_all}
+use Rattle.acdf_filters.specs.users.Choices.{highest, lowest, passing_or_all}
 use Rattle.acdf_core.specs.declared.candidates.Candidate.{Candidate}
 use Rattle.acdf_core.specs.declared.facts.Facts.{Facts}
 use Rattle.acdf_core.specs.Candidates.{staying, covering, permitted, foremost, most_specific, deciding}

@@ -1,7 +1,7 @@
 -- `retain` keeps those of the highest precedence.
 use Rattle.std.proofs.Common.{◌≡◌, rules, ℕ, ◌==◌, List, map, filter, ap, ◌∙◌}
 use Rattle.std.proofs.lemmas.Fn.{filter_same}
-use Rattle.acdf_filters.specs.Choices.{greatest}
+use Rattle.acdf_filters.specs.users.Choices.{greatest}
 use Rattle.acdf_core.specs.declared.candidates.Candidate.{Candidate}
 use Rattle.acdf_core.proofs.filters.keep_foremost.Goals as goal
 

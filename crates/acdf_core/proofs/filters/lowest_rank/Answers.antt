@@ -1,6 +1,6 @@
 -- Ranks are at most 3.
 use Rattle.std.proofs.Common.{◌≡◌, map, arith}
-use Rattle.acdf_core.proofs.MappedLemmas.{min_of_most}
+use Rattle.acdf_core.proofs.filters.MappedLemmas.{min_of_most}
 use Rattle.acdf_core.proofs.filters.lowest_rank.Goals as goal
 
 pub loop-one-init : goal.loop-one-init

@@ -1,7 +1,7 @@
 -- The lowest so far, and those that are left.
 use Rattle.std.proofs.Common.{◌≡◌, ◌≤◌, map, drop}
 use Rattle.std.specs.Prelude.{min}
-use Rattle.acdf_filters.specs.Choices.{least}
+use Rattle.acdf_filters.specs.users.Choices.{least}
 use Rattle.acdf_core.proofs.filters.lowest_rank.Given as goal
 
 abbrev pub invariant-loop-one : goal.invariant-loop-one

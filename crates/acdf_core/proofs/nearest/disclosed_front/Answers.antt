@@ -1,10 +1,10 @@
 -- The number of the front is that of the entry that has its name.
 use Rattle.std.proofs.Common.{sym, ap, ◌∙◌}
 use Rattle.std.specs.Option.{option_map}
-use Rattle.dir_tree.specs.Numbered.{entries_of}
+use Rattle.dir_tree.specs.tree.Numbered.{entries_of}
 use Rattle.dir_tree.specs.declared.number.EntryNo.{EntryNo}
-use Rattle.acdf_filters.specs.Granted.{is_disclosed}
-use Rattle.acdf_core.proofs.NearestLemmas.{front-found, front-missing}
+use Rattle.acdf_filters.specs.laws.Granted.{is_disclosed}
+use Rattle.acdf_core.proofs.nearest.NearestLemmas.{front-found, front-missing}
 use Rattle.acdf_core.proofs.nearest.disclosed_front.Goals as goal
 
 pub returns-in-Some : goal.returns-in-Some

@@ -1,8 +1,8 @@
 -- No entry above the name that has at least so many RDNs may be known of.
 use Rattle.std.proofs.Common.{◌≤◌, length}
-use Rattle.dir_tree.specs.Numbered.{entries_of}
-use Rattle.acdf_filters.specs.Granted.{is_disclosed}
-use Rattle.acdf_core.specs.Fronts.{NonePasses}
+use Rattle.dir_tree.specs.tree.Numbered.{entries_of}
+use Rattle.acdf_filters.specs.laws.Granted.{is_disclosed}
+use Rattle.acdf_core.specs.nearest.Fronts.{NonePasses}
 use Rattle.acdf_core.proofs.nearest.matched.Given as goal
 
 abbrev pub invariant-loop-len : goal.invariant-loop-len

@@ -1,5 +1,5 @@
 -- The laws are proved of the definitions.
-use Rattle.acdf_filters.proofs.UnseenLaw.{granted-without, granted_new-without}
+use Rattle.acdf_filters.proofs.laws.UnseenLaw.{granted-without, granted_new-without}
 use Rattle.acdf_filters.proofs.laws.an_unseen_subtree_changes_no_decision.Goals as goal
 
 pub returns : goal.returns

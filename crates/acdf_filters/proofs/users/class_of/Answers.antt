@@ -1,11 +1,11 @@
 -- An anonymous requester is in allUsers alone.
 use Rattle.std.proofs.Common.{Option, ap, sym, ◌∙◌}
-use Rattle.dn_names.specs.Names.{RdnSequence}
-use Rattle.dir_tree.specs.Numbered.{entries_of}
-use Rattle.aci_item.specs.Views.{classes_of}
-use Rattle.acdf_filters.specs.Users.{ranks_of}
-use Rattle.acdf_filters.specs.Weighing.{least_class}
-use Rattle.acdf_filters.proofs.UserLemmas.{least_class-all}
+use Rattle.dir_tree.specs.dn_names.name.Names.{RdnSequence}
+use Rattle.dir_tree.specs.tree.Numbered.{entries_of}
+use Rattle.aci_item.specs.item.Views.{classes_of}
+use Rattle.acdf_filters.specs.users.Users.{ranks_of}
+use Rattle.acdf_filters.specs.weighing.Weighing.{least_class}
+use Rattle.acdf_filters.proofs.users.UserLemmas.{least_class-all}
 use Rattle.acdf_filters.proofs.users.class_of.Goals as goal
 
 pub returns-in-None : goal.returns-in-None

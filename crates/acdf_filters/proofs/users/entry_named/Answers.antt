@@ -1,7 +1,7 @@
 -- The entry of the number that is found for a name is that of the name.
 use Rattle.std.proofs.Common.{ℕ, Option, ap, ◌∙◌}
 use Rattle.std.specs.Option.{option_and_then}
-use Rattle.dir_tree.specs.Numbered.{entry_of}
+use Rattle.dir_tree.specs.tree.Numbered.{entry_of}
 use Rattle.dir_tree.proofs.TreeTheorems.{entry_of-found}
 use Rattle.acdf_filters.proofs.users.entry_named.Goals as goal
 

@@ -1,6 +1,6 @@
 -- By the length.
 use Rattle.std.proofs.Common.{not, sym, ap, ◌∙◌}
-use Rattle.acdf_filters.proofs.UserLemmas.{is_filled-length}
+use Rattle.acdf_filters.proofs.users.UserLemmas.{is_filled-length}
 use Rattle.acdf_filters.proofs.users.has_some.Goals as goal
 
 pub returns : goal.returns

@@ -1,7 +1,7 @@
 -- By the length.
 use Rattle.std.proofs.Common.{not, sym, ap, ◌∙◌}
-use Rattle.subtree_spec.specs.Subtrees.{subtree_of}
-use Rattle.acdf_filters.proofs.UserLemmas.{is_filled-map}
+use Rattle.aci_item.specs.subtree_spec.spec.Subtrees.{subtree_of}
+use Rattle.acdf_filters.proofs.users.UserLemmas.{is_filled-map}
 use Rattle.acdf_filters.proofs.users.has_subtree.Goals as goal
 
 pub returns : goal.returns

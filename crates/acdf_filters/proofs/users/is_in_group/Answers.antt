@@ -1,8 +1,8 @@
 -- The members are those of the group's entry, if there is one.
 use Rattle.std.proofs.Common.{Option, false, ap, ◌∙◌}
 use Rattle.std.specs.Option.{option_map_or}
-use Rattle.dir_tree.specs.Entries.{EntryInformation}
-use Rattle.acdf_filters.specs.Users.{has_member, is_in_group}
+use Rattle.dir_tree.specs.Entry.{EntryInformation}
+use Rattle.acdf_filters.specs.users.Users.{has_member, is_in_group}
 use Rattle.acdf_filters.proofs.users.is_in_group.Goals as goal
 
 pub returns-in-Some : goal.returns-in-Some

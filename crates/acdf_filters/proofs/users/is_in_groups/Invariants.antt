@@ -1,7 +1,7 @@
 -- The name is in none of the groups so far, so those that are left decide.
 use Rattle.std.proofs.Common.{◌≡◌, drop}
-use Rattle.dir_tree.specs.Numbered.{entries_of}
-use Rattle.acdf_filters.specs.Users.{is_in_groups}
+use Rattle.dir_tree.specs.tree.Numbered.{entries_of}
+use Rattle.acdf_filters.specs.users.Users.{is_in_groups}
 use Rattle.acdf_filters.proofs.users.is_in_groups.Given as goal
 
 abbrev pub invariant-loop-group : goal.invariant-loop-group

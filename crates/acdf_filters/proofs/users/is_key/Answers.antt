@@ -1,6 +1,6 @@
 -- The test of the name's key is that of equal octets.
-use Rattle.dn_names.specs.Printing.{name_key}
-use Rattle.acdf_filters.proofs.UserLemmas.{bytes_eq-from_iff}
+use Rattle.dir_tree.specs.dn_names.Printing.{name_key}
+use Rattle.acdf_filters.proofs.users.UserLemmas.{bytes_eq-from_iff}
 use Rattle.acdf_filters.proofs.users.is_key.Goals as goal
 
 pub returns : goal.returns

@@ -1,7 +1,7 @@
 -- What is known is what the tree says.
 use Rattle.std.proofs.Common.{sym}
-use Rattle.dir_tree.specs.Numbered.{entries_of}
-use Rattle.acdf_filters.proofs.UserLemmas.{known_member-is}
+use Rattle.dir_tree.specs.tree.Numbered.{entries_of}
+use Rattle.acdf_filters.proofs.users.UserLemmas.{known_member-is}
 use Rattle.acdf_filters.proofs.users.is_member.Goals as goal
 
 pub returns-in-Some : goal.returns-in-Some

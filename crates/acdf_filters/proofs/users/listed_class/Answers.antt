@@ -1,9 +1,9 @@
 -- The least rank is that of the first class that is listed.
 use Rattle.std.proofs.Common.{◌||◌, map, sym}
-use Rattle.subtree_spec.specs.Subtrees.{subtree_of}
-use Rattle.acdf_filters.specs.Choices.{is_filled}
-use Rattle.acdf_filters.specs.Users.{listed_ranks}
-use Rattle.acdf_filters.proofs.UserLemmas.{least-ranks}
+use Rattle.aci_item.specs.subtree_spec.spec.Subtrees.{subtree_of}
+use Rattle.acdf_filters.specs.users.Choices.{is_filled}
+use Rattle.acdf_filters.specs.users.Users.{listed_ranks}
+use Rattle.acdf_filters.proofs.users.UserLemmas.{least-ranks}
 use Rattle.acdf_filters.proofs.users.listed_class.Goals as goal
 
 pub returns : goal.returns

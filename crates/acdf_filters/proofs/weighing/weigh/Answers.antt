@@ -1,8 +1,8 @@
 -- A tuple of a lower precedence changes nothing, and the tests of others stand in any order.
 use Rattle.std.proofs.Common.{sym, ◌∙◌}
-use Rattle.aci_item.specs.Views.{tuple_of}
-use Rattle.acdf_filters.specs.Weighing.{asked_of, asked_ranks}
-use Rattle.acdf_filters.proofs.WeighLemmas.{weighed-below, weighed-tests}
+use Rattle.aci_item.specs.item.Views.{tuple_of}
+use Rattle.acdf_filters.specs.weighing.Weighing.{asked_of, asked_ranks}
+use Rattle.acdf_filters.proofs.weighing.WeighLemmas.{weighed-below, weighed-tests}
 use Rattle.acdf_filters.proofs.weighing.weigh.Goals as goal
 
 pub returns-then-tuple-seen : goal.returns-then-tuple-seen

@@ -1,8 +1,8 @@
 -- The classes count by the most specific one in which the requester is.
 use Rattle.std.proofs.Common.{ap, sym, ◌∙◌}
-use Rattle.aci_item.specs.Views.{tuple_of}
-use Rattle.acdf_filters.specs.Weighing.{asked_of, asked_ranks, by_class}
-use Rattle.acdf_filters.proofs.WeighLemmas.{with_class_of-least}
+use Rattle.aci_item.specs.item.Views.{tuple_of}
+use Rattle.acdf_filters.specs.weighing.Weighing.{asked_of, asked_ranks, by_class}
+use Rattle.acdf_filters.proofs.weighing.WeighLemmas.{with_class_of-least}
 use Rattle.acdf_filters.proofs.weighing.weigh_class.Goals as goal
 
 pub returns : goal.returns

@@ -1,9 +1,9 @@
 -- The number is dropped from the lists at the index, and the others stay.
 use Rattle.std.proofs.Common.{◌≡◌, ◌<◌, length, sym, ap, ◌∙◌, arith}
 use Rattle.acdf_lists.specs.declared.kept.Kept.{Kept}
-use Rattle.acdf_lists.specs.Lists.{lists_of}
-use Rattle.acdf_lists.specs.Holdings.{without_number}
-use Rattle.acdf_lists.proofs.DropLemmas.{drop_step, others_step}
+use Rattle.acdf_lists.specs.kept.Lists.{lists_of}
+use Rattle.acdf_lists.specs.kept.Holdings.{without_number}
+use Rattle.acdf_lists.proofs.changing.DropLemmas.{drop_step, others_step}
 use Rattle.acdf_lists.proofs.changing.drop_everywhere.Goals as goal
 
 pub loop-index-preserved : goal.loop-index-preserved

@@ -1,7 +1,7 @@
 -- The number is dropped from those before the index, and the others are as they were.
 use Rattle.std.proofs.Common.{◌≡◌, ◌<◌, ◌≤◌, ℕ}
-use Rattle.acdf_lists.specs.Lists.{lists_at}
-use Rattle.acdf_lists.specs.Holdings.{without_number}
+use Rattle.acdf_lists.specs.kept.Lists.{lists_at}
+use Rattle.acdf_lists.specs.kept.Holdings.{without_number}
 use Rattle.acdf_lists.proofs.changing.drop_everywhere.Given as goal
 
 abbrev pub invariant-loop-index : goal.invariant-loop-index

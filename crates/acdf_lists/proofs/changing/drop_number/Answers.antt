@@ -1,7 +1,7 @@
 -- `retain` keeps the other numbers.
 use Rattle.std.proofs.Common.{not, ◌==◌, map, rules, ap, ◌∙◌}
 use Rattle.std.proofs.lemmas.Fn.{filter_same}
-use Rattle.acdf_lists.proofs.DropLemmas.{numbers-filter}
+use Rattle.acdf_lists.proofs.changing.DropLemmas.{numbers-filter}
 use Rattle.acdf_lists.proofs.changing.drop_number.Goals as goal
 
 pub returns : goal.returns

@@ -1,6 +1,6 @@
 -- The entry that was put in can be taken out again, and then all is as it was.
 use Rattle.std.proofs.Common.{ap, ◌∙◌}
-use Rattle.dir_tree.specs.Numbered.{without}
+use Rattle.dir_tree.specs.tree.Numbered.{without}
 use Rattle.dir_tree.specs.Refusals.{remove_refusal}
 use Rattle.dir_tree.proofs.TreeTheorems.{without-put_row}
 use Rattle.dir_tree.proofs.TreeTheorems.{new_removable}

@@ -2,12 +2,12 @@
 use Rattle.std.proofs.Common.{List, sym, ap, ◌∙◌}
 use Rattle.std.specs.Prelude.{fold}
 use Rattle.std.proofs.lemmas.List.Sums.{fold-append}
-use Rattle.acdf_filters.specs.Standings.{initial}
-use Rattle.aci_item.specs.AciTuples.{AciTuple}
-use Rattle.acdf_filters.specs.Weighing.{weighed_for, is_granted}
+use Rattle.acdf_filters.specs.Standing.{initial}
+use Rattle.acdf_filters.specs.aci_item.splitting.AciTuples.{AciTuple}
+use Rattle.acdf_filters.specs.weighing.Weighing.{weighed_for, is_granted}
 use Rattle.acdf_filters.specs.declared.standing.Standing.{Standing}
-use Rattle.acdf_lists.specs.Lists.{lists_at, tuples_inherited}
-use Rattle.acdf_lists.proofs.KeptLemmas.{granted-kept}
+use Rattle.acdf_lists.specs.kept.Lists.{lists_at, tuples_inherited}
+use Rattle.acdf_lists.proofs.kept.KeptLemmas.{granted-kept}
 use Rattle.acdf_lists.proofs.decision.decide_by.Goals as goal
 
 pub returns : goal.returns

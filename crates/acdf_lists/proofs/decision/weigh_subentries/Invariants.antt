@@ -1,8 +1,8 @@
 -- The subentries that are left make of the state so far what all make of the first.
 use Rattle.std.proofs.Common.{◌≡◌, map, drop}
 use Rattle.std.specs.Prelude.{fold}
-use Rattle.acdf_filters.specs.Weighing.{weighed_for}
-use Rattle.acdf_lists.specs.Lists.{tuples_at}
+use Rattle.acdf_filters.specs.weighing.Weighing.{weighed_for}
+use Rattle.acdf_lists.specs.kept.Lists.{tuples_at}
 use Rattle.acdf_lists.proofs.decision.weigh_subentries.Given as goal
 
 abbrev pub invariant-loop-number : goal.invariant-loop-number

@@ -1,7 +1,7 @@
 -- All numbers in use are below the bound.
 use Rattle.std.proofs.Common.{◌≡◌, ℕ, ◌<◌, length, subst, arith}
 use Rattle.std.specs.List.{AllByRecursion}
-use Rattle.acdf_lists.proofs.MakingLemmas.{kept-all}
+use Rattle.acdf_lists.proofs.making.MakingLemmas.{kept-all}
 use Rattle.acdf_lists.proofs.making.make_all.Goals as goal
 
 pub returns : goal.returns

@@ -1,9 +1,9 @@
 -- Those before stay, and the next is made.
 use Rattle.std.proofs.Common.{◌≡◌, ℕ, List, [], ◌∷◌, ◌++◌, length, ap, sym, subst, ◌∙◌, arith}
-use Rattle.dir_tree.specs.Numbered.{entry_of}
+use Rattle.dir_tree.specs.tree.Numbered.{entry_of}
 use Rattle.acdf_lists.specs.declared.kept.Kept.{Kept}
-use Rattle.acdf_lists.specs.Lists.{IsKeptBelow}
-use Rattle.acdf_lists.proofs.MakingLemmas.{kept-next}
+use Rattle.acdf_lists.specs.kept.Lists.{IsKeptBelow}
+use Rattle.acdf_lists.proofs.making.MakingLemmas.{kept-next}
 use Rattle.acdf_lists.proofs.making.put_next.Goals as goal
 
 pub returns-clause-below : goal.returns-clause-below

@@ -1,10 +1,10 @@
 -- The state decides, of a subentry and of another entry.
 use Rattle.std.proofs.Common.{map, sym, ap, ◌∙◌}
 use Rattle.std.specs.Prelude.{fold}
-use Rattle.acdf_filters.specs.Weighing.{weighed_for, is_granted}
+use Rattle.acdf_filters.specs.weighing.Weighing.{weighed_for, is_granted}
 use Rattle.acdf_filters.specs.declared.standing.Standing.{Standing}
-use Rattle.acdf_lists.specs.Lists.{tuples_at}
-use Rattle.acdf_lists.proofs.NewcomerLemmas.{granted_new-above, granted_new-found}
+use Rattle.acdf_lists.specs.kept.Lists.{tuples_at}
+use Rattle.acdf_lists.proofs.newcomers.NewcomerLemmas.{granted_new-above, granted_new-found}
 use Rattle.acdf_lists.proofs.newcomers.decide_new_by.Goals as goal
 
 pub returns-then-is_subentry : goal.returns-then-is_subentry

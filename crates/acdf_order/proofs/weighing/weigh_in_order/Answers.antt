@@ -1,5 +1,5 @@
 -- A tuple of a lower precedence ends it, and another is weighed before those after it.
-use Rattle.acdf_order.proofs.WeighLemmas.{stop_at, weigh_next, still_ordered}
+use Rattle.acdf_order.proofs.weighing.WeighLemmas.{stop_at, weigh_next, still_ordered}
 use Rattle.acdf_order.proofs.weighing.weigh_in_order.Goals as goal
 
 pub returns-then-tuple-now : goal.returns-then-tuple-now

@@ -1,9 +1,9 @@
 -- The tuples that are left make of the state so far what all make of the first, and are in order.
 use Rattle.std.proofs.Common.{◌≡◌, map, drop}
 use Rattle.std.specs.Prelude.{fold}
-use Rattle.aci_item.specs.Views.{tuple_of}
-use Rattle.acdf_filters.specs.Weighing.{weighed_for}
-use Rattle.acdf_order.specs.Order.{IsHighestFirst}
+use Rattle.acdf_filters.specs.aci_item.item.Views.{tuple_of}
+use Rattle.acdf_filters.specs.weighing.Weighing.{weighed_for}
+use Rattle.acdf_order.specs.ordering.Order.{IsHighestFirst}
 use Rattle.acdf_order.proofs.weighing.weigh_in_order.Given as goal
 
 abbrev pub invariant-loop-tuple : goal.invariant-loop-tuple

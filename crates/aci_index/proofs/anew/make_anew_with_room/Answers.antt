@@ -1,6 +1,6 @@
 -- All numbers of the tree are below the bound.
-use Rattle.aci_index.proofs.NumberLemmas.{below-more}
-use Rattle.aci_index.proofs.AnewLemmas.{room-anew}
+use Rattle.aci_index.proofs.anew.NumberLemmas.{below-more}
+use Rattle.aci_index.proofs.anew.AnewLemmas.{room-anew}
 use Rattle.aci_index.proofs.anew.make_anew_with_room.Goals as goal
 
 pub returns-clause-room : goal.returns-clause-room

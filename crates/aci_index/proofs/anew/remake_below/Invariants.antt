@@ -1,9 +1,9 @@
 -- The lists that were made are of the first numbers, and those that are left follow.
 use Rattle.std.proofs.Common.{◌≡◌, ◌++◌}
 use Rattle.std.specs.List.{AllByRecursion}
-use Rattle.dir_tree.specs.Scopes.{scoped}
+use Rattle.dir_tree.specs.Scope.{scoped}
 use Rattle.dir_tree.specs.declared.scope.Scope.TheVariants.{Sub}
-use Rattle.aci_index.specs.Reach.{IsRemade, numbers_of}
+use Rattle.aci_index.specs.points.Reach.{IsRemade, numbers_of}
 use Rattle.aci_index.proofs.anew.remake_below.Given as goal
 
 abbrev pub invariant-loop-number : goal.invariant-loop-number

@@ -1,16 +1,16 @@
 -- What was made is that of the tree, all else stands aside, and what was put in can be taken out again.
 use Rattle.std.proofs.Common.{◌≡◌, List, None, Some, ap, sym, subst, ◌∙◌}
-use Rattle.dir_tree.specs.Numbered.{Numbered, IsNumberedTree, put_entry, without}
+use Rattle.dir_tree.specs.tree.Numbered.{Numbered, IsNumberedTree, put_entry, without}
 use Rattle.dir_tree.specs.Refusals.{remove_refusal}
 use Rattle.dir_tree.proofs.TreeTheorems.{without-put_row}
 use Rattle.scope_laws.proofs.Theorems.{change-put}
-use Rattle.acdf_lists.specs.Holdings.{IsHeld}
+use Rattle.acdf_lists.specs.kept.Holdings.{IsHeld}
 use Rattle.dir_tree.proofs.TreeTheorems.{new_removable}
-use Rattle.aci_index.specs.Reach.{IsAnew}
+use Rattle.aci_index.specs.points.Reach.{IsAnew}
 use Rattle.aci_index.specs.declared.anew.Reach.TheVariants.{Around}
-use Rattle.aci_index.proofs.HeldLemmas.{held-same}
-use Rattle.aci_index.proofs.AnewLemmas.{held-anew}
-use Rattle.aci_index.proofs.StandLemmas.{stand-put}
+use Rattle.aci_index.proofs.inserting.HeldLemmas.{held-same}
+use Rattle.aci_index.proofs.anew.AnewLemmas.{held-anew}
+use Rattle.aci_index.proofs.inserting.StandLemmas.{stand-put}
 use Rattle.aci_index.proofs.inserting.insert_around.Goals as goal
 
 pub take_back-requires : goal.take_back-requires

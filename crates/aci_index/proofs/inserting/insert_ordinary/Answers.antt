@@ -1,16 +1,16 @@
 -- The subtrees stay those of the subentries, all other lists stay right, and what was put in can be taken out again.
 use Rattle.std.proofs.Common.{◌≡◌, List, None, Some, ap, sym, subst, ◌∙◌}
-use Rattle.dir_tree.specs.Numbered.{Numbered, IsNumberedTree, put_entry, without}
+use Rattle.dir_tree.specs.tree.Numbered.{Numbered, IsNumberedTree, put_entry, without}
 use Rattle.dir_tree.specs.Refusals.{remove_refusal}
 use Rattle.dir_tree.proofs.TreeTheorems.{without-put_row}
-use Rattle.admin_scope.specs.Finding.{AreSubtrees}
+use Rattle.acdf_filters.specs.admin_scope.subtrees.Finding.{AreSubtrees}
 use Rattle.scope_laws.proofs.Theorems.{change-put}
-use Rattle.acdf_lists.specs.Holdings.{IsHeld}
+use Rattle.acdf_lists.specs.kept.Holdings.{IsHeld}
 use Rattle.dir_tree.proofs.TreeTheorems.{new_removable}
-use Rattle.aci_index.specs.Steps.{IsKeptOf}
-use Rattle.aci_index.proofs.SubtreeLemmas.{subtrees-stay}
-use Rattle.aci_index.proofs.HeldLemmas.{held-unused}
-use Rattle.aci_index.proofs.LeafLemmas.{held-put}
+use Rattle.aci_index.specs.anew.Steps.{IsKeptOf}
+use Rattle.aci_index.proofs.inserting.SubtreeLemmas.{subtrees-stay}
+use Rattle.aci_index.proofs.inserting.HeldLemmas.{held-unused}
+use Rattle.aci_index.proofs.inserting.LeafLemmas.{held-put}
 use Rattle.aci_index.proofs.inserting.insert_ordinary.Goals as goal
 
 pub keep_anew-requires : goal.keep_anew-requires

@@ -1,5 +1,5 @@
 -- What was made leaves all lists.
-use Rattle.aci_index.proofs.HeldLemmas.{held-same}
+use Rattle.aci_index.proofs.inserting.HeldLemmas.{held-same}
 use Rattle.aci_index.proofs.inserting.insert_subentry.Goals as goal
 
 pub insert_around-requires-clause-held : goal.insert_around-requires-clause-held

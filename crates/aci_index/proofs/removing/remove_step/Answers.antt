@@ -1,10 +1,10 @@
 -- A subentry is forgotten, and of another entry the own lists go.
 use Rattle.std.proofs.Common.{List, inl, inr, sym, subst}
 use Rattle.std.proofs.lemmas.Bool.{cases_Bool}
-use Rattle.dir_tree.specs.Points.{is_access_subentry}
-use Rattle.dir_tree.specs.Numbered.{Numbered, IsNumberedTree}
-use Rattle.acdf_lists.specs.Holdings.{IsHeld}
-use Rattle.aci_index.proofs.LeafLemmas.{held-taken, held-forgotten}
+use Rattle.dir_tree.specs.subentries.Points.{is_access_subentry}
+use Rattle.dir_tree.specs.tree.Numbered.{Numbered, IsNumberedTree}
+use Rattle.acdf_lists.specs.kept.Holdings.{IsHeld}
+use Rattle.aci_index.proofs.inserting.LeafLemmas.{held-taken, held-forgotten}
 use Rattle.aci_index.proofs.removing.remove_step.Goals as goal
 
 pub returns-clause-held : goal.returns-clause-held

@@ -1,5 +1,5 @@
 -- All numbers of the tree are below the bound.
-use Rattle.aci_index.proofs.NumberLemmas.{below-more}
+use Rattle.aci_index.proofs.anew.NumberLemmas.{below-more}
 use Rattle.aci_index.proofs.replacing.make_all_ready.Goals as goal
 
 pub returns-clause-room : goal.returns-clause-room

@@ -1,5 +1,5 @@
 -- What was made ready leaves all lists.
-use Rattle.aci_index.proofs.HeldLemmas.{held-same}
+use Rattle.aci_index.proofs.inserting.HeldLemmas.{held-same}
 use Rattle.aci_index.proofs.replacing.replace_other.Goals as goal
 
 pub replace_reached-requires-clause-held : goal.replace_reached-requires-clause-held

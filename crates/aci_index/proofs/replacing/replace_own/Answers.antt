@@ -1,5 +1,5 @@
 -- What was made ready leaves all lists.
-use Rattle.aci_index.proofs.HeldLemmas.{held-same}
+use Rattle.aci_index.proofs.inserting.HeldLemmas.{held-same}
 use Rattle.aci_index.proofs.replacing.replace_own.Goals as goal
 
 pub put_in_place-requires-clause-held : goal.put_in_place-requires-clause-held

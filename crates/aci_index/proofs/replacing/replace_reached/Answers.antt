@@ -1,8 +1,8 @@
 use Rattle.std.proofs.Common.{List, sym, subst}
-use Rattle.dir_tree.specs.Numbered.{Numbered, IsNumberedTree}
-use Rattle.acdf_lists.specs.Holdings.{IsHeld}
-use Rattle.aci_index.specs.Reach.{IsAnew}
-use Rattle.aci_index.proofs.ReplacedLemmas.{room-replaced, held-replaced}
+use Rattle.dir_tree.specs.tree.Numbered.{Numbered, IsNumberedTree}
+use Rattle.acdf_lists.specs.kept.Holdings.{IsHeld}
+use Rattle.aci_index.specs.points.Reach.{IsAnew}
+use Rattle.aci_index.proofs.replacing.ReplacedLemmas.{room-replaced, held-replaced}
 use Rattle.aci_index.proofs.replacing.replace_reached.Goals as goal
 
 -- there is room for what was made

@@ -5,8 +5,8 @@ use Rattle.std.specs.Prelude.{string_bytes}
 use Rattle.gser_tree.specs.Writing.{print_word}
 use Rattle.aci_item.specs.declared.bits.Row.{Row}
 use Rattle.aci_item.specs.declared.permission.Permission.TheVariants.{Add}
-use Rattle.aci_item.specs.Permissions.{has_bit}
-use Rattle.aci_item.proofs.PrintedLemmas.{put_rows, put_tested}
+use Rattle.aci_item.specs.Permission.{has_bit}
+use Rattle.aci_item.proofs.printing.PrintedLemmas.{put_rows, put_tested}
 use Rattle.aci_item.proofs.bits.put_bits.Goals as goal
 
 pub loop-row-preserved : goal.loop-row-preserved

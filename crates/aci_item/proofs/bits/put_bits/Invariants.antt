@@ -2,7 +2,7 @@
 use Rattle.std.proofs.Common.{take, true}
 use Rattle.std.specs.Prelude.{filter, map, string_bytes}
 use Rattle.gser_tree.specs.Writing.{print_word, PutsMembers}
-use Rattle.aci_item.specs.Permissions.{has_bit}
+use Rattle.aci_item.specs.Permission.{has_bit}
 use Rattle.aci_item.proofs.bits.put_bits.Given as goal
 
 abbrev pub invariant-loop-row : goal.invariant-loop-row

@@ -1,11 +1,11 @@
 -- The members so far, each beside its printed text, and those that are left, are those of the set.
 use Rattle.std.proofs.Common.{◌≡◌, [], drop, map}
-use Rattle.gser_tree.specs.Trees.{shape_of}
+use Rattle.gser_tree.specs.Tree.{shape_of}
 use Rattle.gser_tree.specs.Writing.{text_of}
-use Rattle.aci_item.specs.ItemParts.{user}
-use Rattle.aci_item.specs.ItemPrinted.{print_user}
+use Rattle.aci_item.specs.members.ItemParts.{user}
+use Rattle.aci_item.specs.printing.ItemPrinted.{print_user}
 use Rattle.aci_item.specs.Sets.{put_member, gather_into}
-use Rattle.aci_item.specs.Gathering.{ArePrinted, values_of}
+use Rattle.aci_item.specs.members.Gathering.{ArePrinted, values_of}
 use Rattle.aci_item.proofs.members.users_of.Given as goal
 
 abbrev pub invariant-loop-tree : goal.invariant-loop-tree

@@ -1,7 +1,7 @@
 -- One more member is put at its place.
-use Rattle.aci_item.specs.ItemPrinted.{print_value}
-use Rattle.aci_item.specs.ItemParts.{kind_and_value}
-use Rattle.aci_item.proofs.SetLemmas.{set_loop}
+use Rattle.aci_item.specs.printing.ItemPrinted.{print_value}
+use Rattle.aci_item.specs.members.ItemParts.{kind_and_value}
+use Rattle.aci_item.proofs.sets.SetLemmas.{set_loop}
 use Rattle.aci_item.proofs.members.values_of.Goals as goal
 
 pub loop-tree-preserved : goal.loop-tree-preserved

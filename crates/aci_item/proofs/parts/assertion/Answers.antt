@@ -1,5 +1,5 @@
 -- No octets are a text.
-use Rattle.aci_item.proofs.PartLemmas.{no_octets_text}
+use Rattle.aci_item.proofs.parts.PartLemmas.{no_octets_text}
 use Rattle.aci_item.proofs.parts.assertion.Goals as goal
 
 pub returns-in_ok-no_value-in-None-clause-text : goal.returns-in_ok-no_value-in-None-clause-text

@@ -1,8 +1,8 @@
 -- The bits so far, and those that are left, are those of the set.
 use Rattle.std.proofs.Common.{◌≡◌, [], drop, map}
-use Rattle.gser_tree.specs.Trees.{shape_of}
-use Rattle.aci_item.specs.Permissions.{put_bit}
-use Rattle.aci_item.specs.ItemParts.{bit}
+use Rattle.gser_tree.specs.Tree.{shape_of}
+use Rattle.aci_item.specs.Permission.{put_bit}
+use Rattle.aci_item.specs.members.ItemParts.{bit}
 use Rattle.aci_item.specs.Sets.{gather_into}
 use Rattle.aci_item.proofs.parts.bits.Given as goal
 

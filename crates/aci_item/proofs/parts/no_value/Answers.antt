@@ -1,5 +1,5 @@
 -- No octets are a password, whose key is none.
-use Rattle.aci_item.proofs.PartLemmas.{user_password, password_value}
+use Rattle.aci_item.proofs.parts.PartLemmas.{user_password, password_value}
 use Rattle.aci_item.proofs.parts.no_value.Goals as goal
 
 pub make_value-requires : goal.make_value-requires

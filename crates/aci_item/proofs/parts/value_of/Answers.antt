@@ -1,6 +1,6 @@
 -- The value is the text.
 use Rattle.std.proofs.Common.{◌≡◌, rules}
-use Rattle.aci_item.proofs.PartLemmas.{text_value}
+use Rattle.aci_item.proofs.parts.PartLemmas.{text_value}
 use Rattle.aci_item.proofs.parts.value_of.Goals as goal
 
 pub returns-in-Ok-clause-text : goal.returns-in-Ok-clause-text

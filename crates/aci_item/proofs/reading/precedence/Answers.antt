@@ -1,7 +1,7 @@
 -- A number that was read fits one octet.
 use Rattle.std.proofs.Common.{arith}
-use Rattle.gser_tree.specs.Trees.{shape_of}
-use Rattle.aci_item.proofs.PartLemmas.{number_within}
+use Rattle.gser_tree.specs.Tree.{shape_of}
+use Rattle.aci_item.proofs.parts.PartLemmas.{number_within}
 use Rattle.aci_item.proofs.reading.precedence.Goals as goal
 
 pub overflow_cast-result : goal.overflow_cast-result

@@ -1,6 +1,6 @@
 -- The value that the text is written for decides.
-use Rattle.aci_item.proofs.ReadLemmas.{read_text, read_shape, read_nothing}
-use Rattle.aci_item.proofs.ItemNested.{reads_given}
+use Rattle.aci_item.proofs.reading.ReadLemmas.{read_text, read_shape, read_nothing}
+use Rattle.aci_item.proofs.reading.ItemNested.{reads_given}
 use Rattle.aci_item.proofs.reading.read.Goals as goal
 
 pub returns-clause-ok : goal.returns-clause-ok

@@ -2,12 +2,12 @@
 use Rattle.std.proofs.Common.{◌≡◌, [], drop, map, rules, arith}
 use Rattle.std.specs.Prelude.{Some}
 use Rattle.std.proofs.lemmas.Grind.{common_steps}
-use Rattle.gser_tree.specs.Looking.{members_in}
-use Rattle.gser_tree.specs.Trees.{shape_of}
-use Rattle.aci_item.specs.Views.{user_permission_of}
-use Rattle.aci_item.specs.ItemPrinted.{print_user_permission}
-use Rattle.aci_item.specs.AciText.{user_permission}
-use Rattle.aci_item.proofs.SetLemmas.{set_loop, set_end}
+use Rattle.gser_tree.specs.looking.Looking.{members_in}
+use Rattle.gser_tree.specs.Tree.{shape_of}
+use Rattle.aci_item.specs.item.Views.{user_permission_of}
+use Rattle.aci_item.specs.printing.ItemPrinted.{print_user_permission}
+use Rattle.aci_item.specs.reading.AciText.{user_permission}
+use Rattle.aci_item.proofs.sets.SetLemmas.{set_loop, set_end}
 use Rattle.aci_item.proofs.reading.user_permissions.Goals as goal
 
 pub loop-tree-preserved : goal.loop-tree-preserved

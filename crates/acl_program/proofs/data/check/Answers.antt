@@ -1,7 +1,7 @@
-use Rattle.command_words.specs.Command.{Check}
+use Rattle.command_words.specs.command.Command.{Check}
 use Rattle.std.proofs.Common.{refl}
-use Rattle.acl_program.specs.Outside.{outside}
-use Rattle.acl_program.proofs.PerformLemmas.{Performs-checked, Performs-refused}
+use Rattle.acl_program.specs.program.Outside.{outside}
+use Rattle.acl_program.proofs.program.PerformLemmas.{Performs-checked, Performs-refused}
 use Rattle.acl_program.proofs.data.check.Goals as goal
 
 -- the data file was loaded

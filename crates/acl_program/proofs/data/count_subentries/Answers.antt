@@ -1,5 +1,5 @@
 -- The tree keeps the number of each access control subentry.
-use Rattle.dir_tree.proofs.TreeTheorems.{count-numbers}
+use Rattle.command_files.proofs.dir_tree_proofs.TreeTheorems.{count-numbers}
 use Rattle.acl_program.proofs.data.count_subentries.Goals as goal
 
 pub returns : goal.returns

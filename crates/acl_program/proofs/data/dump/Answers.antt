@@ -1,8 +1,8 @@
-use Rattle.command_words.specs.Command.{Dump}
+use Rattle.command_words.specs.command.Command.{Dump}
 use Rattle.std.proofs.Common.{refl}
-use Rattle.acl_program.specs.Outside.{outside}
-use Rattle.acl_program.proofs.RunLemmas.{LoadsData-good}
-use Rattle.acl_program.proofs.PerformLemmas.{Performs-dumped, Performs-refused}
+use Rattle.acl_program.specs.program.Outside.{outside}
+use Rattle.acl_program.proofs.program.RunLemmas.{LoadsData-good}
+use Rattle.acl_program.proofs.program.PerformLemmas.{Performs-dumped, Performs-refused}
 use Rattle.acl_program.proofs.data.dump.Goals as goal
 
 -- the tree is good

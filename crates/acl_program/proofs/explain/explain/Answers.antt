@@ -1,6 +1,6 @@
 use Rattle.std.proofs.Common.{refl, sym}
-use Rattle.acl_program.specs.Outside.{outside}
-use Rattle.acl_program.proofs.ExplainLemmas.{Performs-no_memory, Performs-no_question}
+use Rattle.acl_program.specs.program.Outside.{outside}
+use Rattle.acl_program.proofs.explain.ExplainLemmas.{Performs-no_memory, Performs-no_question}
 use Rattle.acl_program.proofs.explain.explain.Goals as goal
 
 -- the words are a question

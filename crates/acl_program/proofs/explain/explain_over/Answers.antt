@@ -1,8 +1,8 @@
 use Rattle.std.proofs.Common.{refl}
-use Rattle.command_words.specs.Command.{Explain}
-use Rattle.acl_program.specs.Outside.{outside}
-use Rattle.acl_program.proofs.ExplainLemmas.{Performs-explained}
-use Rattle.acl_program.proofs.PerformLemmas.{Performs-refused}
+use Rattle.command_words.specs.command.Command.{Explain}
+use Rattle.acl_program.specs.program.Outside.{outside}
+use Rattle.acl_program.proofs.explain.ExplainLemmas.{Performs-explained}
+use Rattle.acl_program.proofs.program.PerformLemmas.{Performs-refused}
 use Rattle.acl_program.proofs.explain.explain_over.Goals as goal
 
 -- the data file was loaded

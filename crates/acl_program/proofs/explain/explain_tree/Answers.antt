@@ -1,7 +1,7 @@
 use Rattle.std.proofs.Common.{ap}
-use Rattle.dir_tree.specs.Numbered.{entries_of}
-use Rattle.acl_program.specs.Outside.{written}
-use Rattle.acl_program.proofs.ExplainLemmas.{Ends-unexplained, Ends-over}
+use Rattle.command_files.specs.dir_tree.tree.Numbered.{entries_of}
+use Rattle.acl_program.specs.program.Outside.{written}
+use Rattle.acl_program.proofs.explain.ExplainLemmas.{Ends-unexplained, Ends-over}
 use Rattle.acl_program.proofs.explain.explain_tree.Goals as goal
 
 -- the directory is that of the tree

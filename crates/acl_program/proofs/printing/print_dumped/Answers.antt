@@ -1,4 +1,4 @@
-use Rattle.wire_io.proofs.Theorems.{PutsAll-nothing, PutCause-nothing}
+use Rattle.command_files.proofs.wire_io_proofs.Theorems.{PutsAll-nothing, PutCause-nothing}
 use Rattle.acl_program.proofs.printing.print_dumped.Goals as goal
 
 -- there is no tree to put

@@ -1,6 +1,6 @@
 use Rattle.std.proofs.Common.{◌<◌, length, refl, arith}
-use Rattle.wire_io.proofs.Theorems.{PutCause-done, PutCause-more, PutCause-refused}
-use Rattle.acl_program.proofs.PrintLemmas.{lines_more, lines_refused, lines_done}
+use Rattle.command_files.proofs.wire_io_proofs.Theorems.{PutCause-done, PutCause-more, PutCause-refused}
+use Rattle.acl_program.proofs.printing.PrintLemmas.{lines_more, lines_refused, lines_done}
 use Rattle.acl_program.proofs.printing.print_each.Goals as goal
 
 -- a line more was put

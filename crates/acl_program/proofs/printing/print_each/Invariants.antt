@@ -1,6 +1,6 @@
 use Rattle.std.proofs.Common.{◌≡◌, ◌≤◌, ◌-◌, length, take}
-use Rattle.wire_io.specs.Putting.{appended}
-use Rattle.acl_program.specs.Playing.{journal_lines}
+use Rattle.command_files.specs.wire_io.sink.Putting.{appended}
+use Rattle.acl_program.specs.program.Playing.{journal_lines}
 use Rattle.acl_program.proofs.printing.print_each.Given as goal
 
 -- the lines of the first connections were put

@@ -1,5 +1,5 @@
-use Rattle.wire_io.proofs.Theorems.{PutCause-then}
-use Rattle.acl_program.proofs.PrintLemmas.{PutsAll-line, PutsAll-number}
+use Rattle.command_files.proofs.wire_io_proofs.Theorems.{PutCause-then}
+use Rattle.acl_program.proofs.printing.PrintLemmas.{PutsAll-line, PutsAll-number}
 use Rattle.acl_program.proofs.printing.print_line.Goals as goal
 
 -- the number was put, and the rest was to be

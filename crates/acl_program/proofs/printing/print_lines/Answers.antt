@@ -1,6 +1,6 @@
 use Rattle.std.proofs.Common.{◌∙◌}
-use Rattle.wire_io.proofs.Theorems.{PutsAll-no_memory, PutCause-no_memory}
-use Rattle.acl_program.proofs.PrintLemmas.{PutsAll-opened}
+use Rattle.command_files.proofs.wire_io_proofs.Theorems.{PutsAll-no_memory, PutCause-no_memory}
+use Rattle.acl_program.proofs.printing.PrintLemmas.{PutsAll-opened}
 use Rattle.acl_program.proofs.printing.print_lines.Goals as goal
 
 -- there is no memory for the numbers

@@ -1,4 +1,4 @@
-use Rattle.wire_io.proofs.Theorems.{PutsAll-then, PutsAll-cut, PutCause-then}
+use Rattle.command_files.proofs.wire_io_proofs.Theorems.{PutsAll-then, PutsAll-cut, PutCause-then}
 use Rattle.acl_program.proofs.printing.print_replay.Goals as goal
 
 -- the lines were put, and the tree was to be

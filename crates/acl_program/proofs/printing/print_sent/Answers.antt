@@ -1,4 +1,4 @@
-use Rattle.wire_io.proofs.Theorems.{PutsAll-no_memory, PutCause-no_memory}
+use Rattle.command_files.proofs.wire_io_proofs.Theorems.{PutsAll-no_memory, PutCause-no_memory}
 use Rattle.acl_program.proofs.printing.print_sent.Goals as goal
 
 -- there was no memory for the line, and nothing was put

@@ -1,4 +1,4 @@
-use Rattle.acl_program.specs.Outside.{linked}
+use Rattle.acl_program.specs.program.Outside.{linked}
 use Rattle.acl_program.proofs.program.perform.Goals as goal
 
 -- each command does what it is asked for

@@ -1,6 +1,6 @@
-use Rattle.acl_program.specs.Outside.{outside, linked}
-use Rattle.acl_program.proofs.RunLemmas.{Runs-prints, Runs-complete, Runs-usage_cause, Runs-cause, Runs-faults, Runs-link}
-use Rattle.acl_program.proofs.TwinReplays.{Runs-twins}
+use Rattle.acl_program.specs.program.Outside.{outside, linked}
+use Rattle.acl_program.proofs.program.RunLemmas.{Runs-prints, Runs-complete, Runs-usage_cause, Runs-cause, Runs-faults, Runs-link}
+use Rattle.acl_program.proofs.program.TwinReplays.{Runs-twins}
 use Rattle.acl_program.proofs.program.run.Goals as goal
 
 -- each clause of what is known of the outcome

@@ -1,7 +1,7 @@
 use Rattle.std.proofs.Common.{refl}
-use Rattle.acl_program.specs.Outside.{outside, linked}
-use Rattle.acl_program.proofs.RunLemmas.{Runs-performed, Runs-unread, Runs-usage}
-use Rattle.acl_program.proofs.SampleLemmas.{few_of}
+use Rattle.acl_program.specs.program.Outside.{outside, linked}
+use Rattle.acl_program.proofs.program.RunLemmas.{Runs-performed, Runs-unread, Runs-usage}
+use Rattle.acl_program.proofs.sample.SampleLemmas.{few_of}
 use Rattle.acl_program.proofs.program.run_words.Goals as goal
 
 -- a command asks for no more persons than it may

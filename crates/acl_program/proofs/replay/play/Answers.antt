@@ -1,8 +1,8 @@
 use Rattle.std.proofs.Common.{sym, ap, subst}
-use Rattle.dir_tree.specs.Numbered.{entries_of}
-use Rattle.aci_item.specs.Rules.{IsGoodTree}
-use Rattle.acl_program.specs.Outside.{written}
-use Rattle.acl_program.proofs.RunLemmas.{Played-nothing, Played-over}
+use Rattle.command_files.specs.dir_tree.tree.Numbered.{entries_of}
+use Rattle.command_files.specs.aci_item.Rules.{IsGoodTree}
+use Rattle.acl_program.specs.program.Outside.{written}
+use Rattle.acl_program.proofs.program.RunLemmas.{Played-nothing, Played-over}
 use Rattle.acl_program.proofs.replay.play.Goals as goal
 
 -- the directory is that of the tree

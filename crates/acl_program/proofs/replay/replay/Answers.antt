@@ -1,9 +1,9 @@
-use Rattle.command_words.specs.Command.{Replay}
+use Rattle.command_words.specs.command.Command.{Replay}
 use Rattle.std.proofs.Common.{refl}
-use Rattle.acl_program.specs.Outside.{outside}
-use Rattle.acl_program.specs.Asked.{replay_asked}
-use Rattle.acl_program.proofs.RunLemmas.{LoadsData-good}
-use Rattle.acl_program.proofs.PerformLemmas.{Performs-replayed, Performs-refused}
+use Rattle.acl_program.specs.program.Outside.{outside}
+use Rattle.acl_program.specs.replay.Asked.{replay_asked}
+use Rattle.acl_program.proofs.program.RunLemmas.{LoadsData-good}
+use Rattle.acl_program.proofs.program.PerformLemmas.{Performs-replayed, Performs-refused}
 use Rattle.acl_program.proofs.replay.replay.Goals as goal
 
 -- the tree is good

@@ -1,6 +1,6 @@
-use Rattle.acl_program.specs.Outside.{outside}
-use Rattle.acl_program.specs.Asked.{replay_asked}
-use Rattle.acl_program.proofs.RunLemmas.{LoadsScript-fresh, Replays-played, Replays-refused}
+use Rattle.acl_program.specs.program.Outside.{outside}
+use Rattle.acl_program.specs.replay.Asked.{replay_asked}
+use Rattle.acl_program.proofs.program.RunLemmas.{LoadsScript-fresh, Replays-played, Replays-refused}
 use Rattle.acl_program.proofs.replay.replay_over.Goals as goal
 
 -- the link is fresh

@@ -1,5 +1,5 @@
 use Rattle.std.proofs.Common.{refl}
-use Rattle.acl_program.proofs.PlayLemmas.{Plays-link, Good-link}
+use Rattle.acl_program.proofs.replay.PlayLemmas.{Plays-link, Good-link}
 use Rattle.acl_program.proofs.replay.serve.Goals as goal
 
 -- the loop's clauses at a link that has only the script

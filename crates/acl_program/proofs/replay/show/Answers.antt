@@ -1,7 +1,7 @@
 use Rattle.std.proofs.Common.{sym}
-use Rattle.acl_program.specs.Playing.{Shows}
-use Rattle.acl_program.specs.Outside.{written}
-use Rattle.acl_program.proofs.EndsLemmas.{Ends-put}
+use Rattle.acl_program.specs.program.Playing.{Shows}
+use Rattle.acl_program.specs.program.Outside.{written}
+use Rattle.acl_program.proofs.troubles.EndsLemmas.{Ends-put}
 use Rattle.acl_program.proofs.replay.show.Goals as goal
 
 -- the lines and the tree were to be put, and how the sink answered

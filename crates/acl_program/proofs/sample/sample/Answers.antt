@@ -1,7 +1,7 @@
 use Rattle.std.proofs.Common.{refl}
-use Rattle.acl_program.specs.Outside.{outside}
-use Rattle.acl_program.proofs.ExplainLemmas.{Performs-no_memory}
-use Rattle.acl_program.proofs.SampleLemmas.{Performs-sampled, Performs-unsampled}
+use Rattle.acl_program.specs.program.Outside.{outside}
+use Rattle.acl_program.proofs.explain.ExplainLemmas.{Performs-no_memory}
+use Rattle.acl_program.proofs.sample.SampleLemmas.{Performs-sampled, Performs-unsampled}
 use Rattle.acl_program.proofs.sample.sample.Goals as goal
 
 -- the sample was loaded

@@ -1,4 +1,4 @@
-use Rattle.acl_program.proofs.SampleLemmas.{sent_stopped, sent_spent}
+use Rattle.acl_program.proofs.sample.SampleLemmas.{sent_stopped, sent_spent}
 use Rattle.acl_program.proofs.sample.serve_sample.Goals as goal
 
 -- Stop was heard

@@ -1,6 +1,6 @@
 use Rattle.std.proofs.Common.{◌≡◌, ◌∙◌, length, subst, ap}
 use Rattle.std.specs.Prelude.{IfOk, string_bytes}
-use Rattle.acl_program.proofs.SampleLemmas.{summary_is}
+use Rattle.acl_program.proofs.sample.SampleLemmas.{summary_is}
 use Rattle.acl_program.proofs.sample.served_text.Goals as goal
 
 -- the connection was served

@@ -1,8 +1,8 @@
 use Rattle.std.proofs.Common.{ap}
-use Rattle.dir_tree.specs.Numbered.{entries_of}
-use Rattle.acl_program.specs.Outside.{beside, linked, written}
-use Rattle.acl_program.specs.Serving.{serve_asked}
-use Rattle.acl_program.proofs.ServeLemmas.{Listens-over, Listens-nothing}
+use Rattle.command_files.specs.dir_tree.tree.Numbered.{entries_of}
+use Rattle.acl_program.specs.program.Outside.{beside, linked, written}
+use Rattle.acl_program.specs.serve.Serving.{serve_asked}
+use Rattle.acl_program.proofs.serve.ServeLemmas.{Listens-over, Listens-nothing}
 use Rattle.acl_program.proofs.serve.listen.Goals as goal
 
 -- the directory is that of the tree

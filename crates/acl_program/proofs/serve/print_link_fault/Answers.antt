@@ -1,8 +1,8 @@
 use Rattle.std.proofs.Common.{refl}
-use Rattle.acl_program.specs.Outcomes.{Served, text_of, status_of}
-use Rattle.acl_program.specs.Outside.{written}
-use Rattle.acl_program.specs.Serving.{NotOpened}
-use Rattle.acl_program.proofs.EndsLemmas.{Ends-put}
+use Rattle.acl_program.specs.status.Outcomes.{Served, text_of, status_of}
+use Rattle.acl_program.specs.program.Outside.{written}
+use Rattle.acl_program.specs.serve.Serving.{NotOpened}
+use Rattle.acl_program.proofs.troubles.EndsLemmas.{Ends-put}
 use Rattle.acl_program.proofs.serve.print_link_fault.Goals as goal
 
 -- the text was to be put, and how the sink answered

@@ -1,9 +1,9 @@
 use Rattle.std.proofs.Common.{refl}
-use Rattle.command_words.specs.Command.{Serve}
-use Rattle.acl_program.specs.Outside.{outside, linked, shelved}
-use Rattle.acl_program.specs.Serving.{serve_asked}
-use Rattle.acl_program.proofs.PerformLemmas.{Performs-refused}
-use Rattle.acl_program.proofs.ServeLemmas.{Performs-served}
+use Rattle.command_words.specs.command.Command.{Serve}
+use Rattle.acl_program.specs.program.Outside.{outside, linked, shelved}
+use Rattle.acl_program.specs.serve.Serving.{serve_asked}
+use Rattle.acl_program.proofs.program.PerformLemmas.{Performs-refused}
+use Rattle.acl_program.proofs.serve.ServeLemmas.{Performs-served}
 use Rattle.acl_program.proofs.serve.serve.Goals as goal
 
 -- the data file was loaded

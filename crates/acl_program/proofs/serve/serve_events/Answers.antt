@@ -1,6 +1,6 @@
 use Rattle.std.proofs.Common.{ap, ◌∙◌}
-use Rattle.acl_program.specs.Outcomes.{settled}
-use Rattle.acl_program.proofs.ServeLemmas.{PutsAll-as}
+use Rattle.acl_program.specs.status.Outcomes.{settled}
+use Rattle.acl_program.proofs.serve.ServeLemmas.{PutsAll-as}
 use Rattle.acl_program.proofs.serve.serve_events.Goals as goal
 
 -- the loop ended, and its line was to be put

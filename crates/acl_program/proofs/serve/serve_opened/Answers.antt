@@ -1,7 +1,7 @@
 use Rattle.std.proofs.Common.{refl}
-use Rattle.acl_program.specs.Outside.{beside, linked, written}
-use Rattle.acl_program.specs.Serving.{serve_asked}
-use Rattle.acl_program.proofs.ServeLemmas.{ListensOn-ended, ListensOn-cut}
+use Rattle.acl_program.specs.program.Outside.{beside, linked, written}
+use Rattle.acl_program.specs.serve.Serving.{serve_asked}
+use Rattle.acl_program.proofs.serve.ServeLemmas.{ListensOn-ended, ListensOn-cut}
 use Rattle.acl_program.proofs.serve.serve_opened.Goals as goal
 
 -- the line was put

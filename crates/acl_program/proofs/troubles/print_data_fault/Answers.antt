@@ -1,7 +1,7 @@
 use Rattle.std.proofs.Common.{refl}
-use Rattle.acl_program.specs.Outcomes.{NoFile, text_of, status_of}
-use Rattle.acl_program.specs.Outside.{written}
-use Rattle.acl_program.proofs.EndsLemmas.{Ends-put}
+use Rattle.acl_program.specs.status.Outcomes.{NoFile, text_of, status_of}
+use Rattle.acl_program.specs.program.Outside.{written}
+use Rattle.acl_program.proofs.troubles.EndsLemmas.{Ends-put}
 use Rattle.acl_program.proofs.troubles.print_data_fault.Goals as goal
 
 -- the text was to be put, and how the sink answered

@@ -1,8 +1,8 @@
 use Rattle.std.proofs.Common.{refl}
-use Rattle.acl_program.specs.Outcomes.{OutOfMemory}
-use Rattle.acl_program.specs.Outside.{written}
-use Rattle.acl_program.proofs.EndsLemmas.{Ends-no_memory}
-use Rattle.wire_io.proofs.Theorems.{appended-none}
+use Rattle.acl_program.specs.status.Outcomes.{OutOfMemory}
+use Rattle.acl_program.specs.program.Outside.{written}
+use Rattle.acl_program.proofs.troubles.EndsLemmas.{Ends-no_memory}
+use Rattle.command_files.proofs.wire_io_proofs.Theorems.{appended-none}
 use Rattle.acl_program.proofs.troubles.print_trouble.Goals as goal
 
 -- nothing is printed for want of memory

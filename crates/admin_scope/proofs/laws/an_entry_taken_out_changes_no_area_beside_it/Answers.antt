@@ -1,5 +1,5 @@
 -- By the lemmas.
-use Rattle.admin_scope.proofs.TakenLemmas.{areas-taken, in_force-taken}
+use Rattle.admin_scope.proofs.laws.TakenLemmas.{areas-taken, in_force-taken}
 use Rattle.admin_scope.proofs.laws.an_entry_taken_out_changes_no_area_beside_it.Goals as goal
 
 pub returns : goal.returns

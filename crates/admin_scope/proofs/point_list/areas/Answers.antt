@@ -2,9 +2,9 @@
 use Rattle.std.proofs.Common.{◌≡◌, Some, sym, ap, ◌∙◌}
 use Rattle.std.specs.Option.{option_map}
 use Rattle.std.proofs.lemmas.Option.{same_Some}
-use Rattle.admin_scope.specs.Walking.{walk_of}
-use Rattle.admin_scope.proofs.ListLemmas.{ok_from}
-use Rattle.admin_scope.proofs.WalkLemmas.{areas-gathered, live-gathered}
+use Rattle.admin_scope.specs.upwards.Walking.{walk_of}
+use Rattle.admin_scope.proofs.subentries.ListLemmas.{ok_from}
+use Rattle.admin_scope.proofs.subentries.WalkLemmas.{areas-gathered, live-gathered}
 use Rattle.admin_scope.proofs.point_list.areas.Goals as goal
 
 pub returns-in-Some-clause-exact : goal.returns-in-Some-clause-exact

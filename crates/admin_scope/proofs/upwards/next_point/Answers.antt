@@ -1,7 +1,7 @@
 -- By what stands at the front.
 use Rattle.std.proofs.Common.{◌≡◌, ◌<◌, sym, ◌∙◌, ap, arith}
 use Rattle.std.specs.Option.{option_map}
-use Rattle.admin_scope.proofs.WalkLemmas.{points_up-specific, points_up-inner, points_up-other, points_up-nothing, points_up-end}
+use Rattle.admin_scope.proofs.subentries.WalkLemmas.{points_up-specific, points_up-inner, points_up-other, points_up-nothing, points_up-end}
 use Rattle.admin_scope.proofs.upwards.next_point.Goals as goal
 
 pub returns-then-is_specific : goal.returns-then-is_specific

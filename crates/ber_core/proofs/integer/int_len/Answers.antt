@@ -3,7 +3,7 @@ use Rattle.std.proofs.Common.{◌≡◌, ℕ, ap, ◌∙◌, w64, arith}
 use Rattle.std.specs.Int.{to_be_bytes}
 use Rattle.std.proofs.lemmas.Int.{to_z-of_z}
 use Rattle.ber_core.specs.Integer.{magnitude}
-use Rattle.ber_core.proofs.IntegerLemmas.{written_length}
+use Rattle.ber_core.proofs.integer.IntegerLemmas.{written_length}
 use Rattle.ber_core.proofs.integer.int_len.Goals as goal
 
 pub returns-clause-exact : goal.returns-clause-exact

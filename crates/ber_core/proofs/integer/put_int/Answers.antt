@@ -5,7 +5,7 @@ use mir.Val.{SFits}
 use Rattle.std.proofs.lemmas.Result.{on_ok_weaker}
 use Rattle.std.proofs.lemmas.Int.{to_z-of_z}
 use Rattle.ber_core.specs.Integer.{magnitude, int_octets}
-use Rattle.ber_core.proofs.IntegerLemmas.{negative_octets, natural_octets}
+use Rattle.ber_core.proofs.integer.IntegerLemmas.{negative_octets, natural_octets}
 use Rattle.ber_core.proofs.integer.put_int.Goals as goal
 
 pub returns-then-value-lt0-clause-ok : goal.returns-then-value-lt0-clause-ok

@@ -2,7 +2,7 @@
 use Rattle.std.proofs.Common.{sym, subst, ◌∙◌, ◌≤◌, Option, length}
 use Rattle.std.specs.Prelude.{ℤ, IfSome}
 use Rattle.ber_core.specs.Integer.{IsInteger}
-use Rattle.ber_core.proofs.IntegerLemmas.{int_sound, int_complete}
+use Rattle.ber_core.proofs.integer.IntegerLemmas.{int_sound, int_complete}
 use Rattle.ber_core.proofs.integer.read_int.Goals as goal
 
 pub returns-clause-found : goal.returns-clause-found

@@ -1,7 +1,7 @@
 -- At most one octet is left.
 use Rattle.std.proofs.Common.{arith, sym, ◌∙◌, drop}
 use Rattle.std.proofs.lemmas.List.{length-drop}
-use Rattle.ber_core.proofs.IntegerLemmas.{short_trimmed}
+use Rattle.ber_core.proofs.integer.IntegerLemmas.{short_trimmed}
 use Rattle.ber_core.proofs.integer.spare_zeros.Goals as goal
 
 pub returns-clause-spare : goal.returns-clause-spare

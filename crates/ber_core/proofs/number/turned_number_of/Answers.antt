@@ -1,6 +1,6 @@
 -- The number so far has room for one octet more.
 use Rattle.std.proofs.Common.{arith}
-use Rattle.ber_core.proofs.NumberLemmas.{room_for_one, half_of, bound_next, turned_more}
+use Rattle.ber_core.proofs.number.NumberLemmas.{room_for_one, half_of, bound_next, turned_more}
 use Rattle.ber_core.proofs.number.turned_number_of.Goals as goal
 
 pub overflow_mul-number : goal.overflow_mul-number

@@ -1,6 +1,6 @@
 -- The octets left complete the number so far, which is below what so many octets can spell.
 use Rattle.std.proofs.Common.{◌≡◌, ◌<◌, ◌+◌, ◌*◌, ◌^◌, drop}
-use Rattle.ber_core.specs.Element.{number_after}
+use Rattle.ber_core.specs.write.Element.{number_after}
 use Rattle.ber_core.specs.Integer.{turned}
 use Rattle.ber_core.proofs.number.turned_number_of.Given as goal
 

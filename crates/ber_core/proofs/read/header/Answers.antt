@@ -1,6 +1,6 @@
 -- The computed heading is the one that the octets have, and no other is.
 use Rattle.std.proofs.Common.{sym, subst, ◌∙◌}
-use Rattle.ber_core.specs.Heading.{IsHeading}
+use Rattle.ber_core.specs.read.Heading.{IsHeading}
 use Rattle.ber_core.proofs.Theorems.{heading_sound, heading_complete}
 use Rattle.ber_core.proofs.read.header.Goals as goal
 

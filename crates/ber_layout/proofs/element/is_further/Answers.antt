@@ -1,9 +1,9 @@
 -- One element more is read, or there is none.
 use Rattle.std.proofs.Common.{◌≡◌, ◌<◌, [], sym, ap, ◌∙◌, length}
-use Rattle.ber_layout.specs.Pieces.{are_pieces}
-use Rattle.ber_layout.specs.Pieces.{any_tag}
-use Rattle.ber_layout.specs.Reading.{piece_view}
-use Rattle.ber_layout.proofs.PieceLemmas.{some_left, none_left, piece_sound, pieces_nil, pieces_step, pieces_none}
+use Rattle.ber_layout.specs.element.Pieces.{are_pieces}
+use Rattle.ber_layout.specs.element.Pieces.{any_tag}
+use Rattle.ber_layout.specs.element.Reading.{piece_view}
+use Rattle.ber_layout.proofs.element.PieceLemmas.{some_left, none_left, piece_sound, pieces_nil, pieces_step, pieces_none}
 use Rattle.ber_layout.proofs.element.is_further.Goals as goal
 
 pub returns-in-None : goal.returns-in-None

@@ -1,10 +1,10 @@
 -- One element more is read, or there is none, or it is controls.
 use Rattle.std.proofs.Common.{◌≡◌, ◌<◌, [], sym, ap, ◌∙◌, length, refl}
 use Rattle.std.proofs.lemmas.Bool.{ne_eqb, eq-eqb}
-use Rattle.ber_layout.specs.Pieces.{are_pieces}
-use Rattle.ber_layout.specs.Pieces.{other_than}
-use Rattle.ber_layout.specs.Reading.{piece_view}
-use Rattle.ber_layout.proofs.PieceLemmas.{some_left, none_left, piece_sound, pieces_nil, pieces_step, pieces_none}
+use Rattle.ber_layout.specs.element.Pieces.{are_pieces}
+use Rattle.ber_layout.specs.element.Pieces.{other_than}
+use Rattle.ber_layout.specs.element.Reading.{piece_view}
+use Rattle.ber_layout.proofs.element.PieceLemmas.{some_left, none_left, piece_sound, pieces_nil, pieces_step, pieces_none}
 use Rattle.ber_layout.proofs.element.is_further_but.Goals as goal
 
 pub returns-in-None : goal.returns-in-None

@@ -1,7 +1,7 @@
 -- The octets left are elements exactly where all are.
 use Rattle.std.proofs.Common.{◌≡◌, length}
-use Rattle.ber_layout.specs.Pieces.{are_pieces}
-use Rattle.ber_layout.specs.Pieces.{other_than}
+use Rattle.ber_layout.specs.element.Pieces.{are_pieces}
+use Rattle.ber_layout.specs.element.Pieces.{other_than}
 use Rattle.ber_layout.proofs.element.is_further_but.Given as goal
 
 abbrev pub invariant-loop-rest : goal.invariant-loop-rest

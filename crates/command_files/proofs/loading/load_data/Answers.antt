@@ -1,4 +1,4 @@
-use Rattle.command_files.proofs.LoadLemmas.{LoadsData-read, LoadsData-refused}
+use Rattle.command_files.proofs.loading.LoadLemmas.{LoadsData-read, LoadsData-refused}
 use Rattle.command_files.proofs.loading.load_data.Goals as goal
 
 -- the file was read

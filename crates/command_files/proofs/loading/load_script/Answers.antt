@@ -1,4 +1,4 @@
-use Rattle.command_files.proofs.LoadLemmas.{LoadsScript-read, LoadsScript-refused}
+use Rattle.command_files.proofs.loading.LoadLemmas.{LoadsScript-read, LoadsScript-refused}
 use Rattle.command_files.proofs.loading.load_script.Goals as goal
 
 -- the file was read

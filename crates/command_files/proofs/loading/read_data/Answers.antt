@@ -1,5 +1,5 @@
-use Rattle.command_files.specs.Loading.{ReadsData}
-use Rattle.command_files.proofs.LoadLemmas.{ReadsData-refused}
+use Rattle.command_files.specs.loading.Loading.{ReadsData}
+use Rattle.command_files.proofs.loading.LoadLemmas.{ReadsData-refused}
 use Rattle.command_files.proofs.loading.read_data.Goals as goal
 
 -- the text is accepted

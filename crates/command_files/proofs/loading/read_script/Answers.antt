@@ -1,5 +1,5 @@
-use Rattle.command_files.specs.Loading.{ReadsScript}
-use Rattle.command_files.proofs.LoadLemmas.{ReadsScript-refused}
+use Rattle.command_files.specs.loading.Loading.{ReadsScript}
+use Rattle.command_files.proofs.loading.LoadLemmas.{ReadsScript-refused}
 use Rattle.command_files.proofs.loading.read_script.Goals as goal
 
 -- the text is a script

@@ -1,4 +1,4 @@
-use Rattle.command_words.proofs.Addresses.{after_loopback-stripped}
+use Rattle.command_words.proofs.address.Addresses.{after_loopback-stripped}
 use Rattle.command_words.proofs.address.after_loopback.Goals as goal
 
 pub returns : goal.returns

@@ -1,8 +1,8 @@
 use Rattle.std.proofs.Common.{map, option_map, sym, ◌∙◌}
 use Rattle.std.specs.Prelude.{string_bytes}
 use Rattle.std.proofs.lemmas.Result.{IfOk-weaker}
-use Rattle.command_words.specs.Command.{view}
-use Rattle.command_words.proofs.Commands.{named-reading}
+use Rattle.command_words.specs.command.Command.{view}
+use Rattle.command_words.proofs.command.Commands.{named-reading}
 use Rattle.command_words.proofs.command.read_rest.Goals as goal
 
 -- the first word names a command

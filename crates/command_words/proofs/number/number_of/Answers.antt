@@ -1,5 +1,5 @@
 use Rattle.std.proofs.Common.{sym, ◌∙◌}
-use Rattle.command_words.proofs.Numbers.{number_of-parsed}
+use Rattle.command_words.proofs.number.Numbers.{number_of-parsed}
 use Rattle.command_words.proofs.number.number_of.Goals as goal
 
 -- a text of one to twenty digits

@@ -2,7 +2,7 @@ use Rattle.std.proofs.Common.{codes, sym, ap, ◌∙◌}
 use Rattle.clap.specs.Matches.{found_of}
 use Rattle.clap.specs.Walk.{all_of, rows_of}
 use Rattle.clap.proofs.WalkLemmas.{raw_values-rows}
-use Rattle.command_words.specs.Parser.{kept_in}
+use Rattle.command_words.specs.parser.Parser.{kept_in}
 use Rattle.command_words.proofs.parser.kept.Goals as goal
 
 pub returns-in-Operands : goal.returns-in-Operands

@@ -1,6 +1,6 @@
 use Rattle.std.proofs.Common.{map, ◌∙◌}
 use Rattle.std.specs.Prelude.{string_bytes}
-use Rattle.command_words.proofs.Commands.{all-utf8, error-parse, matches-parse}
+use Rattle.command_words.proofs.command.Commands.{all-utf8, error-parse, matches-parse}
 use Rattle.command_words.proofs.parser.parse.Goals as goal
 
 -- the words are a line of the parser

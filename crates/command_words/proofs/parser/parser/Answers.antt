@@ -3,9 +3,9 @@ use Rattle.std.proofs.lemmas.List.{take_more}
 use Rattle.clap.specs.Simple.{App, with_rule}
 use Rattle.clap.specs.Walk.{rule_of}
 use Rattle.command_words.specs.declared.table.OptionName.TheVariants.{Sessions}
-use Rattle.command_words.specs.Parser.{app_with}
+use Rattle.command_words.specs.parser.Parser.{app_with}
 use Rattle.command_words.specs.Table.{row_of}
-use Rattle.command_words.proofs.Commands.{app-more}
+use Rattle.command_words.proofs.command.Commands.{app-more}
 use Rattle.command_words.proofs.parser.parser.Goals as goal
 
 -- one more option

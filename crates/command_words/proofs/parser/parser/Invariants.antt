@@ -1,7 +1,7 @@
 -- The parser has the rules of the options so far.
 use Rattle.std.proofs.Common.{◌≡◌, take}
 use Rattle.clap.specs.Simple.{app_of}
-use Rattle.command_words.specs.Parser.{app_with}
+use Rattle.command_words.specs.parser.Parser.{app_with}
 use Rattle.command_words.specs.Table.{row_of}
 use Rattle.command_words.proofs.parser.parser.Given as goal
 

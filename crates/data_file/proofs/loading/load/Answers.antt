@@ -1,7 +1,7 @@
 use Rattle.std.proofs.Common.{◌≡◌, ◌≢◌, length, arith}
 use Rattle.std.proofs.lemmas.Result.{err_from_is_err_and}
-use Rattle.dir_tree.specs.Numbered.{entries_of}
-use Rattle.data_file.proofs.LoadLemmas.{fault-loads, fault-same, loads-some, loads-none}
+use Rattle.dir_tree.specs.tree.Numbered.{entries_of}
+use Rattle.data_file.proofs.loading.LoadLemmas.{fault-loads, fault-same, loads-some, loads-none}
 use Rattle.data_file.proofs.loading.load.Goals as goal
 
 -- the first bad line

@@ -1,5 +1,5 @@
 use Rattle.std.proofs.lemmas.Result.{err_from_is_err_and}
-use Rattle.data_file.proofs.LoadLemmas.{fault-line, fault-record, fault-same}
+use Rattle.data_file.proofs.loading.LoadLemmas.{fault-line, fault-record, fault-same}
 use Rattle.data_file.proofs.loading.load_next.Goals as goal
 
 -- the record isn't loaded

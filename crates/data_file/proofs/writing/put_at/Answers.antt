@@ -1,6 +1,6 @@
 use Rattle.std.proofs.Common.{sym}
 use Rattle.wire_io.proofs.Theorems.{PutCause-nothing}
-use Rattle.data_file.proofs.PutLemmas.{PutsAll-empty, table-at, text_at-none}
+use Rattle.data_file.proofs.writing.PutLemmas.{PutsAll-empty, table-at, text_at-none}
 use Rattle.data_file.proofs.writing.put_at.Goals as goal
 
 -- the entry is one of the tree

@@ -1,6 +1,6 @@
 use Rattle.std.proofs.Common.{◌∙◌, refl}
 use Rattle.wire_io.proofs.Theorems.{PutCause-nothing, PutCause-then}
-use Rattle.data_file.proofs.PutLemmas.{PutsAll-empty, walked-push, texts-more, texts-refused}
+use Rattle.data_file.proofs.writing.PutLemmas.{PutsAll-empty, walked-push, texts-more, texts-refused}
 use Rattle.data_file.proofs.writing.put_below.Goals as goal
 
 -- nothing was put yet

@@ -1,7 +1,7 @@
 use Rattle.std.proofs.Common.{sym}
 use Rattle.wire_io.proofs.Theorems.{PutCause-nothing}
-use Rattle.data_file.proofs.PutLemmas.{PutsAll-empty, PutsAll-same}
-use Rattle.data_file.proofs.WalkLemmas.{written_records-below, written_records-none}
+use Rattle.data_file.proofs.writing.PutLemmas.{PutsAll-empty, PutsAll-same}
+use Rattle.data_file.proofs.writing.WalkLemmas.{written_records-below, written_records-none}
 use Rattle.data_file.proofs.writing.put_entries.Goals as goal
 
 -- the records from the suffix on are all

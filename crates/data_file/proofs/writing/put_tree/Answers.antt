@@ -1,6 +1,6 @@
 use Rattle.wire_io.proofs.Theorems.{PutsAll-then, PutsAll-cut, PutCause-then}
-use Rattle.dir_tree.specs.Numbered.{entries_of}
-use Rattle.data_file.proofs.PutLemmas.{PutsAll-same, written_file-parts}
+use Rattle.dir_tree.specs.tree.Numbered.{entries_of}
+use Rattle.data_file.proofs.writing.PutLemmas.{PutsAll-same, written_file-parts}
 use Rattle.data_file.proofs.writing.put_tree.Goals as goal
 
 -- the types of a good tree's entries are in the table

@@ -1,8 +1,8 @@
 -- A copy goes last, as its attribute stands after those copied.
 use Rattle.std.proofs.Common.{◌++◌, sym, ap, ◌∙◌}
-use Rattle.dir_tree.specs.Rows.{attribute_of, attributes_of}
-use Rattle.dir_tree.proofs.GoodLemmas.{distinct-kinds}
-use Rattle.dir_tree.proofs.ChangeLemmas.{has_kind-before, append-copy}
+use Rattle.dir_tree.specs.attributes.Rows.{attribute_of, attributes_of}
+use Rattle.dir_tree.proofs.entry.GoodLemmas.{distinct-kinds}
+use Rattle.dir_tree.proofs.attributes.ChangeLemmas.{has_kind-before, append-copy}
 use Rattle.dir_tree.proofs.attributes.copy_attributes.Goals as goal
 
 -- no type stands twice

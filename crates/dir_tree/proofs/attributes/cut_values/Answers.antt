@@ -1,7 +1,7 @@
 -- The values found lost the key, or there are none.
 use Rattle.std.proofs.Common.{sym, ap, ◌∙◌}
-use Rattle.dir_tree.specs.Rows.{attributes_of}
-use Rattle.dir_tree.proofs.ChangeLemmas.{cut-set_value, cut-none}
+use Rattle.dir_tree.specs.attributes.Rows.{attributes_of}
+use Rattle.dir_tree.proofs.attributes.ChangeLemmas.{cut-set_value, cut-none}
 use Rattle.dir_tree.proofs.attributes.cut_values.Goals as goal
 
 pub returns-in-Some : goal.returns-in-Some

@@ -1,8 +1,8 @@
 -- `retain` keeps the rows with values.
 use Rattle.std.proofs.Common.{rules, nat_lt, length, ap, ◌∙◌}
 use Rattle.indexmap.proofs.CallerLemmas.{filter-RetainsPairs}
-use Rattle.dir_tree.specs.Rows.{attributes_of}
-use Rattle.dir_tree.proofs.ChangeLemmas.{filter-rows}
+use Rattle.dir_tree.specs.attributes.Rows.{attributes_of}
+use Rattle.dir_tree.proofs.attributes.ChangeLemmas.{filter-rows}
 use Rattle.dir_tree.proofs.attributes.drop_empty.Goals as goal
 
 pub returns : goal.returns

@@ -1,7 +1,7 @@
 -- The key is taken out of the map.
 use Rattle.std.proofs.Common.{sym, ap, ◌∙◌, is_some}
-use Rattle.dir_tree.specs.Rows.{attributes_of}
-use Rattle.dir_tree.proofs.ChangeLemmas.{has_kind-rows, kept-remove_entry}
+use Rattle.dir_tree.specs.attributes.Rows.{attributes_of}
+use Rattle.dir_tree.proofs.attributes.ChangeLemmas.{has_kind-rows, kept-remove_entry}
 use Rattle.dir_tree.proofs.attributes.drop_kind.Goals as goal
 
 pub returns-clause-found : goal.returns-clause-found

@@ -1,6 +1,6 @@
 -- The map has the key where the type is there.
 use Rattle.std.proofs.Common.{sym, ◌∙◌}
-use Rattle.dir_tree.proofs.ChangeLemmas.{has_kind-rows}
+use Rattle.dir_tree.proofs.attributes.ChangeLemmas.{has_kind-rows}
 use Rattle.dir_tree.proofs.attributes.has_kind.Goals as goal
 
 pub returns : goal.returns

@@ -1,7 +1,7 @@
 -- The map finds the values of the type.
 use Rattle.std.proofs.Common.{sym, ap, ◌∙◌}
-use Rattle.dir_tree.specs.Entries.{has_key}
-use Rattle.dir_tree.proofs.RowLemmas.{values_of-rows, found_values}
+use Rattle.dir_tree.specs.Entry.{has_key}
+use Rattle.dir_tree.proofs.entry.RowLemmas.{values_of-rows, found_values}
 use Rattle.dir_tree.proofs.attributes.has_value.Goals as goal
 
 pub returns-in-Some : goal.returns-in-Some

@@ -1,5 +1,5 @@
 -- A new type goes last.
-use Rattle.dir_tree.proofs.ChangeLemmas.{put_value-new}
+use Rattle.dir_tree.proofs.attributes.ChangeLemmas.{put_value-new}
 use Rattle.dir_tree.proofs.attributes.put_first.Goals as goal
 
 pub returns-clause-ok : goal.returns-clause-ok

@@ -1,8 +1,8 @@
 -- The values gained one, or stayed.
 use Rattle.std.proofs.Common.{sym, ap, ◌∙◌, is_some}
 use Rattle.std.proofs.lemmas.Result.{err_from_is_err_and}
-use Rattle.dir_tree.specs.Rows.{attributes_of}
-use Rattle.dir_tree.proofs.ChangeLemmas.{put_value-set_value, attributes_of-set_value, has_kind-rows}
+use Rattle.dir_tree.specs.attributes.Rows.{attributes_of}
+use Rattle.dir_tree.proofs.attributes.ChangeLemmas.{put_value-set_value, attributes_of-set_value, has_kind-rows}
 use Rattle.dir_tree.proofs.attributes.put_last.Goals as goal
 
 -- there was no room: the map has the same values again

@@ -1,7 +1,7 @@
 -- The class has the object identifier, or its superior is asked.
 use Rattle.std.proofs.Common.{sym, ◌∙◌}
 use Rattle.std.specs.Str.{bytes_eq}
-use Rattle.dir_tree.proofs.ClassLemmas.{list_any-above}
+use Rattle.dir_tree.proofs.classes.ClassLemmas.{list_any-above}
 use Rattle.dir_tree.proofs.classes.+is_below.Goals as goal
 
 pub returns-in-Some : goal.returns-in-Some

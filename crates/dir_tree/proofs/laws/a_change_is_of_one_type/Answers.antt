@@ -1,5 +1,5 @@
-use Rattle.dir_tree.proofs.ValuesLaws.{values_of-put_value, values_of-cut, values_of-dropped}
-use Rattle.dir_tree.proofs.SetLemmas.{values_of-set_in}
+use Rattle.dir_tree.proofs.laws.ValuesLaws.{values_of-put_value, values_of-cut, values_of-dropped}
+use Rattle.dir_tree.proofs.laws.SetLemmas.{values_of-set_in}
 use Rattle.dir_tree.proofs.laws.a_change_is_of_one_type.Goals as goal
 
 pub returns : goal.returns

@@ -1,5 +1,5 @@
-use Rattle.dir_tree.proofs.GoodLaws.{good-with_value, good-without_value, good-without_kind}
-use Rattle.dir_tree.proofs.SetLemmas.{good-with_values}
+use Rattle.dir_tree.proofs.laws.GoodLaws.{good-with_value, good-without_value, good-without_kind}
+use Rattle.dir_tree.proofs.laws.SetLemmas.{good-with_values}
 use Rattle.dir_tree.proofs.laws.a_change_leaves_good_attributes.Goals as goal
 
 pub returns : goal.returns

@@ -1,5 +1,5 @@
-use Rattle.dir_tree.proofs.ValuesLaws.{values_of-put_other, values_of-cut_other, values_of-dropped_other}
-use Rattle.dir_tree.proofs.SetLemmas.{values_of-set_other}
+use Rattle.dir_tree.proofs.laws.ValuesLaws.{values_of-put_other, values_of-cut_other, values_of-dropped_other}
+use Rattle.dir_tree.proofs.laws.SetLemmas.{values_of-set_other}
 use Rattle.dir_tree.proofs.laws.a_change_leaves_other_types.Goals as goal
 
 pub returns : goal.returns

@@ -1,4 +1,4 @@
-use Rattle.dir_tree.proofs.ValuesLaws.{values_of-slice_get}
+use Rattle.dir_tree.proofs.laws.ValuesLaws.{values_of-slice_get}
 use Rattle.dir_tree.proofs.laws.an_attribute_is_found_by_its_type.Goals as goal
 
 pub returns : goal.returns

@@ -1,6 +1,6 @@
 -- A clone of a key has its octets.
 use Rattle.std.specs.List.{each_same}
-use Rattle.dir_tree.proofs.CopyLemmas.{same_places}
+use Rattle.dir_tree.proofs.paths.CopyLemmas.{same_places}
 use Rattle.dir_tree.proofs.paths.copy_places.Goals as goal
 
 pub returns : goal.returns

@@ -1,7 +1,7 @@
 -- The slots passed over are full.
 use Rattle.std.proofs.Common.{◌≡◌, ◌≤◌, ◌<◌, ◌-◌, ℕ, length, true}
 use Rattle.std.specs.Prelude.{is_some}
-use Rattle.dir_tree.specs.Slots.{slot_of}
+use Rattle.dir_tree.specs.slots.Slots.{slot_of}
 use Rattle.dir_tree.proofs.slots.empty_from.Given as goal
 
 abbrev pub invariant-loop-id : goal.invariant-loop-id

@@ -1,6 +1,6 @@
 -- Not every slot is full.
 use Rattle.std.proofs.Common.{arith}
-use Rattle.dir_tree.proofs.CountLemmas.{count_full-all}
+use Rattle.dir_tree.proofs.slots.CountLemmas.{count_full-all}
 use Rattle.dir_tree.proofs.slots.empty_slot.Goals as goal
 
 pub unreachable-requires : goal.unreachable-requires

@@ -1,7 +1,7 @@
 -- A slot pushed is empty; otherwise one is.
 use Rattle.std.proofs.Common.{arith, ap, ◌∙◌}
-use Rattle.dir_tree.specs.Slots.{count_full}
-use Rattle.dir_tree.proofs.CountLemmas.{count_full-le, count_full-push}
+use Rattle.dir_tree.specs.slots.Slots.{count_full}
+use Rattle.dir_tree.proofs.slots.CountLemmas.{count_full-le, count_full-push}
 use Rattle.dir_tree.proofs.slots.free_slot.Goals as goal
 
 pub returns-then-len-full-clause-count : goal.returns-then-len-full-clause-count

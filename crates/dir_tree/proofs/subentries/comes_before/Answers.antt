@@ -1,9 +1,9 @@
 -- An empty slot counts as one without a name.
 use Rattle.std.proofs.Common.{sym, ap, ◌∙◌, Option}
-use Rattle.dir_tree.specs.Entries.{EntryInformation}
-use Rattle.dir_tree.specs.Trees.{is_before}
-use Rattle.dir_tree.specs.Slots.{entry_in}
-use Rattle.dir_tree.proofs.NameLemmas.{empty_before}
+use Rattle.dir_tree.specs.Entry.{EntryInformation}
+use Rattle.dir_tree.specs.tree.Trees.{is_before}
+use Rattle.dir_tree.specs.slots.Slots.{entry_in}
+use Rattle.dir_tree.proofs.tree.NameLemmas.{empty_before}
 use Rattle.dir_tree.proofs.subentries.comes_before.Goals as goal
 
 pub returns-in-None : goal.returns-in-None

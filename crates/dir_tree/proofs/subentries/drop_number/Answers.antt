@@ -1,8 +1,8 @@
 -- `retain` keeps the other numbers.
 use Rattle.std.proofs.Common.{not, ◌==◌, rules, ap, ◌∙◌}
 use Rattle.std.proofs.lemmas.Fn.{filter_same}
-use Rattle.dir_tree.specs.Slots.{numbers_in}
-use Rattle.dir_tree.proofs.AccessLemmas.{unlisted-numbers}
+use Rattle.dir_tree.specs.slots.Slots.{numbers_in}
+use Rattle.dir_tree.proofs.subentries.AccessLemmas.{unlisted-numbers}
 use Rattle.dir_tree.proofs.subentries.drop_number.Goals as goal
 
 pub returns-clause-exact : goal.returns-clause-exact

@@ -1,8 +1,8 @@
 -- The number goes to the place of the name.
 use Rattle.std.proofs.Common.{◌≡◌, sym, ap, ◌∙◌, ℕ, insert}
 use Rattle.std.proofs.lemmas.Bool.{cond-true}
-use Rattle.dir_tree.specs.Slots.{numbers_in, place_among}
-use Rattle.dir_tree.proofs.AccessLemmas.{numbers_in-insert}
+use Rattle.dir_tree.specs.slots.Slots.{numbers_in, place_among}
+use Rattle.dir_tree.proofs.subentries.AccessLemmas.{numbers_in-insert}
 use Rattle.dir_tree.proofs.subentries.list_number.Goals as goal
 
 pub returns-then-is_access_subentry : goal.returns-then-is_access_subentry

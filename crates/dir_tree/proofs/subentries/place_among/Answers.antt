@@ -1,6 +1,6 @@
 -- Those passed over come before the name, and the one at which it ends does not.
 use Rattle.std.proofs.Common.{◌∙◌, sym, arith}
-use Rattle.dir_tree.proofs.AccessLemmas.{among-more, among-none}
+use Rattle.dir_tree.proofs.subentries.AccessLemmas.{among-more, among-none}
 use Rattle.dir_tree.proofs.subentries.place_among.Goals as goal
 
 pub returns-then-not-comes_before-clause-exact : goal.returns-then-not-comes_before-clause-exact

@@ -1,6 +1,6 @@
 -- Those passed over come before the name.
 use Rattle.std.proofs.Common.{◌≡◌, ◌+◌, drop}
-use Rattle.dir_tree.specs.Slots.{numbers_in, place_among}
+use Rattle.dir_tree.specs.slots.Slots.{numbers_in, place_among}
 use Rattle.dir_tree.proofs.subentries.place_among.Given as goal
 
 abbrev pub invariant-loop-no : goal.invariant-loop-no

@@ -1,7 +1,7 @@
 -- A key that the base does not begin ends the walk, and one at another depth is passed over.
 use Rattle.std.proofs.Common.{ℕ, Vec, Global, sym, ap, ◌∙◌}
-use Rattle.dir_tree.specs.Walks.{walked}
-use Rattle.dir_tree.proofs.WalkLemmas.{walked-out, walked-here, walked-over, walked-none}
+use Rattle.dir_tree.specs.Walk.{walked}
+use Rattle.dir_tree.proofs.walk.WalkLemmas.{walked-out, walked-here, walked-over, walked-none}
 use Rattle.dir_tree.proofs.walk.next_number.Goals as goal
 
 pub returns-then-not-starts_with-clause-empty : goal.returns-then-not-starts_with-clause-empty

@@ -1,6 +1,6 @@
 -- What was passed over is not at the depth.
 use Rattle.std.proofs.Common.{◌≡◌, ℕ, Vec, Global}
-use Rattle.dir_tree.specs.Walks.{walked}
+use Rattle.dir_tree.specs.Walk.{walked}
 use Rattle.dir_tree.proofs.walk.next_number.Given as goal
 
 abbrev pub invariant-loop-path : goal.invariant-loop-path

@@ -1,6 +1,6 @@
 -- The octets have ended before the front.
 use Rattle.std.proofs.Common.{sym, ◌∙◌, arith}
-use Rattle.dn_names.proofs.StripLemmas.{strip_ended}
+use Rattle.dn_names.proofs.is_key.StripLemmas.{strip_ended}
 use Rattle.dn_names.proofs.is_key.after.Goals as goal
 
 pub returns-then-is_empty : goal.returns-then-is_empty

@@ -3,7 +3,7 @@ use Rattle.std.proofs.Common.{◌∷◌, ◌+◌, drop, sym, ◌∙◌, ap, arit
 use Rattle.std.proofs.lemmas.List.{drop_more}
 use Rattle.dn_names.specs.declared.printing.Shown.TheVariants.{Key}
 use Rattle.dn_names.specs.Printing.{print_pair, shown_of}
-use Rattle.dn_names.proofs.StripLemmas.{strip_next, strip_stop}
+use Rattle.dn_names.proofs.is_key.StripLemmas.{strip_next, strip_stop}
 use Rattle.dn_names.proofs.is_key.after_rdn.Goals as goal
 
 pub loop-index-preserved : goal.loop-index-preserved

@@ -1,10 +1,10 @@
 -- One RDN more, or none.
 use Rattle.std.proofs.Common.{reverse, sym}
 use Rattle.dn_names.specs.declared.printing.Shown.TheVariants.{Key}
-use Rattle.dn_names.specs.Names.{rdns_of}
+use Rattle.dn_names.specs.name.Names.{rdns_of}
 use Rattle.dn_names.specs.Printing.{print_rdn, print_by, shown_of}
-use Rattle.dn_names.proofs.PrintLemmas.{drop-reverse}
-use Rattle.dn_names.proofs.StripLemmas.{strip_next, strip_stop}
+use Rattle.dn_names.proofs.printing.PrintLemmas.{drop-reverse}
+use Rattle.dn_names.proofs.is_key.StripLemmas.{strip_next, strip_stop}
 use Rattle.dn_names.proofs.is_key.after_rdns.Goals as goal
 
 pub loop-index-preserved : goal.loop-index-preserved

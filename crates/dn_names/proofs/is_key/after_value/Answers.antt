@@ -1,7 +1,7 @@
 -- One octet more, or none.
 use Rattle.std.proofs.Common.{sym}
 use Rattle.dn_names.specs.Printing.{print_value}
-use Rattle.dn_names.proofs.StripLemmas.{strip_octet, strip_no_octet}
+use Rattle.dn_names.proofs.is_key.StripLemmas.{strip_octet, strip_no_octet}
 use Rattle.dn_names.proofs.is_key.after_value.Goals as goal
 
 pub loop-index-preserved : goal.loop-index-preserved

@@ -1,6 +1,6 @@
 -- What is cut off of a good name is good.
-use Rattle.dn_names.specs.Names.{rdns_of}
-use Rattle.dn_names.proofs.NameLaws.{IsGoodName-drop}
+use Rattle.dn_names.specs.name.Names.{rdns_of}
+use Rattle.dn_names.proofs.name.NameLaws.{IsGoodName-drop}
 use Rattle.dn_names.proofs.joining.copy_from.Goals as goal
 
 pub from_rdns-requires : goal.from_rdns-requires

@@ -1,5 +1,5 @@
 -- The RDNs of the vector from one on.
-use Rattle.dn_names.proofs.NameOrderLemmas.{rdns_of-drop}
+use Rattle.dn_names.proofs.joining.NameOrderLemmas.{rdns_of-drop}
 use Rattle.dn_names.proofs.joining.rdns_from.Goals as goal
 
 pub returns : goal.returns

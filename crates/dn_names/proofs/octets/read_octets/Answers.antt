@@ -1,6 +1,6 @@
 -- By what the octet is: within an escape, a bare space, or the end of a piece.
 use Rattle.std.proofs.Common.{◌∷◌, [], arith, length-append}
-use Rattle.dn_names.proofs.OctetsLemmas.{next-within, next-space, next-octet}
+use Rattle.dn_names.proofs.octets.OctetsLemmas.{next-within, next-space, next-octet}
 use Rattle.dn_names.proofs.octets.read_octets.Goals as goal
 use Rattle.dn_names.proofs.octets.read_octets.Goals.{in-Within, in-BareSpace+in_ok-push-in-BareSpace, in-Octet+in_ok-push-in-Octet}
 

@@ -1,6 +1,6 @@
 -- Path keys compare as names do.
 use Rattle.std.proofs.Common.{◌∙◌}
-use Rattle.dn_names.proofs.PathKeyLaws.{octets_cmp-path_key}
+use Rattle.dn_names.proofs.order.PathKeyLaws.{octets_cmp-path_key}
 use Rattle.dn_names.proofs.order.compare_names.Goals as goal
 
 pub returns : goal.returns

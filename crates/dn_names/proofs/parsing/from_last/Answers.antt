@@ -1,5 +1,5 @@
 -- The RDNs of the vector from the last to the first.
-use Rattle.dn_names.proofs.ResolveLemmas.{rdns_of-reverse}
+use Rattle.dn_names.proofs.resolve.ResolveLemmas.{rdns_of-reverse}
 use Rattle.dn_names.proofs.parsing.from_last.Goals as goal
 
 pub from_rdns-requires : goal.from_rdns-requires

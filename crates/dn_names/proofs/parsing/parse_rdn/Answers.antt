@@ -1,6 +1,6 @@
 -- What reading gives says which text it is, or why it is none.
-use Rattle.dn_names.proofs.ParseLemmas.{RdnText-Answers}
-use Rattle.dn_names.proofs.CauseLemmas.{NameCause-Answers_rdn}
+use Rattle.dn_names.proofs.parsing.ParseLemmas.{RdnText-Answers}
+use Rattle.dn_names.proofs.parsing.CauseLemmas.{NameCause-Answers_rdn}
 use Rattle.dn_names.proofs.parsing.parse_rdn.Goals as goal
 
 pub returns-clause-ok : goal.returns-clause-ok

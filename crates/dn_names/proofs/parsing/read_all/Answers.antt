@@ -1,8 +1,8 @@
 -- The RDNs of the text from the last to the first.
 use Rattle.std.proofs.Common.{reverse, sym, ◌∙◌}
-use Rattle.dn_names.specs.Names.{rdns_of}
-use Rattle.dn_names.proofs.ResolveLemmas.{from_root-written_of}
-use Rattle.dn_names.proofs.GoodNameLemmas.{IsGoodName-from_written_of}
+use Rattle.dn_names.specs.name.Names.{rdns_of}
+use Rattle.dn_names.proofs.resolve.ResolveLemmas.{from_root-written_of}
+use Rattle.dn_names.proofs.parsing.GoodNameLemmas.{IsGoodName-from_written_of}
 use Rattle.dn_names.proofs.parsing.read_all.Goals as goal
 
 pub from_last-requires : goal.from_last-requires

@@ -1,7 +1,7 @@
 -- The RDNs so far and those of what is left are the name's.
 use Rattle.std.proofs.Common.{◌≡◌, ◌≤◌, ◌+◌, length}
-use Rattle.dn_names.specs.Names.{rdns_of}
-use Rattle.dn_names.proofs.ResolveLemmas.{after_rdns, rdns_at}
+use Rattle.dn_names.specs.name.Names.{rdns_of}
+use Rattle.dn_names.proofs.resolve.ResolveLemmas.{after_rdns, rdns_at}
 use Rattle.dn_names.proofs.parsing.read_rdns.Given as goal
 
 abbrev pub invariant-rdns : goal.invariant-rdns

@@ -1,6 +1,6 @@
 -- What is left is asked of what is left of the octets.
 use Rattle.std.proofs.Common.{◌≡◌, ◌≤◌, length}
-use Rattle.dn_names.specs.PathReading.{after_from, after_key}
+use Rattle.dn_names.specs.path.PathReading.{after_from, after_key}
 use Rattle.dn_names.proofs.path.after_key.Given as goal
 
 abbrev pub invariant-loop-octet : goal.invariant-loop-octet

@@ -1,8 +1,8 @@
 -- Behind the type's number stands the key.
 use Rattle.std.proofs.Common.{◌≡◌, ◌++◌, ap, ◌∙◌}
-use Rattle.dn_names.specs.PathKeys.{escape}
-use Rattle.dn_names.specs.PathReading.{after_key}
-use Rattle.dn_names.proofs.PathLemmas.{after_key-escape}
+use Rattle.dn_names.specs.path.PathKeys.{escape}
+use Rattle.dn_names.specs.path.PathReading.{after_key}
+use Rattle.dn_names.proofs.path.PathLemmas.{after_key-escape}
 use Rattle.dn_names.proofs.path.after_pair.Goals as goal
 
 pub returns-in-Some-clause-exact : goal.returns-in-Some-clause-exact

@@ -1,5 +1,5 @@
 -- By whether a pair follows.
-use Rattle.dn_names.proofs.PathLemmas.{rdn_part-next, rdn_part-end}
+use Rattle.dn_names.proofs.path.PathLemmas.{rdn_part-next, rdn_part-end}
 use Rattle.dn_names.proofs.path.after_rdn.Goals as goal
 
 pub returns-then-mark-ne-PAIR : goal.returns-then-mark-ne-PAIR

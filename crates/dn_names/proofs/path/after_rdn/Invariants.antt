@@ -1,7 +1,7 @@
 -- Where the octets begin with an RDN's part, what is left begins with one too, with the same octets behind it.
 use Rattle.std.proofs.Common.{◌≡◌, ℕ, List, ◌++◌, length}
-use Rattle.dn_names.specs.Names.{TypeAndValue}
-use Rattle.dn_names.specs.PathKeys.{rdn_part}
+use Rattle.dn_names.specs.name.Names.{TypeAndValue}
+use Rattle.dn_names.specs.path.PathKeys.{rdn_part}
 use Rattle.dn_names.proofs.path.after_rdn.Given as goal
 
 abbrev pub invariant-loop-mark : goal.invariant-loop-mark

@@ -1,7 +1,7 @@
 -- One RDN more is passed.
 use Rattle.std.proofs.Common.{◌≡◌, ℕ, ◌+◌, suc, drop, ap, ◌∙◌, arith}
-use Rattle.dn_names.specs.PathKeys.{path_key}
-use Rattle.dn_names.proofs.PathLemmas.{path_key-next}
+use Rattle.dn_names.specs.path.PathKeys.{path_key}
+use Rattle.dn_names.proofs.path.PathLemmas.{path_key-next}
 use Rattle.dn_names.proofs.path.after_rdns.Goals as goal
 
 pub loop-taken-preserved : goal.loop-taken-preserved

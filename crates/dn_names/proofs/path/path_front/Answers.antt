@@ -1,6 +1,6 @@
 -- The front is as long as the path key without what is left of it.
 use Rattle.std.proofs.Common.{ℕ, take, ap, ◌∙◌}
-use Rattle.dn_names.proofs.PathLemmas.{path_key-front}
+use Rattle.dn_names.proofs.path.PathLemmas.{path_key-front}
 use Rattle.dn_names.proofs.path.path_front.Goals as goal
 
 pub returns : goal.returns

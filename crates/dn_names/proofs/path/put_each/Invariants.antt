@@ -1,6 +1,6 @@
 -- What is put and what is left are the key with its end.
 use Rattle.std.proofs.Common.{◌≡◌, ◌++◌, drop}
-use Rattle.dn_names.specs.PathKeys.{escape}
+use Rattle.dn_names.specs.path.PathKeys.{escape}
 use Rattle.dn_names.proofs.path.put_each.Given as goal
 
 abbrev pub invariant-loop-octet : goal.invariant-loop-octet

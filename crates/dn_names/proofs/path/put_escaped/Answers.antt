@@ -1,6 +1,6 @@
 -- A key without an octet 00 is put as it stands.
 use Rattle.std.proofs.Common.{◌++◌, [], ◌∷◌, sym, ap, ◌∙◌, append_assoc}
-use Rattle.dn_names.proofs.BareLemmas.{escape_bare}
+use Rattle.dn_names.proofs.octets.BareLemmas.{escape_bare}
 use Rattle.dn_names.proofs.path.put_escaped.Goals as goal
 
 pub returns : goal.returns

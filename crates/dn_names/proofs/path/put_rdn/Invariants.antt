@@ -1,6 +1,6 @@
 -- What is put and what is left are the RDN's part.
 use Rattle.std.proofs.Common.{◌≡◌, ◌++◌, drop}
-use Rattle.dn_names.specs.PathKeys.{rdn_part}
+use Rattle.dn_names.specs.path.PathKeys.{rdn_part}
 use Rattle.dn_names.proofs.path.put_rdn.Given as goal
 
 abbrev pub invariant-loop-pair : goal.invariant-loop-pair

@@ -1,6 +1,6 @@
 -- What is printed of texts is a text.
 use Rattle.dn_names.specs.Printing.{print_name}
-use Rattle.dn_names.proofs.PrintTextLemmas.{IsUtf8-print_name}
+use Rattle.dn_names.proofs.printing.PrintTextLemmas.{IsUtf8-print_name}
 use Rattle.dn_names.proofs.printing.print.Goals as goal
 
 pub as_text-requires : goal.as_text-requires

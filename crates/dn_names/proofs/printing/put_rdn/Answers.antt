@@ -2,9 +2,9 @@
 use Rattle.std.proofs.Common.{◌≡◌, true, ◌∷◌, [], ◌++◌, ◌+◌, take, drop, sym, ◌∙◌, ap, arith}
 use Rattle.std.specs.Str.{is_utf8}
 use Rattle.std.proofs.lemmas.List.{drop_more, take_more}
-use Rattle.dn_names.specs.Names.{TypeAndValue}
+use Rattle.dn_names.specs.name.Names.{TypeAndValue}
 use Rattle.dn_names.specs.Printing.{print_pair, shown_of}
-use Rattle.dn_names.proofs.PrintLemmas.{next_item}
+use Rattle.dn_names.proofs.printing.PrintLemmas.{next_item}
 use Rattle.dn_names.proofs.printing.put_rdn.Goals as goal
 use Rattle.base_laws.proofs.Theorems.{all_push}
 

@@ -1,7 +1,7 @@
 -- What is written and what is left to print are the whole, and the values so far are texts.
 use Rattle.std.proofs.Common.{◌≡◌, ◌++◌, take, drop}
 use Rattle.std.specs.Prelude.{◌==◌}
-use Rattle.dn_names.specs.Names.{IsTextRdn}
+use Rattle.dn_names.specs.name.Names.{IsTextRdn}
 use Rattle.dn_names.specs.Printing.{join_from, print_pair, print_rdn, shown_of}
 use Rattle.dn_names.proofs.printing.put_rdn.Given as goal
 

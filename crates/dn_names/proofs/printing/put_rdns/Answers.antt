@@ -1,8 +1,8 @@
 -- One RDN more is written.
 use Rattle.std.proofs.Common.{reverse, take}
-use Rattle.dn_names.specs.Names.{IsTextRdn, rdns_of}
+use Rattle.dn_names.specs.name.Names.{IsTextRdn, rdns_of}
 use Rattle.dn_names.specs.Printing.{print_rdn, shown_of}
-use Rattle.dn_names.proofs.PrintLemmas.{drop-reverse, take-reverse, next_item}
+use Rattle.dn_names.proofs.printing.PrintLemmas.{drop-reverse, take-reverse, next_item}
 use Rattle.dn_names.proofs.printing.put_rdns.Goals as goal
 use Rattle.base_laws.proofs.Theorems.{all_push}
 

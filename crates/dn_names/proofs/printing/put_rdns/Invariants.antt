@@ -1,7 +1,7 @@
 -- What is written and what is left to print are the whole, and the values so far are texts.
 use Rattle.std.proofs.Common.{◌≡◌, ◌++◌, true, take, drop, reverse}
 use Rattle.std.specs.Prelude.{◌==◌}
-use Rattle.dn_names.specs.Names.{IsTextName, rdns_of}
+use Rattle.dn_names.specs.name.Names.{IsTextName, rdns_of}
 use Rattle.dn_names.specs.Printing.{join_from, print_rdn, shown_of}
 use Rattle.dn_names.proofs.printing.put_rdns.Given as goal
 

@@ -1,7 +1,7 @@
 -- One RDN is replaced by an equal one.
 use Rattle.std.proofs.Common.{◌≡◌, ℕ, zero, suc, List, [], ◌∷◌, get_or, refl, ap, ◌∙◌}
 use Rattle.std.specs.Prelude.{slice_set}
-use Rattle.dn_names.specs.Names.{SharedRdn, rdns_of}
+use Rattle.dn_names.specs.name.Names.{SharedRdn, rdns_of}
 use Rattle.dn_names.proofs.sharing.share_rdns.Goals as goal
 
 -- RDNs with an equal one in the place of one

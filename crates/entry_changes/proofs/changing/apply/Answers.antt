@@ -1,7 +1,7 @@
 use Rattle.std.proofs.Common.{sym, ap, ◌∙◌}
-use Rattle.dir_tree.specs.Entries.{values_of}
-use Rattle.entry_changes.specs.Changes.{change_refusal}
-use Rattle.entry_changes.proofs.RefusalLemmas.{admitted}
+use Rattle.dir_tree.specs.Entry.{values_of}
+use Rattle.entry_changes.specs.Change.{change_refusal}
+use Rattle.entry_changes.proofs.changing.RefusalLemmas.{admitted}
 use Rattle.entry_changes.proofs.changing.apply.Goals as goal
 
 -- what is made was not refused

@@ -2,11 +2,11 @@
 use Rattle.std.proofs.Common.{sym, ◌∙◌, subst, Result, arith}
 use Rattle.std.specs.Vec.Iter.{into_iter_items}
 use Rattle.std.proofs.lemmas.List.{nil_from_length}
-use Rattle.plain_values.specs.Answers.{IsFaultOf}
-use Rattle.dir_tree.specs.Entries.{EntryInformation}
+use Rattle.ldap_msg.specs.plain_values.Answers.{IsFaultOf}
+use Rattle.dir_tree.specs.Entry.{EntryInformation}
 use Rattle.ldap_msg.specs.declared.operations.ResultCode.{ResultCode}
-use Rattle.entry_changes.specs.Changes.{cause_of}
-use Rattle.entry_changes.proofs.RefusalLemmas.{changes-step, changes-fault, changes-done}
+use Rattle.entry_changes.specs.Change.{cause_of}
+use Rattle.entry_changes.proofs.changing.RefusalLemmas.{changes-step, changes-fault, changes-done}
 use Rattle.entry_changes.proofs.changing.change_entry.Goals as goal
 
 -- one more is made

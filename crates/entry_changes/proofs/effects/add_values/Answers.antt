@@ -2,11 +2,11 @@
 use Rattle.std.proofs.Common.{◌≡◌, ◌≢◌, ◌++◌, [], List, sym, ap, ◌∙◌, subst}
 use Rattle.std.specs.Prelude.{OnOk}
 use Rattle.std.specs.List.{IsDistinct}
-use Rattle.dn_names.specs.Names.{Keyed}
-use Rattle.dir_tree.specs.Entries.{EntryInformation, values_of, is_match}
-use Rattle.dir_tree.specs.Changes.{with_values}
-use Rattle.entry_changes.specs.Changes.{are_none}
-use Rattle.entry_changes.proofs.EffectLemmas.{filled_from, each-set, distinct-each}
+use Rattle.dir_tree.specs.dn_names.name.Names.{Keyed}
+use Rattle.dir_tree.specs.Entry.{EntryInformation, values_of, is_match}
+use Rattle.dir_tree.specs.attributes.Changes.{with_values}
+use Rattle.entry_changes.specs.Change.{are_none}
+use Rattle.entry_changes.proofs.effects.EffectLemmas.{filled_from, each-set, distinct-each}
 use Rattle.entry_changes.proofs.effects.add_values.Goals as goal
 
 pub set_values-requires-clause-distinct : goal.set_values-requires-clause-distinct

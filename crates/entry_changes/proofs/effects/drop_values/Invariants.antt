@@ -1,6 +1,6 @@
 -- The values that are left, taken out of the entry so far, leave what all leave.
 use Rattle.std.proofs.Common.{◌≡◌, drop}
-use Rattle.entry_changes.specs.Changes.{without_each}
+use Rattle.entry_changes.specs.Change.{without_each}
 use Rattle.entry_changes.proofs.effects.drop_values.Given as goal
 
 abbrev pub invariant-loop-value : goal.invariant-loop-value

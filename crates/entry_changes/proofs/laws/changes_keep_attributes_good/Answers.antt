@@ -1,4 +1,4 @@
-use Rattle.entry_changes.proofs.GoodLemmas.{good-changed_by, name-changed_by, good-renamed_entry, name-renamed_entry}
+use Rattle.entry_changes.proofs.laws.GoodLemmas.{good-changed_by, name-changed_by, good-renamed_entry, name-renamed_entry}
 use Rattle.entry_changes.proofs.laws.changes_keep_attributes_good.Goals as goal
 
 pub returns : goal.returns

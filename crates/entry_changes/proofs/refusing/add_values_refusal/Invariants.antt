@@ -1,7 +1,7 @@
 -- What refuses the values that are left refuses all: none of the others is refused.
 use Rattle.std.proofs.Common.{◌≡◌, map, drop}
-use Rattle.plain_values.specs.Refusals.{first_some}
-use Rattle.entry_changes.specs.Changes.{add_value_refusal}
+use Rattle.ldap_msg.specs.plain_values.Refusals.{first_some}
+use Rattle.entry_changes.specs.Change.{add_value_refusal}
 use Rattle.entry_changes.proofs.refusing.add_values_refusal.Given as goal
 
 abbrev pub invariant-loop-value : goal.invariant-loop-value

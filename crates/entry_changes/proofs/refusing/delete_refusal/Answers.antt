@@ -1,5 +1,5 @@
 use Rattle.std.proofs.Common.{sym, ◌∙◌}
-use Rattle.entry_changes.proofs.RefusalLemmas.{delete_refusal-values}
+use Rattle.entry_changes.proofs.changing.RefusalLemmas.{delete_refusal-values}
 use Rattle.entry_changes.proofs.refusing.delete_refusal.Goals as goal
 
 -- values are given

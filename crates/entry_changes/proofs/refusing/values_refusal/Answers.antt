@@ -1,6 +1,6 @@
 use Rattle.std.proofs.Common.{map, sym, ◌∙◌}
-use Rattle.entry_changes.specs.Changes.{goes_refusal, comes_refusal}
-use Rattle.entry_changes.proofs.RefusalLemmas.{first_some-decided, first_some-open}
+use Rattle.entry_changes.specs.Change.{goes_refusal, comes_refusal}
+use Rattle.entry_changes.proofs.changing.RefusalLemmas.{first_some-decided, first_some-open}
 use Rattle.entry_changes.proofs.refusing.values_refusal.Goals as goal
 
 -- an old value may not go

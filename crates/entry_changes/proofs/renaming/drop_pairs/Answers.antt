@@ -1,8 +1,8 @@
 use Rattle.std.proofs.Common.{sym, ap, ◌∙◌, drop, ◌+◌}
 use Rattle.std.proofs.lemmas.List.{drop_all}
-use Rattle.base_laws.proofs.Theorems.{next-item}
+use Rattle.dir_tree.proofs.base_laws_proofs.Theorems.{next-item}
 use Rattle.entry_changes.specs.Renaming.{gone_among, without_pairs}
-use Rattle.entry_changes.proofs.EffectLemmas.{pairs-step, pairs-done}
+use Rattle.entry_changes.proofs.effects.EffectLemmas.{pairs-step, pairs-done}
 use Rattle.entry_changes.proofs.renaming.drop_pairs.Goals as goal
 
 -- one pair more

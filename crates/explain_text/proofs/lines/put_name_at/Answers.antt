@@ -2,7 +2,7 @@
 use Rattle.std.proofs.Common.{◌++◌, List, ℕ, sym, ap, ◌∙◌}
 use Rattle.std.specs.Prelude.{string_bytes}
 use Rattle.std.proofs.lemmas.List.{append-nil}
-use Rattle.explain_text.proofs.TextLemmas.{print_name-none}
+use Rattle.explain_text.proofs.texts.TextLemmas.{print_name-none}
 use Rattle.explain_text.proofs.lines.put_name_at.Goals as goal
 
 pub returns-in-None : goal.returns-in-None

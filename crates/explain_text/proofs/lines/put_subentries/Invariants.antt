@@ -1,8 +1,8 @@
 -- What is written so far, and the subentries that are left.
 use Rattle.std.proofs.Common.{◌≡◌, ◌++◌, map, drop}
 use Rattle.std.specs.Prelude.{flat_map, string_bytes}
-use Rattle.dir_tree.specs.Numbered.{entries_at}
-use Rattle.explain_text.specs.Text.{subentry_line}
+use Rattle.dir_tree.specs.tree.Numbered.{entries_at}
+use Rattle.explain_text.specs.Texts.{subentry_line}
 use Rattle.explain_text.proofs.lines.put_subentries.Given as goal
 
 abbrev pub invariant-loop-number : goal.invariant-loop-number

@@ -1,6 +1,6 @@
 -- With permission the items' answers say what the filter is.
 use Rattle.std.proofs.Common.{◌∙◌}
-use Rattle.filter_core.proofs.JudgingLemmas.{judged-exact}
+use Rattle.filter_core.proofs.evaluating.JudgingLemmas.{judged-exact}
 use Rattle.filter_core.proofs.evaluating.ask.Goals as goal
 
 pub returns : goal.returns

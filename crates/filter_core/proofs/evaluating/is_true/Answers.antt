@@ -1,6 +1,6 @@
 -- What no permission makes True is not.
 use Rattle.std.proofs.Common.{sym, ◌∙◌}
-use Rattle.filter_core.proofs.JudgingLemmas.{possible-false}
+use Rattle.filter_core.proofs.evaluating.JudgingLemmas.{possible-false}
 use Rattle.filter_core.proofs.evaluating.is_true.Goals as goal
 
 pub returns-else-may_be_true : goal.returns-else-may_be_true

@@ -1,8 +1,8 @@
 -- All tests are the filter's own.
 use Rattle.std.proofs.Common.{[], sym, ap, ◌∙◌, append-nil}
-use Rattle.ldap_filter.specs.Filters.{Filter}
-use Rattle.filter_core.specs.Judging.{judged}
-use Rattle.filter_core.specs.Walks.{tests_of}
+use Rattle.ldap_filter.specs.filter.Filters.{Filter}
+use Rattle.filter_core.specs.evaluating.Judging.{judged}
+use Rattle.filter_core.specs.walk.Walks.{tests_of}
 use Rattle.filter_core.proofs.evaluating.judge.Goals as goal
 
 pub returns : goal.returns

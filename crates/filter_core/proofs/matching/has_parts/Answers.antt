@@ -1,7 +1,7 @@
 -- What is looked for in order is what the cuts say.
 use Rattle.std.proofs.Common.{map}
 use Rattle.std.proofs.lemmas.Bool.Decides.{same_from_decides}
-use Rattle.filter_core.proofs.SubstringsLemmas.{is_substring-IsSubstring}
+use Rattle.filter_core.proofs.matching.SubstringsLemmas.{is_substring-IsSubstring}
 use Rattle.filter_core.proofs.matching.has_parts.Goals as goal
 
 pub returns : goal.returns

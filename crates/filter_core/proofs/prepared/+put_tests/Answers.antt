@@ -1,9 +1,9 @@
 -- The tests of one member more were appended.
 use Rattle.std.proofs.Common.{◌++◌, List, sym, ap, ◌∙◌, take, append_assoc}
-use Rattle.ldap_filter.specs.Filters.{filters_of}
-use Rattle.filter_core.specs.Tests.{Test}
-use Rattle.filter_core.specs.Walks.{tests_of, tests_of_all}
-use Rattle.filter_core.proofs.WalkLemmas.{tests_of_all-more}
+use Rattle.ldap_filter.specs.filter.Filters.{filters_of}
+use Rattle.filter_core.specs.prepared.Tests.{Test}
+use Rattle.filter_core.specs.walk.Walks.{tests_of, tests_of_all}
+use Rattle.filter_core.proofs.walk.WalkLemmas.{tests_of_all-more}
 use Rattle.filter_core.proofs.prepared.+put_tests.Goals as goal
 
 pub loop-member-preserved : goal.loop-member-preserved

@@ -1,10 +1,10 @@
 -- One part more has its key, or has none.
 use Rattle.std.proofs.Common.{ℕ, List, Some, ap, sym, ◌∙◌, take_all}
 use Rattle.std.proofs.lemmas.Result.{err_from_is_err_and}
-use Rattle.match_rules.specs.declared.parts.Part.TheVariants.{Middle}
-use Rattle.match_rules.specs.Parts.{part_key_of}
-use Rattle.filter_core.specs.Tests.{middle_keys}
-use Rattle.filter_core.proofs.PreparingLemmas.{middle_keys-more, middle_keys-stop, fails_so}
+use Rattle.dir_tree.specs.match_rules.declared.parts.Part.TheVariants.{Middle}
+use Rattle.dir_tree.specs.match_rules.Parts.{part_key_of}
+use Rattle.filter_core.specs.prepared.Tests.{middle_keys}
+use Rattle.filter_core.proofs.preparing.PreparingLemmas.{middle_keys-more, middle_keys-stop, fails_so}
 use Rattle.filter_core.proofs.preparing.middle.Goals as goal
 
 pub returns-in_err-key : goal.returns-in_err-key

@@ -1,13 +1,13 @@
 -- A member is walked over after the other; an item is walked over at once.
 use Rattle.std.proofs.Common.{◌≡◌, true, List, sym, ap, ◌∙◌, subst, inl, inr}
 use Rattle.ldap_filter.specs.declared.filter.Node.{Node}
-use Rattle.ldap_filter.specs.Nodes.{filter_of_node}
-use Rattle.ldap_filter.specs.Filters.{Filter, filters_of}
-use Rattle.ldap_filter.specs.Filters.Filter.{And, Or}
-use Rattle.filter_core.specs.Tests.{test_of}
-use Rattle.filter_core.specs.Judging.{judged}
-use Rattle.filter_core.specs.Walks.{tests_of, asks_all_of_and, asks_all_of_or, Walks}
-use Rattle.filter_core.proofs.WalkLemmas.{on_the_way-start, on_the_way-next, on_the_way-all, is_item, walks_item}
+use Rattle.ldap_filter.specs.filter.Nodes.{filter_of_node}
+use Rattle.ldap_filter.specs.filter.Filters.{Filter, filters_of}
+use Rattle.ldap_filter.specs.filter.Filters.Filter.{And, Or}
+use Rattle.filter_core.specs.prepared.Tests.{test_of}
+use Rattle.filter_core.specs.evaluating.Judging.{judged}
+use Rattle.filter_core.specs.walk.Walks.{tests_of, asks_all_of_and, asks_all_of_or, Walks}
+use Rattle.filter_core.proofs.walk.WalkLemmas.{on_the_way-start, on_the_way-next, on_the_way-all, is_item, walks_item}
 use Rattle.filter_core.proofs.walk.+walk.Goals as goal
 
 pub loop-member-init : goal.loop-member-init

@@ -1,5 +1,5 @@
 -- The members so far were walked over.
-use Rattle.filter_core.specs.OnTheWay.{IsOnTheWay}
+use Rattle.filter_core.specs.walk.OnTheWay.{IsOnTheWay}
 use Rattle.filter_core.proofs.walk.+walk.Given as goal
 
 abbrev pub invariant-loop-member : goal.invariant-loop-member

@@ -2,7 +2,7 @@
 use Rattle.std.proofs.Common.{◌≡◌, false, get_or, arith}
 use Rattle.std.specs.Prelude.{◌==◌}
 use Rattle.std.proofs.lemmas.Bool.Decides.{nat_tests}
-use Rattle.gser_core.proofs.StringLemmas.{passed_plain, ended_all}
+use Rattle.gser_core.proofs.strings.StringLemmas.{passed_plain, ended_all}
 use Rattle.gser_core.proofs.counts.closed_len.Goals as goal
 
 pub loop-passed-preserved-then-octets-passed-ne34 : goal.loop-passed-preserved-then-octets-passed-ne34

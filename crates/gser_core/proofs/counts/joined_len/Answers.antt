@@ -2,7 +2,7 @@
 use Rattle.std.proofs.Common.{◌≡◌, ◌∙◌, ◌+◌, ◌-◌, length, drop, sym, ap, arith}
 use Rattle.std.proofs.lemmas.List.{length-drop, take_rest}
 use Rattle.gser_core.specs.Counts.{later, numeral_len, pointed_len}
-use Rattle.gser_core.proofs.DottedLemmas.{last_some, passed_start, passed_more, passed_all}
+use Rattle.gser_core.proofs.counts.DottedLemmas.{last_some, passed_start, passed_more, passed_all}
 use Rattle.gser_core.proofs.counts.joined_len.Goals as goal
 
 pub loop-count-init : goal.loop-count-init

@@ -1,7 +1,7 @@
 -- Numbers, each with a point behind it, were passed; another is counted.
 use Rattle.std.proofs.Common.{◌≡◌, ◌≤◌, ◌+◌, ◌-◌, length, drop}
 use Rattle.gser_core.specs.Counts.{pointed_len}
-use Rattle.gser_core.proofs.DottedLemmas.{IsPassed}
+use Rattle.gser_core.proofs.counts.DottedLemmas.{IsPassed}
 use Rattle.gser_core.proofs.counts.joined_len.Given as goal
 
 abbrev pub invariant-loop-count : goal.invariant-loop-count

@@ -2,8 +2,8 @@
 use Rattle.std.proofs.Common.{◌++◌, ◌∙◌, sym, ap, arith, rules}
 use Rattle.std.specs.Prelude.{string_bytes}
 use Rattle.std.proofs.lemmas.Str.Pattern.{split_once_first}
-use Rattle.gser_core.proofs.KeptLemmas.{kept_more}
-use Rattle.gser_core.proofs.WritingLemmas.{joined, doubled_none}
+use Rattle.gser_core.proofs.strings.KeptLemmas.{kept_more}
+use Rattle.gser_core.proofs.strings.WritingLemmas.{joined, doubled_none}
 use Rattle.gser_core.proofs.strings.put_doubled.Goals as goal
 
 pub marks-preserved : goal.marks-preserved

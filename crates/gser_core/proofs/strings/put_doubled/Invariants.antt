@@ -3,7 +3,7 @@ use Rattle.std.proofs.Common.{◌≡◌, ◌++◌, length}
 use Rattle.std.specs.Prelude.{string_bytes}
 use denote.Shadow.{shadow}
 use denote.Text.{Utf8}
-use Rattle.gser_core.specs.Productions.{doubled}
+use Rattle.gser_core.specs.cursor.Productions.{doubled}
 use Rattle.gser_core.specs.Strings.{IsKept}
 use Rattle.gser_core.proofs.strings.put_doubled.Given as goal
 

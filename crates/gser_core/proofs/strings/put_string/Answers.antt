@@ -2,7 +2,7 @@
 use Rattle.std.proofs.Common.{◌≡◌, length, sym, subst, rules, ℕ}
 use Rattle.std.specs.Prelude.{string_bytes, IsCharBoundary}
 use Rattle.std.proofs.lemmas.Str.{IsUtf8-string_bytes}
-use Rattle.gser_core.proofs.KeptLemmas.{kept_boundary}
+use Rattle.gser_core.proofs.strings.KeptLemmas.{kept_boundary}
 use Rattle.gser_core.proofs.strings.put_string.Goals as goal
 
 pub truncate-requires : goal.truncate-requires

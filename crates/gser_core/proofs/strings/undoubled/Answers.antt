@@ -3,8 +3,8 @@ use Rattle.std.proofs.Common.{◌≡◌, ◌++◌, ◌∙◌, drop, ap, arith, r
 use Rattle.std.specs.Prelude.{string_bytes, IsUtf8}
 use Rattle.std.proofs.lemmas.Str.{IsCharBoundary-after_ascii}
 use Rattle.std.proofs.lemmas.Str.Pattern.{split_once_first}
-use Rattle.gser_core.specs.Productions.{doubled}
-use Rattle.gser_core.proofs.WritingLemmas.{further, doubled_append, doubled_none}
+use Rattle.gser_core.specs.cursor.Productions.{doubled}
+use Rattle.gser_core.proofs.strings.WritingLemmas.{further, doubled_append, doubled_none}
 use Rattle.gser_core.proofs.strings.undoubled.Goals as goal
 
 pub range_from-rest-requires : goal.range_from-rest-requires

@@ -1,9 +1,9 @@
 -- The value is alone where no other values and no other braces are.
 use Rattle.std.proofs.Common.{◌≡◌, ◌∙◌, sym, ap, length, false}
 use Rattle.std.specs.Prelude.{◌==◌, ◌&&◌, map, reverse}
-use Rattle.gser_tree.specs.Trees.{shape_of, frame_of}
+use Rattle.gser_tree.specs.Tree.{shape_of, frame_of}
 use Rattle.gser_tree.specs.Growing.{value_at}
-use Rattle.gser_tree.proofs.GrowingLemmas.{alone}
+use Rattle.gser_tree.proofs.growing.GrowingLemmas.{alone}
 use Rattle.gser_tree.proofs.growing.value_in.Goals as goal
 
 pub returns-in-Holding : goal.returns-in-Holding

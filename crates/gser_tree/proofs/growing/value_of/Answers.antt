@@ -2,8 +2,8 @@
 use Rattle.std.proofs.Common.{◌≡◌, ◌∙◌, sym, ap}
 use Rattle.std.specs.Prelude.{Some, option_map, option_and_then}
 use Rattle.gser_tree.specs.Growing.{grow, grow_all, value_in, value_of}
-use Rattle.gser_tree.specs.Trees.{stack_of}
-use Rattle.gser_tree.proofs.GrowingLemmas.{grow_all-push}
+use Rattle.gser_tree.specs.Tree.{stack_of}
+use Rattle.gser_tree.proofs.growing.GrowingLemmas.{grow_all-push}
 use Rattle.gser_tree.proofs.growing.value_of.Goals as goal
 
 pub tokens-preserved : goal.tokens-preserved

@@ -3,7 +3,7 @@ use Rattle.std.proofs.Common.{◌≡◌, ◌∷◌, ◌++◌, ◌∙◌, ap, sym
 use Rattle.std.specs.Prelude.{option_map, ◌+◌}
 use Rattle.std.proofs.Math.Seq.{drop-cons}
 use Rattle.gser_tree.specs.Lexing.{lex_from, left}
-use Rattle.gser_tree.proofs.LexingLemmas.{goes_on}
+use Rattle.gser_tree.proofs.lexing.LexingLemmas.{goes_on}
 use Rattle.gser_tree.proofs.lexing.lex.Goals as goal
 
 pub loop-place-preserved : goal.loop-place-preserved

@@ -1,5 +1,5 @@
 -- The laws of the value of a text.
-use Rattle.gser_tree.proofs.LookingLemmas.{found_text, only_text}
+use Rattle.gser_tree.proofs.looking.LookingLemmas.{found_text, only_text}
 use Rattle.gser_tree.proofs.looking.read_tree.Goals as goal
 use Rattle.std.proofs.lemmas.Result.{IfOk-weaker}
 

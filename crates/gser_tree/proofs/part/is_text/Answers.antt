@@ -1,5 +1,5 @@
 -- The library tells whether octets are UTF-8.
-use Rattle.gser_tree.proofs.PartLemmas.{is_text, no_text}
+use Rattle.gser_tree.proofs.part.PartLemmas.{is_text, no_text}
 use Rattle.gser_tree.proofs.part.is_text.Goals as goal
 
 pub returns-in-Ok : goal.returns-in-Ok

@@ -1,6 +1,6 @@
 -- A number that the library refuses does not fit.
 use Rattle.std.proofs.Common.{sym, arith}
-use Rattle.gser_tree.proofs.NumberLemmas.{too_large}
+use Rattle.gser_tree.proofs.reading.NumberLemmas.{too_large}
 use Rattle.gser_tree.proofs.reading.at_most.Goals as goal
 
 pub returns-in-Err : goal.returns-in-Err

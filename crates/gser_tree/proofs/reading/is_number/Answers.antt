@@ -1,6 +1,6 @@
 use Rattle.std.proofs.Common.{sym, ◌∙◌}
 use Rattle.gser_tree.specs.Reading.{is_number}
-use Rattle.gser_tree.proofs.CursorLemmas.{number-numeral, numeral-number, taken_to_the_end, not_taken}
+use Rattle.gser_tree.proofs.reading.CursorLemmas.{number-numeral, numeral-number, taken_to_the_end, not_taken}
 use Rattle.gser_tree.proofs.reading.is_number.Goals as goal
 
 -- The cursor takes a number, which is the word where it then stands at its end.

@@ -1,14 +1,14 @@
 -- One member more is read, or it can't be, or nothing is left.
 use Rattle.std.proofs.Common.{◌≡◌, ◌++◌, ◌∷◌, [], ◌<◌, ℕ, List, Option, Some, None, true, false, eqb, length, sym, ap, ◌∙◌}
 use Rattle.std.proofs.lemmas.Result.{err_from_is_err_and}
-use Rattle.ber_layout.specs.Pieces.{◌>>=◌}
-use Rattle.ber_layout.specs.Components.{Component, any_of}
+use Rattle.ber_layout.specs.element.Pieces.{◌>>=◌}
+use Rattle.ber_layout.specs.components.Components.{Component, any_of}
 use Rattle.ber_layout.proofs.Theorems.{fails_so}
-use Rattle.ldap_filter.specs.Filters.{Filter, Filters}
-use Rattle.ldap_filter.specs.Filters.Filters.{Nil, Cons}
-use Rattle.ldap_filter.specs.FilterReading.{filter_at, all_of}
-use Rattle.ldap_filter.specs.Joined.{joined, behind}
-use Rattle.ldap_filter.proofs.JoinedLemmas.{any_shorter, all_step, all_none, all_done, joined_nil, behind_more}
+use Rattle.ldap_filter.specs.filter.Filters.{Filter, Filters}
+use Rattle.ldap_filter.specs.filter.Filters.Filters.{Nil, Cons}
+use Rattle.ldap_filter.specs.reading.FilterReading.{filter_at, all_of}
+use Rattle.ldap_filter.specs.reading.Joined.{joined, behind}
+use Rattle.ldap_filter.proofs.reading.JoinedLemmas.{any_shorter, all_step, all_none, all_done, joined_nil, behind_more}
 use Rattle.ldap_filter.proofs.reading.+filter_at.Goals as goal
 
 -- there is no element

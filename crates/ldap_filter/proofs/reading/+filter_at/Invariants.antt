@@ -1,7 +1,7 @@
 -- A level deeper is nearer to the end; the filters so far stand before those that are left.
 use Rattle.std.proofs.Common.{◌≡◌, ◌+◌, ◌*◌, length}
-use Rattle.ldap_filter.specs.FilterReading.{filter_at, all_of}
-use Rattle.ldap_filter.specs.Joined.{behind}
+use Rattle.ldap_filter.specs.reading.FilterReading.{filter_at, all_of}
+use Rattle.ldap_filter.specs.reading.Joined.{behind}
 use Rattle.ldap_filter.proofs.reading.+filter_at.Given as goal
 
 abbrev pub decreases-filter_at : goal.decreases-filter_at

@@ -1,4 +1,4 @@
-use Rattle.ldap_msg.specs.Messages.{request_octets}
+use Rattle.ldap_msg.specs.reading.Messages.{request_octets}
 use Rattle.ldap_msg.proofs.Theorems.{message_complete, request_says}
 use Rattle.ldap_msg.proofs.laws.requests_are_read_again.Goals as goal
 

@@ -2,11 +2,11 @@
 use Rattle.std.proofs.Common.{◌≡◌, ◌∷◌, [], ℕ, List, get_or, sym, ap, ◌∙◌, arith}
 use Rattle.std.specs.Prelude.{pos}
 use Rattle.ber_core.specs.Integer.{int_octets}
-use Rattle.ber_core.specs.Spelling.{length_octets}
-use Rattle.ber_layout.specs.Spellings.{element_octets}
-use Rattle.ldap_msg.specs.Operations.{response_tag}
+use Rattle.ber_core.specs.write.Spelling.{length_octets}
+use Rattle.ber_layout.specs.write.Spellings.{element_octets}
+use Rattle.ldap_msg.specs.operations.Operations.{response_tag}
 use Rattle.ldap_msg.specs.Replies.{response_for}
-use Rattle.ldap_msg.proofs.PlainLemmas.{one_octet, two_octets, three_octets, four_octets, plain_is, where_ok}
+use Rattle.ldap_msg.proofs.plain.PlainLemmas.{one_octet, two_octets, three_octets, four_octets, plain_is, where_ok}
 use Rattle.ldap_msg.proofs.plain.put_plain.Goals as goal
 
 pub returns-then-id-lt128-clause-ok : goal.returns-then-id-lt128-clause-ok

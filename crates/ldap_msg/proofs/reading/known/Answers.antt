@@ -3,7 +3,7 @@ use Rattle.std.proofs.Common.{sym, ap, ◌∙◌, map}
 use Rattle.std.specs.Prelude.{option_map, Option}
 use Rattle.ldap_msg.specs.declared.kinds.Control.{Control}
 use Rattle.ldap_msg.specs.Controls.{control_parts, controls_from}
-use Rattle.ldap_msg.proofs.PartLemmas.{controls_back}
+use Rattle.ldap_msg.proofs.reading.PartLemmas.{controls_back}
 use Rattle.std.specs.Prelude.{List}
 use Rattle.ldap_msg.proofs.reading.known.Goals as goal
 

@@ -1,5 +1,5 @@
 -- What is computed is what the octets say, and the only such message.
-use Rattle.ldap_msg.proofs.MessageLemmas.{found_by, only_by}
+use Rattle.ldap_msg.proofs.reading.MessageLemmas.{found_by, only_by}
 use Rattle.ldap_msg.proofs.reading.read_request.Goals as goal
 
 pub returns-clause-found : goal.returns-clause-found

@@ -1,13 +1,13 @@
 -- The reply is the one of its parts.
 use Rattle.std.proofs.Common.{ap, ◌∙◌, Some, map}
 use Rattle.std.specs.Prelude.{Option, List}
-use Rattle.ber_layout.specs.Pieces.{◌>>=◌}
-use Rattle.ber_layout.specs.Layouts.{Value}
+use Rattle.ber_layout.specs.element.Pieces.{◌>>=◌}
+use Rattle.ber_layout.specs.laid.Layouts.{Value}
 use Rattle.ldap_msg.specs.declared.kinds.KindValues.{KindValues}
 use Rattle.ldap_msg.specs.declared.kinds.Reply.TheVariants as reply
 use Rattle.ldap_msg.specs.Attributes.{attribute_from}
 use Rattle.ldap_msg.specs.Results.{entry_layout}
-use Rattle.ldap_msg.proofs.PartLemmas.{attributes_back}
+use Rattle.ldap_msg.proofs.reading.PartLemmas.{attributes_back}
 use Rattle.ldap_msg.proofs.replies.entry_reply.Goals as goal
 
 pub returns : goal.returns

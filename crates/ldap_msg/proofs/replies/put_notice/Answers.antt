@@ -1,8 +1,8 @@
 -- The notice's octets are those of the definition.
 use Rattle.std.proofs.Common.{rules}
 use Rattle.ber_core.specs.Integer.{int_octets}
-use Rattle.ber_core.specs.Spelling.{length_octets}
-use Rattle.ber_layout.specs.Spellings.{element_octets}
+use Rattle.ber_core.specs.write.Spelling.{length_octets}
+use Rattle.ber_layout.specs.write.Spellings.{element_octets}
 use Rattle.ldap_msg.specs.Replies.{reply_octets, notice_octets}
 use Rattle.ldap_msg.proofs.replies.put_notice.Goals as goal
 

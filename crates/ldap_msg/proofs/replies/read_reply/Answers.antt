@@ -1,5 +1,5 @@
 -- What is computed is what the octets say, and the only such reply.
-use Rattle.ldap_msg.proofs.AnswerLemmas.{found_by, only_by}
+use Rattle.ldap_msg.proofs.replies.AnswerLemmas.{found_by, only_by}
 use Rattle.ldap_msg.proofs.replies.read_reply.Goals as goal
 
 pub returns-clause-found : goal.returns-clause-found

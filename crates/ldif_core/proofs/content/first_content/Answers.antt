@@ -1,7 +1,7 @@
 use Rattle.std.proofs.Common.{◌≡◌, sym, ◌∙◌, ap, arith}
 use Rattle.std.proofs.lemmas.Result.{IfOk-weaker}
-use Rattle.ldif_core.specs.Records.{without_version}
-use Rattle.ldif_core.proofs.ContentLemmas.{body-later, body-first, no_version, after_version, IsRead-same, IsRead-before}
+use Rattle.ldif_core.specs.reading.Records.{without_version}
+use Rattle.ldif_core.proofs.content.ContentLemmas.{body-later, body-first, no_version, after_version, IsRead-same, IsRead-before}
 use Rattle.ldif_core.proofs.content.first_content.Goals as goal
 
 -- past the start of the file

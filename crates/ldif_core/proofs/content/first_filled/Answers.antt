@@ -1,8 +1,8 @@
 use Rattle.std.proofs.Common.{sym, ◌∙◌, ap}
-use Rattle.ldif_core.specs.Records.{records}
-use Rattle.ldif_core.specs.Places.{records_from}
-use Rattle.ldif_core.proofs.ContentLemmas.{records-blank_ahead, IsRead-blank}
-use Rattle.ldif_core.proofs.AfterLemmas.{after_both}
+use Rattle.ldif_core.specs.reading.Records.{records}
+use Rattle.ldif_core.specs.lines.Places.{records_from}
+use Rattle.ldif_core.proofs.content.ContentLemmas.{records-blank_ahead, IsRead-blank}
+use Rattle.ldif_core.proofs.content.AfterLemmas.{after_both}
 use Rattle.ldif_core.proofs.content.first_filled.Goals as goal
 
 -- the first line

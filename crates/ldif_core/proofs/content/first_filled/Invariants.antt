@@ -1,8 +1,8 @@
 use Rattle.std.proofs.Common.{◌≡◌, ◌<◌, length, []}
 use Rattle.std.specs.Prelude.{IfSome, IfNone}
-use Rattle.ldif_core.specs.Records.{records}
-use Rattle.ldif_core.specs.Places.{IsPlace, IsLinesAfter, content_from, records_from}
-use Rattle.ldif_core.specs.Steps.{ahead}
+use Rattle.ldif_core.specs.reading.Records.{records}
+use Rattle.ldif_core.specs.lines.Places.{IsPlace, IsLinesAfter, content_from, records_from}
+use Rattle.ldif_core.specs.reading.Steps.{ahead}
 use Rattle.ldif_core.proofs.content.first_filled.Given as goal
 
 -- only empty lines stand before

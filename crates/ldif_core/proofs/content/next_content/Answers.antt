@@ -1,7 +1,7 @@
 use Rattle.std.proofs.Common.{sym, refl, ◌∙◌, ap, arith}
-use Rattle.ldif_core.specs.Lines.{begins_with}
-use Rattle.ldif_core.proofs.ContentLemmas.{content-none, content-comment, content-line}
-use Rattle.ldif_core.proofs.AfterLemmas.{after_none, after_both}
+use Rattle.ldif_core.specs.lines.Lines.{begins_with}
+use Rattle.ldif_core.proofs.content.ContentLemmas.{content-none, content-comment, content-line}
+use Rattle.ldif_core.proofs.content.AfterLemmas.{after_none, after_both}
 use Rattle.ldif_core.proofs.content.next_content.Goals as goal
 
 -- no line was passed yet

@@ -1,5 +1,5 @@
 use Rattle.std.proofs.Common.{◌≡◌, ◌-◌, ◌≤◌, length}
-use Rattle.ldif_core.specs.Places.{IsPlace, IsLinesAfter, content_from}
+use Rattle.ldif_core.specs.lines.Places.{IsPlace, IsLinesAfter, content_from}
 use Rattle.ldif_core.proofs.content.next_content.Given as goal
 
 -- only comments stand before

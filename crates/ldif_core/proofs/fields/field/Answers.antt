@@ -1,7 +1,7 @@
 use Rattle.std.proofs.Common.{◌≡◌, ◌<◌, ◌+◌, ◌∙◌, sym, ap, arith, length, take, drop}
 use Rattle.std.specs.List.{position_or_len}
 use Rattle.ldif_core.specs.Fields.{is_colon, is_kind, field_after}
-use Rattle.ldif_core.proofs.FieldLemmas.{at_front, field_of-none, field_of-no_kind, field_of-kind}
+use Rattle.ldif_core.proofs.fields.FieldLemmas.{at_front, field_of-none, field_of-no_kind, field_of-kind}
 use Rattle.ldif_core.proofs.fields.field.Goals as goal
 
 -- no colon

@@ -1,4 +1,4 @@
-use Rattle.ldif_core.proofs.RereadLemmas.{file-reread, entry-reread}
+use Rattle.ldif_core.proofs.laws.RereadLemmas.{file-reread, entry-reread}
 use Rattle.ldif_core.proofs.laws.a_written_file_is_read_again.Goals as goal
 
 pub returns : goal.returns

@@ -1,4 +1,4 @@
-use Rattle.ldif_core.proofs.RereadLemmas.{value-reread}
+use Rattle.ldif_core.proofs.laws.RereadLemmas.{value-reread}
 use Rattle.ldif_core.proofs.laws.a_written_line_is_of_one_value.Goals as goal
 
 pub returns : goal.returns

@@ -1,4 +1,4 @@
-use Rattle.ldif_core.proofs.RereadLemmas.{decoded-exact}
+use Rattle.ldif_core.proofs.laws.RereadLemmas.{decoded-exact}
 use Rattle.ldif_core.proofs.laws.base64_is_padded_and_leaves_no_bits.Goals as goal
 
 pub returns : goal.returns

@@ -1,4 +1,4 @@
-use Rattle.ldif_core.proofs.KindForms.{IsNext-kinds, is_kind-ascii}
+use Rattle.ldif_core.proofs.laws.KindForms.{IsNext-kinds, is_kind-ascii}
 use Rattle.ldif_core.proofs.laws.the_types_of_a_record_have_their_form.Goals as goal
 
 pub returns : goal.returns

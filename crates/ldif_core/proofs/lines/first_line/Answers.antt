@@ -1,6 +1,6 @@
 use Rattle.std.proofs.Common.{refl}
-use Rattle.ldif_core.proofs.PhysicalLemmas.{physical_from-cut}
-use Rattle.ldif_core.proofs.AfterLemmas.{after_one}
+use Rattle.ldif_core.proofs.lines.PhysicalLemmas.{physical_from-cut}
+use Rattle.ldif_core.proofs.content.AfterLemmas.{after_one}
 use Rattle.ldif_core.proofs.lines.first_line.Goals as goal
 
 pub returns-clause-exact : goal.returns-clause-exact

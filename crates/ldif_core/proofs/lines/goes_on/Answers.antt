@@ -1,6 +1,6 @@
 use Rattle.std.proofs.Common.{◌∙◌, sym, ap, arith}
-use Rattle.ldif_core.specs.Lines.{begins_with}
-use Rattle.ldif_core.proofs.PhysicalLemmas.{goes_on-from, begins_with-filled}
+use Rattle.ldif_core.specs.lines.Lines.{begins_with}
+use Rattle.ldif_core.proofs.lines.PhysicalLemmas.{goes_on-from, begins_with-filled}
 use Rattle.ldif_core.proofs.lines.goes_on.Goals as goal
 
 pub returns-clause-exact : goal.returns-clause-exact

@@ -1,9 +1,9 @@
 use Rattle.std.proofs.Common.{◌≡◌, true, sym, ◌∙◌, ap, Ok}
 use Rattle.std.proofs.lemmas.Result.{err_from_is_err_and}
-use Rattle.ldif_core.specs.Places.{content_from}
-use Rattle.ldif_core.specs.Steps.{ends_ahead}
-use Rattle.ldif_core.proofs.RecordLemmas.{ends-some, ends-before, ends-after, lines-done, lines-stop, fault-same, blank-by}
-use Rattle.ldif_core.proofs.ReadsOnLemmas.{ReadsOn-start, ReadsOn-step}
+use Rattle.ldif_core.specs.lines.Places.{content_from}
+use Rattle.ldif_core.specs.reading.Steps.{ends_ahead}
+use Rattle.ldif_core.proofs.reading.RecordLemmas.{ends-some, ends-before, ends-after, lines-done, lines-stop, fault-same, blank-by}
+use Rattle.ldif_core.proofs.reading.ReadsOnLemmas.{ReadsOn-start, ReadsOn-step}
 use Rattle.ldif_core.proofs.reading.attribute_lines.Goals as goal
 use Rattle.ldif_core.proofs.reading.attribute_lines.Goals.{in-Some+then-is_empty, in_default}
 

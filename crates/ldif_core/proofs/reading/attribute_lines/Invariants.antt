@@ -1,7 +1,7 @@
 use Rattle.std.proofs.Common.{length}
-use Rattle.ldif_core.specs.Places.{content_from}
-use Rattle.ldif_core.specs.Steps.{ahead}
-use Rattle.ldif_core.proofs.ReadsOnLemmas.{ReadsOn}
+use Rattle.ldif_core.specs.lines.Places.{content_from}
+use Rattle.ldif_core.specs.reading.Steps.{ahead}
+use Rattle.ldif_core.proofs.reading.ReadsOnLemmas.{ReadsOn}
 use Rattle.ldif_core.proofs.reading.attribute_lines.Given as goal
 
 -- the lines so far and those that are left are the lines of the record

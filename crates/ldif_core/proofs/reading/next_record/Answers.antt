@@ -1,6 +1,6 @@
 use Rattle.std.proofs.lemmas.Result.{err_from_is_err_and}
-use Rattle.ldif_core.proofs.RecordLemmas.{fault-same}
-use Rattle.ldif_core.proofs.NextLemmas.{records-none, IsNext-read, first_of-bad, later-than}
+use Rattle.ldif_core.proofs.reading.RecordLemmas.{fault-same}
+use Rattle.ldif_core.proofs.reading.NextLemmas.{records-none, IsNext-read, first_of-bad, later-than}
 use Rattle.ldif_core.proofs.reading.next_record.Goals as goal
 
 -- no line is left

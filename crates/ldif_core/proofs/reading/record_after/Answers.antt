@@ -1,9 +1,9 @@
 use Rattle.std.proofs.Common.{◌∙◌, ap}
 use Rattle.std.proofs.lemmas.Result.{err_from_is_err_and}
-use Rattle.ldif_core.specs.Records.{attribute_lines}
-use Rattle.ldif_core.specs.Steps.{before_blank}
-use Rattle.ldif_core.proofs.RecordLemmas.{one-alone, record-good, record-fault_name, record-fault_line, fault-same, fault-of}
-use Rattle.ldif_core.proofs.AfterLemmas.{after_both}
+use Rattle.ldif_core.specs.reading.Records.{attribute_lines}
+use Rattle.ldif_core.specs.reading.Steps.{before_blank}
+use Rattle.ldif_core.proofs.reading.RecordLemmas.{one-alone, record-good, record-fault_name, record-fault_line, fault-same, fault-of}
+use Rattle.ldif_core.proofs.content.AfterLemmas.{after_both}
 use Rattle.ldif_core.proofs.reading.record_after.Goals as goal
 
 -- the first line is bad

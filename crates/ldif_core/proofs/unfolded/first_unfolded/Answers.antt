@@ -1,6 +1,6 @@
 use Rattle.std.proofs.Common.{sym, ◌∙◌}
-use Rattle.ldif_core.proofs.LogicalLemmas.{logical-alone, logical-joined}
-use Rattle.ldif_core.proofs.AfterLemmas.{after_both}
+use Rattle.ldif_core.proofs.unfolded.LogicalLemmas.{logical-alone, logical-joined}
+use Rattle.ldif_core.proofs.content.AfterLemmas.{after_both}
 use Rattle.ldif_core.proofs.unfolded.first_unfolded.Goals as goal
 
 -- no continuation follows

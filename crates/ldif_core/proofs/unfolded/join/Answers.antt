@@ -1,9 +1,9 @@
 use Rattle.std.proofs.Common.{sym, refl, ◌∙◌, ap, ◌++◌, arith, rules}
 use Rattle.std.proofs.lemmas.List.{append-nil}
-use Rattle.ldif_core.specs.Lines.{continued}
-use Rattle.ldif_core.specs.Places.{physical_from, logical_from}
-use Rattle.ldif_core.proofs.LogicalLemmas.{continued-none, beginning-none, continued-step, beginning-step}
-use Rattle.ldif_core.proofs.AfterLemmas.{after_none, after_both}
+use Rattle.ldif_core.specs.lines.Lines.{continued}
+use Rattle.ldif_core.specs.lines.Places.{physical_from, logical_from}
+use Rattle.ldif_core.proofs.unfolded.LogicalLemmas.{continued-none, beginning-none, continued-step, beginning-step}
+use Rattle.ldif_core.proofs.content.AfterLemmas.{after_none, after_both}
 use Rattle.ldif_core.proofs.unfolded.join.Goals as goal
 
 -- none was joined yet

@@ -1,6 +1,6 @@
 use Rattle.std.proofs.Common.{◌≡◌, ◌++◌, ◌-◌, ◌≤◌, length}
-use Rattle.ldif_core.specs.Lines.{continued, beginning}
-use Rattle.ldif_core.specs.Places.{IsPlace, IsLinesAfter, physical_from}
+use Rattle.ldif_core.specs.lines.Lines.{continued, beginning}
+use Rattle.ldif_core.specs.lines.Places.{IsPlace, IsLinesAfter, physical_from}
 use Rattle.ldif_core.proofs.unfolded.join.Given as goal
 
 -- the octets so far with those of the continuations that are left, and the lines after these

@@ -1,7 +1,7 @@
 use Rattle.std.proofs.Common.{sym, ◌∙◌, ap, arith, ◌++◌, ◌<◌, length, take}
 use Rattle.std.proofs.lemmas.List.{append_assoc}
-use Rattle.ldif_core.specs.Written.{written_attributes, written_values}
-use Rattle.ldif_core.proofs.WrittenLemmas.{attributes-more, kind-within}
+use Rattle.ldif_core.specs.writing.Written.{written_attributes, written_values}
+use Rattle.ldif_core.proofs.writing.WrittenLemmas.{attributes-more, kind-within}
 use Rattle.ldif_core.proofs.writing.put_attributes.Goals as goal
 use Rattle.ldif_core.proofs.writing.put_attributes.Goals.{in-Some+in_ok-put_values, in_default}
 

@@ -1,5 +1,5 @@
 use Rattle.std.proofs.Common.{◌≡◌, ◌++◌, take}
-use Rattle.ldif_core.specs.Written.{written_attributes}
+use Rattle.ldif_core.specs.writing.Written.{written_attributes}
 use Rattle.ldif_core.proofs.writing.put_attributes.Given as goal
 
 -- the lines of the attributes before

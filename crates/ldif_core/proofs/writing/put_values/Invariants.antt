@@ -1,5 +1,5 @@
 use Rattle.std.proofs.Common.{◌≡◌, ◌++◌, take}
-use Rattle.ldif_core.specs.Written.{written_values}
+use Rattle.ldif_core.specs.writing.Written.{written_values}
 use Rattle.ldif_core.proofs.writing.put_values.Given as goal
 
 -- the lines of the values before

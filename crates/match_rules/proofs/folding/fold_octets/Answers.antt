@@ -2,7 +2,7 @@
 use Rattle.std.proofs.Common.{arith}
 use Rattle.std.proofs.lemmas.Grind.{common_steps}
 use Rattle.match_rules.specs.Folding.{folded_octets}
-use Rattle.match_rules.proofs.FoldingLemmas.{folded_octets-ascii}
+use Rattle.match_rules.proofs.folding.FoldingLemmas.{folded_octets-ascii}
 use Rattle.match_rules.proofs.folding.fold_octets.Goals as goal
 
 pub returns-then-is_ascii : goal.returns-then-is_ascii

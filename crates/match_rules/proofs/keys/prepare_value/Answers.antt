@@ -1,5 +1,5 @@
 -- A value of each of these rules is text.
-use Rattle.match_rules.proofs.SyntaxesLemmas.{IsUtf8-value}
+use Rattle.match_rules.proofs.keys.SyntaxesLemmas.{IsUtf8-value}
 use Rattle.match_rules.proofs.keys.prepare_value.Goals as goal
 
 pub prepare_text-requires-in-Ascii : goal.prepare_text-requires-in-Ascii

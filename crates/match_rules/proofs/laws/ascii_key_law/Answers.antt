@@ -1,10 +1,10 @@
 -- A value's key is its prepared octets, and those of ASCII are known.
 use Rattle.std.proofs.Common.{Some, ap, ◌∙◌}
 use Rattle.match_rules.specs.declared.rules.Rule.TheVariants.{Text, Ascii, Phone, Country}
-use Rattle.match_rules.proofs.AsciiLemmas.{prepared_text-ascii}
-use Rattle.match_rules.proofs.KeysLemmas.{key_of-value}
-use Rattle.match_rules.proofs.LawsLemmas.{prepared-phone, prepared-country}
-use Rattle.match_rules.proofs.SyntaxesLemmas.{IsAscii-printable}
+use Rattle.match_rules.proofs.laws.AsciiLemmas.{prepared_text-ascii}
+use Rattle.match_rules.proofs.keys.KeysLemmas.{key_of-value}
+use Rattle.match_rules.proofs.laws.LawsLemmas.{prepared-phone, prepared-country}
+use Rattle.match_rules.proofs.keys.SyntaxesLemmas.{IsAscii-printable}
 use Rattle.match_rules.proofs.laws.ascii_key_law.Goals as goal
 
 pub returns-clause-text : goal.returns-clause-text

@@ -1,5 +1,5 @@
 -- By the first octets, and then by what is behind them.
-use Rattle.match_rules.proofs.OrderLemmas.{slice_cmp-IsBefore}
+use Rattle.match_rules.proofs.laws.OrderLemmas.{slice_cmp-IsBefore}
 use Rattle.match_rules.proofs.laws.order_law.Goals as goal
 
 pub returns : goal.returns

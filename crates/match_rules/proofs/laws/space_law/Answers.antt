@@ -1,9 +1,9 @@
 -- Both texts are values, and what is left of them is the same.
 use Rattle.std.proofs.Common.{Some, sym, ap, ◌∙◌}
-use Rattle.match_rules.proofs.AsciiLemmas.{prepared_text-ascii}
-use Rattle.match_rules.proofs.KeysLemmas.{key_of-value}
-use Rattle.match_rules.proofs.LawsLemmas.{prepared-same}
-use Rattle.match_rules.proofs.SpaceLawLemmas.{cut_and_joined-more}
+use Rattle.match_rules.proofs.laws.AsciiLemmas.{prepared_text-ascii}
+use Rattle.match_rules.proofs.keys.KeysLemmas.{key_of-value}
+use Rattle.match_rules.proofs.laws.LawsLemmas.{prepared-same}
+use Rattle.match_rules.proofs.laws.SpaceLawLemmas.{cut_and_joined-more}
 use Rattle.match_rules.proofs.laws.space_law.Goals as goal
 
 pub returns : goal.returns

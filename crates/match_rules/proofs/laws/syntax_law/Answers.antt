@@ -1,5 +1,5 @@
 -- A value and a part have keys, and other octets have none.
-use Rattle.match_rules.proofs.KeysLemmas.{key_of-value, key_of-other, part_key_of-part, part_key_of-other}
+use Rattle.match_rules.proofs.keys.KeysLemmas.{key_of-value, key_of-other, part_key_of-part, part_key_of-other}
 use Rattle.match_rules.proofs.laws.syntax_law.Goals as goal
 
 pub returns-clause-value : goal.returns-clause-value

@@ -1,5 +1,5 @@
 -- Octets that stand for themselves are their own key.
-use Rattle.match_rules.proofs.OwnLemmas.{key_of-own}
+use Rattle.match_rules.proofs.own.OwnLemmas.{key_of-own}
 use Rattle.match_rules.proofs.own.is_own_key.Goals as goal
 
 pub returns-clause-key : goal.returns-clause-key

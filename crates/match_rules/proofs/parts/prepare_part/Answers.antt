@@ -2,7 +2,7 @@
 use Rattle.std.proofs.Common.{◌∙◌, ap, sym, Some, refl}
 use Rattle.std.proofs.lemmas.Bool.{iff_false}
 use Rattle.std.proofs.lemmas.Result.{err_from_is_err_and}
-use Rattle.match_rules.proofs.KeysLemmas.{part_key_of-part, part_key_of-other}
+use Rattle.match_rules.proofs.keys.KeysLemmas.{part_key_of-part, part_key_of-other}
 use Rattle.match_rules.proofs.parts.prepare_part.Goals as goal
 
 -- not of the syntax: no key

@@ -1,5 +1,5 @@
 -- A part of each of these rules is text.
-use Rattle.match_rules.proofs.SyntaxesLemmas.{IsUtf8-part}
+use Rattle.match_rules.proofs.keys.SyntaxesLemmas.{IsUtf8-part}
 use Rattle.match_rules.proofs.parts.prepare_piece.Goals as goal
 
 pub prepare_part_text-requires-in-Ascii : goal.prepare_part_text-requires-in-Ascii

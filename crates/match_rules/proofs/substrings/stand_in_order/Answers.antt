@@ -1,7 +1,7 @@
 -- Where a part is not there, neither the parts from it on nor all of them stand in order.
 use Rattle.std.proofs.Common.{◌≡◌, ◌+◌, ◌∷◌, map, drop, ap, arith, sym, ◌∙◌, subst}
-use Rattle.match_rules.specs.Substrings.{InOrder}
-use Rattle.match_rules.proofs.SubstringsLemmas.{map-drop}
+use Rattle.match_rules.specs.substrings.Substrings.{InOrder}
+use Rattle.match_rules.proofs.substrings.SubstringsLemmas.{map-drop}
 use Rattle.match_rules.proofs.substrings.stand_in_order.Goals as goal
 
 pub returns-in_default : goal.returns-in_default

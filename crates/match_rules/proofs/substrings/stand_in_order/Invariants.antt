@@ -1,5 +1,5 @@
 use Rattle.std.proofs.Common.{◌↔◌, map, drop}
-use Rattle.match_rules.specs.Substrings.{InOrder}
+use Rattle.match_rules.specs.substrings.Substrings.{InOrder}
 use Rattle.match_rules.proofs.substrings.stand_in_order.Given as goal
 
 abbrev pub invariant-loop-part : goal.invariant-loop-part

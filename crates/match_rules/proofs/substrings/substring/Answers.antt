@@ -1,7 +1,7 @@
 -- There is one text between the first part and the last, so that the middle parts are sought in it alone.
 use Rattle.std.proofs.Common.{map, sym, ◌∙◌, subst}
-use Rattle.match_rules.specs.Substrings.{InOrder}
-use Rattle.match_rules.proofs.SubstringsLemmas.{between-one}
+use Rattle.match_rules.specs.substrings.Substrings.{InOrder}
+use Rattle.match_rules.proofs.substrings.SubstringsLemmas.{between-one}
 use Rattle.match_rules.proofs.substrings.substring.Goals as goal
 
 pub returns-in-Some : goal.returns-in-Some

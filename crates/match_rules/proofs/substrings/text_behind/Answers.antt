@@ -1,7 +1,7 @@
 -- The first place leaves the longest rest, and where there is none the part is not there.
 use Rattle.std.proofs.Common.{length, ◌+◌, subst, sym}
-use Rattle.match_rules.specs.Substrings.{InOrder}
-use Rattle.match_rules.proofs.SubstringsLemmas.{InOrder-at, InOrder-first, InOrder-nowhere, rest-drop}
+use Rattle.match_rules.specs.substrings.Substrings.{InOrder}
+use Rattle.match_rules.proofs.substrings.SubstringsLemmas.{InOrder-at, InOrder-first, InOrder-nowhere, rest-drop}
 use Rattle.match_rules.proofs.substrings.text_behind.Goals as goal
 
 pub returns-in_err-place : goal.returns-in_err-place

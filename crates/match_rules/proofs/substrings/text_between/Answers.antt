@@ -3,8 +3,8 @@ use Rattle.std.proofs.Common.{◌≡◌, ℕ, ◌+◌, ◌-◌, false, true, nat
 use Rattle.std.proofs.lemmas.List.{append_cancel_left}
 use Rattle.std.specs.Cmp.Lexicographic.{pointwise}
 use Rattle.std.specs.Option.{option_copied}
-use Rattle.match_rules.specs.PartsInOrder.{IsTextBetween}
-use Rattle.match_rules.proofs.SubstringsLemmas.{begins-false, begins-true, ends-false, ends-true}
+use Rattle.match_rules.specs.substrings.PartsInOrder.{IsTextBetween}
+use Rattle.match_rules.proofs.substrings.SubstringsLemmas.{begins-false, begins-true, ends-false, ends-true}
 use Rattle.match_rules.proofs.substrings.text_between.Goals as goal
 
 -- what is left of a rest without the last part

@@ -1,6 +1,6 @@
 -- By the theorems, over the laws of the rules and of changes.
-use Rattle.modify_laws.proofs.ModifyLemmas.{good-modified}
-use Rattle.modify_laws.proofs.RenameLemmas.{good-renamed}
+use Rattle.modify_laws.proofs.laws.ModifyLemmas.{good-modified}
+use Rattle.modify_laws.proofs.laws.RenameLemmas.{good-renamed}
 use Rattle.modify_laws.proofs.laws.a_good_tree_stays_good_when_changed.Goals as goal
 
 pub returns : goal.returns

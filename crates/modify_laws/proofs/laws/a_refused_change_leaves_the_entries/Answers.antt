@@ -1,6 +1,6 @@
 -- By the theorems.
-use Rattle.modify_laws.proofs.ModifyLemmas.{refused-modified}
-use Rattle.modify_laws.proofs.RenameLemmas.{refused-renamed}
+use Rattle.modify_laws.proofs.laws.ModifyLemmas.{refused-modified}
+use Rattle.modify_laws.proofs.laws.RenameLemmas.{refused-renamed}
 use Rattle.modify_laws.proofs.laws.a_refused_change_leaves_the_entries.Goals as goal
 
 pub returns : goal.returns

@@ -1,6 +1,6 @@
 -- By the theorems.
-use Rattle.modify_laws.proofs.ModifiedLemmas.{modified-may, may-modified}
-use Rattle.modify_laws.proofs.RenamedLemmas.{renamed-may, may-renamed}
+use Rattle.modify_laws.proofs.laws.ModifiedLemmas.{modified-may, may-modified}
+use Rattle.modify_laws.proofs.laws.RenamedLemmas.{renamed-may, may-renamed}
 use Rattle.modify_laws.proofs.laws.exactly_what_may_be_changed_is_changed.Goals as goal
 
 pub returns : goal.returns

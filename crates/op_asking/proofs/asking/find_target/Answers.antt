@@ -1,9 +1,9 @@
 -- The entry of the number that is found for the name.
 use Rattle.std.proofs.Common.{◌≡◌, List, Option, Some, None, sym, ap, ◌∙◌}
 use Rattle.std.specs.Option.{option_map}
-use Rattle.dn_names.specs.Names.{RdnSequence}
-use Rattle.dir_tree.specs.Numbered.{Numbered, IsNumberedTree, entries_of, entry_of, find_name}
-use Rattle.dir_tree.specs.Trees.{named_in}
+use Rattle.dir_tree.specs.dn_names.name.Names.{RdnSequence}
+use Rattle.dir_tree.specs.tree.Numbered.{Numbered, IsNumberedTree, entries_of, entry_of, find_name}
+use Rattle.dir_tree.specs.tree.Trees.{named_in}
 use Rattle.dir_tree.specs.declared.number.EntryNo.{EntryNo}
 use Rattle.dir_tree.proofs.TreeTheorems.{named-found, named-none}
 use Rattle.op_asking.proofs.asking.find_target.Goals as goal

@@ -1,6 +1,6 @@
 -- The one entry of the name, if there is one.
 use Rattle.std.proofs.Common.{◌∙◌, sym}
-use Rattle.op_asking.proofs.SeenLemmas.{discloses-found, discloses-none}
+use Rattle.op_asking.proofs.hiding.SeenLemmas.{discloses-found, discloses-none}
 use Rattle.op_asking.proofs.hiding.discloses.Goals as goal
 
 pub returns-in-Some : goal.returns-in-Some

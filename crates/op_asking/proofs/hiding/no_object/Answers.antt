@@ -1,10 +1,10 @@
 -- Without an entry there is no name.
 use Rattle.std.proofs.Common.{◌≡◌, ◌∙◌, None, ap, sym}
 use Rattle.std.specs.Prelude.{Option}
-use Rattle.dir_tree.specs.Numbered.{entry_of}
+use Rattle.dir_tree.specs.tree.Numbered.{entry_of}
 use Rattle.dir_tree.specs.declared.number.EntryNo.{EntryNo}
-use Rattle.op_asking.specs.Nearest.{nearest_name, without_object}
-use Rattle.op_asking.proofs.SeenLemmas.{nearest-lost, result-root}
+use Rattle.op_asking.specs.hiding.Nearest.{nearest_name, without_object}
+use Rattle.op_asking.proofs.hiding.SeenLemmas.{nearest-lost, result-root}
 use Rattle.op_asking.proofs.hiding.no_object.Goals as goal
 
 pub returns-in_default : goal.returns-in_default

@@ -1,7 +1,7 @@
 -- The name is that of the nearest entry.
 use Rattle.std.proofs.Common.{◌∙◌}
 use Rattle.std.proofs.lemmas.Result.{IfOk-weaker}
-use Rattle.op_asking.proofs.SeenLemmas.{no_such_object-nearest}
+use Rattle.op_asking.proofs.hiding.SeenLemmas.{no_such_object-nearest}
 use Rattle.op_asking.proofs.hiding.no_such_object.Goals as goal
 
 pub returns : goal.returns

@@ -1,4 +1,4 @@
-use Rattle.op_bind.proofs.UnseenLaw.{bind_answer-without}
+use Rattle.op_bind.proofs.laws.UnseenLaw.{bind_answer-without}
 use Rattle.op_bind.proofs.laws.an_unseen_subtree_changes_no_bind.Goals as goal
 
 pub returns : goal.returns

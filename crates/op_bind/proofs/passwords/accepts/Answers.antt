@@ -3,7 +3,7 @@ use Rattle.std.proofs.Common.{◌≡◌, List, ℕ, ◌++◌, Some, None, sym, a
 use Rattle.std.proofs.lemmas.Bool.Decides.{Decides-eqb}
 use Rattle.std.proofs.lemmas.Slice.Eq.{strip_prefix_is}
 use Rattle.op_bind.specs.Passwords.{scheme, accepts}
-use Rattle.op_bind.proofs.PasswordLemmas.{accepts-digest, accepts-other}
+use Rattle.op_bind.proofs.passwords.PasswordLemmas.{accepts-digest, accepts-other}
 use Rattle.op_bind.proofs.passwords.accepts.Goals as goal
 
 pub returns-in-Some : goal.returns-in-Some

@@ -1,12 +1,12 @@
 -- What is asked of the target's number is asked of the target.
 use Rattle.std.proofs.Common.{◌≡◌, ◌∙◌, Ok, Err, ap, sym, subst}
 use Rattle.std.proofs.lemmas.Result.{IfOk-weaker}
-use Rattle.dir_tree.specs.Numbered.{entries_of}
-use Rattle.entry_changes.specs.Changes.{changed_by}
-use Rattle.op_update.specs.Updates.{Changed, refused}
-use Rattle.op_modify.specs.Asked.{granted_at}
-use Rattle.op_modify.specs.Steps.{IsChecked}
-use Rattle.op_modify.proofs.ChangeLemmas.{modified_as-asked}
+use Rattle.dir_tree.specs.tree.Numbered.{entries_of}
+use Rattle.entry_changes.specs.Change.{changed_by}
+use Rattle.op_update.specs.adding.Updates.{Changed, refused}
+use Rattle.op_modify.specs.asker.Asked.{granted_at}
+use Rattle.op_modify.specs.replacing.Steps.{IsChecked}
+use Rattle.op_modify.proofs.modifying.ChangeLemmas.{modified_as-asked}
 use Rattle.op_modify.proofs.modifying.check_changes.Goals as goal
 
 pub returns-in-Ok : goal.returns-in-Ok

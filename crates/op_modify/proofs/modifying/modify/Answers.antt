@@ -2,11 +2,11 @@
 use Rattle.std.proofs.Common.{◌∙◌, ap, sym, List, Ok}
 use Rattle.std.proofs.lemmas.Result.{IfOk-weaker}
 use Rattle.std.specs.Result.{result_ok}
-use Rattle.dn_names.specs.NameText.{read_name}
-use Rattle.dir_tree.specs.Numbered.{entries_of}
+use Rattle.dir_tree.specs.dn_names.parsing.NameText.{read_name}
+use Rattle.dir_tree.specs.tree.Numbered.{entries_of}
 use Rattle.ldap_msg.specs.declared.kinds.Change.{Change}
 use Rattle.op_modify.specs.Modifying.{modified_named}
-use Rattle.op_modify.proofs.ChangeLemmas.{modified-bad, modified-read}
+use Rattle.op_modify.proofs.modifying.ChangeLemmas.{modified-bad, modified-read}
 use Rattle.op_modify.proofs.modifying.modify.Goals as goal
 use Rattle.op_update.proofs.Theorems.{changed-refused, changed-like}
 

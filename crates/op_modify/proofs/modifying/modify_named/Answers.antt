@@ -1,8 +1,8 @@
 -- The name is the empty one or not.
 use Rattle.std.proofs.Common.{◌∙◌, sym}
 use Rattle.std.proofs.lemmas.Result.{IfOk-weaker}
-use Rattle.dir_tree.specs.Numbered.{entries_of}
-use Rattle.op_modify.proofs.ChangeLemmas.{modified-root, modified-entry}
+use Rattle.dir_tree.specs.tree.Numbered.{entries_of}
+use Rattle.op_modify.proofs.modifying.ChangeLemmas.{modified-root, modified-entry}
 use Rattle.op_modify.proofs.modifying.modify_named.Goals as goal
 use Rattle.op_update.proofs.Theorems.{changed-refused, changed-like}
 

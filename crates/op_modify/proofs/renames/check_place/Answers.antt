@@ -1,7 +1,7 @@
 -- The renamed entry decides.
 use Rattle.std.proofs.Common.{◌∙◌, Some, None, sym}
-use Rattle.dir_tree.specs.Numbered.{entries_of}
-use Rattle.op_modify.proofs.NameLemmas.{renamed-past}
+use Rattle.dir_tree.specs.tree.Numbered.{entries_of}
+use Rattle.op_modify.proofs.renames.NameLemmas.{renamed-past}
 use Rattle.op_modify.proofs.renames.check_place.Goals as goal
 
 -- it is refused

@@ -1,7 +1,7 @@
 -- The target's rows decide, whatever the renamed entry is.
 use Rattle.std.proofs.Common.{◌∙◌, sym}
-use Rattle.dir_tree.specs.Numbered.{entries_of}
-use Rattle.op_modify.proofs.NameLemmas.{renamed-stop}
+use Rattle.dir_tree.specs.tree.Numbered.{entries_of}
+use Rattle.op_modify.proofs.renames.NameLemmas.{renamed-stop}
 use Rattle.op_modify.proofs.renames.check_table.Goals as goal
 
 pub returns-in-Some : goal.returns-in-Some

@@ -1,7 +1,7 @@
 -- The name of the target's superior is the front of the new one.
 use Rattle.std.proofs.Common.{◌∙◌, ◌++◌, sym, ap}
 use Rattle.std.proofs.lemmas.Result.{IfOk-weaker}
-use Rattle.op_modify.proofs.NameLemmas.{above-found}
+use Rattle.op_modify.proofs.renames.NameLemmas.{above-found}
 use Rattle.op_modify.proofs.renames.new_name.Goals as goal
 
 pub returns-in-Some-at : goal.returns-in-Some-at

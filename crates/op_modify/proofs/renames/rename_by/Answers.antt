@@ -1,8 +1,8 @@
 -- What was checked is made.
 use Rattle.std.proofs.Common.{◌∙◌, sym}
 use Rattle.std.proofs.lemmas.Result.{IfOk-weaker}
-use Rattle.dir_tree.specs.Numbered.{entries_of}
-use Rattle.op_modify.proofs.NameLemmas.{renamed_by-willing}
+use Rattle.dir_tree.specs.tree.Numbered.{entries_of}
+use Rattle.op_modify.proofs.renames.NameLemmas.{renamed_by-willing}
 use Rattle.op_modify.proofs.renames.rename_by.Goals as goal
 use Rattle.op_update.proofs.Theorems.{changed-like}
 

@@ -1,5 +1,5 @@
 -- The change is refused, or the entry is in its place.
-use Rattle.op_modify.proofs.ChangeLemmas.{made-refused, made-allowed}
+use Rattle.op_modify.proofs.modifying.ChangeLemmas.{made-refused, made-allowed}
 use Rattle.op_modify.proofs.replacing.make.Goals as goal
 
 pub returns-in-Refused-clause-ok : goal.returns-in-Refused-clause-ok

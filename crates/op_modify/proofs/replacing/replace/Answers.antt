@@ -1,7 +1,7 @@
 -- The entries change as the rows do.
 use Rattle.std.proofs.Common.{ap, subst, ◌∙◌}
-use Rattle.dir_tree.specs.Trees.{put_in}
-use Rattle.dir_tree.specs.Numbered.{IsNumberedTree, entries_of, without}
+use Rattle.dir_tree.specs.tree.Trees.{put_in}
+use Rattle.dir_tree.specs.tree.Numbered.{IsNumberedTree, entries_of, without}
 use Rattle.dir_tree.proofs.TreeTheorems.{entries_of-put_row, entries_of-without}
 use Rattle.op_modify.proofs.replacing.replace.Goals as goal
 

@@ -1,9 +1,9 @@
 -- The rules are those of the target's place.
 use Rattle.std.proofs.Common.{◌≡◌, ◌∙◌, Some, ap, sym}
-use Rattle.schema_rules.specs.Checking.{replaced, others}
-use Rattle.aci_item.specs.Rules.{broken_rule}
-use Rattle.op_update.specs.Adding.{rule_refusal}
-use Rattle.op_modify.proofs.ChangeLemmas.{broken_rule-beside}
+use Rattle.op_update.specs.schema_rules.check.Checking.{replaced, others}
+use Rattle.acdf_filters.specs.aci_item.Rules.{broken_rule}
+use Rattle.op_update.specs.adding.Adding.{rule_refusal}
+use Rattle.op_modify.proofs.modifying.ChangeLemmas.{broken_rule-beside}
 use Rattle.op_modify.proofs.replacing.rule_refusal.Goals as goal
 
 -- none is broken

@@ -1,7 +1,7 @@
 -- The texts are not none.
 use Rattle.std.proofs.Common.{◌∙◌, arith}
 use Rattle.std.proofs.lemmas.Result.{IfOk-weaker}
-use Rattle.op_read.proofs.ChoosingLemmas.{chosen-filled}
+use Rattle.op_read.proofs.choosing.ChoosingLemmas.{chosen-filled}
 use Rattle.op_read.proofs.choosing.read_choices.Goals as goal
 
 pub returns-in-len1-up : goal.returns-in-len1-up

@@ -1,7 +1,7 @@
 -- What is answered over the tree is answered over its twins.
 use Rattle.std.proofs.lemmas.Result.{IfOk-weaker}
-use Rattle.dir_tree.specs.Numbered.{entries_of}
-use Rattle.op_read.proofs.AlikeLemmas.{compares_alike}
+use Rattle.dir_tree.specs.tree.Numbered.{entries_of}
+use Rattle.op_read.proofs.comparing.AlikeLemmas.{compares_alike}
 use Rattle.op_read.proofs.comparing.compare.Goals as goal
 
 pub returns-clause-twins : goal.returns-clause-twins

@@ -1,6 +1,6 @@
 -- The one row of the name, where it may be read.
 use Rattle.std.proofs.Common.{◌∙◌, sym}
-use Rattle.op_read.proofs.SeenLemmas.{readable-none, readable-yes, readable-no}
+use Rattle.op_read.proofs.seen.SeenLemmas.{readable-none, readable-yes, readable-no}
 use Rattle.op_read.proofs.comparing.find_readable.Goals as goal
 
 -- no entry has the name

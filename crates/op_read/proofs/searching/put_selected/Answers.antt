@@ -8,8 +8,8 @@ use Rattle.read_model.specs.Selecting.{selected}
 use Rattle.read_model.specs.SearchReplies.{replies_octets}
 use Rattle.op_asking.specs.Asking.{view_in}
 use Rattle.op_read.specs.Sending.{entry_octets, IsSent}
-use Rattle.op_read.proofs.SendingLemmas.{found-replies}
-use Rattle.op_read.proofs.SelectingLemmas.{selected-among}
+use Rattle.op_read.proofs.sending.SendingLemmas.{found-replies}
+use Rattle.op_read.proofs.selecting.SelectingLemmas.{selected-among}
 use Rattle.op_read.proofs.searching.put_selected.Goals as goal
 
 pub returns-clause-ok : goal.returns-clause-ok

@@ -1,7 +1,7 @@
 -- What is sent over the tree is sent over its twins.
 use Rattle.std.proofs.lemmas.Result.{on_ok_weaker}
-use Rattle.dir_tree.specs.Numbered.{entries_of}
-use Rattle.op_read.proofs.AlikeLemmas.{sends_alike}
+use Rattle.dir_tree.specs.tree.Numbered.{entries_of}
+use Rattle.op_read.proofs.comparing.AlikeLemmas.{sends_alike}
 use Rattle.op_read.proofs.searching.search.Goals as goal
 
 pub returns-clause-twins : goal.returns-clause-twins

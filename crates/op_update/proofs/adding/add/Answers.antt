@@ -2,11 +2,11 @@
 use Rattle.std.proofs.Common.{◌∙◌, ap, sym, List, Ok}
 use Rattle.std.proofs.lemmas.Result.{IfOk-weaker}
 use Rattle.std.specs.Result.{result_ok}
-use Rattle.dn_names.specs.NameText.{read_name}
-use Rattle.dir_tree.specs.Numbered.{entries_of}
+use Rattle.dir_tree.specs.dn_names.parsing.NameText.{read_name}
+use Rattle.dir_tree.specs.tree.Numbered.{entries_of}
 use Rattle.ldap_msg.specs.declared.kinds.KindValues.{KindValues}
-use Rattle.op_update.specs.Updates.{added_named}
-use Rattle.op_update.proofs.UpdateLemmas.{changed-refused, changed-like, added-bad, added-read}
+use Rattle.op_update.specs.adding.Updates.{added_named}
+use Rattle.op_update.proofs.adding.UpdateLemmas.{changed-refused, changed-like, added-bad, added-read}
 use Rattle.op_update.proofs.adding.add.Goals as goal
 
 pub returns-in-Some-clause-ok : goal.returns-in-Some-clause-ok

@@ -1,8 +1,8 @@
 -- The new entry has its name.
 use Rattle.std.proofs.Common.{◌∙◌, sym}
 use Rattle.std.proofs.lemmas.Result.{IfOk-weaker}
-use Rattle.dir_tree.specs.Numbered.{entries_of}
-use Rattle.op_update.proofs.UpdateLemmas.{changed-like, named-new, added-new}
+use Rattle.dir_tree.specs.tree.Numbered.{entries_of}
+use Rattle.op_update.proofs.adding.UpdateLemmas.{changed-like, named-new, added-new}
 use Rattle.op_update.proofs.adding.add_entry.Goals as goal
 
 pub add_new-requires : goal.add_new-requires

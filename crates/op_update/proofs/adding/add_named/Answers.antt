@@ -1,8 +1,8 @@
 -- The name is the empty one or not.
 use Rattle.std.proofs.Common.{◌∙◌, sym}
 use Rattle.std.proofs.lemmas.Result.{IfOk-weaker}
-use Rattle.dir_tree.specs.Numbered.{entries_of}
-use Rattle.op_update.proofs.UpdateLemmas.{changed-refused, changed-like, added-root, added-filled, filled-name}
+use Rattle.dir_tree.specs.tree.Numbered.{entries_of}
+use Rattle.op_update.proofs.adding.UpdateLemmas.{changed-refused, changed-like, added-root, added-filled, filled-name}
 use Rattle.op_update.proofs.adding.add_named.Goals as goal
 
 pub returns-then-len-eq0-clause-ok : goal.returns-then-len-eq0-clause-ok

@@ -1,6 +1,6 @@
 -- The entries change as the rows do.
 use Rattle.std.proofs.Common.{ap, ◌∙◌}
-use Rattle.dir_tree.specs.Numbered.{entries_of}
+use Rattle.dir_tree.specs.tree.Numbered.{entries_of}
 use Rattle.dir_tree.proofs.TreeTheorems.{entries_of-put_row}
 use Rattle.op_update.proofs.adding.insert.Goals as goal
 

@@ -1,9 +1,9 @@
 -- What is refused is among the attributes that are left.
 use Rattle.std.proofs.Common.{◌≡◌}
 use Rattle.std.specs.List.{list_any}
-use Rattle.dir_tree.specs.Numbered.{entries_of}
-use Rattle.acdf_filters.specs.Granted.{granted_new}
-use Rattle.op_update.specs.Adding.{refuses_attribute}
+use Rattle.dir_tree.specs.tree.Numbered.{entries_of}
+use Rattle.acdf_filters.specs.laws.Granted.{granted_new}
+use Rattle.op_update.specs.adding.Adding.{refuses_attribute}
 use Rattle.op_update.proofs.adding.refuses_attributes.Given as goal
 
 abbrev pub invariant-loop-kind : goal.invariant-loop-kind

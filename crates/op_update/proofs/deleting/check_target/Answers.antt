@@ -1,6 +1,6 @@
 -- Nothing refuses the delete of the target.
 use Rattle.std.proofs.Common.{◌∙◌, sym}
-use Rattle.op_update.proofs.UpdateLemmas.{allowed-target}
+use Rattle.op_update.proofs.adding.UpdateLemmas.{allowed-target}
 use Rattle.op_update.proofs.deleting.check_target.Goals as goal
 
 pub returns-in-None : goal.returns-in-None

@@ -2,9 +2,9 @@
 use Rattle.std.proofs.Common.{◌∙◌, ap, sym}
 use Rattle.std.proofs.lemmas.Result.{IfOk-weaker}
 use Rattle.std.specs.Result.{result_ok}
-use Rattle.dn_names.specs.NameText.{read_name}
-use Rattle.dir_tree.specs.Numbered.{entries_of}
-use Rattle.op_update.proofs.UpdateLemmas.{changed-refused, changed-like, deleted-bad, deleted-read}
+use Rattle.dir_tree.specs.dn_names.parsing.NameText.{read_name}
+use Rattle.dir_tree.specs.tree.Numbered.{entries_of}
+use Rattle.op_update.proofs.adding.UpdateLemmas.{changed-refused, changed-like, deleted-bad, deleted-read}
 use Rattle.op_update.proofs.deleting.delete.Goals as goal
 
 pub returns-in-Some-clause-ok : goal.returns-in-Some-clause-ok

@@ -1,6 +1,6 @@
 -- The entries change as the rows do.
 use Rattle.std.proofs.Common.{ap, subst, ◌∙◌}
-use Rattle.dir_tree.specs.Numbered.{IsNumberedTree, entries_of}
+use Rattle.dir_tree.specs.tree.Numbered.{IsNumberedTree, entries_of}
 use Rattle.dir_tree.proofs.TreeTheorems.{entries_of-without}
 use Rattle.op_update.proofs.deleting.remove.Goals as goal
 

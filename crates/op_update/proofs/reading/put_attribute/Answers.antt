@@ -2,8 +2,8 @@
 use Rattle.std.proofs.Common.{sym, ◌∙◌}
 use Rattle.std.proofs.lemmas.Bool.{or_parts}
 use Rattle.std.proofs.lemmas.Result.{on_ok_weaker}
-use Rattle.op_update.specs.Reading.{attribute_of}
-use Rattle.op_update.proofs.ReadingLemmas.{distinct-repeats, put-nothing, put-twice, put-last}
+use Rattle.op_update.specs.reading.Reading.{attribute_of}
+use Rattle.op_update.proofs.reading.ReadingLemmas.{distinct-repeats, put-nothing, put-twice, put-last}
 use Rattle.op_update.proofs.reading.put_attribute.Goals as goal
 
 -- one came twice before

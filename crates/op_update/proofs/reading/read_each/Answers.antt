@@ -4,12 +4,12 @@ use Rattle.std.specs.Prelude.{Bool}
 use Rattle.std.specs.List.{list_any}
 use Rattle.std.proofs.lemmas.Bool.{or_parts}
 use Rattle.std.proofs.lemmas.List.{drop_all}
-use Rattle.base_laws.proofs.Theorems.{next-item}
-use Rattle.plain_values.specs.Results.{◌>>=◌}
-use Rattle.op_update.specs.NewEntries.{lacks_values, read_each}
-use Rattle.op_update.specs.Reading.{attribute_of}
-use Rattle.op_update.specs.Steps.{entry_from, finished}
-use Rattle.op_update.proofs.ReadingLemmas.{attribute-filled, each-step, each-fault, each-twice, each-done}
+use Rattle.dir_tree.proofs.base_laws_proofs.Theorems.{next-item}
+use Rattle.ldap_msg.specs.plain_values.Results.{◌>>=◌}
+use Rattle.op_update.specs.reading.NewEntries.{lacks_values, read_each}
+use Rattle.op_update.specs.reading.Reading.{attribute_of}
+use Rattle.op_update.specs.reading.Steps.{entry_from, finished}
+use Rattle.op_update.proofs.reading.ReadingLemmas.{attribute-filled, each-step, each-fault, each-twice, each-done}
 use Rattle.op_update.proofs.reading.read_each.Goals as goal
 
 -- values of it are given

@@ -1,9 +1,9 @@
 -- The attributes so far are finished with what is left.
 use Rattle.std.proofs.Common.{◌≡◌, false, drop}
 use Rattle.std.specs.List.{list_any}
-use Rattle.plain_values.specs.Results.{◌>>=◌}
-use Rattle.op_update.specs.NewEntries.{read_each, read_filled, lacks_values}
-use Rattle.op_update.specs.Steps.{finished}
+use Rattle.ldap_msg.specs.plain_values.Results.{◌>>=◌}
+use Rattle.op_update.specs.reading.NewEntries.{read_each, read_filled, lacks_values}
+use Rattle.op_update.specs.reading.Steps.{finished}
 use Rattle.op_update.proofs.reading.read_each.Given as goal
 
 abbrev pub invariant-loop-item : goal.invariant-loop-item

@@ -1,9 +1,9 @@
 -- Values are read one after the other.
 use Rattle.std.proofs.Common.{◌∙◌, ap, sym, drop, ◌+◌}
 use Rattle.std.proofs.lemmas.List.{drop_all}
-use Rattle.base_laws.proofs.Theorems.{next-item}
-use Rattle.op_update.specs.NewEntries.{read_values}
-use Rattle.op_update.proofs.ReadingLemmas.{put_before, values-step, values-fault, values-done}
+use Rattle.dir_tree.proofs.base_laws_proofs.Theorems.{next-item}
+use Rattle.op_update.specs.reading.NewEntries.{read_values}
+use Rattle.op_update.proofs.reading.ReadingLemmas.{put_before, values-step, values-fault, values-done}
 use Rattle.op_update.proofs.reading.read_values.Goals as goal
 
 -- one is none

@@ -1,7 +1,7 @@
 -- The values so far, before those of what is left, are all.
 use Rattle.std.proofs.Common.{◌≡◌, drop}
-use Rattle.op_update.specs.NewEntries.{read_values}
-use Rattle.op_update.proofs.ReadingLemmas.{put_before}
+use Rattle.op_update.specs.reading.NewEntries.{read_values}
+use Rattle.op_update.proofs.reading.ReadingLemmas.{put_before}
 use Rattle.op_update.proofs.reading.read_values.Given as goal
 
 abbrev pub invariant-loop-octets : goal.invariant-loop-octets

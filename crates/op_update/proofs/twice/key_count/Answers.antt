@@ -5,9 +5,9 @@ use Rattle.std.specs.Ordering.{nat_cmp, eq_by_cmp}
 use Rattle.std.specs.Cmp.Lexicographic.{slice_cmp, on_texts}
 use Rattle.std.proofs.lemmas.Iterator.{YieldsList-from_slice, YieldsList-from_map_by, items_from_drains}
 use Rattle.std.proofs.lemmas.Map.Views.{btree_set_len-from_list}
-use Rattle.dn_names.specs.Names.{Keyed}
-use Rattle.dir_tree.specs.Entries.{is_match}
-use Rattle.op_update.proofs.CountLemmas.{count-on, is_same_key, same-match}
+use Rattle.dir_tree.specs.dn_names.name.Names.{Keyed}
+use Rattle.dir_tree.specs.Entry.{is_match}
+use Rattle.op_update.proofs.twice.CountLemmas.{count-on, is_same_key, same-match}
 use Rattle.op_update.proofs.twice.key_count.Goals as goal
 
 pub returns : goal.returns

@@ -1,8 +1,8 @@
 -- Fewer keys than values.
 use Rattle.std.proofs.Common.{◌∙◌, sym, ap, not, length, ℕ}
 use Rattle.std.specs.Prelude.{◌==◌}
-use Rattle.dir_tree.specs.Entries.{is_match}
-use Rattle.op_update.proofs.CountLemmas.{repeats-count, repeats-short}
+use Rattle.dir_tree.specs.Entry.{is_match}
+use Rattle.op_update.proofs.twice.CountLemmas.{repeats-count, repeats-short}
 use Rattle.op_update.proofs.twice.repeats.Goals as goal
 
 -- there are no two

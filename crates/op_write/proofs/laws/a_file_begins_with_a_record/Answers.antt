@@ -1,4 +1,4 @@
-use Rattle.op_write.proofs.FileLemmas.{begins_without_entries, is_bad_without_a_record}
+use Rattle.op_write.proofs.laws.FileLemmas.{begins_without_entries, is_bad_without_a_record}
 use Rattle.op_write.proofs.laws.a_file_begins_with_a_record.Goals as goal
 
 pub returns : goal.returns

@@ -1,4 +1,4 @@
-use Rattle.op_write.proofs.FileLemmas.{goes_on_after_a_record, goes_on_where_loaded, ends_at_a_bad_record, ends_at_a_bad_line, ends_with_its_entries}
+use Rattle.op_write.proofs.laws.FileLemmas.{goes_on_after_a_record, goes_on_where_loaded, ends_at_a_bad_record, ends_at_a_bad_line, ends_with_its_entries}
 use Rattle.op_write.proofs.laws.records_are_loaded_one_by_one.Goals as goal
 
 pub returns : goal.returns

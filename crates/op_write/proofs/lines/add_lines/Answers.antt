@@ -2,7 +2,7 @@ use Rattle.std.proofs.Common.{◌∙◌, arith}
 use Rattle.std.specs.Vec.Iter.{into_iter_items}
 use Rattle.std.proofs.lemmas.List.{nil_from_length}
 use Rattle.std.proofs.lemmas.Result.{err_from_is_err_and}
-use Rattle.op_write.proofs.LineLemmas.{lines-step, lines-stop, lines-done, fault-of, fault-same}
+use Rattle.op_write.proofs.lines.LineLemmas.{lines-step, lines-stop, lines-done, fault-of, fault-same}
 use Rattle.op_write.proofs.lines.add_lines.Goals as goal
 
 -- the line is bad

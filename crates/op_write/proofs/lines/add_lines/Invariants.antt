@@ -1,6 +1,6 @@
 use Rattle.std.proofs.Common.{◌≡◌}
 use Rattle.std.specs.Vec.Iter.{into_iter_items}
-use Rattle.op_write.specs.Loading.{with_lines}
+use Rattle.op_write.specs.load.Loading.{with_lines}
 use Rattle.op_write.proofs.lines.add_lines.Given as goal
 
 -- the lines that are left, put in the entry so far, give what all lines give

@@ -1,7 +1,7 @@
 use Rattle.std.proofs.Common.{None}
-use Rattle.dir_tree.specs.Numbered.{entries_of}
+use Rattle.dir_tree.specs.tree.Numbered.{entries_of}
 use Rattle.aci_item.specs.Rules.{broken_rule}
-use Rattle.op_write.proofs.PlaceLemmas.{full_breaks}
+use Rattle.op_write.proofs.load.PlaceLemmas.{full_breaks}
 use Rattle.op_write.proofs.load.crowded_out.Goals as goal
 
 -- a full tree breaks the rule of limits

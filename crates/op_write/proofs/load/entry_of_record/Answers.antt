@@ -1,7 +1,7 @@
 use Rattle.std.proofs.Common.{◌∙◌, sym, ap, Ok}
 use Rattle.std.proofs.lemmas.Result.{err_from_is_err_and}
-use Rattle.op_write.proofs.LineLemmas.{fault-gives}
-use Rattle.op_write.proofs.RecordLemmas.{same-ok, record-name, record-line, record-good}
+use Rattle.op_write.proofs.lines.LineLemmas.{fault-gives}
+use Rattle.op_write.proofs.load.RecordLemmas.{same-ok, record-name, record-line, record-good}
 use Rattle.op_write.proofs.load.entry_of_record.Goals as goal
 
 -- the name is bad

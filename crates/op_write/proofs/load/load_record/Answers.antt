@@ -1,11 +1,11 @@
 use Rattle.std.proofs.Common.{◌∙◌}
 use Rattle.std.proofs.lemmas.Result.{err_from_is_err_and}
-use Rattle.dir_tree.specs.Numbered.{entries_of}
+use Rattle.dir_tree.specs.tree.Numbered.{entries_of}
 use Rattle.op_write.specs.declared.fault.LoadFault.{LoadFault}
-use Rattle.plain_values.specs.Answers.{IsFaultOf}
-use Rattle.op_write.specs.Loading.{loaded_entry, fault_of}
-use Rattle.op_write.proofs.NameLemmas.{entry_of_record-named}
-use Rattle.op_write.proofs.RecordLemmas.{loaded-record, loaded-placed, loaded-place, load_fault-gives}
+use Rattle.dir_tree.specs.plain_values.Answers.{IsFaultOf}
+use Rattle.op_write.specs.load.Loading.{loaded_entry, fault_of}
+use Rattle.op_write.proofs.load.NameLemmas.{entry_of_record-named}
+use Rattle.op_write.proofs.load.RecordLemmas.{loaded-record, loaded-placed, loaded-place, load_fault-gives}
 use Rattle.op_write.proofs.load.load_record.Goals as goal
 
 -- the record has no entry

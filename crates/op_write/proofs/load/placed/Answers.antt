@@ -1,9 +1,9 @@
 use Rattle.std.proofs.Common.{sym, ◌∙◌, ap}
-use Rattle.dn_names.specs.Names.{RdnSequence}
-use Rattle.dir_tree.specs.Trees.{superior_name}
-use Rattle.dir_tree.specs.Numbered.{entries_of, find_name}
+use Rattle.dir_tree.specs.dn_names.name.Names.{RdnSequence}
+use Rattle.dir_tree.specs.tree.Trees.{superior_name}
+use Rattle.dir_tree.specs.tree.Numbered.{entries_of, find_name}
 use Rattle.dir_tree.specs.Refusals.{insert_refusal}
-use Rattle.op_write.proofs.PlaceLemmas.{MayJoin-free, placed-good, placed-fault}
+use Rattle.op_write.proofs.load.PlaceLemmas.{MayJoin-free, placed-good, placed-fault}
 use Rattle.op_write.proofs.load.placed.Goals as goal
 
 -- the vacancy has the superior's number

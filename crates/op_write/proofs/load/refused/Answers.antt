@@ -1,6 +1,6 @@
 use Rattle.std.proofs.Common.{Some, ap, ◌∙◌}
-use Rattle.dir_tree.specs.Numbered.{entries_of}
-use Rattle.op_write.proofs.PlaceLemmas.{placed-taken, placed-alone, placed-fault, MayJoin-full, is_full}
+use Rattle.dir_tree.specs.tree.Numbered.{entries_of}
+use Rattle.op_write.proofs.load.PlaceLemmas.{placed-taken, placed-alone, placed-fault, MayJoin-full, is_full}
 use Rattle.op_write.proofs.load.refused.Goals as goal
 
 -- an entry has the name

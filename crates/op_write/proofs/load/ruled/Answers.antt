@@ -1,4 +1,4 @@
-use Rattle.dir_tree.specs.Numbered.{entries_of}
+use Rattle.dir_tree.specs.tree.Numbered.{entries_of}
 use Rattle.aci_item.specs.Rules.{broken_rule}
 use Rattle.std.proofs.Common.{None}
 use Rattle.op_write.proofs.load.ruled.Goals as goal

@@ -1,5 +1,5 @@
 use Rattle.std.proofs.Common.{sym, ◌∙◌}
-use Rattle.op_write.proofs.OwnLemmas.{pairs-there}
+use Rattle.op_write.proofs.own.OwnLemmas.{pairs-there}
 use Rattle.op_write.proofs.own.add_own_values.Goals as goal
 
 -- all values are there

@@ -1,8 +1,8 @@
 use Rattle.std.proofs.Common.{◌≡◌, ◌∙◌, sym, ap, drop, ◌+◌}
 use Rattle.std.proofs.lemmas.List.{drop_all}
-use Rattle.dir_tree.specs.Changes.{with_value}
-use Rattle.op_write.specs.Loading.{with_pairs}
-use Rattle.op_write.proofs.OwnLemmas.{pairs-step, pairs-done}
+use Rattle.dir_tree.specs.attributes.Changes.{with_value}
+use Rattle.op_write.specs.load.Loading.{with_pairs}
+use Rattle.op_write.proofs.own.OwnLemmas.{pairs-step, pairs-done}
 use Rattle.op_write.proofs.own.add_pairs.Goals as goal
 
 -- the pair's value is there

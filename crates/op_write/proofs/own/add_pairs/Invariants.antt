@@ -1,5 +1,5 @@
 use Rattle.std.proofs.Common.{◌≡◌, drop}
-use Rattle.op_write.specs.Loading.{with_pairs}
+use Rattle.op_write.specs.load.Loading.{with_pairs}
 use Rattle.op_write.proofs.own.add_pairs.Given as goal
 
 -- the pairs that are left, put in the entry so far, give what all pairs give

@@ -2,7 +2,7 @@ use Rattle.std.proofs.Common.{◌≡◌, ◌<◌, ◌==◌, ◌∙◌, sym, ap, 
 use Rattle.std.proofs.lemmas.List.{drop_all}
 use Rattle.std.specs.List.{position_or_len}
 use Rattle.std.specs.Str.Lines.{lines}
-use Rattle.plain_values.proofs.LinesLemmas.{lines-first, lines-last}
+use Rattle.plain_values.proofs.lines.LinesLemmas.{lines-first, lines-last}
 use Rattle.plain_values.proofs.lines.first_line.Goals as goal
 
 -- a line feed ends the first line

@@ -1,6 +1,6 @@
 use Rattle.std.proofs.Common.{subst}
 use Rattle.memchr.specs.Find.{IsFirstByte, is_byte}
-use Rattle.plain_values.proofs.PositionLemmas.{position_or_len-found, position_or_len-nowhere}
+use Rattle.plain_values.proofs.lines.PositionLemmas.{position_or_len-found, position_or_len-nowhere}
 use Rattle.plain_values.proofs.lines.position_of.Goals as goal
 
 -- the search found the octet

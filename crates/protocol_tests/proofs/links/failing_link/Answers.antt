@@ -1,6 +1,6 @@
 use Rattle.std.proofs.Common.{refl}
 use Rattle.std.specs.List.{IsDistinct}
-use Rattle.script_text.specs.Script.{opens}
+use Rattle.wire_io.specs.script_text.script.Script.{opens}
 use Rattle.protocol_tests.proofs.links.failing_link.Goals as goal
 
 -- the two events open two numbers

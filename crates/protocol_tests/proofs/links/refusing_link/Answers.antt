@@ -1,6 +1,6 @@
 use Rattle.std.proofs.Common.{refl}
 use Rattle.std.specs.List.{IsDistinct, list_any}
-use Rattle.script_text.specs.Script.{opens}
+use Rattle.wire_io.specs.script_text.script.Script.{opens}
 use Rattle.protocol_tests.proofs.links.refusing_link.Goals as goal
 
 -- two of the events open two numbers

@@ -1,6 +1,6 @@
 use Rattle.std.proofs.Common.{arith}
 use Rattle.sample_input.specs.Counting.{is_entry, is_hidden, found_in, hidden_in}
-use Rattle.sample_input.proofs.CountLemmas.{such_start, none_more, none_bad, none_left, counted_on, few_on, all_counted}
+use Rattle.sample_input.proofs.counting.CountLemmas.{such_start, none_more, none_bad, none_left, counted_on, few_on, all_counted}
 use Rattle.sample_input.proofs.counting.count_found.Goals as goal
 
 -- nothing was counted yet

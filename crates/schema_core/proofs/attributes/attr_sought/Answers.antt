@@ -1,5 +1,5 @@
 use Rattle.std.proofs.Common.{◌∙◌, sym}
-use Rattle.schema_core.proofs.AttributeLemmas.{position-rows, attr_of_fits}
+use Rattle.schema_core.proofs.attributes.AttributeLemmas.{position-rows, attr_of_fits}
 use Rattle.schema_core.proofs.Theorems.{IsAttrId-from_attr_of}
 use Rattle.schema_core.proofs.attributes.attr_sought.Goals as goal
 

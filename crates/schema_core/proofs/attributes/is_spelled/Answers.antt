@@ -1,7 +1,7 @@
 -- The octets are the name of the row.
 use Rattle.std.proofs.Common.{◌≡◌, sym, ◌∙◌}
 use Rattle.std.proofs.lemmas.Slice.Eq.{bytes_eq-Decides}
-use Rattle.schema_core.proofs.AttributeLemmas.{attr_of-spelled}
+use Rattle.schema_core.proofs.attributes.AttributeLemmas.{attr_of-spelled}
 use Rattle.schema_core.proofs.attributes.is_spelled.Goals as goal
 
 pub returns-in-Some-clause-exact : goal.returns-in-Some-clause-exact

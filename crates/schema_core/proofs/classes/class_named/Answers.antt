@@ -1,5 +1,5 @@
 use Rattle.std.proofs.Common.{◌∙◌, sym}
-use Rattle.schema_core.proofs.ClassLemmas.{position-rows, class_of_fits}
+use Rattle.schema_core.proofs.classes.ClassLemmas.{position-rows, class_of_fits}
 use Rattle.schema_core.proofs.Theorems.{IsClassId-from_class_of}
 use Rattle.schema_core.proofs.classes.class_named.Goals as goal
 

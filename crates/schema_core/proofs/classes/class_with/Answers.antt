@@ -1,5 +1,5 @@
 use Rattle.std.proofs.Common.{◌∙◌, sym}
-use Rattle.schema_core.proofs.ClassLemmas.{position-rows_with, class_with_fits}
+use Rattle.schema_core.proofs.classes.ClassLemmas.{position-rows_with, class_with_fits}
 use Rattle.schema_core.proofs.Theorems.{IsClassId-from_class_with}
 use Rattle.schema_core.proofs.classes.class_with.Goals as goal
 

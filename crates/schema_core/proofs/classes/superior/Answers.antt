@@ -1,5 +1,5 @@
 -- A class stands after its superior in the table.
-use Rattle.schema_core.proofs.ClassLemmas.{superior_of_row_below}
+use Rattle.schema_core.proofs.classes.ClassLemmas.{superior_of_row_below}
 use Rattle.schema_core.proofs.classes.superior.Goals as goal
 
 pub returns-clause-fits : goal.returns-clause-fits

@@ -1,5 +1,5 @@
 -- The checker computes both tests over the table of classes.
-use Rattle.schema_core.proofs.TableFacts.{classes-are_complete, classes-have_superiors}
+use Rattle.schema_core.proofs.laws.TableFacts.{classes-are_complete, classes-have_superiors}
 use Rattle.schema_core.proofs.laws.classes_are_complete.Goals as goal
 
 pub returns : goal.returns

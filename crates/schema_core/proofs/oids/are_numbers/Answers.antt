@@ -2,7 +2,7 @@
 use Rattle.std.proofs.Common.{rules, tests}
 use Rattle.std.proofs.lemmas.Iterator.Search.{all_from_yields_List}
 use Rattle.std.proofs.lemmas.Iterator.Splits.{YieldsList-from_slice_split}
-use Rattle.schema_core.specs.Oid.{is_number}
+use Rattle.schema_core.specs.Oids.{is_number}
 use Rattle.schema_core.proofs.oids.are_numbers.Goals as goal
 
 pub returns : goal.returns

@@ -1,5 +1,5 @@
 -- The first of the three tables that has the name gives its object identifier.
-use Rattle.schema_core.proofs.OidLemmas.{oid_among-append, option_map-option_or}
+use Rattle.schema_core.proofs.oids.OidLemmas.{oid_among-append, option_map-option_or}
 use Rattle.schema_core.proofs.oids.oid_named.Goals as goal
 
 pub returns : goal.returns

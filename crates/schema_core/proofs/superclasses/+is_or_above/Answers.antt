@@ -1,6 +1,6 @@
 -- The class is another one, so the superior is asked.
 use Rattle.std.proofs.Common.{◌≡◌, ◌==◌, false, sym, ◌∙◌, rules}
-use Rattle.schema_core.proofs.SuperclassLemmas.{list_any-above}
+use Rattle.schema_core.proofs.superclasses.SuperclassLemmas.{list_any-above}
 use Rattle.schema_core.proofs.superclasses.+is_or_above.Goals as goal
 
 pub returns-in-Some : goal.returns-in-Some

@@ -1,5 +1,5 @@
 -- An attribute has a value.
-use Rattle.schema_rules.proofs.EntryLemmas.{filled_kind}
+use Rattle.schema_rules.proofs.contents.EntryLemmas.{filled_kind}
 use Rattle.schema_rules.proofs.contents.has_kind.Goals as goal
 
 pub returns : goal.returns

@@ -1,7 +1,7 @@
 -- None of the attributes so far.
 use Rattle.std.proofs.Common.{◌≡◌, false, take, not, ◌||◌}
 use Rattle.std.specs.List.{list_any}
-use Rattle.dir_tree.specs.Entries.{kinds_of}
+use Rattle.dir_tree.specs.Entry.{kinds_of}
 use Rattle.aci_item.specs.Listed.{is_among, permitted_by, all_classes}
 use Rattle.aci_item.specs.Rules.{is_permitted_besides}
 use Rattle.schema_rules.proofs.contents.has_unpermitted.Given as goal

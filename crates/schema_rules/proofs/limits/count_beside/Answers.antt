@@ -1,7 +1,7 @@
 -- One less where one is taken out.
 use Rattle.std.proofs.Common.{ℕ, ◌-◌, ap, ◌∙◌}
 use Rattle.std.specs.Option.{option_map}
-use Rattle.schema_rules.proofs.BesideLemmas.{count_others-one, count_others-none}
+use Rattle.schema_rules.proofs.limits.BesideLemmas.{count_others-one, count_others-none}
 use Rattle.schema_rules.proofs.limits.count_beside.Goals as goal
 
 pub returns-in-Some : goal.returns-in-Some

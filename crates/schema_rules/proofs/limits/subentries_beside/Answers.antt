@@ -1,7 +1,7 @@
 -- One less where one is taken out.
 use Rattle.std.proofs.Common.{ℕ, ◌-◌, sym, ap, ◌∙◌}
 use Rattle.std.specs.Option.{option_map}
-use Rattle.schema_rules.proofs.BesideLemmas.{count_subentries-one, count_subentries-none}
+use Rattle.schema_rules.proofs.limits.BesideLemmas.{count_subentries-one, count_subentries-none}
 use Rattle.schema_rules.proofs.limits.subentries_beside.Goals as goal
 
 pub returns-then-takes_subentry : goal.returns-then-takes_subentry

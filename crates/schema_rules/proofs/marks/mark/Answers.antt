@@ -1,6 +1,6 @@
 -- The number is one of 256.
 use Rattle.std.proofs.Common.{arith}
-use Rattle.schema_rules.proofs.ContentLemmas.{marked-one}
+use Rattle.schema_rules.proofs.contents.ContentLemmas.{marked-one}
 use Rattle.schema_rules.proofs.marks.mark.Goals as goal
 
 pub returns : goal.returns

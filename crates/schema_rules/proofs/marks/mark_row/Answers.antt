@@ -1,5 +1,5 @@
 -- What the row requires, and then what it allows.
-use Rattle.schema_rules.proofs.ContentLemmas.{marked-both, of_row}
+use Rattle.schema_rules.proofs.contents.ContentLemmas.{marked-both, of_row}
 use Rattle.schema_rules.proofs.marks.mark_row.Goals as goal
 
 pub returns : goal.returns

@@ -2,7 +2,7 @@
 use Rattle.std.proofs.Common.{ap, ◌∙◌}
 use Rattle.std.specs.Option.{option_map}
 use Rattle.aci_item.specs.Rules.{stands_wrong}
-use Rattle.schema_rules.proofs.BesideLemmas.{superior_beside}
+use Rattle.schema_rules.proofs.limits.BesideLemmas.{superior_beside}
 use Rattle.schema_rules.proofs.points.is_wrong_there.Goals as goal
 
 pub returns : goal.returns

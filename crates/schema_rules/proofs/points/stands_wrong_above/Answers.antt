@@ -1,6 +1,6 @@
 -- The walk finds those below the entry whose place is taken.
 use Rattle.std.proofs.Common.{◌∙◌}
-use Rattle.schema_rules.proofs.ChildLemmas.{wrong_above}
+use Rattle.schema_rules.proofs.points.ChildLemmas.{wrong_above}
 use Rattle.schema_rules.proofs.points.stands_wrong_above.Goals as goal
 
 pub returns-in-Some : goal.returns-in-Some

@@ -2,7 +2,7 @@
 use Rattle.std.proofs.Common.{◌∙◌}
 use Rattle.aci_item.specs.Listed.{is_among}
 use Rattle.schema_rules.specs.Classes.{structural_in}
-use Rattle.schema_rules.proofs.ClassLemmas.{all_structural}
+use Rattle.schema_rules.proofs.contents.ClassLemmas.{all_structural}
 use Rattle.schema_rules.proofs.structural.are_among.Goals as goal
 
 pub returns : goal.returns

@@ -1,6 +1,6 @@
 -- The structural classes are those that pass the test, value by value.
 use Rattle.std.proofs.Common.{◌==◌, sym, ◌∙◌}
-use Rattle.schema_rules.proofs.ClassLemmas.{structural_tests}
+use Rattle.schema_rules.proofs.contents.ClassLemmas.{structural_tests}
 use Rattle.schema_rules.proofs.structural.lists_structural.Goals as goal
 
 pub returns : goal.returns

@@ -1,7 +1,7 @@
 -- One of the attributes, or none.
 use Rattle.std.proofs.Common.{sym, ◌∙◌, arith}
 use Rattle.aci_item.specs.Rules.{has_two_values}
-use Rattle.schema_rules.proofs.ListLemmas.{any_here, none_more, none_at_all}
+use Rattle.schema_rules.proofs.values.ListLemmas.{any_here, none_more, none_at_all}
 use Rattle.schema_rules.proofs.values.has_two_values.Goals as goal
 
 pub returns-then-is_doubled_at : goal.returns-then-is_doubled_at

@@ -1,6 +1,6 @@
 -- The octets of one attribute more.
 use Rattle.std.proofs.Common.{min, length, sym, ap, ◌∙◌}
-use Rattle.schema_rules.proofs.ListLemmas.{sum_step, min_more}
+use Rattle.schema_rules.proofs.values.ListLemmas.{sum_step, min_more}
 use Rattle.schema_rules.proofs.values.octets_in.Goals as goal
 
 pub loop-index-preserved : goal.loop-index-preserved

@@ -1,6 +1,6 @@
 -- The type at the place finds the values.
 use Rattle.std.proofs.Common.{◌∙◌}
-use Rattle.schema_rules.proofs.EntryLemmas.{values_there, none_there}
+use Rattle.schema_rules.proofs.contents.EntryLemmas.{values_there, none_there}
 use Rattle.schema_rules.proofs.values.values_at.Goals as goal
 
 pub returns-in-Some : goal.returns-in-Some

@@ -1,5 +1,5 @@
 -- By the lemmas.
-use Rattle.scope_laws.proofs.AsideLemmas.{aside-beside, aside-same, aside-under}
+use Rattle.scope_laws.proofs.laws.AsideLemmas.{aside-beside, aside-same, aside-under}
 use Rattle.scope_laws.proofs.laws.what_stands_aside.Goals as goal
 
 pub returns : goal.returns

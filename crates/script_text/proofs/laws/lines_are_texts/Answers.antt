@@ -1,4 +1,4 @@
-use Rattle.script_text.proofs.TextLemmas.{event_of-some, Spells-read}
+use Rattle.script_text.proofs.laws.TextLemmas.{event_of-some, Spells-read}
 use Rattle.script_text.proofs.laws.lines_are_texts.Goals as goal
 
 pub returns : goal.returns

@@ -1,4 +1,4 @@
-use Rattle.script_text.proofs.LawLemmas.{script_of-ok, IsScript-read, script_of-err, IsFirstBadLine-read}
+use Rattle.script_text.proofs.laws.LawLemmas.{script_of-ok, IsScript-read, script_of-err, IsFirstBadLine-read}
 use Rattle.script_text.proofs.laws.scripts_are_read.Goals as goal
 
 pub returns-clause-ok : goal.returns-clause-ok

@@ -1,8 +1,8 @@
 use Rattle.std.proofs.Common.{◌+◌, sym, ◌∙◌, ap, arith}
 use Rattle.std.specs.Str.Lines.{lines}
 use Rattle.std.proofs.lemmas.Result.{err_from_is_err_and}
-use Rattle.script_text.specs.ScriptReading.{after_lines, script_of}
-use Rattle.script_text.proofs.ScriptLemmas.{after_lines-good, lines-done, Gives-bad, Gives-same}
+use Rattle.script_text.specs.script.ScriptReading.{after_lines, script_of}
+use Rattle.script_text.proofs.script.ScriptLemmas.{after_lines-good, lines-done, Gives-bad, Gives-same}
 use Rattle.script_text.proofs.script.read.Goals as goal
 
 -- no event yet, and the whole text is left

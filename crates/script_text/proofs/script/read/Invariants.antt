@@ -1,6 +1,6 @@
 use Rattle.std.proofs.Common.{◌≡◌, ◌+◌, ◌≤◌, length}
 use Rattle.std.specs.Str.Lines.{lines}
-use Rattle.script_text.specs.ScriptReading.{after_lines, script_of}
+use Rattle.script_text.specs.script.ScriptReading.{after_lines, script_of}
 use Rattle.script_text.proofs.script.read.Given as goal
 
 -- the events so far and the lines that are left give what the text gives, and each line took an octet

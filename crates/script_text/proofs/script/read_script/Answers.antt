@@ -1,7 +1,7 @@
 use Rattle.std.proofs.Common.{◌∙◌, ap, sym, Ok}
 use Rattle.std.proofs.lemmas.Result.{err_from_is_err_and}
-use Rattle.script_text.proofs.LawLemmas.{script_of-ok, bad_line}
-use Rattle.script_text.proofs.OrderlyLemmas.{script_of-orderly}
+use Rattle.script_text.proofs.laws.LawLemmas.{script_of-ok, bad_line}
+use Rattle.script_text.proofs.script.OrderlyLemmas.{script_of-orderly}
 use Rattle.script_text.proofs.script.read_script.Goals as goal
 
 -- the fault is that of the reading

@@ -1,5 +1,5 @@
 use Rattle.std.proofs.Common.{◌≤◌, arith, get_or}
-use Rattle.script_text.proofs.WordLemmas.{is_ascii_digit-to, pow_ten-le, below_more_digits, value_more}
+use Rattle.script_text.proofs.words.WordLemmas.{is_ascii_digit-to, pow_ten-le, below_more_digits, value_more}
 use Rattle.script_text.proofs.words.value.Goals as goal
 
 -- fewer than ten digits came before: their value is below a thousand million

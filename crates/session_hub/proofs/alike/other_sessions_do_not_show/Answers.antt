@@ -1,4 +1,4 @@
-use Rattle.session_hub.proofs.TwinLemmas.{run-purged-twins}
+use Rattle.session_hub.proofs.alike.TwinLemmas.{run-purged-twins}
 use Rattle.session_hub.proofs.alike.other_sessions_do_not_show.Goals as goal
 
 pub returns : goal.returns

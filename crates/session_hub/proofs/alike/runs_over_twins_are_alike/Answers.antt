@@ -1,4 +1,4 @@
-use Rattle.session_hub.proofs.TwinLemmas.{run-twins, replayed-twins}
+use Rattle.session_hub.proofs.alike.TwinLemmas.{run-twins, replayed-twins}
 use Rattle.session_hub.proofs.alike.runs_over_twins_are_alike.Goals as goal
 
 pub returns : goal.returns

@@ -1,4 +1,4 @@
-use Rattle.session_hub.proofs.TwinLemmas.{answer-twins}
+use Rattle.session_hub.proofs.alike.TwinLemmas.{answer-twins}
 use Rattle.session_hub.proofs.alike.twins_are_answered_alike.Goals as goal
 
 pub returns : goal.returns

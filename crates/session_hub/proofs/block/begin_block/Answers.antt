@@ -1,10 +1,10 @@
 use Rattle.std.proofs.Common.{refl, sym, ap, ◌∙◌}
-use Rattle.dir_tree.specs.Numbered.{entries_of}
-use Rattle.wire_io.specs.declared.journal.Event.TheVariants as event
-use Rattle.wire_io.specs.Telling.{event_of}
-use Rattle.session_hub.specs.Hubs.{held}
-use Rattle.session_hub.proofs.AddingLemmas.{adds_nothing}
-use Rattle.session_hub.proofs.BlockLemmas.{as_heard, idle_goes, opens_none-ready, opens_none-idle, opens_none-stop}
+use Rattle.dir_tree.specs.tree.Numbered.{entries_of}
+use Rattle.run_laws.specs.wire_io.declared.journal.Event.TheVariants as event
+use Rattle.run_laws.specs.wire_io.link.Telling.{event_of}
+use Rattle.session_hub.specs.hub.Hubs.{held}
+use Rattle.session_hub.proofs.serving.AddingLemmas.{adds_nothing}
+use Rattle.session_hub.proofs.block.BlockLemmas.{as_heard, idle_goes, opens_none-ready, opens_none-idle, opens_none-stop}
 use Rattle.session_hub.proofs.block.begin_block.Goals as goal
 
 -- a connection opened

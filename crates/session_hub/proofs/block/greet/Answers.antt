@@ -1,8 +1,8 @@
 use Rattle.std.proofs.Common.{◌≡◌, length, refl, arith}
-use Rattle.dir_tree.specs.Numbered.{entries_of}
-use Rattle.session_hub.specs.Hubs.{held}
-use Rattle.session_hub.proofs.AddingLemmas.{adds_nothing, adds_after}
-use Rattle.session_hub.proofs.BlockLemmas.{opened_goes, opened_starved, turns_away}
+use Rattle.dir_tree.specs.tree.Numbered.{entries_of}
+use Rattle.session_hub.specs.hub.Hubs.{held}
+use Rattle.session_hub.proofs.serving.AddingLemmas.{adds_nothing, adds_after}
+use Rattle.session_hub.proofs.block.BlockLemmas.{opened_goes, opened_starved, turns_away}
 use Rattle.session_hub.proofs.block.greet.Goals as goal
 
 -- there was no memory to hold the connection

@@ -1,4 +1,4 @@
-use Rattle.session_hub.proofs.BlockLemmas.{heard_on, nothing_opens}
+use Rattle.session_hub.proofs.block.BlockLemmas.{heard_on, nothing_opens}
 use Rattle.session_hub.proofs.block.hear_on.Goals as goal
 
 -- its block begins

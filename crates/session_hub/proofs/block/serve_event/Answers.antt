@@ -1,5 +1,5 @@
-use Rattle.dir_tree.specs.Numbered.{entries_of}
-use Rattle.session_hub.proofs.AddingLemmas.{adds_after, serves_then}
+use Rattle.dir_tree.specs.tree.Numbered.{entries_of}
+use Rattle.session_hub.proofs.serving.AddingLemmas.{adds_after, serves_then}
 use Rattle.session_hub.proofs.block.serve_event.Goals as goal
 
 -- its block is begun and ended

@@ -1,4 +1,4 @@
-use Rattle.session_hub.proofs.BlockLemmas.{turned_goes, not_turned}
+use Rattle.session_hub.proofs.block.BlockLemmas.{turned_goes, not_turned}
 use Rattle.session_hub.proofs.block.turn_away.Goals as goal
 
 -- it is hung up

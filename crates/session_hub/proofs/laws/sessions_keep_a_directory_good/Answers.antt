@@ -1,4 +1,4 @@
-use Rattle.session_hub.proofs.GoodLemmas.{sessions_good}
+use Rattle.session_hub.proofs.laws.GoodLemmas.{sessions_good}
 use Rattle.session_hub.proofs.laws.sessions_keep_a_directory_good.Goals as goal
 
 pub returns : goal.returns

@@ -1,5 +1,5 @@
-use Rattle.dir_tree.specs.Numbered.{entries_of}
-use Rattle.session_hub.proofs.AnswerLemmas.{answered_as, refused_as}
+use Rattle.dir_tree.specs.tree.Numbered.{entries_of}
+use Rattle.session_hub.proofs.messages.AnswerLemmas.{answered_as, refused_as}
 use Rattle.session_hub.proofs.messages.answer_any.Goals as goal
 
 -- the octets are a message

@@ -1,5 +1,5 @@
-use Rattle.session_hub.proofs.AnswerLemmas.{refused_anyway}
-use Rattle.session_hub.proofs.RefusalLemmas.{change_stays}
+use Rattle.session_hub.proofs.messages.AnswerLemmas.{refused_anyway}
+use Rattle.session_hub.proofs.messages.RefusalLemmas.{change_stays}
 use Rattle.session_hub.proofs.messages.put_change.Goals as goal
 
 -- a refusal leaves the directory as it was, also where there is no room for its reply

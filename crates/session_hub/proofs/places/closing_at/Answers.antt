@@ -1,5 +1,5 @@
 use Rattle.std.proofs.Common.{sym, ◌∙◌}
-use Rattle.session_hub.proofs.PlaceLemmas.{closing_at, closing_nowhere}
+use Rattle.session_hub.proofs.places.PlaceLemmas.{closing_at, closing_nowhere}
 use Rattle.session_hub.proofs.places.closing_at.Goals as goal
 
 -- the connection is there

@@ -1,5 +1,5 @@
 use Rattle.std.proofs.Common.{sym, ◌∙◌}
-use Rattle.session_hub.proofs.PlaceLemmas.{cut_at, cut_nowhere}
+use Rattle.session_hub.proofs.places.PlaceLemmas.{cut_at, cut_nowhere}
 use Rattle.session_hub.proofs.places.cut_at.Goals as goal
 
 -- the connection is there

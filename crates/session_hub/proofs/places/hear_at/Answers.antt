@@ -1,12 +1,12 @@
 use Rattle.std.proofs.Common.{sym, ap, ◌∙◌, subst, refl, slice_set}
 use Rattle.std.proofs.lemmas.List.{set-get_or}
-use Rattle.dir_tree.specs.Numbered.{entries_of}
-use Rattle.session_model.specs.Kept.{Kept, is_cut}
-use Rattle.session_hub.specs.Parties.{Requester}
-use Rattle.session_hub.specs.Hubs.{HearsAt, AreDistinct}
-use Rattle.session_hub.proofs.HubLemmas.{distinct_set}
-use Rattle.session_hub.specs.Connections.{HearsPiece}
-use Rattle.session_hub.proofs.HearLemmas.{hears_nowhere, hears_closing, hears_open, is_some_cut}
+use Rattle.dir_tree.specs.tree.Numbered.{entries_of}
+use Rattle.run_laws.specs.session_model.laws.Kept.{Kept, is_cut}
+use Rattle.session_hub.specs.requester.Parties.{Requester}
+use Rattle.session_hub.specs.hub.Hubs.{HearsAt, AreDistinct}
+use Rattle.session_hub.proofs.hub.HubLemmas.{distinct_set}
+use Rattle.session_hub.specs.connection.Connections.{HearsPiece}
+use Rattle.session_hub.proofs.connection.HearLemmas.{hears_nowhere, hears_closing, hears_open, is_some_cut}
 use Rattle.session_hub.proofs.places.hear_at.Goals as goal
 
 -- the connection isn't held

@@ -1,6 +1,6 @@
 use Rattle.std.proofs.Common.{◌≡◌, sym, ◌∙◌, arith, nat_eq, true}
 use Rattle.std.proofs.lemmas.Bool.Decides.{nat_tests}
-use Rattle.session_hub.proofs.PlaceLemmas.{found_at, none_before}
+use Rattle.session_hub.proofs.places.PlaceLemmas.{found_at, none_before}
 use Rattle.session_hub.proofs.places.is_number_at.Goals as goal
 
 -- the connection at the place has the number, and so none before it has

@@ -1,5 +1,5 @@
 use Rattle.std.proofs.Common.{sym, ◌∙◌}
-use Rattle.session_hub.proofs.PlaceLemmas.{found_at}
+use Rattle.session_hub.proofs.places.PlaceLemmas.{found_at}
 use Rattle.session_hub.proofs.places.place_of.Goals as goal
 
 -- the connection at this place has the number

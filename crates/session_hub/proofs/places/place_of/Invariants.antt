@@ -1,4 +1,4 @@
-use Rattle.session_hub.specs.Hubs.{NoneBefore}
+use Rattle.session_hub.specs.hub.Hubs.{NoneBefore}
 use Rattle.session_hub.proofs.places.place_of.Given as goal
 
 -- none of the connections so far has the number

@@ -1,5 +1,5 @@
 use Rattle.std.proofs.Common.{sym, ◌∙◌}
-use Rattle.session_hub.proofs.PlaceLemmas.{queue_at, queue_nowhere}
+use Rattle.session_hub.proofs.places.PlaceLemmas.{queue_at, queue_nowhere}
 use Rattle.session_hub.proofs.places.queue_at.Goals as goal
 
 -- the connection is there

@@ -1,7 +1,7 @@
 use Rattle.std.proofs.Common.{◌≡◌, arith, refl, ◌∙◌}
-use Rattle.plain_values.proofs.Theorems.{NeverFalls-trans, NeverFalls-refl}
-use Rattle.session_hub.proofs.CauseLemmas.{ends_spent, EndsFor-came, ends_as}
-use Rattle.session_hub.proofs.TurnLemmas.{under_way_start, under_way_spent}
+use Rattle.dir_tree.proofs.plain_values_proofs.Theorems.{NeverFalls-trans, NeverFalls-refl}
+use Rattle.session_hub.proofs.serve.CauseLemmas.{ends_spent, EndsFor-came, ends_as}
+use Rattle.session_hub.proofs.serve.TurnLemmas.{under_way_start, under_way_spent}
 use Rattle.session_hub.proofs.serve.serve_in.Goals as goal
 
 -- nothing was heard yet

@@ -1,8 +1,8 @@
 use Rattle.std.proofs.Common.{◌≡◌}
-use Rattle.dir_tree.specs.Numbered.{entries_of}
-use Rattle.plain_values.specs.Counts.{NeverFalls}
-use Rattle.session_hub.specs.Hubs.{held}
-use Rattle.session_hub.specs.Turns.{IsUnderWay}
+use Rattle.dir_tree.specs.tree.Numbered.{entries_of}
+use Rattle.dir_tree.specs.plain_values.Counts.{NeverFalls}
+use Rattle.session_hub.specs.hub.Hubs.{held}
+use Rattle.session_hub.specs.serve.Turns.{IsUnderWay}
 use Rattle.session_hub.proofs.serve.serve_in.Given as goal
 
 -- the loop has heard as many events as it took turns

@@ -1,8 +1,8 @@
 use Rattle.std.proofs.Common.{refl, arith}
-use Rattle.dir_tree.specs.Numbered.{entries_of}
-use Rattle.session_hub.proofs.LoopLemmas.{running_start, running_starved}
-use Rattle.session_hub.proofs.CauseLemmas.{ends_starved}
-use Rattle.session_hub.proofs.PlayLemmas.{playing_start, plays_ended}
+use Rattle.dir_tree.specs.tree.Numbered.{entries_of}
+use Rattle.session_hub.proofs.serve.LoopLemmas.{running_start, running_starved}
+use Rattle.session_hub.proofs.serve.CauseLemmas.{ends_starved}
+use Rattle.session_hub.proofs.serve.PlayLemmas.{playing_start, plays_ended}
 use Rattle.session_hub.proofs.serve.serve_loop.Goals as goal
 
 -- there was no memory to hold connections

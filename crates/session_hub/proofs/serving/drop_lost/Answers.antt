@@ -1,5 +1,5 @@
-use Rattle.session_hub.specs.Hubs.{held}
-use Rattle.session_hub.proofs.ServingLemmas.{drops, not_dropped}
+use Rattle.session_hub.specs.hub.Hubs.{held}
+use Rattle.session_hub.proofs.serving.ServingLemmas.{drops, not_dropped}
 use Rattle.session_hub.proofs.serving.drop_lost.Goals as goal
 
 pub returns-in-Ok-clause-adds : goal.returns-in-Ok-clause-adds

@@ -1,5 +1,5 @@
-use Rattle.session_hub.specs.Hubs.{held}
-use Rattle.session_hub.proofs.AddingLemmas.{adds_after, serves_then}
+use Rattle.session_hub.specs.hub.Hubs.{held}
+use Rattle.session_hub.proofs.serving.AddingLemmas.{adds_after, serves_then}
 use Rattle.session_hub.proofs.serving.finish.Goals as goal
 
 -- it isn't on hold any more

@@ -1,6 +1,6 @@
 use Rattle.std.proofs.Common.{sym, ◌∙◌}
-use Rattle.session_hub.specs.Hubs.{held}
-use Rattle.session_hub.proofs.ServingLemmas.{goes_on, hangs_up, not_hung_up}
+use Rattle.session_hub.specs.hub.Hubs.{held}
+use Rattle.session_hub.proofs.serving.ServingLemmas.{goes_on, hangs_up, not_hung_up}
 use Rattle.session_hub.proofs.serving.hang_up_closing.Goals as goal
 
 -- it goes on

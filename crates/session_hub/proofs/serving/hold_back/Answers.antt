@@ -1,5 +1,5 @@
 use Rattle.std.proofs.Common.{sym, ◌∙◌}
-use Rattle.session_hub.proofs.ServingLemmas.{stays_held, holds_back, not_held_back}
+use Rattle.session_hub.proofs.serving.ServingLemmas.{stays_held, holds_back, not_held_back}
 use Rattle.session_hub.proofs.serving.hold_back.Goals as goal
 
 -- it is on hold already

@@ -1,5 +1,5 @@
 use Rattle.std.proofs.Common.{sym, ◌∙◌}
-use Rattle.session_hub.proofs.ServingLemmas.{stays_free, lets_go, not_let_go}
+use Rattle.session_hub.proofs.serving.ServingLemmas.{stays_free, lets_go, not_let_go}
 use Rattle.session_hub.proofs.serving.let_go.Goals as goal
 
 -- it isn't on hold

@@ -1,8 +1,8 @@
 use Rattle.std.proofs.Common.{◌≤◌, length, refl, sym, ◌∙◌, subst}
-use Rattle.wire_io.proofs.Theorems.{WriteCause-never_falls}
-use Rattle.session_hub.specs.Hubs.{held}
-use Rattle.session_hub.proofs.AddingLemmas.{adds_nothing, adds_as, adds_after, serves_none, serves_then}
-use Rattle.session_hub.proofs.ServingLemmas.{emptied, some_queued, queue_falls, took_goes, later_goes, gone_goes, starved_goes}
+use Rattle.run_laws.proofs.wire_io_proofs.Theorems.{WriteCause-never_falls}
+use Rattle.session_hub.specs.hub.Hubs.{held}
+use Rattle.session_hub.proofs.serving.AddingLemmas.{adds_nothing, adds_as, adds_after, serves_none, serves_then}
+use Rattle.session_hub.proofs.serving.ServingLemmas.{emptied, some_queued, queue_falls, took_goes, later_goes, gone_goes, starved_goes}
 use Rattle.session_hub.proofs.serving.send_queue.Goals as goal
 
 -- nothing was sent yet

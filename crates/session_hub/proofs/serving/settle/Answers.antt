@@ -1,6 +1,6 @@
-use Rattle.session_hub.specs.Hubs.{held}
-use Rattle.session_hub.proofs.AddingLemmas.{adds_after, serves_then}
-use Rattle.session_hub.proofs.ServingLemmas.{sent_all, sent_later, sent_gone}
+use Rattle.session_hub.specs.hub.Hubs.{held}
+use Rattle.session_hub.proofs.serving.AddingLemmas.{adds_after, serves_then}
+use Rattle.session_hub.proofs.serving.ServingLemmas.{sent_all, sent_later, sent_gone}
 use Rattle.session_hub.proofs.serving.settle.Goals as goal
 
 -- all of its queue was sent

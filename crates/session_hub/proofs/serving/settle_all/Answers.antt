@@ -1,7 +1,7 @@
 use Rattle.std.proofs.Common.{refl}
-use Rattle.session_hub.specs.Hubs.{held}
-use Rattle.session_hub.proofs.AddingLemmas.{adds_nothing, serves_none, serves_then}
-use Rattle.session_hub.proofs.ServingLemmas.{next_goes, left_due, none_due}
+use Rattle.session_hub.specs.hub.Hubs.{held}
+use Rattle.session_hub.proofs.serving.AddingLemmas.{adds_nothing, serves_none, serves_then}
+use Rattle.session_hub.proofs.serving.ServingLemmas.{next_goes, left_due, none_due}
 use Rattle.session_hub.proofs.serving.settle_all.Goals as goal
 
 -- nothing was done yet

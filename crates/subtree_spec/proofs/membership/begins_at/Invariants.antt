@@ -1,6 +1,6 @@
 -- The RDNs so far are equal, so those that are left decide.
 use Rattle.std.proofs.Common.{◌≡◌, ◌+◌, drop}
-use Rattle.subtree_spec.specs.Fronts.{begins}
+use Rattle.subtree_spec.specs.membership.Fronts.{begins}
 use Rattle.subtree_spec.proofs.membership.begins_at.Given as goal
 
 abbrev pub invariant-loop-index : goal.invariant-loop-index

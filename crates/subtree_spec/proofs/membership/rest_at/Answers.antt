@@ -1,6 +1,6 @@
 -- A front that is longer than the name is none.
 use Rattle.std.proofs.Common.{◌<◌, ◌++◌, length, length-append, arith}
-use Rattle.subtree_spec.proofs.FrontLemmas.{prefix_short}
+use Rattle.subtree_spec.proofs.membership.FrontLemmas.{prefix_short}
 use Rattle.subtree_spec.proofs.membership.rest_at.Goals as goal
 
 pub returns-then-len-2-clause-exact : goal.returns-then-len-2-clause-exact

@@ -1,7 +1,7 @@
 use Rattle.std.proofs.Common.{sym, ◌∙◌}
 use Rattle.subtree_spec.specs.Parts.{is_oid}
 use Rattle.gser_tree.proofs.Theorems.{taken_to_the_end, not_taken}
-use Rattle.subtree_spec.proofs.OidLemmas.{oid-production, production-oid}
+use Rattle.subtree_spec.proofs.parts.OidLemmas.{oid-production, production-oid}
 use Rattle.subtree_spec.proofs.parts.is_oid.Goals as goal
 
 -- The cursor takes an object identifier, which is the word where it then stands at its end.

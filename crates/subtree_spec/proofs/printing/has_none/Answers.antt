@@ -1,6 +1,6 @@
 -- A set that has members of the first kind is printed.
 use Rattle.std.proofs.Common.{arith}
-use Rattle.subtree_spec.proofs.PrintedLemmas.{filled_before}
+use Rattle.subtree_spec.proofs.printing.PrintedLemmas.{filled_before}
 use Rattle.subtree_spec.proofs.printing.has_none.Goals as goal
 
 pub returns-else-is_empty : goal.returns-else-is_empty

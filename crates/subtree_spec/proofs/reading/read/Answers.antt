@@ -1,6 +1,6 @@
 -- The value that the text is written for decides.
-use Rattle.subtree_spec.proofs.ReadLemmas.{read_text, read_shape, read_nothing}
-use Rattle.subtree_spec.proofs.SubtreeNested.{reads_given}
+use Rattle.subtree_spec.proofs.reading.ReadLemmas.{read_text, read_shape, read_nothing}
+use Rattle.subtree_spec.proofs.reading.SubtreeNested.{reads_given}
 use Rattle.subtree_spec.proofs.reading.read.Goals as goal
 
 pub returns-clause-ok : goal.returns-clause-ok

@@ -1,5 +1,5 @@
 -- The laws are proved of the definitions.
-use Rattle.twin_laws.proofs.TwinLaws.{view_of-twins, selected-twins, matched_name-twins, hidden-twins, in_force-twins, named_in-twins}
+use Rattle.twin_laws.proofs.laws.TwinLaws.{view_of-twins, selected-twins, matched_name-twins, hidden-twins, in_force-twins, named_in-twins}
 use Rattle.twin_laws.proofs.laws.twins_are_seen_alike.Goals as goal
 
 pub returns : goal.returns

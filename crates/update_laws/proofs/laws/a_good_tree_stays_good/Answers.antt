@@ -1,6 +1,6 @@
 -- By the theorems.
-use Rattle.update_laws.proofs.DeleteLemmas.{good-deleted}
-use Rattle.update_laws.proofs.AddLemmas.{good-added}
+use Rattle.update_laws.proofs.laws.DeleteLemmas.{good-deleted}
+use Rattle.update_laws.proofs.laws.AddLemmas.{good-added}
 use Rattle.update_laws.proofs.laws.a_good_tree_stays_good.Goals as goal
 
 pub returns : goal.returns

@@ -1,6 +1,6 @@
 -- By the theorems.
-use Rattle.update_laws.proofs.DeleteLemmas.{refused-deleted}
-use Rattle.update_laws.proofs.AddLemmas.{refused-added}
+use Rattle.update_laws.proofs.laws.DeleteLemmas.{refused-deleted}
+use Rattle.update_laws.proofs.laws.AddLemmas.{refused-added}
 use Rattle.update_laws.proofs.laws.a_refusal_leaves_the_entries.Goals as goal
 
 pub returns : goal.returns

@@ -1,6 +1,6 @@
 -- By the theorems.
-use Rattle.update_laws.proofs.DeleteLemmas.{deleted-may, may-deleted}
-use Rattle.update_laws.proofs.DoneLemmas.{added-may, may-added}
+use Rattle.update_laws.proofs.laws.DeleteLemmas.{deleted-may, may-deleted}
+use Rattle.update_laws.proofs.laws.DoneLemmas.{added-may, may-added}
 use Rattle.update_laws.proofs.laws.exactly_what_may_be_done_is_done.Goals as goal
 
 pub returns : goal.returns

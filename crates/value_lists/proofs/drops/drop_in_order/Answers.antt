@@ -1,6 +1,6 @@
 -- A value taken out leaves the same to be taken out; where no value has the key, none is.
 use Rattle.std.proofs.Common.{ap, ◌∙◌, not, filter, bytes_eq}
-use Rattle.value_lists.proofs.DropLemmas.{filter-step, filter-last}
+use Rattle.value_lists.proofs.drops.DropLemmas.{filter-step, filter-last}
 use Rattle.value_lists.proofs.drops.drop_in_order.Goals as goal
 
 pub loop-place-preserved : goal.loop-place-preserved

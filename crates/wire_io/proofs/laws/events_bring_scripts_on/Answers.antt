@@ -1,5 +1,5 @@
 use Rattle.wire_io.specs.declared.answers.NextFault.{NextFault}
-use Rattle.wire_io.proofs.LinkLemmas.{Plays-heard}
+use Rattle.wire_io.proofs.link.LinkLemmas.{Plays-heard}
 use Rattle.wire_io.proofs.laws.events_bring_scripts_on.Goals as goal
 
 pub returns : goal.returns

@@ -1,4 +1,4 @@
-use Rattle.wire_io.proofs.LawLemmas.{first_events-pieces}
+use Rattle.wire_io.proofs.laws.LawLemmas.{first_events-pieces}
 use Rattle.wire_io.proofs.laws.scripts_come_in_pieces.Goals as goal
 
 pub returns : goal.returns

@@ -1,6 +1,6 @@
 use Rattle.std.proofs.Common.{rules, arith, refl}
 use Rattle.std.proofs.lemmas.Grind.{common_steps}
-use Rattle.wire_io.proofs.ReadLemmas.{HasRead-empty, ReadCause-longer}
+use Rattle.wire_io.proofs.reading.ReadLemmas.{HasRead-empty, ReadCause-longer}
 use Rattle.wire_io.proofs.reading.read_all.Goals as goal
 
 -- before the first piece

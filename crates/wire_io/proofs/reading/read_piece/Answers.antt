@@ -1,6 +1,6 @@
 use Rattle.std.proofs.Common.{arith}
 use Rattle.std.proofs.lemmas.Grind.{common_steps}
-use Rattle.wire_io.proofs.ReadLemmas.{PieceGives-more, PieceGives-whole}
+use Rattle.wire_io.proofs.reading.ReadLemmas.{PieceGives-more, PieceGives-whole}
 use Rattle.wire_io.proofs.reading.read_piece.Goals as goal
 
 -- the file ends here

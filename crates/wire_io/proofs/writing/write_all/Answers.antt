@@ -1,5 +1,5 @@
 use Rattle.std.proofs.Common.{arith, refl}
-use Rattle.wire_io.proofs.PuttingLemmas.{appended-none, tells-more, PutsAll-refused, PutsAll-whole, PutCause-refused, PutCause-more, PutCause-done}
+use Rattle.wire_io.proofs.writing.PuttingLemmas.{appended-none, tells-more, PutsAll-refused, PutsAll-whole, PutCause-refused, PutCause-more, PutCause-done}
 use Rattle.wire_io.proofs.writing.write_all.Goals as goal
 
 -- before the first call nothing was put

@@ -2,9 +2,9 @@
 use Rattle.std.proofs.Common.{◌≡◌, Bool, Option, false, ap, ◌∙◌}
 use Rattle.std.specs.Option.{option_map_or}
 use Rattle.std.proofs.lemmas.Result.{IfOk-weaker}
-use Rattle.dir_tree.specs.Entries.{EntryInformation}
-use Rattle.dir_tree.specs.Numbered.{entries_of}
-use Rattle.acdf_filters.specs.Users.{has_member, is_in_group}
+use Rattle.dir_tree.specs.Entry.{EntryInformation}
+use Rattle.dir_tree.specs.tree.Numbered.{entries_of}
+use Rattle.acdf_filters.specs.users.Users.{has_member, is_in_group}
 use Rattle.acdf_filters.proofs.named.NamedRequester.is_in_group.Goals as goal
 
 pub returns-in-Some : goal.returns-in-Some

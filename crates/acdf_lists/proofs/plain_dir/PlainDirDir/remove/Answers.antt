@@ -1,9 +1,9 @@
 -- What is kept without the number is that of the tree without its entry.
 use Rattle.std.proofs.Common.{List, sym, subst}
-use Rattle.dir_tree.specs.Numbered.{Numbered}
-use Rattle.acdf_lists.specs.Holdings.{IsHeld}
+use Rattle.dir_tree.specs.tree.Numbered.{Numbered}
+use Rattle.acdf_lists.specs.kept.Holdings.{IsHeld}
 use Rattle.dir_tree.proofs.TreeTheorems.{removed_alone}
-use Rattle.acdf_lists.proofs.RemovalLemmas.{held-without}
+use Rattle.acdf_lists.proofs.plain_dir.RemovalLemmas.{held-without}
 use Rattle.acdf_lists.proofs.plain_dir.PlainDirDir.remove.Goals as goal
 
 pub invariant_of-self-2 : goal.invariant_of-self-2

@@ -2,8 +2,8 @@
 use Rattle.std.proofs.Common.{ℕ, ap, sym, ◌∙◌, arith}
 use Rattle.std.specs.Prelude.{◌==◌, List}
 use Rattle.std.specs.Int.{bit_at}
-use Rattle.aci_item.specs.Permissions.{Bit, is_among}
-use Rattle.aci_item.proofs.BitLemmas.{among_filtered, mask_test}
+use Rattle.aci_item.specs.Permission.{Bit, is_among}
+use Rattle.aci_item.proofs.bits.BitLemmas.{among_filtered, mask_test}
 use Rattle.aci_item.proofs.bits.Bits.has.Goals as goal
 
 pub returns : goal.returns

@@ -1,8 +1,8 @@
 -- The bits of the number stand in order.
 use Rattle.std.proofs.Common.{◌≡◌, subst}
 use Rattle.std.specs.Prelude.{List}
-use Rattle.aci_item.specs.Permissions.{Bit, in_order}
-use Rattle.aci_item.proofs.BitLemmas.{bits_in_order}
+use Rattle.aci_item.specs.Permission.{Bit, in_order}
+use Rattle.aci_item.proofs.bits.BitLemmas.{bits_in_order}
 use Rattle.aci_item.proofs.bits.Bits.stand_in_order.Goals as goal
 
 pub returns : goal.returns

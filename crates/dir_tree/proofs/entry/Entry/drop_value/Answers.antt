@@ -1,5 +1,5 @@
 -- The attributes that are left with values are good.
-use Rattle.dir_tree.proofs.GoodLemmas.{good-cut_attributes}
+use Rattle.dir_tree.proofs.entry.GoodLemmas.{good-cut_attributes}
 use Rattle.dir_tree.proofs.entry.Entry.drop_value.Goals as goal
 
 pub invariant_of-self : goal.invariant_of-self

@@ -1,5 +1,5 @@
 -- The keys of the map are distinct.
-use Rattle.dir_tree.proofs.GoodLemmas.{distinct-kinds}
+use Rattle.dir_tree.proofs.entry.GoodLemmas.{distinct-kinds}
 use Rattle.dir_tree.proofs.entry.Entry.is_good.Goals as goal
 
 pub returns : goal.returns

@@ -1,7 +1,7 @@
 -- The types are the map's keys.
 use Rattle.std.proofs.Common.{sym, ap, ◌∙◌}
 use Rattle.std.specs.Option.{option_map}
-use Rattle.dir_tree.proofs.RowLemmas.{slice_get-kinds}
+use Rattle.dir_tree.proofs.entry.RowLemmas.{slice_get-kinds}
 use Rattle.dir_tree.proofs.entry.Entry.kind_at.Goals as goal
 
 pub returns : goal.returns

@@ -1,6 +1,6 @@
 -- No value of the type matches: the attributes stay good.
 use Rattle.std.proofs.Common.{sym, ◌∙◌}
-use Rattle.dir_tree.proofs.GoodLemmas.{good-put_value}
+use Rattle.dir_tree.proofs.entry.GoodLemmas.{good-put_value}
 use Rattle.dir_tree.proofs.entry.Entry.push.Goals as goal
 
 pub invariant_of-self-2 : goal.invariant_of-self-2

@@ -1,5 +1,5 @@
 -- The attributes with the values are good.
-use Rattle.dir_tree.proofs.SetLemmas.{good-set_in}
+use Rattle.dir_tree.proofs.laws.SetLemmas.{good-set_in}
 use Rattle.dir_tree.proofs.entry.Entry.set_values.Goals as goal
 
 pub invariant_of-self-2 : goal.invariant_of-self-2

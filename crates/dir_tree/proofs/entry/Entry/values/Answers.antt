@@ -1,6 +1,6 @@
 -- The map finds the attribute's values.
 use Rattle.std.proofs.Common.{sym, ap, ◌∙◌}
-use Rattle.dir_tree.proofs.RowLemmas.{values_of-rows, found_values}
+use Rattle.dir_tree.proofs.entry.RowLemmas.{values_of-rows, found_values}
 use Rattle.dir_tree.proofs.entry.Entry.values.Goals as goal
 
 pub returns-in-Some : goal.returns-in-Some

@@ -1,9 +1,9 @@
 -- The entry of a number is what its slot has.
 use Rattle.std.specs.Map.{values_of}
 use Rattle.std.proofs.Common.{sym, ap, ◌∙◌, List, Option}
-use Rattle.dir_tree.specs.Entries.{EntryInformation}
-use Rattle.dir_tree.specs.Slots.{slot_of}
-use Rattle.dir_tree.proofs.SlotLemmas.{entry_of-rows_of}
+use Rattle.dir_tree.specs.Entry.{EntryInformation}
+use Rattle.dir_tree.specs.slots.Slots.{slot_of}
+use Rattle.dir_tree.proofs.slots.SlotLemmas.{entry_of-rows_of}
 use Rattle.dir_tree.proofs.tree.Tree.at.Goals as goal
 
 pub returns : goal.returns

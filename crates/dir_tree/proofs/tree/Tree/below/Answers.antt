@@ -1,7 +1,7 @@
 -- The number is not in use.
 use Rattle.std.proofs.Common.{ap, ◌∙◌, arith, Option}
-use Rattle.dir_tree.specs.Entries.{EntryInformation}
-use Rattle.dir_tree.specs.Scopes.{in_scope}
+use Rattle.dir_tree.specs.Entry.{EntryInformation}
+use Rattle.dir_tree.specs.Scope.{in_scope}
 use Rattle.dir_tree.proofs.tree.Tree.below.Goals as goal
 
 pub returns-in-None : goal.returns-in-None

@@ -2,8 +2,8 @@
 use Rattle.std.specs.Map.{values_of}
 use Rattle.std.proofs.Common.{◌≡◌, ℕ, List, ◌<◌, length, arith, subst}
 use Rattle.std.specs.List.{AllByRecursion}
-use Rattle.dir_tree.specs.Numbered.{Numbered}
-use Rattle.dir_tree.proofs.TreeLemmas.{numbers_below}
+use Rattle.dir_tree.specs.tree.Numbered.{Numbered}
+use Rattle.dir_tree.proofs.tree.TreeLemmas.{numbers_below}
 use Rattle.dir_tree.proofs.tree.Tree.bound.Goals as goal
 
 pub returns-clause-exact : goal.returns-clause-exact

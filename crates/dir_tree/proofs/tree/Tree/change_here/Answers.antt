@@ -1,9 +1,9 @@
 -- The slot takes the entry, and the path keys stay.
 use Rattle.std.proofs.Common.{ℕ, Some, set, Vec, Global}
 use Rattle.std.specs.Map.{values_of}
-use Rattle.dir_tree.specs.Slots.{numbers_in}
-use Rattle.dir_tree.proofs.KeptLemmas.{slot_known}
-use Rattle.dir_tree.proofs.MappedLemmas.{ChangedMap, changed_here, set_back}
+use Rattle.dir_tree.specs.slots.Slots.{numbers_in}
+use Rattle.dir_tree.proofs.tree.KeptLemmas.{slot_known}
+use Rattle.dir_tree.proofs.tree.MappedLemmas.{ChangedMap, changed_here, set_back}
 use Rattle.dir_tree.proofs.tree.Tree.change_here.Given.{Over}
 use Rattle.dir_tree.proofs.tree.Tree.change_here.Goals.{After-replace_entry-old}
 use Rattle.dir_tree.proofs.tree.Tree.change_here.Goals as goal

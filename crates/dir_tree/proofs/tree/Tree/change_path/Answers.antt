@@ -4,10 +4,10 @@ use Rattle.std.specs.Ordering.{nat_cmp}
 use Rattle.std.specs.Map.{values_of, remove_entry}
 use Rattle.std.specs.BTreeMap.{is_at, insert_entry}
 use Rattle.std.specs.Cmp.Lexicographic.{slice_cmp}
-use Rattle.dn_names.specs.PathKeys.{path_key}
-use Rattle.dir_tree.specs.Slots.{numbers_in}
-use Rattle.dir_tree.proofs.KeptLemmas.{slot_known}
-use Rattle.dir_tree.proofs.MappedLemmas.{ChangedMap, changed_path}
+use Rattle.dn_names.specs.path.PathKeys.{path_key}
+use Rattle.dir_tree.specs.slots.Slots.{numbers_in}
+use Rattle.dir_tree.proofs.tree.KeptLemmas.{slot_known}
+use Rattle.dir_tree.proofs.tree.MappedLemmas.{ChangedMap, changed_path}
 use Rattle.dir_tree.proofs.tree.Tree.change_path.Goals as goal
 
 pub replace_entry-old-requires : goal.replace_entry-old-requires

@@ -4,11 +4,11 @@ use Rattle.std.specs.Ordering.{nat_cmp}
 use Rattle.std.specs.Map.{values_of, remove_entry}
 use Rattle.std.specs.BTreeMap.{is_at, insert_entry}
 use Rattle.std.specs.Cmp.Lexicographic.{slice_cmp}
-use Rattle.dn_names.specs.PathKeys.{path_key}
-use Rattle.dir_tree.specs.Slots.{rows_of, numbers_in}
-use Rattle.dir_tree.proofs.KeptLemmas.{slot_known}
-use Rattle.dir_tree.proofs.CopyLemmas.{values-same}
-use Rattle.dir_tree.proofs.MappedLemmas.{ChangedMap, changed_path, mapped_copy, set_back}
+use Rattle.dn_names.specs.path.PathKeys.{path_key}
+use Rattle.dir_tree.specs.slots.Slots.{rows_of, numbers_in}
+use Rattle.dir_tree.proofs.tree.KeptLemmas.{slot_known}
+use Rattle.dir_tree.proofs.paths.CopyLemmas.{values-same}
+use Rattle.dir_tree.proofs.tree.MappedLemmas.{ChangedMap, changed_path, mapped_copy, set_back}
 use Rattle.dir_tree.proofs.tree.Tree.change_path_read.Given.{Over}
 use Rattle.dir_tree.proofs.tree.Tree.change_path_read.Goals.{After-remove-number}
 use Rattle.dir_tree.proofs.tree.Tree.change_path_read.Goals as goal

@@ -1,6 +1,6 @@
 -- The first key after the name's own begins with it where an entry stands below.
 use Rattle.std.proofs.Common.{ℕ, sym, ap, ◌∙◌, Vec, Global}
-use Rattle.dir_tree.proofs.WalkLemmas.{begins_first, below-first}
+use Rattle.dir_tree.proofs.walk.WalkLemmas.{begins_first, below-first}
 use Rattle.dir_tree.proofs.tree.Tree.has_any_below.Goals as goal
 
 pub returns-in-Some : goal.returns-in-Some

@@ -1,7 +1,7 @@
 -- A name is there where it is found.
 use Rattle.std.proofs.Common.{◌∙◌}
 use Rattle.dir_tree.specs.declared.number.EntryNo.{EntryNo}
-use Rattle.dir_tree.proofs.KeptLemmas.{has_name-found}
+use Rattle.dir_tree.proofs.tree.KeptLemmas.{has_name-found}
 use Rattle.dir_tree.proofs.tree.Tree.has_name.Goals as goal
 
 pub returns : goal.returns

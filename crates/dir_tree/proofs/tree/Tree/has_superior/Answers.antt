@@ -1,8 +1,8 @@
 -- The superior is there where it is found.
 use Rattle.std.proofs.Common.{◌∙◌}
 use Rattle.dir_tree.specs.declared.number.EntryNo.{EntryNo}
-use Rattle.dir_tree.specs.Trees.{superior_name}
-use Rattle.dir_tree.proofs.KeptLemmas.{has_name-found}
+use Rattle.dir_tree.specs.tree.Trees.{superior_name}
+use Rattle.dir_tree.proofs.tree.KeptLemmas.{has_name-found}
 use Rattle.dir_tree.proofs.tree.Tree.has_superior.Goals as goal
 
 pub returns : goal.returns

@@ -1,6 +1,6 @@
 -- The number found is another, or none is.
 use Rattle.std.proofs.Common.{sym, ap, ◌∙◌}
-use Rattle.dir_tree.proofs.ReplaceLemmas.{taken_by, has_name-without}
+use Rattle.dir_tree.proofs.replace.ReplaceLemmas.{taken_by, has_name-without}
 use Rattle.dir_tree.proofs.tree.Tree.is_taken.Goals as goal
 
 pub returns-in-Some : goal.returns-in-Some

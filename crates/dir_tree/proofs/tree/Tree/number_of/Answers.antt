@@ -1,6 +1,6 @@
 -- The map finds what the rows do.
 use Rattle.std.proofs.Common.{ℕ, ◌∙◌, Vec, Global}
-use Rattle.dir_tree.proofs.MapLemmas.{lookup-find_name}
+use Rattle.dir_tree.proofs.tree.MapLemmas.{lookup-find_name}
 use Rattle.dir_tree.proofs.tree.Tree.number_of.Goals as goal
 
 pub returns-in-Some : goal.returns-in-Some

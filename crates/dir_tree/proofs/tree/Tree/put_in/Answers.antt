@@ -5,16 +5,16 @@ use Rattle.std.specs.Ordering.{nat_cmp}
 use Rattle.std.specs.Map.{values_of}
 use Rattle.std.specs.BTreeMap.{insert_entry}
 use Rattle.std.specs.Cmp.Lexicographic.{slice_cmp}
-use Rattle.dn_names.specs.PathKeys.{path_key}
-use Rattle.dir_tree.specs.Entries.{EntryInformation}
-use Rattle.dir_tree.specs.Trees.{IsInOrder}
-use Rattle.dir_tree.specs.Numbered.{Numbered, ids_of, entries_of, subentry_rows, put_row}
-use Rattle.dir_tree.specs.Slots.{rows_of, numbers_in, listed_in}
-use Rattle.dir_tree.proofs.AccessLemmas.{own_rows_of, listed-put}
-use Rattle.dir_tree.proofs.SlotLemmas.{rows_of-like}
-use Rattle.dir_tree.proofs.KeptLemmas.{room_in, kept_slots}
-use Rattle.dir_tree.proofs.MapLemmas.{keyed-like}
-use Rattle.dir_tree.proofs.PathLemmas.{PutPath, put_path}
+use Rattle.dn_names.specs.path.PathKeys.{path_key}
+use Rattle.dir_tree.specs.Entry.{EntryInformation}
+use Rattle.dir_tree.specs.tree.Trees.{IsInOrder}
+use Rattle.dir_tree.specs.tree.Numbered.{Numbered, ids_of, entries_of, subentry_rows, put_row}
+use Rattle.dir_tree.specs.slots.Slots.{rows_of, numbers_in, listed_in}
+use Rattle.dir_tree.proofs.subentries.AccessLemmas.{own_rows_of, listed-put}
+use Rattle.dir_tree.proofs.slots.SlotLemmas.{rows_of-like}
+use Rattle.dir_tree.proofs.tree.KeptLemmas.{room_in, kept_slots}
+use Rattle.dir_tree.proofs.tree.MapLemmas.{keyed-like}
+use Rattle.dir_tree.proofs.paths.PathLemmas.{PutPath, put_path}
 use Rattle.dir_tree.proofs.tree.Tree.put_in.Goals as goal
 
 as_many : (places : List (Vec ℕ Global × ℕ)) → length (values_of places) ≡ length places

@@ -3,9 +3,9 @@ use Rattle.std.proofs.Common.{ℕ, ◌≡◌, List, [], ◌∷◌, Option, Some,
 use Rattle.std.specs.Prelude.{slice_get}
 use Rattle.std.specs.Option.{option_map}
 use Rattle.std.specs.Map.{values_of}
-use Rattle.dir_tree.specs.Entries.{EntryInformation}
-use Rattle.dir_tree.specs.Numbered.{suffix_of}
-use Rattle.dir_tree.specs.Slots.{rows_of}
+use Rattle.dir_tree.specs.Entry.{EntryInformation}
+use Rattle.dir_tree.specs.tree.Numbered.{suffix_of}
+use Rattle.dir_tree.specs.slots.Slots.{rows_of}
 use Rattle.dir_tree.proofs.tree.Tree.suffix.Goals as goal
 
 first : {K : Type 0} (slots : List (Option EntryInformation)) (key : K) (id : ℕ) (places : List (K × ℕ)) → slice_get places 0 ≡ Some (key, id) → Some id ≡ suffix_of (rows_of slots (values_of places))

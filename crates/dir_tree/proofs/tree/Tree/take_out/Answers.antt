@@ -4,15 +4,15 @@ use Rattle.std.specs.Ordering.{nat_cmp}
 use Rattle.std.specs.Map.{values_of, remove_entry}
 use Rattle.std.specs.BTreeMap.{is_at}
 use Rattle.std.specs.Cmp.Lexicographic.{slice_cmp}
-use Rattle.dn_names.specs.PathKeys.{path_key}
-use Rattle.dir_tree.specs.Entries.{EntryInformation}
-use Rattle.dir_tree.specs.Trees.{has_below}
-use Rattle.dir_tree.specs.Numbered.{Numbered, ids_of, subentry_rows, entries_of, entry_of}
-use Rattle.dir_tree.specs.Slots.{rows_of, unlisted}
-use Rattle.dir_tree.proofs.SlotLemmas.{entry_of-rows_of}
-use Rattle.dir_tree.proofs.AccessLemmas.{unlisted-without}
-use Rattle.dir_tree.proofs.KeptLemmas.{slot_known}
-use Rattle.dir_tree.proofs.PathLemmas.{TakenPath, taken_path}
+use Rattle.dn_names.specs.path.PathKeys.{path_key}
+use Rattle.dir_tree.specs.Entry.{EntryInformation}
+use Rattle.dir_tree.specs.tree.Trees.{has_below}
+use Rattle.dir_tree.specs.tree.Numbered.{Numbered, ids_of, subentry_rows, entries_of, entry_of}
+use Rattle.dir_tree.specs.slots.Slots.{rows_of, unlisted}
+use Rattle.dir_tree.proofs.slots.SlotLemmas.{entry_of-rows_of}
+use Rattle.dir_tree.proofs.subentries.AccessLemmas.{unlisted-without}
+use Rattle.dir_tree.proofs.tree.KeptLemmas.{slot_known}
+use Rattle.dir_tree.proofs.paths.PathLemmas.{TakenPath, taken_path}
 use Rattle.dir_tree.proofs.tree.Tree.take_out.Goals as goal
 
 pub take_entry-entry-requires : goal.take_entry-entry-requires

@@ -3,8 +3,8 @@ use Rattle.std.proofs.Common.{ℕ, ap, ◌∙◌, Vec, Global}
 use Rattle.std.specs.Ordering.{is_gt}
 use Rattle.std.proofs.lemmas.Cmp.{tied_itself}
 use Rattle.dn_names.proofs.Theorems.{name_cmp_total}
-use Rattle.dir_tree.proofs.MapLemmas.{keys_cmp}
-use Rattle.dir_tree.proofs.WalkLemmas.{walked-at}
+use Rattle.dir_tree.proofs.tree.MapLemmas.{keys_cmp}
+use Rattle.dir_tree.proofs.walk.WalkLemmas.{walked-at}
 use Rattle.dir_tree.proofs.tree.Tree.walk_at.Goals as goal
 
 pub range-requires : goal.range-requires

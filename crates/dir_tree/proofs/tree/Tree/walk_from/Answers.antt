@@ -1,12 +1,12 @@
 -- From the entry on, by the scope.
 use Rattle.std.proofs.Common.{ap, sym, ◌∙◌, Option, ◌≡◌, ◌≤◌, List, length, subst, ℕ}
 use Rattle.std.proofs.lemmas.List.{length-map}
-use Rattle.dir_tree.specs.Entries.{EntryInformation}
-use Rattle.dir_tree.specs.Numbered.{Numbered, ids_of, entry_of, entries_of}
-use Rattle.dir_tree.specs.Scopes.{in_scope, scoped, is_within}
+use Rattle.dir_tree.specs.Entry.{EntryInformation}
+use Rattle.dir_tree.specs.tree.Numbered.{Numbered, ids_of, entry_of, entries_of}
+use Rattle.dir_tree.specs.Scope.{in_scope, scoped, is_within}
 use Rattle.dir_tree.specs.declared.scope.Scope.{Scope}
 use Rattle.dir_tree.specs.declared.scope.Scope.TheVariants.{Base, One, Sub}
-use Rattle.dir_tree.proofs.WalkLemmas.{filter-named, filter_and_true, scoped-fits}
+use Rattle.dir_tree.proofs.walk.WalkLemmas.{filter-named, filter_and_true, scoped-fits}
 use Rattle.dir_tree.proofs.tree.Tree.walk_from.Goals as goal
 
 fits : (rows : List Numbered) → length (entries_of rows) ≤ 200000 → length rows ≤ 200000

@@ -1,6 +1,6 @@
 -- The range from the name's own key on.
 use Rattle.std.proofs.Common.{ℕ, Vec, Global}
-use Rattle.dir_tree.proofs.WalkLemmas.{walked-within}
+use Rattle.dir_tree.proofs.walk.WalkLemmas.{walked-within}
 use Rattle.dir_tree.proofs.tree.Tree.walk_within.Goals as goal
 
 pub returns : goal.returns

@@ -1,5 +1,5 @@
 -- The empty name is good, and its path key has no octet.
-use Rattle.dn_names.proofs.PathLemmas.{kept_empty}
+use Rattle.dn_names.proofs.path.PathLemmas.{kept_empty}
 use Rattle.dn_names.proofs.name.Dn.empty.Goals as goal
 
 pub invariant_of-result : goal.invariant_of-result

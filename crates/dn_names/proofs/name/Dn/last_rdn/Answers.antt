@@ -1,7 +1,7 @@
 -- The RDN at the last place.
 use Rattle.std.proofs.Common.{[], ◌-◌, ℕ, slice_get, ap, ◌∙◌}
 use Rattle.std.specs.Option.{option_map_or}
-use Rattle.dn_names.proofs.LastLemmas.{last_rdn-slice_get}
+use Rattle.dn_names.proofs.name.LastLemmas.{last_rdn-slice_get}
 use Rattle.dn_names.proofs.name.Dn.last_rdn.Goals as goal
 
 pub returns-in-Some : goal.returns-in-Some

@@ -1,6 +1,6 @@
 -- The mark stands there where all of it is shared.
-use Rattle.gser_core.specs.Cursors.{rest_of}
-use Rattle.gser_core.proofs.MarkLemmas.{decides_mark}
+use Rattle.gser_core.specs.cursor.Cursors.{rest_of}
+use Rattle.gser_core.proofs.cursor.MarkLemmas.{decides_mark}
 use Rattle.gser_core.proofs.cursor.Cursor.at_mark.Goals as goal
 
 pub returns : goal.returns

@@ -1,5 +1,5 @@
 -- The text may be cut behind an ASCII octet.
-use Rattle.gser_core.proofs.FrontLemmas.{behind_standing}
+use Rattle.gser_core.proofs.cursor.FrontLemmas.{behind_standing}
 use Rattle.gser_core.proofs.cursor.Cursor.front.Goals as goal
 
 pub range-requires-clause-end_boundary : goal.range-requires-clause-end_boundary

@@ -1,7 +1,7 @@
 -- What is shared is all of the mark, or is less.
 use Rattle.std.proofs.Common.{◌+◌, ap, arith}
-use Rattle.gser_core.specs.Cursors.{Standing, moved}
-use Rattle.gser_core.proofs.MarkLemmas.{behind_mark, lacks_mark, takes_mark}
+use Rattle.gser_core.specs.cursor.Cursors.{Standing, moved}
+use Rattle.gser_core.proofs.cursor.MarkLemmas.{behind_mark, lacks_mark, takes_mark}
 use Rattle.gser_core.proofs.cursor.Cursor.mark.Goals as goal
 
 pub returns-then-shared-len_utf8-clause-err : goal.returns-then-shared-len_utf8-clause-err

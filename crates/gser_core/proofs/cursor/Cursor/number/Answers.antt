@@ -1,9 +1,9 @@
 -- What is counted is the longest front that is the production.
 use Rattle.std.proofs.Common.{◌∙◌, sym, ap, arith}
-use Rattle.gser_core.specs.Productions.{IsNumeral}
-use Rattle.gser_core.specs.Cursors.{rest_of}
+use Rattle.gser_core.specs.cursor.Productions.{IsNumeral}
+use Rattle.gser_core.specs.cursor.Cursors.{rest_of}
 use Rattle.gser_core.specs.Counts.{numeral_len}
-use Rattle.gser_core.proofs.FrontLemmas.{numeral_taken, numeral_none, takes_front, lacks_here}
+use Rattle.gser_core.proofs.cursor.FrontLemmas.{numeral_taken, numeral_none, takes_front, lacks_here}
 use Rattle.gser_core.proofs.cursor.Cursor.number.Goals as goal
 
 pub returns-then-count-eq0-clause-err : goal.returns-then-count-eq0-clause-err

@@ -1,10 +1,10 @@
 -- What is counted is the longest front that is the production.
 use Rattle.std.proofs.Common.{◌∙◌, sym, ap, arith}
-use Rattle.gser_core.specs.Productions.{IsOid}
-use Rattle.gser_core.specs.Cursors.{rest_of}
+use Rattle.gser_core.specs.cursor.Productions.{IsOid}
+use Rattle.gser_core.specs.cursor.Cursors.{rest_of}
 use Rattle.gser_core.specs.Counts.{oid_len, oid_reach}
-use Rattle.gser_core.proofs.FrontLemmas.{takes_front}
-use Rattle.gser_core.proofs.OidLemmas.{oid_taken, lacks_oid}
+use Rattle.gser_core.proofs.cursor.FrontLemmas.{takes_front}
+use Rattle.gser_core.proofs.cursor.OidLemmas.{oid_taken, lacks_oid}
 use Rattle.gser_core.proofs.cursor.Cursor.oid.Goals as goal
 
 pub returns-then-count-eq0-clause-err : goal.returns-then-count-eq0-clause-err

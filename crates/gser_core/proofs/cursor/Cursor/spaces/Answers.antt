@@ -1,9 +1,9 @@
 -- What is counted are the spaces.
 use Rattle.std.proofs.Common.{◌∙◌, ap}
 use Rattle.std.specs.List.{prefix_len}
-use Rattle.gser_core.specs.Productions.{is_blank}
-use Rattle.gser_core.specs.Cursors.{rest_of}
-use Rattle.gser_core.proofs.MarkLemmas.{blank_last, takes_spaces, lacks_spaces}
+use Rattle.gser_core.specs.cursor.Productions.{is_blank}
+use Rattle.gser_core.specs.cursor.Cursors.{rest_of}
+use Rattle.gser_core.proofs.cursor.MarkLemmas.{blank_last, takes_spaces, lacks_spaces}
 use Rattle.gser_core.proofs.cursor.Cursor.spaces.Goals as goal
 
 pub returns-then-count-least-clause-err : goal.returns-then-count-least-clause-err

@@ -1,11 +1,11 @@
 -- What is counted is the longest front that is a string, and its text is given.
 use Rattle.std.proofs.Common.{◌∙◌, sym, ap, arith}
 use Rattle.std.specs.Prelude.{string_bytes}
-use Rattle.gser_core.specs.Productions.{quoted, IsString}
-use Rattle.gser_core.specs.Cursors.{rest_of}
+use Rattle.gser_core.specs.cursor.Productions.{quoted, IsString}
+use Rattle.gser_core.specs.cursor.Cursors.{rest_of}
 use Rattle.gser_core.specs.Counts.{string_len}
-use Rattle.gser_core.proofs.FrontLemmas.{takes_front}
-use Rattle.gser_core.proofs.StringLemmas.{string_taken, lacks_string}
+use Rattle.gser_core.proofs.cursor.FrontLemmas.{takes_front}
+use Rattle.gser_core.proofs.strings.StringLemmas.{string_taken, lacks_string}
 use Rattle.gser_core.proofs.cursor.Cursor.string.Goals as goal
 
 pub returns-then-count-eq0-clause-err : goal.returns-then-count-eq0-clause-err

@@ -3,7 +3,7 @@ use Rattle.std.proofs.Common.{◌≡◌, ◌∙◌, sym, ap, true}
 use Rattle.std.specs.String.{string_bytes}
 use Rattle.std.specs.Str.{is_utf8}
 use Rattle.std.proofs.lemmas.Str.{IsUtf8-from_is_utf8}
-use Rattle.gser_tree.proofs.PartLemmas.{chosen_text}
+use Rattle.gser_tree.proofs.part.PartLemmas.{chosen_text}
 use Rattle.gser_tree.proofs.part.Draft.whole.Goals as goal
 
 pub returns-in-Ok : goal.returns-in-Ok

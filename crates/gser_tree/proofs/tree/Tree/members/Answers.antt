@@ -1,10 +1,10 @@
 -- The members are listed as they were gathered.
 use Rattle.std.proofs.Common.{◌≡◌, ◌∙◌, sym, ap}
 use Rattle.std.specs.Prelude.{Some, map}
-use Rattle.gser_tree.specs.Shapes.{Braces, gathered}
-use Rattle.gser_tree.specs.Trees.{shape_of}
-use Rattle.gser_tree.specs.Looking.{members_in}
-use Rattle.gser_tree.proofs.LookingLemmas.{listed_gathered, braces_shape}
+use Rattle.gser_tree.specs.looking.Shapes.{Braces, gathered}
+use Rattle.gser_tree.specs.Tree.{shape_of}
+use Rattle.gser_tree.specs.looking.Looking.{members_in}
+use Rattle.gser_tree.proofs.looking.LookingLemmas.{listed_gathered, braces_shape}
 use Rattle.gser_tree.proofs.tree.Tree.members.Goals as goal
 
 pub returns-in-Braces : goal.returns-in-Braces

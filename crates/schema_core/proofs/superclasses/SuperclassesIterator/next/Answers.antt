@@ -2,7 +2,7 @@
 use Rattle.std.proofs.Common.{◌∷◌, [], length, sym, ap, ◌∙◌, arith}
 use Rattle.std.specs.Option.{option_map_or}
 use Rattle.schema_core.specs.Superclasses.{with_superclasses}
-use Rattle.schema_core.proofs.SuperclassLemmas.{with_superclasses-first, above_is}
+use Rattle.schema_core.proofs.superclasses.SuperclassLemmas.{with_superclasses-first, above_is}
 use Rattle.schema_core.proofs.superclasses.SuperclassesIterator.next.Goals as goal
 
 pub returns-in-Some-clause-steps : goal.returns-in-Some-clause-steps

@@ -1,6 +1,6 @@
 use Rattle.std.proofs.Common.{◌∙◌, ap}
-use Rattle.script_text.proofs.ConnectionsLemmas.{tracks_next}
-use Rattle.script_text.specs.Script.{may_follow}
+use Rattle.script_text.proofs.reading.ConnectionsLemmas.{tracks_next}
+use Rattle.script_text.specs.script.Script.{may_follow}
 use Rattle.script_text.proofs.reading.Reading.with.Goals as goal
 
 -- the map followed the events, and the new one follows the event too

@@ -1,5 +1,5 @@
 use Rattle.std.proofs.Common.{rules}
-use Rattle.script_text.proofs.RecordingLemmas.{recorded-pushed}
+use Rattle.script_text.proofs.recording.RecordingLemmas.{recorded-pushed}
 use Rattle.script_text.proofs.recording.Recording.add.Goals as goal
 
 -- the row and its octets stand last

@@ -1,6 +1,6 @@
 use Rattle.std.proofs.Common.{◌∙◌, sym, ap, Some}
 use Rattle.script_text.specs.Recording.{first_head}
-use Rattle.script_text.proofs.RecordingLemmas.{recorded-at, recorded-none, head_of-event_with}
+use Rattle.script_text.proofs.recording.RecordingLemmas.{recorded-at, recorded-none, head_of-event_with}
 use Rattle.script_text.proofs.recording.Recording.first.Goals as goal
 
 -- the row at the place has the head

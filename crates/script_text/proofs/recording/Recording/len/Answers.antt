@@ -1,5 +1,5 @@
 use Rattle.std.proofs.Common.{◌∙◌, ap, length, ◌-◌}
-use Rattle.script_text.proofs.RecordingLemmas.{recorded-length}
+use Rattle.script_text.proofs.recording.RecordingLemmas.{recorded-length}
 use Rattle.script_text.proofs.recording.Recording.len.Goals as goal
 
 -- there are as many events as rows

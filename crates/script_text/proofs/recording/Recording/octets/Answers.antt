@@ -1,6 +1,6 @@
 use Rattle.std.proofs.Common.{◌∙◌, sym, ap, take, drop}
 use Rattle.script_text.specs.Recording.{event_with, octets_in, first_octets}
-use Rattle.script_text.proofs.RecordingLemmas.{recorded-at, recorded-none}
+use Rattle.script_text.proofs.recording.RecordingLemmas.{recorded-at, recorded-none}
 use Rattle.script_text.proofs.recording.Recording.octets.Goals as goal
 
 -- the octets of the row at the place

@@ -1,6 +1,6 @@
 use Rattle.std.proofs.Common.{◌∙◌, sym, ap}
 use Rattle.script_text.specs.Recording.{without_first}
-use Rattle.script_text.proofs.RecordingLemmas.{recorded-at, recorded-none}
+use Rattle.script_text.proofs.recording.RecordingLemmas.{recorded-at, recorded-none}
 use Rattle.script_text.proofs.recording.Recording.pass.Goals as goal
 
 -- the event of the row at the place is passed

@@ -1,7 +1,7 @@
 use Rattle.std.proofs.Common.{◌≡◌, ◌∙◌, ap, subst, [], ◌∷◌, ◌++◌, OnOk}
 use Rattle.script_text.specs.declared.event.ScriptEvent.{ScriptEvent}
 use Rattle.script_text.specs.Recording.{event_with, head_of}
-use Rattle.script_text.proofs.RecordingLemmas.{event_with-head_of}
+use Rattle.script_text.proofs.recording.RecordingLemmas.{event_with-head_of}
 use Rattle.script_text.proofs.recording.Recording.push.Goals as goal
 
 -- what was added is the event

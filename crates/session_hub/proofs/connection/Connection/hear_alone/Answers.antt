@@ -1,7 +1,7 @@
 use Rattle.std.proofs.Common.{◌≡◌, ◌++◌, [], refl, sym, ap, ◌∙◌}
-use Rattle.session_model.specs.Kept.{Kept}
-use Rattle.session_hub.specs.Parties.{Requester}
-use Rattle.session_hub.proofs.HearLemmas.{hears_as, ended_bounded}
+use Rattle.run_laws.specs.session_model.laws.Kept.{Kept}
+use Rattle.session_hub.specs.requester.Parties.{Requester}
+use Rattle.session_hub.proofs.connection.HearLemmas.{hears_as, ended_bounded}
 use Rattle.session_hub.proofs.connection.Connection.hear_alone.Goals as goal
 
 -- what is said to the piece is queued and done

@@ -1,6 +1,6 @@
 use Rattle.std.proofs.Common.{drop, refl, sym, ◌∙◌, subst}
-use Rattle.session_hub.specs.Connections.{KeepsRest}
-use Rattle.session_hub.proofs.HearLemmas.{hears_as, hears_starved, ended_bounded}
+use Rattle.session_hub.specs.connection.Connections.{KeepsRest}
+use Rattle.session_hub.proofs.connection.HearLemmas.{hears_as, hears_starved, ended_bounded}
 use Rattle.session_hub.proofs.connection.Connection.hear_behind.Goals as goal
 
 -- there was no memory for the piece

@@ -1,7 +1,7 @@
 use Rattle.std.proofs.Common.{ap, ◌∙◌}
-use Rattle.session_model.specs.Kept.{closing_of}
-use Rattle.session_hub.specs.Hubs.{HubState}
-use Rattle.session_hub.proofs.FollowingLemmas.{closes_with}
+use Rattle.run_laws.specs.session_model.laws.Kept.{closing_of}
+use Rattle.session_hub.specs.hub.Hubs.{HubState}
+use Rattle.session_hub.proofs.hub.FollowingLemmas.{closes_with}
 use Rattle.session_hub.proofs.hub.Hub.closing.Goals as goal
 
 pub returns-clause-run : goal.returns-clause-run

@@ -1,7 +1,7 @@
 use Rattle.std.proofs.Common.{◌≡◌, length, arith, ap, ◌∙◌}
 use Rattle.std.proofs.lemmas.Grind.{common_steps}
-use Rattle.session_hub.specs.Hubs.{HubState}
-use Rattle.session_hub.proofs.FollowingLemmas.{counts_held}
+use Rattle.session_hub.specs.hub.Hubs.{HubState}
+use Rattle.session_hub.proofs.hub.FollowingLemmas.{counts_held}
 use Rattle.session_hub.proofs.hub.Hub.count.Goals as goal
 
 pub returns-clause-run : goal.returns-clause-run

@@ -1,4 +1,4 @@
-use Rattle.session_hub.proofs.FollowingLemmas.{follows_hung_up}
+use Rattle.session_hub.proofs.hub.FollowingLemmas.{follows_hung_up}
 use Rattle.session_hub.proofs.hub.Hub.drop_conn.Goals as goal
 
 pub returns-clause-run : goal.returns-clause-run

@@ -1,8 +1,8 @@
 use Rattle.std.proofs.Common.{◌≡◌, ◌++◌, length, take, drop, sym, ap, ◌∙◌, subst, arith}
 use Rattle.std.proofs.lemmas.Grind.{common_steps}
-use Rattle.session_model.specs.Kept.{changed, closed}
-use Rattle.session_hub.specs.Hubs.{HubState, AreHeld}
-use Rattle.session_hub.proofs.HubLemmas.{held_closed, ends}
+use Rattle.run_laws.specs.session_model.laws.Kept.{changed, closed}
+use Rattle.session_hub.specs.hub.Hubs.{HubState, AreHeld}
+use Rattle.session_hub.proofs.hub.HubLemmas.{held_closed, ends}
 use Rattle.session_hub.proofs.hub.Hub.end.Goals as goal
 
 -- the vector is what the slice became

@@ -1,6 +1,6 @@
 use Rattle.std.proofs.Common.{sym, subst}
-use Rattle.session_hub.specs.Hubs.{AreHeld}
-use Rattle.session_hub.proofs.HubLemmas.{held_forgotten}
+use Rattle.session_hub.specs.hub.Hubs.{AreHeld}
+use Rattle.session_hub.proofs.hub.HubLemmas.{held_forgotten}
 use Rattle.session_hub.proofs.hub.Hub.forget.Goals as goal
 
 -- what is left is bounded, and distinct

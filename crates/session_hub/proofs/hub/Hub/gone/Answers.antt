@@ -1,4 +1,4 @@
-use Rattle.session_hub.proofs.FollowingLemmas.{follows_gone}
+use Rattle.session_hub.proofs.hub.FollowingLemmas.{follows_gone}
 use Rattle.session_hub.proofs.hub.Hub.gone.Goals as goal
 
 pub returns-clause-run : goal.returns-clause-run

@@ -1,8 +1,8 @@
 use Rattle.std.proofs.Common.{subst}
 use Rattle.std.proofs.lemmas.Result.{on_ok_weaker}
-use Rattle.session_hub.specs.Hubs.{HubState, IsBounded}
-use Rattle.session_hub.proofs.FollowingLemmas.{follows_event}
-use Rattle.session_hub.proofs.TwinLemmas.{hears_alike_event}
+use Rattle.session_hub.specs.hub.Hubs.{HubState, IsBounded}
+use Rattle.session_hub.proofs.hub.FollowingLemmas.{follows_event}
+use Rattle.session_hub.proofs.alike.TwinLemmas.{hears_alike_event}
 use Rattle.session_hub.proofs.hub.Hub.hear.Goals as goal
 
 pub returns-clause-run : goal.returns-clause-run

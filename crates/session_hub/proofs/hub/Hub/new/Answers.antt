@@ -1,5 +1,5 @@
 use Rattle.std.proofs.Common.{ap, false}
-use Rattle.session_hub.proofs.FollowingLemmas.{follows_start}
+use Rattle.session_hub.proofs.hub.FollowingLemmas.{follows_start}
 use Rattle.session_hub.proofs.hub.Hub.new.Goals as goal
 
 pub returns-clause-run : goal.returns-clause-run

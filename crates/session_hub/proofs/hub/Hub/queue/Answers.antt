@@ -1,7 +1,7 @@
 use Rattle.std.proofs.Common.{ap, ◌∙◌}
-use Rattle.session_model.specs.Kept.{queue_of}
-use Rattle.session_hub.specs.Hubs.{HubState}
-use Rattle.session_hub.proofs.FollowingLemmas.{queues_reply}
+use Rattle.run_laws.specs.session_model.laws.Kept.{queue_of}
+use Rattle.session_hub.specs.hub.Hubs.{HubState}
+use Rattle.session_hub.proofs.hub.FollowingLemmas.{queues_reply}
 use Rattle.session_hub.proofs.hub.Hub.queue.Goals as goal
 
 pub returns-clause-run : goal.returns-clause-run

@@ -1,6 +1,6 @@
 use Rattle.std.proofs.Common.{◌==◌, not, rules}
 use Rattle.std.proofs.lemmas.Fn.{filter_same}
-use Rattle.session_hub.proofs.WaitLemmas.{puts_out}
+use Rattle.session_hub.proofs.waiting.WaitLemmas.{puts_out}
 use Rattle.session_hub.proofs.waiting.Waiting.release.Goals as goal
 
 pub returns-clause-released : goal.returns-clause-released

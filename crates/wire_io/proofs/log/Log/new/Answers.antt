@@ -1,4 +1,4 @@
-use Rattle.wire_io.proofs.LogLemmas.{items-none}
+use Rattle.wire_io.proofs.log.LogLemmas.{items-none}
 use Rattle.wire_io.proofs.log.Log.new.Goals as goal
 
 pub returns : goal.returns

@@ -1,5 +1,5 @@
 use Rattle.std.proofs.Common.{rules, ap}
-use Rattle.wire_io.proofs.LogLemmas.{items-put}
+use Rattle.wire_io.proofs.log.LogLemmas.{items-put}
 use Rattle.wire_io.proofs.log.Log.put.Goals as goal
 
 -- the row and its octets stand last

@@ -1,5 +1,5 @@
 use Rattle.std.proofs.Common.{rules, ap}
-use Rattle.wire_io.proofs.LogLemmas.{items-apart}
+use Rattle.wire_io.proofs.log.LogLemmas.{items-apart}
 use Rattle.wire_io.proofs.log.Log.put_apart.Goals as goal
 
 -- the row and the item stand last

@@ -1,4 +1,4 @@
-use Rattle.wire_io.proofs.PlayableLemmas.{IsPlayable-new}
+use Rattle.wire_io.proofs.script_link.PlayableLemmas.{IsPlayable-new}
 use Rattle.wire_io.proofs.script_link.ScriptLink.of_script.Goals as goal
 
 -- nothing was done, and the events are those given

@@ -1,7 +1,7 @@
 use Rattle.std.proofs.Common.{ap}
 use Rattle.wire_io.specs.declared.journal.Item.TheVariants.{HungUp}
-use Rattle.wire_io.proofs.NotingLemmas.{NoteTells-noted, LinkNotes-noted}
-use Rattle.wire_io.proofs.PlayableLemmas.{IsNote, IsPlayable-noted}
+use Rattle.wire_io.proofs.script_link.NotingLemmas.{NoteTells-noted, LinkNotes-noted}
+use Rattle.wire_io.proofs.script_link.PlayableLemmas.{IsNote, IsPlayable-noted}
 use Rattle.wire_io.proofs.script_link.ScriptLinkLink.hang_up.Goals as goal
 
 -- the item was noted, or nothing was

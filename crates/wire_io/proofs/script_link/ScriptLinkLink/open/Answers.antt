@@ -1,6 +1,6 @@
 use Rattle.std.proofs.Common.{true, false}
 use Rattle.wire_io.specs.declared.journal.Item.TheVariants.{OpenedAt}
-use Rattle.wire_io.proofs.PlayableLemmas.{IsNote, IsPlayable-noted}
+use Rattle.wire_io.proofs.script_link.PlayableLemmas.{IsNote, IsPlayable-noted}
 use Rattle.wire_io.proofs.script_link.ScriptLinkLink.open.Goals as goal
 
 -- the opening that failed was noted

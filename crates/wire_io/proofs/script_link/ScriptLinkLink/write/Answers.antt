@@ -1,5 +1,5 @@
 use Rattle.wire_io.specs.declared.journal.Item.TheVariants.{Later, Gone, Taken}
-use Rattle.wire_io.proofs.PlayableLemmas.{IsNote, IsPlayable-noted}
+use Rattle.wire_io.proofs.script_link.PlayableLemmas.{IsNote, IsPlayable-noted}
 use Rattle.wire_io.proofs.script_link.ScriptLinkLink.write.Goals as goal
 
 pub invariant_of-self-then-contains : goal.invariant_of-self-then-contains

@@ -1,7 +1,7 @@
 use Rattle.std.proofs.Common.{refl}
 use Rattle.wire_io.specs.declared.journal.Item.TheVariants.{HungUp}
-use Rattle.wire_io.proofs.PeersLemmas.{IsOf}
-use Rattle.wire_io.proofs.TrackedLemmas.{IsTracked-kept, IsTracked-changed, frees-hung_up}
+use Rattle.wire_io.proofs.peers.PeersLemmas.{IsOf}
+use Rattle.wire_io.proofs.tracked_journal.TrackedLemmas.{IsTracked-kept, IsTracked-changed, frees-hung_up}
 use Rattle.wire_io.proofs.tracked_journal.TrackedJournal.hang_up.Goals as goal
 
 -- room for the connection was not found, or was made

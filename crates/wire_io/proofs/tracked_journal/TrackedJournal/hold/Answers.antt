@@ -1,5 +1,5 @@
 use Rattle.std.proofs.Common.{refl}
-use Rattle.wire_io.proofs.TrackedLemmas.{IsTracked-kept, IsTracked-held}
+use Rattle.wire_io.proofs.tracked_journal.TrackedLemmas.{IsTracked-kept, IsTracked-held}
 use Rattle.wire_io.proofs.tracked_journal.TrackedJournal.hold.Goals as goal
 
 -- room for the connection was not found, or was made

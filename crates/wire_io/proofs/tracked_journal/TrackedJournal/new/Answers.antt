@@ -1,5 +1,5 @@
 use Rattle.std.proofs.Common.{refl}
-use Rattle.wire_io.proofs.TrackedLemmas.{IsTracked-nothing}
+use Rattle.wire_io.proofs.tracked_journal.TrackedLemmas.{IsTracked-nothing}
 use Rattle.wire_io.proofs.tracked_journal.TrackedJournal.new.Goals as goal
 
 -- nothing was done, and nothing is kept

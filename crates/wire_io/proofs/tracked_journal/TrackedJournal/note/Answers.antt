@@ -1,4 +1,4 @@
-use Rattle.wire_io.proofs.TrackedLemmas.{IsTracked-noted}
+use Rattle.wire_io.proofs.tracked_journal.TrackedLemmas.{IsTracked-noted}
 use Rattle.wire_io.proofs.tracked_journal.TrackedJournal.note.Goals as goal
 
 -- the item was added

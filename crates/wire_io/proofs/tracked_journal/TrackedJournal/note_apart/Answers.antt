@@ -1,4 +1,4 @@
-use Rattle.wire_io.proofs.TrackedLemmas.{IsTracked-quiet}
+use Rattle.wire_io.proofs.tracked_journal.TrackedLemmas.{IsTracked-quiet}
 use Rattle.wire_io.proofs.tracked_journal.TrackedJournal.note_apart.Goals as goal
 
 -- the item was added

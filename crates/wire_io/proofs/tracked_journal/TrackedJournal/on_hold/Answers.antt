@@ -1,6 +1,6 @@
 use Rattle.std.proofs.Common.{ap, sym, ◌∙◌}
 use Rattle.wire_io.specs.Journal.{is_held}
-use Rattle.wire_io.proofs.TrackedLemmas.{state_read-some, state_read-none, held_none}
+use Rattle.wire_io.proofs.tracked_journal.TrackedLemmas.{state_read-some, state_read-none, held_none}
 use Rattle.wire_io.proofs.tracked_journal.TrackedJournal.on_hold.Goals as goal
 
 -- something is kept of the connection

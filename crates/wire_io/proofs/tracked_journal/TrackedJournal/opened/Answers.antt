@@ -1,4 +1,4 @@
-use Rattle.wire_io.proofs.TrackedLemmas.{IsTracked-opened}
+use Rattle.wire_io.proofs.tracked_journal.TrackedLemmas.{IsTracked-opened}
 use Rattle.wire_io.proofs.tracked_journal.TrackedJournal.opened.Goals as goal
 
 -- the number was put behind the others

@@ -1,8 +1,8 @@
 use Rattle.std.proofs.Common.{refl}
 use Rattle.wire_io.specs.declared.journal.Item.TheVariants.{Taken}
 use Rattle.wire_io.specs.Peers.{KeepsPeers}
-use Rattle.wire_io.proofs.PeersLemmas.{IsOf}
-use Rattle.wire_io.proofs.TrackedLemmas.{IsTracked-kept, IsTracked-changed, frees-taken}
+use Rattle.wire_io.proofs.peers.PeersLemmas.{IsOf}
+use Rattle.wire_io.proofs.tracked_journal.TrackedLemmas.{IsTracked-kept, IsTracked-changed, frees-taken}
 use Rattle.wire_io.proofs.tracked_journal.TrackedJournal.take.Goals as goal
 
 -- room for the octets was not found

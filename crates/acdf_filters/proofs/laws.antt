@@ -1,0 +1,5 @@
+pub mod ListLemmas
+pub mod ChoiceLemmas
+pub mod StandingLaw
+pub mod DecisionLaw
+pub mod UnseenLaw

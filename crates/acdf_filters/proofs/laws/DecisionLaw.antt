@@ -1,0 +1,68 @@
+-- Weighing tuples one after the other decides as the six filters do.
+use Rattle.std.proofs.Common.{◌≡◌, ℕ, ◌≤◌, Bool, ◌&&◌, List, [], ◌∷◌, refl, sym, ap, ◌∙◌, arith, map, filter}
+use Rattle.std.specs.Prelude.{fold, if◌then◌else◌}
+use Rattle.dir_tree.proofs.base_laws_proofs.Theorems.{filter-filter}
+use Rattle.dir_tree.specs.tree.Numbered.{entries_of}
+use Rattle.acdf_filters.specs.declared.question.Question.{Question}
+use Rattle.acdf_filters.specs.declared.standing.Standing.{Standing}
+use Rattle.acdf_filters.specs.Asking.{Asked}
+use Rattle.acdf_filters.specs.users.Choices.{least, is_filled}
+use Rattle.acdf_filters.specs.Covering.{covers}
+use Rattle.acdf_filters.specs.laws.Filters.{Placed, stays, has_permission, level_3, decided}
+use Rattle.acdf_filters.specs.laws.Granted.{placed}
+use Rattle.acdf_filters.specs.Standing as generic
+use Rattle.acdf_filters.specs.Standing.{initial, standing}
+use Rattle.acdf_filters.specs.reading.Tuples.{Listed}
+use Rattle.acdf_filters.specs.users.Users.{listed_ranks}
+use Rattle.acdf_filters.specs.weighing.Weighing.{passes, weighed, keys_of, asked_of, weighed_for, is_granted}
+use Rattle.acdf_filters.proofs.laws.StandingLaw.{fold-weighed}
+
+-- ranks are at most 3
+least-within : (ns : List ℕ) → least ns ≤ 3
+least-within [] = omega arith
+least-within (n ∷ ns) = let later = least-within ns in omega arith
+
+-- the tuple passes the first three filters
+abbrev passes_all : Asked → Placed → Bool
+passes_all asked x = passes asked x.listed.tuple x.ranks
+
+-- the first three filters are one test
+level_3-passes : (asked : Asked) (xs : List Placed) → filter (passes_all asked) xs ≡ level_3 asked xs
+level_3-passes asked xs =
+    sym (filter-filter (λ x. has_permission asked.permission x.listed.tuple) (λ x. stays asked.who.level x.listed.tuple x.ranks && covers asked.who.name asked.item x.listed.tuple.items) xs)
+    ∙ ap (filter (λ x. has_permission asked.permission x.listed.tuple))
+    (sym (filter-filter (λ x. covers asked.who.name asked.item x.listed.tuple.items) (λ x. stays asked.who.level x.listed.tuple x.ranks) xs))
+
+-- a tuple is weighed as its keys say
+by_keys : (asked : Asked) (seen : Standing) (x : Placed) → weighed asked seen x.listed.tuple x.ranks ≡ generic.weighed (keys_of asked) (passes_all asked) seen x
+unfolding weighed
+by_keys asked seen x = refl
+
+fold-same : {A B : Type 0} (f g : B → A → B) → ((b : B) (x : A) → f b x ≡ g b x) → (b : B) (xs : List A) → fold f b xs ≡ fold g b xs
+fold-same f g h b [] = refl
+fold-same f g h b (x ∷ xs) = fold-same f g h (f b x) xs ∙ ap (λ c. fold g c xs) (h b x)
+
+granted_state : (asked : Asked) (xs : List Placed) → is_granted (standing (keys_of asked) (level_3 asked xs)) ≡ decided asked xs
+unfolding decided
+granted_state asked xs = refl
+
+decided-placed : (asked : Asked) (xs : List Placed) → is_granted (fold (λ (seen : Standing) (x : Placed). weighed asked seen x.listed.tuple x.ranks) initial xs) ≡ decided asked xs
+decided-placed asked xs =
+    ap is_granted (fold-same (λ (seen : Standing) (x : Placed). weighed asked seen x.listed.tuple x.ranks) (generic.weighed (keys_of asked) (passes_all asked)) (by_keys asked) initial xs
+    ∙ fold-weighed (keys_of asked) (passes_all asked) (λ x. least-within (if is_filled x.ranks then x.ranks else listed_ranks x.listed.tuple.classes)) xs
+    ∙ ap (standing (keys_of asked)) (level_3-passes asked xs))
+    ∙ granted_state asked xs
+
+-- the tuples alone, of which the place says the ranks
+fold-placed : (question : Question) (seen : Standing) (xs : List Listed)
+    → fold (weighed_for question) seen (map (λ x. x.tuple) xs)
+    ≡ fold (λ (seen : Standing) (x : Placed). weighed (asked_of question) seen x.listed.tuple x.ranks) seen (placed (entries_of question.tree.now) question.entry.now question.who.now.name xs)
+fold-placed question seen [] = refl
+fold-placed question seen (x ∷ xs) = fold-placed question (weighed_for question seen x.tuple) xs
+
+pub decided-fold : (question : Question) (xs : List Listed)
+    → is_granted (fold (weighed_for question) initial (map (λ x. x.tuple) xs))
+    ≡ decided (asked_of question) (placed (entries_of question.tree.now) question.entry.now question.who.now.name xs)
+decided-fold question xs =
+    ap is_granted (fold-placed question initial xs)
+    ∙ decided-placed (asked_of question) (placed (entries_of question.tree.now) question.entry.now question.who.now.name xs)

@@ -1,8 +1,0 @@
--- The groups of which memberships are known.
-use Rattle.std.specs.Prelude.{List, map}
-use Rattle.dn_names.specs.Names.{RdnSequence}
-use Rattle.acdf_filters.specs.declared.question.Membership.{Membership}
-
--- the groups of which the memberships are known
-abbrev pub groups_of : List Membership → List RdnSequence
-groups_of known = map (λ membership. membership.group) known

@@ -1,0 +1,115 @@
+-- All that a replacement does not reach stands aside from it.
+use Rattle.std.proofs.Common.{◌≡◌, ◌≢◌, ◌⊎◌, inl, inr, ℕ, true, false, not, List, [], ap, sym, subst, ◌∙◌, length, arith, Some, None}
+use Rattle.std.specs.Option.{option_map_or}
+use Rattle.std.proofs.lemmas.Bool.{cases_Bool, cond-true, cond-false, and_parts, not-true}
+use Rattle.std.proofs.lemmas.List.{take_all}
+use Rattle.dir_tree.specs.dn_names.name.Names.{RdnSequence}
+use Rattle.dir_tree.specs.dn_names.order.NameOrder.{is_same, is_prefix_of}
+use Rattle.dir_tree.specs.Entry.{EntryInformation}
+use Rattle.dir_tree.specs.tree.Trees.{has_below}
+use Rattle.dir_tree.specs.tree.Numbered.{Numbered, IsNumberedTree, entries_of, entry_of, put_entry, without}
+use Rattle.dir_tree.specs.Refusals.{refusal_in_place, replace_refusal}
+use Rattle.dir_tree.specs.subentries.Points.{is_access_subentry}
+use Rattle.dir_tree.specs.Scope.{is_within}
+use Rattle.dir_tree.proofs.TreeTheorems.{same_itself, elsewhere_filled as elsewhere-filled, elsewhere_under as elsewhere-under, prefix_same, outside}
+use Rattle.dir_tree.proofs.TreeTheorems.{all_known_entry}
+use Rattle.dir_tree.proofs.TreeTheorems.{IsAllowedThere, allowed_there}
+use Rattle.acdf_lists.specs.declared.kept.Holdings.{Holdings}
+use Rattle.acdf_lists.specs.kept.Holdings.{IsHeld}
+use Rattle.scope_laws.specs.laws.Aside.{IsAside}
+use Rattle.scope_laws.proofs.Theorems.{aside-beside, change-taken, change-replaced, entry_of-new}
+use Rattle.aci_index.specs.declared.anew.Reach.{Reach}
+use Rattle.aci_index.specs.declared.anew.Reach.TheVariants.{Below, Around}
+use Rattle.aci_index.specs.declared.anew.Anew.{Anew}
+use Rattle.aci_index.specs.points.Reach.{AreBelow, HaveRoom, IsAnew, IsPut, reach_of, reached}
+use Rattle.aci_index.specs.anew.Steps.{are_ordinary}
+use Rattle.aci_index.proofs.inserting.SubtreeLemmas.{IsOrdinary}
+use Rattle.aci_index.proofs.inserting.ReachLemmas.{IsApart, unreached-Sub, unreached-around}
+use Rattle.aci_index.proofs.inserting.AroundLemmas.{apart-itself, apart-replaced}
+use Rattle.aci_index.proofs.anew.NumberLemmas.{below-replaced}
+use Rattle.aci_index.proofs.anew.AnewLemmas.{StandAside, held-anew, room-anew}
+use Rattle.aci_index.proofs.inserting.StandLemmas.{same_entry}
+
+-- a name is at or below itself
+within_itself : (one : EntryInformation) → is_within one.name one ≡ true
+unfolding is_prefix_of
+within_itself one = ap (λ (name : RdnSequence). is_same name one.name) (take_all (length one.name) one.name (omega arith)) ∙ same_itself one.name
+
+module _ (id : ℕ) (old one : EntryInformation) (rows : List Numbered) (tree : IsNumberedTree rows) (known : entry_of id rows ≡ Some old) (allowed : replace_refusal id one.name rows ≡ None) where
+  may : IsAllowedThere id old one.name rows
+  may = allowed_there id old one.name rows (sym (ap (λ o. refusal_in_place id one.name o rows) known) ∙ allowed)
+
+  now : entry_of id (put_entry id one (without id rows)) ≡ Some one
+  now = (change-replaced id old one rows known).after
+
+  -- from one that takes another's place, of all that is not at or below the superior
+  stand-around : IsNumberedTree (put_entry id one (without id rows))
+      → StandAside id (reached Around id (put_entry id one (without id rows))) (put_entry id one (without id rows)) (Some old) (Some one)
+  stand-around also number entry there others =
+      let new = put_entry id one (without id rows) in
+      let filled = elsewhere-filled one.name old.name may.here in
+      let before = all_known_entry (λ other. other.name ≢ []) id old rows tree.tree.named known in
+      let apart = unreached-around id one number entry new also now there others in (
+        λ e. apart-itself one filled (subst (IsApart one) (same_entry id number one entry new now there e) apart),
+        apart-replaced old one entry before filled (elsewhere-under one.name old.name may.here) apart,
+      )
+
+  -- where both are ordinary entries, of all that is not at or below it
+  stand-below : IsOrdinary old → IsOrdinary one
+      → StandAside id (reached Below id (put_entry id one (without id rows))) (put_entry id one (without id rows)) (Some old) (Some one)
+  stand-below first second number entry there others = (differs, by (cases_Bool (is_same one.name old.name)))
+    where
+      apart : is_within one.name entry ≡ false
+      apart = unreached-Sub id one number entry (put_entry id one (without id rows)) now there others
+
+      differs : number ≢ id
+      differs e =
+          let same = same_entry id number one entry (put_entry id one (without id rows)) now there e in
+          let clash : true ≡ false = sym (within_itself one) ∙ ap (λ (x : EntryInformation). is_within one.name x) (sym same) ∙ apart in
+          absurd cc
+
+      was : entry_of number (without id rows) ≡ Some entry
+      was =
+          entry_of-new id number rows (without id rows) (change-taken id old rows known).others differs
+          ∙ sym (entry_of-new id number rows (put_entry id one (without id rows)) (change-replaced id old one rows known).others differs)
+          ∙ there
+
+      beside : is_within old.name entry ≡ false → IsAside entry (Some old) (Some one)
+      beside e =
+          aside-beside entry (Some old) (Some one) (record { outside = e; ordinary = first }) (record { outside = apart; ordinary = second })
+
+      by : ((is_same one.name old.name ≡ true) ⊎ (is_same one.name old.name ≡ false)) → IsAside entry (Some old) (Some one)
+      by (inl e) = beside (sym (prefix_same one.name old.name entry.name e) ∙ apart)
+      by (inr e) =
+          let alone : has_below old.name (entries_of rows) ≡ false = rw e at may.alone in
+          beside (outside id old rows tree known alone number entry was)
+
+  -- and of all that is not reached
+  pub stand-replaced : IsNumberedTree (put_entry id one (without id rows))
+      → StandAside id (reached (reach_of old one) id (put_entry id one (without id rows))) (put_entry id one (without id rows)) (Some old) (Some one)
+  stand-replaced also = by (cases_Bool (are_ordinary old one))
+    where
+      Stands : Reach → Type 0
+      Stands reach = StandAside id (reached reach id (put_entry id one (without id rows))) (put_entry id one (without id rows)) (Some old) (Some one)
+
+      by : ((are_ordinary old one ≡ true) ⊎ (are_ordinary old one ≡ false)) → Stands (reach_of old one)
+      by (inl e) =
+          let parts = and_parts (not (is_access_subentry old)) (not (is_access_subentry one)) e in
+          subst Stands (sym (cond-true (are_ordinary old one) Below Around e))
+          (stand-below (not-true (is_access_subentry old) parts.0) (not-true (is_access_subentry one) parts.1))
+      by (inr e) = subst Stands (sym (cond-false (are_ordinary old one) Below Around e)) (stand-around also)
+
+  -- so what was made and put is kept right
+  pub room-replaced : (reach : Reach) (bound : ℕ) (anew : Anew) → AreBelow bound rows → IsAnew reach id anew (put_entry id one (without id rows)) → HaveRoom anew.lists.items bound
+  room-replaced reach bound anew below are =
+      room-anew reach id bound anew (put_entry id one (without id rows)) (below-replaced bound id old one rows below known) are
+
+  pub held-replaced : (reach : Reach) (held made : Holdings) (anew : Anew) → IsNumberedTree (put_entry id one (without id rows))
+      → reach ≡ option_map_or (λ (x : EntryInformation). reach_of x one) (entry_of id rows) Around → IsHeld held rows → AreBelow (length held.lists.items) rows
+      → IsAnew reach id anew (put_entry id one (without id rows)) → IsPut anew held made → IsHeld made (put_entry id one (without id rows))
+  held-replaced reach held made anew also e is below are put =
+      let new = put_entry id one (without id rows) in
+      let this : reach ≡ reach_of old one = e ∙ ap (λ o. option_map_or (λ (x : EntryInformation). reach_of x one) o Around) known in
+      held-anew reach id rows new (Some old) (Some one) held made anew tree also (change-replaced id old one rows known)
+      (subst (λ (r : Reach). StandAside id (reached r id new) new (Some old) (Some one)) (sym this) (stand-replaced also))
+      is are (room-replaced reach (length held.lists.items) anew below are) put

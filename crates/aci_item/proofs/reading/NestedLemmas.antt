@@ -1,0 +1,149 @@
+-- Values that are read are not deep: components one behind the other, sets, words and strings.
+use Rattle.std.proofs.Common.{◌≡◌, ℕ, ◌≤◌, suc, Bool, true, false, List, [], ◌∷◌, refl, ap, arith}
+use Rattle.std.specs.Prelude.{Option, Some, None, ◌&&◌, if◌then◌else◌}
+use Rattle.std.specs.Str.{bytes_eq}
+use Rattle.std.proofs.lemmas.Option.{same_Some}
+use Rattle.gser_tree.specs.declared.part.Part.{Part}
+use Rattle.gser_tree.specs.marks.Lexemes.{Lexeme}
+use Rattle.gser_tree.specs.looking.Shapes as shapes
+use Rattle.gser_tree.specs.looking.Shapes.{Shape, gathered, nest, nest_in}
+use Rattle.gser_tree.specs.looking.Looking.{Behind, members_in, word_in, string_in, component, flag, is_null}
+use Rattle.gser_tree.specs.Reading.{Found, Read, give, ◌>>=◌, expect, part, present, optional, required, nothing_left}
+use Rattle.gser_tree.specs.Writing.{text_of}
+use Rattle.gser_tree.proofs.Theorems.{Shallow, both_read, was_there, word_nest, string_nest, members_nest, optional_nest}
+use Rattle.subtree_spec.specs.Parts.{name, name_of, is_oid, oid}
+use Rattle.aci_item.specs.reading.AciText.{sorted_set}
+use Rattle.aci_item.specs.members.ItemParts.{flag_by, flagged}
+use Rattle.aci_item.specs.Sets.{put_member, gather_into}
+
+-- where a reading of members goes on, they are at most so deep
+abbrev pub Bounds : {B : Type 0} → ℕ → List Shape → Read B → Type 0
+Bounds {B} deep members read = (bad : Option ℕ) (found : Found B) → read bad ≡ Some found → nest_in (gathered members) ≤ deep
+
+-- members are at most so deep where those that a reading leaves are
+abbrev pub Leaves : {A : Type 0} → ℕ → List Shape → Read (Behind A) → Type 0
+Leaves {A} deep members read =
+    (bad : Option ℕ) (found : Found (Behind A)) → read bad ≡ Some found → nest_in (gathered found.value.rest) ≤ deep → nest_in (gathered members) ≤ deep
+
+-- what is read of braces, where their members are so deep
+pub in_braces : {B : Type 0} (deep : ℕ) (shape : Shape) (next : List Shape → Read B) → ((members : List Shape) → Bounds deep members (next members))
+    → (bad : Option ℕ) (found : Found B) → (expect (members_in shape) >>= next) bad ≡ Some found → nest shape ≤ suc deep
+in_braces deep shape next bounds bad found h =
+    let read = both_read (expect (members_in shape)) next bad found h in
+    let same = members_nest shape read.0.value (was_there (members_in shape) bad read.0 read.1) in
+    let inner = bounds read.0.value read.0.bad found read.2 in
+    omega (arith, same, inner)
+
+-- a component, and what is read behind it
+pub next_bounds : {A B : Type 0} (deep : ℕ) (members : List Shape) (read : Read (Behind A)) (next : Behind A → Read B) → Leaves deep members read
+    → ((found : Behind A) → Bounds deep found.rest (next found)) → Bounds deep members (read >>= next)
+next_bounds deep members read next first others bad found h =
+    let both = both_read read next bad found h in first bad both.0 both.1 (others both.0.value both.0.bad found both.2)
+
+-- no members are left
+pub end_bounds : {A : Type 0} (deep : ℕ) (members : List Shape) (value : A) → Bounds deep members (nothing_left members value)
+end_bounds deep [] value bad found h = omega arith
+end_bounds deep (shape ∷ members) value bad found h = cc
+
+-- a component that may be absent
+pub optional_leaves : {A : Type 0} (most deep : ℕ) (name : List ℕ) (absent : A) (reader : Shape → Read A) (members : List Shape) → Shallow most reader → most ≤ deep
+    → Leaves deep members (optional name absent reader members)
+optional_leaves most deep name absent reader members shallow within bad found h behind =
+    optional_nest most deep name absent reader members bad found shallow within h behind
+
+-- a component that has to be there
+pub required_leaves : {A : Type 0} (most deep : ℕ) (name : List ℕ) (reader : Shape → Read A) (members : List Shape) → Shallow most reader → most ≤ deep
+    → Leaves deep members (required name reader members)
+required_leaves {A} most deep name reader members shallow within bad found h behind =
+    optional_nest most deep name found.value.value reader members bad found shallow within (inner (component name members) h) behind
+  where
+    inner : (there : Option (Behind Shape)) → (expect there >>= λ one. reader one.value >>= λ value. give (record { value = value; rest = one.rest })) bad ≡ Some found
+        → present found.value.value reader members there bad ≡ Some found
+    inner None h = cc
+    inner (Some there) h = h
+
+-- NULL is not deep
+null_nest : (shape : Shape) → is_null shape ≡ true → nest shape ≤ 0
+null_nest (shapes.Word part) h = omega arith
+null_nest (shapes.Quoted part) h = cc
+null_nest (shapes.Braces members) h = cc
+null_nest (shapes.Named part value) h = cc
+null_nest (shapes.Chosen part value) h = cc
+
+-- members that are the same are equally deep
+same_rest : (one other : List Shape) → Some one ≡ Some other → nest_in (gathered one) ≡ nest_in (gathered other)
+same_rest one other h = ap (λ r. nest_in (gathered r)) (same_Some one other h)
+
+-- a component without a value of its own
+flag_nest : (deep : ℕ) (name : List ℕ) (members rest : List Shape) → flag name members ≡ Some rest → nest_in (gathered rest) ≤ deep → nest_in (gathered members) ≤ deep
+flag_nest deep name [] rest h behind = cc
+flag_nest deep name (shapes.Quoted part ∷ members) rest h behind = cc
+flag_nest deep name (shapes.Braces inside ∷ members) rest h behind = cc
+flag_nest deep name (shapes.Chosen part value ∷ members) rest h behind = cc
+flag_nest deep name (shapes.Word part ∷ members) rest h behind = inner (bytes_eq part.text name) h
+  where
+    inner : (b : Bool) → (if b then Some members else None) ≡ Some rest → nest_in (gathered (shapes.Word part ∷ members)) ≤ deep
+    inner false h = cc
+    inner true h = let same = same_rest members rest h in omega (arith, same, behind)
+flag_nest deep name (shapes.Named part value ∷ members) rest h behind = inner (bytes_eq part.text name) (is_null value) refl h
+  where
+    inner : (b null : Bool) → is_null value ≡ null → (if b && null then Some members else None) ≡ Some rest → nest_in (gathered (shapes.Named part value ∷ members)) ≤ deep
+    inner false null is h = cc
+    inner true false is h = cc
+    inner true true is h =
+        let same = same_rest members rest h in
+        let none = null_nest value is in
+        omega (arith, same, none, behind)
+
+-- the same, whether it is there or not
+pub flagged_leaves : (deep : ℕ) (name : List ℕ) (members : List Shape) → Leaves deep members (flagged name members)
+flagged_leaves deep name members bad found h behind = inner (flag name members) refl h
+  where
+    same : (one other : Found (Behind Bool)) → Some one ≡ Some other → nest_in (gathered one.value.rest) ≡ nest_in (gathered other.value.rest)
+    same one other h = ap (λ (f : Found (Behind Bool)). nest_in (gathered f.value.rest)) (same_Some one other h)
+
+    inner : (there : Option (List Shape)) → flag name members ≡ there → give (flag_by members there) bad ≡ Some found → nest_in (gathered members) ≤ deep
+    inner None is h = let left = same (record { value = flag_by members None; bad = bad }) found h in omega (arith, left, behind)
+    inner (Some rest) is h =
+        let left = same (record { value = flag_by members (Some rest); bad = bad }) found h in
+        flag_nest deep name members rest is (omega (arith, left, behind))
+
+-- members one by one
+pub gathered_bounds : {A S : Type 0} (most : ℕ) (add : A → S → S) (reader : Shape → Read A) → Shallow most reader → (members : List Shape) (seen : S)
+    → Bounds most members (gather_into add reader seen members)
+gathered_bounds most add reader shallow [] seen bad found h = omega arith
+gathered_bounds most add reader shallow (shape ∷ members) seen bad found h =
+    let read = both_read (reader shape) (λ value. gather_into add reader (add value seen) members) bad found h in
+    let one = shallow shape bad read.0 read.1 in
+    let others = gathered_bounds most add reader shallow members (add read.0.value seen) read.0.bad found read.2 in
+    omega (arith, one, others)
+
+-- a set is one deeper than its members
+pub set_is_shallow : {A : Type 0} (most : ℕ) (print : A → List Lexeme) (reader : Shape → Read A) → Shallow most reader → Shallow (suc most) (sorted_set print reader)
+set_is_shallow most print reader shallow shape =
+    in_braces most shape (gather_into (put_member (λ value. text_of (print value))) reader [])
+    (λ members. gathered_bounds most (put_member (λ value. text_of (print value))) reader shallow members [])
+
+-- ---- words and strings
+
+-- what is read of a word
+pub word_is_shallow : {B : Type 0} (next : Part → Read B) (shape : Shape) (bad : Option ℕ) (found : Found B) → (expect (word_in shape) >>= next) bad ≡ Some found
+    → nest shape ≤ 0
+word_is_shallow next shape bad found h =
+    let read = both_read (expect (word_in shape)) next bad found h in word_nest shape read.0.value (was_there (word_in shape) bad read.0 read.1)
+
+-- what is read of a string
+pub string_is_shallow : {B : Type 0} (next : Part → Read B) (shape : Shape) (bad : Option ℕ) (found : Found B) → (expect (string_in shape) >>= next) bad ≡ Some found
+    → nest shape ≤ 0
+string_is_shallow next shape bad found h =
+    let read = both_read (expect (string_in shape)) next bad found h in string_nest shape read.0.value (was_there (string_in shape) bad read.0 read.1)
+
+-- a name
+pub name_is_shallow : Shallow 0 name
+unfolding name
+name_is_shallow shape = string_is_shallow (λ string. part string.place [] (name_of string.text)) shape
+
+-- an object identifier
+pub oid_is_shallow : Shallow 0 oid
+unfolding oid
+oid_is_shallow shape = word_is_shallow (λ word. if is_oid word.text then give word else λ bad. None) shape

@@ -1,0 +1,4 @@
+pub mod DueLemmas
+pub mod PerformLemmas
+pub mod RunLemmas
+pub mod TwinReplays

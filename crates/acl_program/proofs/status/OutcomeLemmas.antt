@@ -1,0 +1,207 @@
+-- Lemmas on which outcome may come with the words and the shelf, by the status that it has.
+use Rattle.std.proofs.Common.{◌≡◌, ℕ, Bool, true, false, List, length, Option, ap, inl, inr, ◌⊎◌, if◌then◌else◌, nat_lt}
+use Rattle.command_files.specs.script_text.declared.event.ScriptEvent.{ScriptEvent}
+use Rattle.command_files.specs.plain_values.Counts.{Rose}
+use Rattle.command_files.specs.wire_io.shelf.Files.{Files}
+use Rattle.command_files.specs.wire_io.laws.Pieces.{pieces}
+use Rattle.session_hub.specs.serve.Loops.{buffer_length}
+use Rattle.command_files.specs.dir_tree.Entry.{EntryInformation}
+use Rattle.command_files.specs.op_write.load.DataFile.{FileCause}
+use Rattle.acl_program.specs.declared.status.Status.{Status}
+use Rattle.acl_program.specs.declared.status.Status.TheVariants.{Done, Usage, BadData, ShelfFault, SinkFault, LinkFault, TurnsSpent, NoMemory, BadScript}
+use Rattle.acl_program.specs.program.Outside.{Linked, Outside}
+use Rattle.acl_program.specs.status.Outcomes.{Outcome, NoCommand, NoFile, BadDataLine, BadLine, Checked, Dumped, Replayed, Served, Explained, Sampled, OutOfMemory, status_of}
+use Rattle.acl_program.specs.program.Causes.{IsNoCommand, AsksServing, AsksServe, LacksData, LacksScript, RefusesData, RefusesScript, Comes, Links}
+use Rattle.acl_program.specs.sample.Sampling.{RefusesSample}
+use Rattle.acl_program.specs.program.Running.{Puts, IsCause, EndsAtFaults}
+use Rattle.acl_program.specs.program.Playing.{Ends}
+use Rattle.acl_program.specs.serve.Serving.{ServeAsked}
+use Rattle.acl_program.proofs.serve.ServeLemmas.{serve_not, fault_rose, serve_count_stays}
+
+-- a replay's status is one of two
+is_either : (status : Status) (stopped : Bool) → status ≡ (if stopped then Done else TurnsSpent) → (status ≡ Done) ⊎ (status ≡ TurnsSpent)
+is_either status true is = inl is
+is_either status false is = inr is
+
+replayed_status : (status : Status) (events : List ScriptEvent) (turns : ℕ) (dump : Bool) (entries : List EntryInformation)
+    → status ≡ status_of (Replayed events turns dump entries) → (status ≡ Done) ⊎ (status ≡ TurnsSpent)
+unfolding status_of
+replayed_status status events turns dump entries is = is_either status (nat_lt (length (pieces buffer_length events)) turns) is
+
+not_replayed : (status : Status) (events : List ScriptEvent) (turns : ℕ) (dump : Bool) (entries : List EntryInformation)
+    → status ≡ status_of (Replayed events turns dump entries) → (status ≡ Done → ⊥) → (status ≡ TurnsSpent → ⊥) → ⊥
+not_replayed status events turns dump entries is not_done not_spent =
+    elim (replayed_status status events turns dump entries is) [ inl done ↦ not_done done | inr spent ↦ not_spent spent ]
+
+-- Usage comes of words that are no command
+pub usage_comes : (words : List (List ℕ)) (files : Option Files) (before after : ℕ) (outcome : Outcome)
+    → Usage ≡ status_of outcome → Comes words files before after outcome → IsNoCommand words
+unfolding status_of Comes
+usage_comes words files before after NoCommand is comes = comes.0
+usage_comes words files before after NoFile is comes = absurd (cc)
+usage_comes words files before after (BadDataLine line cause) is comes = absurd (cc)
+usage_comes words files before after (BadLine line) is comes = absurd (cc)
+usage_comes words files before after (Checked entries) is comes = absurd (cc)
+usage_comes words files before after (Dumped entries) is comes = absurd (cc)
+usage_comes words files before after (Replayed events turns dump entries) is comes = absurd (not_replayed Usage events turns dump entries is (λ e. cc) (λ e. cc))
+usage_comes words files before after (Served asked end) is comes = absurd (serve_not Usage end is (λ e. cc) (λ e. cc) (λ e. cc) (λ e. cc))
+usage_comes words files before after (Explained text) is comes = absurd (cc)
+usage_comes words files before after (Sampled text) is comes = absurd (cc)
+usage_comes words files before after OutOfMemory is comes = absurd (cc)
+
+-- what came, by the status of the outcome
+data_cause : (words : List (List ℕ)) (files : Option Files) (before after : ℕ) (outcome : Outcome)
+    → BadData ≡ status_of outcome → Comes words files before after outcome
+    → (line : ℕ) × (cause : FileCause) × (RefusesData words files line cause ⊎ RefusesSample words line cause)
+unfolding status_of Comes
+data_cause words files before after NoCommand is comes = absurd (cc)
+data_cause words files before after NoFile is comes = absurd (cc)
+data_cause words files before after (BadDataLine line cause) is comes = (line, cause, comes.0)
+data_cause words files before after (BadLine line) is comes = absurd (cc)
+data_cause words files before after (Checked entries) is comes = absurd (cc)
+data_cause words files before after (Dumped entries) is comes = absurd (cc)
+data_cause words files before after (Replayed events turns dump entries) is comes = absurd (not_replayed BadData events turns dump entries is (λ e. cc) (λ e. cc))
+data_cause words files before after (Served asked end) is comes = absurd (serve_not BadData end is (λ e. cc) (λ e. cc) (λ e. cc) (λ e. cc))
+data_cause words files before after (Explained text) is comes = absurd (cc)
+data_cause words files before after (Sampled text) is comes = absurd (cc)
+data_cause words files before after OutOfMemory is comes = absurd (cc)
+
+shelf_cause : (words : List (List ℕ)) (files : Option Files) (before after : ℕ) (outcome : Outcome)
+    → ShelfFault ≡ status_of outcome → Comes words files before after outcome → LacksData words files before after ⊎ LacksScript words files before after
+unfolding status_of Comes
+shelf_cause words files before after NoCommand is comes = absurd (cc)
+shelf_cause words files before after NoFile is comes = comes
+shelf_cause words files before after (BadDataLine line cause) is comes = absurd (cc)
+shelf_cause words files before after (BadLine line) is comes = absurd (cc)
+shelf_cause words files before after (Checked entries) is comes = absurd (cc)
+shelf_cause words files before after (Dumped entries) is comes = absurd (cc)
+shelf_cause words files before after (Replayed events turns dump entries) is comes = absurd (not_replayed ShelfFault events turns dump entries is (λ e. cc) (λ e. cc))
+shelf_cause words files before after (Served asked end) is comes = absurd (serve_not ShelfFault end is (λ e. cc) (λ e. cc) (λ e. cc) (λ e. cc))
+shelf_cause words files before after (Explained text) is comes = absurd (cc)
+shelf_cause words files before after (Sampled text) is comes = absurd (cc)
+shelf_cause words files before after OutOfMemory is comes = absurd (cc)
+
+script_cause : (words : List (List ℕ)) (files : Option Files) (before after : ℕ) (outcome : Outcome)
+    → BadScript ≡ status_of outcome → Comes words files before after outcome → (line : ℕ) × RefusesScript words files line
+unfolding status_of Comes
+script_cause words files before after NoCommand is comes = absurd (cc)
+script_cause words files before after NoFile is comes = absurd (cc)
+script_cause words files before after (BadDataLine line cause) is comes = absurd (cc)
+script_cause words files before after (BadLine line) is comes = (line, comes.0)
+script_cause words files before after (Checked entries) is comes = absurd (cc)
+script_cause words files before after (Dumped entries) is comes = absurd (cc)
+script_cause words files before after (Replayed events turns dump entries) is comes = absurd (not_replayed BadScript events turns dump entries is (λ e. cc) (λ e. cc))
+script_cause words files before after (Served asked end) is comes = absurd (serve_not BadScript end is (λ e. cc) (λ e. cc) (λ e. cc) (λ e. cc))
+script_cause words files before after (Explained text) is comes = absurd (cc)
+script_cause words files before after (Sampled text) is comes = absurd (cc)
+script_cause words files before after OutOfMemory is comes = absurd (cc)
+
+-- a data file is to be served
+serving_asked : (words : List (List ℕ)) (files : Option Files) (asked : ServeAsked) → AsksServe words files asked → AsksServing words
+unfolding AsksServing
+serving_asked words files asked asks = (asks.data_file, asked.address, asked.sessions, asked.turns, asks.asked)
+
+-- a fault of the link comes of serving alone, and raised its count
+link_cause : (words : List (List ℕ)) (files : Option Files) (before after : ℕ) (old new : Linked) (outcome : Outcome)
+    → LinkFault ≡ status_of outcome → Comes words files before after outcome → Links outcome old new → AsksServing words × Rose old.faults new.faults
+unfolding status_of Comes Links
+link_cause words files before after old new NoCommand is comes links = absurd (cc)
+link_cause words files before after old new NoFile is comes links = absurd (cc)
+link_cause words files before after old new (BadDataLine line cause) is comes links = absurd (cc)
+link_cause words files before after old new (BadLine line) is comes links = absurd (cc)
+link_cause words files before after old new (Checked entries) is comes links = absurd (cc)
+link_cause words files before after old new (Dumped entries) is comes links = absurd (cc)
+link_cause words files before after old new (Replayed events turns dump entries) is comes links = absurd (not_replayed LinkFault events turns dump entries is (λ e. cc) (λ e. cc))
+link_cause words files before after old new (Served asked end) is comes links = (serving_asked words files asked comes.0, fault_rose asked old new end is links)
+link_cause words files before after old new (Explained text) is comes links = absurd (cc)
+link_cause words files before after old new (Sampled text) is comes links = absurd (cc)
+link_cause words files before after old new OutOfMemory is comes links = absurd (cc)
+
+-- words that ask for nothing to be served leave the link as it is
+pub link_stays : (words : List (List ℕ)) (files : Option Files) (before after : ℕ) (old new : Linked) (outcome : Outcome)
+    → (AsksServing words → ⊥) → Comes words files before after outcome → Links outcome old new → new ≡ old
+unfolding Comes Links
+link_stays words files before after old new NoCommand other comes links = links
+link_stays words files before after old new NoFile other comes links = links
+link_stays words files before after old new (BadDataLine line cause) other comes links = links
+link_stays words files before after old new (BadLine line) other comes links = links
+link_stays words files before after old new (Checked entries) other comes links = links
+link_stays words files before after old new (Dumped entries) other comes links = links
+link_stays words files before after old new (Replayed events turns dump entries) other comes links = links
+link_stays words files before after old new (Served asked end) other comes links = absurd (other (serving_asked words files asked comes.0))
+link_stays words files before after old new (Explained text) other comes links = links
+link_stays words files before after old new (Sampled text) other comes links = links
+link_stays words files before after old new OutOfMemory other comes links = links
+
+-- the cause of each status
+pub cause_comes : (words : List (List ℕ)) (before after : Outside) (outcome : Outcome) (status : Status)
+    → Puts outcome before.out.put status after.out.put → Comes words before.shelf.files before.shelf.faults after.shelf.faults outcome → Links outcome before.link after.link
+    → IsCause words before after status
+unfolding IsCause
+cause_comes words before after outcome Done puts comes links = tt
+cause_comes words before after outcome Usage puts comes links = tt
+cause_comes words before after outcome BadData puts comes links = data_cause words before.shelf.files before.shelf.faults after.shelf.faults outcome puts.0 comes
+cause_comes words before after outcome ShelfFault puts comes links = shelf_cause words before.shelf.files before.shelf.faults after.shelf.faults outcome puts.0 comes
+cause_comes words before after outcome SinkFault puts comes links = tt
+cause_comes words before after outcome LinkFault puts comes links =
+    link_cause words before.shelf.files before.shelf.faults after.shelf.faults before.link after.link outcome puts.0 comes links
+cause_comes words before after outcome TurnsSpent puts comes links = tt
+cause_comes words before after outcome NoMemory puts comes links = tt
+cause_comes words before after outcome BadScript puts comes links = script_cause words before.shelf.files before.shelf.faults after.shelf.faults outcome puts.0 comes
+
+-- the shelf's count is as it was where its fault isn't answered
+pub count_stays : (words : List (List ℕ)) (files : Option Files) (before after : ℕ) (outcome : Outcome) (status : Status)
+    → status ≡ status_of outcome → (status ≡ ShelfFault → ⊥) → Comes words files before after outcome → after ≡ before
+unfolding status_of Comes
+count_stays words files before after NoCommand status is other comes = comes.1
+count_stays words files before after NoFile status is other comes = absurd (other is)
+count_stays words files before after (BadDataLine line cause) status is other comes = comes.1
+count_stays words files before after (BadLine line) status is other comes = comes.1
+count_stays words files before after (Checked entries) status is other comes = comes.1
+count_stays words files before after (Dumped entries) status is other comes = comes.1
+count_stays words files before after (Replayed events turns dump entries) status is other comes = comes.1
+count_stays words files before after (Served asked end) status is other comes = comes.1
+count_stays words files before after (Explained text) status is other comes = comes.1
+count_stays words files before after (Sampled text) status is other comes = comes.1
+count_stays words files before after OutOfMemory status is other comes = comes
+
+-- the link's count is as it was where its fault isn't answered, and memory was there
+link_count_stays : (outcome : Outcome) (old new : Linked) (status : Status)
+    → status ≡ status_of outcome → (status ≡ LinkFault → ⊥) → (status ≡ NoMemory → ⊥) → Links outcome old new → new.faults ≡ old.faults
+unfolding status_of Links
+link_count_stays NoCommand old new status is not_fault not_memory links = ap (λ link. link.faults) links
+link_count_stays NoFile old new status is not_fault not_memory links = ap (λ link. link.faults) links
+link_count_stays (BadDataLine line cause) old new status is not_fault not_memory links = ap (λ link. link.faults) links
+link_count_stays (BadLine line) old new status is not_fault not_memory links = ap (λ link. link.faults) links
+link_count_stays (Checked entries) old new status is not_fault not_memory links = ap (λ link. link.faults) links
+link_count_stays (Dumped entries) old new status is not_fault not_memory links = ap (λ link. link.faults) links
+link_count_stays (Replayed events turns dump entries) old new status is not_fault not_memory links = ap (λ link. link.faults) links
+link_count_stays (Served asked end) old new status is not_fault not_memory links = serve_count_stays asked old new end status is not_fault not_memory links
+link_count_stays (Explained text) old new status is not_fault not_memory links = ap (λ link. link.faults) links
+link_count_stays (Sampled text) old new status is not_fault not_memory links = ap (λ link. link.faults) links
+link_count_stays OutOfMemory old new status is not_fault not_memory links = ap (λ link. link.faults) links
+
+module _ (words : List (List ℕ)) (before after : Outside) (outcome : Outcome)
+    (comes : Comes words before.shelf.files before.shelf.faults after.shelf.faults outcome) (links : Links outcome before.link after.link) where
+  -- the shelf's count, and the link's
+  shelf_stays : (status : Status) → status ≡ status_of outcome → (status ≡ ShelfFault → ⊥) → after.shelf.faults ≡ before.shelf.faults
+  shelf_stays status is other = count_stays words before.shelf.files before.shelf.faults after.shelf.faults outcome status is other comes
+
+  linked_stays : (status : Status) → status ≡ status_of outcome → (status ≡ LinkFault → ⊥) → (status ≡ NoMemory → ⊥) → after.link.faults ≡ before.link.faults
+  linked_stays status is not_fault not_memory = link_count_stays outcome before.link after.link status is not_fault not_memory links
+
+  -- what the counts say of each status
+  pub faults_end : (status : Status) → Ends outcome before.out status after.out → EndsAtFaults before after status
+  unfolding EndsAtFaults
+  faults_end Done ends = ((shelf_stays Done ends.puts.0 (λ e. cc), ends.cause), linked_stays Done ends.puts.0 (λ e. cc) (λ e. cc))
+  faults_end Usage ends = ((shelf_stays Usage ends.puts.0 (λ e. cc), ends.cause), linked_stays Usage ends.puts.0 (λ e. cc) (λ e. cc))
+  faults_end BadData ends = ((shelf_stays BadData ends.puts.0 (λ e. cc), ends.cause), linked_stays BadData ends.puts.0 (λ e. cc) (λ e. cc))
+  faults_end ShelfFault ends = (ends.cause, linked_stays ShelfFault ends.puts.0 (λ e. cc) (λ e. cc))
+  faults_end SinkFault ends = ends.cause
+  faults_end LinkFault ends = (
+    (shelf_stays LinkFault ends.puts.0 (λ e. cc), ends.cause),
+    (link_cause words before.shelf.files before.shelf.faults after.shelf.faults before.link after.link outcome ends.puts.0 comes links).1,
+  )
+  faults_end TurnsSpent ends = ((shelf_stays TurnsSpent ends.puts.0 (λ e. cc), ends.cause), linked_stays TurnsSpent ends.puts.0 (λ e. cc) (λ e. cc))
+  faults_end NoMemory ends = ends.cause
+  faults_end BadScript ends = ((shelf_stays BadScript ends.puts.0 (λ e. cc), ends.cause), linked_stays BadScript ends.puts.0 (λ e. cc) (λ e. cc))

@@ -1,0 +1,50 @@
+-- What the program stands in, as far as it is told: a shelf of files, a sink for what is printed and a link to connections,
+-- each with its count of faults; a link also counts the connections that it found lost.
+use Rattle.std.specs.Prelude.{ℕ, List, Option}
+use Rattle.command_files.specs.wire_io.declared.journal.Item.{Item}
+use Rattle.command_files.specs.wire_io.shelf.Files.{Files}
+use Rattle.command_files.specs.wire_io.link.Plan.{Plan}
+
+-- the files of a shelf
+pub record Shelved : Type 0 where
+  pub files : Option Files
+  pub faults : ℕ
+
+-- what was put in a sink
+pub record Written : Type 0 where
+  pub put : Option (List ℕ)
+  pub faults : ℕ
+
+-- what a link did, and what it still has to give
+pub record Linked : Type 0 where
+  pub journal : Option (List Item)
+  pub plan : Option Plan
+  pub faults : ℕ
+  pub lost : ℕ
+
+-- all three
+pub record Outside : Type 0 where
+  pub shelf : Shelved
+  pub out : Written
+  pub link : Linked
+
+-- a shelf, by its files and its count
+abbrev pub shelved : Option Files → ℕ → Shelved
+shelved files faults = record { files = files; faults = faults }
+
+-- a sink, by what was put and its count
+abbrev pub written : Option (List ℕ) → ℕ → Written
+written put faults = record { put = put; faults = faults }
+
+-- a link, by what it did, what it has to give, and its counts
+abbrev pub linked : Option (List Item) → Option Plan → ℕ → ℕ → Linked
+linked journal plan faults lost = record { journal = journal; plan = plan; faults = faults; lost = lost }
+
+-- a sink and a link beside a shelf
+abbrev pub beside : Shelved → Written → Linked → Outside
+beside shelf out link = record { shelf = shelf; out = out; link = link }
+
+-- a shelf and a sink, by what they tell and their counts, beside a link
+abbrev pub outside : Option Files → ℕ → Option (List ℕ) → ℕ → Linked → Outside
+outside files shelf_faults put sink_faults link =
+    record { shelf = record { files = files; faults = shelf_faults }; out = record { put = put; faults = sink_faults }; link = link }

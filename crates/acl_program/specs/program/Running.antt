@@ -1,0 +1,62 @@
+-- What the program puts, and when it ends as it does.
+use Rattle.std.specs.Prelude.{◌≡◌, ◌⊎◌, ℕ, List, take, Option}
+use Rattle.command_files.specs.plain_values.Counts.{Rose}
+use Rattle.command_files.specs.wire_io.sink.Putting.{appended}
+use Rattle.acl_program.specs.declared.status.Status.{Status}
+use Rattle.acl_program.specs.declared.status.Status.TheVariants.{Done, Usage, BadData, ShelfFault, SinkFault, LinkFault, TurnsSpent, NoMemory, BadScript}
+use Rattle.acl_program.specs.program.Outside.{Outside}
+use Rattle.acl_program.specs.status.Outcomes.{Outcome, text_of, status_of}
+use Rattle.command_files.specs.op_write.load.DataFile.{FileCause}
+use Rattle.acl_program.specs.program.Causes.{Comes, Links, AsksServing, LacksData, LacksScript, RefusesData, RefusesScript}
+use Rattle.acl_program.specs.sample.Sampling.{RefusesSample}
+
+-- a front of the text was put
+abbrev pub PutsFront : Option (List ℕ) → List ℕ → Option (List ℕ) → Type 0
+PutsFront old text new = (count : ℕ) × (new ≡ appended old (take count text))
+
+-- the text of an outcome was put whole, with the status that it has; with a fault of the sink, or no memory, a front of it
+abbrev pub Puts : Outcome → Option (List ℕ) → Status → Option (List ℕ) → Type 0
+Puts outcome old SinkFault new = PutsFront old (text_of outcome) new
+Puts outcome old NoMemory new = PutsFront old (text_of outcome) new
+Puts outcome old status new = (status ≡ status_of outcome) × (new ≡ appended old (text_of outcome))
+
+-- the program printed the text of an outcome that comes with its words and its shelf, and did with the link what the
+-- outcome says
+unfoldable pub Prints : List (List ℕ) → Outside → Status → Outside → Type 0
+Prints words before status after =
+    (outcome : Outcome) × Comes words before.shelf.files before.shelf.faults after.shelf.faults outcome × Puts outcome before.out.put status after.out.put
+    × Links outcome before.link after.link
+
+-- it ended as the outcome does, but for want of memory
+abbrev pub EndsAs : Outcome → Status → Type 0
+EndsAs outcome status = (status ≡ NoMemory) ⊎ (status ≡ status_of outcome)
+
+-- what came where it ended with one of these statuses
+unfoldable pub IsCause : List (List ℕ) → Outside → Outside → Status → Type 0
+IsCause words before after BadData = (line : ℕ) × (cause : FileCause) × (RefusesData words before.shelf.files line cause ⊎ RefusesSample words line cause)
+IsCause words before after ShelfFault = LacksData words before.shelf.files before.shelf.faults after.shelf.faults ⊎ LacksScript words before.shelf.files before.shelf.faults after.shelf.faults
+IsCause words before after BadScript = (line : ℕ) × RefusesScript words before.shelf.files line
+IsCause words before after Done = Unit {0}
+IsCause words before after Usage = Unit {0}
+IsCause words before after SinkFault = Unit {0}
+IsCause words before after LinkFault = AsksServing words × Rose before.link.faults after.link.faults
+IsCause words before after TurnsSpent = Unit {0}
+IsCause words before after NoMemory = Unit {0}
+
+-- the shelf's count and the sink's are as they were
+abbrev pub NoFaults : Outside → Outside → Type 0
+NoFaults before after = (after.shelf.faults ≡ before.shelf.faults) × (after.out.faults ≡ before.out.faults)
+
+-- what the counts of faults say of each status: a fault ends the program, so each count is as it was but where its fault is
+-- answered; the shelf's or the link's may also have risen where the sink refused the line that says so, or wanted memory
+-- for it
+unfoldable pub EndsAtFaults : Outside → Outside → Status → Type 0
+EndsAtFaults before after SinkFault = Rose before.out.faults after.out.faults
+EndsAtFaults before after NoMemory = after.out.faults ≡ before.out.faults
+EndsAtFaults before after ShelfFault = (after.out.faults ≡ before.out.faults) × (after.link.faults ≡ before.link.faults)
+EndsAtFaults before after LinkFault = NoFaults before after × Rose before.link.faults after.link.faults
+EndsAtFaults before after Done = NoFaults before after × (after.link.faults ≡ before.link.faults)
+EndsAtFaults before after Usage = NoFaults before after × (after.link.faults ≡ before.link.faults)
+EndsAtFaults before after BadData = NoFaults before after × (after.link.faults ≡ before.link.faults)
+EndsAtFaults before after TurnsSpent = NoFaults before after × (after.link.faults ≡ before.link.faults)
+EndsAtFaults before after BadScript = NoFaults before after × (after.link.faults ≡ before.link.faults)

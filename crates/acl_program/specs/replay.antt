@@ -1,0 +1,2 @@
+-- for the inside of the crate alone
+pub mod Asked

@@ -1,0 +1,3 @@
+pub mod PrefixLemmas
+pub mod WithoutLemmas
+pub mod TakenLemmas

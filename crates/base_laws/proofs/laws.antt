@@ -1,0 +1,4 @@
+pub mod TestLemmas
+pub mod EachLemmas
+pub mod FilterLemmas
+pub mod MapLemmas

@@ -1,0 +1,4 @@
+pub mod StepLemmas
+pub mod ComponentLemmas
+pub mod EachLemmas
+pub mod FaultLemmas

@@ -1,0 +1,2 @@
+pub mod EncloseLemmas
+pub mod WritingLemmas

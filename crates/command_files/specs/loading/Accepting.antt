@@ -1,0 +1,61 @@
+-- Which data files and scripts a command accepts, of those on a shelf: a data file (RFC 2849) that loads as a tree, a script
+-- of events, and neither of more octets than a limit.
+use Rattle.std.specs.Prelude.{◌≡◌, ◌⊎◌, ◌<◌, ◌≤◌, ℕ, List, length, take, Option, Some, None, Ok, Err}
+use Rattle.wire_io.specs.plain_values.Counts.{Rose}
+use Rattle.wire_io.specs.script_text.declared.event.ScriptEvent.{ScriptEvent}
+use Rattle.wire_io.specs.script_text.script.Script.{IsScript, IsFirstBadLine}
+use Rattle.wire_io.specs.shelf.Files.{Files, file_of, Lacks}
+use Rattle.wire_io.specs.reading.ReadWhole.{line_past}
+use Rattle.dir_tree.specs.Entry.{EntryInformation}
+use Rattle.data_file.specs.op_write.declared.fault.LoadCause.TheVariants.{Limit}
+use Rattle.data_file.specs.op_write.load.DataFile.{FileCause, OfRecord, loads}
+
+-- the most octets of a data file
+abbrev pub most_data : ℕ
+most_data = 67108864
+
+-- the most octets of a script file
+abbrev pub most_script : ℕ
+most_script = 67108864
+
+-- the file wasn't read: the shelf's count of faults rose, or stayed where the shelf tells that it has no such file
+unfoldable pub IsUnread : Option Files → List ℕ → ℕ → ℕ → Type 0
+IsUnread files name before after = Rose before after ⊎ (Lacks files name × (after ≡ before))
+
+-- the content is a data file of these entries, and not too long
+pub record IsGoodData (entries : List EntryInformation) (content : List ℕ) : Type 0 where
+  pub short : length content ≤ most_data
+  pub loaded : loads content ≡ Ok entries
+
+-- the content isn't accepted, for this cause at this line; or it is too long, and this is the line of the first octet past
+-- the limit
+unfoldable pub IsBadData : ℕ → FileCause → List ℕ → Type 0
+IsBadData line cause content =
+    ((length content ≤ most_data) × (loads content ≡ Err (record { line = line; cause = cause })))
+    ⊎ ((most_data < length content) × (line ≡ line_past (take most_data content)) × (cause ≡ OfRecord Limit))
+
+-- the content is a script of these events, and not too long
+pub record IsGoodScript (events : List ScriptEvent) (content : List ℕ) : Type 0 where
+  pub short : length content ≤ most_script
+  pub script : IsScript content events
+
+-- the content isn't a script, and this is its first bad line; or it is too long, and this is the line of the first octet
+-- past the limit
+unfoldable pub IsBadScript : ℕ → List ℕ → Type 0
+IsBadScript line content =
+    ((length content ≤ most_script) × IsFirstBadLine content line) ⊎ ((most_script < length content) × (line ≡ line_past (take most_script content)))
+
+-- the file is there, and this holds of its content
+abbrev pub HoldsOf : (List ℕ → Type 0) → Option (List ℕ) → Type 0
+HoldsOf P None = ⊥
+HoldsOf P (Some content) = P content
+
+-- the same, where the shelf tells its files
+unfoldable pub HoldsIn : Option Files → List ℕ → (List ℕ → Type 0) → Type 0
+HoldsIn None name P = Unit {0}
+HoldsIn (Some files) name P = HoldsOf P (file_of name files)
+
+-- the shelf tells its files, the file is there, and this holds of its content
+unfoldable pub IsTold : Option Files → List ℕ → (List ℕ → Type 0) → Type 0
+IsTold None name P = ⊥
+IsTold (Some files) name P = HoldsOf P (file_of name files)

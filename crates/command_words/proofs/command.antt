@@ -1,0 +1,15 @@
+pub mod Rows
+pub mod Rules
+pub mod Steps
+pub mod Words
+pub mod Options
+pub mod Uses
+pub mod Lines
+pub mod Walks
+pub mod Sound
+pub mod Complete
+pub mod Sayings
+pub mod Defaults
+pub mod Said
+pub mod Strict
+pub mod Commands

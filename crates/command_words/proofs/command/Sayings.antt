@@ -1,0 +1,191 @@
+-- What a line of each command says: the function against the relation.
+use Rattle.std.proofs.Common.{◌≡◌, ℕ, ◌≤◌, Bool, eqb, List, [], ◌∷◌, length, Option, Some, option_map, is_some, sym, refl, ap, subst, ◌∙◌, arith}
+use Rattle.std.specs.Prelude.{slice_get}
+use Rattle.std.specs.List.{AllByRecursion}
+use Rattle.std.proofs.lemmas.Option.{same_Some}
+use Rattle.command_words.specs.declared.table.CommandName.{CommandName}
+use Rattle.command_words.specs.declared.table.CommandName.TheVariants as commands
+use Rattle.command_words.specs.declared.table.OptionName.TheVariants as options
+use Rattle.command_words.specs.declared.table.Sought.TheVariants.{Operands, Arguments}
+use Rattle.command_words.specs.Table.{Row, row_of}
+use Rattle.command_words.specs.command.Line.{Line, texts_of}
+use Rattle.command_words.specs.Number.{number_said, number_within}
+use Rattle.command_words.specs.Address.{address_of}
+use Rattle.command_words.specs.command.Command.{CommandView, Serve, Replay, Check, Dump, Explain, Sample, Says, default_sessions, default_turns}
+use Rattle.command_words.specs.parser.Asked.{command_said, ◌>>=◌}
+use Rattle.command_words.proofs.number.Numbers.{and_then-some, number_said-sound, number_said-complete, number_within-sound, number_within-complete}
+use Rattle.command_words.proofs.address.Addresses.{address_of-sound, address_of-complete}
+
+-- a line has as many operands as the row wants, and each of its options once at most
+pub record Taken (row : Row) (line : Line) : Type 0 where
+  pub operands : length (texts_of Operands line) ≡ row.operands
+  pub once : AllByRecursion (λ name. length (texts_of (Arguments name) line) ≤ 1) row.options
+
+-- what the texts of a line say
+abbrev pub line_said : CommandName → Line → Option CommandView
+line_said name line = command_said name (λ sought index. slice_get (texts_of sought line) index) (λ option. is_some (slice_get (texts_of (Arguments option) line) 0))
+
+-- as many texts as are counted
+alone : (operands : List (List ℕ)) → length operands ≡ 1 → (text : List ℕ) × (operands ≡ text ∷ [])
+alone [] one = absurd (omega (arith, one))
+alone (text ∷ []) one = (text, refl)
+alone (text ∷ other ∷ more) one = absurd (omega (arith, one))
+
+pair : (operands : List (List ℕ)) → length operands ≡ 2 → (first : List ℕ) × (second : List ℕ) × (operands ≡ first ∷ second ∷ [])
+pair [] two = absurd (omega (arith, two))
+pair (first ∷ []) two = absurd (omega (arith, two))
+pair (first ∷ second ∷ []) two = (first, second, refl)
+pair (first ∷ second ∷ third ∷ more) two = absurd (omega (arith, two))
+
+record Five (operands : List (List ℕ)) : Type 0 where
+  first : List ℕ
+  second : List ℕ
+  third : List ℕ
+  fourth : List ℕ
+  fifth : List ℕ
+  are : operands ≡ first ∷ second ∷ third ∷ fourth ∷ fifth ∷ []
+
+five : (operands : List (List ℕ)) → length operands ≡ 5 → Five operands
+five (first ∷ second ∷ third ∷ fourth ∷ fifth ∷ []) count =
+    record { first = first; second = second; third = third; fourth = fourth; fifth = fifth; are = refl }
+five [] count = absurd (omega (arith, count))
+five (first ∷ []) count = absurd (omega (arith, count))
+five (first ∷ second ∷ []) count = absurd (omega (arith, count))
+five (first ∷ second ∷ third ∷ []) count = absurd (omega (arith, count))
+five (first ∷ second ∷ third ∷ fourth ∷ []) count = absurd (omega (arith, count))
+five (first ∷ second ∷ third ∷ fourth ∷ fifth ∷ sixth ∷ more) count = absurd (omega (arith, count))
+
+-- an option that stands at most once is there where it gives a text
+once-is_some : (texts : List (List ℕ)) → length texts ≤ 1 → is_some (slice_get texts 0) ≡ eqb (length texts) 1
+once-is_some [] once = refl
+once-is_some (text ∷ []) once = refl
+once-is_some (text ∷ again ∷ more) once = absurd (omega (arith, once))
+
+-- what the commands with more than one step say, by their operands and arguments
+abbrev serve_said : List (List ℕ) → List (List ℕ) → List (List ℕ) → Option CommandView
+serve_said operands sessions turns = do
+  data_file ← slice_get operands 0
+  said ← slice_get operands 1
+  address ← address_of said
+  number ← number_said default_sessions (slice_get sessions 0)
+  events ← number_said default_turns (slice_get turns 0)
+  Some (Serve data_file address number events)
+
+abbrev replay_said : List (List ℕ) → List (List ℕ) → Bool → Option CommandView
+replay_said operands turns dump = do
+  data_file ← slice_get operands 0
+  script ← slice_get operands 1
+  events ← number_said default_turns (slice_get turns 0)
+  Some (Replay data_file script events dump)
+
+abbrev explain_said : List (List ℕ) → Option CommandView
+explain_said operands = do
+  data_file ← slice_get operands 0
+  who ← slice_get operands 1
+  target ← slice_get operands 2
+  item ← slice_get operands 3
+  permission ← slice_get operands 4
+  Some (Explain data_file who target item permission)
+
+abbrev sample_said : List (List ℕ) → Option CommandView
+sample_said operands = do
+  said ← slice_get operands 0
+  count ← number_within 20 1 20000 said
+  Some (Sample count)
+
+abbrev serve_heard : List ℕ → List ℕ → ℕ → List (List ℕ) → Option CommandView
+serve_heard data_file address number turns = do
+  events ← number_said default_turns (slice_get turns 0)
+  Some (Serve data_file address number events)
+
+abbrev serve_numbered : List ℕ → List ℕ → List (List ℕ) → List (List ℕ) → Option CommandView
+serve_numbered data_file address sessions turns = do
+  number ← number_said default_sessions (slice_get sessions 0)
+  serve_heard data_file address number turns
+
+serve-sound : (line : Line) (asked : CommandView) → Taken (row_of commands.Serve) line → serve_said (texts_of Operands line) (texts_of (Arguments options.Sessions) line) (texts_of (Arguments options.Turns) line) ≡ Some asked → Says commands.Serve line asked
+serve-sound line asked is given =
+    let sessions = texts_of (Arguments options.Sessions) line in
+    let turns = texts_of (Arguments options.Turns) line in
+    let own = pair (texts_of Operands line) is.operands in
+    let addressed = and_then-some (λ (address : List ℕ). serve_numbered own.0 address sessions turns) (address_of own.1) asked (sym (ap (λ (operands : List (List ℕ)). serve_said operands sessions turns) own.2) ∙ given) in
+    let numbered = and_then-some (λ (number : ℕ). serve_heard own.0 addressed.0 number turns) (number_said default_sessions (slice_get sessions 0)) asked addressed.2 in
+    let heard = and_then-some (λ (events : ℕ). Some (Serve own.0 addressed.0 numbered.0 events)) (number_said default_turns (slice_get turns 0)) asked numbered.2 in
+    let address = address_of-sound own.1 addressed.0 addressed.1 in
+    subst (Says commands.Serve line) (same_Some (Serve own.0 addressed.0 numbered.0 heard.0) asked heard.2) (
+      own.2 ∙ ap (λ (second : List ℕ). own.0 ∷ second ∷ []) address.1,
+      address.0,
+      number_said-sound default_sessions sessions numbered.0 is.once.0 numbered.1,
+      number_said-sound default_turns turns heard.0 is.once.1.0 heard.1,
+    )
+
+serve-complete : (line : Line) (data_file address : List ℕ) (number events : ℕ) → Says commands.Serve line (Serve data_file address number events) → serve_said (texts_of Operands line) (texts_of (Arguments options.Sessions) line) (texts_of (Arguments options.Turns) line) ≡ Some (Serve data_file address number events)
+serve-complete line data_file address number events says =
+    let sessions = texts_of (Arguments options.Sessions) line in
+    let turns = texts_of (Arguments options.Turns) line in
+    ap (λ (operands : List (List ℕ)). serve_said operands sessions turns) says.0
+    ∙ ap (λ (found : Option (List ℕ)). found >>= (λ (own : List ℕ). serve_numbered data_file own sessions turns)) (address_of-complete address says.1)
+    ∙ ap (λ (found : Option ℕ). found >>= (λ (own : ℕ). serve_heard data_file address own turns)) (number_said-complete default_sessions sessions number says.2)
+    ∙ ap (λ (found : Option ℕ). found >>= (λ (own : ℕ). Some (Serve data_file address number own))) (number_said-complete default_turns turns events says.3)
+
+replay-sound : (line : Line) (asked : CommandView) → Taken (row_of commands.Replay) line → replay_said (texts_of Operands line) (texts_of (Arguments options.Turns) line) (is_some (slice_get (texts_of (Arguments options.Dump) line) 0)) ≡ Some asked → Says commands.Replay line asked
+replay-sound line asked is given =
+    let turns = texts_of (Arguments options.Turns) line in
+    let dumps = texts_of (Arguments options.Dump) line in
+    let dump = is_some (slice_get dumps 0) in
+    let own = pair (texts_of Operands line) is.operands in
+    let heard = and_then-some (λ (events : ℕ). Some (Replay own.0 own.1 events dump)) (number_said default_turns (slice_get turns 0)) asked (sym (ap (λ (operands : List (List ℕ)). replay_said operands turns dump) own.2) ∙ given) in
+    subst (Says commands.Replay line) (same_Some (Replay own.0 own.1 heard.0 dump) asked heard.2) (
+      own.2,
+      number_said-sound default_turns turns heard.0 is.once.1.0 heard.1,
+      once-is_some dumps is.once.0,
+    )
+
+replay-complete : (line : Line) (data_file script : List ℕ) (events : ℕ) (dump : Bool) → Taken (row_of commands.Replay) line → Says commands.Replay line (Replay data_file script events dump) → replay_said (texts_of Operands line) (texts_of (Arguments options.Turns) line) (is_some (slice_get (texts_of (Arguments options.Dump) line) 0)) ≡ Some (Replay data_file script events dump)
+replay-complete line data_file script events dump is says =
+    let turns = texts_of (Arguments options.Turns) line in
+    let dumps = texts_of (Arguments options.Dump) line in
+    ap (λ (operands : List (List ℕ)). replay_said operands turns (is_some (slice_get dumps 0))) says.0
+    ∙ ap (λ (found : Option ℕ). found >>= (λ (own : ℕ). Some (Replay data_file script own (is_some (slice_get dumps 0))))) (number_said-complete default_turns turns events says.1)
+    ∙ ap (λ (own : Bool). Some (Replay data_file script events own)) (once-is_some dumps is.once.0 ∙ sym says.2)
+
+explain-sound : (line : Line) (asked : CommandView) → Taken (row_of commands.Explain) line → explain_said (texts_of Operands line) ≡ Some asked → Says commands.Explain line asked
+explain-sound line asked is given =
+    let own = five (texts_of Operands line) is.operands in
+    subst (Says commands.Explain line) (same_Some (Explain own.first own.second own.third own.fourth own.fifth) asked (sym (ap explain_said own.are) ∙ given)) own.are
+
+sample-sound : (line : Line) (asked : CommandView) → Taken (row_of commands.Sample) line → sample_said (texts_of Operands line) ≡ Some asked → Says commands.Sample line asked
+sample-sound line asked is given =
+    let own = alone (texts_of Operands line) is.operands in
+    let counted = and_then-some (λ (count : ℕ). Some (Sample count)) (number_within 20 1 20000 own.0) asked (sym (ap sample_said own.1) ∙ given) in
+    subst (Says commands.Sample line) (same_Some (Sample counted.0) asked counted.2) (own.0, own.1, number_within-sound 20 1 20000 own.0 counted.0 counted.1)
+
+sample-complete : (line : Line) (count : ℕ) → Says commands.Sample line (Sample count) → sample_said (texts_of Operands line) ≡ Some (Sample count)
+sample-complete line count says =
+    ap sample_said says.1 ∙ ap (λ (found : Option ℕ). found >>= (λ (own : ℕ). Some (Sample own))) (number_within-complete 20 1 20000 says.0 count says.2)
+
+-- a command of one file
+file-sound : (name : CommandName) (made : List ℕ → CommandView) (line : Line) (asked : CommandView) → length (texts_of Operands line) ≡ 1 → ((data_file : List ℕ) → texts_of Operands line ≡ data_file ∷ [] → Says name line (made data_file)) → option_map made (slice_get (texts_of Operands line) 0) ≡ Some asked → Says name line asked
+file-sound name made line asked one says given =
+    let own = alone (texts_of Operands line) one in
+    subst (Says name line) (same_Some (made own.0) asked (sym (ap (λ (texts : List (List ℕ)). option_map made (slice_get texts 0)) own.1) ∙ given)) (says own.0 own.1)
+
+-- what a line of a command says: one case a command
+pub command_said-sound : (name : CommandName) (line : Line) (asked : CommandView) → Taken (row_of name) line → line_said name line ≡ Some asked → Says name line asked
+unfolding command_said
+command_said-sound commands.Serve line asked is given = serve-sound line asked is given
+command_said-sound commands.Replay line asked is given = replay-sound line asked is given
+command_said-sound commands.Check line asked is given = file-sound commands.Check Check line asked is.operands (λ data_file are. are) given
+command_said-sound commands.Dump line asked is given = file-sound commands.Dump Dump line asked is.operands (λ data_file are. are) given
+command_said-sound commands.Explain line asked is given = explain-sound line asked is given
+command_said-sound commands.Sample line asked is given = sample-sound line asked is given
+
+pub command_said-complete : (name : CommandName) (line : Line) (asked : CommandView) → Taken (row_of name) line → Says name line asked → line_said name line ≡ Some asked
+unfolding command_said
+command_said-complete commands.Serve line (Serve data_file address number events) is says = serve-complete line data_file address number events says
+command_said-complete commands.Replay line (Replay data_file script events dump) is says = replay-complete line data_file script events dump is says
+command_said-complete commands.Check line (Check data_file) is says = ap (λ (texts : List (List ℕ)). option_map Check (slice_get texts 0)) says
+command_said-complete commands.Dump line (Dump data_file) is says = ap (λ (texts : List (List ℕ)). option_map Dump (slice_get texts 0)) says
+command_said-complete commands.Explain line (Explain data_file who target item permission) is says = ap explain_said says
+command_said-complete commands.Sample line (Sample count) is says = sample-complete line count says
+command_said-complete name line asked is says = absurd says

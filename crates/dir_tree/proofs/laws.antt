@@ -1,0 +1,5 @@
+pub mod SetLemmas
+pub mod ValuesLaws
+pub mod GoodLaws
+pub mod FreeLemmas
+pub mod BesideLemmas

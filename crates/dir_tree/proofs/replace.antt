@@ -1,0 +1,3 @@
+pub mod PlaceLemmas
+pub mod OrderedLemmas
+pub mod ReplaceLemmas

@@ -1,0 +1,13 @@
+pub mod NameLemmas
+pub mod FrontLemmas
+pub mod NamedLemmas
+pub mod EntryOfLemmas
+pub mod OrderLemmas
+pub mod NumberedLemmas
+pub mod RootLemmas
+pub mod MapLemmas
+pub mod KeptLemmas
+pub mod MappedLemmas
+pub mod TreeLemmas
+pub mod StayLaws
+pub mod TreeLaws

@@ -1,0 +1,36 @@
+-- Which entries a scope takes in (RFC 4511 4.5.1.2).
+use Rattle.std.specs.Prelude.{ℕ, ◌+◌, ◌==◌, ◌&&◌, Bool, false, List, [], ◌∷◌, length, filter, Option, Some, None}
+use Rattle.dn_names.specs.name.Names.{RdnSequence}
+use Rattle.dn_names.specs.order.NameOrder.{is_prefix_of}
+use Rattle.dir_tree.specs.Entry.{EntryInformation}
+use Rattle.dir_tree.specs.tree.Numbered.{Numbered, ids_of, entry_of, superior_of}
+use Rattle.dir_tree.specs.declared.scope.Scope.{Scope}
+use Rattle.dir_tree.specs.declared.scope.Scope.TheVariants.{Base, One, Sub}
+
+-- whether the entry is at or below the name
+abbrev pub is_within : RdnSequence → EntryInformation → Bool
+is_within base entry = is_prefix_of base entry.name
+
+-- whether the entry is immediately below the name
+abbrev pub is_child : RdnSequence → EntryInformation → Bool
+is_child base entry = is_prefix_of base entry.name && (length entry.name == length base + 1)
+
+-- the entries that the scope takes in, from the number of the base, if that is in use
+abbrev pub in_scope : Scope → ℕ → Option EntryInformation → List Numbered → List ℕ
+in_scope scope id None rows = []
+in_scope Base id (Some base) rows = id ∷ []
+in_scope One id (Some base) rows = ids_of (filter (λ row. is_child base.name row.entry) rows)
+in_scope Sub id (Some base) rows = ids_of (filter (λ row. is_within base.name row.entry) rows)
+
+-- the numbers of the entries that the scope of a number takes in
+abbrev pub scoped : Scope → ℕ → List Numbered → List ℕ
+scoped scope id rows = in_scope scope id (entry_of id rows) rows
+
+-- whether the number is this one
+abbrev pub is_number : ℕ → Option ℕ → Bool
+is_number id None = false
+is_number id (Some other) = other == id
+
+-- whether the entry of the number is the superior of the entry of the other
+abbrev pub is_superior : ℕ → ℕ → List Numbered → Bool
+is_superior id other rows = is_number id (superior_of other rows)

@@ -1,0 +1,6 @@
+pub mod ClassLemmas
+pub mod PairLemmas
+pub mod LastLemmas
+pub mod PrintedLemmas
+pub mod PrintedNameLemmas
+pub mod NameLaws

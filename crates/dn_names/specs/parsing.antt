@@ -1,0 +1,3 @@
+-- what public clauses cite: grammar, spelling, meaning, printing and order
+pub mod NameText
+pub mod NameCause

@@ -1,0 +1,2 @@
+-- what public clauses cite: grammar, spelling, meaning, printing and order
+pub mod Resolving

@@ -1,0 +1,3 @@
+-- for the inside of the crate alone
+pub mod Walks
+pub mod OnTheWay

@@ -1,0 +1,3 @@
+pub mod PutsLemmas
+pub mod PrintsLemmas
+pub mod DecimalLemmas

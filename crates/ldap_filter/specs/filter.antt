@@ -1,0 +1,6 @@
+-- what public clauses cite
+pub mod Filters
+pub mod Nodes
+-- for the inside of the crate alone
+pub mod Codes
+pub mod Sizes

@@ -1,0 +1,3 @@
+pub mod WholeLemmas
+pub mod LongestLemmas
+pub mod WrittenLemmas

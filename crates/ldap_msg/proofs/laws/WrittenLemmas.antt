@@ -1,0 +1,132 @@
+-- A written message says itself, and so does a written reply.
+use Rattle.std.proofs.Common.{◌≡◌, ℕ, ◌+◌, ◌<◌, ◌≤◌, eqb, cond, List, [], ◌∷◌, ◌++◌, length, map, Option, Some, None, refl, sym, ap, subst, ◌∙◌, arith, length-append, append-nil}
+use Rattle.std.proofs.lemmas.Bool.{ne_eqb}
+use Rattle.ber_core.specs.write.Element.{Elem, IsTag}
+use Rattle.ber_core.specs.write.Spelling.{header_octets}
+use Rattle.ber_layout.specs.components.Components.{Follows}
+use Rattle.ber_layout.specs.write.Spellings.{element_octets}
+use Rattle.ber_layout.specs.laid.Layouts.{IsShort, writes}
+use Rattle.ber_layout.specs.laid.Layouts.Layout.{AnyOctets, End}
+use Rattle.ber_layout.proofs.Theorems.{element_spells, writes_says, fits_within}
+use Rattle.ldap_msg.specs.declared.kinds.Auth.{Auth}
+use Rattle.ldap_msg.specs.declared.kinds.Auth.TheVariants.{Simple, Other}
+use Rattle.ldap_msg.specs.declared.kinds.BindRequest.{BindRequest}
+use Rattle.ldap_msg.specs.declared.kinds.Control.{Control}
+use Rattle.ldap_msg.specs.declared.kinds.KindValues.{KindValues}
+use Rattle.ldap_msg.specs.declared.kinds.Request.{Request}
+use Rattle.ldap_msg.specs.declared.kinds.Request.TheVariants as request
+use Rattle.ldap_msg.specs.declared.kinds.Message.{Message}
+use Rattle.ldap_msg.specs.declared.kinds.Reply.{Reply}
+use Rattle.ldap_msg.specs.declared.kinds.Reply.TheVariants as reply
+use Rattle.ldap_msg.specs.Binds.{bind_layout, bind_parts, bind_from, auth_parts, auth_from, HasTag}
+use Rattle.ldap_msg.specs.Kinds.{modify_layout, modify_parts, add_layout, add_parts, rename_layout, rename_parts, compare_layout, compare_parts, extended_layout, abandon_layout}
+use Rattle.ldap_msg.specs.Search.{search_layout, search_parts}
+use Rattle.ldap_filter.proofs.Theorems.{filter_spells, spelled}
+use Rattle.ldap_msg.specs.Controls.{control_parts, controls_from, controls_parts}
+use Rattle.ldap_msg.specs.reading.Contents.{SaysContent, content_octets}
+use Rattle.ldap_msg.specs.reading.Messages.{message_layout, message_parts, Says, request_octets}
+use Rattle.ldap_msg.specs.Results.{result_layout, result_parts, entry_layout, entry_parts, answered_layout, answered_parts}
+use Rattle.ldap_msg.specs.Replies.{reply_layout, reply_parts, reply_content, SaysReply, Replies, reply_octets}
+use Rattle.ldap_msg.specs.laws.Ranges.{IsWithin, IsWritable, IsReplyWithin, IsWritableReply}
+use Rattle.ldap_msg.proofs.reading.PartLemmas.{controls_back, modify_back, add_back, attributes_back}
+
+-- what is made of the parts of a bind request is the request
+auth_back : (auth : Auth) → HasTag auth → auth_from (auth_parts auth) ≡ auth
+auth_back (Simple password) has = refl
+auth_back (Other tag) has = ap (λ b. cond b (Simple []) (Other tag)) (ne_eqb tag 0x80 has.1)
+
+bind_back : (bind : BindRequest) → HasTag bind.auth → bind_from (bind_parts bind) ≡ bind
+bind_back bind has =
+    let made : Auth → BindRequest = λ (auth : Auth). record { version = bind.version; name = bind.name; auth = auth } in
+    ap made (auth_back bind.auth has)
+
+-- the written content of a request says it
+pub content_says : (asked : Request) → IsWithin asked → IsShort (content_octets asked) → SaysContent asked (content_octets asked)
+content_says (request.Bind bind) within short = record { parts = bind_parts bind; says = spelled bind_layout refl (bind_parts bind) within.0 short; is = bind_back bind within.1 }
+content_says request.Unbind within short = refl
+content_says (request.Search search) within short =
+    let fits = fits_within search_layout (search_parts search) within.0 short in
+    let filter = filter_spells search.filter within.2 fits.1.1.1.1.1.1.0.1 in
+    record {
+      parts = search_parts search;
+      says = writes_says search_layout (search_parts search) refl fits;
+      filter = (filter, within.1);
+      is = refl;
+    }
+content_says (request.Modify modify) within short =
+    record { parts = modify_parts modify; says = spelled modify_layout refl (modify_parts modify) within short; is = modify_back modify }
+content_says (request.Add add) within short = record { parts = add_parts add; says = spelled add_layout refl (add_parts add) within short; is = add_back add }
+content_says (request.Delete delete) within short = refl
+content_says (request.Rename rename) within short = spelled rename_layout refl (rename_parts rename) within short
+content_says (request.Compare compare) within short = spelled compare_layout refl (compare_parts compare) within short
+content_says (request.Abandon id) within short = spelled abandon_layout refl id within short
+content_says (request.Extended name value) within short = spelled extended_layout refl (name, (value, tt)) within short
+
+written_controls : (controls : List Control) → controls_from (controls_parts controls) ≡ controls
+written_controls [] = refl
+written_controls (control ∷ controls) = controls_back (control ∷ controls)
+
+-- a written message says itself
+pub request_says : (message : Message) → IsWritable message → Says message (request_octets message)
+unfolding request_octets
+request_says message is =
+    let content = writes message_layout (message_parts message) in
+    let fits = fits_within message_layout (message_parts message) is.parts is.short in
+    let tag : IsTag 0x30 = λ e. absurd cc in
+    record {
+      content = content;
+      front = element_octets 0x30 content;
+      rest = [];
+      element = element_spells 0x30 content tag is.short;
+      inner = record {
+        parts = message_parts message;
+        says = writes_says message_layout (message_parts message) refl fits;
+        id = refl;
+        tag = refl;
+        request = content_says message.request is.request fits.1.0.1;
+        controls = written_controls message.controls;
+      };
+      next = refl;
+      joins = sym (append-nil (element_octets 0x30 content));
+    }
+
+-- the written content of a reply says it
+pub reply_says : (answer : Reply) → IsReplyWithin answer → IsShort (reply_content answer) → SaysReply answer (reply_content answer)
+reply_says (reply.Bind result) within short = spelled result_layout refl (result_parts result) within short
+reply_says (reply.Entry name attributes) within short =
+    record { parts = entry_parts name attributes; says = spelled entry_layout refl (entry_parts name attributes) within short; is = ap (λ (l : List KindValues). reply.Entry name l) (attributes_back attributes) }
+reply_says (reply.Done result) within short = spelled result_layout refl (result_parts result) within short
+reply_says (reply.Modify result) within short = spelled result_layout refl (result_parts result) within short
+reply_says (reply.Add result) within short = spelled result_layout refl (result_parts result) within short
+reply_says (reply.Delete result) within short = spelled result_layout refl (result_parts result) within short
+reply_says (reply.Rename result) within short = spelled result_layout refl (result_parts result) within short
+reply_says (reply.Compare result) within short = spelled result_layout refl (result_parts result) within short
+reply_says (reply.Extended result name value) within short = spelled answered_layout refl (answered_parts result name value) within short
+
+-- a written reply says itself
+pub answer_says : (id : ℕ) (answer : Reply) → IsWritableReply id answer → Replies id answer (reply_octets id answer)
+unfolding reply_octets
+answer_says id answer is =
+    let content = writes reply_layout (reply_parts id answer) in
+    let fits = fits_within reply_layout (reply_parts id answer) is.parts is.short in
+    let tag : IsTag 0x30 = λ e. absurd cc in
+    record {
+      content = content;
+      front = element_octets 0x30 content;
+      rest = [];
+      element = element_spells 0x30 content tag is.short;
+      inner = record {
+        parts = reply_parts id answer;
+        says = writes_says reply_layout (reply_parts id answer) refl fits;
+        id = refl;
+        tag = refl;
+        reply = reply_says answer is.reply fits.1.0.1;
+      };
+      next = refl;
+      joins = sym (append-nil (element_octets 0x30 content));
+    }
+
+-- no reply is empty
+pub reply_some : (id : ℕ) (answer : Reply) → 0 < length (reply_octets id answer)
+unfolding reply_octets element_octets
+reply_some id answer = omega arith

@@ -1,0 +1,85 @@
+-- The octets of a messageID by their number (X.690 8.3.2), and of a reply that is a result with no matched name.
+use Rattle.std.proofs.Common.{◌≡◌, ℕ, ◌+◌, ◌*◌, ◌<◌, ◌≤◌, Bool, false, eqb, ltb, List, [], ◌∷◌, ◌++◌, refl, sym, ap, ◌∙◌, inl, inr, arith, w64}
+use Rattle.std.specs.Prelude.{ℤ, pos, ◌&&◌, Result, Ok, Err, OnOk, is_ok, if◌then◌else◌}
+use Rattle.std.specs.Int.{byte_at, to_be_bytes}
+use Rattle.std.proofs.lemmas.Bool.{cases_Bool, and_parts, eqb-true, ltb-true, eq-eqb, lt-ltb, le-ltb}
+use Rattle.ber_core.specs.Integer.{trimmed, int_octets}
+use Rattle.ber_layout.specs.laid.Layouts.{writes}
+use Rattle.ber_layout.specs.write.Spellings.{element_octets}
+use Rattle.ldap_msg.specs.declared.kinds.Reply.{Reply}
+use Rattle.ldap_msg.specs.operations.Operations.{response_tag}
+use Rattle.ldap_msg.specs.Results.{result_layout}
+use Rattle.ldap_msg.specs.Replies.{response_for, reply_content, reply_octets}
+
+-- a zero before an octet with a clear first bit is spare
+spare : (b c : ℕ) (octets : List ℕ) → b ≡ 0 → c < 128 → trimmed (b ∷ c ∷ octets) ≡ trimmed (c ∷ octets)
+spare b c octets zero low = rw (eq-eqb b 0 zero, lt-ltb c 128 low) refl
+
+-- any other first octet is needed
+needed : (b c : ℕ) (octets : List ℕ) → (b ≡ 0 → c < 128 → ⊥) → trimmed (b ∷ c ∷ octets) ≡ b ∷ c ∷ octets
+needed b c octets other =
+    elim (cases_Bool (eqb b 0 && ltb c 128)) [
+      | inl both ↦
+          let parts = and_parts (eqb b 0) (ltb c 128) both in
+          absurd (other (eqb-true b 0 parts.0) (ltb-true c 128 parts.1))
+      | inr not_both ↦ rw not_both refl
+    ]
+
+natural : (n : ℕ) → int_octets (pos n) ≡ trimmed (to_be_bytes w64 n)
+unfolding int_octets
+natural n = let is : ltb n 0 ≡ false = le-ltb n 0 (omega arith) in rw is refl
+
+-- the upper four of eight octets are spare
+low_four : (n : ℕ) → n < 2147483648 → int_octets (pos n) ≡ trimmed (byte_at 3 n ∷ byte_at 2 n ∷ byte_at 1 n ∷ byte_at 0 n ∷ [])
+low_four n below =
+    natural n
+    ∙ spare (byte_at 7 n) (byte_at 6 n) (byte_at 5 n ∷ byte_at 4 n ∷ byte_at 3 n ∷ byte_at 2 n ∷ byte_at 1 n ∷ byte_at 0 n ∷ []) (omega arith) (omega arith)
+    ∙ spare (byte_at 6 n) (byte_at 5 n) (byte_at 4 n ∷ byte_at 3 n ∷ byte_at 2 n ∷ byte_at 1 n ∷ byte_at 0 n ∷ []) (omega arith) (omega arith)
+    ∙ spare (byte_at 5 n) (byte_at 4 n) (byte_at 3 n ∷ byte_at 2 n ∷ byte_at 1 n ∷ byte_at 0 n ∷ []) (omega arith) (omega arith)
+    ∙ spare (byte_at 4 n) (byte_at 3 n) (byte_at 2 n ∷ byte_at 1 n ∷ byte_at 0 n ∷ []) (omega arith) (omega arith)
+
+pub four_octets : (n : ℕ) → 8388608 ≤ n → n < 2147483648 → int_octets (pos n) ≡ byte_at 3 n ∷ byte_at 2 n ∷ byte_at 1 n ∷ byte_at 0 n ∷ []
+four_octets n more below = low_four n below ∙ needed (byte_at 3 n) (byte_at 2 n) (byte_at 1 n ∷ byte_at 0 n ∷ []) (λ zero low. omega arith)
+
+pub three_octets : (n : ℕ) → 32768 ≤ n → n < 8388608 → int_octets (pos n) ≡ byte_at 2 n ∷ byte_at 1 n ∷ byte_at 0 n ∷ []
+three_octets n more below =
+    low_four n (omega arith)
+    ∙ spare (byte_at 3 n) (byte_at 2 n) (byte_at 1 n ∷ byte_at 0 n ∷ []) (omega arith) (omega arith)
+    ∙ needed (byte_at 2 n) (byte_at 1 n) (byte_at 0 n ∷ []) (λ zero low. omega arith)
+
+pub two_octets : (n : ℕ) → 128 ≤ n → n < 32768 → int_octets (pos n) ≡ byte_at 1 n ∷ byte_at 0 n ∷ []
+two_octets n more below =
+    low_four n (omega arith)
+    ∙ spare (byte_at 3 n) (byte_at 2 n) (byte_at 1 n ∷ byte_at 0 n ∷ []) (omega arith) (omega arith)
+    ∙ spare (byte_at 2 n) (byte_at 1 n) (byte_at 0 n ∷ []) (omega arith) (omega arith)
+    ∙ needed (byte_at 1 n) (byte_at 0 n) [] (λ zero low. omega arith)
+
+pub one_octet : (n : ℕ) → n < 128 → int_octets (pos n) ≡ byte_at 0 n ∷ []
+one_octet n below =
+    low_four n (omega arith)
+    ∙ spare (byte_at 3 n) (byte_at 2 n) (byte_at 1 n ∷ byte_at 0 n ∷ []) (omega arith) (omega arith)
+    ∙ spare (byte_at 2 n) (byte_at 1 n) (byte_at 0 n ∷ []) (omega arith) (omega arith)
+    ∙ spare (byte_at 1 n) (byte_at 0 n) [] (omega arith) (omega arith)
+
+-- the octet of a number below 128 is the number
+pub small : (n : ℕ) → n < 128 → int_octets (pos n) ≡ n ∷ []
+small n below = let same : byte_at 0 n ≡ n = omega arith in one_octet n below ∙ ap (λ (k : ℕ). k ∷ []) same
+
+-- the message of a result with no matched name
+abbrev pub plain_octets : List ℕ → ℕ → List ℕ → List ℕ
+plain_octets number tag code =
+    element_octets 48 (element_octets 2 number ++ (element_octets tag (element_octets 10 code ++ (element_octets 4 [] ++ (element_octets 4 [] ++ []))) ++ []))
+
+pub plain_is : (id code tag : ℕ) (answer : Reply) (number : List ℕ) → int_octets (pos id) ≡ number → code < 128 → tag ≡ response_tag (response_for answer)
+    → reply_content answer ≡ writes result_layout (code, ([], (tt, tt))) → reply_octets id answer ≡ plain_octets number tag (code ∷ [])
+unfolding reply_octets
+plain_is id code tag answer number is few tagged content =
+    ap (λ (s : List ℕ). element_octets 48 (element_octets 2 (int_octets (pos id)) ++ (element_octets (response_tag (response_for answer)) s ++ []))) content
+    ∙ ap (λ (s : List ℕ). plain_octets s (response_tag (response_for answer)) (int_octets (pos code))) is
+    ∙ ap (λ (s : List ℕ). plain_octets number (response_tag (response_for answer)) s) (small code few)
+    ∙ ap (λ (t : ℕ). plain_octets number t (code ∷ [])) (sym tagged)
+
+-- what was appended, where there was memory
+pub where_ok : {T E : Type 0} (r : Result T E) (new appended old : List ℕ) → new ≡ (if is_ok r then appended else old) → OnOk r (new ≡ appended)
+where_ok (Ok x) new appended old is = is
+where_ok (Err x) new appended old is = tt

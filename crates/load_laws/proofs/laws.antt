@@ -1,0 +1,17 @@
+pub mod LineLemmas
+pub mod OrderLemmas
+pub mod OwnLemmas
+pub mod PlaceLemmas
+pub mod OctetLemmas
+pub mod TextLemmas
+pub mod LoadLemmas
+pub mod PartLemmas
+pub mod DecodedLemmas
+pub mod FileLemmas
+pub mod ReadLemmas
+pub mod ValueLemmas
+pub mod LoadableLemmas
+pub mod JoinLemmas
+pub mod CountLemmas
+pub mod GoodLemmas
+pub mod TypeLemmas

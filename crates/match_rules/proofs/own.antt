@@ -1,0 +1,2 @@
+pub mod LowerLemmas
+pub mod OwnLemmas

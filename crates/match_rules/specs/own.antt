@@ -1,0 +1,2 @@
+-- what the contracts of public functions cite
+pub mod OwnKeys

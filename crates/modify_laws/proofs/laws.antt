@@ -1,0 +1,10 @@
+pub mod TableLemmas
+pub mod FoundLemmas
+pub mod NameLemmas
+pub mod ReadLemmas
+pub mod ChangeLemmas
+pub mod ModifyLemmas
+pub mod ModifiedLemmas
+pub mod RenamingLemmas
+pub mod RenameLemmas
+pub mod RenamedLemmas

@@ -1,0 +1,88 @@
+-- What a call did is what the definition says.
+use Rattle.std.proofs.Common.{◌≡◌, ◌≢◌, ℕ, Bool, false, List, [], ◌∷◌, length, Option, Some, None, Result, Ok, Err, refl, sym, ap, subst, ◌∙◌, arith}
+use Rattle.std.specs.Option.{option_map_or}
+use Rattle.std.specs.Result.{result_ok}
+use Rattle.dir_tree.specs.dn_names.name.Names.{RdnSequence}
+use Rattle.dir_tree.specs.dn_names.declared.error.BadName.{BadName}
+use Rattle.dir_tree.specs.dn_names.parsing.NameText.{read_name}
+use Rattle.dir_tree.specs.Entry.{EntryInformation}
+use Rattle.dir_tree.specs.tree.Trees.{put_in, taken_out}
+use Rattle.dir_tree.specs.tree.Numbered.{Numbered, IsNumberedTree, entries_of, entry_of, without}
+use Rattle.dir_tree.proofs.TreeTheorems.{entries_of-without}
+use Rattle.op_update.specs.schema_rules.check.Checking.{replaced, others}
+use Rattle.acdf_filters.specs.aci_item.Rules.{broken_rule}
+use Rattle.dir_tree.specs.declared.number.EntryNo.{EntryNo}
+use Rattle.acdf_filters.specs.aci_item.declared.permission.Permission.{Permission}
+use Rattle.acdf_filters.specs.declared.asking.Requester.{Requester}
+use Rattle.acdf_filters.specs.Asking.{Protected}
+use Rattle.acdf_filters.specs.laws.Granted.{granted}
+use Rattle.entry_changes.specs.Change.{Asks, Modification, changed_by}
+use Rattle.ldap_msg.specs.declared.operations.ResultCode.{ResultCode}
+use Rattle.ldap_msg.specs.declared.operations.ResultCode.TheVariants as code
+use Rattle.ldap_msg.specs.declared.kinds.Change.{Change}
+use Rattle.ldap_msg.specs.declared.kinds.LdapResult.{LdapResult}
+use Rattle.ldap_msg.specs.declared.kinds.ModifyRequest.{ModifyRequest}
+use Rattle.read_model.specs.Views.{result_of}
+use Rattle.op_update.specs.adding.Updates.{Changed, IsChanged, refused}
+use Rattle.op_update.proofs.Theorems.{changed-refused, changed-done}
+use Rattle.op_modify.specs.asker.Asked.{granted_at}
+use Rattle.op_modify.specs.reading.ReadChanges.{read_changes}
+use Rattle.op_modify.specs.Modifying.{modified_as, modified_by, modified_named, modified}
+use Rattle.op_modify.specs.declared.replacing.Checked.{Checked}
+use Rattle.op_modify.specs.declared.replacing.Checked.TheVariants.{Refused, Allowed}
+use Rattle.op_modify.specs.replacing.Steps.{IsInPlace, IsChecked}
+
+-- what was checked, as it came
+pub made-refused : (changed : Changed) (rows : List Numbered) (checked : Checked) (refusal : LdapResult) → checked ≡ Refused refusal → IsChecked changed rows checked → IsChanged changed (Some refusal) (entries_of rows)
+made-refused changed rows checked refusal e is = changed-refused changed (entries_of rows) refusal refusal (subst (IsChecked changed rows) e is) refl
+
+pub made-allowed : (changed : Changed) (old new : List Numbered) (checked : Checked) (number : EntryNo) (entry : EntryInformation) → checked ≡ Allowed number entry
+    → ((target : EntryInformation) → entry_of number.0 old ≡ Some target → entries_of new ≡ put_in entry (taken_out target.name (entries_of old)))
+    → IsChecked changed old checked → IsChanged changed None (entries_of new)
+made-allowed changed old new checked number entry e after is =
+    let placed : IsInPlace changed old number.0 entry = subst (IsChecked changed old) e is in
+    changed-done changed (entries_of old) _ (entries_of new) placed.leaves (after placed.target placed.found)
+
+-- what stands beside the target, by its number
+pub broken_rule-beside : (rows : List Numbered) (id : ℕ) (target entry : EntryInformation) → IsNumberedTree rows → entry_of id rows ≡ Some target
+    → broken_rule (replaced (Some id) rows) (others (Some id) rows) entry ≡ broken_rule (Some target) (taken_out target.name (entries_of rows)) entry
+broken_rule-beside rows id target entry tree found =
+    ap (λ (old : Option EntryInformation). broken_rule old (entries_of (without id rows)) entry) found
+    ∙ ap (λ (others : List EntryInformation). broken_rule (Some target) others entry) (entries_of-without id target rows tree found)
+
+-- what is asked of the target's number is asked of the target
+pub granted_at-found : (rows : List Numbered) (who : Requester) (id : ℕ) (target : EntryInformation) → entry_of id rows ≡ Some target → granted_at rows who id ≡ granted (entries_of rows) who target
+granted_at-found rows who id target found =
+    ap {B = Protected → Permission → Bool} (λ (found : Option EntryInformation) (item : Protected) (permission : Permission). option_map_or (λ entry. granted (entries_of rows) who entry item permission) found false) found
+
+pub modified_as-asked : (rows : List Numbered) (who : Requester) (id : ℕ) (target : EntryInformation) (changes : List Modification) (left : Result EntryInformation ResultCode) → entry_of id rows ≡ Some target
+    → changed_by (granted_at rows who id) target changes ≡ left
+    → modified_as (entries_of rows) target (changed_by (granted (entries_of rows) who target) target changes) ≡ modified_as (entries_of rows) target left
+modified_as-asked rows who id target changes left found e =
+    ap (modified_as (entries_of rows) target) (ap (λ (asks : Asks). changed_by asks target changes) (sym (granted_at-found rows who id target found)) ∙ e)
+
+-- ---- modifies, by what the name is
+
+pub modified-bad : (entries : List EntryInformation) (who : Requester) (request : ModifyRequest) → None ≡ result_ok (read_name request.name) → modified entries who request ≡ refused entries (result_of code.InvalidDnSyntax)
+unfolding modified
+modified-bad entries who request e = by (read_name request.name) e
+  where
+    by : (name : Result RdnSequence BadName) → None ≡ result_ok name → modified_named entries who request.changes name ≡ refused entries (result_of code.InvalidDnSyntax)
+    by (Ok name) e = absurd cc
+    by (Err bad) e = refl
+
+pub modified-read : (entries : List EntryInformation) (who : Requester) (request : ModifyRequest) (found : RdnSequence) → Some found ≡ result_ok (read_name request.name) → modified entries who request ≡ modified_named entries who request.changes (Ok found)
+unfolding modified
+modified-read entries who request found e = by (read_name request.name) e
+  where
+    by : (name : Result RdnSequence BadName) → Some found ≡ result_ok name → modified_named entries who request.changes name ≡ modified_named entries who request.changes (Ok found)
+    by (Ok name) e = (let same : found ≡ name = cc in ap (λ (name : RdnSequence). modified_named entries who request.changes (Ok name)) (sym same))
+    by (Err bad) e = absurd cc
+
+pub modified-root : (entries : List EntryInformation) (who : Requester) (given : List Change) (name : RdnSequence) → length name ≡ 0 → modified_named entries who given (Ok name) ≡ refused entries (result_of code.UnwillingToPerform)
+modified-root entries who given [] e = refl
+modified-root entries who given (rdn ∷ rdns) e = absurd (omega arith)
+
+pub modified-entry : (entries : List EntryInformation) (who : Requester) (given : List Change) (name : RdnSequence) → length name ≢ 0 → modified_named entries who given (Ok name) ≡ modified_by entries who name (read_changes given)
+modified-entry entries who given [] h = absurd (h refl)
+modified-entry entries who given (rdn ∷ rdns) h = refl

@@ -1,0 +1,31 @@
+-- Compares and searches, by the cases of their requests.
+use Rattle.std.proofs.Common.{◌≡◌, ◌≢◌, ℕ, Bool, List, [], ◌∷◌, ◌++◌, Option, refl, sym, ap, ◌∙◌, append_assoc}
+use Rattle.std.specs.Prelude.{if◌then◌else◌}
+use Rattle.std.proofs.lemmas.Bool.{ne_eqb, eq-eqb}
+use Rattle.std.proofs.lemmas.Grind.{flat_map-append}
+use Rattle.ldap_msg.specs.declared.operations.ResultCode.TheVariants as code
+use Rattle.ldap_msg.specs.declared.kinds.SearchRequest.{SearchRequest}
+use Rattle.ldap_msg.specs.declared.kinds.Reply.{Reply}
+use Rattle.ldap_msg.specs.declared.kinds.Reply.TheVariants as reply
+use Rattle.ldap_msg.specs.Replies.{reply_octets}
+use Rattle.read_model.specs.Views.{View, result_of}
+use Rattle.read_model.specs.SearchReplies.{replies_octets}
+use Rattle.read_model.specs.RootEntry.{root_replies, finds_root, root_entry}
+
+-- ---- searches
+
+pub root-elsewhere : (view : View) (request : SearchRequest) (subentries : Option Bool) → request.scope ≢ 0 → reply.Done (result_of code.NoSuchObject) ∷ [] ≡ root_replies view request subentries
+unfolding root_replies
+root-elsewhere view request subentries h = rw (ne_eqb request.scope 0 h) refl
+
+pub root-here : (view : View) (request : SearchRequest) (subentries : Option Bool) → request.scope ≡ 0 → (if finds_root request subentries then root_entry view request ∷ [] else []) ++ reply.Done (result_of code.Success) ∷ [] ≡ root_replies view request subentries
+unfolding root_replies
+root-here view request subentries e = rw (eq-eqb request.scope 0 e) refl
+
+-- replies behind replies
+pub replies-behind : (id : ℕ) (before middle after : List ℕ) (one other all : List Reply) → middle ≡ before ++ replies_octets id one → one ++ other ≡ all → after ≡ middle ++ replies_octets id other → after ≡ before ++ replies_octets id all
+replies-behind id before middle after one other all e f g =
+    g
+    ∙ ap (λ out. out ++ replies_octets id other) e
+    ∙ append_assoc before (replies_octets id one) (replies_octets id other)
+    ∙ ap (λ octets. before ++ octets) (sym (flat_map-append (reply_octets id) one other) ∙ ap (replies_octets id) f)

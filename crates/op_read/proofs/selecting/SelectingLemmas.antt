@@ -1,0 +1,111 @@
+-- The entries that a search selects, by their numbers.
+use Rattle.std.proofs.Common.{◌≡◌, ◌⊎◌, inl, inr, ℕ, Bool, true, false, List, [], ◌∷◌, Option, Some, None, refl, sym, ap, ◌∙◌, map, filter, find}
+use Rattle.std.specs.Prelude.{◌==◌, is_some}
+use Rattle.std.specs.List.{list_any}
+use Rattle.std.specs.Option.{option_map}
+use Rattle.std.proofs.lemmas.Bool.{cases_Bool}
+use Rattle.std.proofs.lemmas.List.Elements.{filter_agree}
+use Rattle.dir_tree.proofs.base_laws_proofs.Theorems.{find-map, list_any-map, find-passes}
+use Rattle.dir_tree.specs.dn_names.name.Names.{RdnSequence}
+use Rattle.dir_tree.specs.dn_names.order.NameOrder.{is_same}
+use Rattle.dir_tree.specs.Entry.{EntryInformation}
+use Rattle.dir_tree.specs.tree.Trees.{is_named, named_in}
+use Rattle.dir_tree.specs.tree.Numbered.{Numbered, IsNumberedTree, entries_of, entries_at, entry_of, find_name}
+use Rattle.dir_tree.specs.Scope.{scoped, in_scope, is_child, is_within}
+use Rattle.dir_tree.specs.declared.scope.Scope.{Scope}
+use Rattle.dir_tree.specs.declared.scope.Scope.TheVariants.{Base, One, Sub}
+use Rattle.dir_tree.proofs.TreeTheorems.{scoped-One-entries, scoped-Sub-entries, named-found, has_name-find, child_same}
+use Rattle.acdf_filters.specs.declared.asking.Requester.{Requester}
+use Rattle.ldap_msg.specs.declared.kinds.SearchRequest.{SearchRequest}
+use Rattle.ldap_msg.specs.declared.kinds.Reply.TheVariants as reply
+use Rattle.read_model.specs.Views as views
+use Rattle.read_model.specs.Views.{Row, View, hidden}
+use Rattle.read_model.specs.SearchReplies.{found_replies, replies_at}
+use Rattle.read_model.specs.Selecting.{takes_in, is_shown, is_selected, selected}
+use Rattle.op_asking.specs.Asking.{view_in}
+use Rattle.op_read.specs.seen.Seeing.{row_in, one_or_none, scope_of}
+use Rattle.op_read.specs.Sending.{shown_among}
+use Rattle.op_read.proofs.seen.ListLemmas.{filter-two, among}
+use Rattle.op_read.proofs.seen.NameLemmas.{named-entries, within-like}
+
+-- the entries of a scope are those that it takes in
+base-entries : (id : ℕ) (entry : EntryInformation) (name : RdnSequence) (rows : List Numbered) → IsNumberedTree rows → entry_of id rows ≡ Some entry → named_in name (entries_of rows) ≡ Some entry
+    → entries_at rows (scoped Base id rows) ≡ filter (is_named name) (entries_of rows)
+base-entries id entry name rows tree known named =
+    ap (λ (found : Option EntryInformation). entries_at rows (in_scope Base id found rows)) known
+    ∙ single
+    ∙ sym (named-entries name (entries_of rows) tree.tree.sorted ∙ ap (one_or_none (λ entry. entry)) named)
+  where
+    single : entries_at rows (id ∷ []) ≡ entry ∷ []
+    single = rw known refl
+
+-- the test of a scope is that of its number
+base-test : (scope : ℕ) (name : RdnSequence) → (scope == 0) ≡ true → (entry : EntryInformation) → takes_in scope name entry ≡ is_named name entry
+base-test scope name e entry = rw e refl
+
+one-test : (scope : ℕ) (name : RdnSequence) → (scope == 0) ≡ false → (scope == 1) ≡ true → (entry : EntryInformation) → takes_in scope name entry ≡ is_child name entry
+one-test scope name e f entry = rw (e, f) refl
+
+sub-test : (scope : ℕ) (name : RdnSequence) → (scope == 0) ≡ false → (scope == 1) ≡ false → (entry : EntryInformation) → takes_in scope name entry ≡ is_within name entry
+sub-test scope name e f entry = rw (e, f) refl
+
+scope-entries : (scope id : ℕ) (entry : EntryInformation) (name : RdnSequence) (rows : List Numbered) → IsNumberedTree rows → entry_of id rows ≡ Some entry → named_in name (entries_of rows) ≡ Some entry
+    → entries_at rows (scoped (scope_of scope) id rows) ≡ filter (takes_in scope name) (entries_of rows)
+scope-entries scope id entry name rows tree known named = by (cases_Bool (scope == 0)) (cases_Bool (scope == 1))
+  where
+    same : is_same name entry.name ≡ true
+    same = find-passes (is_named name) (entries_of rows) entry named
+
+    by : (((scope == 0) ≡ true) ⊎ ((scope == 0) ≡ false)) → (((scope == 1) ≡ true) ⊎ ((scope == 1) ≡ false)) → entries_at rows (scoped (scope_of scope) id rows) ≡ filter (takes_in scope name) (entries_of rows)
+    by (inl e) f =
+        let is : scope_of scope ≡ Base = rw e refl in
+        ap (λ (s : Scope). entries_at rows (scoped s id rows)) is
+        ∙ base-entries id entry name rows tree known named
+        ∙ sym (filter_agree (takes_in scope name) (is_named name) (base-test scope name e) (entries_of rows))
+    by (inr e) (inl f) =
+        let is : scope_of scope ≡ One = rw (e, f) refl in
+        ap (λ (s : Scope). entries_at rows (scoped s id rows)) is
+        ∙ scoped-One-entries id entry rows tree known
+        ∙ sym (filter_agree (takes_in scope name) (is_child entry.name) (λ x. one-test scope name e f x ∙ child_same name entry.name x same) (entries_of rows))
+    by (inr e) (inr f) =
+        let is : scope_of scope ≡ Sub = rw (e, f) refl in
+        ap (λ (s : Scope). entries_at rows (scoped s id rows)) is
+        ∙ scoped-Sub-entries id entry rows tree known
+        ∙ sym (filter_agree (takes_in scope name) (is_within entry.name) (λ x. sub-test scope name e f x ∙ within-like name entry.name same x) (entries_of rows))
+
+-- a number that is found is in use
+in-use : (rows : List Numbered) → IsNumberedTree rows → (name : RdnSequence) (id : ℕ) → find_name name rows ≡ Some id → (entry : EntryInformation) × (entry_of id rows ≡ Some entry)
+in-use rows tree name id e = by (find (λ row. is_named name row.entry) rows) refl
+  where
+    by : (found : Option Numbered) → find (λ row. is_named name row.entry) rows ≡ found → (entry : EntryInformation) × (entry_of id rows ≡ Some entry)
+    by None f = (let lost : None ≡ Some id = sym (ap (option_map (λ (row : Numbered). row.id)) f) ∙ e in absurd cc)
+    by (Some row) f = (
+      row.entry,
+      sym (named-found name rows tree.distinct id e) ∙ find-map (λ (row : Numbered). row.entry) (is_named name) rows ∙ ap (option_map (λ (row : Numbered). row.entry)) f,
+    )
+
+-- those that are selected
+pub selected-among : (request : SearchRequest) (subentries : Option Bool) (name : RdnSequence) (id : ℕ) (rows : List Numbered) (who : Requester) → IsNumberedTree rows → find_name name rows ≡ Some id
+    → shown_among (is_shown request subentries) rows who (scoped (scope_of request.scope) id rows) ≡ selected (view_in rows who) request subentries name
+unfolding selected is_selected
+selected-among request subentries name id rows who tree found =
+    let known = in-use rows tree name id found in
+    among (λ id. entry_of id rows) (row_in rows who) (is_shown request subentries) (scoped (scope_of request.scope) id rows)
+    ∙ ap (λ (entries : List EntryInformation). filter (is_shown request subentries) (map (row_in rows who) entries))
+    (scope-entries request.scope id known.0 name rows tree known.1 (named-found name rows tree.distinct id found ∙ known.1))
+    ∙ sym (filter-two (row_in rows who) (takes_in request.scope name) (λ row. takes_in request.scope name row.entry) (is_shown request subentries) (λ entry. refl) (entries_of rows))
+
+-- ---- a base that is a name
+
+named-rows : (rows : List Numbered) (who : Requester) (name : RdnSequence) → list_any (views.has_name name) (view_in rows who) ≡ is_some (find_name name rows)
+named-rows rows who name = list_any-map (row_in rows who) (views.has_name name) (entries_of rows) ∙ has_name-find name rows
+
+pub replies-found : (rows : List Numbered) (who : Requester) (request : SearchRequest) (subentries : Option Bool) (name : RdnSequence) (id : ℕ) → find_name name rows ≡ Some id
+    → found_replies (view_in rows who) request name (selected (view_in rows who) request subentries name) ≡ replies_at (view_in rows who) request subentries name
+unfolding replies_at
+replies-found rows who request subentries name id e = rw (named-rows rows who name ∙ ap is_some e) refl
+
+pub replies-none : (rows : List Numbered) (who : Requester) (request : SearchRequest) (subentries : Option Bool) (name : RdnSequence) → find_name name rows ≡ None
+    → reply.Done (hidden (view_in rows who) name) ∷ [] ≡ replies_at (view_in rows who) request subentries name
+unfolding replies_at
+replies-none rows who request subentries name e = rw (named-rows rows who name ∙ ap is_some e) refl

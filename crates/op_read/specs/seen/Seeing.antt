@@ -1,0 +1,27 @@
+-- What a requester sees, of the entries of a numbered tree.
+use Rattle.std.specs.Prelude.{ℕ, ◌==◌, List, [], ◌∷◌, Option, Some, None, if◌then◌else◌}
+use Rattle.std.specs.Option.{option_and_then}
+use Rattle.dir_tree.specs.Entry.{EntryInformation}
+use Rattle.dir_tree.specs.tree.Numbered.{Numbered, entries_of, entry_of}
+use Rattle.dir_tree.specs.declared.number.EntryNo.{EntryNo}
+use Rattle.dir_tree.specs.declared.scope.Scope.{Scope}
+use Rattle.dir_tree.specs.declared.scope.Scope.TheVariants.{Base, One, Sub}
+use Rattle.acdf_filters.specs.declared.asking.Requester.{Requester}
+use Rattle.read_model.specs.Views.{Row, View, row_of}
+
+-- an entry as the requester sees it, each decision taken over the rows' entries
+abbrev pub row_in : List Numbered → Requester → EntryInformation → Row
+row_in rows who entry = row_of (entries_of rows) who entry
+
+-- an entry, if there is one, as a list
+abbrev pub one_or_none : {A B : Type 0} → (A → B) → Option A → List B
+one_or_none view None = []
+one_or_none view (Some entry) = view entry ∷ []
+
+-- the entry of the number, if that is in use, as the requester sees it
+abbrev pub rows_at : List Numbered → Requester → Option EntryNo → View
+rows_at rows who number = one_or_none (row_in rows who) (option_and_then (λ no. entry_of no.0 rows) number)
+
+-- the scope of the number: baseObject 0, singleLevel 1, wholeSubtree 2
+abbrev pub scope_of : ℕ → Scope
+scope_of number = if number == 0 then Base else if number == 1 then One else Sub

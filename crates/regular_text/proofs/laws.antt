@@ -1,0 +1,4 @@
+pub mod GrammarLemmas
+pub mod WithinLemmas
+pub mod DerivativeLemmas
+pub mod MachineLemmas

@@ -1,0 +1,4 @@
+pub mod AlikeLemmas
+pub mod RunLemmas
+pub mod HeldLemmas
+pub mod PurgeLemmas

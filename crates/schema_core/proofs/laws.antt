@@ -1,0 +1,4 @@
+pub mod TableFacts
+pub mod NormalLemmas
+pub mod DottedLemmas
+pub mod FoundLemmas

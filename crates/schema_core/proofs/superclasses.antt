@@ -1,0 +1,2 @@
+pub mod HierarchyLemmas
+pub mod SuperclassLemmas

@@ -1,0 +1,4 @@
+-- What the clauses of this crate and of the crates above cite.
+pub mod Classes
+-- What only functions within this crate promise each other.
+pub mod ClassRows

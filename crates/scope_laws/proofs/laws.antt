@@ -1,0 +1,7 @@
+pub mod ListLemmas
+pub mod PlaceLemmas
+pub mod AreaLemmas
+pub mod ForceLemmas
+pub mod RowLemmas
+pub mod NumberLemmas
+pub mod AsideLemmas

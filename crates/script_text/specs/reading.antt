@@ -1,0 +1,2 @@
+-- For the inside of the crate alone.
+pub mod Connections

@@ -1,0 +1,74 @@
+-- A hub follows a run of sessions, call by call.
+use Rattle.std.proofs.Common.{◌≡◌, ◌≤◌, ◌+◌, ℕ, Bool, true, false, cond, List, [], length, drop, refl, ap, sym, ◌∙◌, subst, arith, length-drop}
+use Rattle.run_laws.specs.session_model.laws.Run.{start, Session, Sessions, State, Open, Closing, TurnedAway, Away, Unopened, Step, step, is_held, Gone, HungUp}
+use Rattle.run_laws.specs.session_model.laws.Kept.{Held, heard, queue_of, closing_of, taken_off, forgotten}
+use Rattle.run_laws.specs.session_model.laws.Keeping.{more_taken, shown}
+use Rattle.run_laws.specs.session_model.laws.Replaying.{is_closing}
+use Rattle.run_laws.proofs.session_model_proofs.Theorems.{Keeps-start, Keeps-step, Keeps-taken, length-kept, queue_in, closing_in, queue_of_is, closing_of_is}
+use Rattle.session_hub.specs.requester.Parties.{DirectoryEntries, Requester}
+use Rattle.session_hub.specs.messages.Answering.{rules}
+use Rattle.session_hub.specs.declared.event.Event.{Event}
+use Rattle.session_hub.specs.Event.{step_by}
+use Rattle.session_hub.specs.hub.Hubs.{HubState, held, no_hub, left_of, Hears}
+use Rattle.session_hub.specs.hub.Following.{IsHeldOf, FollowsStart, FollowsStep, FollowsAnywhere, FollowsTaking, QueuesReply, ClosesWith, CountsHeld}
+
+-- a hub that holds nothing is that of no steps
+pub follows_start : (hub : HubState) → hub ≡ no_hub → FollowsStart hub
+unfolding FollowsStart
+follows_start hub none = λ entries. subst (λ h. IsHeldOf (start rules entries) (λ c. 0) (held entries h)) (sym none) (Keeps-start rules entries (λ c. 0) (λ c. refl))
+
+pub follows_step : (s : Step) (old new : Held DirectoryEntries Requester) → new ≡ heard rules s old → FollowsStep s old new
+unfolding FollowsStep
+follows_step s old new is u taken fresh keeps = subst (λ h. IsHeldOf (step rules u s) taken h) (sym is) (Keeps-step rules u taken old s fresh keeps)
+
+pub follows_event : (e : Event) (old new : Held DirectoryEntries Requester) → Hears e old new → FollowsStep (step_by e old.kept new.kept) old new
+follows_event e old new hears = follows_step (step_by e old.kept new.kept) old new hears.same
+
+pub follows_gone : (c : ℕ) (old new : HubState) → new ≡ record old { kept = forgotten c old.kept } → FollowsAnywhere (Gone c) old new
+unfolding heard
+follows_gone c old new is = λ entries. follows_step (Gone c) (held entries old) (held entries new) (ap (held entries) is)
+
+pub follows_hung_up : (c : ℕ) (old new : HubState) → new ≡ record old { kept = forgotten c old.kept } → FollowsAnywhere (HungUp c) old new
+unfolding heard
+follows_hung_up c old new is = λ entries. follows_step (HungUp c) (held entries old) (held entries new) (ap (held entries) is)
+
+-- what is shown of a session, by its parts
+shown_left : {W : Type 0} (st : State) (c taken : ℕ) (s : Session W) → queue_in (shown st c taken s) ≡ cond (is_held st) (drop taken s.reply) []
+shown_left Open c taken s = refl
+shown_left Closing c taken s = refl
+shown_left Unopened c taken s = refl
+shown_left TurnedAway c taken s = refl
+shown_left Away c taken s = refl
+
+shown_closes : {W : Type 0} (st : State) (c taken : ℕ) (s : Session W) → closing_in (shown st c taken s) ≡ is_closing st
+shown_closes Open c taken s = refl
+shown_closes Closing c taken s = refl
+shown_closes Unopened c taken s = refl
+shown_closes TurnedAway c taken s = refl
+shown_closes Away c taken s = refl
+
+queue_is : (c : ℕ) (h : Held DirectoryEntries Requester) (u : Sessions DirectoryEntries Requester) (taken : ℕ → ℕ) → IsHeldOf u taken h → queue_of c h.kept ≡ left_of (u.of c) (taken c)
+queue_is c h u taken keeps = queue_of_is c h.kept ∙ ap queue_in (keeps.each c) ∙ shown_left (u.of c).state c (taken c) (u.of c)
+
+pub queues_reply : (c : ℕ) (hub : HubState) (queue : List ℕ) → queue ≡ queue_of c hub.kept → QueuesReply c hub queue
+unfolding QueuesReply
+queues_reply c hub queue is entries u taken keeps = is ∙ queue_is c (held entries hub) u taken keeps
+
+pub closes_with : (c : ℕ) (hub : HubState) (closing : Bool) → closing ≡ closing_of c hub.kept → ClosesWith c hub closing
+unfolding ClosesWith
+closes_with c hub closing is entries u taken keeps = is ∙ closing_of_is c hub.kept ∙ ap closing_in (keeps.each c) ∙ shown_closes (u.of c).state c (taken c) (u.of c)
+
+pub counts_held : (hub : HubState) (count : ℕ) → count ≡ length hub.kept → CountsHeld hub count
+unfolding CountsHeld
+counts_held hub count is entries u taken keeps = is ∙ length-kept rules u taken (held entries hub) keeps
+
+-- octets that the queue has are within the reply
+taken_within : (b : Bool) (reply q : List ℕ) (taken n : ℕ) → q ≡ cond b (drop taken reply) [] → taken ≤ length reply → n ≤ length q → taken + n ≤ length reply
+taken_within true reply q taken n is within fits = let long : length q ≡ length (drop taken reply) = ap length is in omega (arith, length-drop taken reply)
+taken_within false reply q taken n is within fits = let none : length q ≡ 0 = ap length is in omega arith
+
+pub follows_taking : (c n : ℕ) (old new : HubState) → new ≡ record old { kept = taken_off c n old.kept } → n ≤ length (queue_of c old.kept) → FollowsTaking c n old new
+unfolding FollowsTaking
+follows_taking c n old new is fits entries u taken keeps =
+    subst (λ h. IsHeldOf u (more_taken c n taken) (held entries h)) (sym is)
+    (Keeps-taken u taken (held entries old) c n keeps (taken_within (is_held (u.of c).state) (u.of c).reply (queue_of c old.kept) (taken c) n (queue_is c (held entries old) u taken keeps) (keeps.within c) fits))

@@ -1,0 +1,57 @@
+-- What answers, and so sessions, leave of a good tree.
+use Rattle.std.proofs.Common.{◌≡◌, ℕ, Bool, true, false, List, Option, Some, None, if◌then◌else◌}
+use Rattle.run_laws.specs.ldap_msg.declared.kinds.ModifyRequest.{ModifyRequest}
+use Rattle.run_laws.specs.ldap_msg.declared.kinds.RenameRequest.{RenameRequest}
+use Rattle.run_laws.specs.ldap_msg.declared.kinds.AddRequest.{AddRequest}
+use Rattle.run_laws.specs.ldap_msg.declared.kinds.DeleteRequest.{DeleteRequest}
+use Rattle.run_laws.specs.ldap_msg.declared.kinds.Request.{Request}
+use Rattle.run_laws.specs.ldap_msg.declared.kinds.Request.TheVariants as request
+use Rattle.run_laws.specs.ldap_msg.declared.kinds.Control.{Control}
+use Rattle.run_laws.specs.ldap_msg.declared.kinds.Message.{Message}
+use Rattle.run_laws.specs.ldap_msg.reading.Messages.{message_of}
+use Rattle.op_read.specs.aci_item.Rules.{IsGoodTree}
+use Rattle.modify_laws.specs.op_update.adding.Updates.{added, deleted}
+use Rattle.modify_laws.specs.op_modify.Modifying.{modified}
+use Rattle.modify_laws.specs.op_modify.Renames.{renamed}
+use Rattle.run_laws.specs.session_model.laws.Run.{Step, run}
+use Rattle.run_laws.proofs.session_model_proofs.Theorems.{AnswersKeep, run_claim}
+use Rattle.session_hub.specs.requester.Parties.{DirectoryEntries, Requester}
+use Rattle.session_hub.specs.Controls.{is_refused}
+use Rattle.session_hub.specs.messages.Answering.{rules, Operated, asking, operated, refused, answered, answer_read}
+
+-- of two operations one is done
+one_good : (first : Bool) (a b : Operated) → IsGoodTree a.entries → IsGoodTree b.entries → IsGoodTree (if first then a else b).entries
+one_good true a b good other = good
+one_good false a b good other = other
+
+module _
+    (deletes : (entries : DirectoryEntries) (who : Requester) (asked : DeleteRequest) → IsGoodTree entries → IsGoodTree (deleted entries who asked).entries)
+    (modifies : (entries : DirectoryEntries) (who : Requester) (asked : ModifyRequest) → IsGoodTree entries → IsGoodTree (modified entries who asked).entries)
+    (renames : (entries : DirectoryEntries) (who : Requester) (asked : RenameRequest) → IsGoodTree entries → IsGoodTree (renamed entries who asked).entries)
+    (adds : (entries : DirectoryEntries) (who : Requester) (asked : AddRequest) → IsGoodTree entries → IsGoodTree (added entries who asked).entries)
+  where
+    operated_good : (entries : DirectoryEntries) (who : Requester) (controls : List Control) (asked : Request) → IsGoodTree entries → IsGoodTree (operated entries who controls asked).entries
+    operated_good entries who controls (request.Bind bind) good = good
+    operated_good entries who controls request.Unbind good = good
+    operated_good entries who controls (request.Search search) good = good
+    operated_good entries who controls (request.Modify modify) good = modifies entries who modify good
+    operated_good entries who controls (request.Add add) good = adds entries who add good
+    operated_good entries who controls (request.Delete delete) good = deletes entries who delete good
+    operated_good entries who controls (request.Rename rename) good = renames entries who rename good
+    operated_good entries who controls (request.Compare compare) good = good
+    operated_good entries who controls (request.Abandon id) good = good
+    operated_good entries who controls (request.Extended name value) good = good
+
+    read_good : (entries : DirectoryEntries) (who : Requester) (message : Option Message) → IsGoodTree entries → IsGoodTree (answer_read entries who message).tree
+    read_good entries who None good = good
+    read_good entries who (Some message) good =
+        let asks = asking who message.request in
+        one_good (is_refused message.request message.controls) (refused entries asks message.request) (operated entries asks message.controls message.request)
+        good (operated_good entries asks message.controls message.request good)
+
+    answers_good : AnswersKeep rules IsGoodTree
+    unfolding rules
+    answers_good entries who bytes good = read_good entries who (message_of bytes) good
+
+    pub sessions_good : (entries : DirectoryEntries) (steps : List Step) → IsGoodTree entries → IsGoodTree (run rules entries steps).tree
+    sessions_good entries steps good = run_claim rules IsGoodTree answers_good entries steps good

@@ -1,0 +1,4 @@
+pub mod LoopLemmas
+pub mod PlayLemmas
+pub mod CauseLemmas
+pub mod TurnLemmas

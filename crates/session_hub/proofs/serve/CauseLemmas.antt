@@ -1,0 +1,58 @@
+-- Why a loop ended, by the link's count of faults.
+use Rattle.std.proofs.Common.{◌≡◌, ℕ, Bool, true, false, Option, Some, None, Err, sym, ◌∙◌, subst, arith}
+use Rattle.dir_tree.specs.plain_values.Counts.{Rose, NeverFalls}
+use Rattle.run_laws.specs.wire_io.declared.answers.Heard.{Heard as Answer}
+use Rattle.run_laws.specs.wire_io.declared.answers.NextFault.TheVariants as fault
+use Rattle.run_laws.specs.wire_io.Answers.{LinkCause, IsPlanned}
+use Rattle.run_laws.specs.wire_io.link.Plan.{Plan}
+use Rattle.session_hub.specs.declared.ended.Ended.{Ended}
+use Rattle.session_hub.specs.declared.ended.Ended.TheVariants as ended
+use Rattle.session_hub.specs.serve.Loops.{EndsFor, MayFail, ends_with}
+use Rattle.session_hub.specs.serve.Turns.{failing_of}
+
+-- what a plan with no failing calls says of a fault
+may_fail : (plan : Option Plan) → IsPlanned (λ plan. plan.failing) plan → MayFail plan
+unfolding IsPlanned
+may_fail None planned = tt
+may_fail (Some plan) planned = planned
+
+never_falls : (before after : ℕ) → after ≡ before → NeverFalls before after
+never_falls before after same = record { never_falls = omega arith }
+
+-- the cause of each end, where a connection was cut or not
+pub ends_failed : (plan : Option Plan) (before after : ℕ) (was_cut : Bool) → LinkCause {T = Answer} plan before after (Err fault.Failed) → EndsFor plan before after (ends_with was_cut ended.LinkFault)
+unfolding EndsFor LinkCause
+ends_failed plan before after true cause = record { never_falls = cause.0.never_falls }
+ends_failed plan before after false cause = (cause.0, may_fail plan cause.1)
+
+pub ends_stopped : (plan : Option Plan) (before after : ℕ) (was_cut : Bool) → after ≡ before → EndsFor plan before after (ends_with was_cut ended.Stopped)
+unfolding EndsFor
+ends_stopped plan before after true kept = never_falls before after kept
+ends_stopped plan before after false kept = kept
+
+pub ends_spent : (plan : Option Plan) (before after : ℕ) (was_cut : Bool) → after ≡ before → EndsFor plan before after (ends_with was_cut ended.TurnsSpent)
+unfolding EndsFor
+ends_spent plan before after true kept = never_falls before after kept
+ends_spent plan before after false kept = kept
+
+pub ends_starved : (plan : Option Plan) (before after : ℕ) → after ≡ before → EndsFor plan before after ended.NoMemory
+unfolding EndsFor
+ends_starved plan before after kept = never_falls before after kept
+
+-- what a plan with no failing calls says of a loop says the same of the plan that it came to
+MayFail-came : (plan now : Option Plan) → failing_of now ≡ failing_of plan → MayFail now → MayFail plan
+MayFail-came None now same fails = tt
+MayFail-came (Some plan) None same fails = cc
+MayFail-came (Some plan) (Some now) same fails = λ none. fails (let is : now.failing ≡ plan.failing = cc in is ∙ none)
+
+-- the cause of a loop's end is that of its last turn
+pub EndsFor-came : (plan now : Option Plan) (first before after : ℕ) (end : Ended) → failing_of now ≡ failing_of plan → before ≡ first → EndsFor now before after end → EndsFor plan first after end
+unfolding EndsFor
+EndsFor-came plan now first before after ended.LinkFault same kept cause = (subst (λ count. Rose count after) kept cause.0, MayFail-came plan now same cause.1)
+EndsFor-came plan now first before after ended.Stopped same kept cause = cause ∙ kept
+EndsFor-came plan now first before after ended.TurnsSpent same kept cause = cause ∙ kept
+EndsFor-came plan now first before after ended.NoMemory same kept cause = subst (λ count. NeverFalls count after) kept cause
+
+-- an end given by another name
+pub ends_as : (plan : Option Plan) (before after : ℕ) (end other : Ended) → end ≡ other → EndsFor plan before after other → EndsFor plan before after end
+ends_as plan before after end other is cause = subst (EndsFor plan before after) (sym is) cause

@@ -1,0 +1,137 @@
+-- One turn of a loop, and what a loop is after it.
+use Rattle.std.proofs.Common.{◌≡◌, ◌<◌, ℕ, Bool, true, false, List, [], length, Option, Ok, Err, refl, ap, sym, ◌∙◌, subst, arith}
+use Rattle.run_laws.specs.wire_io.declared.answers.Heard.{Heard as Answer}
+use Rattle.run_laws.specs.wire_io.declared.answers.NextFault.{NextFault}
+use Rattle.run_laws.specs.wire_io.declared.journal.Item.{Item}
+use Rattle.run_laws.specs.wire_io.link.Plan.{Plan}
+use Rattle.run_laws.specs.wire_io.script.Playing.{NextPlays}
+use Rattle.run_laws.specs.wire_io.link.Telling.{event_of, NextTells}
+use Rattle.run_laws.specs.session_model.laws.Kept.{Held}
+use Rattle.run_laws.specs.session_model.laws.Serving.{Leads}
+use Rattle.session_hub.specs.requester.Parties.{DirectoryEntries, Requester}
+use Rattle.session_hub.specs.declared.ended.Ended.{Ended}
+use Rattle.session_hub.specs.declared.ended.Ended.TheVariants as ended
+use Rattle.session_hub.specs.messages.Answering.{rules}
+use Rattle.session_hub.specs.hub.Hubs.{HubState, held, no_hub}
+use Rattle.session_hub.specs.serve.Loops.{buffer_length, Serves, PlaysOut, ends_with}
+use Rattle.session_hub.specs.serving.Adding.{Adds, IsServing, IsHeard, stops_with}
+use Rattle.session_hub.specs.serve.Turns.{IsUnderWay, GoesOn, EndsWith, failing_of}
+use Rattle.session_hub.proofs.serve.LoopLemmas.{is_stop, running_start, running_on, running_spent, running_failed, running_starved, running_cut, running_stopped, next_fails, goes_on_with, stops_is, failing_kept}
+use Rattle.session_hub.proofs.serve.PlayLemmas.{playing_start, playing_on, playing_kept, plays_ended, plays_spent, plays_stopped, plays_kept}
+
+-- an event that the link gave, with what it told and played
+pub record Gave (now : Option (List Item)) (plan_now : Option Plan) (buf : List ℕ) (given : Answer) (noted : Option (List Item)) (plan_noted : Option Plan) : Type 0 where
+  pub long : length buf ≡ buffer_length
+  pub tells : NextTells {E = NextFault} now buf (Ok given) noted
+  pub plays : NextPlays {E = NextFault} now plan_now buf (Ok given) plan_noted
+
+-- the loop goes on where the event was served
+pub turn_served : (now noted after : Option (List Item)) (plan_now plan_noted plan_after : Option Plan) (hub hub_after : Held DirectoryEntries Requester) (on_hold on_hold_after : List ℕ) (buf : List ℕ) (given : Answer) →
+    Gave now plan_now buf given noted plan_noted → stops_with given ≡ false →
+    ((entries : DirectoryEntries) → Adds plan_noted (IsHeard entries hub on_hold (event_of buf given)) (IsServing entries [] hub_after on_hold_after) noted after) → plan_after ≡ plan_noted →
+    GoesOn now plan_now hub on_hold after plan_after hub_after on_hold_after
+turn_served now noted after plan_now plan_noted plan_after hub hub_after on_hold on_hold_after buf given gave no_stop adds same entries n before plan_before under_way =
+    let goes_on = goes_on_with buf given no_stop in
+    record {
+      running = running_on entries n plan_noted before now noted after hub hub_after on_hold on_hold_after buf given under_way.running gave.tells goes_on (adds entries);
+      playing = playing_on entries n hub on_hold before now noted after plan_before plan_now plan_noted plan_after _ _ buf given under_way.running under_way.playing gave.long gave.tells gave.plays goes_on (adds entries) same;
+      failing = ap failing_of same ∙ failing_kept now plan_now plan_noted buf given gave.plays ∙ under_way.failing;
+    }
+
+no_memory_spent : ended.NoMemory ≡ ended.TurnsSpent → ⊥
+no_memory_spent h = cc
+
+-- it ends where there was no memory in the event's block
+pub turn_cut : (now noted after : Option (List Item)) (plan_now plan_noted plan_after : Option Plan) (hub : Held DirectoryEntries Requester) (on_hold : List ℕ) (left : DirectoryEntries) (buf : List ℕ) (given : Answer) →
+    Gave now plan_now buf given noted plan_noted →
+    ((entries : DirectoryEntries) → Adds plan_noted (IsHeard entries hub on_hold (event_of buf given)) (Leads rules entries left) noted after) → plan_after ≡ plan_noted →
+    EndsWith now plan_now hub on_hold ended.NoMemory left after plan_after
+turn_cut now noted after plan_now plan_noted plan_after hub on_hold left buf given gave adds same entries n turns before plan_before below under_way = (
+  running_cut entries left n turns plan_noted before now noted after hub on_hold buf given under_way.running gave.tells (adds entries) below,
+  by_stop (is_stop (event_of buf given)) refl (stops_with given) refl,
+)
+  where
+    by_stop : (b : Bool) → is_stop (event_of buf given) ≡ b → (d : Bool) → stops_with given ≡ d → PlaysOut turns before plan_before ended.NoMemory after plan_after
+    by_stop b e true stop =
+        plays_stopped turns before now noted after plan_before plan_now plan_noted plan_after _ _ buf given ended.NoMemory under_way.playing gave.long gave.tells gave.plays (stops_is buf given stop) (adds entries) same no_memory_spent
+    by_stop b e false still =
+        plays_ended turns before after plan_before plan_after ended.NoMemory
+        (playing_on entries n hub on_hold before now noted after plan_before plan_now plan_noted plan_after _ _ buf given under_way.running under_way.playing gave.long gave.tells gave.plays (goes_on_with buf given still) (adds entries) same)
+        (λ h. cc) (λ h. cc)
+
+ends_not_spent : (b : Bool) (end : Ended) → (end ≡ ended.TurnsSpent → ⊥) → ends_with b end ≡ ended.TurnsSpent → ⊥
+ends_not_spent true end other h = no_memory_spent h
+ends_not_spent false end other h = other h
+
+ends_not_stopped : (b : Bool) (end : Ended) → (end ≡ ended.Stopped → ⊥) → ends_with b end ≡ ended.Stopped → ⊥
+ends_not_stopped true end other h = no_memory_stopped h
+  where
+    no_memory_stopped : ended.NoMemory ≡ ended.Stopped → ⊥
+    no_memory_stopped h = cc
+ends_not_stopped false end other h = other h
+
+stopped_spent : ended.Stopped ≡ ended.TurnsSpent → ⊥
+stopped_spent h = cc
+
+fault_spent : ended.LinkFault ≡ ended.TurnsSpent → ⊥
+fault_spent h = cc
+
+fault_stopped : ended.LinkFault ≡ ended.Stopped → ⊥
+fault_stopped h = cc
+
+pub spent_stopped : ended.TurnsSpent ≡ ended.Stopped → ⊥
+spent_stopped h = cc
+
+-- it ends where the event is Stop
+pub turn_stopped : (now noted after : Option (List Item)) (plan_now plan_noted plan_after : Option Plan) (hub : Held DirectoryEntries Requester) (tree_after : DirectoryEntries) (hub_after : HubState) (on_hold on_hold_after : List ℕ) (buf : List ℕ) (given : Answer) (end : Ended) →
+    Gave now plan_now buf given noted plan_noted → stops_with given ≡ true →
+    ((entries : DirectoryEntries) → Adds plan_noted (IsHeard entries hub on_hold (event_of buf given)) (IsServing entries [] (held tree_after hub_after) on_hold_after) noted after) → plan_after ≡ plan_noted →
+    end ≡ ends_with hub_after.was_cut ended.Stopped → EndsWith now plan_now hub on_hold end tree_after after plan_after
+turn_stopped now noted after plan_now plan_noted plan_after hub tree_after hub_after on_hold on_hold_after buf given end gave stop adds same is entries n turns before plan_before below under_way =
+    subst (λ e. Serves entries tree_after turns before e after × PlaysOut turns before plan_before e after plan_after) (sym is)
+    (let at_stop = stops_is buf given stop in (
+      running_stopped entries n turns plan_noted before now noted after hub (held tree_after hub_after) on_hold on_hold_after buf given under_way.running gave.tells at_stop (adds entries) below,
+      plays_stopped turns before now noted after plan_before plan_now plan_noted plan_after _ _ buf given (ends_with hub_after.was_cut ended.Stopped) under_way.playing gave.long gave.tells gave.plays at_stop (adds entries) same
+          (ends_not_spent hub_after.was_cut ended.Stopped stopped_spent),
+    ))
+
+-- it ends where the link failed
+pub turn_failed : (now after : Option (List Item)) (plan_now plan_after : Option Plan) (tree : DirectoryEntries) (hub : HubState) (on_hold : List ℕ) (buf : List ℕ) (f : NextFault) (end : Ended) →
+    NextTells now buf (Err f) after → NextPlays now plan_now buf (Err f) plan_after → end ≡ ends_with hub.was_cut ended.LinkFault → EndsWith now plan_now (held tree hub) on_hold end tree after plan_after
+turn_failed now after plan_now plan_after tree hub on_hold buf f end tells plays is entries n turns before plan_before below under_way =
+    subst (λ e. Serves entries tree turns before e after × PlaysOut turns before plan_before e after plan_after) (sym is)
+    (let same = next_fails NextFault now after buf f tells in (
+      running_failed entries n turns before now after (held tree hub) on_hold under_way.running same below,
+      plays_ended turns before after plan_before plan_after (ends_with hub.was_cut ended.LinkFault)
+          (playing_kept before now after plan_before plan_now plan_after under_way.playing same (plays_kept NextFault now plan_now plan_after buf f plays))
+          (ends_not_stopped hub.was_cut ended.LinkFault fault_stopped) (ends_not_spent hub.was_cut ended.LinkFault fault_spent),
+    ))
+
+-- it ends where there was no memory for an event
+pub turn_starved : (now after : Option (List Item)) (plan_now plan_after : Option Plan) (hub : Held DirectoryEntries Requester) (on_hold : List ℕ) (buf : List ℕ) (f : NextFault) →
+    NextTells now buf (Err f) after → NextPlays now plan_now buf (Err f) plan_after → EndsWith now plan_now hub on_hold ended.NoMemory hub.tree after plan_after
+turn_starved now after plan_now plan_after hub on_hold buf f tells plays entries n turns before plan_before below under_way =
+    let same = next_fails NextFault now after buf f tells in (
+      running_starved entries n turns before now after hub on_hold under_way.running same (let under : n < turns = below in omega arith),
+      plays_ended turns before after plan_before plan_after ended.NoMemory
+          (playing_kept before now after plan_before plan_now plan_after under_way.playing same (plays_kept NextFault now plan_now plan_after buf f plays)) (λ h. cc) (λ h. cc),
+    )
+
+-- a loop that begins
+pub under_way_start : (entries : DirectoryEntries) (journal : Option (List Item)) (plan : Option Plan) (hub : HubState) (on_hold : List ℕ) → hub ≡ no_hub → on_hold ≡ [] →
+    IsUnderWay entries 0 journal journal plan plan (held entries hub) on_hold
+under_way_start entries journal plan hub on_hold none free =
+    subst (λ h. IsUnderWay entries 0 journal journal plan plan (held entries h) on_hold) (sym none)
+    (subst (λ xs. IsUnderWay entries 0 journal journal plan plan (held entries no_hub) xs) (sym free)
+    (record { running = running_start entries journal; playing = playing_start journal plan; failing = refl }))
+
+-- a loop whose turns are spent
+pub under_way_spent : (entries tree : DirectoryEntries) (n turns : ℕ) (before now : Option (List Item)) (plan_before plan_now : Option Plan) (hub : HubState) (on_hold : List ℕ) (end : Ended) → n ≡ turns →
+    IsUnderWay entries n before now plan_before plan_now (held tree hub) on_hold → end ≡ ends_with hub.was_cut ended.TurnsSpent →
+    Serves entries tree turns before end now × PlaysOut turns before plan_before end now plan_now
+under_way_spent entries tree n turns before now plan_before plan_now hub on_hold end all under_way is =
+    let spent = subst (λ k. IsUnderWay entries k before now plan_before plan_now (held tree hub) on_hold) all under_way in
+    subst (λ e. Serves entries tree turns before e now × PlaysOut turns before plan_before e now plan_now) (sym is) (
+      running_spent entries turns before now (held tree hub) on_hold spent.running,
+      plays_spent entries turns before now plan_before plan_now (held tree hub) on_hold (ends_with hub.was_cut ended.TurnsSpent) (ends_not_stopped hub.was_cut ended.TurnsSpent spent_stopped) spent.playing spent.running,
+    )

@@ -1,0 +1,144 @@
+-- A stream answered message by message from its front.
+use Rattle.std.proofs.Common.{◌≡◌, ◌≤◌, ◌+◌, ◌<◌, ℕ, Bool, true, false, cond, List, [], ◌++◌, length, take, drop, Option, Some, None, refl, ap, sym, ◌∙◌, subst, append_assoc, append-nil, drop-drop, length-drop, arith}
+use Rattle.run_laws.specs.ldap_msg.declared.kinds.Frame.TheVariants.{Whole, More, Bad}
+use Rattle.run_laws.specs.ldap_msg.framing.Streams.{frame_at, rest_of}
+use Rattle.run_laws.specs.ldap_msg.Replies.{notice_octets}
+use Rattle.run_laws.proofs.ldap_msg_proofs.Theorems.{frame_bound, rest_step, rest_more}
+use Rattle.run_laws.specs.session_model.laws.Rules.{Answered, after_octets}
+use Rattle.run_laws.proofs.session_model_proofs.Theorems.{one_later, speech-whole, speech-more, speech-bad, speech-cut}
+use Rattle.session_hub.specs.requester.Parties.{DirectoryEntries, Requester}
+use Rattle.session_hub.specs.declared.spoken.SpeechEnd.TheVariants.{StaysOpen, Closes, IsCut}
+use Rattle.session_hub.specs.messages.Answering.{rules}
+use Rattle.session_hub.specs.stream.Answers.{Gives, Speaks, SaysSoFar, said_to, behind}
+
+-- a message at the front of the rest is one there of the stream
+message_fits : (stream : List ℕ) (read n : ℕ) → read ≤ length stream → frame_at (drop read stream) ≡ Whole n → read + n ≤ length stream
+message_fits stream read n within is = omega (arith, (frame_bound (drop read stream) n is).1, length-drop read stream)
+
+-- it has an octet and more
+message_some : (s : List ℕ) (n : ℕ) → frame_at s ≡ Whole n → 0 < n
+message_some s n is = omega (arith, (frame_bound s n is).0)
+
+rest_fits : (stream : List ℕ) (read n : ℕ) → rest_of (drop read stream) ≡ rest_of stream → frame_at (drop read stream) ≡ Whole n →
+    rest_of (drop (read + n) stream) ≡ rest_of stream
+rest_fits stream read n rest is = ap rest_of (sym (drop-drop n read stream)) ∙ sym (rest_step (drop read stream) n is) ∙ rest
+
+-- a cut one message later
+behind_one : (answered : ℕ) (cut : Option ℕ) → behind (answered + 1) cut ≡ behind answered (one_later cut)
+behind_one answered None = refl
+behind_one answered (Some count) = ap (λ n. Some n) (omega arith)
+
+behind_none : (answered : ℕ) → behind answered (Some 0) ≡ Some answered
+behind_none answered = ap (λ n. Some n) (omega arith)
+
+said_open : (a b : Answered DirectoryEntries Requester) → a.closes ≡ false → cond a.closes a (after_octets a.replies b) ≡ after_octets a.replies b
+said_open a b h = rw h refl
+
+said_closed : (a b : Answered DirectoryEntries Requester) → a.closes ≡ true → cond a.closes a (after_octets a.replies b) ≡ a
+said_closed a b h = rw h refl
+
+-- nothing was answered yet
+pub so_far_start : (t : DirectoryEntries) (w : Requester) (stream old : List ℕ) → SaysSoFar t w stream old old t w 0 0
+so_far_start t w stream old =
+    record {
+      more = [];
+      grows = sym (append-nil old);
+      within = omega arith;
+      counts = omega arith;
+      rest = refl;
+      said = λ cut. ap (λ x. said_to x t w stream) (same cut);
+    }
+  where
+    same : (cut : Option ℕ) → behind 0 cut ≡ cut
+    same None = refl
+    same (Some count) = ap (λ n. Some n) (omega arith)
+
+-- a message is answered, and the connection stays open
+pub so_far_whole : (t : DirectoryEntries) (w : Requester) (stream old now new : List ℕ) (u v : DirectoryEntries) (x y : Requester) (read answered n : ℕ) →
+    SaysSoFar t w stream old now u x read answered → frame_at (drop read stream) ≡ Whole n → Gives (rules.answer u x (take n (drop read stream))) now new v y false →
+    SaysSoFar t w stream old new v y (read + n) (answered + 1)
+so_far_whole t w stream old now new u v x y read answered n so is gives =
+    let rest = drop read stream in
+    let a = rules.answer u x (take n rest) in
+    let some : 0 < n = message_some rest n is in
+    record {
+      more = so.more ++ a.replies;
+      grows = gives.said ∙ ap (λ octets. octets ++ a.replies) so.grows ∙ append_assoc old so.more a.replies;
+      within = message_fits stream read n so.within is;
+      counts = (let counts : answered ≤ read = so.counts in omega arith);
+      rest = rest_fits stream read n so.rest is;
+      said = λ cut. (
+          let b = said_to cut a.tree a.who (drop n rest) in
+          let c = said_to cut v y (drop (read + n) stream) in
+          let same : b ≡ c = ap (λ z. said_to cut z a.who (drop n rest)) (sym gives.left) ∙ ap (λ z. said_to cut v z (drop n rest)) (sym gives.asker) ∙ ap (said_to cut v y) (drop-drop n read stream) in
+          ap (λ z. said_to z t w stream) (behind_one answered cut) ∙ so.said (one_later cut)
+          ∙ ap (after_octets so.more) (speech-whole rules cut u x rest n is ∙ said_open a b (sym gives.closed))
+          ∙ ap (λ z. record { replies = z; tree = b.tree; who = b.who; closes = b.closes }) (sym (append_assoc so.more a.replies b.replies))
+          ∙ ap (after_octets (so.more ++ a.replies)) same);
+    }
+
+-- what is said is given, where so much was said so far
+given : (b all : Answered DirectoryEntries Requester) (old now new more : List ℕ) (v : DirectoryEntries) (y : Requester) (closes : Bool) → now ≡ old ++ more → all ≡ after_octets more b → Gives b now new v y closes →
+    Gives all old new v y closes
+given b all old now new more v y closes grows is gives =
+    subst (λ z. Gives z old new v y closes) (sym is)
+    (record { said = gives.said ∙ ap (λ octets. octets ++ b.replies) grows ∙ append_assoc old more b.replies; left = gives.left; asker = gives.asker; closed = gives.closed })
+
+-- a message is answered, and the connection closes
+pub so_far_closed : (t : DirectoryEntries) (w : Requester) (stream old now new : List ℕ) (u v : DirectoryEntries) (x y : Requester) (read answered n : ℕ) →
+    SaysSoFar t w stream old now u x read answered → frame_at (drop read stream) ≡ Whole n → Gives (rules.answer u x (take n (drop read stream))) now new v y true →
+    Speaks t w stream old new v y (record { read = read; answered = answered; end = Closes })
+so_far_closed t w stream old now new u v x y read answered n so is gives =
+    let rest = drop read stream in
+    let a = rules.answer u x (take n rest) in
+    record {
+      gives = given a _ old now new so.more v y true so.grows
+          (so.said None ∙ ap (after_octets so.more) (speech-whole rules None u x rest n is ∙ said_closed a (said_to None a.tree a.who (drop n rest)) (sym gives.closed))) gives;
+      within = so.within;
+      unread = λ h. absurd (cc);
+      cuts = λ h. absurd (cc);
+    }
+
+-- nothing more is said
+gives_none : (u : DirectoryEntries) (x : Requester) (closes : Bool) (now : List ℕ) → Gives (record { replies = []; tree = u; who = x; closes = closes }) now now u x closes
+gives_none u x closes now = record { said = sym (append-nil now); left = refl; asker = refl; closed = refl }
+
+cut_here : (t : DirectoryEntries) (w : Requester) (stream old now : List ℕ) (u : DirectoryEntries) (x : Requester) (read answered : ℕ) →
+    SaysSoFar t w stream old now u x read answered → Gives (said_to (Some answered) t w stream) old now u x true
+cut_here t w stream old now u x read answered so =
+    given _ _ old now now so.more u x true so.grows
+    (ap (λ z. said_to z t w stream) (sym (behind_none answered)) ∙ so.said (Some 0) ∙ ap (after_octets so.more) (speech-cut rules u x (drop read stream)))
+    (gives_none u x true now)
+
+-- less than a message is left
+pub so_far_more : (t : DirectoryEntries) (w : Requester) (stream old now : List ℕ) (u : DirectoryEntries) (x : Requester) (read answered : ℕ) →
+    SaysSoFar t w stream old now u x read answered → frame_at (drop read stream) ≡ More → Speaks t w stream old now u x (record { read = read; answered = answered; end = StaysOpen })
+so_far_more t w stream old now u x read answered so is =
+    record {
+      gives = given _ _ old now now so.more u x false so.grows (so.said None ∙ ap (after_octets so.more) (speech-more rules u x (drop read stream) is)) (gives_none u x false now);
+      within = so.within;
+      unread = λ _. sym (rest_more (drop read stream) is) ∙ so.rest;
+      cuts = λ _. cut_here t w stream old now u x read answered so;
+    }
+
+-- what is left is no message, and gets the notice
+pub so_far_bad : (t : DirectoryEntries) (w : Requester) (stream old now new : List ℕ) (u : DirectoryEntries) (x : Requester) (read answered : ℕ) →
+    SaysSoFar t w stream old now u x read answered → frame_at (drop read stream) ≡ Bad → new ≡ now ++ notice_octets →
+    Speaks t w stream old new u x (record { read = read; answered = answered; end = Closes })
+so_far_bad t w stream old now new u x read answered so is notice =
+    record {
+      gives = given _ _ old now new so.more u x true so.grows (so.said None ∙ ap (after_octets so.more) (speech-bad rules u x (drop read stream) is))
+          (record { said = notice; left = refl; asker = refl; closed = refl });
+      within = so.within;
+      unread = λ h. absurd (cc);
+      cuts = λ h. absurd (cc);
+    }
+
+-- there was no memory for what is to be said next
+pub so_far_cut : (t : DirectoryEntries) (w : Requester) (stream old now new : List ℕ) (u v : DirectoryEntries) (x y : Requester) (read answered : ℕ) →
+    SaysSoFar t w stream old now u x read answered → new ≡ now → v ≡ u → y ≡ x → Speaks t w stream old new v y (record { read = read; answered = answered; end = IsCut })
+so_far_cut t w stream old now new u v x y read answered so same left asker =
+    subst (λ z. Speaks t w stream old z v y (record { read = read; answered = answered; end = IsCut })) (sym same)
+    (subst (λ z. Speaks t w stream old now z y (record { read = read; answered = answered; end = IsCut })) (sym left)
+    (subst (λ z. Speaks t w stream old now u z (record { read = read; answered = answered; end = IsCut })) (sym asker)
+    (record { gives = cut_here t w stream old now u x read answered so; within = so.within; unread = λ h. absurd (cc); cuts = λ h. absurd (cc) })))

@@ -1,0 +1,48 @@
+-- A hub follows a run of sessions: it begins with those before any step and, whatever sessions it holds, each call leaves it
+-- those of the next step.
+use Rattle.std.specs.Prelude.{◌≡◌, ℕ, Bool, List, length}
+use Rattle.run_laws.specs.session_model.laws.Run.{Sessions, Step, start, step, held_numbers}
+use Rattle.run_laws.specs.session_model.laws.Kept.{Held}
+use Rattle.run_laws.specs.session_model.laws.Keeping.{Keeps, IsNew, more_taken}
+use Rattle.run_laws.specs.session_model.laws.Replaying.{is_closing}
+use Rattle.session_hub.specs.requester.Parties.{DirectoryEntries, Requester}
+use Rattle.session_hub.specs.messages.Answering.{rules}
+use Rattle.session_hub.specs.hub.Hubs.{HubState, held, left_of}
+
+-- what is held is that of these sessions, of which so much of each reply was taken
+abbrev pub IsHeldOf : Sessions DirectoryEntries Requester → (ℕ → ℕ) → Held DirectoryEntries Requester → Type 0
+IsHeldOf sessions taken kept = Keeps sessions taken kept
+
+-- the sessions before any step, of whose replies nothing was taken
+unfoldable pub FollowsStart : HubState → Type 0
+FollowsStart hub = (entries : DirectoryEntries) → IsHeldOf (start rules entries) (λ number. 0) (held entries hub)
+
+-- a step that opens no number twice leaves the sessions of a run after it, with as much taken as before
+unfoldable pub FollowsStep : Step → Held DirectoryEntries Requester → Held DirectoryEntries Requester → Type 0
+FollowsStep next old new =
+    (sessions : Sessions DirectoryEntries Requester) (taken : ℕ → ℕ) → IsNew sessions next → IsHeldOf sessions taken old → IsHeldOf (step rules sessions next) taken new
+
+-- the same, whatever the entries are
+abbrev pub FollowsAnywhere : Step → HubState → HubState → Type 0
+FollowsAnywhere next old new = (entries : DirectoryEntries) → FollowsStep next (held entries old) (held entries new)
+
+-- so many more octets of one connection's reply were taken, of the same sessions
+unfoldable pub FollowsTaking : ℕ → ℕ → HubState → HubState → Type 0
+FollowsTaking number count old new =
+    (entries : DirectoryEntries) (sessions : Sessions DirectoryEntries Requester) (taken : ℕ → ℕ) →
+    IsHeldOf sessions taken (held entries old) → IsHeldOf sessions (more_taken number count taken) (held entries new)
+
+-- the queue is what of the reply wasn't taken yet, for a connection that is held, and else empty
+unfoldable pub QueuesReply : ℕ → HubState → List ℕ → Type 0
+QueuesReply number hub queue =
+    (entries : DirectoryEntries) (sessions : Sessions DirectoryEntries Requester) (taken : ℕ → ℕ) → IsHeldOf sessions taken (held entries hub) → queue ≡ left_of (sessions.of number) (taken number)
+
+-- a connection is closing where its session is
+unfoldable pub ClosesWith : ℕ → HubState → Bool → Type 0
+ClosesWith number hub closing =
+    (entries : DirectoryEntries) (sessions : Sessions DirectoryEntries Requester) (taken : ℕ → ℕ) → IsHeldOf sessions taken (held entries hub) → closing ≡ is_closing (sessions.of number).state
+
+-- as many connections are held as sessions
+unfoldable pub CountsHeld : HubState → ℕ → Type 0
+CountsHeld hub count =
+    (entries : DirectoryEntries) (sessions : Sessions DirectoryEntries Requester) (taken : ℕ → ℕ) → IsHeldOf sessions taken (held entries hub) → count ≡ length (held_numbers sessions)

@@ -1,0 +1,4 @@
+-- what public clauses cite
+pub mod Loops
+-- for the inside of the crate alone
+pub mod Turns

@@ -1,0 +1,91 @@
+-- What a loop over a link adds to the link's journal, and what it answers when it ends.
+use Rattle.std.specs.Prelude.{◌≡◌, ◌<◌, ◌≤◌, ℕ, Bool, true, false, cond, List, [], ◌++◌, length, Option, Some, None}
+use Rattle.dir_tree.specs.plain_values.Counts.{Rose, NeverFalls}
+use Rattle.run_laws.specs.wire_io.declared.journal.Item.{Item}
+use Rattle.run_laws.specs.wire_io.Journal.{heard, was_stopped, is_held}
+use Rattle.run_laws.specs.wire_io.link.Plan.{Plan}
+use Rattle.run_laws.specs.wire_io.laws.Pieces as pieces
+use Rattle.run_laws.specs.wire_io.laws.Pieces.{Plays}
+use Rattle.run_laws.specs.session_model.laws.Run.{run}
+use Rattle.run_laws.specs.session_model.laws.Journaled.{steps_of, all_taken}
+use Rattle.run_laws.specs.session_model.laws.Serving.{Served, Leads}
+use Rattle.run_laws.specs.session_model.laws.Replaying.{IsReplay}
+use Rattle.session_hub.specs.requester.Parties.{DirectoryEntries}
+use Rattle.session_hub.specs.declared.ended.Ended.{Ended}
+use Rattle.session_hub.specs.declared.ended.Ended.TheVariants.{Stopped, TurnsSpent, LinkFault, NoMemory}
+use Rattle.session_hub.specs.messages.Answering.{rules}
+
+-- the length of the loop's buffer
+abbrev pub buffer_length : ℕ
+buffer_length = 65536
+
+-- each answer and the events heard: Stop was heard with Stopped, and as many events as there are turns, none of them Stop,
+-- with TurnsSpent
+abbrev pub EndsAt : ℕ → List Item → Ended → Type 0
+EndsAt turns added Stopped = (was_stopped added ≡ true) × (length (heard added) ≤ turns)
+EndsAt turns added TurnsSpent = (was_stopped added ≡ false) × (length (heard added) ≡ turns)
+EndsAt turns added LinkFault = (was_stopped added ≡ false) × (length (heard added) < turns)
+EndsAt turns added NoMemory = length (heard added) ≤ turns
+
+-- the journal serves its connections by its own steps from nothing and from these entries, and those left are what the
+-- steps leave
+pub record IsServed (entries left : DirectoryEntries) (added : List Item) : Type 0 where
+  pub served : Served rules entries (steps_of added) added
+  pub entries_left : left ≡ (run rules entries (steps_of added)).tree
+
+-- nothing was cut; with want of memory connections may have been, each once, and the last block may be unfinished
+abbrev pub ServedAs : DirectoryEntries → DirectoryEntries → List Item → Ended → Type 0
+ServedAs entries left added Stopped = IsServed entries left added
+ServedAs entries left added TurnsSpent = IsServed entries left added
+ServedAs entries left added LinkFault = IsServed entries left added
+ServedAs entries left added NoMemory = Leads rules entries left added
+
+-- the journal is that of its events replayed
+abbrev pub ReplayedAs : DirectoryEntries → List Item → Ended → Type 0
+ReplayedAs entries added Stopped = IsReplay rules entries (steps_of added) added
+ReplayedAs entries added TurnsSpent = IsReplay rules entries (steps_of added) added
+ReplayedAs entries added LinkFault = IsReplay rules entries (steps_of added) added
+ReplayedAs entries added NoMemory = Unit {0}
+
+-- what a link added in a loop of so many turns: the answer is one that its events have, and its connections were served;
+-- where each write took octets, that is its events replayed
+pub record ServesAll (entries left : DirectoryEntries) (turns : ℕ) (added : List Item) (ended : Ended) : Type 0 where
+  pub ends : EndsAt turns added ended
+  pub served : ServedAs entries left added ended
+  pub replayed : all_taken added ≡ true → ReplayedAs entries added ended
+
+-- the same of any journal that the link tells
+unfoldable pub Serves : DirectoryEntries → DirectoryEntries → ℕ → Option (List Item) → Ended → Option (List Item) → Type 0
+Serves entries left turns before ended after =
+    (begun : List Item) → before ≡ Some begun → (added : List Item) × (after ≡ Some (begun ++ added)) × ServesAll entries left turns added ended
+
+-- a link that plays a plan: the events heard brought the plan on, to its end with Stopped; where no calls are planned
+-- that take nothing, each write took octets and, where no connection was on hold, each event but Stop brought the plan on
+pub record PlayedOut (turns : ℕ) (begun added : List Item) (plan left : Plan) (ended : Ended) : Type 0 where
+  pub plays : Plays buffer_length plan.to_come (heard added) left.to_come
+  pub over : ended ≡ Stopped → left.to_come ≡ []
+  pub taken : plan.later ≡ [] → plan.gone ≡ [] → all_taken added ≡ true
+  pub steps : plan.later ≡ [] → plan.gone ≡ [] → ((number : ℕ) → is_held number begun ≡ false) → ended ≡ TurnsSpent → length (pieces.steps_of (heard added)) ≡ turns
+
+-- the same of any plan and journal that the link tells
+unfoldable pub PlaysOut : ℕ → Option (List Item) → Option Plan → Ended → Option (List Item) → Option Plan → Type 0
+PlaysOut turns before plan_before ended after plan_after =
+    (begun added : List Item) (plan : Plan) → before ≡ Some begun → after ≡ Some (begun ++ added) → plan_before ≡ Some plan →
+    (left : Plan) × (plan_after ≡ Some left) × PlayedOut turns begun added plan left ended
+
+-- a link that plays a plan fails only where a failing call is planned
+abbrev pub MayFail : Option Plan → Type 0
+MayFail None = Unit {0}
+MayFail (Some plan) = plan.failing ≡ [] → ⊥
+
+-- a fault of the link comes exactly where its count of faults rose, and never where a plan has no failing calls; with want
+-- of memory it may have come as well
+unfoldable pub EndsFor : Option Plan → ℕ → ℕ → Ended → Type 0
+EndsFor plan before after LinkFault = Rose before after × MayFail plan
+EndsFor plan before after Stopped = after ≡ before
+EndsFor plan before after TurnsSpent = after ≡ before
+EndsFor plan before after NoMemory = NeverFalls before after
+
+-- the answer of a loop in which a connection was cut
+abbrev pub ends_with : Bool → Ended → Ended
+ends_with was_cut ended = cond was_cut NoMemory ended

@@ -1,0 +1,4 @@
+pub mod PartPrints
+pub mod SubtreePrints
+pub mod SubtreeOnly
+pub mod RoundTrip

@@ -1,0 +1,5 @@
+pub mod DeleteLemmas
+pub mod ReadingLemmas
+pub mod AddLemmas
+pub mod AllowedLemmas
+pub mod DoneLemmas

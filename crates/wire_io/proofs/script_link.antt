@@ -1,0 +1,3 @@
+pub mod NotingLemmas
+pub mod PlayableLemmas
+pub mod TurnLemmas
