@@ -172,7 +172,8 @@ def named_below():
 
 def handed_on(crate):
     """The crates below that a crate hands on to those above it, as code, words or theorems."""
-    lines = [path.read_text() for path in sorted((CRATES / crate).glob("*/[Ll]ib.*"))]
+    files = ("src/lib.rt", "specs/Lib.antt", "proofs/Lib.antt")
+    lines = [(CRATES / crate / name).read_text() for name in files if (CRATES / crate / name).exists()]
     return {name for text in lines for name in re.findall(r"^pub use (?:\w+::)*([a-z]\w*);", text, re.M)
             + re.findall(r"^pub use Rattle\..* as (\w+?)(?:_proofs)?$", text, re.M)}
 
@@ -216,7 +217,8 @@ def faults_of_laws(crate):
 
 def faults_of_citations(crate, crates):
     """Lemmas of other crates that are cited past their theorems."""
-    for path in sorted(path for path in (CRATES / crate).rglob("*.antt") if path.stem != "Lib"):
+    folders = [CRATES / crate / name for name in ("specs", "proofs")]
+    for path in sorted(path for folder in folders for path in folder.rglob("*.antt") if path.stem != "Lib"):
         cited = re.findall(r"\bRattle\.(?:\w+\.proofs\.)?(\w+?)(?:\.proofs|_proofs)\.(\w+)", path.read_text())
         for other, module in cited:
             if other in crates and other != crate and not module.endswith("Theorems"):
