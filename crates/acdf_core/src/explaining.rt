@@ -1,13 +1,13 @@
 //! Decisions, explained.
 
-ghost use Rattle.std.specs.Prelude.{◌≡◌, ◌++◌, ◌∷◌, [], Some, IfOk, OnOk, map};
+ghost use Rattle.std.specs.Prelude.{◌≡◌, ◌++◌, ◌∷◌, [], Some, None, IfOk, OnOk, map};
 ghost use Rattle.std.specs.List.{list_all};
 ghost use Rattle.dir_tree.specs.Entry.{EntryInformation};
 ghost use Rattle.dir_tree.specs.tree.Numbered.{Numbered, entry_of, entries_of, entries_at};
 ghost use Rattle.acdf_filters.specs.admin_scope.subentries.InForce.{in_force};
 ghost use Rattle.acdf_filters.specs.Asking.{protected_of};
 ghost use Rattle.acdf_filters.specs.weighing.Weighing.{KnowsGroups, asked_of};
-ghost use Rattle.acdf_core.specs.explaining.Explained.{IsExplained, kept_at};
+ghost use Rattle.acdf_core.specs.explaining.Explained.{IsExplained, IsNothing, kept_at};
 ghost use Rattle.acdf_core.specs.Candidates.{kept_from, all_grant};
 
 use crate::candidates::{Candidate, list_candidates};
@@ -102,7 +102,9 @@ fn explain_entry<D: Dir>(
 }
 
 // Where there is no entry, nothing counts.
-fn no_steps(alloc: Global) -> Steps {
+fn no_steps(alloc: Global) -> Steps
+    ensures { IsNothing result }
+{
     Steps {
         counts: Counts {
             listed: 0,
@@ -120,7 +122,7 @@ fn no_steps(alloc: Global) -> Steps {
 
 /// The access control decision on the item of the entry of the number (X.501 18.8), filter by filter: how many tuples
 /// count for the entry, how many each filter leaves, which those of the last one are, and whether access is granted. The
-/// items are read again from the values. Nothing counts where the number is not in use. The error comes where memory is
+/// items are read again from the values. Nothing counts, and access is refused, where the number is not in use. The error comes where memory is
 /// wanted.
 pub fn explain<D: Dir>(
     alloc: Global,
@@ -133,6 +135,7 @@ pub fn explain<D: Dir>(
     ensures ok { (entry : EntryInformation) → entry_of number.0 (D.rows dir.now) ≡ Some entry
         → IfOk result (IsExplained (D.rows dir.now) entry
         (record { who = who.now; item = protected_of item.entry; permission = permission })) }
+    ensures absent { entry_of number.0 (D.rows dir.now) ≡ None → IfOk result (λ steps. IsNothing steps) }
 {
     match dir.tree().at(number) {
         Some(entry) => explain_entry(alloc, dir, who, number, entry, item, permission),

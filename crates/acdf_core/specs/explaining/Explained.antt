@@ -1,6 +1,6 @@
 -- How a decision came about (X.501 18.8): how many tuples count for the entry, how many are left by each of the six
 -- filters, which those of the last one are, and what is decided.
-use Rattle.std.specs.Prelude.{◌≡◌, ℕ, Bool, List, [], length, map, string_bytes}
+use Rattle.std.specs.Prelude.{◌≡◌, ℕ, Bool, false, List, [], length, map, string_bytes}
 use Rattle.std.specs.Option.{option_map_or}
 use Rattle.dir_tree.specs.dn_names.name.Names.{RdnSequence}
 use Rattle.dir_tree.specs.Entry.{EntryInformation}
@@ -47,3 +47,9 @@ pub record IsExplained (rows : List Numbered) (entry : EntryInformation) (asked 
   pub counts : AreCounts asked (placed_of (entries_of rows) asked.who entry) steps.counts
   pub kept : map (kept_at rows) steps.kept.items ≡ map kept_of (level_6 asked (placed_of (entries_of rows) asked.who entry))
   pub granted : steps.granted ≡ granted (entries_of rows) asked.who entry asked.item asked.permission
+
+-- nothing counts, nothing is left, and access is refused
+pub record IsNothing (steps : Steps) : Type 0 where
+  pub counts : steps.counts ≡ record { listed = 0; users = 0; item = 0; permission = 0; precedence = 0; class = 0; explicit = 0 }
+  pub kept : steps.kept.items ≡ []
+  pub refused : steps.granted ≡ false
