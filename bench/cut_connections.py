@@ -20,10 +20,9 @@ import sys
 import tempfile
 
 from fail_each_allocation import NO_MEMORY, build_library
-from served import HEAD, SUFFIX, bind, element, message, text
+from served import ADMIN, HEAD, SUFFIX, bind, element, free_port, message, text
 
 BOUND = bytes.fromhex("300c02010161070a010004000400")
-KEEPER = f"uid=keeper,ou=people,{SUFFIX}"
 
 
 def search(base, scope):
@@ -46,9 +45,9 @@ NEW = f"uid=new,ou=people,{SUFFIX}"
 # What each connection asks for, in the order of its requests; no answer to the second and the third goes by what the
 # first changes.
 ASKED = [
-    [bind(KEEPER, "keys"), add(NEW), search(NEW, 0), delete(NEW)],
-    [bind("", ""), search(SUFFIX, 1), search(KEEPER, 0), search("ou=none," + SUFFIX, 0)],
-    [bind(KEEPER, "keys"), search(SUFFIX, 0), search(KEEPER, 0), bind(KEEPER, "no")],
+    [bind(ADMIN, "keys"), add(NEW), search(NEW, 0), delete(NEW)],
+    [bind("", ""), search(SUFFIX, 1), search(ADMIN, 0), search("ou=none," + SUFFIX, 0)],
+    [bind(ADMIN, "keys"), search(SUFFIX, 0), search(ADMIN, 0), bind(ADMIN, "no")],
 ]
 
 
@@ -84,12 +83,6 @@ def replies(connection, request):
     except OSError:
         return octets, True
     return octets, False
-
-
-def free_port():
-    with socket.socket() as found:
-        found.bind(("127.0.0.1", 0))
-        return found.getsockname()[1]
 
 
 class Run:

@@ -17,6 +17,8 @@ import subprocess
 import sys
 import time
 
+from served import element, free_port
+
 TOP = os.path.join(os.path.dirname(os.path.abspath(__file__)), "..")
 DATA = os.path.join(TOP, "examples", "laboratory.ldif")
 BIND = bytes.fromhex("300c020101600702010304008000")
@@ -24,24 +26,10 @@ BOUND = bytes.fromhex("300c02010161070a010004000400")
 MOST_HELD = 256
 
 
-def element(tag, content):
-    size = len(content)
-    if size < 128:
-        return bytes([tag, size]) + content
-    octets = size.to_bytes((size.bit_length() + 7) // 8, "big")
-    return bytes([tag, 0x80 | len(octets)]) + octets + content
-
-
 def search(number, base, scope):
     operation = (element(4, base) + bytes([10, 1, scope, 10, 1, 0, 2, 1, 0, 2, 1, 0, 1, 1, 0])
                  + element(0x87, b"objectClass") + element(0x30, b""))
     return element(0x30, element(2, bytes([number])) + element(0x63, operation))
-
-
-def free_port():
-    with socket.socket() as found:
-        found.bind(("127.0.0.1", 0))
-        return found.getsockname()[1]
 
 
 class Server:

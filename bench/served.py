@@ -10,6 +10,9 @@ import tempfile
 TICKS = os.sysconf("SC_CLK_TCK")
 SUFFIX = "o=bench"
 ADMIN = "uid=keeper,ou=people," + SUFFIX
+# A person with the password `keys`, whom nothing but the rules for everybody and for one's own entry speaks of.
+OWN = "uid=own,ou=people," + SUFFIX
+GROUP = "cn=keepers,ou=people," + SUFFIX
 
 HEAD = """dn: o=bench
 objectClass: organization
@@ -20,7 +23,7 @@ dn: cn=open,o=bench
 objectClass: subentry
 objectClass: accessControlSubentry
 cn: open
-subtreeSpecification: { }
+subtreeSpecification: { specificExclusions { chopBefore:"ou=closed" } }
 prescriptiveACI: { identificationTag "open", precedence 10, authenticationLevel none, itemOrUserFirst userFirst: { userClasses { allUsers }, userPermissions { { protectedItems { entry, allUserAttributeTypesAndValues }, grantsAndDenials { grantBrowse, grantReturnDN, grantRead, grantCompare, grantFilterMatch, grantDiscloseOnError } } } } }
 
 dn: cn=passwords,o=bench
@@ -53,6 +56,20 @@ cn: Keeper
 sn: Keeper
 userPassword: keys
 
+dn: ou=closed,o=bench
+objectClass: organizationalUnit
+
+dn: uid=hidden,ou=closed,o=bench
+objectClass: inetOrgPerson
+cn: Hidden
+sn: Hidden
+
+dn: uid=own,ou=people,o=bench
+objectClass: inetOrgPerson
+cn: Own
+sn: Own
+userPassword: keys
+
 dn: uid=digest,ou=people,o=bench
 objectClass: inetOrgPerson
 cn: Digest
@@ -61,17 +78,34 @@ userPassword: {SHA256}SKU/B3TIzv9XSh/csNRw29OCs9snPP9DRLbTnVN5ySM=
 """
 
 
+FIRST = 1000000
+
+
 def person(number):
     return [("objectClass", "inetOrgPerson"), ("cn", f"Person {number}"), ("sn", f"Number {number}"),
             ("mail", f"p{number}@bench.example"), ("telephoneNumber", f"+1 555 {number}")]
 
 
-def data_file(people):
-    records = [HEAD]
-    for number in range(1000000, 1000000 + people):
+def people_records(people):
+    """The records of so many people."""
+    for number in range(FIRST, FIRST + people):
         lines = "".join(f"{kind}: {value}\n" for kind, value in person(number))
-        records.append(f"dn: uid=p{number},ou=people,{SUFFIX}\n{lines}")
-    return "\n".join(records)
+        yield f"dn: uid=p{number},ou=people,{SUFFIX}\n{lines}"
+
+
+def group_record(members):
+    """The record of a group of the administrator and of people, so many in all."""
+    people = [f"uid=p{number},ou=people,{SUFFIX}" for number in range(FIRST, FIRST + members - 1)]
+    lines = "".join(f"member: {name}\n" for name in [ADMIN, *people])
+    return f"dn: {GROUP}\nobjectClass: groupOfNames\n{lines}"
+
+
+def data_file(people, members=0):
+    """The data file of so many people; with members the administrators are a group of so many."""
+    if not members:
+        return "\n".join([HEAD, *people_records(people)])
+    head = HEAD.replace(f'userClasses {{ name {{ "{ADMIN}" }} }}', f'userClasses {{ userGroup {{ "{GROUP}" }} }}')
+    return "\n".join([head, group_record(members), *people_records(people)])
 
 
 def element(tag, content):
@@ -107,15 +141,39 @@ def ask(connection, request, kind):
         raise SystemExit("not success: " + answer.hex())
 
 
-@contextlib.contextmanager
-def served(program, people):
-    """The program as a server over so many people: its process number and its port."""
+def clients_built(folder):
+    """Builds clients.c into the folder; gives the path of the program."""
+    program = os.path.join(folder, "clients")
+    source = pathlib.Path(__file__).resolve().parent / "clients.c"
+    subprocess.run(["cc", "-O2", "-o", program, str(source)], check=True)
+    return program
+
+
+def sent(clients, port, load, answer, messages):
+    """Sends a bind and then a request, the messages, again and again.
+
+    The load is the connections, the requests outstanding on each, and the requests in all; the answer is the tag of
+    its last message and the result code. It gives the answers in a second, and the latency of the middle one, of the
+    99th of 100 and of the slowest, in microseconds.
+    """
+    words = [clients, *(str(number) for number in (port, *load, *answer))]
+    ran = subprocess.run(words, input=messages, stdout=subprocess.PIPE, check=True)
+    return [int(number) for number in ran.stdout.split()]
+
+
+def free_port():
     with socket.socket() as found:
         found.bind(("127.0.0.1", 0))
-        port = found.getsockname()[1]
+        return found.getsockname()[1]
+
+
+@contextlib.contextmanager
+def served(program, people, members=0):
+    """The program as a server over so many people: its process number and its port."""
+    port = free_port()
     with tempfile.TemporaryDirectory() as folder:
         data = os.path.join(folder, "people.ldif")
-        pathlib.Path(data).write_text(data_file(people), encoding="ascii")
+        pathlib.Path(data).write_text(data_file(people, members), encoding="ascii")
         server = subprocess.Popen(program + ["serve", data, f"127.0.0.1:{port}"], stdout=subprocess.PIPE)
         try:
             server.stdout.readline()
