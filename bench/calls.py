@@ -38,11 +38,11 @@ PROGRAMS = {
         {"src/main.rt": "subtrees.txt"},
     ),
     "values": Program(
-        ("value_lists", "dn_names", "schema_core"),
+        ("value_lists", "dn_names", "schema_tables"),
         {"src/main.rt": "values.txt"},
     ),
     "trees": Program(
-        ("ldif_core", "dir_tree", "dn_names"),
+        ("ldif_records", "dir_tree", "dn_names"),
         {
             "src/main.rt": "trees.txt",
             "proofs/read_all/Invariants.antt": "trees_places.txt",

@@ -1,7 +1,7 @@
 //! Administrative areas and subentries in force, in small trees.
 use admin_scope::{areas, in_force};
 use dir_tree::dn_names::{make_value, parse};
-use dir_tree::schema_core::attr;
+use dir_tree::schema_tables::attr;
 use dir_tree::{Entry, EntryNo, Tree};
 use std::alloc::Global;
 use std::process::Abort;

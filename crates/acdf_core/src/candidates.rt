@@ -13,7 +13,7 @@ ghost use Rattle.acdf_core.specs.Candidates.{described_for, described_all, liste
 use crate::facts::{Facts, facts_for};
 use acdf_filters::aci_item::AciTuple;
 use acdf_filters::{Question, TaggedTuples, read_items};
-use dir_tree::schema_core::AttrId;
+use dir_tree::schema_tables::AttrId;
 use dir_tree::{EntryNo, NoMemory};
 use std::alloc::Global;
 

@@ -15,7 +15,7 @@ use crate::filters::keep_deciding;
 use crate::steps::{Counts, KeptTuple, Steps};
 use acdf_filters::aci_item::Permission;
 use acdf_filters::{Item, Question, Requester};
-use acdf_lists::Dir;
+use aci_lists::Dir;
 use dir_tree::{Entry, EntryNo, NoMemory};
 use std::alloc::Global;
 

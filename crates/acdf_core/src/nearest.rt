@@ -10,7 +10,7 @@ ghost use Rattle.acdf_core.specs.nearest.Fronts.{where_passes};
 
 use acdf_filters::aci_item::Permission;
 use acdf_filters::{Item, Membership, Requester};
-use acdf_lists::Dir;
+use aci_lists::Dir;
 use dir_tree::EntryNo;
 use dir_tree::dn_names::Dn;
 

@@ -3,9 +3,9 @@ use Rattle.std.specs.Prelude.{ℕ, ◌==◌, Bool, true, false, not, ◌&&◌, �
 use Rattle.std.specs.List.{list_any}
 use Rattle.std.specs.Option.{option_map_or}
 use Rattle.std.specs.Str.{bytes_eq}
-use Rattle.dir_tree.specs.schema_core.declared.kinds.Syntax.{Syntax}
-use Rattle.dir_tree.specs.schema_core.declared.kinds.Syntax.TheVariants.{Name}
-use Rattle.dir_tree.specs.schema_core.Attributes.{syntax_of, is_operational}
+use Rattle.dir_tree.specs.schema_tables.declared.kinds.Syntax.{Syntax}
+use Rattle.dir_tree.specs.schema_tables.declared.kinds.Syntax.TheVariants.{Name}
+use Rattle.dir_tree.specs.schema_tables.Attributes.{syntax_of, is_operational}
 use Rattle.dir_tree.specs.dn_names.name.Names.{Keyed, TypeAndValue, RdnSequence}
 use Rattle.dir_tree.specs.dn_names.Printing.{name_key}
 use Rattle.aci_item.specs.item.Items.{ProtectedItems}

@@ -2,7 +2,7 @@
 
 use aci_item::Level;
 use dir_tree::dn_names::{Dn, Value};
-use dir_tree::schema_core::AttrId;
+use dir_tree::schema_tables::AttrId;
 
 /// Who asks: an anonymous requester has no name.
 #[derive(Drop)]

@@ -10,7 +10,7 @@ use crate::asking::Item;
 use crate::users::is_key;
 use aci_item::{AttributeTypeAndValue, ProtectedItems};
 use dir_tree::dn_names::{Dn, Value};
-use dir_tree::schema_core::{AttrId, Syntax, row};
+use dir_tree::schema_tables::{AttrId, Syntax, row};
 
 // Whether the type is listed.
 fn has_type(kind: AttrId, kinds: &[AttrId]) -> bool

@@ -9,7 +9,7 @@ ghost use Rattle.acdf_filters.specs.users.Users.{member, unique_member, has_memb
 use crate::users::{entry_named, has_member};
 use dir_tree::dn_names::laws::a_printed_name_is_read_again;
 use dir_tree::dn_names::{Dn, Value, make_value, print};
-use dir_tree::schema_core::AttrId;
+use dir_tree::schema_tables::AttrId;
 use dir_tree::{Entry, NoMemory, Tree};
 use std::alloc::{AllocError, Global};
 use std::marker::Model;

@@ -9,7 +9,7 @@ ghost use Rattle.acdf_filters.specs.weighing.Weighing.{tagged_of, listed_option}
 
 use crate::weighing::TaggedTuples;
 use aci_item::{AciItem, BadText, read, tuples};
-use dir_tree::schema_core::AttrId;
+use dir_tree::schema_tables::AttrId;
 use dir_tree::{Entry, NoMemory};
 use std::alloc::{AllocError, Global};
 

@@ -19,7 +19,7 @@ use crate::question::{Membership, Question};
 use aci_item::UserClasses;
 use aci_item::subtree_spec::{Spec, holds_name};
 use dir_tree::dn_names::{Dn, is_key_of, same};
-use dir_tree::schema_core::AttrId;
+use dir_tree::schema_tables::AttrId;
 use dir_tree::{Entry, Tree};
 
 /// Whether the octets are the key of the name.

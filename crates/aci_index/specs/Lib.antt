@@ -2,5 +2,5 @@
 pub mod anew
 pub mod points
 -- the words of crates below, handed on
-pub use Rattle.acdf_lists.specs as acdf_lists
+pub use Rattle.aci_lists.specs as aci_lists
 pub use Rattle.acdf_filters.specs as acdf_filters

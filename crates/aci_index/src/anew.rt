@@ -11,7 +11,7 @@ ghost use Rattle.aci_index.specs.points.Reach.{HaveRoom, IsAnew, IsPut, IsRemade
 
 use crate::putting::make_room;
 use acdf_filters::admin_scope::{AccessSubentry, access_subtrees};
-use acdf_lists::{Holdings, Kept, make_at};
+use aci_lists::{Holdings, Kept, make_at};
 use dir_tree::{EntryNo, NoMemory, Scope, Tree};
 use std::alloc::Global;
 

@@ -11,7 +11,7 @@ use crate::removing::remove_step;
 use crate::replacing::replace_step;
 use acdf_filters::aci_item::Permission;
 use acdf_filters::{Item, Membership, Question, Requester};
-use acdf_lists::{
+use aci_lists::{
     Dir, Holdings, decide_by, decide_new_by, hold, in_force_at, in_force_new_by, memberships_in,
 };
 use dir_tree::{Entry, EntryNo, InsertRefusal, NoMemory, RemoveRefusal, ReplaceRefusal, Tree};
@@ -28,7 +28,7 @@ pub struct IndexedDir {
 impl Model for IndexedDir {
     ghost use Rattle.std.specs.Prelude.{List};
     ghost use Rattle.dir_tree.specs.tree.Numbered.{Numbered};
-    ghost use Rattle.acdf_lists.specs.kept.Holdings.{IsHeld};
+    ghost use Rattle.aci_lists.specs.kept.Holdings.{IsHeld};
 
     ghost Value = { List Numbered };
 

@@ -4,11 +4,11 @@ ghost use Rattle.std.specs.Prelude.{◌≡◌, ◌≢◌, ◌⊎◌, [], true, f
 ghost use Rattle.dir_tree.specs.tree.Numbered.{entry_of, entries_of, put_entry};
 ghost use Rattle.dir_tree.specs.subentries.Points.{is_access_subentry};
 ghost use Rattle.dir_tree.specs.Refusals.{insert_refusal};
-ghost use Rattle.acdf_lists.specs.kept.Holdings.{IsHeld};
+ghost use Rattle.aci_lists.specs.kept.Holdings.{IsHeld};
 
 use crate::anew::{Reach, make_anew_with_room, put_anew};
 use crate::putting::{keep_anew, make_lists};
-use acdf_lists::{Holdings, take_back};
+use aci_lists::{Holdings, take_back};
 use dir_tree::{Entry, EntryNo, InsertRefusal, Tree};
 use std::alloc::Global;
 

@@ -10,5 +10,5 @@ mod removing;
 mod replacing;
 
 pub use acdf_filters;
-pub use acdf_lists;
+pub use aci_lists;
 pub use indexed_dir::IndexedDir;

@@ -4,11 +4,11 @@ ghost use Rattle.std.specs.Prelude.{◌≡◌, ◌⊎◌, true, false, Some, Non
 ghost use Rattle.dir_tree.specs.tree.Numbered.{entry_of, without};
 ghost use Rattle.dir_tree.specs.subentries.Points.{is_access_subentry};
 ghost use Rattle.dir_tree.specs.Refusals.{remove_refusal};
-ghost use Rattle.acdf_lists.specs.kept.Holdings.{IsForgotten, IsHeld};
-ghost use Rattle.acdf_lists.specs.kept.Lists.{lists_at, no_lists};
+ghost use Rattle.aci_lists.specs.kept.Holdings.{IsForgotten, IsHeld};
+ghost use Rattle.aci_lists.specs.kept.Lists.{lists_at, no_lists};
 ghost use Rattle.aci_index.specs.anew.Steps.{OthersStay};
 
-use acdf_lists::{Holdings, empty_lists, forget};
+use aci_lists::{Holdings, empty_lists, forget};
 use dir_tree::{Entry, EntryNo, RemoveRefusal, Tree};
 use std::alloc::Global;
 

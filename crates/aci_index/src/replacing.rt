@@ -5,15 +5,15 @@ ghost use Rattle.std.specs.Option.{option_map_or};
 ghost use Rattle.dir_tree.specs.tree.Numbered.{entry_of, put_entry, without};
 ghost use Rattle.dir_tree.specs.Refusals.{replace_refusal};
 ghost use Rattle.acdf_filters.specs.admin_scope.subtrees.Finding.{AreSubtrees};
-ghost use Rattle.acdf_lists.specs.kept.Lists.{AreOf, lists_of};
-ghost use Rattle.acdf_lists.specs.kept.Holdings.{IsHeld};
+ghost use Rattle.aci_lists.specs.kept.Lists.{AreOf, lists_of};
+ghost use Rattle.aci_lists.specs.kept.Holdings.{IsHeld};
 ghost use Rattle.aci_index.specs.points.Reach.{AreBelow};
 ghost use Rattle.aci_index.specs.anew.Steps.{AllStay, is_own_change};
 
 use crate::anew::{Anew, Reach, make_anew, no_anew, put_anew};
 use crate::points::{changes_own, reach_at};
 use crate::putting::{make_lists, make_ready, make_room, put_own};
-use acdf_lists::{Holdings, Kept};
+use aci_lists::{Holdings, Kept};
 use dir_tree::{Entry, EntryNo, NoMemory, ReplaceRefusal, Tree, TreeReader};
 use std::alloc::Global;
 

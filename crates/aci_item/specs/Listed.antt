@@ -3,10 +3,10 @@ use Rattle.std.specs.Prelude.{ℕ, Bool, true, false, ◌||◌, List, ◌++◌, 
 use Rattle.std.specs.List.{filter_map, flat_map}
 use Rattle.std.specs.Option.{option_map_or}
 pub use Rattle.dir_tree.specs.plain_values.Numbers.{has as is_among}
-use Rattle.dir_tree.specs.schema_core.declared.kinds.ClassKind.{ClassKind}
-use Rattle.dir_tree.specs.schema_core.declared.kinds.ClassKind.TheVariants.{Abstract, Structural, Auxiliary}
-use Rattle.dir_tree.specs.schema_core.classes.Classes.{class_with, kind_of, required_of, allowed_of}
-use Rattle.dir_tree.specs.schema_core.Superclasses.{with_superclasses}
+use Rattle.dir_tree.specs.schema_tables.declared.kinds.ClassKind.{ClassKind}
+use Rattle.dir_tree.specs.schema_tables.declared.kinds.ClassKind.TheVariants.{Abstract, Structural, Auxiliary}
+use Rattle.dir_tree.specs.schema_tables.classes.Classes.{class_with, kind_of, required_of, allowed_of}
+use Rattle.dir_tree.specs.schema_tables.Superclasses.{with_superclasses}
 use Rattle.dir_tree.specs.Entry.{Attribute, values_of}
 use Rattle.dir_tree.specs.classes.EntryClasses.{object_class}
 

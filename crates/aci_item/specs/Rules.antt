@@ -3,10 +3,10 @@
 use Rattle.std.specs.Prelude.{◌≡◌, ◌≢◌, ℕ, nat_lt, nat_le, ◌==◌, Bool, false, not, ◌&&◌, ◌||◌, List, [], ◌∷◌, ◌++◌, length, find, sum_by, codes, Option, Some, None, is_none, is_err}
 use Rattle.std.specs.List.{AllByRecursion, list_any, list_all}
 use Rattle.std.specs.Option.{option_map, option_map_or}
-use Rattle.dir_tree.specs.schema_core.declared.kinds.Syntax.{Syntax}
-use Rattle.dir_tree.specs.schema_core.declared.kinds.Syntax.TheVariants.{Text, Ascii, Phone, Country, Octets, Oid, Name, Subtree, Aci}
-use Rattle.dir_tree.specs.schema_core.Attributes.{is_single, syntax_of}
-use Rattle.dir_tree.specs.schema_core.classes.Classes.{class_with}
+use Rattle.dir_tree.specs.schema_tables.declared.kinds.Syntax.{Syntax}
+use Rattle.dir_tree.specs.schema_tables.declared.kinds.Syntax.TheVariants.{Text, Ascii, Phone, Country, Octets, Oid, Name, Subtree, Aci}
+use Rattle.dir_tree.specs.schema_tables.Attributes.{is_single, syntax_of}
+use Rattle.dir_tree.specs.schema_tables.classes.Classes.{class_with}
 use Rattle.aci_item.specs.reading.AciText.{read_item}
 use Rattle.dir_tree.specs.dn_names.name.Names.{Keyed, last_rdn}
 use Rattle.dir_tree.specs.dn_names.name.GoodNames.{IsGoodName}

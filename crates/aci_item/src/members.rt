@@ -17,7 +17,7 @@ use crate::protected::AttributeTypeAndValue;
 use crate::sets::{Printed, into_values, put};
 use dir_tree::dn_names::Dn;
 use dir_tree::plain_values::Text;
-use dir_tree::schema_core::AttrId;
+use dir_tree::schema_tables::AttrId;
 use gser_tree::{Bad, Stop, Tree, component};
 use std::alloc::{AllocError, Global};
 use subtree_spec::Spec;

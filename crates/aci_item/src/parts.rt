@@ -2,7 +2,7 @@
 
 ghost use Rattle.std.specs.Prelude.{◌≡◌, [], ◌∷◌, codes, IfOk, IfSome, true, length, map, option_map, ◌==◌, min, if◌then◌else◌};
 ghost use Rattle.std.specs.Str.{is_utf8};
-ghost use Rattle.dir_tree.specs.schema_core.Attributes.{IsAttrId};
+ghost use Rattle.dir_tree.specs.schema_tables.Attributes.{IsAttrId};
 ghost use Rattle.dir_tree.specs.dn_names.make.NameValues.{value_of};
 ghost use Rattle.gser_tree.specs.Tree.{shape_of};
 ghost use Rattle.gser_tree.specs.looking.Looking.{flag};
@@ -19,7 +19,7 @@ use crate::permission::Permission;
 use crate::protected::AttributeTypeAndValue;
 use dir_tree::dn_names::{Dn, Value, make_value};
 use dir_tree::match_rules::PrepareFault;
-use dir_tree::schema_core::{AttrId, attr};
+use dir_tree::schema_tables::{AttrId, attr};
 use gser_tree::{Bad, Part, Stop, Tree, component, flag};
 use std::alloc::{AllocError, Global};
 use subtree_spec::{Spec, name, oid, subtree};

@@ -1,7 +1,7 @@
 //! Items as text.
 
 ghost use Rattle.std.specs.Prelude.{◌≡◌, [], ◌∷◌, ◌++◌, IfOk, OnOk, OnErr, true, codes, map, option_map, string_bytes};
-ghost use Rattle.dir_tree.specs.schema_core.Attributes.{name_of};
+ghost use Rattle.dir_tree.specs.schema_tables.Attributes.{name_of};
 ghost use Rattle.gser_tree.specs.Writing.{text_of, print_braces, print_word, print_component, print_filled, print_flag, print_number, print_optional, PutsMembers};
 ghost use Rattle.subtree_spec.specs.spec.Subtrees.{subtree_of};
 ghost use Rattle.subtree_spec.specs.printing.SubtreePrinted.{print_subtree};
@@ -14,7 +14,7 @@ use crate::item::{AciItem, First, ItemPermission, UserPermission};
 use crate::level::{Level, level_name};
 use crate::protected::{AttributeTypeAndValue, ProtectedItems};
 use dir_tree::dn_names::Dn;
-use dir_tree::schema_core::{AttrId, row};
+use dir_tree::schema_tables::{AttrId, row};
 use gser_tree::{put_end, put_kind, put_name, put_number, put_separator, put_string};
 use std::alloc::{AllocError, Global};
 use subtree_spec::Spec;

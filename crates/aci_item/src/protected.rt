@@ -4,7 +4,7 @@ ghost use Rattle.std.specs.Prelude.{◌≡◌, true};
 ghost use Rattle.std.specs.Str.{IsUtf8, is_utf8};
 
 use dir_tree::dn_names::Value;
-use dir_tree::schema_core::AttrId;
+use dir_tree::schema_tables::AttrId;
 use std::marker::Model;
 use std::str;
 

@@ -6,7 +6,7 @@ ghost use Rattle.command_words.specs.command.Command.{Sample};
 ghost use Rattle.command_files.specs.plain_values.Answers.{IsFaultOf};
 ghost use Rattle.command_files.specs.data_file.loading.Files.{fault_of};
 ghost use Rattle.command_files.specs.dir_tree.tree.Numbered.{entries_of};
-ghost use Rattle.command_files.specs.op_write.load.DataFile.{loads};
+ghost use Rattle.command_files.specs.ldif_load.load.DataFile.{loads};
 ghost use Rattle.sample_input.specs.file.SampleFile.{sample_file};
 ghost use Rattle.sample_input.specs.events.SampleEvents.{sample_events};
 ghost use Rattle.command_files.specs.wire_io.shelf.Files.{Files};
@@ -20,7 +20,7 @@ ghost use Rattle.acl_program.specs.sample.Sampling.{sample_text, sample_replies,
 use crate::status::Status;
 use crate::troubles::print_bad_data;
 use aci_index::IndexedDir;
-use aci_index::acdf_lists::Dir;
+use aci_index::aci_lists::Dir;
 use command_files::data_file::{DataFault, load};
 use command_files::dir_tree::{NoMemory, Tree};
 use command_files::wire_io::{ScriptLink, Sink, write_all};

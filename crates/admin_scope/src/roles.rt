@@ -7,7 +7,7 @@ ghost use Rattle.dir_tree.specs.subentries.Points.{administrative_role, is_speci
 ghost use Rattle.dir_tree.specs.tree.Numbered.{entry_of};
 ghost use Rattle.admin_scope.specs.subtrees.Finding.{stands};
 
-use dir_tree::schema_core::AttrId;
+use dir_tree::schema_tables::AttrId;
 use dir_tree::{Entry, EntryNo, Tree};
 
 // Whether the entry has the role of the object identifier.

@@ -10,7 +10,7 @@ ghost use Rattle.admin_scope.specs.subtrees.Finding.{AreSubtrees, holds_by, hold
 
 use crate::membership::holds;
 use dir_tree::dn_names::{Dn, is_prefix};
-use dir_tree::schema_core::AttrId;
+use dir_tree::schema_tables::AttrId;
 use dir_tree::{Entry, EntryNo, NoMemory, Tree};
 use std::alloc::{AllocError, Global};
 use subtree_spec::{BadText, Spec, read};

@@ -1,7 +1,7 @@
 -- Layouts on known cases (RFC 4511 4.5.1.7.2 and 4.1.11 have such contents).
 use Rattle.std.proofs.Common.{◌≡◌, true, false, [], ◌∷◌, Some, None, refl}
-use Rattle.ber_core.specs.read.Heading.{length_at, header_at}
-use Rattle.ber_core.specs.write.Spelling.{length_octets}
+use Rattle.ber_elements.specs.read.Heading.{length_at, header_at}
+use Rattle.ber_elements.specs.write.Spelling.{length_octets}
 use Rattle.ber_layout.specs.element.Pieces.{piece_of, piece_at, tagged_at}
 use Rattle.ber_layout.specs.components.Components.{required_of, marked_of, each_from, each_of}
 use Rattle.ber_layout.specs.write.Spellings.{element_octets}

@@ -6,7 +6,7 @@ ghost use Rattle.ber_layout.specs.components.Components.{begins};
 ghost use Rattle.ber_layout.specs.element.Reading.{Gives, Finds, piece_view};
 
 use crate::kinds::ReadFault;
-use ber_core::{Header, header, read_int};
+use ber_elements::{Header, header, read_int};
 
 /// An element at the front of some octets, and what follows it.
 #[derive(Clone, Copy)]

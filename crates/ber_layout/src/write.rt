@@ -2,8 +2,8 @@
 
 ghost use Rattle.std.specs.Prelude.{◌≡◌, ℕ, ◌<◌, ◌≤◌, ◌^◌, ◌+◌, ◌++◌, [], pos, take, drop, length, map, OnOk, OnErr};
 ghost use Rattle.std.specs.List.{slice_rotate_right};
-ghost use Rattle.ber_core.specs.write.Element.{IsTag};
-ghost use Rattle.ber_core.specs.Integer.{int_octets};
+ghost use Rattle.ber_elements.specs.write.Element.{IsTag};
+ghost use Rattle.ber_elements.specs.Integer.{int_octets};
 ghost use Rattle.ber_layout.specs.components.Flags.{flag_octets};
 ghost use Rattle.ber_layout.specs.laid.Layouts.{writes};
 ghost use Rattle.ber_layout.specs.laid.Layouts.Layout.{AnyOctets, End, Each};
@@ -11,7 +11,7 @@ ghost use Rattle.ber_layout.specs.write.Spellings.{Extends, element_octets, opti
 
 use crate::kinds::NoMemory;
 use crate::laid::Laid;
-use ber_core::{header_len, int_len, put_header, put_int};
+use ber_elements::{header_len, int_len, put_header, put_int};
 use plain_values::Octets;
 use std::alloc::AllocError;
 

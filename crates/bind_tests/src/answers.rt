@@ -1,7 +1,7 @@
 //! What binds come to over a small tree.
 use acdf_filters::aci_item::Level;
 use dir_tree::dn_names::{Value, make_value, parse, print};
-use dir_tree::schema_core::{AttrId, attr_named};
+use dir_tree::schema_tables::{AttrId, attr_named};
 use dir_tree::{Entry, Tree};
 use ldap_msg::plain_values::Octets;
 use ldap_msg::{Auth, BindRequest};

@@ -1,8 +1,8 @@
 pub mod loading
 -- the words of crates below, handed on
 pub use Rattle.data_file.specs as data_file
-pub use Rattle.data_file.specs.op_write as op_write
-pub use Rattle.data_file.specs.ldif_core as ldif_core
+pub use Rattle.data_file.specs.ldif_load as ldif_load
+pub use Rattle.data_file.specs.ldif_records as ldif_records
 pub use Rattle.aci_item.specs as aci_item
 pub use Rattle.dir_tree.specs as dir_tree
 pub use Rattle.dir_tree.specs.dn_names as dn_names

@@ -4,7 +4,7 @@ ghost use Rattle.std.specs.Prelude.{◌≡◌, ◌≤◌, length};
 ghost use Rattle.command_files.specs.loading.Accepting.{most_data, most_script};
 ghost use Rattle.command_files.specs.loading.Loading.{LoadsScript, LoadsData, ReadsScript, ReadsData, data_trouble_of_file, trouble_of_data, trouble_of_file, trouble_of_script};
 
-use data_file::op_write::LoadCause;
+use data_file::ldif_load::LoadCause;
 use data_file::{DataCause, DataFault, load};
 use dir_tree::Tree;
 use std::alloc::Global;

@@ -1,20 +1,20 @@
 -- The definitions on small files and trees.
 use Rattle.std.proofs.Common.{◌≡◌, ℕ, [], ◌∷◌, ◌++◌, List, Result, Err, refl}
 use Rattle.std.specs.Prelude.{codes, flat_map}
-use Rattle.dir_tree.specs.schema_core.Oids.{is_dotted_oid}
-use Rattle.dir_tree.specs.schema_core.Attributes.{attributes}
+use Rattle.dir_tree.specs.schema_tables.Oids.{is_dotted_oid}
+use Rattle.dir_tree.specs.schema_tables.Attributes.{attributes}
 use Rattle.dir_tree.specs.dn_names.Classes.{class_of}
 use Rattle.dir_tree.specs.dn_names.Printing as printing
 use Rattle.dir_tree.specs.Entry.{EntryInformation}
 use Rattle.dir_tree.specs.tree.Numbered.{Numbered}
-use Rattle.op_write.specs.ldif_core.declared.types.LineCause.TheVariants.{Syntax, Changetype}
-use Rattle.op_write.specs.ldif_core.lines.Lines.{continued, beginning, logical}
-use Rattle.op_write.specs.ldif_core.Fields.{is_kind, field_of, after_spaces, is_changetype, is_dn}
-use Rattle.op_write.specs.ldif_core.reading.Records.{without_comments, is_version, without_version, attribute_lines, record_of, records}
-use Rattle.op_write.specs.ldif_core.lines.Places.{physical_from, logical_from, content_from, body_from, records_from}
-use Rattle.op_write.specs.ldif_core.writing.Written.{is_plain, written_value, written_entry}
-use Rattle.op_write.specs.ldif_core.writing.WrittenFile.{written_file}
-use Rattle.op_write.specs.load.DataFile.{FileFault, OfLine, loads, loads_after}
+use Rattle.ldif_load.specs.ldif_records.declared.types.LineCause.TheVariants.{Syntax, Changetype}
+use Rattle.ldif_load.specs.ldif_records.lines.Lines.{continued, beginning, logical}
+use Rattle.ldif_load.specs.ldif_records.Fields.{is_kind, field_of, after_spaces, is_changetype, is_dn}
+use Rattle.ldif_load.specs.ldif_records.reading.Records.{without_comments, is_version, without_version, attribute_lines, record_of, records}
+use Rattle.ldif_load.specs.ldif_records.lines.Places.{physical_from, logical_from, content_from, body_from, records_from}
+use Rattle.ldif_load.specs.ldif_records.writing.Written.{is_plain, written_value, written_entry}
+use Rattle.ldif_load.specs.ldif_records.writing.WrittenFile.{written_file}
+use Rattle.ldif_load.specs.load.DataFile.{FileFault, OfLine, loads, loads_after}
 use Rattle.data_file.specs.writing.Steps.{text_at}
 
 -- lines that end in LF

@@ -3,5 +3,5 @@ pub mod loading
 -- for the inside of the crate alone
 pub mod writing
 -- the words of crates below, handed on
-pub use Rattle.op_write.specs as op_write
-pub use Rattle.op_write.specs.ldif_core as ldif_core
+pub use Rattle.ldif_load.specs as ldif_load
+pub use Rattle.ldif_load.specs.ldif_records as ldif_records

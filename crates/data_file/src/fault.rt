@@ -1,7 +1,7 @@
 //! Why a data file isn't accepted.
 
-use op_write::LoadCause;
-use op_write::ldif_core::LineCause;
+use ldif_load::LoadCause;
+use ldif_load::ldif_records::LineCause;
 use std::alloc::AllocError;
 use thiserror::Error;
 

@@ -7,6 +7,6 @@ mod writing;
 
 pub use fault::{DataCause, DataFault, NoMemory};
 pub use loading::load;
-pub use op_write;
-pub use op_write::ldif_core;
+pub use ldif_load;
+pub use ldif_load::ldif_records;
 pub use writing::put_tree;

@@ -3,10 +3,10 @@
 ghost use Rattle.std.specs.Prelude.{◌≡◌, [], Ok, IfOk, IfErr, IfSome, IfNone, OnOk};
 ghost use Rattle.dir_tree.specs.tree.Numbered.{entries_of};
 ghost use Rattle.aci_item.specs.Rules.{IsGoodTree};
-ghost use Rattle.op_write.specs.ldif_core.lines.Places.{IsPlace, records_from};
-ghost use Rattle.op_write.specs.ldif_core.writing.WrittenFile.{written_file};
-ghost use Rattle.op_write.specs.load.Loading.{IsLoaded, loaded_entry};
-ghost use Rattle.op_write.specs.load.DataFile.{loads, loads_after, file_start, in_file};
+ghost use Rattle.ldif_load.specs.ldif_records.lines.Places.{IsPlace, records_from};
+ghost use Rattle.ldif_load.specs.ldif_records.writing.WrittenFile.{written_file};
+ghost use Rattle.ldif_load.specs.load.Loading.{IsLoaded, loaded_entry};
+ghost use Rattle.ldif_load.specs.load.DataFile.{loads, loads_after, file_start, in_file};
 ghost use Rattle.wire_io.specs.plain_values.Answers.{IsFaultOf};
 ghost use Rattle.data_file.specs.loading.Files.{fault_of};
 ghost use Rattle.data_file.specs.writing.Steps.{IsStep, of_line, of_record};
@@ -16,8 +16,8 @@ use dir_tree::Tree;
 use load_laws::laws::{
     what_is_loaded_is_good, what_is_loaded_is_loadable, what_is_written_loads_again,
 };
-use op_write::ldif_core::{BadLine, LineCause, Position, Record, next_record};
-use op_write::{LoadFault, load_record};
+use ldif_load::ldif_records::{BadLine, LineCause, Position, Record, next_record};
+use ldif_load::{LoadFault, load_record};
 use std::alloc::Global;
 
 /// The tree of a data file: the entries of its records, each of which joins those before it. `Bad` comes exactly where

@@ -2,8 +2,8 @@
 use Rattle.std.proofs.Common.{◌≡◌, true, false, [], ◌∷◌, Some, refl}
 use Rattle.std.specs.Prelude.{List, codes}
 use Prim.Native.String.{String}
-use Rattle.schema_core.specs.Attributes.{attributes, attr_of}
-use Rattle.schema_core.specs.classes.Classes.{classes}
+use Rattle.schema_tables.specs.Attributes.{attributes, attr_of}
+use Rattle.schema_tables.specs.classes.Classes.{classes}
 use Rattle.dn_names.specs.name.Names.{Keyed}
 use Rattle.dir_tree.specs.Entry.{EntryInformation, values_of, kinds_of}
 use Rattle.dir_tree.specs.attributes.Changes.{with_value, without_value, without_kind}

@@ -14,6 +14,6 @@ pub mod Walk
 pub mod remove
 -- the words of crates below, handed on
 pub use Rattle.dn_names.specs as dn_names
-pub use Rattle.schema_core.specs as schema_core
+pub use Rattle.schema_tables.specs as schema_tables
 pub use Rattle.dn_names.specs.match_rules as match_rules
 pub use Rattle.dn_names.specs.plain_values as plain_values

@@ -6,7 +6,7 @@ ghost use Rattle.dir_tree.specs.attributes.Rows.{attributes_of};
 use dn_names::Value;
 use indexmap::IndexMap;
 use indexmap::map::Iter;
-use schema_core::AttrId;
+use schema_tables::AttrId;
 use std::marker::Model;
 use value_lists::Values;
 

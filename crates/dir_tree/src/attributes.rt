@@ -7,7 +7,7 @@ ghost use Rattle.dir_tree.specs.attributes.Rows.{attributes_of};
 
 use dn_names::Value;
 use indexmap::IndexMap;
-use schema_core::AttrId;
+use schema_tables::AttrId;
 use std::alloc::{AllocError, Global};
 use value_lists::Values;
 

@@ -6,7 +6,7 @@ ghost use Rattle.std.specs.Str.{bytes_eq};
 ghost use Rattle.dir_tree.specs.classes.EntryClasses.{own_oid, oids_of, oids_of_listed};
 
 use dn_names::Value;
-use schema_core::{ClassId, class_oid, class_with, superior};
+use schema_tables::{ClassId, class_oid, class_with, superior};
 
 /// Whether the object identifier is that of the class, or of a class above it.
 fn is_below(class: ClassId, oid: &str) -> bool

@@ -15,7 +15,7 @@ use crate::attributes::{
 use crate::classes::is_any_kind_of;
 use dn_names::{Dn, Value};
 use indexmap::IndexMap;
-use schema_core::AttrId;
+use schema_tables::AttrId;
 use std::alloc::{AllocError, Global};
 use std::marker::Model;
 use value_lists::Values;

@@ -3,7 +3,7 @@
 ghost use Rattle.std.specs.Prelude.{◌≡◌, ◌≢◌, ℕ, [], ◌∷◌, ◌++◌, List, Some, slice_get, ◌<◌, true, false, length, None, IsSome, filter};
 ghost use Rattle.std.specs.List.{IsDistinct, AllByRecursion};
 ghost use Rattle.std.specs.Option.{option_map_or, option_and_then};
-ghost use Rattle.schema_core.specs.classes.Classes as class_rows;
+ghost use Rattle.schema_tables.specs.classes.Classes as class_rows;
 ghost use Rattle.dn_names.specs.name.Names.{Keyed, RdnSequence};
 ghost use Rattle.dir_tree.specs.Entry.{Attribute, EntryInformation, values_of, is_match, IsGoodAttributes};
 ghost use Rattle.dir_tree.specs.attributes.Changes.{put_value, set_in, without_key, cut_attributes, other_attributes, with_value, with_values, without_value, without_kind};

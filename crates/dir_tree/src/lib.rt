@@ -28,7 +28,7 @@ pub use entry::{Entry, NoMemory};
 pub use number::EntryNo;
 pub use reader::TreeReader;
 pub use refusals::{InsertRefusal, RemoveRefusal, ReplaceRefusal};
-pub use schema_core;
+pub use schema_tables;
 pub use scope::Scope;
 pub use tree::Tree;
 pub use vacancy::{MOST_ENTRIES, Vacancy};

@@ -1,6 +1,6 @@
 -- The one printed form of a name (RFC 4514 section 2), and the key of a value that is a name.
 use Rattle.std.specs.Prelude.{ℕ, Bool, true, false, ◌||◌, ◌==◌, List, [], ◌∷◌, ◌++◌, reverse, if◌then◌else◌}
-use Rattle.schema_core.specs.Attributes.{name_of}
+use Rattle.schema_tables.specs.Attributes.{name_of}
 use Rattle.dn_names.specs.declared.classes.Class.{Class}
 use Rattle.dn_names.specs.declared.classes.Class.TheVariants.{Space, Hash, Mark, Plus, Comma, Backslash}
 use Rattle.dn_names.specs.declared.printing.Shown.{Shown}

@@ -2,7 +2,7 @@
 
 ghost use Rattle.std.specs.Prelude.{◌≡◌, ◌↔◌, Some, None, IfOk, IsErrOf};
 ghost use Rattle.match_rules.specs.declared.errors.PrepareFault.TheVariants.{NotOfSyntax};
-ghost use Rattle.schema_core.specs.Attributes.{IsAttrId};
+ghost use Rattle.schema_tables.specs.Attributes.{IsAttrId};
 ghost use Rattle.dn_names.specs.parsing.NameText.{read_name};
 ghost use Rattle.dn_names.specs.make.NameValues.{read_key, value_key, value_of};
 
@@ -12,7 +12,7 @@ use crate::parsing::parse;
 use crate::printing::make_name_key;
 use crate::value::Value;
 use match_rules::PrepareFault;
-use schema_core::{AttrId, Syntax, row};
+use schema_tables::{AttrId, Syntax, row};
 use std::alloc::Global;
 
 /// The value of an attribute type of the table: the octets with their key. `NotOfSyntax` comes only where the octets

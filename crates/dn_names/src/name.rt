@@ -9,7 +9,7 @@ ghost use Rattle.dn_names.specs.path.PathKeys.{path_key};
 use crate::path::{make_path, path_front};
 use crate::value::Value;
 use plain_values::OneOrMany;
-use schema_core::AttrId;
+use schema_tables::AttrId;
 use std::alloc::{AllocError, Global};
 use std::marker::Model;
 use std::rc::Rc;

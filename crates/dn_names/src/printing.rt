@@ -6,11 +6,11 @@ ghost use Rattle.dn_names.specs.name.Names.{TypeAndValue, rdns_of};
 ghost use Rattle.dn_names.specs.Printing.{is_escaped, print_octet, print_from, print_value, join_from, print_pair, print_rdn, shown_of, print_by, print_name, name_key};
 ghost use Rattle.dn_names.specs.name.Names.{IsTextRdn, IsTextName};
 ghost use Rattle.std.specs.Str.{is_utf8};
-ghost use Rattle.schema_core.specs.Attributes.{name_of};
+ghost use Rattle.schema_tables.specs.Attributes.{name_of};
 
 use crate::classes::{Class, classify};
 use crate::name::{Dn, Pair, Rdn};
-use schema_core::{AttrId, row};
+use schema_tables::{AttrId, row};
 use std::alloc::{AllocError, Global};
 use std::str;
 

@@ -4,7 +4,7 @@ use Rattle.std.specs.Prelude.{codes}
 use Prim.Native.String.{String}
 use Rattle.dir_tree.specs.dn_names.name.Names.{Keyed, TypeAndValue, RdnSequence}
 use Rattle.dir_tree.specs.Entry.{EntryInformation, kinds_of, values_of}
-use Rattle.op_write.specs.load.Loading.{with_pairs}
+use Rattle.ldif_load.specs.load.Loading.{with_pairs}
 use Rattle.acdf_filters.specs.aci_item.declared.permission.Permission.TheVariants.{Add, Remove, DiscloseOnError}
 use Rattle.acdf_filters.specs.Asking.{Kind, Value}
 use Rattle.ldap_msg.specs.declared.operations.ResultCode.TheVariants as code

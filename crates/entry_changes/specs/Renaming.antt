@@ -6,7 +6,7 @@ use Rattle.std.specs.Str.{bytes_eq}
 use Rattle.dir_tree.specs.dn_names.name.Names.{TypeAndValue, RdnSequence, last_rdn}
 use Rattle.dir_tree.specs.Entry.{EntryInformation}
 use Rattle.dir_tree.specs.attributes.Changes.{without_value}
-use Rattle.op_write.specs.load.Loading.{with_own_values}
+use Rattle.ldif_load.specs.load.Loading.{with_own_values}
 
 -- two pairs have one type and values that match
 abbrev pub is_same_pair : TypeAndValue → TypeAndValue → Bool

@@ -6,7 +6,7 @@ ghost use Rattle.dir_tree.specs.Entry.{is_match};
 
 use crate::kind::ChangeKind;
 use dir_tree::dn_names::Value;
-use dir_tree::schema_core::AttrId;
+use dir_tree::schema_tables::AttrId;
 use std::marker::Model;
 
 /// One change of an entry: values of one attribute type come, go, or take the place of those that are there. No two of

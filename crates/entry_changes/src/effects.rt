@@ -13,7 +13,7 @@ use crate::kind::ChangeKind;
 use crate::refusing::are_none;
 use dir_tree::Entry;
 use dir_tree::dn_names::Value;
-use dir_tree::schema_core::AttrId;
+use dir_tree::schema_tables::AttrId;
 use std::alloc::Global;
 
 // Puts the values at the end.

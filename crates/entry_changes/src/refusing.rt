@@ -12,7 +12,7 @@ use crate::kind::ChangeKind;
 use acdf_filters::Item;
 use acdf_filters::aci_item::Permission;
 use dir_tree::dn_names::Value;
-use dir_tree::schema_core::AttrId;
+use dir_tree::schema_tables::AttrId;
 use ldap_msg::ResultCode;
 
 /// Whether there are no values.

@@ -7,7 +7,7 @@ ghost use Rattle.entry_changes.specs.Renaming.{is_same_pair, has_pair, gone_amon
 use crate::fault::NoMemory;
 use dir_tree::Entry;
 use dir_tree::dn_names::{Dn, Pair};
-use op_write::add_own_values;
+use ldif_load::add_own_values;
 use std::alloc::Global;
 
 // Whether the pairs have one type and values that match.

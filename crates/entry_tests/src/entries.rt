@@ -2,7 +2,7 @@
 use crate::fixtures::{entry, name, put, set_one};
 use dir_tree::Entry;
 use dir_tree::dn_names::same;
-use dir_tree::schema_core::{AttrId, row};
+use dir_tree::schema_tables::{AttrId, row};
 use std::alloc::Global;
 use std::process::Abort;
 use std::str;

@@ -1,7 +1,7 @@
 //! Names, values and entries that the tests make.
 use dir_tree::Entry;
 use dir_tree::dn_names::{Dn, Value, make_value, parse};
-use dir_tree::schema_core::attr;
+use dir_tree::schema_tables::attr;
 use std::alloc::Global;
 use std::test::Fail;
 

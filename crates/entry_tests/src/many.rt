@@ -1,7 +1,7 @@
 //! Attributes of many values, beside which the order of keys is kept.
 use crate::fixtures::{entry, put};
 use dir_tree::Entry;
-use dir_tree::schema_core::AttrId;
+use dir_tree::schema_tables::AttrId;
 use std::alloc::Global;
 use std::process::Abort;
 use std::str;

@@ -4,7 +4,7 @@ use dir_tree::dn_names::{
     BadName, Dn, Pair, compare_front, compare_names, is_key_of, is_prefix, join, local, make_value,
     parse, parse_rdn, print, same,
 };
-use dir_tree::schema_core::{attr, row};
+use dir_tree::schema_tables::{attr, row};
 use std::alloc::Global;
 use std::process::Abort;
 use std::str;

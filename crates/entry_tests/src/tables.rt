@@ -1,5 +1,5 @@
 //! The tables of the schema: each row by name in odd case and by object identifier.
-use dir_tree::schema_core::{
+use dir_tree::schema_tables::{
     AttrId, ClassId, ClassKind, Row, Syntax, allowed, attr, attr_named, class, class_kind,
     class_oid, class_with, is_dotted_oid, oid_of, required, row, superior,
 };

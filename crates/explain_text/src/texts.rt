@@ -11,7 +11,7 @@ use crate::lines::{outcome_line, put_all_kept, put_counts, put_subentries};
 use acdf_core::explain;
 use acdf_filters::aci_item::Permission;
 use acdf_filters::{Item, Requester};
-use acdf_lists::Dir;
+use aci_lists::Dir;
 use dir_tree::dn_names::Dn;
 use dir_tree::{EntryNo, NoMemory};
 use question_words::AskedDecision;

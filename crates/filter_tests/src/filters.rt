@@ -5,8 +5,8 @@ use crate::steps::Step::{
     self, And, Approx, AtLeast, AtMost, Equal, Extensible, Not, Or, Parts, Present,
 };
 use crate::steps::filter;
-use dir_tree::schema_core::AttrId;
-use filter_core::{Truth, evaluate, is_true, prepare_filter};
+use dir_tree::schema_tables::AttrId;
+use filter_match::{Truth, evaluate, is_true, prepare_filter};
 use std::alloc::Global;
 use std::process::Abort;
 use std::test::*;

@@ -1,7 +1,7 @@
 //! Entries that the tests make.
 use dir_tree::Entry;
 use dir_tree::dn_names::{make_value, parse};
-use dir_tree::schema_core::attr;
+use dir_tree::schema_tables::attr;
 use std::alloc::Global;
 use std::test::Fail;
 

@@ -3,8 +3,8 @@ ghost use Rattle.std.specs.Prelude.{◌≡◌, ◌==◌, not};
 ghost use Rattle.std.specs.Str.{bytes_eq};
 
 use dir_tree::dn_names::Value;
-use dir_tree::schema_core::AttrId;
-use filter_core::Allow;
+use dir_tree::schema_tables::AttrId;
+use filter_match::Allow;
 use std::cell::Cell;
 
 // FilterMatch is granted on all types but one, and on all values but those of some octets. Each question is counted.

@@ -1,8 +1,8 @@
 //! Entries and directories of texts, and what directories keep as text.
 
-use acdf_lists::Dir;
+use aci_lists::Dir;
 use dir_tree::dn_names::{make_value, parse, print};
-use dir_tree::schema_core::attr;
+use dir_tree::schema_tables::attr;
 use dir_tree::{Entry, EntryNo, Scope, Tree};
 use std::alloc::Global;
 use std::test::Fail;

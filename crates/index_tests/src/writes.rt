@@ -1,7 +1,7 @@
 //! Writes of every kind, one after the other, to both directories.
 
 use crate::directories::{Attributes, entry, kept, kept_at, new_at, number, said, tree};
-use acdf_lists::{Dir, PlainDir};
+use aci_lists::{Dir, PlainDir};
 use aci_index::IndexedDir;
 use std::alloc::Global;
 use std::test::Fail;

@@ -1,7 +1,7 @@
 //! An attribute's type and a value that is asserted of it (RFC 4511 4.1.6).
 
 ghost use Rattle.std.specs.Prelude.{◌≡◌, ◌++◌, OnOk};
-ghost use Rattle.ber_core.specs.write.Element.{IsTag};
+ghost use Rattle.ber_elements.specs.write.Element.{IsTag};
 ghost use Rattle.ber_layout.specs.laid.Layouts.{writes};
 ghost use Rattle.ber_layout.specs.write.Spellings.{Extends, element_octets};
 ghost use Rattle.ldap_filter.specs.Assertion.{assertion_layout};

@@ -1,7 +1,7 @@
 //! Filters written.
 
 ghost use Rattle.std.specs.Prelude.{◌≡◌, ◌++◌, OnOk, List, ℕ, Option};
-ghost use Rattle.ber_core.specs.write.Element.{IsTag};
+ghost use Rattle.ber_elements.specs.write.Element.{IsTag};
 ghost use Rattle.ber_layout.specs.laid.Layouts.{writes};
 ghost use Rattle.ber_layout.specs.write.Spellings.{Extends, element_octets};
 ghost use Rattle.ldap_filter.specs.filter.Nodes.{filter_of_node};

@@ -1,6 +1,6 @@
 -- Bind requests (RFC 4511 4.2).
 use Rattle.std.specs.Prelude.{◌≡◌, ◌≢◌, ℕ, List, [], Option, Some, ◌==◌, if◌then◌else◌}
-use Rattle.ber_core.specs.write.Element.{IsTag}
+use Rattle.ber_elements.specs.write.Element.{IsTag}
 use Rattle.ber_layout.specs.element.Pieces.{◌>>=◌}
 use Rattle.ber_layout.specs.laid.Layouts.{Layout, Value, reads}
 use Rattle.ber_layout.specs.laid.Layouts.Layout.{AnyOctets, Number, Further, AnyElement, Then}

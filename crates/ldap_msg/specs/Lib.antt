@@ -13,5 +13,5 @@ pub mod laws
 -- the words of crates below, handed on
 pub use Rattle.ldap_filter.specs as ldap_filter
 pub use Rattle.ber_layout.specs as ber_layout
-pub use Rattle.ber_core.specs as ber_core
+pub use Rattle.ber_elements.specs as ber_elements
 pub use Rattle.plain_values.specs as plain_values

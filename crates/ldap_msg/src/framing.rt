@@ -5,7 +5,7 @@ ghost use Rattle.ldap_msg.specs.declared.kinds.Frame.{Frame};
 ghost use Rattle.ldap_msg.specs.framing.Streams.{IsFrame, framed, frame_at};
 
 use crate::kinds::{Frame, MAX_CONTENT};
-use ber_core::{Header, header};
+use ber_elements::{Header, header};
 
 #[tactic(auto, unfolding(crate::specs::framing::Streams::frame_at, crate::specs::framing::Streams::framed))]
 fn framing(bytes: &[u8]) -> Frame

@@ -18,7 +18,7 @@ mod room;
 mod search;
 mod writing;
 
-pub use ber_core;
+pub use ber_elements;
 pub use ber_layout;
 pub use ber_layout::ReadFault;
 pub use framing::frame;

@@ -1,7 +1,7 @@
 //! The operations and the responses by their tags (RFC 4511 4.2 to 4.12), and the result codes (RFC 4511 4.1.9).
 
 ghost use Rattle.std.specs.Prelude.{◌≡◌, ◌<◌};
-ghost use Rattle.ber_core.specs.write.Element.{IsTag};
+ghost use Rattle.ber_elements.specs.write.Element.{IsTag};
 ghost use Rattle.ldap_msg.specs.operations.Operations.{request_tag, operation_of, response_tag, response_of};
 ghost use Rattle.ldap_msg.specs.operations.ResultCodes.{code_number};
 

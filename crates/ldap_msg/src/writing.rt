@@ -13,7 +13,7 @@ use crate::extended::put_extended;
 use crate::kinds::{Message, NoMemory, Request};
 use crate::operations::Operation;
 use crate::search::put_search;
-use ber_core::put_int;
+use ber_elements::put_int;
 use ber_layout::{Laid, enclose, put_number};
 
 impl Request {

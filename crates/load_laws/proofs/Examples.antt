@@ -9,8 +9,8 @@ use Prim.Native.String.{String}
 use Rattle.dir_tree.specs.match_rules.Folding.{folded_octets}
 use Rattle.dir_tree.specs.match_rules.Keys.{prepared_text, key_of}
 use Rattle.dir_tree.specs.match_rules.rules.Syntaxes.{is_of}
-use Rattle.dir_tree.specs.schema_core.Attributes.{attributes}
-use Rattle.dir_tree.specs.schema_core.classes.Classes.{classes}
+use Rattle.dir_tree.specs.schema_tables.Attributes.{attributes}
+use Rattle.dir_tree.specs.schema_tables.classes.Classes.{classes}
 use Rattle.dir_tree.specs.dn_names.name.GoodNames.{IsGoodRdn}
 use Rattle.dir_tree.specs.dn_names.name.Names.{Keyed}
 use Rattle.dir_tree.specs.dn_names.order.NameOrder.{name_cmp, is_same}
@@ -20,10 +20,10 @@ use Rattle.dir_tree.specs.Entry.{EntryInformation, IsGoodAttribute}
 use Rattle.dir_tree.specs.classes.EntryClasses.{has_class}
 use Rattle.dir_tree.specs.subentries.Points.{is_subentry, is_access_subentry}
 use Rattle.dir_tree.specs.tree.Trees.{IsTree}
-use Rattle.op_write.specs.ldif_core.writing.WrittenFile.{written_file}
+use Rattle.ldif_load.specs.ldif_records.writing.WrittenFile.{written_file}
 use Rattle.aci_item.specs.Rules.{lacks_own_value, has_other_structural, breaks_classes, has_unread, has_two_values, is_misplaced, is_past_limits, broken_rule, MeetsRules, IsGoodTree}
-use Rattle.op_write.specs.load.Loading.{loaded_value}
-use Rattle.op_write.specs.load.DataFile.{loads}
+use Rattle.ldif_load.specs.load.Loading.{loaded_value}
+use Rattle.ldif_load.specs.load.DataFile.{loads}
 use Rattle.load_laws.specs.laws.Loadable.{IsLoadableValue, IsLoadable}
 use Rattle.load_laws.proofs.laws.OctetLemmas.{IsBytes-from_AreBelow, IsBytes-from_IsUtf8}
 use Rattle.load_laws.proofs.laws.ValueLemmas.{IsLoadableValue-loaded}

@@ -4,10 +4,10 @@ ghost use Rattle.std.specs.Prelude.{◌≡◌, ◌≤◌, ℕ, List, Ok, Err};
 ghost use Rattle.std.specs.List.{AllByRecursion};
 ghost use Rattle.base64.specs.GeneralPurpose.{IsBytes};
 ghost use Rattle.dir_tree.specs.Entry.{EntryInformation};
-ghost use Rattle.op_write.specs.ldif_core.writing.Written.{AreInTable};
-ghost use Rattle.op_write.specs.ldif_core.writing.WrittenFile.{written_file};
+ghost use Rattle.ldif_load.specs.ldif_records.writing.Written.{AreInTable};
+ghost use Rattle.ldif_load.specs.ldif_records.writing.WrittenFile.{written_file};
 ghost use Rattle.aci_item.specs.Rules.{AreGood, IsGoodTree};
-ghost use Rattle.op_write.specs.load.DataFile.{FileFault, loads};
+ghost use Rattle.ldif_load.specs.load.DataFile.{FileFault, loads};
 ghost use Rattle.load_laws.specs.laws.Loadable.{IsLoadable};
 
 /// What a data file of octets loads is a good tree (RFC 2849).

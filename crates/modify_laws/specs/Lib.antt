@@ -2,4 +2,4 @@
 pub mod laws
 -- the words of crates below, handed on
 pub use Rattle.op_modify.specs as op_modify
-pub use Rattle.op_update.specs as op_update
+pub use Rattle.op_add_delete.specs as op_add_delete

@@ -8,13 +8,13 @@ ghost use Rattle.acdf_filters.specs.declared.asking.Requester.{Requester};
 ghost use Rattle.ldap_msg.specs.declared.kinds.ModifyRequest.{ModifyRequest};
 ghost use Rattle.ldap_msg.specs.declared.kinds.RenameRequest.{RenameRequest};
 ghost use Rattle.ldap_msg.specs.declared.kinds.LdapResult.{LdapResult};
-ghost use Rattle.op_update.specs.adding.Updates.{IsChanged};
+ghost use Rattle.op_add_delete.specs.adding.Updates.{IsChanged};
 ghost use Rattle.op_modify.specs.Modifying.{modified};
 ghost use Rattle.op_modify.specs.Renames.{renamed};
 ghost use Rattle.modify_laws.specs.laws.Granting.{MayModify, MayRename};
 
 use entry_changes::laws::changes_keep_attributes_good;
-use op_update::schema_rules::laws::a_tree_stays_good_in_place;
+use op_add_delete::schema_rules::laws::a_tree_stays_good_in_place;
 
 /// A good tree stays good, whatever is modified or renamed, and by whom.
 pub fn a_good_tree_stays_good_when_changed()

@@ -5,4 +5,4 @@
 pub mod laws;
 
 pub use op_modify;
-pub use op_update;
+pub use op_add_delete;

@@ -8,7 +8,7 @@ ghost use Rattle.op_bind.specs.Binds.{has_password};
 
 use crate::passwords::accepts;
 use dir_tree::dn_names::Dn;
-use dir_tree::schema_core::AttrId;
+use dir_tree::schema_tables::AttrId;
 use dir_tree::{Entry, Tree};
 
 /// The entry of the name.

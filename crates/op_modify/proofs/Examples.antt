@@ -3,7 +3,7 @@ use Rattle.std.proofs.Common.{◌≡◌, ℕ, true, false, [], ◌∷◌, List, 
 use Rattle.std.specs.Prelude.{codes}
 use Rattle.std.specs.Str.{is_utf8, chars}
 use lib.Utf8.{encode}
-use Rattle.dir_tree.specs.schema_core.Attributes.{attributes}
+use Rattle.dir_tree.specs.schema_tables.Attributes.{attributes}
 use Rattle.dir_tree.specs.match_rules.Keys.{key_of}
 use Rattle.dir_tree.specs.match_rules.rules.Syntaxes.{is_of}
 use Rattle.dir_tree.specs.dn_names.name.Names.{Keyed, RdnSequence}
@@ -16,8 +16,8 @@ use Rattle.entry_changes.specs.declared.kind.ChangeKind.TheVariants as kind
 use Rattle.ldap_msg.specs.declared.operations.ResultCode.TheVariants as code
 use Rattle.ldap_msg.specs.declared.kinds.Change.{Change}
 use Rattle.read_model.specs.Views.{result_of}
-use Rattle.op_update.specs.reading.NewEntries.{read_values, repeats}
-use Rattle.op_update.specs.adding.Updates.{refused}
+use Rattle.op_add_delete.specs.reading.NewEntries.{read_values, repeats}
+use Rattle.op_add_delete.specs.adding.Updates.{refused}
 use Rattle.op_modify.specs.reading.ReadChanges.{is_no_change, change_of, read_each, read_changes}
 use Rattle.op_modify.specs.Modifying.{modified_as, modified_named}
 use Rattle.op_modify.specs.Renames.{moves, is_unwilling, new_name, taken_refusal, other_named, renamed_by}

@@ -6,6 +6,6 @@ pub mod Renames
 pub mod asker
 pub mod replacing
 -- the words of crates below, handed on
-pub use Rattle.op_update.specs as op_update
+pub use Rattle.op_add_delete.specs as op_add_delete
 pub use Rattle.acdf_filters.specs.aci_item as aci_item
 pub use Rattle.ldap_msg.specs as ldap_msg

@@ -17,8 +17,8 @@ use Rattle.ldap_msg.specs.declared.operations.ResultCode.TheVariants as code
 use Rattle.ldap_msg.specs.declared.kinds.Change.{Change}
 use Rattle.ldap_msg.specs.declared.kinds.ModifyRequest.{ModifyRequest}
 use Rattle.read_model.specs.Views.{view_of, hidden, result_of}
-use Rattle.op_update.specs.adding.Adding.{rule_refusal}
-use Rattle.op_update.specs.adding.Updates.{Changed, refused, unless}
+use Rattle.op_add_delete.specs.adding.Adding.{rule_refusal}
+use Rattle.op_add_delete.specs.adding.Updates.{Changed, refused, unless}
 use Rattle.op_modify.specs.reading.ReadChanges.{read_changes}
 
 -- the entry that the changes leave takes the target's place, unless it breaks a rule there

@@ -20,9 +20,9 @@ use Rattle.ldap_msg.specs.declared.operations.ResultCode.TheVariants as code
 use Rattle.ldap_msg.specs.declared.kinds.LdapResult.{LdapResult}
 use Rattle.ldap_msg.specs.declared.kinds.RenameRequest.{RenameRequest}
 use Rattle.read_model.specs.Views.{view_of, hidden, result_of}
-use Rattle.op_update.specs.op_asking.Targets.{is_suffix, not_leaf}
-use Rattle.op_update.specs.adding.Adding.{rule_refusal}
-use Rattle.op_update.specs.adding.Updates.{Changed, refused, unless}
+use Rattle.op_add_delete.specs.directory.Targets.{is_suffix, not_leaf}
+use Rattle.op_add_delete.specs.adding.Adding.{rule_refusal}
+use Rattle.op_add_delete.specs.adding.Updates.{Changed, refused, unless}
 use Rattle.op_modify.specs.declared.renaming.Renaming.{Renaming}
 
 -- ---- what a request says

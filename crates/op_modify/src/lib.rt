@@ -12,5 +12,5 @@ mod replacing;
 pub use acdf_filters::aci_item;
 pub use ldap_msg;
 pub use modifying::modify;
-pub use op_update;
+pub use op_add_delete;
 pub use renames::rename;

@@ -5,7 +5,7 @@ ghost use Rattle.dir_tree.specs.tree.Trees.{named_in};
 ghost use Rattle.dir_tree.specs.tree.Numbered.{entry_of, entries_of};
 ghost use Rattle.acdf_filters.specs.laws.Granted.{granted};
 ghost use Rattle.entry_changes.specs.Change.{changed_by};
-ghost use Rattle.op_update.specs.adding.Updates.{IsChanged};
+ghost use Rattle.op_add_delete.specs.adding.Updates.{IsChanged};
 ghost use Rattle.op_modify.specs.reading.ReadChanges.{read_changes};
 ghost use Rattle.op_modify.specs.Modifying.{modified_as, modified_target, modified_by, modified_named, modified};
 ghost use Rattle.op_modify.specs.replacing.Steps.{IsChecked};
@@ -19,9 +19,9 @@ use dir_tree::dn_names::Dn;
 use dir_tree::{Entry, NoMemory};
 use entry_changes::{ChangeFault, EntryChange, change_entry};
 use ldap_msg::{Change, LdapResult, ModifyRequest, ResultCode};
-use op_update::Fault;
-use op_update::acdf_lists::Dir;
-use op_update::op_asking::{Asking, Target, find_target, hidden, read_named, result_of};
+use op_add_delete::Fault;
+use op_add_delete::aci_lists::Dir;
+use op_add_delete::directory::{Asking, Target, find_target, hidden, read_named, result_of};
 use std::alloc::{AllocError, Global};
 
 // What comes of the entry that the changes leave.

@@ -3,12 +3,12 @@
 ghost use Rattle.std.specs.Prelude.{◌≡◌};
 ghost use Rattle.std.specs.List.{list_any};
 ghost use Rattle.ldap_msg.specs.plain_values.Answers.{Answers};
-ghost use Rattle.op_update.specs.reading.Reading.{cause_of, attribute_of};
+ghost use Rattle.op_add_delete.specs.reading.Reading.{cause_of, attribute_of};
 ghost use Rattle.op_modify.specs.reading.ReadChanges.{is_no_change, change_of, change_with, read_change, read_each, read_changes};
 
 use entry_changes::{ChangeKind, EntryChange};
 use ldap_msg::{Change, ResultCode};
-use op_update::{Fault, Given, read_attribute, repeats};
+use op_add_delete::{Fault, Given, read_attribute, repeats};
 use std::alloc::Global;
 
 // Whether it is no change that may be asked for.

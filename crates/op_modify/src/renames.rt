@@ -6,7 +6,7 @@ ghost use Rattle.dir_tree.specs.tree.Numbered.{entry_of, entries_of};
 ghost use Rattle.read_model.specs.Views.{result_of};
 ghost use Rattle.ldap_msg.specs.plain_values.Refusals.{first_some};
 ghost use Rattle.entry_changes.specs.Renaming.{renamed_entry};
-ghost use Rattle.op_update.specs.adding.Updates.{IsChanged};
+ghost use Rattle.op_add_delete.specs.adding.Updates.{IsChanged};
 ghost use Rattle.op_modify.specs.Renames.{new_name, other_named, taken_refusal, renamed_as, renamed_target, renamed_by, renamed};
 ghost use Rattle.op_modify.specs.replacing.Steps.{IsChecked, target_rows, place_rows};
 
@@ -18,8 +18,8 @@ use dir_tree::dn_names::{Dn, join, same};
 use dir_tree::{Entry, NoMemory, Tree};
 use entry_changes::rename_entry;
 use ldap_msg::{LdapResult, RenameRequest, ResultCode};
-use op_update::acdf_lists::Dir;
-use op_update::op_asking::{Asking, Target, find_target, hidden, is_suffix, not_leaf, result_of};
+use op_add_delete::aci_lists::Dir;
+use op_add_delete::directory::{Asking, Target, find_target, hidden, is_suffix, not_leaf, result_of};
 use std::alloc::{AllocError, Global};
 
 // Why the target, which has the name, is not renamed, whatever the new name is.

@@ -9,7 +9,7 @@ use dir_tree::NoMemory;
 use dir_tree::dn_names::{BadName, Dn, compare_front, parse_rdn};
 use ldap_msg::RenameRequest;
 use ldap_msg::plain_values::Octets;
-use op_update::op_asking::read_named;
+use op_add_delete::directory::read_named;
 use std::alloc::{AllocError, Global};
 
 /// A rename request, read.

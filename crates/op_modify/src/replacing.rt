@@ -5,15 +5,15 @@ ghost use Rattle.dir_tree.specs.Entry.{EntryInformation};
 ghost use Rattle.dir_tree.specs.tree.Trees.{put_in, taken_out};
 ghost use Rattle.dir_tree.specs.tree.Numbered.{entry_of, entries_of};
 ghost use Rattle.acdf_filters.specs.aci_item.Rules.{broken_rule};
-ghost use Rattle.op_update.specs.adding.Adding.{rule_refusal};
-ghost use Rattle.op_update.specs.adding.Updates.{Changed, IsChanged};
+ghost use Rattle.op_add_delete.specs.adding.Adding.{rule_refusal};
+ghost use Rattle.op_add_delete.specs.adding.Updates.{Changed, IsChanged};
 ghost use Rattle.op_modify.specs.replacing.Steps.{IsChecked};
 
 use dir_tree::{Entry, EntryNo, NoMemory, Tree};
 use ldap_msg::LdapResult;
-use op_update::acdf_lists::Dir;
-use op_update::op_asking::{Target, result_numbered};
-use op_update::schema_rules::{Broken, check_entry};
+use op_add_delete::aci_lists::Dir;
+use op_add_delete::directory::{Target, result_numbered};
+use op_add_delete::schema_rules::{Broken, check_entry};
 use std::alloc::{AllocError, Global};
 
 /// What came of the checks of a change.

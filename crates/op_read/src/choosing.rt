@@ -2,7 +2,7 @@
 
 ghost use Rattle.std.specs.Prelude.{◌≡◌, ◌++◌, ℕ, List, [], IfOk, OnOk, map, filter, flat_map, if◌then◌else◌};
 ghost use Rattle.std.specs.List.{list_any};
-ghost use Rattle.dir_tree.specs.schema_core.Attributes.{is_operational, name_of};
+ghost use Rattle.dir_tree.specs.schema_tables.Attributes.{is_operational, name_of};
 ghost use Rattle.acdf_filters.specs.Asking as protected;
 ghost use Rattle.acdf_filters.specs.aci_item.declared.permission.Permission.TheVariants as permission;
 ghost use Rattle.read_model.specs.Choosing.{is_chosen_by, is_chosen, is_sent, readable_values, sent_attribute, sent_attributes, sent_entry};
@@ -14,11 +14,11 @@ use acdf_filters::Item;
 use acdf_filters::aci_item::Permission;
 use dir_tree::NoMemory;
 use dir_tree::dn_names::Value;
-use dir_tree::schema_core::{AttrId, attr_named, row};
+use dir_tree::schema_tables::{AttrId, attr_named, row};
 use ldap_msg::plain_values::{Octets, OneOrMany};
 use ldap_msg::{KindValues, Reply};
-use op_asking::acdf_lists::Dir;
-use op_asking::{copied, printed};
+use directory::aci_lists::Dir;
+use directory::{copied, printed};
 use std::alloc::Global;
 
 /// What a text of a selection chooses (RFC 4511 4.5.1.8).

@@ -2,14 +2,14 @@
 
 ghost use Rattle.std.specs.Prelude.{◌≡◌, ◌&&◌, Some, None, IfOk, filter, []};
 ghost use Rattle.std.specs.Str.{bytes_eq};
-ghost use Rattle.dir_tree.specs.schema_core.Attributes.{IsAttrId, attr_of};
+ghost use Rattle.dir_tree.specs.schema_tables.Attributes.{IsAttrId, attr_of};
 ghost use Rattle.dir_tree.specs.dn_names.make.NameValues.{value_of};
 ghost use Rattle.dir_tree.specs.tree.Numbered.{entries_of};
 ghost use Rattle.acdf_filters.specs.Asking as protected;
 ghost use Rattle.acdf_filters.specs.aci_item.declared.permission.Permission.TheVariants as permission;
 ghost use Rattle.read_model.specs.Views.{view_of, result_of};
 ghost use Rattle.read_model.specs.CompareReplies.{has_equal, compared, readable, compared_in, compared_value, compared_kind, compare_result};
-ghost use Rattle.op_asking.specs.Asking.{view_in};
+ghost use Rattle.directory.specs.Asking.{view_in};
 ghost use Rattle.op_read.specs.comparing.Alike.{ComparesAlike};
 ghost use Rattle.op_read.specs.seen.Seeing.{row_in, rows_at};
 
@@ -18,11 +18,11 @@ use acdf_filters::aci_item::Permission;
 use acdf_filters::{Item, Requester};
 use dir_tree::dn_names::{Dn, Value, make_value};
 use dir_tree::match_rules::PrepareFault;
-use dir_tree::schema_core::{AttrId, attr_named};
+use dir_tree::schema_tables::{AttrId, attr_named};
 use dir_tree::{EntryNo, NoMemory};
 use ldap_msg::{CompareRequest, LdapResult, ResultCode};
-use op_asking::acdf_lists::Dir;
-use op_asking::{Asking, find_target, hidden, read_named, result_of};
+use directory::aci_lists::Dir;
+use directory::{Asking, find_target, hidden, read_named, result_of};
 use std::alloc::{AllocError, Global};
 
 // Whether the value is the one asserted, and may be compared; the decision is taken last.

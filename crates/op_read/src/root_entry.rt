@@ -3,17 +3,17 @@
 ghost use Rattle.std.specs.Prelude.{◌≡◌, ◌++◌, ◌||◌, ◌&&◌, not, true, false, [], ◌∷◌, IfOk, OnOk, codes, flat_map, if◌then◌else◌};
 ghost use Rattle.std.specs.List.{list_any};
 ghost use Rattle.std.specs.Str.{bytes_eq};
-ghost use Rattle.dir_tree.specs.schema_core.Naming.{is_same_name};
+ghost use Rattle.dir_tree.specs.schema_tables.Naming.{is_same_name};
 ghost use Rattle.read_model.specs.RootEntry.{suffix_name, is_root_chosen_by, is_root_chosen, sent_root, root_entry, asks_for_root, finds_root};
-ghost use Rattle.op_asking.specs.Asking.{view_in};
+ghost use Rattle.directory.specs.Asking.{view_in};
 ghost use Rattle.op_read.specs.root_entry.Rooting.{root_of, root_sent_of, roots_with};
 
 use dir_tree::NoMemory;
-use dir_tree::schema_core::{AttrId, attr_named};
+use dir_tree::schema_tables::{AttrId, attr_named};
 use ldap_msg::plain_values::{Octets, OneOrMany};
 use ldap_msg::{Filter, KindValues, Node, Reply, SearchRequest};
-use op_asking::acdf_lists::Dir;
-use op_asking::{Asking, copied, printed};
+use directory::aci_lists::Dir;
+use directory::{Asking, copied, printed};
 use std::alloc::Global;
 
 /// An attribute of the root DSE, which has one value.

@@ -8,7 +8,7 @@ ghost use Rattle.read_model.specs.Views.{view_of, hidden};
 ghost use Rattle.read_model.specs.Selecting.{selected};
 ghost use Rattle.read_model.specs.RootEntry.{finds_root, root_entry, root_replies};
 ghost use Rattle.read_model.specs.SearchReplies.{replies_octets, found_replies, replies_at, replies_by, search_replies};
-ghost use Rattle.op_asking.specs.Asking.{view_in};
+ghost use Rattle.directory.specs.Asking.{view_in};
 ghost use Rattle.op_read.specs.comparing.Alike.{SendsAlike};
 
 use crate::choosing::{Selection, read_choices};
@@ -18,9 +18,9 @@ use acdf_filters::Requester;
 use dir_tree::dn_names::Dn;
 use dir_tree::{EntryNo, NoMemory};
 use ldap_msg::{ResultCode, SearchRequest, put_reply};
-use op_asking::acdf_lists::Dir;
-use op_asking::{Asking, hidden, read_named, result_of};
-use read_model::filter_core::prepare_filter;
+use directory::aci_lists::Dir;
+use directory::{Asking, hidden, read_named, result_of};
+use read_model::filter_match::prepare_filter;
 use std::alloc::Global;
 
 /// A request to search, with the number of its message and what the control of subentries says (RFC 3672 3).

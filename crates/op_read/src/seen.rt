@@ -4,16 +4,16 @@ ghost use Rattle.std.specs.Prelude.{◌≡◌, Some};
 ghost use Rattle.dir_tree.specs.tree.Numbered.{entry_of};
 ghost use Rattle.acdf_filters.specs.Asking.{protected_of};
 ghost use Rattle.read_model.specs.Selecting.{permits_of};
-ghost use Rattle.op_asking.specs.Asking.{Knows, knows-prop};
+ghost use Rattle.directory.specs.Asking.{Knows, knows-prop};
 ghost use Rattle.op_read.specs.seen.Seeing.{row_in};
 
 use acdf_filters::aci_item::Permission;
 use acdf_filters::{Item, Membership, Requester};
 use dir_tree::dn_names::Value;
-use dir_tree::schema_core::AttrId;
+use dir_tree::schema_tables::AttrId;
 use dir_tree::{Entry, EntryNo};
-use op_asking::acdf_lists::Dir;
-use read_model::filter_core::Allow;
+use directory::aci_lists::Dir;
+use read_model::filter_match::Allow;
 
 /// An entry of the directory, as the requester sees it.
 #[derive(Drop)]

@@ -8,8 +8,8 @@ use crate::seen::Seen;
 use acdf_filters::Item;
 use acdf_filters::aci_item::Permission;
 use dir_tree::{Entry, Scope};
-use op_asking::acdf_lists::Dir;
-use read_model::filter_core::{Prepared, is_true};
+use directory::aci_lists::Dir;
+use read_model::filter_match::{Prepared, is_true};
 
 /// The scope of the number (RFC 4511 4.5.1.2).
 pub(crate) fn scope_of(number: u8) -> Scope

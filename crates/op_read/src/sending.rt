@@ -8,7 +8,7 @@ ghost use Rattle.ldap_msg.specs.declared.kinds.Reply.TheVariants as reply;
 ghost use Rattle.read_model.specs.Selecting.{is_shown};
 ghost use Rattle.read_model.specs.Choosing.{is_chosen};
 ghost use Rattle.read_model.specs.SearchReplies.{replies_octets, nothing_found};
-ghost use Rattle.op_asking.specs.Asking.{view_in};
+ghost use Rattle.directory.specs.Asking.{view_in};
 ghost use Rattle.op_read.specs.choosing.Choices.{chooses};
 ghost use Rattle.op_read.specs.seen.Seeing.{row_in, scope_of};
 ghost use Rattle.op_read.specs.Sending.{shown_at, shown_among, entry_octets, Goes, IsSent, ended_by};
@@ -19,9 +19,9 @@ use crate::selecting::{is_found, is_seen, scope_of};
 use dir_tree::dn_names::Dn;
 use dir_tree::{EntryNo, NoMemory};
 use ldap_msg::{LdapResult, Reply, ResultCode, SearchRequest, put_reply};
-use op_asking::acdf_lists::Dir;
-use op_asking::{Asking, discloses, no_such_object, result_of};
-use read_model::filter_core::Prepared;
+use directory::aci_lists::Dir;
+use directory::{Asking, discloses, no_such_object, result_of};
+use read_model::filter_match::Prepared;
 use std::alloc::Global;
 
 /// A search, with what is made of its request once for all entries.

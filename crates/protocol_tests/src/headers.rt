@@ -1,6 +1,6 @@
 //! Headers of elements (X.690 8.1.2, 8.1.3).
 
-use ldap_msg::ber_core::{Header, header, header_len, put_header};
+use ldap_msg::ber_elements::{Header, header, header_len, put_header};
 use std::alloc::{AllocError, Global};
 use std::test::Fail;
 

@@ -1,6 +1,6 @@
 //! Contents of integers (X.690 8.3).
 
-use ldap_msg::ber_core::{int_len, put_int, read_int};
+use ldap_msg::ber_elements::{int_len, put_int, read_int};
 use std::alloc::{AllocError, Global};
 use std::test::Fail;
 

@@ -1,7 +1,7 @@
 -- The words of a question on known cases.
 use Rattle.std.proofs.Common.{◌≡◌, [], Some, None, refl}
 use Rattle.std.specs.Prelude.{codes}
-use Rattle.dir_tree.specs.schema_core.Attributes.{attributes}
+use Rattle.dir_tree.specs.schema_tables.Attributes.{attributes}
 use Rattle.dir_tree.specs.match_rules.Keys.{key_of}
 use Rattle.dir_tree.specs.match_rules.rules.Syntaxes.{is_of}
 use Rattle.dir_tree.specs.dn_names.Classes.{class_of}

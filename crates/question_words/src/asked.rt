@@ -7,7 +7,7 @@ ghost use Rattle.question_words.specs.asked.Questions.{item_asked};
 use acdf_filters::aci_item::Permission;
 use acdf_filters::{Item, Requester};
 use dir_tree::dn_names::{Dn, Value};
-use dir_tree::schema_core::AttrId;
+use dir_tree::schema_tables::AttrId;
 use std::alloc::AllocError;
 
 /// Memory is refused.

@@ -2,7 +2,7 @@
 
 ghost use Rattle.std.specs.Prelude.{◌≡◌, IfOk};
 ghost use Rattle.std.specs.Option.{option_map};
-ghost use Rattle.dir_tree.specs.schema_core.Attributes.{IsAttrId};
+ghost use Rattle.dir_tree.specs.schema_tables.Attributes.{IsAttrId};
 ghost use Rattle.dir_tree.specs.dn_names.make.NameValues.{value_of};
 ghost use Rattle.question_words.specs.asked.Questions.{item_asked};
 ghost use Rattle.question_words.specs.item.ItemWords.{item_of, kind_item, value_item};
@@ -11,7 +11,7 @@ use crate::asked::{AskedItem, NoMemory};
 use crate::cutting::{after, cut_at_equals};
 use dir_tree::dn_names::{Value, make_value};
 use dir_tree::match_rules::PrepareFault;
-use dir_tree::schema_core::{AttrId, attr_named};
+use dir_tree::schema_tables::{AttrId, attr_named};
 use std::alloc::{AllocError, Global};
 
 /// The item of `type:NAME`, by the name.

@@ -1,7 +1,7 @@
 -- How searches end and what a compare comes to, computed over a small tree, and that the premises can be met.
 use Rattle.std.proofs.Common.{◌≡◌, List, [], ◌∷◌, true, false, Some, None, Ok, refl}
 use Rattle.std.specs.Prelude.{codes}
-use Rattle.dir_tree.specs.schema_core.Attributes.{attr_of}
+use Rattle.dir_tree.specs.schema_tables.Attributes.{attr_of}
 use Rattle.dir_tree.specs.dn_names.name.Names.{Keyed, RdnSequence}
 use Rattle.dir_tree.specs.dn_names.order.NameOrder.{name_cmp, is_same, is_prefix_of}
 use Rattle.dir_tree.specs.dn_names.parsing.NameText.{read_name}

@@ -3,7 +3,7 @@ use Rattle.std.specs.Prelude.{ℕ, ◌==◌, Bool, false, not, List, [], ◌∷�
 use Rattle.std.specs.List.{list_any}
 use Rattle.std.specs.Option.{option_map_or}
 use Rattle.std.specs.Str.{bytes_eq}
-use Rattle.dir_tree.specs.schema_core.Attributes.{attr_of, name_of, is_operational}
+use Rattle.dir_tree.specs.schema_tables.Attributes.{attr_of, name_of, is_operational}
 use Rattle.dir_tree.specs.dn_names.name.Names.{Keyed}
 use Rattle.dir_tree.specs.dn_names.Printing.{print_name}
 use Rattle.dir_tree.specs.Entry.{Attribute}

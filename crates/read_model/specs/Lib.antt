@@ -6,4 +6,4 @@ pub mod RootEntry
 pub mod SearchReplies
 pub mod CompareReplies
 -- the words of crates below, handed on
-pub use Rattle.filter_core.specs as filter_core
+pub use Rattle.filter_match.specs as filter_match

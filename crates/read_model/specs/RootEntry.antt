@@ -3,8 +3,8 @@ use Rattle.std.specs.Prelude.{ℕ, ◌==◌, Bool, true, false, not, ◌&&◌, �
 use Rattle.std.specs.List.{list_any}
 use Rattle.std.specs.Option.{option_map_or}
 use Rattle.std.specs.Str.{bytes_eq}
-use Rattle.dir_tree.specs.schema_core.Attributes.{attr_of}
-use Rattle.dir_tree.specs.schema_core.Naming.{is_same_name}
+use Rattle.dir_tree.specs.schema_tables.Attributes.{attr_of}
+use Rattle.dir_tree.specs.schema_tables.Naming.{is_same_name}
 use Rattle.dir_tree.specs.dn_names.Printing.{print_name}
 use Rattle.dir_tree.specs.classes.EntryClasses.{object_class}
 use Rattle.ldap_msg.specs.ldap_filter.filter.Filters.{Filter}

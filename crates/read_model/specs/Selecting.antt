@@ -9,7 +9,7 @@ use Rattle.acdf_filters.specs.aci_item.declared.permission.Permission.TheVariant
 use Rattle.acdf_filters.specs.Asking.{Entry, Kind, Value}
 use Rattle.ldap_msg.specs.ldap_filter.filter.Filters.{Filter}
 use Rattle.ldap_msg.specs.declared.kinds.SearchRequest.{SearchRequest}
-use Rattle.filter_core.specs.Truth.{Permits, truth, is_true}
+use Rattle.filter_match.specs.Truth.{Permits, truth, is_true}
 use Rattle.read_model.specs.Views.{Row, View}
 
 -- the scope takes the entry in: baseObject 0, singleLevel 1, wholeSubtree 2

@@ -2,4 +2,4 @@
 //! alone, and their laws.
 #![tactic(auto)]
 
-pub use filter_core;
+pub use filter_match;

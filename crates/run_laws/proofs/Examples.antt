@@ -1,7 +1,7 @@
 -- The definitions, computed over trees that are numbers: an empty message counts one more, a message of one octet is said
 -- back, and one of two octets is told the number.
 use Rattle.std.proofs.Common.{◌≡◌, ℕ, ◌+◌, ◌==◌, Bool, true, false, cond, List, [], ◌∷◌, Some, None, length, refl}
-use Rattle.ldap_msg.specs.ber_core.read.Heading.{length_at, header_at}
+use Rattle.ldap_msg.specs.ber_elements.read.Heading.{length_at, header_at}
 use Rattle.ldap_msg.specs.framing.Streams.{framed, frame_at, whole_of, rest_behind, whole, rest_of, is_broken}
 use Rattle.session_model.specs.laws.Rules.{Rules, Answered, talk}
 use Rattle.session_model.specs.laws.Run.{Step, Opened, Bytes, Ended, HungUp, start, step, run, run_from, held_numbers}

@@ -7,4 +7,4 @@ pub use Rattle.session_model.specs.script_text as script_text
 pub use Rattle.ldap_msg.specs as ldap_msg
 pub use Rattle.ldap_msg.specs.ldap_filter as ldap_filter
 pub use Rattle.ldap_msg.specs.ber_layout as ber_layout
-pub use Rattle.ldap_msg.specs.ber_core as ber_core
+pub use Rattle.ldap_msg.specs.ber_elements as ber_elements

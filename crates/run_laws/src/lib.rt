@@ -5,6 +5,6 @@
 pub mod laws;
 
 pub use ldap_msg;
-pub use ldap_msg::{ber_core, ber_layout, ldap_filter};
+pub use ldap_msg::{ber_elements, ber_layout, ldap_filter};
 pub use session_model;
 pub use session_model::{script_text, wire_io};

@@ -2,15 +2,15 @@
 use Rattle.std.proofs.Common.{◌≡◌, ℕ, true, false, [], ◌∷◌, Some, None, refl}
 use Rattle.std.specs.Prelude.{List, codes, is_err}
 use Prim.Native.String.{String}
-use Rattle.dir_tree.specs.schema_core.Attributes.{attributes}
-use Rattle.dir_tree.specs.schema_core.classes.Classes.{classes}
+use Rattle.dir_tree.specs.schema_tables.Attributes.{attributes}
+use Rattle.dir_tree.specs.schema_tables.classes.Classes.{classes}
 use Rattle.dir_tree.specs.dn_names.name.Names.{Keyed, RdnSequence}
 use Rattle.dir_tree.specs.dn_names.order.NameOrder.{name_cmp, is_same, is_prefix_of}
 use Rattle.dir_tree.specs.Entry.{Attribute, EntryInformation}
 use Rattle.dir_tree.specs.classes.EntryClasses.{has_class}
 use Rattle.dir_tree.specs.subentries.Points.{is_point, is_subentry, is_access_subentry}
-use Rattle.dir_tree.specs.schema_core.Superclasses.{with_superclasses}
-use Rattle.dir_tree.specs.schema_core.declared.kinds.Syntax.TheVariants.{Subtree, Aci}
+use Rattle.dir_tree.specs.schema_tables.Superclasses.{with_superclasses}
+use Rattle.dir_tree.specs.schema_tables.declared.kinds.Syntax.TheVariants.{Subtree, Aci}
 use Rattle.aci_item.specs.subtree_spec.reading.SubtreeText.{read_subtree}
 use Rattle.aci_item.specs.reading.AciText.{read_item}
 use Rattle.aci_item.specs.Listed.{are_in_line}

@@ -4,8 +4,8 @@ use Rattle.std.specs.List.{filter_map, list_any}
 use Rattle.std.specs.Option.{option_map_or}
 use Rattle.dir_tree.specs.dn_names.name.Names.{Keyed}
 use Rattle.dir_tree.specs.Entry.{Attribute, has_kind}
-use Rattle.dir_tree.specs.schema_core.classes.Classes.{class_with}
-use Rattle.dir_tree.specs.schema_core.Superclasses.{with_superclasses}
+use Rattle.dir_tree.specs.schema_tables.classes.Classes.{class_with}
+use Rattle.dir_tree.specs.schema_tables.Superclasses.{with_superclasses}
 use Rattle.aci_item.specs.Listed.{all_classes, is_structural, are_in_line, is_among, required_by, permitted_by}
 
 -- the classes of the table that have the keys

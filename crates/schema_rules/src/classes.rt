@@ -3,7 +3,7 @@
 ghost use Rattle.std.specs.Prelude.{◌≡◌};
 ghost use Rattle.aci_item.specs.Listed.{is_structural, are_in_line};
 
-use dir_tree::schema_core::{ClassId, ClassKind, class_kind, is_or_above};
+use dir_tree::schema_tables::{ClassId, ClassKind, class_kind, is_or_above};
 
 /// Whether one of the two is the other, or a superclass of it.
 pub(crate) fn are_in_line(one: ClassId, other: ClassId) -> bool

@@ -4,7 +4,7 @@ ghost use Rattle.std.specs.Prelude.{◌≡◌, not, false, ◌||◌, slice_get};
 ghost use Rattle.std.specs.List.{list_any};
 ghost use Rattle.std.specs.Option.{option_map_or};
 ghost use Rattle.dir_tree.specs.Entry.{has_kind, kinds_of};
-ghost use Rattle.dir_tree.specs.schema_core.classes.Classes.{class_with};
+ghost use Rattle.dir_tree.specs.schema_tables.classes.Classes.{class_with};
 ghost use Rattle.schema_rules.specs.Classes.{class_lacks, AreOfClasses};
 ghost use Rattle.aci_item.specs.Listed.{all_classes, is_among, permitted_by};
 ghost use Rattle.aci_item.specs.Rules.{lacks_required, has_unpermitted, is_permitted_besides};
@@ -12,7 +12,7 @@ ghost use Rattle.aci_item.specs.Rules.{lacks_required, has_unpermitted, is_permi
 use crate::marks::{is_marked, permitted_by};
 use dir_tree::Entry;
 use dir_tree::dn_names::Value;
-use dir_tree::schema_core::{AttrId, ClassId, class_with, required, superior};
+use dir_tree::schema_tables::{AttrId, ClassId, class_with, required, superior};
 
 /// Whether an attribute that a class requires is absent.
 pub(crate) fn lacks_required(entry: &Entry) -> bool

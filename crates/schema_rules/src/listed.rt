@@ -3,7 +3,7 @@
 ghost use Rattle.std.specs.Prelude.{◌≡◌, false};
 ghost use Rattle.std.specs.List.{list_any};
 ghost use Rattle.std.specs.Option.{option_map_or};
-ghost use Rattle.dir_tree.specs.schema_core.classes.Classes.{class_with};
+ghost use Rattle.dir_tree.specs.schema_tables.classes.Classes.{class_with};
 ghost use Rattle.aci_item.specs.Listed.{is_structural};
 ghost use Rattle.schema_rules.specs.Classes.{is_apart, is_apart_from};
 ghost use Rattle.aci_item.specs.Rules.{lists_none, lists_unknown, lists_no_structural, lists_two_lines, lists_access_alone};
@@ -11,7 +11,7 @@ ghost use Rattle.aci_item.specs.Rules.{lists_none, lists_unknown, lists_no_struc
 use crate::classes::{are_in_line, is_structural};
 use dir_tree::Entry;
 use dir_tree::dn_names::Value;
-use dir_tree::schema_core::{AttrId, ClassId, class_with};
+use dir_tree::schema_tables::{AttrId, ClassId, class_with};
 
 /// Whether no class is listed.
 pub(crate) fn lists_none(entry: &Entry) -> bool

@@ -4,12 +4,12 @@
 ghost use Rattle.std.specs.Prelude.{◌≡◌, ◌==◌, ◌++◌, false, get_or, ℕ};
 ghost use Rattle.std.specs.List.{list_any};
 ghost use Rattle.std.specs.Option.{option_map_or};
-ghost use Rattle.dir_tree.specs.schema_core.classes.Classes.{class_with, required_of, allowed_of};
+ghost use Rattle.dir_tree.specs.schema_tables.classes.Classes.{class_with, required_of, allowed_of};
 ghost use Rattle.aci_item.specs.Listed.{is_among};
 ghost use Rattle.schema_rules.specs.Classes.{class_permits, MarksAlso};
 
 use dir_tree::dn_names::Value;
-use dir_tree::schema_core::{AttrId, ClassId, allowed, class_with, required, superior};
+use dir_tree::schema_tables::{AttrId, ClassId, allowed, class_with, required, superior};
 
 /// Whether the type is marked.
 pub(crate) fn is_marked(marks: &[bool; 256], kind: AttrId) -> bool

@@ -3,7 +3,7 @@
 ghost use Rattle.std.specs.Prelude.{◌≡◌, ◌==◌, ◌&&◌, ◌||◌, not, true, false};
 ghost use Rattle.std.specs.List.{list_any, list_all};
 ghost use Rattle.std.specs.Option.{option_map, option_map_or};
-ghost use Rattle.dir_tree.specs.schema_core.classes.Classes.{class_with};
+ghost use Rattle.dir_tree.specs.schema_tables.classes.Classes.{class_with};
 ghost use Rattle.aci_item.specs.Listed.{is_among, is_structural};
 ghost use Rattle.schema_rules.specs.Classes.{structural_in};
 ghost use Rattle.schema_rules.specs.check.Checking.{replaced};
@@ -12,7 +12,7 @@ ghost use Rattle.aci_item.specs.Rules.{are_among, has_other_structural};
 use crate::classes::is_structural;
 use crate::old::replaced;
 use dir_tree::dn_names::Value;
-use dir_tree::schema_core::{AttrId, ClassId, class_with};
+use dir_tree::schema_tables::{AttrId, ClassId, class_with};
 use dir_tree::{Entry, EntryNo, Tree};
 
 /// Whether the entry lists other structural classes than the one whose place it takes.

@@ -2,7 +2,7 @@
 
 ghost use Rattle.std.specs.Prelude.{◌≡◌, ◌≤◌, ◌+◌, ◌&&◌, [], false, length, min, nat_lt, slice_get, sum_by, is_err, IfOk};
 ghost use Rattle.std.specs.Option.{option_map_or};
-ghost use Rattle.dir_tree.specs.schema_core.Attributes.{is_single, syntax_of};
+ghost use Rattle.dir_tree.specs.schema_tables.Attributes.{is_single, syntax_of};
 ghost use Rattle.aci_item.specs.reading.AciText.{read_item};
 ghost use Rattle.aci_item.specs.subtree_spec.reading.SubtreeText.{read_subtree};
 ghost use Rattle.aci_item.specs.Rules.{is_unread, has_unread_of, has_unread_value, has_unread, has_two_values, octets_in};
@@ -11,7 +11,7 @@ use crate::broken::NoMemory;
 use aci_item::subtree_spec::BadText;
 use dir_tree::Entry;
 use dir_tree::dn_names::Value;
-use dir_tree::schema_core::{AttrId, Syntax, row};
+use dir_tree::schema_tables::{AttrId, Syntax, row};
 use std::alloc::{AllocError, Global};
 
 /// Whether there is a value that is none of its syntax.

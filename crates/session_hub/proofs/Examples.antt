@@ -1,8 +1,8 @@
 -- The definitions, computed on known messages and streams.
 use Rattle.std.proofs.Common.{◌≡◌, ℕ, true, false, List, [], ◌∷◌, codes, Option, Some, None, refl}
-use Rattle.run_laws.specs.ber_core.read.Heading.{length_at, header_at}
-use Rattle.run_laws.specs.ber_core.Integer.{int_at, int_octets}
-use Rattle.run_laws.specs.ber_core.write.Spelling.{length_octets}
+use Rattle.run_laws.specs.ber_elements.read.Heading.{length_at, header_at}
+use Rattle.run_laws.specs.ber_elements.Integer.{int_at, int_octets}
+use Rattle.run_laws.specs.ber_elements.write.Spelling.{length_octets}
 use Rattle.run_laws.specs.ldap_msg.declared.kinds.Auth.TheVariants.{Simple, Other}
 use Rattle.run_laws.specs.ldap_msg.declared.kinds.Request.TheVariants as request
 use Rattle.run_laws.specs.ldap_msg.declared.kinds.Reply.TheVariants as reply
@@ -24,7 +24,7 @@ use Rattle.run_laws.specs.ldap_msg.declared.kinds.SearchRequest.{SearchRequest}
 use Rattle.op_read.specs.aci_item.declared.level.Level.TheVariants as level
 use Rattle.op_read.specs.read_model.Views.{result_of}
 use Rattle.op_bind.specs.Binds.{bind_answer}
-use Rattle.modify_laws.specs.op_update.adding.Updates.{added, deleted}
+use Rattle.modify_laws.specs.op_add_delete.adding.Updates.{added, deleted}
 use Rattle.run_laws.specs.session_model.laws.Rules.{talk}
 use Rattle.run_laws.specs.session_model.laws.Kept.{speech}
 use Rattle.session_hub.specs.requester.Parties.{Requester, nobody}

@@ -13,7 +13,7 @@ use crate::results::result_of;
 use crate::simple::SimpleBind;
 use op_bind::{Bound, bind, bind_with_password};
 use op_read::acdf_filters::Requester;
-use op_read::acdf_lists::Dir;
+use op_read::aci_lists::Dir;
 use run_laws::ldap_msg::{BindRequest, Reply, put_reply};
 use std::alloc::{AllocError, Global};
 

@@ -14,7 +14,7 @@ ghost use Rattle.session_hub.specs.serving.Adding.{Adds, OnlyServes, IsServing, 
 use crate::serving::settle_all;
 use crate::waiting::Waiting;
 use crate::{Event, Hub, MAX_CONNECTIONS};
-use op_read::acdf_lists::Dir;
+use op_read::aci_lists::Dir;
 use run_laws::wire_io::{Heard, Link};
 use std::alloc::AllocError;
 

@@ -12,7 +12,7 @@ use crate::requester::anonymous;
 use crate::spoken::{SpeechEnd, Spoken};
 use crate::stream::speak;
 use op_read::acdf_filters::Requester;
-use op_read::acdf_lists::Dir;
+use op_read::aci_lists::Dir;
 use std::alloc::Global;
 use std::marker::Model;
 

@@ -12,7 +12,7 @@ ghost use Rattle.session_hub.specs.alike.Twins.{HearsAlike};
 use crate::Event;
 use crate::connection::Connection;
 use crate::places::{closing_at, cut_at, end_at, forget_at, hear_at, is_at, queue_at, take_off};
-use op_read::acdf_lists::Dir;
+use op_read::aci_lists::Dir;
 use std::alloc::{AllocError, Global};
 use std::marker::Model;
 

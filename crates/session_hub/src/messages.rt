@@ -8,7 +8,7 @@ ghost use Rattle.op_read.specs.read_model.Views.{view_of};
 ghost use Rattle.op_read.specs.read_model.SearchReplies.{replies_octets};
 ghost use Rattle.op_read.specs.read_model.CompareReplies.{compare_result};
 ghost use Rattle.run_laws.specs.ldap_msg.declared.kinds.Reply.TheVariants as reply;
-ghost use Rattle.modify_laws.specs.op_update.adding.Updates.{IsChanged};
+ghost use Rattle.modify_laws.specs.op_add_delete.adding.Updates.{IsChanged};
 ghost use Rattle.session_hub.specs.requester.Parties.{DirectoryEntries, Requester};
 ghost use Rattle.session_hub.specs.Controls.{subentries_asked};
 ghost use Rattle.session_hub.specs.messages.Answering.{rules, response_to as response_of, replies_in, ended_with, asking, searched, change_of, changing, operated, answered, is_unbind, answer_read};
@@ -21,9 +21,9 @@ use crate::results::result_of;
 use crate::simple::simple_bind;
 use modify_laws::laws::a_refused_change_leaves_the_entries;
 use modify_laws::op_modify::{modify, rename};
-use modify_laws::op_update::{add, delete};
+use modify_laws::op_add_delete::{add, delete};
 use op_read::acdf_filters::Requester;
-use op_read::acdf_lists::Dir;
+use op_read::aci_lists::Dir;
 use op_read::{compare, search};
 use run_laws::ldap_msg::{
     CompareRequest, Frame, LdapResult, Message, ReadFault, Reply, Request, ResultCode,

@@ -6,7 +6,7 @@ ghost use Rattle.run_laws.specs.session_model.laws.Kept.{kept_of, is_kept, queue
 ghost use Rattle.session_hub.specs.hub.Hubs.{IsAt, IsBounded, AreDistinct, HearsAt};
 
 use crate::connection::Connection;
-use op_read::acdf_lists::Dir;
+use op_read::aci_lists::Dir;
 use std::alloc::Global;
 
 /// The place of the connection with the number. The place that is guessed is tried first, and then the

@@ -11,7 +11,7 @@ ghost use Rattle.session_hub.specs.serve.Turns.{GoesOn, EndsWith};
 use crate::block::serve_event;
 use crate::waiting::Waiting;
 use crate::{Ended, Hub};
-use op_read::acdf_lists::Dir;
+use op_read::aci_lists::Dir;
 use run_laws::wire_io::{Heard, Link, NextFault};
 use std::alloc::{AllocError, Global};
 

@@ -6,7 +6,7 @@ ghost use Rattle.session_hub.specs.stream.Answers.{Speaks};
 use crate::messages::answer;
 use crate::spoken::{SpeechEnd, Spoken};
 use op_read::acdf_filters::Requester;
-use op_read::acdf_lists::Dir;
+use op_read::aci_lists::Dir;
 use run_laws::ldap_msg::{Frame, frame, put_notice};
 use std::alloc::Global;
 

@@ -1,7 +1,7 @@
 -- The definitions, computed over rules that say each message back, and close after an unbind.
 use Rattle.std.proofs.Common.{◌≡◌, ℕ, Bool, false, List, [], ◌∷◌, Some, None, map, refl}
 use Rattle.std.specs.Prelude.{◌==◌, cond, length}
-use Rattle.ldap_msg.specs.ber_core.read.Heading.{length_at, header_at}
+use Rattle.ldap_msg.specs.ber_elements.read.Heading.{length_at, header_at}
 use Rattle.ldap_msg.specs.framing.Streams.{framed, frame_at, whole_of, rest_behind, whole, rest_of, is_broken}
 use Rattle.ldap_msg.specs.Replies.{notice_octets}
 use Rattle.wire_io.specs.declared.journal.Event.TheVariants as event

@@ -1,7 +1,7 @@
 //! A hub that hears events.
 
 use crate::messages::{BIND, BOUND, UNBIND};
-use acdf_lists::PlainDir;
+use aci_lists::PlainDir;
 use dir_tree::Tree;
 use session_hub::{Event, Hub};
 use std::alloc::AllocError;

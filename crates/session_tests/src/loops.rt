@@ -1,7 +1,7 @@
 //! The loop over the events of a script.
 
 use crate::messages::{BOUND, NOTICE};
-use acdf_lists::PlainDir;
+use aci_lists::PlainDir;
 use dir_tree::Tree;
 use session_hub::{Ended, serve_loop};
 use std::alloc::Global;

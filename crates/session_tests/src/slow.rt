@@ -4,7 +4,7 @@ ghost use Rattle.std.specs.Prelude.{◌<◌, length, IfOk};
 ghost use Rattle.wire_io.specs.script_text.script.Script.{OpensOnce, AreFilled};
 
 use crate::messages::{BIND, BOUND};
-use acdf_lists::PlainDir;
+use aci_lists::PlainDir;
 use dir_tree::Tree;
 use session_hub::{Ended, serve_loop};
 use std::alloc::{AllocError, Global};

@@ -1,6 +1,6 @@
 //! Adds and deletes in sessions (RFC 4511 4.7 and 4.8): what is answered, and what the directory then has.
 
-use acdf_lists::{Dir, PlainDir};
+use aci_lists::{Dir, PlainDir};
 use data_file::load;
 use session_hub::{Event, Hub};
 use std::alloc::{AllocError, Global};

@@ -1,9 +1,9 @@
 -- The parts of subtree specifications and access control items: names, object identifiers, and their values.
 use Rattle.std.specs.Prelude.{ℕ, Bool, ◌||◌, List, [], Option, Some, None, option_and_then, if◌then◌else◌}
 use Rattle.std.specs.Result.{result_ok}
-use Rattle.schema_core.specs.Naming.{is_keystring}
-use Rattle.schema_core.specs.Oids.{is_dotted_oid}
-use Rattle.schema_core.specs.classes.Classes.{class_of, class_oid_of}
+use Rattle.schema_tables.specs.Naming.{is_keystring}
+use Rattle.schema_tables.specs.Oids.{is_dotted_oid}
+use Rattle.schema_tables.specs.classes.Classes.{class_of, class_oid_of}
 use Rattle.dn_names.specs.name.Names.{RdnSequence}
 use Rattle.dn_names.specs.parsing.NameText.{read_name}
 use Rattle.gser_tree.specs.declared.part.Part.{Part}

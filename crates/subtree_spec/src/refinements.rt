@@ -10,7 +10,7 @@ ghost use Rattle.subtree_spec.specs.spec.Subtrees.{choice_of};
 use crate::parts::oid;
 use crate::spec::Refinement;
 use gser_tree::{Bad, Part, Stop, Tree};
-use schema_core::{class, class_oid, is_dotted_oid};
+use schema_tables::{class, class_oid, is_dotted_oid};
 use std::alloc::Global;
 
 // The dotted object identifier of a class, or of no class that is known.

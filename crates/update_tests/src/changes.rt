@@ -2,18 +2,18 @@
 
 use aci_index::IndexedDir;
 use aci_index::acdf_filters::Requester;
-use aci_index::acdf_lists::Dir;
+use aci_index::aci_lists::Dir;
 use data_file::load;
 use dir_tree::dn_names::{parse, print};
 use dir_tree::plain_values::{Octets, OneOrMany};
-use dir_tree::schema_core::{attr, row};
+use dir_tree::schema_tables::{attr, row};
 use dir_tree::{Entry, Scope};
 use op_modify::aci_item::Level;
 use op_modify::ldap_msg::{
     AddRequest, Change as ValueChange, DeleteRequest, KindValues, LdapResult, ModifyRequest,
     RenameRequest,
 };
-use op_modify::op_update::{add, delete};
+use op_modify::op_add_delete::{add, delete};
 use op_modify::{modify, rename};
 use std::alloc::Global;
 use std::process::Abort;

@@ -2,9 +2,9 @@
 use Rattle.std.proofs.Common.{◌≡◌, List, ℕ, Option, Some, refl, sym, ap, ◌∙◌}
 use Rattle.std.specs.Option.{option_map, option_and_then}
 use Rattle.std.proofs.lemmas.Option.{same_Some}
-use Rattle.dir_tree.specs.schema_core.declared.kinds.Syntax.{Syntax}
-use Rattle.dir_tree.specs.schema_core.declared.kinds.Syntax.TheVariants.{Name}
-use Rattle.dir_tree.specs.schema_core.Attributes.{attributes, syntax_of}
+use Rattle.dir_tree.specs.schema_tables.declared.kinds.Syntax.{Syntax}
+use Rattle.dir_tree.specs.schema_tables.declared.kinds.Syntax.TheVariants.{Name}
+use Rattle.dir_tree.specs.schema_tables.Attributes.{attributes, syntax_of}
 use Rattle.dir_tree.specs.dn_names.name.Names.{Keyed, RdnSequence}
 use Rattle.dir_tree.specs.dn_names.name.GoodNames.{IsGoodName}
 use Rattle.dir_tree.specs.dn_names.make.NameValues.{value_key, value_of, read_key}

@@ -10,11 +10,11 @@ use Rattle.acdf_filters.specs.admin_scope.subtrees.Finding.{AreSubtrees}
 use Rattle.acdf_filters.specs.admin_scope.declared.subtrees.AccessSubentry.{AccessSubentry}
 use Rattle.scope_laws.specs.laws.Aside.{IsAside, IsChangeOf}
 use Rattle.scope_laws.proofs.Theorems.{entry_of-new}
-use Rattle.acdf_lists.specs.declared.kept.Kept.{Kept}
-use Rattle.acdf_lists.specs.declared.kept.Holdings.{Holdings}
-use Rattle.acdf_lists.specs.kept.Lists.{Lists, lists_of, lists_at, AreOf}
-use Rattle.acdf_lists.specs.kept.Holdings.{IsHeld}
-use Rattle.acdf_lists.proofs.Theorems.{lists_at-set_other, lists_at-set_same}
+use Rattle.aci_lists.specs.declared.kept.Kept.{Kept}
+use Rattle.aci_lists.specs.declared.kept.Holdings.{Holdings}
+use Rattle.aci_lists.specs.kept.Lists.{Lists, lists_of, lists_at, AreOf}
+use Rattle.aci_lists.specs.kept.Holdings.{IsHeld}
+use Rattle.aci_lists.proofs.Theorems.{lists_at-set_other, lists_at-set_same}
 use Rattle.aci_index.specs.declared.anew.Remade.{Remade}
 use Rattle.aci_index.specs.declared.anew.Anew.{Anew}
 use Rattle.aci_index.specs.declared.anew.Reach.{Reach}

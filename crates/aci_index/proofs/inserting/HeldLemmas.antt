@@ -8,9 +8,9 @@ use Rattle.acdf_filters.specs.admin_scope.subtrees.Finding.{AreSubtrees}
 use Rattle.acdf_filters.specs.admin_scope.declared.subtrees.AccessSubentry.{AccessSubentry}
 use Rattle.scope_laws.specs.laws.Aside.{IsAside, IsChangeOf}
 use Rattle.scope_laws.proofs.Theorems.{entry_of-new, numbers-aside}
-use Rattle.acdf_lists.specs.declared.kept.Holdings.{Holdings}
-use Rattle.acdf_lists.specs.kept.Lists.{Lists, lists_at, AreOf}
-use Rattle.acdf_lists.specs.kept.Holdings.{IsHeld}
+use Rattle.aci_lists.specs.declared.kept.Holdings.{Holdings}
+use Rattle.aci_lists.specs.kept.Lists.{Lists, lists_at, AreOf}
+use Rattle.aci_lists.specs.kept.Holdings.{IsHeld}
 use Rattle.aci_index.specs.anew.Steps.{AllStay, IsKeptOf, OthersStay}
 use Rattle.aci_index.proofs.inserting.SubtreeLemmas.{IsOrdinary, subtrees-stay}
 

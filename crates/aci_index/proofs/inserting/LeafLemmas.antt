@@ -5,9 +5,9 @@ use Rattle.dir_tree.specs.tree.Numbered.{Numbered, IsNumberedTree, entries_of, e
 use Rattle.dir_tree.specs.Refusals.{insert_refusal, remove_refusal}
 use Rattle.dir_tree.specs.Scope.{is_within}
 use Rattle.dir_tree.proofs.TreeTheorems.{new_removable, removed_alone, outside}
-use Rattle.acdf_lists.specs.declared.kept.Holdings.{Holdings}
-use Rattle.acdf_lists.specs.kept.Holdings.{IsHeld, IsForgotten}
-use Rattle.acdf_lists.proofs.Theorems.{held-without}
+use Rattle.aci_lists.specs.declared.kept.Holdings.{Holdings}
+use Rattle.aci_lists.specs.kept.Holdings.{IsHeld, IsForgotten}
+use Rattle.aci_lists.proofs.Theorems.{held-without}
 use Rattle.scope_laws.proofs.Theorems.{aside-beside, change-put, change-taken, entry_of-new}
 use Rattle.aci_index.specs.anew.Steps.{IsKeptOf, OthersStay}
 use Rattle.aci_index.proofs.inserting.SubtreeLemmas.{IsOrdinary}

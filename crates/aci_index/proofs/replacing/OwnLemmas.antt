@@ -3,9 +3,9 @@ use Rattle.std.proofs.Common.{◌≡◌, ℕ, true, List, sym, subst, ◌∙◌,
 use Rattle.dir_tree.specs.Entry.{EntryInformation}
 use Rattle.dir_tree.specs.tree.Numbered.{Numbered, IsNumberedTree, entry_of, put_entry, without}
 use Rattle.scope_laws.proofs.Theorems.{change-replaced}
-use Rattle.acdf_lists.specs.declared.kept.Holdings.{Holdings}
-use Rattle.acdf_lists.specs.kept.Lists.{AreOf, lists_at}
-use Rattle.acdf_lists.specs.kept.Holdings.{IsHeld}
+use Rattle.aci_lists.specs.declared.kept.Holdings.{Holdings}
+use Rattle.aci_lists.specs.kept.Lists.{AreOf, lists_at}
+use Rattle.aci_lists.specs.kept.Holdings.{IsHeld}
 use Rattle.aci_index.specs.anew.Steps.{OthersStay, is_own_change}
 use Rattle.aci_index.proofs.points.PointLemmas.{own-change}
 use Rattle.aci_index.proofs.inserting.HeldLemmas.{held-aside, lists-aside}

@@ -14,8 +14,8 @@ use Rattle.dir_tree.specs.Scope.{is_within}
 use Rattle.dir_tree.proofs.TreeTheorems.{same_itself, elsewhere_filled as elsewhere-filled, elsewhere_under as elsewhere-under, prefix_same, outside}
 use Rattle.dir_tree.proofs.TreeTheorems.{all_known_entry}
 use Rattle.dir_tree.proofs.TreeTheorems.{IsAllowedThere, allowed_there}
-use Rattle.acdf_lists.specs.declared.kept.Holdings.{Holdings}
-use Rattle.acdf_lists.specs.kept.Holdings.{IsHeld}
+use Rattle.aci_lists.specs.declared.kept.Holdings.{Holdings}
+use Rattle.aci_lists.specs.kept.Holdings.{IsHeld}
 use Rattle.scope_laws.specs.laws.Aside.{IsAside}
 use Rattle.scope_laws.proofs.Theorems.{aside-beside, change-taken, change-replaced, entry_of-new}
 use Rattle.aci_index.specs.declared.anew.Reach.{Reach}

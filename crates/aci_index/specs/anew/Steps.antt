@@ -5,8 +5,8 @@ use Rattle.dir_tree.specs.Entry.{EntryInformation}
 use Rattle.dir_tree.specs.tree.Numbered.{Numbered, entry_of}
 use Rattle.dir_tree.specs.subentries.Points.{is_specific_point, is_inner_point, is_access_subentry}
 use Rattle.acdf_filters.specs.admin_scope.point_list.Areas.{is_access_point}
-use Rattle.acdf_lists.specs.declared.kept.Holdings.{Holdings}
-use Rattle.acdf_lists.specs.kept.Lists.{AreOf, lists_at}
+use Rattle.aci_lists.specs.declared.kept.Holdings.{Holdings}
+use Rattle.aci_lists.specs.kept.Lists.{AreOf, lists_at}
 
 -- both or neither
 abbrev pub are_alike : Bool → Bool → Bool

@@ -6,9 +6,9 @@ use Rattle.dir_tree.specs.tree.Numbered.{Numbered, entry_of, superior_of}
 use Rattle.dir_tree.specs.Scope.{scoped}
 use Rattle.dir_tree.specs.declared.scope.Scope.TheVariants.{Sub}
 use Rattle.acdf_filters.specs.admin_scope.subtrees.Finding.{AreSubtrees}
-use Rattle.acdf_lists.specs.declared.kept.Kept.{Kept}
-use Rattle.acdf_lists.specs.declared.kept.Holdings.{Holdings}
-use Rattle.acdf_lists.specs.kept.Lists.{AreOf, lists_of}
+use Rattle.aci_lists.specs.declared.kept.Kept.{Kept}
+use Rattle.aci_lists.specs.declared.kept.Holdings.{Holdings}
+use Rattle.aci_lists.specs.kept.Lists.{AreOf, lists_of}
 use Rattle.aci_index.specs.anew.Steps.{are_ordinary}
 use Rattle.aci_index.specs.declared.anew.Reach.{Reach}
 use Rattle.aci_index.specs.declared.anew.Reach.TheVariants.{Below, Around}

@@ -2,7 +2,7 @@
 use Rattle.std.proofs.Common.{◌≡◌, ◌≤◌, ℕ, Bool, true, List, [], codes}
 use Rattle.std.specs.Prelude.{Option, None}
 use Rattle.std.specs.Str.{bytes_eq, is_utf8}
-use Rattle.dir_tree.specs.schema_core.Attributes.{IsAttrId}
+use Rattle.dir_tree.specs.schema_tables.Attributes.{IsAttrId}
 use Rattle.dir_tree.specs.dn_names.name.GoodNames.{IsGoodName}
 use Rattle.dir_tree.specs.dn_names.name.Names.{RdnSequence, TypeAndValue}
 use Rattle.gser_tree.specs.declared.part.Part.{Part}

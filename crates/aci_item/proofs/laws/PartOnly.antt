@@ -2,8 +2,8 @@
 use Rattle.std.proofs.Common.{◌≡◌, ◌≤◌, ℕ, true, List, [], ◌∷◌, codes, refl, sym, ap, ◌∙◌}
 use Rattle.std.specs.Prelude.{Option, Some, None, if◌then◌else◌}
 use Rattle.std.specs.Str.{bytes_eq, is_utf8}
-use Rattle.dir_tree.specs.schema_core.Attributes.{attr_of, IsAttrId}
-use Rattle.dir_tree.proofs.schema_core_proofs.Theorems.{IsAttrId-from_attr_of}
+use Rattle.dir_tree.specs.schema_tables.Attributes.{attr_of, IsAttrId}
+use Rattle.dir_tree.proofs.schema_tables_proofs.Theorems.{IsAttrId-from_attr_of}
 use Rattle.dir_tree.specs.dn_names.name.GoodNames.{IsGoodName}
 use Rattle.dir_tree.specs.dn_names.name.Names.{Keyed}
 use Rattle.dir_tree.specs.dn_names.make.NameValues.{value_of}

@@ -5,10 +5,10 @@ use Rattle.std.specs.Prelude.{find, option_and_then, option_map}
 use Rattle.std.specs.List.{list_all}
 use Rattle.std.specs.Str.{bytes_eq}
 use Rattle.std.proofs.lemmas.Bool.{or_right}
-use Rattle.dir_tree.specs.schema_core.Attributes.{attributes, name_of, IsAttrId}
-use Rattle.dir_tree.specs.schema_core.Naming.{is_keystring}
-use Rattle.dir_tree.specs.schema_core.Oids.{is_dotted_oid}
-use Rattle.dir_tree.proofs.schema_core_proofs.Theorems.{attribute_at-Some, attr_of-name_of, is_keystring-name_of}
+use Rattle.dir_tree.specs.schema_tables.Attributes.{attributes, name_of, IsAttrId}
+use Rattle.dir_tree.specs.schema_tables.Naming.{is_keystring}
+use Rattle.dir_tree.specs.schema_tables.Oids.{is_dotted_oid}
+use Rattle.dir_tree.proofs.schema_tables_proofs.Theorems.{attribute_at-Some, attr_of-name_of, is_keystring-name_of}
 use Rattle.dir_tree.specs.dn_names.name.GoodNames.{IsGoodName}
 use Rattle.dir_tree.specs.dn_names.name.Names.{RdnSequence, TypeAndValue}
 use Rattle.gser_tree.specs.marks.Lexemes.{class_of, is_word}

@@ -8,7 +8,7 @@ use Rattle.gser_tree.specs.Writing.{print_filled, print_flag}
 use Rattle.gser_tree.proofs.Theorems.{listed_gathered, AreWritten, FlagRead, IsRead, OptionalRead, Prints, Skips, braces_are_written, flag_is_written, none_are_written, optional_is_written, skips_end}
 use Rattle.aci_item.proofs.laws.FlagPrints.{flag_reads}
 use Rattle.aci_item.proofs.laws.SetPrints.{optional_set_prints}
-use Rattle.dir_tree.specs.schema_core.Attributes.{IsAttrId}
+use Rattle.dir_tree.specs.schema_tables.Attributes.{IsAttrId}
 use Rattle.aci_item.specs.reading.AciText.{items, kinds, sorted_set}
 use Rattle.aci_item.specs.laws.GoodItems.{IsGoodItems, IsGoodValue}
 use Rattle.aci_item.specs.members.ItemParts.{kind, kind_and_value}

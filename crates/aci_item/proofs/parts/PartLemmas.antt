@@ -7,7 +7,7 @@ use Rattle.std.specs.Prelude.{Option, Some, None, option_and_then, nat_le, if◌
 use Rattle.std.specs.Str.Parse.{digits_value}
 use Rattle.dir_tree.specs.match_rules.Keys.{key_of}
 use Rattle.dir_tree.specs.match_rules.rules.Syntaxes.{is_of}
-use Rattle.dir_tree.specs.schema_core.Attributes.{attributes, IsAttrId, syntax_of}
+use Rattle.dir_tree.specs.schema_tables.Attributes.{attributes, IsAttrId, syntax_of}
 use Rattle.dir_tree.specs.dn_names.name.Names.{Keyed}
 use Rattle.dir_tree.specs.dn_names.make.NameValues.{value_of, value_key}
 use Rattle.dir_tree.proofs.dn_names_proofs.Theorems.{value_of-octets}

@@ -9,7 +9,7 @@ use Rattle.gser_tree.specs.looking.Looking.{members_in, chosen_in}
 use Rattle.gser_tree.specs.Reading.{give, expect, part}
 use Rattle.gser_tree.proofs.Theorems.{Shallow, both_read, was_there, chosen_nest, members_nest, number_is_shallow}
 use Rattle.dir_tree.specs.dn_names.make.NameValues.{value_of}
-use Rattle.dir_tree.specs.schema_core.Attributes.{attr_of}
+use Rattle.dir_tree.specs.schema_tables.Attributes.{attr_of}
 use Rattle.subtree_spec.specs.declared.error.BadText.{BadText}
 use Rattle.subtree_spec.specs.Parts.{name, oid}
 use Rattle.subtree_spec.specs.printing.SubtreePrinted.{print_subtree}

@@ -3,7 +3,7 @@ use Rattle.std.specs.Prelude.{◌≡◌, ◌≤◌, true, List, Some, None}
 use Rattle.std.specs.List.{AllByRecursion}
 use Rattle.std.specs.List.Sorted.{IsStrictlySortedBy}
 use Rattle.std.specs.Str.{is_utf8}
-use Rattle.dir_tree.specs.schema_core.Attributes.{IsAttrId}
+use Rattle.dir_tree.specs.schema_tables.Attributes.{IsAttrId}
 use Rattle.dir_tree.specs.dn_names.name.GoodNames.{IsGoodName}
 use Rattle.dir_tree.specs.dn_names.name.Names.{TypeAndValue}
 use Rattle.dir_tree.specs.dn_names.make.NameValues.{value_of}

@@ -3,7 +3,7 @@ use Rattle.std.specs.Prelude.{ℕ, Bool, true, false, min, ◌-◌, length, slic
 use Rattle.std.specs.Str.{bytes_eq}
 use Rattle.dir_tree.specs.dn_names.name.Names.{Keyed, RdnSequence, TypeAndValue}
 use Rattle.dir_tree.specs.dn_names.make.NameValues.{value_of}
-use Rattle.dir_tree.specs.schema_core.Attributes.{attr_of}
+use Rattle.dir_tree.specs.schema_tables.Attributes.{attr_of}
 use Rattle.gser_tree.specs.declared.part.Part.{Part}
 use Rattle.gser_tree.specs.looking.Shapes.{Shape}
 use Rattle.gser_tree.specs.looking.Looking.{Behind, members_in, word_in, string_in, named_in, chosen_in, flag}

@@ -2,7 +2,7 @@
 -- rising order; flags that are false and sets of classes or items that are empty are left out.
 use Rattle.std.specs.Prelude.{ℕ, Bool, true, false, List, [], ◌∷◌, ◌++◌, map, Option, option_map, codes}
 use Rattle.dir_tree.specs.dn_names.name.Names.{RdnSequence, TypeAndValue}
-use Rattle.dir_tree.specs.schema_core.Attributes.{name_of}
+use Rattle.dir_tree.specs.schema_tables.Attributes.{name_of}
 use Rattle.gser_tree.specs.marks.Lexemes.{Lexeme}
 use Rattle.gser_tree.specs.Writing.{print_word, print_number, print_string, print_choice, print_component, print_braces, print_optional, print_flag, print_filled}
 use Rattle.subtree_spec.specs.printing.SubtreePrinted.{print_dn, print_subtree}

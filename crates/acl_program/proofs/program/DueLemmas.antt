@@ -11,7 +11,7 @@ use Rattle.command_words.proofs.Theorems.{IsCommand-unique}
 use Rattle.explain_text.specs.question_words.asked.Questions.{Question}
 use Rattle.explain_text.specs.question_words.Reading.{question_of}
 use Rattle.command_files.specs.dir_tree.Entry.{EntryInformation}
-use Rattle.command_files.specs.op_write.load.DataFile.{FileCause, loads}
+use Rattle.command_files.specs.ldif_load.load.DataFile.{FileCause, loads}
 use Rattle.sample_input.specs.file.SampleFile.{sample_file}
 use Rattle.acl_program.specs.status.Outcomes.{Outcome, NoCommand, NoFile, BadDataLine, BadLine, Checked, Dumped, Replayed, Served, Explained, Sampled, OutOfMemory, status_of}
 use Rattle.acl_program.specs.declared.status.Status.TheVariants.{Done, NoMemory}

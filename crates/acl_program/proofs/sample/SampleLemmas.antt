@@ -22,7 +22,7 @@ use Rattle.command_words.specs.command.Line.{Line}
 use Rattle.command_words.specs.command.Command.{CommandView, Serve, Replay, Check, Dump, Explain, Sample, IsCommand, Says}
 use Rattle.command_files.specs.dir_tree.Entry.{EntryInformation}
 use Rattle.command_files.specs.dir_tree.tree.Numbered.{Numbered, entries_of}
-use Rattle.command_files.specs.op_write.load.DataFile.{FileCause, loads}
+use Rattle.command_files.specs.ldif_load.load.DataFile.{FileCause, loads}
 use Rattle.sample_input.specs.file.SampleFile.{sample_file}
 use Rattle.sample_input.specs.events.SampleEvents.{sample_events}
 use Rattle.acl_program.specs.declared.status.Status.{Status}

@@ -6,7 +6,7 @@ use Rattle.command_files.specs.wire_io.shelf.Files.{Files}
 use Rattle.command_files.specs.wire_io.laws.Pieces.{pieces}
 use Rattle.session_hub.specs.serve.Loops.{buffer_length}
 use Rattle.command_files.specs.dir_tree.Entry.{EntryInformation}
-use Rattle.command_files.specs.op_write.load.DataFile.{FileCause}
+use Rattle.command_files.specs.ldif_load.load.DataFile.{FileCause}
 use Rattle.acl_program.specs.declared.status.Status.{Status}
 use Rattle.acl_program.specs.declared.status.Status.TheVariants.{Done, Usage, BadData, ShelfFault, SinkFault, LinkFault, TurnsSpent, NoMemory, BadScript}
 use Rattle.acl_program.specs.program.Outside.{Linked, Outside}

@@ -11,7 +11,7 @@ use Rattle.command_words.specs.command.Command.{CommandView, Serve, Replay, Chec
 use Rattle.explain_text.specs.question_words.asked.Questions.{Question}
 use Rattle.explain_text.specs.question_words.Reading.{question_of}
 use Rattle.command_files.specs.dir_tree.Entry.{EntryInformation}
-use Rattle.command_files.specs.op_write.load.DataFile.{FileCause}
+use Rattle.command_files.specs.ldif_load.load.DataFile.{FileCause}
 use Rattle.command_files.specs.loading.Accepting.{IsUnread, HoldsIn, IsTold, IsGoodData, IsBadData, IsGoodScript, IsBadScript}
 use Rattle.acl_program.specs.status.Outcomes.{Outcome, NoCommand, NoFile, BadDataLine, BadLine, Checked, Dumped, Replayed, Served, Explained, Sampled, OutOfMemory}
 use Rattle.acl_program.specs.program.Outside.{Linked}

@@ -13,7 +13,7 @@ use Rattle.session_hub.specs.serve.Loops.{buffer_length}
 use Rattle.command_words.specs.command.Command.{CommandView, IsCommand}
 use Rattle.command_files.specs.dir_tree.Entry.{EntryInformation}
 use Rattle.command_files.specs.dir_tree.tree.Numbered.{Numbered, entries_of}
-use Rattle.command_files.specs.ldif_core.writing.WrittenFile.{written_file}
+use Rattle.command_files.specs.ldif_records.writing.WrittenFile.{written_file}
 use Rattle.command_files.specs.aci_item.Rules.{IsGoodTree}
 use Rattle.acl_program.specs.declared.status.Status.{Status}
 use Rattle.acl_program.specs.declared.status.Status.TheVariants.{Done, Usage, BadData, ShelfFault, SinkFault, LinkFault, TurnsSpent, NoMemory, BadScript}

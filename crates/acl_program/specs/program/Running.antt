@@ -6,7 +6,7 @@ use Rattle.acl_program.specs.declared.status.Status.{Status}
 use Rattle.acl_program.specs.declared.status.Status.TheVariants.{Done, Usage, BadData, ShelfFault, SinkFault, LinkFault, TurnsSpent, NoMemory, BadScript}
 use Rattle.acl_program.specs.program.Outside.{Outside}
 use Rattle.acl_program.specs.status.Outcomes.{Outcome, text_of, status_of}
-use Rattle.command_files.specs.op_write.load.DataFile.{FileCause}
+use Rattle.command_files.specs.ldif_load.load.DataFile.{FileCause}
 use Rattle.acl_program.specs.program.Causes.{Comes, Links, AsksServing, LacksData, LacksScript, RefusesData, RefusesScript}
 use Rattle.acl_program.specs.sample.Sampling.{RefusesSample}
 

@@ -2,7 +2,7 @@
 use Rattle.std.specs.Prelude.{◌≡◌, ◌≤◌, ℕ, List, ◌++◌, length, codes, decimal, Ok, Err}
 use Rattle.command_words.specs.command.Command.{CommandView, Serve, Replay, Check, Dump, Explain, Sample, IsCommand}
 use Rattle.command_files.specs.dir_tree.Entry.{EntryInformation}
-use Rattle.command_files.specs.op_write.load.DataFile.{FileCause, loads}
+use Rattle.command_files.specs.ldif_load.load.DataFile.{FileCause, loads}
 use Rattle.sample_input.specs.file.SampleFile.{sample_file}
 use Rattle.sample_input.specs.events.SampleEvents.{sample_events}
 use Rattle.sample_input.specs.Counting.{found_in, hidden_in}

@@ -7,12 +7,12 @@ use Rattle.command_files.specs.wire_io.laws.Pieces.{pieces}
 use Rattle.session_hub.specs.serve.Loops.{buffer_length}
 use Rattle.command_files.specs.dir_tree.Entry.{EntryInformation}
 use Rattle.command_files.specs.dir_tree.subentries.Points.{access_subentries}
-use Rattle.command_files.specs.ldif_core.declared.types.LineCause.{LineCause}
-use Rattle.command_files.specs.ldif_core.declared.types.LineCause.TheVariants.{Syntax, Changetype, Base64}
-use Rattle.command_files.specs.ldif_core.writing.WrittenFile.{written_file}
-use Rattle.command_files.specs.op_write.declared.fault.LoadCause.{LoadCause}
-use Rattle.command_files.specs.op_write.declared.fault.LoadCause.TheVariants.{Name, Kind, Value, Twice, Order, Rule, Limit}
-use Rattle.command_files.specs.op_write.load.DataFile.{FileCause, OfLine, OfRecord}
+use Rattle.command_files.specs.ldif_records.declared.types.LineCause.{LineCause}
+use Rattle.command_files.specs.ldif_records.declared.types.LineCause.TheVariants.{Syntax, Changetype, Base64}
+use Rattle.command_files.specs.ldif_records.writing.WrittenFile.{written_file}
+use Rattle.command_files.specs.ldif_load.declared.fault.LoadCause.{LoadCause}
+use Rattle.command_files.specs.ldif_load.declared.fault.LoadCause.TheVariants.{Name, Kind, Value, Twice, Order, Rule, Limit}
+use Rattle.command_files.specs.ldif_load.load.DataFile.{FileCause, OfLine, OfRecord}
 use Rattle.acl_program.specs.declared.status.Status.{Status}
 use Rattle.acl_program.specs.declared.status.Status.TheVariants.{Done, Usage, BadData, ShelfFault, SinkFault, LinkFault, TurnsSpent, NoMemory, BadScript}
 use Rattle.acl_program.specs.printing.Lines.{replay_text, entries_after}

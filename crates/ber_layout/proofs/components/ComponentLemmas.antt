@@ -3,7 +3,7 @@ use Rattle.std.proofs.Common.{inl, inr, ◌≡◌, ℕ, Bool, true, false, cond,
 use Rattle.std.specs.Prelude.{not}
 use Rattle.std.proofs.lemmas.Bool.{eq-eqb, ne_eqb, eqb-false}
 use Rattle.std.proofs.lemmas.Option.{same_Some}
-use Rattle.ber_core.specs.write.Element.{Elem, IsHeader}
+use Rattle.ber_elements.specs.write.Element.{Elem, IsHeader}
 use Rattle.ber_layout.specs.element.Pieces.{Piece, ◌>>=◌, piece_at, tagged_at}
 use Rattle.ber_layout.specs.components.Flags.{IsFlag, flag_of}
 use Rattle.ber_layout.specs.components.Components.{Follows, MayFollow, MarkFollows, EachFollows, Component, begins, any_of, required_of, optional_of, marked_of}

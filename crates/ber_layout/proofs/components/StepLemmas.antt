@@ -3,9 +3,9 @@
 use Rattle.std.proofs.Common.{◌≡◌, ℕ, zero, suc, ◌^◌, ◌<◌, ◌≤◌, Bool, true, false, cond, eqb, leb, List, [], ◌∷◌, ◌++◌, length, Option, Some, None, refl, sym, ap, subst, ◌∙◌, arith}
 use Rattle.std.specs.Prelude.{◌&&◌, ℤ, pos, negsuc, IfSome}
 use Rattle.std.proofs.lemmas.Bool.{and_parts, and_from, leb-true, le-leb, eq-eqb, eqb-true}
-use Rattle.ber_core.specs.write.Element.{Elem}
-use Rattle.ber_core.specs.Integer.{IsInteger, int_at}
-use Rattle.ber_core.proofs.Theorems.{int_sound, int_complete, natural_short}
+use Rattle.ber_elements.specs.write.Element.{Elem}
+use Rattle.ber_elements.specs.Integer.{IsInteger, int_at}
+use Rattle.ber_elements.proofs.Theorems.{int_sound, int_complete, natural_short}
 use Rattle.ber_layout.specs.element.Pieces.{ArePieces, IsFurther, IsNumberIn, Piece, ◌>>=◌, piece_at, tagged_at, natural_in, number_in, are_pieces}
 use Rattle.ber_layout.proofs.element.PieceLemmas.{Takes, piece_sound, piece_again, pieces_nil, pieces_step, pieces_none}
 

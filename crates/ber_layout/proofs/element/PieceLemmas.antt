@@ -4,11 +4,11 @@ use Rattle.std.specs.Prelude.{◌&&◌}
 use Rattle.std.proofs.lemmas.Bool.{cases_lt, lt-ltb, le-ltb, eqb-true, eqb-false}
 use Rattle.std.proofs.lemmas.List.{length-drop, length-append, take-append-drop, append_assoc, take_at, drop_at, length-take-le, nil_from_length}
 use Rattle.std.proofs.lemmas.Option.{same_Some}
-use Rattle.ber_core.specs.declared.kinds.Header.{Header}
-use Rattle.ber_core.specs.declared.kinds.Header.TheVariants as header
-use Rattle.ber_core.specs.write.Element.{Elem}
-use Rattle.ber_core.specs.read.Heading.{header_at}
-use Rattle.ber_core.proofs.Theorems.{heading_begins, heading_bound, element_again}
+use Rattle.ber_elements.specs.declared.kinds.Header.{Header}
+use Rattle.ber_elements.specs.declared.kinds.Header.TheVariants as header
+use Rattle.ber_elements.specs.write.Element.{Elem}
+use Rattle.ber_elements.specs.read.Heading.{header_at}
+use Rattle.ber_elements.proofs.Theorems.{heading_begins, heading_bound, element_again}
 use Rattle.ber_layout.specs.element.Pieces.{Piece, piece_of, piece_at, piece_and, pieces_of, are_pieces}
 
 -- an element at the front, and what is left

@@ -4,7 +4,7 @@ use Rattle.std.specs.Prelude.{◌&&◌, not}
 use Rattle.std.proofs.lemmas.Bool.{and_parts, eqb-true, ltb-true, eqb-false, ne_eqb, not-true, not-false, or_parts}
 use Rattle.std.proofs.lemmas.List.{nil_from_length}
 use Rattle.std.proofs.lemmas.Option.{same_Some}
-use Rattle.ber_core.specs.write.Element.{Elem}
+use Rattle.ber_elements.specs.write.Element.{Elem}
 use Rattle.ber_layout.specs.element.Pieces.{ArePieces, IsFurther, ◌>>=◌, number_in, any_tag, other_than, are_pieces}
 use Rattle.ber_layout.specs.components.Flags.{flag_of}
 use Rattle.ber_layout.specs.components.Components.{Component, begins, any_of, required_of, optional_of, marked_of, each_of}

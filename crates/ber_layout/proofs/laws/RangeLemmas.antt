@@ -1,7 +1,7 @@
 -- What is written of a part is no longer than what is written of the whole.
 use Rattle.std.proofs.Common.{◌≡◌, ℕ, ◌+◌, ◌^◌, ◌<◌, ◌≤◌, Bool, true, false, List, [], ◌∷◌, ◌++◌, length, Option, Some, None, arith, length-append}
 use Rattle.std.specs.List.{AllByRecursion}
-use Rattle.ber_core.specs.write.Spelling.{header_octets}
+use Rattle.ber_elements.specs.write.Spelling.{header_octets}
 use Rattle.ber_layout.specs.write.Spellings.{element_octets, optional_octets, marked_octets, each_octets}
 use Rattle.ber_layout.specs.laid.Layouts.{Layout, Value, writes, Fits, IsShort, MayFit}
 use Rattle.ber_layout.specs.laid.Layouts.Layout.{AnyOctets, Ignored, Number, Skipped, Flag, End, Further, FurtherBut, AnyElement, Then, Maybe, Marked, Each}

@@ -5,10 +5,10 @@ use Rattle.std.specs.Int.{w64}
 use Rattle.std.proofs.lemmas.Int.{ints}
 use Rattle.std.specs.List.{AllByRecursion}
 use Rattle.std.proofs.lemmas.Bool.{and_parts, ltb-true, leb-true, eq-eqb}
-use Rattle.ber_core.specs.write.Element.{Elem, IsTag}
-use Rattle.ber_core.specs.write.Spelling.{header_octets}
-use Rattle.ber_core.specs.Integer.{int_octets}
-use Rattle.ber_core.proofs.Theorems.{header_spells, int_spells}
+use Rattle.ber_elements.specs.write.Element.{Elem, IsTag}
+use Rattle.ber_elements.specs.write.Spelling.{header_octets}
+use Rattle.ber_elements.specs.Integer.{int_octets}
+use Rattle.ber_elements.proofs.Theorems.{header_spells, int_spells}
 use Rattle.ber_layout.specs.element.Pieces.{IsNumberIn}
 use Rattle.ber_layout.specs.components.Flags.{IsFlag, flag_octets}
 use Rattle.ber_layout.specs.components.Components.{Follows, MayFollow, MarkFollows, EachFollows}

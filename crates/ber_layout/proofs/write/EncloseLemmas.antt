@@ -2,7 +2,7 @@
 use Rattle.std.proofs.Common.{◌≡◌, ℕ, ◌+◌, ◌-◌, ◌≤◌, List, [], ◌++◌, length, take, drop, refl, ap, subst, ◌∙◌, arith, append_assoc, length-append, length-drop}
 use Rattle.std.proofs.lemmas.List.{take-append-drop, take_at, drop_at, length-take-le, nil_from_length}
 use Rattle.std.specs.List.{slice_rotate_right}
-use Rattle.ber_core.specs.write.Spelling.{length_octets, header_octets}
+use Rattle.ber_elements.specs.write.Spelling.{length_octets, header_octets}
 use Rattle.ber_layout.specs.write.Spellings.{element_octets}
 
 -- the octets before, the content and the header, with the header moved to the content's front

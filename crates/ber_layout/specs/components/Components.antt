@@ -1,7 +1,7 @@
 -- The components of a SEQUENCE: one that stands, one that may, and any number of one tag (X.690 8.9 to 8.11, 8.14), as
 -- relations, and what is read at the front of some octets.
 use Rattle.std.specs.Prelude.{◌≡◌, ◌⊎◌, ℕ, zero, suc, Bool, true, false, List, [], ◌∷◌, ◌++◌, length, Option, Some, None, ◌==◌, if◌then◌else◌}
-use Rattle.ber_core.specs.write.Element.{Elem}
+use Rattle.ber_elements.specs.write.Element.{Elem}
 use Rattle.ber_layout.specs.element.Pieces.{◌>>=◌, piece_at, tagged_at}
 use Rattle.ber_layout.specs.components.Flags.{IsFlag, flag_of}
 

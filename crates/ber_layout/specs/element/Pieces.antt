@@ -2,11 +2,11 @@
 -- components that are known (RFC 4511 section 4).
 use Rattle.std.specs.Prelude.{◌≡◌, ℕ, zero, suc, ◌≤◌, Bool, true, false, ◌&&◌, not, List, [], ◌∷◌, ◌++◌, length, take, drop, Option, Some, None, ◌==◌, nat_lt, nat_le, if◌then◌else◌, IsTrue, ℤ, pos, negsuc}
 pub use Rattle.plain_values.specs.Options.{◌>>=◌}
-use Rattle.ber_core.specs.declared.kinds.Header.{Header}
-use Rattle.ber_core.specs.declared.kinds.Header.TheVariants as header
-use Rattle.ber_core.specs.write.Element.{Elem}
-use Rattle.ber_core.specs.read.Heading.{header_at}
-use Rattle.ber_core.specs.Integer.{IsInteger, int_at}
+use Rattle.ber_elements.specs.declared.kinds.Header.{Header}
+use Rattle.ber_elements.specs.declared.kinds.Header.TheVariants as header
+use Rattle.ber_elements.specs.write.Element.{Elem}
+use Rattle.ber_elements.specs.read.Heading.{header_at}
+use Rattle.ber_elements.specs.Integer.{IsInteger, int_at}
 
 -- ---- the relations
 

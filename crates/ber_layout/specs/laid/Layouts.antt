@@ -2,8 +2,8 @@
 -- relation of values to octets, a reading and a written spelling.
 use Rattle.std.specs.Prelude.{◌≡◌, ℕ, ◌<◌, ◌≤◌, ◌%◌, ◌^◌, Bool, true, false, ◌&&◌, ◌||◌, not, List, [], ◌++◌, length, Option, Some, None, pos, ◌==◌, nat_lt, nat_le, if◌then◌else◌}
 use Rattle.std.specs.List.{AllByRecursion}
-use Rattle.ber_core.specs.write.Element.{IsTag}
-use Rattle.ber_core.specs.Integer.{int_octets}
+use Rattle.ber_elements.specs.write.Element.{IsTag}
+use Rattle.ber_elements.specs.Integer.{int_octets}
 use Rattle.ber_layout.specs.element.Pieces.{IsFurther, IsNumberIn, ◌>>=◌, number_in, any_tag, other_than, are_pieces}
 use Rattle.ber_layout.specs.components.Flags.{IsFlag, flag_of, flag_octets}
 use Rattle.ber_layout.specs.components.Components.{Follows, MayFollow, MarkFollows, EachFollows, any_of, required_of, optional_of, marked_of, each_of}

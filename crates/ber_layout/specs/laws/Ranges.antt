@@ -1,7 +1,7 @@
 -- Values whose numbers and tags are in their ranges, whatever their lengths: where the whole is short, they fit.
 use Rattle.std.specs.Prelude.{ℕ, ◌≤◌, List}
 use Rattle.std.specs.List.{AllByRecursion}
-use Rattle.ber_core.specs.write.Element.{IsTag}
+use Rattle.ber_elements.specs.write.Element.{IsTag}
 use Rattle.ber_layout.specs.laid.Layouts.{Layout, Value, MayFit}
 use Rattle.ber_layout.specs.laid.Layouts.Layout.{AnyOctets, Ignored, Number, Skipped, Flag, End, Further, FurtherBut, AnyElement, Then, Maybe, Marked, Each}
 

@@ -1,6 +1,6 @@
 -- The one written spelling of elements: each length in its shortest form (X.690 8.1.3).
 use Rattle.std.specs.Prelude.{◌≡◌, ℕ, Bool, true, false, List, [], ◌∷◌, ◌++◌, length, Option, Some, None}
-use Rattle.ber_core.specs.write.Spelling.{header_octets}
+use Rattle.ber_elements.specs.write.Spelling.{header_octets}
 use Rattle.ber_layout.specs.components.Flags.{flag_octets}
 
 -- an element with the shortest length

@@ -12,8 +12,8 @@ use Rattle.wire_io.specs.script_link.Scripted.{LinkState}
 use Rattle.command_files.specs.declared.loading.Trouble.{Trouble}
 use Rattle.command_files.specs.declared.loading.Trouble.TheVariants as trouble
 use Rattle.dir_tree.specs.tree.Numbered.{Numbered, entries_of}
-use Rattle.data_file.specs.op_write.declared.fault.LoadCause.TheVariants.{Limit}
-use Rattle.data_file.specs.op_write.load.DataFile.{OfRecord, loads}
+use Rattle.data_file.specs.ldif_load.declared.fault.LoadCause.TheVariants.{Limit}
+use Rattle.data_file.specs.ldif_load.load.DataFile.{OfRecord, loads}
 use Rattle.data_file.specs.declared.fault.DataCause.TheVariants as DataCause
 use Rattle.data_file.specs.declared.fault.DataFault.{DataFault}
 use Rattle.data_file.specs.declared.fault.DataFault.TheVariants as loading

@@ -7,8 +7,8 @@ use Rattle.wire_io.specs.script_text.script.Script.{IsScript, IsFirstBadLine}
 use Rattle.wire_io.specs.shelf.Files.{Files, file_of, Lacks}
 use Rattle.wire_io.specs.reading.ReadWhole.{line_past}
 use Rattle.dir_tree.specs.Entry.{EntryInformation}
-use Rattle.data_file.specs.op_write.declared.fault.LoadCause.TheVariants.{Limit}
-use Rattle.data_file.specs.op_write.load.DataFile.{FileCause, OfRecord, loads}
+use Rattle.data_file.specs.ldif_load.declared.fault.LoadCause.TheVariants.{Limit}
+use Rattle.data_file.specs.ldif_load.load.DataFile.{FileCause, OfRecord, loads}
 
 -- the most octets of a data file
 abbrev pub most_data : ℕ

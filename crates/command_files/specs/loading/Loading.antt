@@ -8,7 +8,7 @@ use Rattle.wire_io.specs.shelf.Files.{Files}
 use Rattle.wire_io.specs.script_link.Scripted.{LinkState, fresh_link}
 use Rattle.dir_tree.specs.tree.Numbered.{Numbered, entries_of}
 use Rattle.aci_item.specs.Rules.{IsGoodTree}
-use Rattle.data_file.specs.op_write.declared.fault.LoadCause.TheVariants.{Limit}
+use Rattle.data_file.specs.ldif_load.declared.fault.LoadCause.TheVariants.{Limit}
 use Rattle.data_file.specs.declared.fault.DataCause.TheVariants as DataCause
 use Rattle.data_file.specs.declared.fault.DataFault.{DataFault}
 use Rattle.data_file.specs.declared.fault.DataFault.TheVariants as loading

@@ -5,17 +5,17 @@ use Rattle.dir_tree.specs.Entry.{EntryInformation}
 use Rattle.dir_tree.specs.tree.Trees.{put_in}
 use Rattle.dir_tree.specs.tree.Numbered.{Numbered, entries_of}
 use Rattle.dir_tree.proofs.TreeTheorems.{entries_of-put_row, put_in-some as put_in-filled}
-use Rattle.op_write.specs.ldif_core.declared.types.Position.{Position}
-use Rattle.op_write.specs.ldif_core.declared.types.Record.{Record}
-use Rattle.op_write.specs.ldif_core.declared.types.BadLine.{BadLine}
-use Rattle.op_write.specs.ldif_core.declared.types.BadLine.TheVariants as reading
-use Rattle.op_write.specs.ldif_core.reading.Faults.{LineFault}
-use Rattle.op_write.specs.ldif_core.reading.Faults as ldif
-use Rattle.op_write.specs.ldif_core.reading.Records.{first_of}
-use Rattle.op_write.specs.ldif_core.lines.Places.{records_from, IsNext}
-use Rattle.op_write.specs.load.Loading.{◌>>=◌, loaded_entry, IsLoaded}
-use Rattle.op_write.specs.load.DataFile.{FileFault, in_file, record_entry, loads_after, loads_records, loads, file_start}
-use Rattle.op_write.proofs.Theorems.{ends_at_first as loads_after-line}
+use Rattle.ldif_load.specs.ldif_records.declared.types.Position.{Position}
+use Rattle.ldif_load.specs.ldif_records.declared.types.Record.{Record}
+use Rattle.ldif_load.specs.ldif_records.declared.types.BadLine.{BadLine}
+use Rattle.ldif_load.specs.ldif_records.declared.types.BadLine.TheVariants as reading
+use Rattle.ldif_load.specs.ldif_records.reading.Faults.{LineFault}
+use Rattle.ldif_load.specs.ldif_records.reading.Faults as ldif
+use Rattle.ldif_load.specs.ldif_records.reading.Records.{first_of}
+use Rattle.ldif_load.specs.ldif_records.lines.Places.{records_from, IsNext}
+use Rattle.ldif_load.specs.load.Loading.{◌>>=◌, loaded_entry, IsLoaded}
+use Rattle.ldif_load.specs.load.DataFile.{FileFault, in_file, record_entry, loads_after, loads_records, loads, file_start}
+use Rattle.ldif_load.proofs.Theorems.{ends_at_first as loads_after-line}
 use Rattle.data_file.specs.declared.fault.DataFault.{DataFault}
 use Rattle.data_file.specs.declared.fault.DataFault.TheVariants.{Bad, NoMemory}
 use Rattle.wire_io.specs.plain_values.Answers.{IsFaultOf}

@@ -11,8 +11,8 @@ use Rattle.wire_io.proofs.Theorems.{PutsAll-nothing, PutsAll-cut, PutsAll-then}
 use Rattle.dir_tree.specs.Entry.{EntryInformation}
 use Rattle.dir_tree.specs.declared.number.EntryNo.{EntryNo}
 use Rattle.dir_tree.specs.tree.Numbered.{Numbered, entry_of, entries_of}
-use Rattle.op_write.specs.ldif_core.writing.Written.{AreInTable}
-use Rattle.op_write.specs.ldif_core.writing.WrittenFile.{written_file, written_record, written_records}
+use Rattle.ldif_load.specs.ldif_records.writing.Written.{AreInTable}
+use Rattle.ldif_load.specs.ldif_records.writing.WrittenFile.{written_file, written_record, written_records}
 use Rattle.data_file.specs.writing.Steps.{AreOfTable, text_at}
 
 -- a text of nothing was put

@@ -7,7 +7,7 @@ use Rattle.dir_tree.specs.Scope.{scoped}
 use Rattle.dir_tree.specs.declared.scope.Scope.TheVariants.{Sub}
 use Rattle.dir_tree.specs.tree.Numbered.{Numbered, ids_of, entry_of, suffix_of, IsNumberedTree, entries_of}
 use Rattle.dir_tree.proofs.TreeTheorems.{scoped-Sub, own_entries}
-use Rattle.op_write.specs.ldif_core.writing.WrittenFile.{written_record, written_records}
+use Rattle.ldif_load.specs.ldif_records.writing.WrittenFile.{written_record, written_records}
 use Rattle.data_file.specs.writing.Steps.{text_at}
 
 -- the records of numbers by which their entries are found are those of the entries

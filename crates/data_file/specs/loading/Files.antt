@@ -1,6 +1,6 @@
 -- What loading a data file answers.
 use Rattle.std.specs.Prelude.{Option, Some, None}
-use Rattle.op_write.specs.load.DataFile.{FileCause, OfLine, OfRecord, FileFault}
+use Rattle.ldif_load.specs.load.DataFile.{FileCause, OfLine, OfRecord, FileFault}
 use Rattle.data_file.specs.declared.fault.DataCause.{DataCause}
 use Rattle.data_file.specs.declared.fault.DataCause.TheVariants.{Line, Record}
 use Rattle.data_file.specs.declared.fault.DataFault.{DataFault}

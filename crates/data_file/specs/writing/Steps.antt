@@ -5,16 +5,16 @@ use Rattle.std.specs.List.{AllByRecursion}
 use Rattle.std.specs.Option.{option_map_or}
 use Rattle.dir_tree.specs.Entry.{EntryInformation}
 use Rattle.dir_tree.specs.tree.Numbered.{Numbered, entry_of}
-use Rattle.op_write.specs.ldif_core.declared.types.Position.{Position}
-use Rattle.op_write.specs.ldif_core.declared.types.Record.{Record}
-use Rattle.op_write.specs.ldif_core.declared.types.BadLine.{BadLine}
-use Rattle.op_write.specs.ldif_core.declared.types.BadLine.TheVariants as reading
-use Rattle.op_write.specs.ldif_core.lines.Places.{IsNext}
-use Rattle.op_write.specs.ldif_core.writing.Written.{AreInTable}
-use Rattle.op_write.specs.ldif_core.writing.WrittenFile.{written_record}
-use Rattle.op_write.specs.declared.fault.LoadFault.{LoadFault}
-use Rattle.op_write.specs.declared.fault.LoadFault.TheVariants as loading
-use Rattle.op_write.specs.load.Loading.{IsLoaded}
+use Rattle.ldif_load.specs.ldif_records.declared.types.Position.{Position}
+use Rattle.ldif_load.specs.ldif_records.declared.types.Record.{Record}
+use Rattle.ldif_load.specs.ldif_records.declared.types.BadLine.{BadLine}
+use Rattle.ldif_load.specs.ldif_records.declared.types.BadLine.TheVariants as reading
+use Rattle.ldif_load.specs.ldif_records.lines.Places.{IsNext}
+use Rattle.ldif_load.specs.ldif_records.writing.Written.{AreInTable}
+use Rattle.ldif_load.specs.ldif_records.writing.WrittenFile.{written_record}
+use Rattle.ldif_load.specs.declared.fault.LoadFault.{LoadFault}
+use Rattle.ldif_load.specs.declared.fault.LoadFault.TheVariants as loading
+use Rattle.ldif_load.specs.load.Loading.{IsLoaded}
 use Rattle.data_file.specs.declared.fault.DataCause.TheVariants.{Line, Record as OfRecord}
 use Rattle.data_file.specs.declared.fault.DataFault.{DataFault}
 use Rattle.data_file.specs.declared.fault.DataFault.TheVariants.{Bad, NoMemory}

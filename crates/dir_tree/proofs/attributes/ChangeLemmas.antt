@@ -4,7 +4,7 @@ use Rattle.std.specs.List.{AllByRecursion, IsDistinct}
 use Rattle.std.specs.Map.{lookup, keys_of, set_value, remove_entry}
 use Rattle.std.proofs.lemmas.Bool.Decides.{nat_tests}
 use Rattle.indexmap.specs.IndexMap.{insert_entry}
-use Rattle.schema_core.specs.declared.kinds.AttrId.{AttrId}
+use Rattle.schema_tables.specs.declared.kinds.AttrId.{AttrId}
 use Rattle.dn_names.specs.name.Names.{Keyed}
 use Rattle.dir_tree.specs.Entry.{Attribute, kinds_of, has_kind}
 use Rattle.dir_tree.specs.attributes.Changes.{put_value, without_key, cut_attribute, is_filled, other_attributes}

@@ -7,7 +7,7 @@ use Rattle.std.specs.Map.{keys_of}
 use Rattle.std.proofs.lemmas.Cmp.{on_equiv}
 use Rattle.std.proofs.lemmas.Map.Keys.{IsDistinct-push}
 use Rattle.base_laws.proofs.Theorems.{all_filter}
-use Rattle.schema_core.specs.declared.kinds.AttrId.{AttrId}
+use Rattle.schema_tables.specs.declared.kinds.AttrId.{AttrId}
 use Rattle.dn_names.specs.name.Names.{Keyed}
 use Rattle.dir_tree.specs.Entry.{Attribute, kinds_of, values_of, has_key, is_match, IsGoodAttribute}
 use Rattle.dir_tree.specs.attributes.Changes.{put_value, without_key, cut_attribute, is_filled, cut_attributes}

@@ -3,7 +3,7 @@ use Rattle.std.proofs.Common.{◌≡◌, ℕ, ◌==◌, Bool, List, [], ◌∷�
 use Rattle.std.specs.Option.{option_map, option_map_or}
 use Rattle.std.specs.Map.{lookup}
 use Rattle.std.proofs.lemmas.Option.{slice_get-map}
-use Rattle.schema_core.specs.declared.kinds.AttrId.{AttrId}
+use Rattle.schema_tables.specs.declared.kinds.AttrId.{AttrId}
 use Rattle.dn_names.specs.name.Names.{Keyed}
 use Rattle.dir_tree.specs.Entry.{Attribute, kinds_of, values_of}
 use Rattle.dir_tree.specs.attributes.Rows.{attribute_of, attributes_of}

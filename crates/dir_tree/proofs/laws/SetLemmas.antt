@@ -5,7 +5,7 @@ use Rattle.std.proofs.lemmas.Bool.{cases_Bool}
 use Rattle.std.proofs.lemmas.Bool.Decides.{nat_tests}
 use Rattle.base_laws.proofs.Theorems.{number_apart}
 use Rattle.indexmap.specs.IndexMap.{insert_entry}
-use Rattle.schema_core.specs.declared.kinds.AttrId.{AttrId}
+use Rattle.schema_tables.specs.declared.kinds.AttrId.{AttrId}
 use Rattle.dn_names.specs.name.Names.{Keyed}
 use Rattle.dir_tree.specs.Entry.{Attribute, EntryInformation, kinds_of, values_of, is_match, IsGoodAttribute, IsGoodAttributes}
 use Rattle.dir_tree.specs.attributes.Changes.{set_in, with_values}

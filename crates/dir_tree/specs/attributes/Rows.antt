@@ -1,6 +1,6 @@
 -- Attributes as the program holds them: the entries of a map.
 use Rattle.std.specs.Prelude.{List, map}
-use Rattle.schema_core.specs.declared.kinds.AttrId.{AttrId}
+use Rattle.schema_tables.specs.declared.kinds.AttrId.{AttrId}
 use Rattle.dn_names.specs.name.Names.{Keyed}
 use Rattle.dir_tree.specs.Entry.{Attribute}
 

@@ -3,7 +3,7 @@ use Rattle.std.specs.Prelude.{ℕ, zero, suc, Bool, List, [], ◌∷◌, ◌++�
 use Rattle.std.specs.List.{flat_map, list_any}
 use Rattle.std.specs.Option.{option_map_or}
 use Rattle.std.specs.Str.{bytes_eq}
-use Rattle.schema_core.specs.classes.Classes.{class_oid_of, class_with, superior_of}
+use Rattle.schema_tables.specs.classes.Classes.{class_oid_of, class_with, superior_of}
 use Rattle.dir_tree.specs.Entry.{Attribute, EntryInformation, values_of}
 
 -- the number of objectClass in the table of attribute types

@@ -3,8 +3,8 @@ use Rattle.std.proofs.Common.{◌≡◌, ℕ, Bool, true, false, IsTrue, List, [
 use Rattle.std.specs.Prelude.{◌↔◌}
 use Rattle.std.specs.List.{AllByRecursion}
 use Rattle.std.proofs.lemmas.List.{drop_at, take_at, take-append-drop, map-append, reverse-reverse, length-append, length-drop}
-use Rattle.schema_core.specs.Attributes.{attr_of, name_of}
-use Rattle.schema_core.proofs.Theorems.{attr_of-name_of, is_keystring-name_of}
+use Rattle.schema_tables.specs.Attributes.{attr_of, name_of}
+use Rattle.schema_tables.proofs.Theorems.{attr_of-name_of, is_keystring-name_of}
 use Rattle.dn_names.specs.declared.printing.Shown.TheVariants.{Key}
 use Rattle.dn_names.specs.name.Names.{TypeAndValue, RdnSequence}
 use Rattle.dn_names.specs.order.NameOrder.{is_same, is_prefix_of, type_and_key, types_and_keys}

@@ -11,9 +11,9 @@ use Rattle.std.proofs.lemmas.Option.{slice_get_within}
 use Rattle.base_laws.proofs.Theorems.{all_push}
 use Rattle.regular_text.specs.laws.Grammar.{Matches}
 use Rattle.regular_text.specs.laws.Grammar.Grammar.{One, Many}
-use Rattle.schema_core.specs.Attributes.{Attribute, attributes, attribute_at, name_of, is_naming, syntax_of, IsAttrId}
-use Rattle.schema_core.specs.Naming.{is_keystring}
-use Rattle.schema_core.proofs.Theorems.{attr_of-name_of, is_keystring-name_of}
+use Rattle.schema_tables.specs.Attributes.{Attribute, attributes, attribute_at, name_of, is_naming, syntax_of, IsAttrId}
+use Rattle.schema_tables.specs.Naming.{is_keystring}
+use Rattle.schema_tables.proofs.Theorems.{attr_of-name_of, is_keystring-name_of}
 use Rattle.dn_names.specs.declared.error.BadName.TheVariants.{TooMany}
 use Rattle.dn_names.specs.declared.printing.Shown.TheVariants.{Octets}
 use Rattle.dn_names.specs.Classes.{class_of, is_letter, is_word}

@@ -7,7 +7,7 @@ use Rattle.std.proofs.lemmas.Bool.Decides.{nat_tests}
 use Rattle.std.proofs.lemmas.Grind.{reverse_onto}
 use Rattle.std.proofs.lemmas.List.{length-reverse, length-map}
 use Rattle.base_laws.proofs.Theorems.{all_push}
-use Rattle.schema_core.specs.Attributes.{attr_of, is_naming, syntax_of}
+use Rattle.schema_tables.specs.Attributes.{attr_of, is_naming, syntax_of}
 use Rattle.dn_names.specs.declared.error.BadName.{BadName}
 use Rattle.dn_names.specs.declared.error.BadName.TheVariants.{TooMany}
 use Rattle.dn_names.specs.name.Names.{Keyed, TypeAndValue, RdnSequence}

@@ -10,7 +10,7 @@ use Rattle.std.proofs.lemmas.Bool.Decides.{nat_tests}
 use Rattle.std.proofs.lemmas.Str.{IsUtf8-append, IsUtf8-nil, IsUtf8-from_ascii, IsUtf8-from_is_utf8, encode_ascii}
 use Rattle.std.proofs.lemmas.Str.Ascii.{IsAscii-nil, IsAscii-cons}
 use Rattle.std.proofs.Math.Utf8.{encode, encodes, scalar, scalars}
-use Rattle.schema_core.specs.Attributes.{Attribute, attributes, attribute_at, name_of}
+use Rattle.schema_tables.specs.Attributes.{Attribute, attributes, attribute_at, name_of}
 use Rattle.dn_names.specs.declared.printing.Shown.TheVariants.{Octets}
 use Rattle.dn_names.specs.Classes.{class_of}
 use Rattle.dn_names.specs.name.Names.{TypeAndValue, RdnSequence, IsTextRdn, IsTextName}

@@ -1,9 +1,9 @@
 -- The values of each attribute type: which octets are of its syntax, and their keys.
 use Rattle.std.specs.Prelude.{ℕ, List, Option, Some, None, Result, Ok, Err}
 use Rattle.std.specs.Option.{option_map, option_and_then}
-use Rattle.schema_core.specs.declared.kinds.Syntax.{Syntax}
-use Rattle.schema_core.specs.declared.kinds.Syntax.TheVariants.{Name}
-use Rattle.schema_core.specs.Attributes.{syntax_of}
+use Rattle.schema_tables.specs.declared.kinds.Syntax.{Syntax}
+use Rattle.schema_tables.specs.declared.kinds.Syntax.TheVariants.{Name}
+use Rattle.schema_tables.specs.Attributes.{syntax_of}
 use Rattle.dn_names.specs.declared.error.BadName.{BadName}
 use Rattle.dn_names.specs.name.Names.{Keyed, RdnSequence}
 use Rattle.dn_names.specs.value.Values.{plain_key}

@@ -1,6 +1,6 @@
 -- What a written name means by the table of types: its pairs with keys, or the first pair that isn't good.
 use Rattle.std.specs.Prelude.{ℕ, ◌+◌, ◌&&◌, ◌==◌, nat_lt, nat_le, List, [], ◌∷◌, length, reverse, Option, Some, None, Result, Ok, Err, option_map, option_and_then, if◌then◌else◌}
-use Rattle.schema_core.specs.Attributes.{attr_of, is_naming, syntax_of}
+use Rattle.schema_tables.specs.Attributes.{attr_of, is_naming, syntax_of}
 use Rattle.dn_names.specs.declared.error.BadName.{BadName}
 use Rattle.dn_names.specs.declared.error.BadName.TheVariants.{Part, TooMany}
 use Rattle.dn_names.specs.Limits.{most_rdns, most_octets}

@@ -3,9 +3,9 @@ use Rattle.std.specs.Prelude.{ℕ, List, Option, None, if◌then◌else◌}
 use Rattle.std.specs.Str.{is_utf8}
 use Rattle.match_rules.specs.declared.rules.Rule.TheVariants as rules
 use Rattle.match_rules.specs.Keys.{key_of}
-use Rattle.schema_core.specs.declared.kinds.Syntax.{Syntax}
-use Rattle.schema_core.specs.declared.kinds.Syntax.TheVariants.{Text, Ascii, Phone, Country, Octets, Oid, Name, Subtree, Aci}
-use Rattle.schema_core.specs.Oids.{oid_of}
+use Rattle.schema_tables.specs.declared.kinds.Syntax.{Syntax}
+use Rattle.schema_tables.specs.declared.kinds.Syntax.TheVariants.{Text, Ascii, Phone, Country, Octets, Oid, Name, Subtree, Aci}
+use Rattle.schema_tables.specs.Oids.{oid_of}
 
 -- what a look-up of texts gives for octets: nothing where they are no text
 abbrev pub of_text : {A : Type 0} → (List ℕ → Option A) → List ℕ → Option A

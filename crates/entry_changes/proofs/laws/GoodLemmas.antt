@@ -7,8 +7,8 @@ use Rattle.dir_tree.specs.dn_names.name.Names.{Keyed, TypeAndValue, RdnSequence,
 use Rattle.dir_tree.specs.Entry.{EntryInformation, values_of, is_match, IsGoodAttributes}
 use Rattle.dir_tree.specs.attributes.Changes.{with_value, without_value}
 use Rattle.dir_tree.proofs.Theorems.{good-with_values, good-without_value, good-without_kind}
-use Rattle.op_write.specs.load.Loading.{with_own_values}
-use Rattle.op_write.proofs.Theorems.{name-with_pairs, name-with_value, good-with_pairs}
+use Rattle.ldif_load.specs.load.Loading.{with_own_values}
+use Rattle.ldif_load.proofs.Theorems.{name-with_pairs, name-with_value, good-with_pairs}
 use Rattle.ldap_msg.specs.declared.operations.ResultCode.{ResultCode}
 use Rattle.entry_changes.specs.declared.kind.ChangeKind.{ChangeKind}
 use Rattle.entry_changes.specs.declared.kind.ChangeKind.TheVariants.{Add, Delete, Replace}

@@ -2,7 +2,7 @@
 use Rattle.std.proofs.Common.{◌≡◌, ℕ, ◌+◌, ◌<◌, ◌≤◌, List, [], ◌∷◌, ◌++◌, length, Option, Some, None, refl, sym, ap, ◌∙◌, append_assoc, append-nil, take, get_or, true}
 use Rattle.std.proofs.lemmas.List.{take_more}
 use Rattle.std.specs.List.{AllByRecursion}
-use Rattle.ber_core.specs.write.Element.{Elem, IsTag}
+use Rattle.ber_elements.specs.write.Element.{Elem, IsTag}
 use Rattle.ber_layout.specs.components.Components.{Follows}
 use Rattle.ber_layout.specs.write.Spellings.{element_octets}
 use Rattle.ber_layout.specs.laid.Layouts.{Layout, Value, Says as SaysLayout, IsShort, MayFit, writes, is_clear}

@@ -2,11 +2,11 @@
 use Rattle.std.proofs.Common.{◌≡◌, ℕ, zero, suc, ◌+◌, ◌<◌, List, [], ◌∷◌, ◌++◌, length, take, drop, refl, sym, ap, subst, ◌∙◌, inl, inr, arith}
 use Rattle.std.proofs.lemmas.Bool.{cases_lt, cases_eq, lt-ltb, le-ltb, eq-eqb, ne_eqb}
 use Rattle.std.proofs.lemmas.List.{length-append, length-take-le, take-append-drop, length-drop, append_assoc, append-nil}
-use Rattle.ber_core.specs.declared.kinds.Header.{Header}
-use Rattle.ber_core.specs.declared.kinds.Header.TheVariants as header
-use Rattle.ber_core.specs.write.Element.{SpellsLength, IsHeader, Elem}
-use Rattle.ber_core.specs.read.Heading.{IsUnreadable, IsHeading, header_at}
-use Rattle.ber_core.proofs.Theorems.{heading_sound, heading_begins, header_again, unreadable_again, element_again, element_there}
+use Rattle.ber_elements.specs.declared.kinds.Header.{Header}
+use Rattle.ber_elements.specs.declared.kinds.Header.TheVariants as header
+use Rattle.ber_elements.specs.write.Element.{SpellsLength, IsHeader, Elem}
+use Rattle.ber_elements.specs.read.Heading.{IsUnreadable, IsHeading, header_at}
+use Rattle.ber_elements.proofs.Theorems.{heading_sound, heading_begins, header_again, unreadable_again, element_again, element_there}
 use Rattle.ldap_msg.specs.declared.kinds.Frame.{Frame}
 use Rattle.ldap_msg.specs.declared.kinds.Frame.TheVariants.{Whole, More, Bad}
 use Rattle.ldap_msg.specs.framing.Streams.{most_content, IsOuter, SpellsTooMuch, IsBrokenLength, IsBroken, IsFrame, framed, frame_at}

@@ -2,10 +2,10 @@
 use Rattle.std.proofs.Common.{◌≡◌, ℕ, ◌+◌, ◌≤◌, List, [], ◌∷◌, ◌++◌, length, refl, sym, ap, subst, ◌∙◌, inl, inr, arith}
 use Rattle.std.proofs.lemmas.Bool.{cases_lt, cases_eq, lt-ltb, le-ltb, eq-eqb, ne_eqb}
 use Rattle.std.proofs.lemmas.List.{length-append}
-use Rattle.ber_core.specs.declared.kinds.Header.{Header}
-use Rattle.ber_core.specs.declared.kinds.Header.TheVariants as header
-use Rattle.ber_core.specs.read.Heading.{IsFront, IsHeading, header_at}
-use Rattle.ber_core.proofs.Theorems.{heading_sound, header_bound, heading_again, heading_bound}
+use Rattle.ber_elements.specs.declared.kinds.Header.{Header}
+use Rattle.ber_elements.specs.declared.kinds.Header.TheVariants as header
+use Rattle.ber_elements.specs.read.Heading.{IsFront, IsHeading, header_at}
+use Rattle.ber_elements.proofs.Theorems.{heading_sound, header_bound, heading_again, heading_bound}
 use Rattle.ldap_msg.specs.declared.kinds.Frame.{Frame}
 use Rattle.ldap_msg.specs.declared.kinds.Frame.TheVariants.{Whole, More, Bad}
 use Rattle.ldap_msg.specs.framing.Streams.{most_content, framed, frame_at}

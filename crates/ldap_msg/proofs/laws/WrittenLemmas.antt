@@ -1,8 +1,8 @@
 -- A written message says itself, and so does a written reply.
 use Rattle.std.proofs.Common.{◌≡◌, ℕ, ◌+◌, ◌<◌, ◌≤◌, eqb, cond, List, [], ◌∷◌, ◌++◌, length, map, Option, Some, None, refl, sym, ap, subst, ◌∙◌, arith, length-append, append-nil}
 use Rattle.std.proofs.lemmas.Bool.{ne_eqb}
-use Rattle.ber_core.specs.write.Element.{Elem, IsTag}
-use Rattle.ber_core.specs.write.Spelling.{header_octets}
+use Rattle.ber_elements.specs.write.Element.{Elem, IsTag}
+use Rattle.ber_elements.specs.write.Spelling.{header_octets}
 use Rattle.ber_layout.specs.components.Components.{Follows}
 use Rattle.ber_layout.specs.write.Spellings.{element_octets}
 use Rattle.ber_layout.specs.laid.Layouts.{IsShort, writes}

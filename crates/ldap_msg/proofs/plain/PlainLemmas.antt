@@ -3,7 +3,7 @@ use Rattle.std.proofs.Common.{◌≡◌, ℕ, ◌+◌, ◌*◌, ◌<◌, ◌≤�
 use Rattle.std.specs.Prelude.{ℤ, pos, ◌&&◌, Result, Ok, Err, OnOk, is_ok, if◌then◌else◌}
 use Rattle.std.specs.Int.{byte_at, to_be_bytes}
 use Rattle.std.proofs.lemmas.Bool.{cases_Bool, and_parts, eqb-true, ltb-true, eq-eqb, lt-ltb, le-ltb}
-use Rattle.ber_core.specs.Integer.{trimmed, int_octets}
+use Rattle.ber_elements.specs.Integer.{trimmed, int_octets}
 use Rattle.ber_layout.specs.laid.Layouts.{writes}
 use Rattle.ber_layout.specs.write.Spellings.{element_octets}
 use Rattle.ldap_msg.specs.declared.kinds.Reply.{Reply}

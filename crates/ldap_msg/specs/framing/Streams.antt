@@ -2,10 +2,10 @@
 -- A message stands in an outer element: one with the tag of a SEQUENCE, whose content has at most 1,048,576 octets
 -- (this limit is this server's).
 use Rattle.std.specs.Prelude.{◌≡◌, ◌≢◌, ◌⊎◌, ℕ, zero, suc, ◌+◌, ◌<◌, ◌≤◌, Bool, true, false, List, [], ◌∷◌, ◌++◌, length, take, drop, All, ◌==◌, nat_lt, if◌then◌else◌}
-use Rattle.ber_core.specs.declared.kinds.Header.{Header}
-use Rattle.ber_core.specs.declared.kinds.Header.TheVariants as header
-use Rattle.ber_core.specs.write.Element.{Elem, SpellsLength}
-use Rattle.ber_core.specs.read.Heading.{header_at}
+use Rattle.ber_elements.specs.declared.kinds.Header.{Header}
+use Rattle.ber_elements.specs.declared.kinds.Header.TheVariants as header
+use Rattle.ber_elements.specs.write.Element.{Elem, SpellsLength}
+use Rattle.ber_elements.specs.read.Heading.{header_at}
 use Rattle.ldap_msg.specs.declared.kinds.Frame.{Frame}
 use Rattle.ldap_msg.specs.declared.kinds.Frame.TheVariants.{Whole, More, Bad}
 

@@ -6,25 +6,25 @@ use Rattle.dir_tree.proofs.base_laws_proofs.Theorems.{all_filter}
 use Rattle.dir_tree.specs.dn_names.declared.error.BadName.{BadName}
 use Rattle.dir_tree.specs.dn_names.name.Names.{Keyed, RdnSequence}
 use Rattle.dir_tree.specs.dn_names.parsing.NameText.{read_name}
-use Rattle.dir_tree.specs.schema_core.Attributes.{attr_of}
+use Rattle.dir_tree.specs.schema_tables.Attributes.{attr_of}
 use Rattle.dir_tree.specs.Entry.{EntryInformation, values_of, has_key}
 use Rattle.dir_tree.specs.attributes.Changes.{with_value}
 use Rattle.dir_tree.specs.tree.Trees.{has_name, lacks_superior, put_in}
-use Rattle.op_write.specs.ldif_core.declared.types.Position.{Position}
-use Rattle.op_write.specs.ldif_core.declared.types.Record.{Record}
-use Rattle.op_write.specs.ldif_core.declared.types.RecordLine.{RecordLine}
-use Rattle.op_write.specs.ldif_core.declared.types.LineCause.TheVariants.{Syntax, Changetype}
-use Rattle.op_write.specs.ldif_core.reading.Faults.{LineFault}
-use Rattle.op_write.specs.ldif_core.reading.Faults as reading
-use Rattle.op_write.specs.ldif_core.lines.Lines.{Line, numbered, is_continuation, unfolded, beginning, logical}
-use Rattle.op_write.specs.ldif_core.Fields as field
-use Rattle.op_write.specs.ldif_core.reading.Records.{◌>>=◌, is_blank, is_version, without_comments, without_version, attribute_lines, record_of, record_between, records}
-use Rattle.op_write.specs.ldif_core.lines.Places.{physical_from, logical_from, content_from, body_from, records_from}
+use Rattle.ldif_load.specs.ldif_records.declared.types.Position.{Position}
+use Rattle.ldif_load.specs.ldif_records.declared.types.Record.{Record}
+use Rattle.ldif_load.specs.ldif_records.declared.types.RecordLine.{RecordLine}
+use Rattle.ldif_load.specs.ldif_records.declared.types.LineCause.TheVariants.{Syntax, Changetype}
+use Rattle.ldif_load.specs.ldif_records.reading.Faults.{LineFault}
+use Rattle.ldif_load.specs.ldif_records.reading.Faults as reading
+use Rattle.ldif_load.specs.ldif_records.lines.Lines.{Line, numbered, is_continuation, unfolded, beginning, logical}
+use Rattle.ldif_load.specs.ldif_records.Fields as field
+use Rattle.ldif_load.specs.ldif_records.reading.Records.{◌>>=◌, is_blank, is_version, without_comments, without_version, attribute_lines, record_of, record_between, records}
+use Rattle.ldif_load.specs.ldif_records.lines.Places.{physical_from, logical_from, content_from, body_from, records_from}
 use Rattle.aci_item.specs.Rules.{broken_rule}
-use Rattle.op_write.specs.declared.fault.LoadCause.TheVariants.{Twice, Order, Rule, Limit}
-use Rattle.op_write.specs.load.Loading.{RecordFault, named, loaded_value, with_new_value, with_new_kind, with_line, with_lines, with_own_values, entry_of_record, ruled, placed, loaded_entry}
-use Rattle.op_write.specs.load.Loading as loading
-use Rattle.op_write.specs.load.DataFile.{FileFault, in_file, record_entry, loads_after, loads_records, loads, file_start}
+use Rattle.ldif_load.specs.declared.fault.LoadCause.TheVariants.{Twice, Order, Rule, Limit}
+use Rattle.ldif_load.specs.load.Loading.{RecordFault, named, loaded_value, with_new_value, with_new_kind, with_line, with_lines, with_own_values, entry_of_record, ruled, placed, loaded_entry}
+use Rattle.ldif_load.specs.load.Loading as loading
+use Rattle.ldif_load.specs.load.DataFile.{FileFault, in_file, record_entry, loads_after, loads_records, loads, file_start}
 use Rattle.load_laws.proofs.laws.PartLemmas.{either_way, all_slice_split}
 
 -- the lines of a file are counted from 1

@@ -8,7 +8,7 @@ use Rattle.base64.specs.declared.decode.DecodeError.{DecodeError}
 use Rattle.base64.specs.GeneralPurpose.{IsBytes}
 use Rattle.base64.proofs.Decoding.{IsLeftover, IsLeftover_next}
 use Rattle.base64.proofs.Tables.{IsDecodeTable_from, are_tables_inverse}
-use Rattle.op_write.specs.ldif_core.Fields.{decoded}
+use Rattle.ldif_load.specs.ldif_records.Fields.{decoded}
 use Rattle.load_laws.proofs.laws.OctetLemmas.{AreBelow, IsBytes-from_AreBelow, below_take, below_drop, AreBelow-append}
 
 -- where neither is an error, the first is none, and so is the second

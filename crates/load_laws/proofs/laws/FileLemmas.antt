@@ -3,10 +3,10 @@ use Rattle.std.proofs.Common.{ℕ, ◌+◌, ◌-◌, ◌<◌, ◌==◌, List, []
 use Rattle.std.specs.List.{AllByRecursion, slice_split}
 use Rattle.std.specs.Str.Lines.{strip_carriage_return, lines_of_parts, lines}
 use Rattle.dir_tree.proofs.base_laws_proofs.Theorems.{all_filter}
-use Rattle.op_write.specs.ldif_core.declared.types.Position.{Position}
-use Rattle.op_write.specs.ldif_core.lines.Lines.{Line, numbered, is_continuation, continued, unfolded, beginning, logical}
-use Rattle.op_write.specs.ldif_core.reading.Records.{without_comments, is_version, without_version}
-use Rattle.op_write.specs.ldif_core.lines.Places.{physical_from, logical_from, content_from, body_from}
+use Rattle.ldif_load.specs.ldif_records.declared.types.Position.{Position}
+use Rattle.ldif_load.specs.ldif_records.lines.Lines.{Line, numbered, is_continuation, continued, unfolded, beginning, logical}
+use Rattle.ldif_load.specs.ldif_records.reading.Records.{without_comments, is_version, without_version}
+use Rattle.ldif_load.specs.ldif_records.lines.Places.{physical_from, logical_from, content_from, body_from}
 use Rattle.load_laws.proofs.laws.OctetLemmas.{AreBelow, below_take, below_drop, AreBelow-append}
 use Rattle.load_laws.proofs.laws.PartLemmas.{either_way, all_slice_split}
 

@@ -4,13 +4,13 @@ use Rattle.std.specs.List.{AllByRecursion}
 use Rattle.base64.specs.GeneralPurpose.{IsBytes}
 use Rattle.dir_tree.specs.Entry.{EntryInformation}
 use Rattle.dir_tree.specs.tree.Trees.{is_before, has_name, lacks_superior, put_in}
-use Rattle.op_write.specs.ldif_core.declared.types.Record.{Record}
-use Rattle.op_write.specs.ldif_core.reading.Faults.{LineFault}
-use Rattle.op_write.specs.ldif_core.lines.Places.{records_from}
+use Rattle.ldif_load.specs.ldif_records.declared.types.Record.{Record}
+use Rattle.ldif_load.specs.ldif_records.reading.Faults.{LineFault}
+use Rattle.ldif_load.specs.ldif_records.lines.Places.{records_from}
 use Rattle.aci_item.specs.Rules.{broken_rule}
-use Rattle.op_write.specs.load.Loading.{RecordFault}
-use Rattle.op_write.specs.load.Loading.{entry_of_record, ruled, placed, loaded_entry}
-use Rattle.op_write.specs.load.DataFile.{in_file, record_entry, loads_after, loads_records, file_start, loads}
+use Rattle.ldif_load.specs.load.Loading.{RecordFault}
+use Rattle.ldif_load.specs.load.Loading.{entry_of_record, ruled, placed, loaded_entry}
+use Rattle.ldif_load.specs.load.DataFile.{in_file, record_entry, loads_after, loads_records, file_start, loads}
 use Rattle.load_laws.specs.laws.Loadable.{IsLoadable}
 use Rattle.load_laws.proofs.laws.OctetLemmas.{AreBelow-from_IsBytes}
 use Rattle.load_laws.proofs.laws.ReadLemmas.{HasOctets, GivesOctets, GivesOctets-records_from}

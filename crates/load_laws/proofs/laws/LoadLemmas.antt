@@ -4,13 +4,13 @@ use Rattle.std.specs.List.{AllByRecursion}
 use Rattle.std.proofs.lemmas.List.{append_assoc, append-nil}
 use Rattle.dir_tree.specs.Entry.{EntryInformation}
 use Rattle.dir_tree.specs.tree.Trees.{put_in, IsInOrder, IsRooted}
-use Rattle.op_write.specs.ldif_core.writing.WrittenFile.{values_in, IsWritable, record_from, entry_records, written_file}
-use Rattle.op_write.proofs.ldif_core_proofs.Theorems.{file-reread}
+use Rattle.ldif_load.specs.ldif_records.writing.WrittenFile.{values_in, IsWritable, record_from, entry_records, written_file}
+use Rattle.ldif_load.proofs.ldif_records_proofs.Theorems.{file-reread}
 use Rattle.aci_item.specs.Rules.{broken_rule, MeetsRules, IsGoodTree}
-use Rattle.op_write.proofs.schema_rules_proofs.Theorems.{Meets-from_broken_rule}
-use Rattle.op_write.specs.load.Loading.{RecordFault}
-use Rattle.op_write.specs.load.Loading.{◌>>=◌, placed, loaded_entry}
-use Rattle.op_write.specs.load.DataFile.{in_file, loads_after, loads_records, loads}
+use Rattle.ldif_load.proofs.schema_rules_proofs.Theorems.{Meets-from_broken_rule}
+use Rattle.ldif_load.specs.load.Loading.{RecordFault}
+use Rattle.ldif_load.specs.load.Loading.{◌>>=◌, placed, loaded_entry}
+use Rattle.ldif_load.specs.load.DataFile.{in_file, loads_after, loads_records, loads}
 use Rattle.load_laws.specs.laws.Loadable.{IsLoadable}
 use Rattle.load_laws.proofs.laws.OrderLemmas.{before_place, put_in-last}
 use Rattle.load_laws.proofs.laws.OwnLemmas.{entry_of_record-record_from}

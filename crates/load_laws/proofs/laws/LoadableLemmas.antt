@@ -2,7 +2,7 @@
 use Rattle.std.proofs.Common.{◌≡◌, ℕ, ◌==◌, Bool, true, false, if◌then◌else◌, List, [], ◌∷◌, ◌++◌, Option, Some, None, Result, Ok, Err, refl, subst}
 use Rattle.std.specs.List.{AllByRecursion, IsDistinct}
 use Rattle.std.proofs.lemmas.Bool.{eqb-true}
-use Rattle.dir_tree.specs.schema_core.Attributes.{attr_of}
+use Rattle.dir_tree.specs.schema_tables.Attributes.{attr_of}
 use Rattle.dir_tree.specs.dn_names.declared.error.BadName.{BadName}
 use Rattle.dir_tree.specs.dn_names.name.Names.{Keyed, TypeAndValue, RdnSequence, last_rdn}
 use Rattle.dir_tree.specs.dn_names.name.GoodNames.{IsGoodName}
@@ -11,10 +11,10 @@ use Rattle.dir_tree.proofs.dn_names_proofs.Theorems.{IsGoodName-from_NameText, N
 use Rattle.dir_tree.specs.Entry.{Attribute, EntryInformation, values_of, has_key, IsGoodAttributes}
 use Rattle.dir_tree.specs.attributes.Changes.{put_value, with_value}
 use Rattle.dir_tree.proofs.Theorems.{good-with_value}
-use Rattle.op_write.specs.ldif_core.declared.types.Record.{Record}
-use Rattle.op_write.specs.ldif_core.declared.types.RecordLine.{RecordLine}
-use Rattle.op_write.specs.load.Loading.{RecordFault}
-use Rattle.op_write.specs.load.Loading.{◌>>=◌, named, loaded_value, with_new_value, with_new_kind, with_line, with_lines, with_pairs, with_own_values, entry_of_record}
+use Rattle.ldif_load.specs.ldif_records.declared.types.Record.{Record}
+use Rattle.ldif_load.specs.ldif_records.declared.types.RecordLine.{RecordLine}
+use Rattle.ldif_load.specs.load.Loading.{RecordFault}
+use Rattle.ldif_load.specs.load.Loading.{◌>>=◌, named, loaded_value, with_new_value, with_new_kind, with_line, with_lines, with_pairs, with_own_values, entry_of_record}
 use Rattle.load_laws.specs.laws.Loadable.{IsLoadableValue, IsLoadable}
 use Rattle.load_laws.proofs.laws.OctetLemmas.{IsBytes-from_AreBelow}
 use Rattle.load_laws.proofs.laws.ReadLemmas.{HasOctets}

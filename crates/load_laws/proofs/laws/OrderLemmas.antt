@@ -11,7 +11,7 @@ use Rattle.dir_tree.proofs.dn_names_proofs.Theorems.{name_cmp_total}
 use Rattle.dir_tree.specs.Entry.{EntryInformation}
 use Rattle.dir_tree.specs.tree.Trees.{is_before, has_name, lacks_superior, superior_name, put_in, IsInOrder, IsRooted}
 use Rattle.dir_tree.proofs.TreeTheorems.{not_same as same-before, not_same_back, Less-from_before, superior_before}
-use Rattle.op_write.proofs.schema_rules_proofs.Theorems.{all_at}
+use Rattle.ldif_load.proofs.schema_rules_proofs.Theorems.{all_at}
 
 -- the entries before a place, and those after it
 pub before_place :

@@ -7,10 +7,10 @@ use Rattle.dir_tree.specs.dn_names.parsing.NameText.{read_name}
 use Rattle.dir_tree.specs.dn_names.Printing.{print_name}
 use Rattle.dir_tree.proofs.dn_names_proofs.Theorems.{read_name-print_name}
 use Rattle.dir_tree.specs.Entry.{EntryInformation, values_of, has_key}
-use Rattle.op_write.specs.ldif_core.writing.WrittenFile.{values_in, lines_from, record_from}
+use Rattle.ldif_load.specs.ldif_records.writing.WrittenFile.{values_in, lines_from, record_from}
 use Rattle.aci_item.specs.Rules.{lacks_own_value}
-use Rattle.op_write.specs.load.Loading.{RecordFault}
-use Rattle.op_write.specs.load.Loading.{◌>>=◌, named, with_lines, with_pairs, with_own_values, entry_of_record}
+use Rattle.ldif_load.specs.load.Loading.{RecordFault}
+use Rattle.ldif_load.specs.load.Loading.{◌>>=◌, named, with_lines, with_pairs, with_own_values, entry_of_record}
 use Rattle.load_laws.specs.laws.Loadable.{IsLoadable}
 use Rattle.load_laws.proofs.laws.LineLemmas.{with_lines-values_in}
 

@@ -12,8 +12,8 @@ use Rattle.dir_tree.specs.subentries.Points.{is_access_subentry, access_subentri
 use Rattle.dir_tree.specs.tree.Trees.{has_name, lacks_superior, superior_name, IsInOrder, IsRooted}
 use Rattle.dir_tree.proofs.TreeTheorems.{Less-from_before, superior_before}
 use Rattle.aci_item.specs.Rules.{broken_rule, stands_wrong, is_misplaced, is_past_limits}
-use Rattle.op_write.proofs.schema_rules_proofs.Theorems.{nothing_found, Meets-from_broken_rule, broken_rule-from_Meets, fewer}
-use Rattle.op_write.specs.load.Loading.{ruled, placed}
+use Rattle.ldif_load.proofs.schema_rules_proofs.Theorems.{nothing_found, Meets-from_broken_rule, broken_rule-from_Meets, fewer}
+use Rattle.ldif_load.specs.load.Loading.{ruled, placed}
 use Rattle.load_laws.proofs.laws.OrderLemmas.{before_place, after_place, apart-before, has_name-after, lacks_superior-front}
 
 -- the superior is not looked for after the entry

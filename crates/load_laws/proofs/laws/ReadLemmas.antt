@@ -1,15 +1,15 @@
 -- The records that are read of lines of octets have values of octets.
 use Rattle.std.proofs.Common.{◌≡◌, ℕ, ◌+◌, ◌==◌, ◌&&◌, Bool, true, false, if◌then◌else◌, List, [], ◌∷◌, length, drop, Option, Some, None, Result, Ok, Err, refl, subst}
 use Rattle.std.specs.List.{AllByRecursion, filter_map, slice_split, list_any, before_first, after_first, position_or_len}
-use Rattle.op_write.specs.ldif_core.declared.types.Position.{Position}
-use Rattle.op_write.specs.ldif_core.declared.types.Record.{Record}
-use Rattle.op_write.specs.ldif_core.declared.types.RecordLine.{RecordLine}
-use Rattle.op_write.specs.ldif_core.reading.Faults.{LineFault, Bad}
-use Rattle.op_write.specs.ldif_core.declared.types.LineCause.TheVariants.{Changetype}
-use Rattle.op_write.specs.ldif_core.lines.Lines.{Line, begins_with}
-use Rattle.op_write.specs.ldif_core.Fields.{Field, is_kind, is_colon, after_spaces, field_after, field_of, value_of, is_changetype, with_value, attribute_of, attribute_line, name_line}
-use Rattle.op_write.specs.ldif_core.reading.Records.{◌>>=◌, is_blank, attribute_lines, record_of, record_between, records}
-use Rattle.op_write.specs.ldif_core.lines.Places.{body_from, records_from}
+use Rattle.ldif_load.specs.ldif_records.declared.types.Position.{Position}
+use Rattle.ldif_load.specs.ldif_records.declared.types.Record.{Record}
+use Rattle.ldif_load.specs.ldif_records.declared.types.RecordLine.{RecordLine}
+use Rattle.ldif_load.specs.ldif_records.reading.Faults.{LineFault, Bad}
+use Rattle.ldif_load.specs.ldif_records.declared.types.LineCause.TheVariants.{Changetype}
+use Rattle.ldif_load.specs.ldif_records.lines.Lines.{Line, begins_with}
+use Rattle.ldif_load.specs.ldif_records.Fields.{Field, is_kind, is_colon, after_spaces, field_after, field_of, value_of, is_changetype, with_value, attribute_of, attribute_line, name_line}
+use Rattle.ldif_load.specs.ldif_records.reading.Records.{◌>>=◌, is_blank, attribute_lines, record_of, record_between, records}
+use Rattle.ldif_load.specs.ldif_records.lines.Places.{body_from, records_from}
 use Rattle.load_laws.proofs.laws.OctetLemmas.{AreBelow, below_drop}
 use Rattle.load_laws.proofs.laws.PartLemmas.{either_way, all_slice_split}
 use Rattle.load_laws.proofs.laws.DecodedLemmas.{AreBelow-decoded}

@@ -3,12 +3,12 @@ use Rattle.std.proofs.Common.{◌≡◌, ◌≢◌, ℕ, ◌<◌, ◌==◌, fals
 use Rattle.std.specs.List.{AllByRecursion}
 use Rattle.std.proofs.lemmas.Bool.{or_parts, true≢false}
 use Rattle.base64.specs.GeneralPurpose.{IsBytes}
-use Rattle.dir_tree.specs.schema_core.Attributes.{IsAttrId, name_of}
+use Rattle.dir_tree.specs.schema_tables.Attributes.{IsAttrId, name_of}
 use Rattle.dir_tree.specs.dn_names.name.Names.{Keyed}
 use Rattle.dir_tree.specs.Entry.{Attribute, EntryInformation, values_of, IsGoodAttribute}
 use Rattle.dir_tree.specs.classes.EntryClasses.{object_class}
-use Rattle.op_write.specs.ldif_core.writing.Written.{AreInTable}
-use Rattle.op_write.specs.ldif_core.writing.WrittenFile.{TypeAndOctets, values_in, IsWritable}
+use Rattle.ldif_load.specs.ldif_records.writing.Written.{AreInTable}
+use Rattle.ldif_load.specs.ldif_records.writing.WrittenFile.{TypeAndOctets, values_in, IsWritable}
 use Rattle.aci_item.specs.Rules.{lists_none, breaks_classes}
 use Rattle.load_laws.specs.laws.Loadable.{IsLoadableValue, IsLoadable}
 use Rattle.load_laws.proofs.laws.LineLemmas.{IsAttrId-from_loaded_value}

@@ -3,14 +3,14 @@ use Rattle.std.proofs.Common.{◌≡◌, ℕ, ◌==◌, ◌<◌, Bool, true, fal
 use Rattle.std.specs.List.{AllByRecursion, filter_map, list_any}
 use Rattle.std.specs.Option.{option_map_or}
 use Rattle.std.proofs.lemmas.Bool.{or_cases, or_parts, eqb-true, and_parts}
-use Rattle.dir_tree.specs.schema_core.Attributes.{IsAttrId, attributes, attr_of}
-use Rattle.dir_tree.specs.schema_core.classes.Classes.{Class, class_at, numbers_of, required_of, allowed_of}
-use Rattle.dir_tree.proofs.schema_core_proofs.Theorems.{IsAttrId-from_attr_of}
+use Rattle.dir_tree.specs.schema_tables.Attributes.{IsAttrId, attributes, attr_of}
+use Rattle.dir_tree.specs.schema_tables.classes.Classes.{Class, class_at, numbers_of, required_of, allowed_of}
+use Rattle.dir_tree.proofs.schema_tables_proofs.Theorems.{IsAttrId-from_attr_of}
 use Rattle.dir_tree.specs.Entry.{EntryInformation}
-use Rattle.op_write.specs.ldif_core.writing.Written.{AreInTable}
+use Rattle.ldif_load.specs.ldif_records.writing.Written.{AreInTable}
 use Rattle.aci_item.specs.Listed.{is_among, all_classes, permitted_by}
 use Rattle.aci_item.specs.Rules.{is_permitted_besides, breaks_classes, MeetsRules, AreGood}
-use Rattle.op_write.proofs.schema_rules_proofs.Theorems.{Meets-from_broken_rule}
+use Rattle.ldif_load.proofs.schema_rules_proofs.Theorems.{Meets-from_broken_rule}
 
 -- numbers that are told by names
 numbers_known : (names : List (List ℕ)) → AllByRecursion IsAttrId (numbers_of names)

@@ -5,7 +5,7 @@ use Rattle.base64.specs.GeneralPurpose.{IsBytes}
 use Rattle.dir_tree.specs.dn_names.name.Names.{Keyed}
 use Rattle.dir_tree.specs.dn_names.name.GoodNames.{IsGoodName}
 use Rattle.dir_tree.specs.Entry.{EntryInformation, IsGoodAttributes}
-use Rattle.op_write.specs.load.Loading.{loaded_value}
+use Rattle.ldif_load.specs.load.Loading.{loaded_value}
 
 -- the value is of octets, of the syntax of its type, of at most 65,536 octets, and has their key
 pub record IsLoadableValue (kind : ℕ) (value : Keyed) : Type 0 where

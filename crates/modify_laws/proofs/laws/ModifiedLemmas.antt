@@ -13,10 +13,10 @@ use Rattle.acdf_filters.specs.Asking.{Entry}
 use Rattle.acdf_filters.specs.laws.Granted.{granted}
 use Rattle.ldap_msg.specs.declared.operations.ResultCode.{ResultCode}
 use Rattle.ldap_msg.specs.declared.kinds.ModifyRequest.{ModifyRequest}
-use Rattle.op_update.specs.read_model.Views.{view_of, hidden}
-use Rattle.op_update.specs.adding.Adding.{rule_refusal}
-use Rattle.op_update.specs.adding.Updates.{refused, unless, IsChanged}
-use Rattle.op_update.proofs.Theorems.{not_broken, unless-made}
+use Rattle.op_add_delete.specs.read_model.Views.{view_of, hidden}
+use Rattle.op_add_delete.specs.adding.Adding.{rule_refusal}
+use Rattle.op_add_delete.specs.adding.Updates.{refused, unless, IsChanged}
+use Rattle.op_add_delete.proofs.Theorems.{not_broken, unless-made}
 use Rattle.entry_changes.specs.Change.{Modification, changed_by}
 use Rattle.op_modify.specs.reading.ReadChanges.{read_changes}
 use Rattle.op_modify.specs.Modifying.{modified_as, modified_target, modified_by, modified_named, modified}

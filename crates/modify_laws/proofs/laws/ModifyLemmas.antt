@@ -18,10 +18,10 @@ use Rattle.ldap_msg.specs.declared.operations.ResultCode.{ResultCode}
 use Rattle.ldap_msg.specs.declared.kinds.Change.{Change}
 use Rattle.ldap_msg.specs.declared.kinds.ModifyRequest.{ModifyRequest}
 use Rattle.ldap_msg.specs.declared.kinds.LdapResult.{LdapResult}
-use Rattle.op_update.specs.read_model.Views.{view_of, hidden}
-use Rattle.op_update.specs.adding.Adding.{rule_refusal}
-use Rattle.op_update.specs.adding.Updates.{refused}
-use Rattle.op_update.proofs.Theorems.{not_broken, unless-good, unless-refused}
+use Rattle.op_add_delete.specs.read_model.Views.{view_of, hidden}
+use Rattle.op_add_delete.specs.adding.Adding.{rule_refusal}
+use Rattle.op_add_delete.specs.adding.Updates.{refused}
+use Rattle.op_add_delete.proofs.Theorems.{not_broken, unless-good, unless-refused}
 use Rattle.entry_changes.specs.Change.{Asks, Modification, changed_by}
 use Rattle.op_modify.specs.reading.ReadChanges.{read_changes}
 use Rattle.op_modify.specs.Modifying.{modified_as, modified_target, modified_by, modified_named, modified}

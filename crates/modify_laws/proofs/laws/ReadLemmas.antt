@@ -6,8 +6,8 @@ use Rattle.ldap_msg.proofs.plain_values_proofs.Theorems.{both_given}
 use Rattle.dir_tree.specs.Entry.{Attribute, is_match}
 use Rattle.ldap_msg.specs.declared.operations.ResultCode.{ResultCode}
 use Rattle.ldap_msg.specs.declared.kinds.Change.{Change}
-use Rattle.op_update.specs.reading.NewEntries.{read_attribute, repeats}
-use Rattle.op_update.proofs.Theorems.{distinct-repeats as IsDistinct-from_repeats}
+use Rattle.op_add_delete.specs.reading.NewEntries.{read_attribute, repeats}
+use Rattle.op_add_delete.proofs.Theorems.{distinct-repeats as IsDistinct-from_repeats}
 use Rattle.entry_changes.specs.declared.kind.ChangeKind.{ChangeKind}
 use Rattle.entry_changes.specs.Change.{Modification}
 use Rattle.op_modify.specs.reading.ReadChanges.{is_no_change, change_of, change_with, read_change, read_each, read_changes}

@@ -16,11 +16,11 @@ use Rattle.acdf_filters.specs.laws.Granted.{granted}
 use Rattle.ldap_msg.specs.declared.operations.ResultCode.TheVariants as code
 use Rattle.ldap_msg.specs.declared.kinds.RenameRequest.{RenameRequest}
 use Rattle.ldap_msg.specs.declared.kinds.LdapResult.{LdapResult}
-use Rattle.op_update.specs.op_asking.Targets.{is_suffix}
-use Rattle.op_update.specs.read_model.Views.{result_of}
-use Rattle.op_update.specs.adding.Adding.{rule_refusal}
-use Rattle.op_update.specs.adding.Updates.{Changed, refused}
-use Rattle.op_update.proofs.Theorems.{not_broken, unless-good, unless-refused}
+use Rattle.op_add_delete.specs.directory.Targets.{is_suffix}
+use Rattle.op_add_delete.specs.read_model.Views.{result_of}
+use Rattle.op_add_delete.specs.adding.Adding.{rule_refusal}
+use Rattle.op_add_delete.specs.adding.Updates.{Changed, refused}
+use Rattle.op_add_delete.proofs.Theorems.{not_broken, unless-good, unless-refused}
 use Rattle.entry_changes.specs.Renaming.{renamed_entry}
 use Rattle.op_modify.specs.Renames.{moves, new_name, taken_refusal, other_named, rename_refusal, renamed}
 use Rattle.modify_laws.proofs.laws.FoundLemmas.{free_beside}

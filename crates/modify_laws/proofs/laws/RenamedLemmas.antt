@@ -8,9 +8,9 @@ use Rattle.dir_tree.specs.tree.Trees.{named_in, put_in, taken_out}
 use Rattle.acdf_filters.specs.declared.asking.Requester.{Requester}
 use Rattle.ldap_msg.specs.declared.operations.ResultCode.TheVariants as code
 use Rattle.ldap_msg.specs.declared.kinds.RenameRequest.{RenameRequest}
-use Rattle.op_update.specs.read_model.Views.{result_of}
-use Rattle.op_update.specs.adding.Updates.{refused, unless, IsChanged}
-use Rattle.op_update.proofs.Theorems.{unless-made}
+use Rattle.op_add_delete.specs.read_model.Views.{result_of}
+use Rattle.op_add_delete.specs.adding.Updates.{refused, unless, IsChanged}
+use Rattle.op_add_delete.proofs.Theorems.{unless-made}
 use Rattle.entry_changes.specs.Renaming.{renamed_entry}
 use Rattle.op_modify.specs.Renames.{read_superior, moves, new_name, rename_refusal, renamed}
 use Rattle.modify_laws.specs.laws.Granting.{MayRename}

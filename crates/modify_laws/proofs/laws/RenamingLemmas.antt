@@ -11,8 +11,8 @@ use Rattle.dir_tree.specs.Entry.{EntryInformation}
 use Rattle.acdf_filters.specs.declared.asking.Requester.{Requester}
 use Rattle.ldap_msg.specs.declared.operations.ResultCode.TheVariants as code
 use Rattle.ldap_msg.specs.declared.kinds.RenameRequest.{RenameRequest}
-use Rattle.op_update.specs.read_model.Views.{result_of}
-use Rattle.op_update.specs.adding.Updates.{Changed, refused}
+use Rattle.op_add_delete.specs.read_model.Views.{result_of}
+use Rattle.op_add_delete.specs.adding.Updates.{Changed, refused}
 use Rattle.op_modify.specs.Renames.{read_superior, read_renaming, moves, renamed_target, renamed_by, renamed}
 use Rattle.modify_laws.specs.laws.Granting.{IsSuperiorText, StaysBelow}
 

@@ -13,7 +13,7 @@ use Rattle.acdf_filters.specs.Asking.{Entry}
 use Rattle.acdf_filters.specs.laws.Granted.{granted}
 use Rattle.ldap_msg.specs.declared.kinds.ModifyRequest.{ModifyRequest}
 use Rattle.ldap_msg.specs.declared.kinds.RenameRequest.{RenameRequest}
-use Rattle.op_update.specs.op_asking.Targets.{is_suffix}
+use Rattle.op_add_delete.specs.directory.Targets.{is_suffix}
 use Rattle.entry_changes.specs.Change.{Modification}
 use Rattle.entry_changes.specs.Renaming.{renamed_entry}
 use Rattle.op_modify.specs.reading.ReadChanges.{read_changes}

@@ -9,7 +9,7 @@ use Rattle.dir_tree.specs.Entry.{EntryInformation}
 use Rattle.dir_tree.specs.tree.Trees.{put_in, taken_out}
 use Rattle.dir_tree.specs.tree.Numbered.{Numbered, IsNumberedTree, entries_of, entry_of, without}
 use Rattle.dir_tree.proofs.TreeTheorems.{entries_of-without}
-use Rattle.op_update.specs.schema_rules.check.Checking.{replaced, others}
+use Rattle.op_add_delete.specs.schema_rules.check.Checking.{replaced, others}
 use Rattle.acdf_filters.specs.aci_item.Rules.{broken_rule}
 use Rattle.dir_tree.specs.declared.number.EntryNo.{EntryNo}
 use Rattle.acdf_filters.specs.aci_item.declared.permission.Permission.{Permission}
@@ -23,8 +23,8 @@ use Rattle.ldap_msg.specs.declared.kinds.Change.{Change}
 use Rattle.ldap_msg.specs.declared.kinds.LdapResult.{LdapResult}
 use Rattle.ldap_msg.specs.declared.kinds.ModifyRequest.{ModifyRequest}
 use Rattle.read_model.specs.Views.{result_of}
-use Rattle.op_update.specs.adding.Updates.{Changed, IsChanged, refused}
-use Rattle.op_update.proofs.Theorems.{changed-refused, changed-done}
+use Rattle.op_add_delete.specs.adding.Updates.{Changed, IsChanged, refused}
+use Rattle.op_add_delete.proofs.Theorems.{changed-refused, changed-done}
 use Rattle.op_modify.specs.asker.Asked.{granted_at}
 use Rattle.op_modify.specs.reading.ReadChanges.{read_changes}
 use Rattle.op_modify.specs.Modifying.{modified_as, modified_by, modified_named, modified}

@@ -6,10 +6,10 @@ use Rattle.ldap_msg.specs.plain_values.Answers.{IsFaultOf}
 use Rattle.entry_changes.specs.Change.{Modification}
 use Rattle.ldap_msg.specs.declared.operations.ResultCode.{ResultCode}
 use Rattle.ldap_msg.specs.declared.kinds.Change.{Change}
-use Rattle.op_update.specs.declared.fault.Fault.{Fault}
-use Rattle.op_update.specs.declared.fault.Fault.TheVariants as fault
-use Rattle.op_update.specs.reading.Reading.{cause_of}
-use Rattle.op_update.proofs.Theorems.{put_before, before-more}
+use Rattle.op_add_delete.specs.declared.fault.Fault.{Fault}
+use Rattle.op_add_delete.specs.declared.fault.Fault.TheVariants as fault
+use Rattle.op_add_delete.specs.reading.Reading.{cause_of}
+use Rattle.op_add_delete.proofs.Theorems.{put_before, before-more}
 use Rattle.op_modify.specs.reading.ReadChanges.{read_change, read_each}
 
 -- one change more

@@ -12,7 +12,7 @@ use Rattle.ldap_msg.specs.plain_values.Refusals.{first_some}
 use Rattle.ldap_msg.specs.declared.operations.ResultCode.TheVariants as code
 use Rattle.ldap_msg.specs.declared.kinds.LdapResult.{LdapResult}
 use Rattle.read_model.specs.Views.{result_of}
-use Rattle.op_update.specs.adding.Updates.{refused, unless}
+use Rattle.op_add_delete.specs.adding.Updates.{refused, unless}
 use Rattle.op_modify.specs.declared.renaming.Renaming.{Renaming}
 use Rattle.op_modify.specs.Renames.{is_unwilling, above_in, rename_refusal, renamed_as, renamed_target, renamed_by}
 use Rattle.op_modify.specs.replacing.Steps.{target_rows, place_rows}

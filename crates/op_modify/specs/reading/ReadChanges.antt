@@ -10,7 +10,7 @@ use Rattle.entry_changes.specs.Change.{Modification}
 use Rattle.ldap_msg.specs.declared.operations.ResultCode.{ResultCode}
 use Rattle.ldap_msg.specs.declared.operations.ResultCode.TheVariants as code
 use Rattle.ldap_msg.specs.declared.kinds.Change.{Change}
-use Rattle.op_update.specs.reading.NewEntries.{read_attribute, repeats}
+use Rattle.op_add_delete.specs.reading.NewEntries.{read_attribute, repeats}
 
 -- no change that a request may ask for: another operation than the three, or an add of nothing
 abbrev pub is_no_change : Change → Bool

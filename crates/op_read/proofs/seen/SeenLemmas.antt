@@ -11,7 +11,7 @@ use Rattle.acdf_filters.specs.declared.asking.Requester.{Requester}
 use Rattle.acdf_filters.specs.Asking.{Entry}
 use Rattle.acdf_filters.specs.laws.Granted.{granted}
 use Rattle.read_model.specs.CompareReplies.{readable}
-use Rattle.op_asking.specs.Asking.{view_in}
+use Rattle.directory.specs.Asking.{view_in}
 use Rattle.op_read.specs.seen.Seeing.{row_in, one_or_none}
 use Rattle.op_read.proofs.seen.ListLemmas.{kept-one, dropped-one}
 use Rattle.op_read.proofs.seen.NameLemmas.{only-named}

@@ -22,7 +22,7 @@ use Rattle.read_model.specs.Views as views
 use Rattle.read_model.specs.Views.{Row, View, hidden}
 use Rattle.read_model.specs.SearchReplies.{found_replies, replies_at}
 use Rattle.read_model.specs.Selecting.{takes_in, is_shown, is_selected, selected}
-use Rattle.op_asking.specs.Asking.{view_in}
+use Rattle.directory.specs.Asking.{view_in}
 use Rattle.op_read.specs.seen.Seeing.{row_in, one_or_none, scope_of}
 use Rattle.op_read.specs.Sending.{shown_among}
 use Rattle.op_read.proofs.seen.ListLemmas.{filter-two, among}

@@ -1,7 +1,7 @@
 -- What a selection's texts choose, read once for all entries.
 use Rattle.std.specs.Prelude.{ℕ, ◌==◌, Bool, false, not, List, [], ◌∷◌, if◌then◌else◌}
 use Rattle.std.specs.List.{list_any}
-use Rattle.dir_tree.specs.schema_core.Attributes.{is_operational}
+use Rattle.dir_tree.specs.schema_tables.Attributes.{is_operational}
 use Rattle.dir_tree.specs.Entry.{Attribute}
 use Rattle.acdf_filters.specs.aci_item.declared.permission.Permission.TheVariants.{Read}
 use Rattle.acdf_filters.specs.Asking.{Kind as TheKind}

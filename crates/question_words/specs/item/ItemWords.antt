@@ -2,7 +2,7 @@
 use Rattle.std.specs.Prelude.{ℕ, List, Option, Some, None, option_map, codes, if◌then◌else◌}
 use Rattle.std.specs.Str.{bytes_eq}
 use Rattle.dir_tree.specs.plain_values.Options.{◌>>=◌}
-use Rattle.dir_tree.specs.schema_core.Attributes.{attr_of}
+use Rattle.dir_tree.specs.schema_tables.Attributes.{attr_of}
 use Rattle.dir_tree.specs.dn_names.make.NameValues.{value_of}
 use Rattle.acdf_filters.specs.Asking.{Protected, Entry, Kind, Value}
 use Rattle.question_words.specs.Cutting.{after, cut_at_equals}

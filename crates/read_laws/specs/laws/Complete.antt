@@ -1,7 +1,7 @@
 -- Reads that are granted at each step, and how a search ends (RFC 4511 4.5 and 4.10, X.511 9.2 and 10.2).
 use Rattle.std.specs.Prelude.{◌≡◌, ◌≢◌, ℕ, Bool, true, false, List, [], ◌∷◌, ◌++◌, Some, Ok}
 use Rattle.std.specs.List.{AllByRecursion}
-use Rattle.dir_tree.specs.schema_core.Attributes.{attr_of}
+use Rattle.dir_tree.specs.schema_tables.Attributes.{attr_of}
 use Rattle.dir_tree.specs.dn_names.name.Names.{Keyed, RdnSequence}
 use Rattle.dir_tree.specs.dn_names.parsing.NameText.{read_name}
 use Rattle.dir_tree.specs.dn_names.make.NameValues.{value_of}

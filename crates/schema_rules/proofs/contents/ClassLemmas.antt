@@ -2,9 +2,9 @@
 use Rattle.std.proofs.Common.{◌≡◌, ℕ, ◌==◌, Bool, true, false, not, ◌&&◌, ◌||◌, List, [], ◌∷◌, length, Option, Some, None, refl, ap, sym, ◌∙◌}
 use Rattle.std.specs.List.{list_any, list_all, flat_map, cons_option}
 use Rattle.std.specs.Option.{option_map_or}
-use Rattle.dir_tree.specs.schema_core.classes.Classes.{class_with, superior_of}
-use Rattle.dir_tree.specs.schema_core.Superclasses.{with_superclasses}
-use Rattle.dir_tree.proofs.schema_core_proofs.Theorems.{with_superclasses-first}
+use Rattle.dir_tree.specs.schema_tables.classes.Classes.{class_with, superior_of}
+use Rattle.dir_tree.specs.schema_tables.Superclasses.{with_superclasses}
+use Rattle.dir_tree.proofs.schema_tables_proofs.Theorems.{with_superclasses-first}
 use Rattle.std.proofs.lemmas.Grind.{flat_map-append}
 use Rattle.std.proofs.lemmas.List.Folds.{list_any-append}
 use Rattle.dir_tree.specs.dn_names.name.Names.{Keyed}

@@ -6,7 +6,7 @@ use Rattle.std.proofs.lemmas.Bool.Decides.{nat_tests}
 use Rattle.std.proofs.lemmas.List.{get_or-set_same, get_or-set_other}
 use Rattle.std.proofs.lemmas.List.Folds.{list_any-append}
 use Rattle.std.proofs.Math.Bool.{or-false, or-true}
-use Rattle.dir_tree.specs.schema_core.declared.kinds.AttrId.{AttrId}
+use Rattle.dir_tree.specs.schema_tables.declared.kinds.AttrId.{AttrId}
 use Rattle.schema_rules.specs.Classes.{MarksAlso}
 use Rattle.schema_rules.proofs.values.ListLemmas.{list_any-map}
 

@@ -10,7 +10,7 @@ use Rattle.run_laws.specs.ldap_msg.declared.kinds.Control.{Control}
 use Rattle.run_laws.specs.ldap_msg.declared.kinds.Message.{Message}
 use Rattle.run_laws.specs.ldap_msg.reading.Messages.{message_of}
 use Rattle.op_read.specs.aci_item.Rules.{IsGoodTree}
-use Rattle.modify_laws.specs.op_update.adding.Updates.{added, deleted}
+use Rattle.modify_laws.specs.op_add_delete.adding.Updates.{added, deleted}
 use Rattle.modify_laws.specs.op_modify.Modifying.{modified}
 use Rattle.modify_laws.specs.op_modify.Renames.{renamed}
 use Rattle.run_laws.specs.session_model.laws.Run.{Step, run}

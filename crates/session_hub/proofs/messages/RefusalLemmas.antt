@@ -7,7 +7,7 @@ use Rattle.run_laws.specs.ldap_msg.declared.kinds.RenameRequest.{RenameRequest}
 use Rattle.run_laws.specs.ldap_msg.declared.kinds.Request.{Request}
 use Rattle.run_laws.specs.ldap_msg.declared.kinds.Request.TheVariants as request
 use Rattle.run_laws.specs.ldap_msg.declared.kinds.LdapResult.{LdapResult}
-use Rattle.modify_laws.specs.op_update.adding.Updates.{Changed, IsChanged, unless, added, deleted}
+use Rattle.modify_laws.specs.op_add_delete.adding.Updates.{Changed, IsChanged, unless, added, deleted}
 use Rattle.modify_laws.specs.op_modify.Modifying.{modified}
 use Rattle.modify_laws.specs.op_modify.Renames.{renamed}
 use Rattle.session_hub.specs.requester.Parties.{DirectoryEntries, Requester}

@@ -18,7 +18,7 @@ use Rattle.op_read.specs.read_model.Views.{View, view_of, result_of}
 use Rattle.op_read.specs.read_model.SearchReplies.{search_replies, replies_octets}
 use Rattle.op_read.specs.read_model.CompareReplies.{compare_result}
 use Rattle.op_bind.specs.Binds.{bind_answer}
-use Rattle.modify_laws.specs.op_update.adding.Updates.{Changed, unless, added, deleted}
+use Rattle.modify_laws.specs.op_add_delete.adding.Updates.{Changed, unless, added, deleted}
 use Rattle.modify_laws.specs.op_modify.Modifying.{modified}
 use Rattle.modify_laws.specs.op_modify.Renames.{renamed}
 use Rattle.run_laws.specs.session_model.laws.Rules.{Rules, Answered}

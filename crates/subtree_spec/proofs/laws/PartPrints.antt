@@ -9,9 +9,9 @@ use Rattle.std.specs.Str.{is_utf8}
 use Rattle.std.proofs.lemmas.List.Elements.{All-head, All-tail}
 use Rattle.std.proofs.lemmas.Str.{is_utf8-from_IsUtf8}
 use Rattle.std.proofs.lemmas.Bool.{and_parts}
-use Rattle.schema_core.specs.classes.Classes.{Class, classes, class_at, class_of, class_oid_of}
-use Rattle.schema_core.specs.Oids.{IsNumber, is_dotted_oid}
-use Rattle.schema_core.proofs.Theorems.{IsDottedOid-from, digit_passes}
+use Rattle.schema_tables.specs.classes.Classes.{Class, classes, class_at, class_of, class_oid_of}
+use Rattle.schema_tables.specs.Oids.{IsNumber, is_dotted_oid}
+use Rattle.schema_tables.proofs.Theorems.{IsDottedOid-from, digit_passes}
 use Rattle.dn_names.specs.declared.error.BadName.{BadName}
 use Rattle.dn_names.specs.name.Names.{RdnSequence, IsTextRdn}
 use Rattle.dn_names.specs.name.GoodNames.{IsGoodName}

@@ -4,7 +4,7 @@ use Rattle.std.proofs.Common.{◌≡◌, ℕ, suc, ◌≤◌, true, List, [], �
 use Rattle.std.specs.List.{AllByRecursion}
 use Rattle.std.specs.List.Sorted.{IsStrictlySortedBy}
 use Rattle.std.specs.Str.{bytes_eq}
-use Rattle.schema_core.specs.Oids.{is_dotted_oid}
+use Rattle.schema_tables.specs.Oids.{is_dotted_oid}
 use Rattle.dn_names.specs.name.Names.{RdnSequence}
 use Rattle.dn_names.specs.name.GoodNames.{IsGoodName}
 use Rattle.gser_tree.specs.looking.Shapes.{Shape}

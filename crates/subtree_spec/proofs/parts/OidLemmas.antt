@@ -6,9 +6,9 @@ use Rattle.std.specs.List.{list_all, join_with_byte}
 use Rattle.std.proofs.lemmas.Bool.{cases_Bool, and_parts, or_right}
 use Rattle.std.proofs.lemmas.List.Elements.{All-nil, All-cons, All-head, All-tail, All-weaker}
 use Rattle.std.proofs.lemmas.List.Sums.{AllPass-from_list_all, list_all-from_AllPass}
-use Rattle.schema_core.specs.Naming.{is_keystring}
-use Rattle.schema_core.specs.Oids.{IsNumber, IsDottedOid, is_dotted_oid}
-use Rattle.schema_core.proofs.Theorems.{is_dotted_oid-from, IsDottedOid-from, digit_passes, passes_digit}
+use Rattle.schema_tables.specs.Naming.{is_keystring}
+use Rattle.schema_tables.specs.Oids.{IsNumber, IsDottedOid, is_dotted_oid}
+use Rattle.schema_tables.proofs.Theorems.{is_dotted_oid-from, IsDottedOid-from, digit_passes, passes_digit}
 use Rattle.gser_core.specs.cursor.Productions.{IsNumeral, IsDescriptor, IsJoined, IsDotted, IsOid}
 use Rattle.subtree_spec.specs.Parts.{is_oid}
 

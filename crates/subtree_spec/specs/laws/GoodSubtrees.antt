@@ -3,7 +3,7 @@ use Rattle.std.specs.Prelude.{◌≡◌, ℕ, ◌≤◌, suc, true, List, Option
 use Prim.Native.Nat.{zero}
 use Rattle.std.specs.List.{AllByRecursion}
 use Rattle.std.specs.List.Sorted.{IsStrictlySortedBy}
-use Rattle.schema_core.specs.Oids.{is_dotted_oid}
+use Rattle.schema_tables.specs.Oids.{is_dotted_oid}
 use Rattle.dn_names.specs.name.GoodNames.{IsGoodName}
 use Rattle.dn_names.specs.name.Names.{RdnSequence}
 use Rattle.dn_names.specs.order.NameOrder.{name_cmp}

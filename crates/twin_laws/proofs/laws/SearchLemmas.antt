@@ -10,7 +10,7 @@ use Rattle.dir_tree.specs.dn_names.parsing.NameText.{read_name}
 use Rattle.dir_tree.specs.Scope.{is_within}
 use Rattle.acdf_filters.specs.aci_item.declared.permission.Permission.TheVariants.{Browse, ReturnDn}
 use Rattle.acdf_filters.specs.Asking.{Entry}
-use Rattle.read_model.specs.filter_core.Truth.{truth, is_true}
+use Rattle.read_model.specs.filter_match.Truth.{truth, is_true}
 use Rattle.ldap_msg.specs.declared.operations.ResultCode.TheVariants as code
 use Rattle.ldap_msg.specs.declared.kinds.LdapResult.{LdapResult}
 use Rattle.ldap_msg.specs.declared.kinds.SearchRequest.{SearchRequest}

@@ -11,17 +11,17 @@ use Rattle.dir_tree.specs.Entry.{Attribute, EntryInformation}
 use Rattle.dir_tree.specs.tree.Trees.{has_name, named_in, superior_name, lacks_superior, put_in}
 use Rattle.dir_tree.proofs.TreeTheorems.{none_named, put_in-some, has_superior as superior_there}
 use Rattle.acdf_filters.specs.aci_item.Rules.{broken_rule, IsGoodTree}
-use Rattle.op_write.proofs.schema_rules_proofs.Theorems.{AreGood-put_in}
+use Rattle.ldif_load.proofs.schema_rules_proofs.Theorems.{AreGood-put_in}
 use Rattle.acdf_filters.specs.declared.asking.Requester.{Requester}
 use Rattle.acdf_filters.specs.laws.Granted.{granted_new}
 use Rattle.ldap_msg.specs.declared.operations.ResultCode.{ResultCode}
 use Rattle.ldap_msg.specs.declared.kinds.AddRequest.{AddRequest}
 use Rattle.ldap_msg.specs.declared.kinds.KindValues.{KindValues}
 use Rattle.ldap_msg.specs.declared.kinds.LdapResult.{LdapResult}
-use Rattle.op_update.specs.adding.Adding.{taken_refusal, refuses_entry, rule_refusal, add_refusal}
-use Rattle.op_update.specs.reading.NewEntries.{read_attributes, new_entry}
-use Rattle.op_update.specs.adding.Updates.{added_entry, added_named, added}
-use Rattle.op_update.proofs.Theorems.{not_broken, unless-good, unless-refused}
+use Rattle.op_add_delete.specs.adding.Adding.{taken_refusal, refuses_entry, rule_refusal, add_refusal}
+use Rattle.op_add_delete.specs.reading.NewEntries.{read_attributes, new_entry}
+use Rattle.op_add_delete.specs.adding.Updates.{added_entry, added_named, added}
+use Rattle.op_add_delete.proofs.Theorems.{not_broken, unless-good, unless-refused}
 use Rattle.update_laws.proofs.laws.ReadingLemmas.{name-new_entry, good-new_entry}
 use Rattle.ldap_msg.proofs.plain_values_proofs.Theorems.{none_of, none_from, not_when, when_not}
 

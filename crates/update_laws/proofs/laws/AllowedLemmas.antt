@@ -7,7 +7,7 @@ use Rattle.dir_tree.specs.Entry.{Attribute, EntryInformation}
 use Rattle.acdf_filters.specs.aci_item.declared.permission.Permission.{Permission}
 use Rattle.acdf_filters.specs.aci_item.declared.permission.Permission.TheVariants.{Add}
 use Rattle.acdf_filters.specs.Asking.{Protected, Entry, Kind, Value}
-use Rattle.op_update.specs.adding.Adding.{refuses_attribute, refuses_entry}
+use Rattle.op_add_delete.specs.adding.Adding.{refuses_attribute, refuses_entry}
 use Rattle.update_laws.specs.laws.Granting.{MayAddAttribute, MayAddEach}
 
 module _ (allows : Protected → Permission → Bool) where

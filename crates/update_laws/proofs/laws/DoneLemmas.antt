@@ -9,10 +9,10 @@ use Rattle.acdf_filters.specs.declared.asking.Requester.{Requester}
 use Rattle.acdf_filters.specs.laws.Granted.{granted_new}
 use Rattle.ldap_msg.specs.declared.operations.ResultCode.{ResultCode}
 use Rattle.ldap_msg.specs.declared.kinds.AddRequest.{AddRequest}
-use Rattle.op_update.specs.adding.Adding.{add_refusal}
-use Rattle.op_update.specs.reading.NewEntries.{read_attributes, new_entry}
-use Rattle.op_update.specs.adding.Updates.{unless, added_entry, added_named, added, IsChanged}
-use Rattle.op_update.proofs.Theorems.{unless-made}
+use Rattle.op_add_delete.specs.adding.Adding.{add_refusal}
+use Rattle.op_add_delete.specs.reading.NewEntries.{read_attributes, new_entry}
+use Rattle.op_add_delete.specs.adding.Updates.{unless, added_entry, added_named, added, IsChanged}
+use Rattle.op_add_delete.proofs.Theorems.{unless-made}
 use Rattle.update_laws.specs.laws.Granting.{MayAdd}
 use Rattle.update_laws.proofs.laws.AllowedLemmas.{MayAddEach-unrefused, unrefused-MayAddEach}
 use Rattle.update_laws.proofs.laws.AddLemmas.{IsAddable, IsAddable-unrefused, unrefused-IsAddable}

@@ -4,14 +4,14 @@ use Rattle.std.specs.List.{AllByRecursion, list_any}
 use Rattle.std.proofs.lemmas.Bool.{or_parts}
 use Rattle.ldap_msg.specs.plain_values.Results.{◌>>=◌}
 use Rattle.ldap_msg.proofs.plain_values_proofs.Theorems.{both_given}
-use Rattle.dir_tree.specs.schema_core.Attributes.{attr_of}
+use Rattle.dir_tree.specs.schema_tables.Attributes.{attr_of}
 use Rattle.dir_tree.specs.dn_names.name.Names.{RdnSequence, last_rdn}
 use Rattle.dir_tree.specs.Entry.{Attribute, kinds_of, is_match, IsGoodAttribute, IsGoodAttributes}
-use Rattle.op_write.proofs.Theorems.{name-with_pairs, good-with_pairs}
+use Rattle.ldif_load.proofs.Theorems.{name-with_pairs, good-with_pairs}
 use Rattle.ldap_msg.specs.declared.operations.ResultCode.{ResultCode}
 use Rattle.ldap_msg.specs.declared.kinds.KindValues.{KindValues}
-use Rattle.op_update.specs.reading.NewEntries.{read_values, read_known, read_attribute, read_each, repeats, has_twice, without_twice, lacks_values, read_attributes, new_entry}
-use Rattle.op_update.proofs.Theorems.{distinct-repeats as IsDistinct-from_repeats, values-filled as filled-read_values}
+use Rattle.op_add_delete.specs.reading.NewEntries.{read_values, read_known, read_attribute, read_each, repeats, has_twice, without_twice, lacks_values, read_attributes, new_entry}
+use Rattle.op_add_delete.proofs.Theorems.{distinct-repeats as IsDistinct-from_repeats, values-filled as filled-read_values}
 
 -- the attribute has a value
 abbrev IsFilled : Attribute → Type 0

@@ -14,8 +14,8 @@ use Rattle.acdf_filters.specs.Asking.{Protected, Entry, Kind, Value}
 use Rattle.acdf_filters.specs.laws.Granted.{granted, granted_new}
 use Rattle.ldap_msg.specs.declared.kinds.AddRequest.{AddRequest}
 use Rattle.ldap_msg.specs.declared.kinds.DeleteRequest.{DeleteRequest}
-use Rattle.op_update.specs.op_asking.Targets.{is_suffix}
-use Rattle.op_update.specs.reading.NewEntries.{read_attributes, new_entry}
+use Rattle.op_add_delete.specs.directory.Targets.{is_suffix}
+use Rattle.op_add_delete.specs.reading.NewEntries.{read_attributes, new_entry}
 
 -- the request's name is that of the target, which may be removed, is not the suffix, and has none below it
 pub record MayDelete (entries : List EntryInformation) (who : Requester) (request : DeleteRequest) (target : EntryInformation) : Type 0 where

@@ -1,6 +1,6 @@
 -- The value has the key of the name that was printed.
 use Rattle.std.proofs.Common.{◌++◌, ap, ◌∙◌, arith, Vec, ℕ, Global}
-use Rattle.dir_tree.specs.schema_core.Attributes.{attributes}
+use Rattle.dir_tree.specs.schema_tables.Attributes.{attributes}
 use Rattle.dir_tree.specs.dn_names.Printing.{print_name}
 use Rattle.acdf_filters.proofs.named.NamedLemmas.{key-value_of}
 use Rattle.acdf_filters.proofs.named.value_of_name.Goals as goal

@@ -4,7 +4,7 @@ use Rattle.dir_tree.specs.tree.Numbered.{Numbered, IsNumberedTree, put_entry, wi
 use Rattle.dir_tree.specs.Refusals.{remove_refusal}
 use Rattle.dir_tree.proofs.TreeTheorems.{without-put_row}
 use Rattle.scope_laws.proofs.Theorems.{change-put}
-use Rattle.acdf_lists.specs.kept.Holdings.{IsHeld}
+use Rattle.aci_lists.specs.kept.Holdings.{IsHeld}
 use Rattle.dir_tree.proofs.TreeTheorems.{new_removable}
 use Rattle.aci_index.specs.points.Reach.{IsAnew}
 use Rattle.aci_index.specs.declared.anew.Reach.TheVariants.{Around}

@@ -5,7 +5,7 @@ use Rattle.dir_tree.specs.Refusals.{remove_refusal}
 use Rattle.dir_tree.proofs.TreeTheorems.{without-put_row}
 use Rattle.acdf_filters.specs.admin_scope.subtrees.Finding.{AreSubtrees}
 use Rattle.scope_laws.proofs.Theorems.{change-put}
-use Rattle.acdf_lists.specs.kept.Holdings.{IsHeld}
+use Rattle.aci_lists.specs.kept.Holdings.{IsHeld}
 use Rattle.dir_tree.proofs.TreeTheorems.{new_removable}
 use Rattle.aci_index.specs.anew.Steps.{IsKeptOf}
 use Rattle.aci_index.proofs.inserting.SubtreeLemmas.{subtrees-stay}

@@ -1,5 +1,5 @@
 -- One element is changed.
-use Rattle.acdf_lists.proofs.Theorems.{lists_at-set_same, lists_at-set_other}
+use Rattle.aci_lists.proofs.Theorems.{lists_at-set_same, lists_at-set_other}
 use Rattle.aci_index.proofs.putting.put_lists.Goals as goal
 
 pub returns-clause-own : goal.returns-clause-own

@@ -3,7 +3,7 @@ use Rattle.std.proofs.Common.{List, inl, inr, sym, subst}
 use Rattle.std.proofs.lemmas.Bool.{cases_Bool}
 use Rattle.dir_tree.specs.subentries.Points.{is_access_subentry}
 use Rattle.dir_tree.specs.tree.Numbered.{Numbered, IsNumberedTree}
-use Rattle.acdf_lists.specs.kept.Holdings.{IsHeld}
+use Rattle.aci_lists.specs.kept.Holdings.{IsHeld}
 use Rattle.aci_index.proofs.inserting.LeafLemmas.{held-taken, held-forgotten}
 use Rattle.aci_index.proofs.removing.remove_step.Goals as goal
 

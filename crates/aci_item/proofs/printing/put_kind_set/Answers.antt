@@ -2,7 +2,7 @@
 use Rattle.std.proofs.Common.{true, get_or}
 use Rattle.std.proofs.lemmas.List.{get_or_default}
 use Rattle.std.specs.Prelude.{string_bytes}
-use Rattle.dir_tree.specs.schema_core.declared.kinds.AttrId.{AttrId}
+use Rattle.dir_tree.specs.schema_tables.declared.kinds.AttrId.{AttrId}
 use Rattle.subtree_spec.proofs.Theorems.{put_next}
 use Rattle.aci_item.specs.printing.ItemPrinted.{print_kind}
 use Rattle.aci_item.proofs.printing.PrintedLemmas.{put_viewed}

@@ -1,7 +1,7 @@
 -- The header was put behind the content, and moved before it.
 use Rattle.std.proofs.Common.{◌≡◌, ◌+◌, ◌-◌, ◌++◌, ℕ, List, ◌∙◌, sym, ap, arith, length, take, drop, vec_len}
 use Rattle.std.specs.List.{slice_rotate_right}
-use Rattle.ber_core.specs.write.Spelling.{length_octets, header_octets}
+use Rattle.ber_elements.specs.write.Spelling.{length_octets, header_octets}
 use Rattle.ber_layout.proofs.write.EncloseLemmas.{enclosed, written_over}
 use Rattle.ber_layout.proofs.write.enclose.Goals as goal
 

@@ -1,7 +1,7 @@
 use Rattle.std.proofs.Common.{◌≡◌, ◌-◌, length, []}
 use Rattle.dir_tree.specs.tree.Numbered.{entries_of}
-use Rattle.op_write.specs.ldif_core.lines.Places.{IsPlace, records_from}
-use Rattle.op_write.specs.load.DataFile.{loads_after, file_start}
+use Rattle.ldif_load.specs.ldif_records.lines.Places.{IsPlace, records_from}
+use Rattle.ldif_load.specs.load.DataFile.{loads_after, file_start}
 use Rattle.data_file.proofs.loading.load_all.Given as goal
 
 -- the entries so far with the records that are left are what all records give

@@ -1,5 +1,5 @@
 use Rattle.std.proofs.Common.{◌-◌, length}
-use Rattle.op_write.specs.ldif_core.lines.Places.{IsPlace}
+use Rattle.ldif_load.specs.ldif_records.lines.Places.{IsPlace}
 use Rattle.data_tests.proofs.reading.read_all.Given as goal
 
 -- the place lies in the file

@@ -1,7 +1,7 @@
 use Rattle.std.proofs.Common.{sym, subst}
 use Rattle.dir_tree.specs.Entry.{EntryInformation}
-use Rattle.op_write.specs.ldif_core.writing.Written.{AreInTable}
-use Rattle.op_write.proofs.ldif_core_proofs.Theorems.{AreInTable-with_value}
+use Rattle.ldif_load.specs.ldif_records.writing.Written.{AreInTable}
+use Rattle.ldif_load.proofs.ldif_records_proofs.Theorems.{AreInTable-with_value}
 use Rattle.data_tests.proofs.records.with.Goals as goal
 
 -- the type is in the table, and the types before were

@@ -1,6 +1,6 @@
 -- The name is there, and then what stands after it decides.
 use Rattle.std.proofs.Common.{◌∷◌, sym, ◌∙◌, ap}
-use Rattle.schema_core.specs.Attributes.{name_of}
+use Rattle.schema_tables.specs.Attributes.{name_of}
 use Rattle.dn_names.specs.Printing.{print_value}
 use Rattle.dn_names.specs.is_key.KeyReading.{strip}
 use Rattle.dn_names.proofs.is_key.StripLemmas.{strip_some}

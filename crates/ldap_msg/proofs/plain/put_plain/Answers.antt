@@ -1,8 +1,8 @@
 -- The octets that are appended are the spelling, by how many octets the messageID has.
 use Rattle.std.proofs.Common.{◌≡◌, ◌∷◌, [], ℕ, List, get_or, sym, ap, ◌∙◌, arith}
 use Rattle.std.specs.Prelude.{pos}
-use Rattle.ber_core.specs.Integer.{int_octets}
-use Rattle.ber_core.specs.write.Spelling.{length_octets}
+use Rattle.ber_elements.specs.Integer.{int_octets}
+use Rattle.ber_elements.specs.write.Spelling.{length_octets}
 use Rattle.ber_layout.specs.write.Spellings.{element_octets}
 use Rattle.ldap_msg.specs.operations.Operations.{response_tag}
 use Rattle.ldap_msg.specs.Replies.{response_for}

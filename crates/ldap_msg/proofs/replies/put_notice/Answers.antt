@@ -1,7 +1,7 @@
 -- The notice's octets are those of the definition.
 use Rattle.std.proofs.Common.{rules}
-use Rattle.ber_core.specs.Integer.{int_octets}
-use Rattle.ber_core.specs.write.Spelling.{length_octets}
+use Rattle.ber_elements.specs.Integer.{int_octets}
+use Rattle.ber_elements.specs.write.Spelling.{length_octets}
 use Rattle.ber_layout.specs.write.Spellings.{element_octets}
 use Rattle.ldap_msg.specs.Replies.{reply_octets, notice_octets}
 use Rattle.ldap_msg.proofs.replies.put_notice.Goals as goal

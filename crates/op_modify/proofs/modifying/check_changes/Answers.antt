@@ -3,7 +3,7 @@ use Rattle.std.proofs.Common.{◌≡◌, ◌∙◌, Ok, Err, ap, sym, subst}
 use Rattle.std.proofs.lemmas.Result.{IfOk-weaker}
 use Rattle.dir_tree.specs.tree.Numbered.{entries_of}
 use Rattle.entry_changes.specs.Change.{changed_by}
-use Rattle.op_update.specs.adding.Updates.{Changed, refused}
+use Rattle.op_add_delete.specs.adding.Updates.{Changed, refused}
 use Rattle.op_modify.specs.asker.Asked.{granted_at}
 use Rattle.op_modify.specs.replacing.Steps.{IsChecked}
 use Rattle.op_modify.proofs.modifying.ChangeLemmas.{modified_as-asked}

@@ -8,7 +8,7 @@ use Rattle.ldap_msg.specs.declared.kinds.Change.{Change}
 use Rattle.op_modify.specs.Modifying.{modified_named}
 use Rattle.op_modify.proofs.modifying.ChangeLemmas.{modified-bad, modified-read}
 use Rattle.op_modify.proofs.modifying.modify.Goals as goal
-use Rattle.op_update.proofs.Theorems.{changed-refused, changed-like}
+use Rattle.op_add_delete.proofs.Theorems.{changed-refused, changed-like}
 
 pub returns-in-Some-clause-ok : goal.returns-in-Some-clause-ok
 returns-in-Some-clause-ok g c =

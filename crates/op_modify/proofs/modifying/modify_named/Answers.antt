@@ -4,7 +4,7 @@ use Rattle.std.proofs.lemmas.Result.{IfOk-weaker}
 use Rattle.dir_tree.specs.tree.Numbered.{entries_of}
 use Rattle.op_modify.proofs.modifying.ChangeLemmas.{modified-root, modified-entry}
 use Rattle.op_modify.proofs.modifying.modify_named.Goals as goal
-use Rattle.op_update.proofs.Theorems.{changed-refused, changed-like}
+use Rattle.op_add_delete.proofs.Theorems.{changed-refused, changed-like}
 
 pub returns-then-len-eq0-clause-ok : goal.returns-then-len-eq0-clause-ok
 returns-then-len-eq0-clause-ok g c =

@@ -1,8 +1,8 @@
 -- No two of the values match.
 use Rattle.std.proofs.Common.{◌∙◌, sym, ap}
 use Rattle.dir_tree.specs.Entry.{is_match}
-use Rattle.op_update.specs.reading.NewEntries.{repeats}
-use Rattle.op_update.proofs.Theorems.{distinct-repeats}
+use Rattle.op_add_delete.specs.reading.NewEntries.{repeats}
+use Rattle.op_add_delete.proofs.Theorems.{distinct-repeats}
 use Rattle.op_modify.proofs.reading.change_with.Goals as goal
 
 pub new-requires : goal.new-requires

@@ -5,7 +5,7 @@ use Rattle.dir_tree.proofs.base_laws_proofs.Theorems.{next-item}
 use Rattle.op_modify.specs.reading.ReadChanges.{read_each}
 use Rattle.op_modify.proofs.reading.ReadingLemmas.{changes-step, changes-fault, changes-done}
 use Rattle.op_modify.proofs.reading.read_each.Goals as goal
-use Rattle.op_update.proofs.Theorems.{put_before}
+use Rattle.op_add_delete.proofs.Theorems.{put_before}
 
 -- one is none
 pub returns-in-Err : goal.returns-in-Err

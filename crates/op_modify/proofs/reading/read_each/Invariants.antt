@@ -2,7 +2,7 @@
 use Rattle.std.proofs.Common.{◌≡◌, drop}
 use Rattle.op_modify.specs.reading.ReadChanges.{read_each}
 use Rattle.op_modify.proofs.reading.read_each.Given as goal
-use Rattle.op_update.proofs.Theorems.{put_before}
+use Rattle.op_add_delete.proofs.Theorems.{put_before}
 
 abbrev pub invariant-loop-item : goal.invariant-loop-item
 invariant-loop-item l =

@@ -4,7 +4,7 @@ use Rattle.std.proofs.lemmas.Result.{IfOk-weaker}
 use Rattle.dir_tree.specs.tree.Numbered.{entries_of}
 use Rattle.op_modify.proofs.renames.NameLemmas.{renamed_by-willing}
 use Rattle.op_modify.proofs.renames.rename_by.Goals as goal
-use Rattle.op_update.proofs.Theorems.{changed-like}
+use Rattle.op_add_delete.proofs.Theorems.{changed-like}
 
 pub returns-clause-ok : goal.returns-clause-ok
 returns-clause-ok g c =

@@ -9,7 +9,7 @@ use Rattle.ldap_msg.specs.declared.operations.ResultCode.TheVariants as code
 use Rattle.read_model.specs.Views.{result_of}
 use Rattle.read_model.specs.RootEntry.{finds_root, root_entry, root_replies}
 use Rattle.read_model.specs.SearchReplies.{replies_octets}
-use Rattle.op_asking.specs.Asking.{view_in}
+use Rattle.directory.specs.Asking.{view_in}
 use Rattle.op_read.proofs.searching.AnsweringLemmas.{root-elsewhere, root-here, replies-behind}
 use Rattle.op_read.proofs.searching.put_root_replies.Goals as goal
 

@@ -6,7 +6,7 @@ use Rattle.ldap_msg.specs.declared.kinds.Reply.TheVariants as reply
 use Rattle.read_model.specs.Views.{View}
 use Rattle.read_model.specs.Selecting.{selected}
 use Rattle.read_model.specs.SearchReplies.{replies_octets}
-use Rattle.op_asking.specs.Asking.{view_in}
+use Rattle.directory.specs.Asking.{view_in}
 use Rattle.op_read.specs.Sending.{entry_octets, IsSent}
 use Rattle.op_read.proofs.sending.SendingLemmas.{found-replies}
 use Rattle.op_read.proofs.selecting.SelectingLemmas.{selected-among}

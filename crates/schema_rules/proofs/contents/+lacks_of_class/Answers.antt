@@ -2,7 +2,7 @@
 use Rattle.std.proofs.Common.{sym, ◌∙◌}
 use Rattle.schema_rules.proofs.contents.ClassLemmas.{flat_map-own, flat_map-above}
 use Rattle.schema_rules.proofs.contents.ContentLemmas.{by_numbers}
-use Rattle.dir_tree.specs.schema_core.classes.Classes.{required_of}
+use Rattle.dir_tree.specs.schema_tables.classes.Classes.{required_of}
 use Rattle.schema_rules.proofs.contents.+lacks_of_class.Goals as goal
 
 pub returns-then-lacks_one : goal.returns-then-lacks_one

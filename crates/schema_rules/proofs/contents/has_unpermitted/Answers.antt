@@ -2,7 +2,7 @@
 use Rattle.std.proofs.Common.{◌==◌, ◌++◌, false, sym, ap, ◌∙◌, arith}
 use Rattle.std.specs.List.{list_any}
 use Rattle.std.specs.Option.{option_map_or}
-use Rattle.dir_tree.specs.schema_core.classes.Classes.{class_with, required_of, allowed_of}
+use Rattle.dir_tree.specs.schema_tables.classes.Classes.{class_with, required_of, allowed_of}
 use Rattle.schema_rules.specs.Classes.{class_permits}
 use Rattle.schema_rules.proofs.contents.ClassLemmas.{flat_map-all_classes}
 use Rattle.std.proofs.lemmas.List.{length-map}

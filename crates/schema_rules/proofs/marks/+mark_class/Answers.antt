@@ -1,6 +1,6 @@
 -- The class itself, and its superclasses.
 use Rattle.std.proofs.Common.{◌==◌, ◌++◌, sym}
-use Rattle.dir_tree.specs.schema_core.classes.Classes.{required_of, allowed_of}
+use Rattle.dir_tree.specs.schema_tables.classes.Classes.{required_of, allowed_of}
 use Rattle.schema_rules.proofs.contents.ClassLemmas.{flat_map-first}
 use Rattle.schema_rules.proofs.contents.ContentLemmas.{marked-both}
 use Rattle.schema_rules.proofs.marks.+mark_class.Goals as goal

@@ -2,7 +2,7 @@
 use Rattle.std.proofs.Common.{ℕ, ◌≡◌, false, take, get_or}
 use Rattle.std.specs.List.{list_any}
 use Rattle.std.specs.Option.{option_map_or}
-use Rattle.dir_tree.specs.schema_core.classes.Classes.{class_with}
+use Rattle.dir_tree.specs.schema_tables.classes.Classes.{class_with}
 use Rattle.schema_rules.specs.Classes.{class_permits}
 use Rattle.schema_rules.proofs.marks.permitted_by.Given as goal
 

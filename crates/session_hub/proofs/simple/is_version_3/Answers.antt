@@ -1,6 +1,6 @@
 -- An octet alone is the integer that it says.
 use Rattle.std.proofs.Common.{rules}
-use Rattle.run_laws.specs.ber_core.Integer.{int_at}
+use Rattle.run_laws.specs.ber_elements.Integer.{int_at}
 use Rattle.run_laws.specs.ber_layout.element.Pieces.{number_in}
 use Rattle.session_hub.proofs.simple.is_version_3.Goals as goal
 

@@ -1,5 +1,0 @@
-use Rattle.ber_core.proofs.Theorems.{shortest_length}
-use Rattle.ber_core.proofs.laws.lengths_are_shortest.Goals as goal
-
-pub returns : goal.returns
-returns c = shortest_length

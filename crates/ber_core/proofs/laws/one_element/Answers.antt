@@ -1,5 +1,0 @@
-use Rattle.ber_core.proofs.Theorems.{no_front}
-use Rattle.ber_core.proofs.laws.one_element.Goals as goal
-
-pub returns : goal.returns
-returns c = no_front

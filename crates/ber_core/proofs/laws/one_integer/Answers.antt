@@ -1,5 +1,0 @@
-use Rattle.ber_core.proofs.Theorems.{one_form}
-use Rattle.ber_core.proofs.laws.one_integer.Goals as goal
-
-pub returns : goal.returns
-returns c = one_form

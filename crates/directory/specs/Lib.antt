@@ -1,0 +1,7 @@
+-- what public clauses cite
+pub mod Asking
+pub mod Targets
+-- for the inside of the crate alone
+pub mod hiding
+-- the words of crates below, handed on
+pub use Rattle.aci_lists.specs as aci_lists

@@ -1,0 +1,19 @@
+//! What all operations on a directory ask and answer alike, over any directory that takes decisions: a requester's
+//! permissions for the entry of a name, what is told in place of what may not be known (X.511 7.11), names as texts, and
+//! results.
+#![tactic(auto)]
+
+mod asking;
+mod hiding;
+mod newcomer;
+mod results;
+mod targets;
+mod texts;
+
+pub use aci_lists;
+pub use asking::{Asking, Target, find_target};
+pub use hiding::{discloses, hidden, no_such_object};
+pub use newcomer::Newcomer;
+pub use results::{result_numbered, result_of, result_with};
+pub use targets::{is_suffix, not_leaf};
+pub use texts::{copied, printed, read_named};

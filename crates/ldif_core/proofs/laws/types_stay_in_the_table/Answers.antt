@@ -1,5 +1,0 @@
-use Rattle.ldif_core.proofs.Theorems.{AreInTable-with_value}
-use Rattle.ldif_core.proofs.laws.types_stay_in_the_table.Goals as goal
-
-pub returns : goal.returns
-returns c = record { with_value = AreInTable-with_value }

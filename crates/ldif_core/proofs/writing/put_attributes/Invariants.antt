@@ -1,7 +1,0 @@
-use Rattle.std.proofs.Common.{◌≡◌, ◌++◌, take}
-use Rattle.ldif_core.specs.writing.Written.{written_attributes}
-use Rattle.ldif_core.proofs.writing.put_attributes.Given as goal
-
--- the lines of the attributes before
-abbrev pub invariant-loop-index : goal.invariant-loop-index
-invariant-loop-index l = l.out.items ≡ l.initial.out.items ++ written_attributes (take l.index l.entry.attributes)

@@ -1,0 +1,103 @@
+-- The definitions on small cases.
+use Rattle.std.proofs.Common.{◌≡◌, ℕ, true, false, Bool, not, [], ◌∷◌, List, Some, None, Ok, Err, refl}
+use Rattle.std.specs.Prelude.{codes, ◌==◌}
+use lib.Utf8.{encode}
+use Rattle.std.specs.Str.{is_utf8, chars}
+use Rattle.dir_tree.specs.schema_tables.Attributes.{attributes}
+use Rattle.dir_tree.specs.schema_tables.classes.Classes.{classes}
+use Rattle.dir_tree.specs.schema_tables.roles.Roles.{roles}
+use Rattle.dir_tree.specs.schema_tables.Oids.{is_dotted_oid}
+use Rattle.dir_tree.specs.match_rules.Keys.{key_of}
+use Rattle.dir_tree.specs.match_rules.rules.Syntaxes.{is_of}
+use Rattle.dir_tree.specs.dn_names.name.Names.{Keyed, RdnSequence}
+use Rattle.dir_tree.specs.dn_names.make.NameValues.{value_of}
+use Rattle.dir_tree.specs.dn_names.declared.error.BadName.TheVariants.{TooMany}
+use Rattle.dir_tree.specs.Entry.{EntryInformation}
+use Rattle.ldif_load.specs.load.Loading.{with_pairs}
+use Rattle.acdf_filters.specs.aci_item.declared.permission.Permission.{Permission}
+use Rattle.acdf_filters.specs.declared.asking.Requester.{Requester}
+use Rattle.acdf_filters.specs.Asking.{Protected, Entry, Kind, Value}
+use Rattle.ldap_msg.specs.declared.operations.ResultCode.TheVariants as code
+use Rattle.ldap_msg.specs.declared.kinds.KindValues.{KindValues}
+use Rattle.read_model.specs.Views.{result_of}
+use Rattle.op_add_delete.specs.reading.NewEntries.{read_values, read_each, read_attributes, repeats, new_entry}
+use Rattle.op_add_delete.specs.adding.Adding.{refuses_entry, rule_refusal}
+use Rattle.op_add_delete.specs.adding.Updates.{refused, unless, deleted_named, added_named}
+
+-- a value whose key is its octets
+plain_value : List ℕ → Keyed
+plain_value octets = record { octets = octets; key = octets }
+
+-- dc=A, and ou=b below it
+root : RdnSequence
+root = (record { kind = 25; value = record { octets = codes "A"; key = codes "a" } } ∷ []) ∷ []
+
+below : RdnSequence
+below = (record { kind = 25; value = record { octets = codes "a"; key = codes "a" } } ∷ []) ∷ (record { kind = 9; value = record { octets = codes "b"; key = codes "b" } } ∷ []) ∷ []
+
+bare : RdnSequence → EntryInformation
+bare name = record { name = name; attributes = [] }
+
+-- a type and values as a request gives them
+given : List ℕ → List (List ℕ) → KindValues
+given kind values = record { kind = kind; values = values }
+
+-- a name that is none, and the empty name
+a_bad_name : (entries : List EntryInformation) (who : Requester) → deleted_named entries who (Err TooMany) ≡ refused entries (result_of code.InvalidDnSyntax)
+a_bad_name entries who = refl
+
+the_empty_name : (entries : List EntryInformation) (who : Requester) (attributes : List KindValues) → added_named entries who attributes (Ok []) ≡ refused entries (result_of code.UnwillingToPerform)
+the_empty_name entries who attributes = refl
+
+-- an attribute without values comes before all else, then types and values in order, and last what comes twice
+no_values : read_attributes (given (codes "zz") (codes "x" ∷ []) ∷ given (codes "cn") [] ∷ []) ≡ Err code.ProtocolError
+unfolding given read_attributes
+no_values = refl
+
+an_unknown_type : read_attributes (given (codes "zz") (codes "x" ∷ []) ∷ given (codes "objectClass") (codes "no class" ∷ []) ∷ []) ≡ Err code.UndefinedAttributeType
+unfolding given read_attributes read_each attributes
+an_unknown_type = refl
+
+no_value_of_the_type : read_attributes (given (codes "objectClass") (codes "top" ∷ codes "no class" ∷ []) ∷ given (codes "zz") (codes "x" ∷ []) ∷ []) ≡ Err code.InvalidAttributeSyntax
+unfolding given read_attributes read_each read_values attributes classes roles is_dotted_oid is_utf8 encode chars value_of key_of is_of
+no_value_of_the_type = refl
+
+two_equal_values : read_attributes (given (codes "objectClass") (codes "top" ∷ codes "2.5.6.0" ∷ []) ∷ []) ≡ Err code.AttributeOrValueExists
+unfolding given read_attributes read_each read_values repeats attributes classes roles is_dotted_oid is_utf8 encode chars value_of key_of is_of
+two_equal_values = refl
+
+a_type_twice : read_attributes (given (codes "userPassword") (codes "x" ∷ []) ∷ given (codes "2.5.4.35") (codes "y" ∷ []) ∷ []) ≡ Err code.AttributeOrValueExists
+unfolding given read_attributes read_each read_values repeats attributes classes roles is_dotted_oid is_utf8 encode chars value_of key_of is_of
+a_type_twice = refl
+
+an_unknown_type_after_equal_values : read_attributes (given (codes "userPassword") (codes "x" ∷ codes "x" ∷ []) ∷ given (codes "zz") (codes "y" ∷ []) ∷ []) ≡ Err code.UndefinedAttributeType
+unfolding given read_attributes read_each read_values attributes is_utf8 encode chars value_of key_of is_of
+an_unknown_type_after_equal_values = refl
+
+-- values of the own RDN come last, unless they are there
+own_value_last : (new_entry root (record { kind = 18; values = plain_value (codes "x") ∷ [] } ∷ [])).attributes
+    ≡ record { kind = 18; values = plain_value (codes "x") ∷ [] } ∷ record { kind = 25; values = record { octets = codes "A"; key = codes "a" } ∷ [] } ∷ []
+unfolding root plain_value with_pairs
+own_value_last = refl
+
+-- one value that may not be added is enough to refuse the entry
+all_but_passwords : Protected → Permission → Bool
+all_but_passwords Entry permission = true
+all_but_passwords (Kind kind) permission = true
+all_but_passwords (Value kind value) permission = not (kind == 18)
+
+a_value_refused : refuses_entry all_but_passwords (record { name = root; attributes = record { kind = 18; values = plain_value (codes "x") ∷ [] } ∷ [] }) ≡ true
+unfolding all_but_passwords refuses_entry
+a_value_refused = refl
+
+nothing_refused : refuses_entry all_but_passwords (record { name = root; attributes = record { kind = 25; values = plain_value (codes "a") ∷ [] } ∷ [] }) ≡ false
+unfolding all_but_passwords refuses_entry
+nothing_refused = refl
+
+-- a rule is told by its code
+a_rule : rule_refusal (Some 65) ≡ Some (result_of code.ObjectClassViolation)
+a_rule = refl
+
+-- a refused change leaves the entries
+refused_change : unless (Some (result_of code.EntryAlreadyExists)) (bare root ∷ []) (bare root ∷ bare below ∷ []) ≡ refused (bare root ∷ []) (result_of code.EntryAlreadyExists)
+refused_change = refl

@@ -1,0 +1,114 @@
+-- What a call did is what the definition says.
+use Rattle.std.proofs.Common.{◌≡◌, ◌≢◌, ℕ, List, [], ◌∷◌, length, Option, Some, None, Result, Ok, Err, refl, sym, ap, ◌∙◌, arith}
+use Rattle.std.specs.Result.{result_ok}
+use Rattle.dir_tree.specs.dn_names.name.Names.{RdnSequence, last_rdn}
+use Rattle.dir_tree.specs.dn_names.declared.error.BadName.{BadName}
+use Rattle.dir_tree.specs.dn_names.parsing.NameText.{read_name}
+use Rattle.dir_tree.specs.Entry.{Attribute, EntryInformation}
+use Rattle.dir_tree.specs.tree.Trees.{named_in, put_in, taken_out}
+use Rattle.dir_tree.specs.tree.Numbered.{Numbered, entries_of, entry_of}
+use Rattle.acdf_filters.specs.declared.asking.Requester.{Requester}
+use Rattle.ldap_msg.specs.declared.operations.ResultCode.{ResultCode}
+use Rattle.ldap_msg.specs.declared.operations.ResultCode.TheVariants as code
+use Rattle.ldap_msg.specs.declared.kinds.KindValues.{KindValues}
+use Rattle.ldap_msg.specs.declared.kinds.LdapResult.{LdapResult}
+use Rattle.ldap_msg.specs.declared.kinds.AddRequest.{AddRequest}
+use Rattle.ldap_msg.specs.declared.kinds.DeleteRequest.{DeleteRequest}
+use Rattle.read_model.specs.Views.{result_of}
+use Rattle.op_add_delete.specs.Deleting.{delete_refusal}
+use Rattle.op_add_delete.specs.reading.NewEntries.{read_attributes, new_entry}
+use Rattle.op_add_delete.specs.adding.Adding.{add_refusal}
+use Rattle.op_add_delete.specs.adding.Updates.{Changed, IsChanged, refused, unless, deleted_target, deleted_named, deleted, added_entry, added_named, added}
+use Rattle.op_add_delete.specs.reading.Steps.{IsAllowed}
+use Rattle.ldif_load.proofs.Theorems.{name-with_pairs}
+
+-- a refusal, and a change that is made
+pub changed-refused : (changed : Changed) (entries : List EntryInformation) (refusal ended : LdapResult) → changed ≡ refused entries ended → refusal ≡ ended → IsChanged changed (Some refusal) entries
+changed-refused changed entries refusal ended is same = record {
+  refused = ap (λ (refusal : LdapResult). Some refusal) same ∙ sym (ap (λ (changed : Changed). changed.refusal) is);
+  left = sym (ap (λ (changed : Changed). changed.entries) is);
+}
+
+pub changed-done : (changed : Changed) (before after entries : List EntryInformation) → changed ≡ unless None before after → entries ≡ after → IsChanged changed None entries
+changed-done changed before after entries is same = record {
+  refused = sym (ap (λ (changed : Changed). changed.refusal) is);
+  left = same ∙ sym (ap (λ (changed : Changed). changed.entries) is);
+}
+
+pub changed-like : (one other : Changed) (refusal : Option LdapResult) (entries : List EntryInformation) → other ≡ one → IsChanged one refusal entries → IsChanged other refusal entries
+changed-like one other refusal entries same is = record {
+  refused = is.refused ∙ sym (ap (λ (changed : Changed). changed.refusal) same);
+  left = is.left ∙ sym (ap (λ (changed : Changed). changed.entries) same);
+}
+
+-- the target may go
+pub allowed-target : (tree rows : List Numbered) (who : Requester) (name : RdnSequence) (target : EntryInformation) (id : ℕ) → tree ≡ rows → Some target ≡ named_in name (entries_of tree) → entry_of id tree ≡ Some target → delete_refusal (entries_of rows) who name target ≡ None
+    → IsAllowed rows who name id
+allowed-target tree rows who name target id e is known none = record {
+  target = target;
+  found = ap (entry_of id) (sym e) ∙ known;
+  leaves =
+      ap (λ (found : Option EntryInformation). deleted_target (entries_of rows) who name found) (ap (λ (rows : List Numbered). named_in name (entries_of rows)) (sym e) ∙ sym is)
+      ∙ ap (λ (refusal : Option LdapResult). unless refusal (entries_of rows) (taken_out target.name (entries_of rows))) none;
+}
+
+-- ---- deletes, by what the name is
+
+pub deleted-bad : (entries : List EntryInformation) (who : Requester) (request : DeleteRequest) → None ≡ result_ok (read_name request.name) → deleted entries who request ≡ refused entries (result_of code.InvalidDnSyntax)
+unfolding deleted
+deleted-bad entries who request e = by (read_name request.name) e
+  where
+    by : (name : Result RdnSequence BadName) → None ≡ result_ok name → deleted_named entries who name ≡ refused entries (result_of code.InvalidDnSyntax)
+    by (Ok name) e = absurd cc
+    by (Err bad) e = refl
+
+pub deleted-read : (entries : List EntryInformation) (who : Requester) (request : DeleteRequest) (found : RdnSequence) → Some found ≡ result_ok (read_name request.name) → deleted entries who request ≡ deleted_named entries who (Ok found)
+unfolding deleted
+deleted-read entries who request found e = by (read_name request.name) e
+  where
+    by : (name : Result RdnSequence BadName) → Some found ≡ result_ok name → deleted_named entries who name ≡ deleted_named entries who (Ok found)
+    by (Ok name) e = (let same : found ≡ name = cc in ap (λ (name : RdnSequence). deleted_named entries who (Ok name)) (sym same))
+    by (Err bad) e = absurd cc
+
+-- ---- adds, by what the name is
+
+pub added-bad : (entries : List EntryInformation) (who : Requester) (request : AddRequest) → None ≡ result_ok (read_name request.name) → added entries who request ≡ refused entries (result_of code.InvalidDnSyntax)
+unfolding added
+added-bad entries who request e = by (read_name request.name) e
+  where
+    by : (name : Result RdnSequence BadName) → None ≡ result_ok name → added_named entries who request.attributes name ≡ refused entries (result_of code.InvalidDnSyntax)
+    by (Ok name) e = absurd cc
+    by (Err bad) e = refl
+
+pub added-read : (entries : List EntryInformation) (who : Requester) (request : AddRequest) (found : RdnSequence) → Some found ≡ result_ok (read_name request.name) → added entries who request ≡ added_named entries who request.attributes (Ok found)
+unfolding added
+added-read entries who request found e = by (read_name request.name) e
+  where
+    by : (name : Result RdnSequence BadName) → Some found ≡ result_ok name → added_named entries who request.attributes name ≡ added_named entries who request.attributes (Ok found)
+    by (Ok name) e = (let same : found ≡ name = cc in ap (λ (name : RdnSequence). added_named entries who request.attributes (Ok name)) (sym same))
+    by (Err bad) e = absurd cc
+
+pub added-root : (entries : List EntryInformation) (who : Requester) (given : List KindValues) (name : RdnSequence) → length name ≡ 0 → added_named entries who given (Ok name) ≡ refused entries (result_of code.UnwillingToPerform)
+added-root entries who given [] e = refl
+added-root entries who given (rdn ∷ rdns) e = absurd (omega arith)
+
+pub added-filled : (entries : List EntryInformation) (who : Requester) (given : List KindValues) (name : RdnSequence) → length name ≢ 0 → added_named entries who given (Ok name) ≡ added_entry entries who name (read_attributes given)
+added-filled entries who given [] h = absurd (h refl)
+added-filled entries who given (rdn ∷ rdns) h = refl
+
+pub filled-name : (name : RdnSequence) → length name ≢ 0 → name ≢ []
+filled-name [] h = absurd (h refl)
+filled-name (rdn ∷ rdns) h = λ none. absurd cc
+
+-- ---- adds, by what the request says
+
+-- the new entry has its name
+pub named-new : (name : RdnSequence) (attributes : List Attribute) (entry : EntryInformation) → entry ≡ new_entry name attributes → entry.name ≡ name
+named-new name attributes entry is = ap (λ (entry : EntryInformation). entry.name) is ∙ name-with_pairs (record { name = name; attributes = attributes }) (last_rdn name)
+
+pub added-new : (entries : List EntryInformation) (who : Requester) (name : RdnSequence) (given : Result (List Attribute) ResultCode) (attributes : List Attribute) (entry : EntryInformation) → given ≡ Ok attributes → entry ≡ new_entry name attributes
+    → added_entry entries who name given ≡ unless (add_refusal entries who entry.name entry) entries (put_in entry entries)
+added-new entries who name given attributes entry read is =
+    ap (added_entry entries who name) read
+    ∙ ap (λ (entry : EntryInformation). unless (add_refusal entries who name entry) entries (put_in entry entries)) (sym is)
+    ∙ ap (λ (name : RdnSequence). unless (add_refusal entries who name entry) entries (put_in entry entries)) (sym (named-new name attributes entry is))

@@ -1,0 +1,21 @@
+-- The name is read or not.
+use Rattle.std.proofs.Common.{◌∙◌, ap, sym}
+use Rattle.std.proofs.lemmas.Result.{IfOk-weaker}
+use Rattle.std.specs.Result.{result_ok}
+use Rattle.dir_tree.specs.dn_names.parsing.NameText.{read_name}
+use Rattle.dir_tree.specs.tree.Numbered.{entries_of}
+use Rattle.op_add_delete.proofs.adding.UpdateLemmas.{changed-refused, changed-like, deleted-bad, deleted-read}
+use Rattle.op_add_delete.proofs.deleting.delete.Goals as goal
+
+pub returns-in-Some-clause-ok : goal.returns-in-Some-clause-ok
+returns-in-Some-clause-ok g c =
+    let entries = entries_of (g.D.Dir.rows c.args.dir.now) in
+    IfOk-weaker c.delete_named.result _ _
+    (λ refusal is. changed-like _ _ refusal _ (deleted-read entries c.args.who.now c.args.request.now c.in-Some.name (sym c.in-Some.is ∙ c.in_ok-name.ensures.ok ∙ ap (λ octets. result_ok (read_name octets)) c.as_slice.ensures.exact)) is)
+    c.delete_named.ensures.ok
+
+pub returns-in-None-clause-ok : goal.returns-in-None-clause-ok
+returns-in-None-clause-ok g c =
+    changed-refused _ _ _ _
+    (deleted-bad (entries_of (g.D.Dir.rows c.args.dir.now)) c.args.who.now c.args.request.now (sym c.in-None.is ∙ c.in_ok-name.ensures.ok ∙ ap (λ octets. result_ok (read_name octets)) c.as_slice.ensures.exact))
+    c.result_of.ensures.exact

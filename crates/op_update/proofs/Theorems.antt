@@ -1,4 +1,0 @@
--- What crates above may cite of what is added and deleted.
-pub use Rattle.op_update.proofs.reading.ReadingLemmas.{distinct-repeats, values-filled, put_before, before-none, before-more}
-pub use Rattle.op_update.proofs.adding.UpdateLemmas.{changed-refused, changed-done, changed-like}
-pub use Rattle.op_update.proofs.reading.TableLemmas.{unless-good, unless-refused, unless-made, not_broken}

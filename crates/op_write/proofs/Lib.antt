@@ -1,6 +1,0 @@
-mod Examples
-mod FileExamples
-pub mod Theorems
--- the theorems of crates below, handed on
-pub use Rattle.schema_rules.proofs as schema_rules_proofs
-pub use Rattle.ldif_core.proofs as ldif_core_proofs

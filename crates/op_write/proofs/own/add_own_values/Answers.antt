@@ -1,9 +1,0 @@
-use Rattle.std.proofs.Common.{sym, ◌∙◌}
-use Rattle.op_write.proofs.own.OwnLemmas.{pairs-there}
-use Rattle.op_write.proofs.own.add_own_values.Goals as goal
-
--- all values are there
-pub returns-then-has_pairs : goal.returns-then-has_pairs
-returns-then-has_pairs c = record {
-  ok = sym (pairs-there c.args.entry.now _ (rw (c.last_rdn.ensures.exact, c.name.ensures.exact) at (sym c.has_pairs.ensures.exact ∙ c.if-has_pairs.true)));
-}

@@ -1,5 +1,0 @@
--- A superclass has a smaller number.
-use Rattle.schema_core.proofs.superclasses.+is_or_above.Given as goal
-
-abbrev pub decreases-is_or_above : goal.decreases-is_or_above
-decreases-is_or_above l = l.other.0
