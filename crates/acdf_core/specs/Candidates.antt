@@ -4,19 +4,19 @@ use Rattle.std.specs.List.{list_all}
 use Rattle.std.specs.Option.{option_map_or}
 use Rattle.dir_tree.specs.dn_names.name.Names.{RdnSequence}
 use Rattle.dir_tree.specs.tree.Numbered.{Numbered, entry_of}
-use Rattle.acdf_filters.specs.aci_item.splitting.AciTuples.{AciTuple}
+use Rattle.acdf_filters.specs.aci_item.AciTuples.{AciTuple}
 use Rattle.acdf_filters.specs.Asking.{Asked}
 use Rattle.acdf_filters.specs.users.Choices.{highest, lowest, passing_or_all, is_filled}
 use Rattle.acdf_filters.specs.Covering.{covers, is_explicit}
-use Rattle.acdf_filters.specs.laws.Filters.{Placed, stays, rank, has_permission}
-use Rattle.acdf_filters.specs.reading.Tuples.{Listed, listed_in}
+use Rattle.acdf_filters.specs.Filters.{Placed, stays, rank, has_permission}
+use Rattle.acdf_filters.specs.Tuples.{Listed, listed_in}
 use Rattle.acdf_filters.specs.weighing.Weighing.{asked_of, asked_ranks}
 use Rattle.acdf_filters.specs.declared.question.Question.{Question}
 use Rattle.acdf_core.specs.declared.facts.Facts.{Facts}
 use Rattle.acdf_core.specs.declared.candidates.Candidate.{Candidate}
 use Rattle.acdf_core.specs.declared.steps.Counts.{Counts}
 use Rattle.acdf_core.specs.declared.steps.KeptTuple.{KeptTuple}
-use Rattle.acdf_core.specs.explaining.Explained.{name_at, Kept}
+use Rattle.acdf_core.specs.Explained.{name_at, Kept}
 
 -- what the filters ask of a tuple
 abbrev pub facts_of : Asked → AciTuple → List ℕ → Facts

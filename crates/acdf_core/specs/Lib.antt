@@ -1,5 +1,5 @@
 -- what public clauses cite
 pub mod nearest
-pub mod explaining
+pub mod Explained
 -- for the inside of the crate alone
 pub mod Candidates

@@ -3,11 +3,11 @@
 ghost use Rattle.std.specs.Prelude.{◌≡◌, ◌++◌, ◌∷◌, [], Some, IfOk, OnOk, map, flat_map};
 ghost use Rattle.std.specs.Option.{option_map_or};
 ghost use Rattle.dir_tree.specs.tree.Numbered.{entry_of, entries_of, entries_at, superior_of};
-ghost use Rattle.acdf_filters.specs.admin_scope.subentries.InForce.{in_force};
+ghost use Rattle.acdf_filters.specs.admin_scope.InForce.{in_force};
 ghost use Rattle.acdf_filters.specs.aci_item.item.Views.{tuple_of};
-ghost use Rattle.acdf_filters.specs.reading.Tuples.{listed_by, listed_in, inherited, tuples_of, prescriptive_aci, subentry_aci};
+ghost use Rattle.acdf_filters.specs.Tuples.{listed_by, listed_in, inherited, tuples_of, prescriptive_aci, subentry_aci};
 ghost use Rattle.acdf_filters.specs.weighing.Weighing.{KnowsGroups, tagged_of};
-ghost use Rattle.acdf_core.specs.explaining.Explained.{name_at};
+ghost use Rattle.acdf_core.specs.Explained.{name_at};
 ghost use Rattle.acdf_core.specs.Candidates.{described_for, described_all, listed_at};
 
 use crate::facts::{Facts, facts_for};

@@ -4,10 +4,10 @@ ghost use Rattle.std.specs.Prelude.{◌≡◌, ◌++◌, ◌∷◌, [], Some, No
 ghost use Rattle.std.specs.List.{list_all};
 ghost use Rattle.dir_tree.specs.Entry.{EntryInformation};
 ghost use Rattle.dir_tree.specs.tree.Numbered.{Numbered, entry_of, entries_of, entries_at};
-ghost use Rattle.acdf_filters.specs.admin_scope.subentries.InForce.{in_force};
+ghost use Rattle.acdf_filters.specs.admin_scope.InForce.{in_force};
 ghost use Rattle.acdf_filters.specs.Asking.{protected_of};
 ghost use Rattle.acdf_filters.specs.weighing.Weighing.{KnowsGroups, asked_of};
-ghost use Rattle.acdf_core.specs.explaining.Explained.{IsExplained, IsNothing, kept_at};
+ghost use Rattle.acdf_core.specs.Explained.{IsExplained, IsNothing, kept_at};
 ghost use Rattle.acdf_core.specs.Candidates.{kept_from, all_grant};
 
 use crate::candidates::{Candidate, list_candidates};

@@ -2,7 +2,7 @@
 
 ghost use Rattle.std.specs.Prelude.{◌≡◌};
 ghost use Rattle.acdf_filters.specs.aci_item.item.Views.{tuple_of};
-ghost use Rattle.acdf_filters.specs.laws.Filters.{stays, rank};
+ghost use Rattle.acdf_filters.specs.Filters.{stays, rank};
 ghost use Rattle.acdf_filters.specs.weighing.Weighing.{KnowsGroups, asked_of, asked_ranks};
 ghost use Rattle.acdf_core.specs.Candidates.{facts_of};
 

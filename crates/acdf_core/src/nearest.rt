@@ -3,7 +3,7 @@
 ghost use Rattle.std.specs.Prelude.{◌≡◌, ◌<◌, length, take};
 ghost use Rattle.dir_tree.specs.tree.Numbered.{entries_of, entry_of};
 ghost use Rattle.dir_tree.specs.tree.Trees.{named_in};
-ghost use Rattle.acdf_filters.specs.laws.Granted.{is_disclosed, matched};
+ghost use Rattle.acdf_filters.specs.Granted.{is_disclosed, matched};
 ghost use Rattle.acdf_filters.specs.weighing.Weighing.{AreMemberships};
 ghost use Rattle.acdf_core.specs.nearest.Nearest.{IsEntryOf};
 ghost use Rattle.acdf_core.specs.nearest.Fronts.{where_passes};

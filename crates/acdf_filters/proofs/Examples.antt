@@ -4,18 +4,18 @@ use Rattle.std.specs.Prelude.{codes, length}
 use Prim.Native.String.{String}
 use Rattle.dir_tree.specs.schema_tables.Attributes.{attributes}
 use Rattle.dir_tree.specs.dn_names.name.Names.{Keyed, TypeAndValue, RdnSequence}
-use Rattle.dir_tree.specs.dn_names.order.NameOrder.{name_cmp, is_same}
+use Rattle.dir_tree.specs.dn_names.NameOrder.{name_cmp, is_same}
 use Rattle.dir_tree.specs.dn_names.Classes.{class_of}
 use Rattle.dir_tree.specs.dn_names.Printing.{name_key, print_by, print_value}
 use Rattle.dir_tree.specs.Entry.{EntryInformation}
 use Rattle.aci_item.specs.declared.level.Level.TheVariants.{Anyone, Simple, Strong}
 use Rattle.aci_item.specs.declared.permission.Permission.TheVariants.{Read, Browse}
 use Rattle.aci_item.specs.item.Items.{UserClasses, ProtectedItems}
-use Rattle.aci_item.specs.splitting.AciTuples.{AciTuple}
+use Rattle.aci_item.specs.AciTuples.{AciTuple}
 use Rattle.acdf_filters.specs.Asking.{Entry, Kind, Value, Asked}
 use Rattle.acdf_filters.specs.users.Users.{is_in_group, ranks_of, listed_ranks}
 use Rattle.acdf_filters.specs.Covering.{covers, is_explicit, has_names}
-use Rattle.acdf_filters.specs.laws.Filters.{Placed, stays, rank, level_1, level_2, level_3, level_4, level_5, level_6, decided}
+use Rattle.acdf_filters.specs.Filters.{Placed, stays, rank, level_1, level_2, level_3, level_4, level_5, level_6, decided}
 
 -- a name of one RDN for each letter
 abbrev rdn : String → List TypeAndValue

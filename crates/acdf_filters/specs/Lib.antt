@@ -1,11 +1,13 @@
 -- what public clauses cite
 pub mod Asking
-pub mod reading
+pub mod Tuples
 pub mod users
 pub mod Covering
-pub mod laws
+pub mod Filters
+pub mod Granted
+pub mod Unseen
 pub mod weighing
-pub mod question
+pub mod Memberships
 -- for the inside of the crate alone
 pub mod Named
 pub mod Standing

@@ -5,16 +5,16 @@ ghost use Rattle.dir_tree.specs.dn_names.name.Names.{RdnSequence};
 ghost use Rattle.dir_tree.specs.Entry.{EntryInformation};
 ghost use Rattle.dir_tree.specs.tree.Numbered.{entries_of};
 ghost use Rattle.dir_tree.specs.Scope.{is_within};
-ghost use Rattle.admin_scope.specs.point_list.Areas.{without_subtree};
+ghost use Rattle.admin_scope.specs.Areas.{without_subtree};
 ghost use Rattle.aci_item.specs.declared.permission.Permission.{Permission};
 ghost use Rattle.acdf_filters.specs.declared.asking.Requester.{Requester};
 ghost use Rattle.acdf_filters.specs.declared.question.Question.{Question};
 ghost use Rattle.acdf_filters.specs.Asking.{Protected};
-ghost use Rattle.acdf_filters.specs.reading.Tuples.{Listed};
-ghost use Rattle.acdf_filters.specs.laws.Filters.{decided};
-ghost use Rattle.acdf_filters.specs.laws.Granted.{placed, granted, granted_new};
+ghost use Rattle.acdf_filters.specs.Tuples.{Listed};
+ghost use Rattle.acdf_filters.specs.Filters.{decided};
+ghost use Rattle.acdf_filters.specs.Granted.{placed, granted, granted_new};
 ghost use Rattle.acdf_filters.specs.Standing.{initial};
-ghost use Rattle.acdf_filters.specs.laws.Unseen.{IsApart, has_group};
+ghost use Rattle.acdf_filters.specs.Unseen.{IsApart, has_group};
 ghost use Rattle.acdf_filters.specs.weighing.Weighing.{asked_of, weighed_for, is_granted};
 
 /// Weighing tuples one after the other decides as the six filters do, each over whole lists.

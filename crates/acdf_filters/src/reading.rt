@@ -2,9 +2,9 @@
 
 ghost use Rattle.std.specs.Prelude.{◌≡◌, ◌++◌, IfOk, OnOk, map};
 ghost use Rattle.std.specs.Option.{option_map};
-ghost use Rattle.aci_item.specs.reading.AciText.{item_of};
+ghost use Rattle.aci_item.specs.AciText.{item_of};
 ghost use Rattle.aci_item.specs.item.Views.{item_of_code};
-ghost use Rattle.acdf_filters.specs.reading.Tuples.{tagged, items_in};
+ghost use Rattle.acdf_filters.specs.Tuples.{tagged, items_in};
 ghost use Rattle.acdf_filters.specs.weighing.Weighing.{tagged_of, listed_option};
 
 use crate::weighing::TaggedTuples;

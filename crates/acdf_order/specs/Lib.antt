@@ -1,2 +1,2 @@
 -- what public clauses cite
-pub mod ordering
+pub mod Order

@@ -2,7 +2,7 @@
 
 ghost use Rattle.std.specs.Prelude.{◌≡◌, [], map};
 ghost use Rattle.acdf_filters.specs.aci_item.item.Views.{tuple_of};
-ghost use Rattle.acdf_order.specs.ordering.Order.{IsHighestFirst, ordered-prop};
+ghost use Rattle.acdf_order.specs.Order.{IsHighestFirst, ordered-prop};
 
 use acdf_filters::aci_item::AciTuple;
 use std::alloc::Global;

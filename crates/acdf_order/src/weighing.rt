@@ -3,7 +3,7 @@
 ghost use Rattle.std.specs.Prelude.{◌≡◌, map, fold};
 ghost use Rattle.acdf_filters.specs.aci_item.item.Views.{tuple_of};
 ghost use Rattle.acdf_filters.specs.weighing.Weighing.{KnowsGroups, weighed_for};
-ghost use Rattle.acdf_order.specs.ordering.Order.{IsHighestFirst};
+ghost use Rattle.acdf_order.specs.Order.{IsHighestFirst};
 
 use acdf_filters::aci_item::AciTuple;
 use acdf_filters::{Question, Standing, weigh};

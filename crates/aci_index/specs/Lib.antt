@@ -1,6 +1,6 @@
 -- for the inside of the crate alone
-pub mod anew
-pub mod points
+pub mod Steps
+pub mod Reach
 -- the words of crates below, handed on
 pub use Rattle.aci_lists.specs as aci_lists
 pub use Rattle.acdf_filters.specs as acdf_filters

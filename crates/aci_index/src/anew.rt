@@ -5,9 +5,9 @@ ghost use Rattle.std.specs.List.{AllByRecursion};
 ghost use Rattle.dir_tree.specs.tree.Numbered.{superior_of};
 ghost use Rattle.dir_tree.specs.Scope.{scoped};
 ghost use Rattle.dir_tree.specs.declared.scope.Scope.TheVariants.{Sub};
-ghost use Rattle.acdf_filters.specs.admin_scope.subtrees.Finding.{AreSubtrees};
-ghost use Rattle.aci_index.specs.anew.Steps.{AllStay};
-ghost use Rattle.aci_index.specs.points.Reach.{HaveRoom, IsAnew, IsPut, IsRemade, numbers_of, put_one, top_of};
+ghost use Rattle.acdf_filters.specs.admin_scope.Finding.{AreSubtrees};
+ghost use Rattle.aci_index.specs.Steps.{AllStay};
+ghost use Rattle.aci_index.specs.Reach.{HaveRoom, IsAnew, IsPut, IsRemade, numbers_of, put_one, top_of};
 
 use crate::putting::make_room;
 use acdf_filters::admin_scope::{AccessSubentry, access_subtrees};

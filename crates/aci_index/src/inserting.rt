@@ -2,7 +2,7 @@
 
 ghost use Rattle.std.specs.Prelude.{◌≡◌, ◌≢◌, ◌⊎◌, [], true, false, Some, None, IfOk, IfErr, OnOk, OnErr};
 ghost use Rattle.dir_tree.specs.tree.Numbered.{entry_of, entries_of, put_entry};
-ghost use Rattle.dir_tree.specs.subentries.Points.{is_access_subentry};
+ghost use Rattle.dir_tree.specs.Points.{is_access_subentry};
 ghost use Rattle.dir_tree.specs.Refusals.{insert_refusal};
 ghost use Rattle.aci_lists.specs.kept.Holdings.{IsHeld};
 

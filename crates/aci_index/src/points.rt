@@ -3,9 +3,9 @@
 ghost use Rattle.std.specs.Prelude.{◌≡◌, false};
 ghost use Rattle.std.specs.Option.{option_map_or};
 ghost use Rattle.dir_tree.specs.tree.Numbered.{entry_of};
-ghost use Rattle.acdf_filters.specs.admin_scope.point_list.Areas.{is_access_point};
-ghost use Rattle.aci_index.specs.points.Reach.{reach_of};
-ghost use Rattle.aci_index.specs.anew.Steps.{are_alike, are_ordinary, has_same_roles, is_same_point, is_own_change};
+ghost use Rattle.acdf_filters.specs.admin_scope.Areas.{is_access_point};
+ghost use Rattle.aci_index.specs.Reach.{reach_of};
+ghost use Rattle.aci_index.specs.Steps.{are_alike, are_ordinary, has_same_roles, is_same_point, is_own_change};
 
 use crate::anew::Reach;
 use acdf_filters::admin_scope::{is_inner_point, is_specific_point};

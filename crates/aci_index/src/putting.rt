@@ -1,9 +1,9 @@
 //! The lists of one number, made and put.
 
 ghost use Rattle.std.specs.Prelude.{◌≡◌, ◌≢◌, ◌<◌, ◌≤◌, ℕ, IfOk, OnOk, length};
-ghost use Rattle.acdf_filters.specs.admin_scope.subtrees.Finding.{AreSubtrees};
+ghost use Rattle.acdf_filters.specs.admin_scope.Finding.{AreSubtrees};
 ghost use Rattle.aci_lists.specs.kept.Lists.{AreOf, lists_at, lists_of};
-ghost use Rattle.aci_index.specs.anew.Steps.{AllStay, IsKeptOf, OthersStay};
+ghost use Rattle.aci_index.specs.Steps.{AllStay, IsKeptOf, OthersStay};
 
 use aci_lists::{Holdings, Kept, lists_for, no_lists, put_groups_of};
 use dir_tree::{Entry, EntryNo, NoMemory, Tree};

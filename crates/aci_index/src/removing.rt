@@ -2,11 +2,11 @@
 
 ghost use Rattle.std.specs.Prelude.{◌≡◌, ◌⊎◌, true, false, Some, None, IfOk, IfErr, OnOk, OnErr};
 ghost use Rattle.dir_tree.specs.tree.Numbered.{entry_of, without};
-ghost use Rattle.dir_tree.specs.subentries.Points.{is_access_subentry};
+ghost use Rattle.dir_tree.specs.Points.{is_access_subentry};
 ghost use Rattle.dir_tree.specs.Refusals.{remove_refusal};
 ghost use Rattle.aci_lists.specs.kept.Holdings.{IsForgotten, IsHeld};
 ghost use Rattle.aci_lists.specs.kept.Lists.{lists_at, no_lists};
-ghost use Rattle.aci_index.specs.anew.Steps.{OthersStay};
+ghost use Rattle.aci_index.specs.Steps.{OthersStay};
 
 use aci_lists::{Holdings, empty_lists, forget};
 use dir_tree::{Entry, EntryNo, RemoveRefusal, Tree};

@@ -4,11 +4,11 @@ ghost use Rattle.std.specs.Prelude.{◌≡◌, ◌<◌, ◌⊎◌, true, false, 
 ghost use Rattle.std.specs.Option.{option_map_or};
 ghost use Rattle.dir_tree.specs.tree.Numbered.{entry_of, put_entry, without};
 ghost use Rattle.dir_tree.specs.Refusals.{replace_refusal};
-ghost use Rattle.acdf_filters.specs.admin_scope.subtrees.Finding.{AreSubtrees};
+ghost use Rattle.acdf_filters.specs.admin_scope.Finding.{AreSubtrees};
 ghost use Rattle.aci_lists.specs.kept.Lists.{AreOf, lists_of};
 ghost use Rattle.aci_lists.specs.kept.Holdings.{IsHeld};
-ghost use Rattle.aci_index.specs.points.Reach.{AreBelow};
-ghost use Rattle.aci_index.specs.anew.Steps.{AllStay, is_own_change};
+ghost use Rattle.aci_index.specs.Reach.{AreBelow};
+ghost use Rattle.aci_index.specs.Steps.{AllStay, is_own_change};
 
 use crate::anew::{Anew, Reach, make_anew, no_anew, put_anew};
 use crate::points::{changes_own, reach_at};
@@ -79,7 +79,7 @@ struct Remaker {
 }
 
 impl TreeReader for Remaker {
-    ghost use Rattle.aci_index.specs.points.Reach.{IsAnew};
+    ghost use Rattle.aci_index.specs.Reach.{IsAnew};
 
     ghost has_read = { λ before remaker rows. IsAnew before.reach before.number.0 remaker.anew rows };
 

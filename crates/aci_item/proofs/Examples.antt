@@ -7,8 +7,8 @@ use Rattle.aci_item.specs.declared.permission.Permission.{Permission}
 use Rattle.aci_item.specs.declared.permission.Permission.TheVariants as permission
 use Rattle.aci_item.specs.Permission.{Bit, bits_of, in_order}
 use Rattle.aci_item.specs.item.Items.{UserClasses, ProtectedItems, First, Item, ItemFirst}
-use Rattle.aci_item.specs.splitting.AciTuples.{tuples_of_item}
-use Rattle.aci_item.specs.printing.ItemPrinted.{bit_name, print_classes, print_items, print_item_permission, print_first}
+use Rattle.aci_item.specs.AciTuples.{tuples_of_item}
+use Rattle.aci_item.specs.ItemPrinted.{bit_name, print_classes, print_items, print_item_permission, print_first}
 use Rattle.aci_item.specs.Sets.{sorted}
 
 granted : Permission → Bit

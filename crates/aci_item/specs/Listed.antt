@@ -8,7 +8,7 @@ use Rattle.dir_tree.specs.schema_tables.declared.kinds.ClassKind.TheVariants.{Ab
 use Rattle.dir_tree.specs.schema_tables.classes.Classes.{class_with, kind_of, required_of, allowed_of}
 use Rattle.dir_tree.specs.schema_tables.Superclasses.{with_superclasses}
 use Rattle.dir_tree.specs.Entry.{Attribute, values_of}
-use Rattle.dir_tree.specs.classes.EntryClasses.{object_class}
+use Rattle.dir_tree.specs.EntryClasses.{object_class}
 
 -- the numbers of the listed classes that are in the table, in order
 abbrev pub listed_classes : List Attribute → List ℕ

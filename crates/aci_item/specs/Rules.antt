@@ -7,15 +7,15 @@ use Rattle.dir_tree.specs.schema_tables.declared.kinds.Syntax.{Syntax}
 use Rattle.dir_tree.specs.schema_tables.declared.kinds.Syntax.TheVariants.{Text, Ascii, Phone, Country, Octets, Oid, Name, Subtree, Aci}
 use Rattle.dir_tree.specs.schema_tables.Attributes.{is_single, syntax_of}
 use Rattle.dir_tree.specs.schema_tables.classes.Classes.{class_with}
-use Rattle.aci_item.specs.reading.AciText.{read_item}
+use Rattle.aci_item.specs.AciText.{read_item}
 use Rattle.dir_tree.specs.dn_names.name.Names.{Keyed, last_rdn}
 use Rattle.dir_tree.specs.dn_names.name.GoodNames.{IsGoodName}
 use Rattle.dir_tree.specs.Entry.{Attribute, EntryInformation, kinds_of, values_of, has_kind, has_key, IsGoodAttributes}
-use Rattle.dir_tree.specs.classes.EntryClasses.{object_class, has_class}
-use Rattle.dir_tree.specs.subentries.Points.{is_point, is_subentry, is_access_subentry, access_subentries}
+use Rattle.dir_tree.specs.EntryClasses.{object_class, has_class}
+use Rattle.dir_tree.specs.Points.{is_point, is_subentry, is_access_subentry, access_subentries}
 use Rattle.dir_tree.specs.tree.Trees.{most_entries, superior_name, named_in, IsTree}
 use Rattle.dir_tree.specs.Scope.{is_child}
-use Rattle.subtree_spec.specs.reading.SubtreeText.{read_subtree}
+use Rattle.subtree_spec.specs.SubtreeText.{read_subtree}
 use Rattle.aci_item.specs.Listed.{all_classes, structural_classes, are_in_line, is_among, required_by, permitted_by}
 
 -- notAllowedOnRDN (67): a value of the last RDN is none of the entry's

@@ -7,8 +7,8 @@ ghost use Rattle.std.specs.Option.{option_copied};
 ghost use Rattle.std.specs.Str.{bytes_eq};
 ghost use Rattle.gser_tree.specs.Writing.{text_of, print_word, PutsMembers};
 ghost use Rattle.aci_item.specs.Permission.{bit_place, all_bits, has_bit, in_order, put_bit, permissions_of, has_some};
-ghost use Rattle.aci_item.specs.printing.ItemPrinted.{bit_name, print_bits};
-ghost use Rattle.aci_item.specs.bits.Rows.{bit_of, named_bit, row_of};
+ghost use Rattle.aci_item.specs.ItemPrinted.{bit_name, print_bits};
+ghost use Rattle.aci_item.specs.Rows.{bit_of, named_bit, row_of};
 
 use crate::permission::Permission;
 use gser_tree::{put_end, put_separator};

@@ -3,7 +3,7 @@
 ghost use Rattle.std.specs.Prelude.{◌≡◌, find, nat_lt};
 ghost use Rattle.std.specs.Str.{bytes_eq};
 ghost use Rattle.aci_item.specs.Level.{levels, rank_of};
-ghost use Rattle.aci_item.specs.printing.ItemPrinted.{level_name};
+ghost use Rattle.aci_item.specs.ItemPrinted.{level_name};
 
 /// How a requester is authenticated (X.501 18.4.2.3), the weakest first.
 #[derive(Clone, Copy, PartialEq, Eq, PartialOrd, Ord, Debug, Drop)]

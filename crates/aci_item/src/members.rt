@@ -4,11 +4,11 @@ ghost use Rattle.std.specs.Prelude.{◌≡◌, [], IfOk, codes, map, string_byte
 ghost use Rattle.gser_tree.specs.Tree.{shape_of};
 ghost use Rattle.gser_tree.specs.Reading.{Reads, optional};
 ghost use Rattle.gser_tree.specs.Writing.{text_of};
-ghost use Rattle.subtree_spec.specs.spec.Subtrees.{subtree_of};
-ghost use Rattle.subtree_spec.specs.printing.SubtreePrinted.{print_subtree};
+ghost use Rattle.subtree_spec.specs.Subtrees.{subtree_of};
+ghost use Rattle.subtree_spec.specs.SubtreePrinted.{print_subtree};
 ghost use Rattle.aci_item.specs.members.ItemParts.{user, kind, kind_and_value, class_subtree};
-ghost use Rattle.aci_item.specs.printing.ItemPrinted.{print_user, print_kind, print_value};
-ghost use Rattle.aci_item.specs.reading.AciText.{sorted_set, kinds};
+ghost use Rattle.aci_item.specs.ItemPrinted.{print_user, print_kind, print_value};
+ghost use Rattle.aci_item.specs.AciText.{sorted_set, kinds};
 ghost use Rattle.aci_item.specs.members.Gathering.{behind};
 
 use crate::parts::{class_subtree, kind, kind_and_value, user};

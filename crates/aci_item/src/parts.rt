@@ -3,14 +3,14 @@
 ghost use Rattle.std.specs.Prelude.{◌≡◌, [], ◌∷◌, codes, IfOk, IfSome, true, length, map, option_map, ◌==◌, min, if◌then◌else◌};
 ghost use Rattle.std.specs.Str.{is_utf8};
 ghost use Rattle.dir_tree.specs.schema_tables.Attributes.{IsAttrId};
-ghost use Rattle.dir_tree.specs.dn_names.make.NameValues.{value_of};
+ghost use Rattle.dir_tree.specs.dn_names.NameValues.{value_of};
 ghost use Rattle.gser_tree.specs.Tree.{shape_of};
 ghost use Rattle.gser_tree.specs.looking.Looking.{flag};
 ghost use Rattle.gser_tree.specs.Reading.{Reads, part, required};
 ghost use Rattle.subtree_spec.specs.Parts.{name};
-ghost use Rattle.subtree_spec.specs.spec.Subtrees.{subtree_of};
+ghost use Rattle.subtree_spec.specs.Subtrees.{subtree_of};
 ghost use Rattle.aci_item.specs.members.ItemParts.{level_word, basic_levels, level_by, level, bit, bits, named_user, user_by, user, kind, no_octets, assertion, kind_and_value, filter_place, least, class_subtree, flag_by};
-ghost use Rattle.aci_item.specs.bits.Rows.{bit_of};
+ghost use Rattle.aci_item.specs.Rows.{bit_of};
 ghost use Rattle.aci_item.specs.members.Gathering.{behind};
 
 use crate::bits::{Bits, bit_named};

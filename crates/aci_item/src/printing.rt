@@ -3,9 +3,9 @@
 ghost use Rattle.std.specs.Prelude.{◌≡◌, [], ◌∷◌, ◌++◌, IfOk, OnOk, OnErr, true, codes, map, option_map, string_bytes};
 ghost use Rattle.dir_tree.specs.schema_tables.Attributes.{name_of};
 ghost use Rattle.gser_tree.specs.Writing.{text_of, print_braces, print_word, print_component, print_filled, print_flag, print_number, print_optional, PutsMembers};
-ghost use Rattle.subtree_spec.specs.spec.Subtrees.{subtree_of};
-ghost use Rattle.subtree_spec.specs.printing.SubtreePrinted.{print_subtree};
-ghost use Rattle.aci_item.specs.printing.ItemPrinted.{print_bits, print_classes, print_first, print_item, print_item_first, print_item_permission, print_items, print_kind, print_level, print_precedence, print_set, print_user, print_user_first, print_user_permission, print_value};
+ghost use Rattle.subtree_spec.specs.Subtrees.{subtree_of};
+ghost use Rattle.subtree_spec.specs.SubtreePrinted.{print_subtree};
+ghost use Rattle.aci_item.specs.ItemPrinted.{print_bits, print_classes, print_first, print_item, print_item_first, print_item_permission, print_items, print_kind, print_level, print_precedence, print_set, print_user, print_user_first, print_user_permission, print_value};
 ghost use Rattle.aci_item.specs.item.Views.{classes_of, first_of, item_of_code, item_permission_of, items_of, user_permission_of};
 
 use crate::bits::{Bits, put_bits};

@@ -3,15 +3,15 @@
 ghost use Rattle.std.specs.Prelude.{◌≡◌, ◌≤◌, None, Ok, Err, codes, map, option_map, IfOk, string_bytes};
 ghost use Rattle.dir_tree.specs.plain_values.Answers.{Answers};
 ghost use Rattle.gser_tree.specs.looking.Shapes.{Shape, nest};
-ghost use Rattle.gser_tree.specs.part.TextOf.{IsTextOf};
+ghost use Rattle.gser_tree.specs.TextOf.{IsTextOf};
 ghost use Rattle.gser_tree.specs.Tree.{shape_of};
 ghost use Rattle.gser_tree.specs.Reading.{Reads, optional};
 ghost use Rattle.gser_tree.specs.Writing.{text_of};
 ghost use Rattle.subtree_spec.specs.declared.error.BadText.TheVariants as fault;
-ghost use Rattle.subtree_spec.specs.reading.SubtreeText.{there, judged, fault_of};
+ghost use Rattle.subtree_spec.specs.SubtreeText.{there, judged, fault_of};
 ghost use Rattle.aci_item.specs.item.Items.{Item};
-ghost use Rattle.aci_item.specs.printing.ItemPrinted.{print_item_permission, print_user_permission};
-ghost use Rattle.aci_item.specs.reading.AciText.{sorted_set, classes, items, precedence, item_permission, user_permission, item_first, user_first, first, tag, aci_item, AciText, read_item};
+ghost use Rattle.aci_item.specs.ItemPrinted.{print_item_permission, print_user_permission};
+ghost use Rattle.aci_item.specs.AciText.{sorted_set, classes, items, precedence, item_permission, user_permission, item_first, user_first, first, tag, aci_item, AciText, read_item};
 ghost use Rattle.aci_item.specs.item.Views.{classes_of, items_of, item_permission_of, user_permission_of, first_of, item_of_code};
 ghost use Rattle.aci_item.specs.members.Gathering.{behind};
 

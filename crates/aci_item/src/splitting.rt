@@ -3,7 +3,7 @@
 ghost use Rattle.std.specs.Prelude.{◌≡◌, true, false, [], ◌∷◌, ◌++◌, IfOk, OnOk, map};
 ghost use Rattle.std.specs.List.{list_any};
 ghost use Rattle.aci_item.specs.Permission.{is_same};
-ghost use Rattle.aci_item.specs.splitting.AciTuples.{kept, split, split_first, tuple_with, tuples_of_item};
+ghost use Rattle.aci_item.specs.AciTuples.{kept, split, split_first, tuple_with, tuples_of_item};
 ghost use Rattle.aci_item.specs.item.Items.{ItemFirst, UserFirst};
 ghost use Rattle.aci_item.specs.item.Views.{classes_of, items_of, item_permission_of, user_permission_of, item_of_code, tuple_of};
 

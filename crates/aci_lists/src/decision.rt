@@ -4,7 +4,7 @@ ghost use Rattle.std.specs.Prelude.{◌≡◌, Some, map, fold};
 ghost use Rattle.dir_tree.specs.Entry.{EntryInformation};
 ghost use Rattle.dir_tree.specs.tree.Numbered.{entry_of, entries_of, superior_of};
 ghost use Rattle.acdf_filters.specs.Asking.{protected_of};
-ghost use Rattle.acdf_filters.specs.laws.Granted.{granted};
+ghost use Rattle.acdf_filters.specs.Granted.{granted};
 ghost use Rattle.acdf_filters.specs.Standing.{initial};
 ghost use Rattle.acdf_filters.specs.weighing.Weighing.{KnowsGroups, weighed_for, is_granted};
 ghost use Rattle.aci_lists.specs.kept.Lists.{IsKept, lists_at, tuples_at, tuples_below, tuples_inherited, tuples_kept};

@@ -5,9 +5,9 @@ ghost use Rattle.std.specs.Option.{option_map_or};
 ghost use Rattle.dir_tree.specs.Entry.{EntryInformation};
 ghost use Rattle.dir_tree.specs.tree.Numbered.{entry_of, entries_of, entries_at, put_entry, without};
 ghost use Rattle.dir_tree.specs.Refusals.{insert_refusal, remove_refusal, replace_refusal};
-ghost use Rattle.acdf_filters.specs.admin_scope.subentries.InForce.{in_force};
+ghost use Rattle.acdf_filters.specs.admin_scope.InForce.{in_force};
 ghost use Rattle.acdf_filters.specs.Asking.{protected_of};
-ghost use Rattle.acdf_filters.specs.laws.Granted.{granted, granted_new};
+ghost use Rattle.acdf_filters.specs.Granted.{granted, granted_new};
 ghost use Rattle.acdf_filters.specs.weighing.Weighing.{AreMemberships};
 ghost use Rattle.aci_lists.specs.kept.Lists.{AreInForce};
 

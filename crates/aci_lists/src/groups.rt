@@ -3,7 +3,7 @@
 ghost use Rattle.std.specs.Prelude.{◌≡◌, Some, IfOk, map};
 ghost use Rattle.dir_tree.specs.tree.Numbered.{entries_of};
 ghost use Rattle.acdf_filters.specs.weighing.Weighing.{AreMemberships};
-ghost use Rattle.acdf_filters.specs.question.Memberships.{groups_of};
+ghost use Rattle.acdf_filters.specs.Memberships.{groups_of};
 
 use crate::kept::Kept;
 use acdf_filters::aci_item::AciTuple;

@@ -2,7 +2,7 @@
 
 ghost use Rattle.std.specs.Prelude.{◌≡◌, map};
 ghost use Rattle.acdf_filters.specs.aci_item.item.Views.{tuple_of};
-ghost use Rattle.acdf_order.specs.ordering.Order.{IsHighestFirst};
+ghost use Rattle.acdf_order.specs.Order.{IsHighestFirst};
 ghost use Rattle.aci_lists.specs.kept.Lists.{lists_at, lists_of, no_lists};
 
 use acdf_filters::aci_item::AciTuple;

@@ -3,10 +3,10 @@
 ghost use Rattle.std.specs.Prelude.{◌≡◌, map, ◌+◌, ◌<◌, ℕ, Some, IfOk, OnOk, length};
 ghost use Rattle.dir_tree.specs.Entry.{EntryInformation};
 ghost use Rattle.dir_tree.specs.tree.Numbered.{entry_of};
-ghost use Rattle.acdf_filters.specs.admin_scope.subtrees.Finding.{AreSubtrees};
+ghost use Rattle.acdf_filters.specs.admin_scope.Finding.{AreSubtrees};
 ghost use Rattle.acdf_filters.specs.aci_item.item.Views.{tuple_of};
-ghost use Rattle.acdf_filters.specs.reading.Tuples.{items_in};
-ghost use Rattle.acdf_order.specs.ordering.Order.{highest_first};
+ghost use Rattle.acdf_filters.specs.Tuples.{items_in};
+ghost use Rattle.acdf_order.specs.Order.{highest_first};
 ghost use Rattle.aci_lists.specs.kept.Lists.{AreOf, IsKept, IsKeptBelow, lists_of, tuples_in};
 ghost use Rattle.aci_lists.specs.kept.Holdings.{IsHeld};
 

@@ -3,9 +3,9 @@
 ghost use Rattle.std.specs.Prelude.{◌≡◌, IfOk, fold, map, option_map};
 ghost use Rattle.dir_tree.specs.tree.Numbered.{entries_of, find_name};
 ghost use Rattle.dir_tree.specs.tree.Trees.{superior_name};
-ghost use Rattle.acdf_filters.specs.admin_scope.subtrees.Finding.{AreSubtrees};
+ghost use Rattle.acdf_filters.specs.admin_scope.Finding.{AreSubtrees};
 ghost use Rattle.acdf_filters.specs.Asking.{protected_of};
-ghost use Rattle.acdf_filters.specs.laws.Granted.{granted_new};
+ghost use Rattle.acdf_filters.specs.Granted.{granted_new};
 ghost use Rattle.acdf_filters.specs.Standing.{initial};
 ghost use Rattle.acdf_filters.specs.weighing.Weighing.{KnowsGroups, weighed_for};
 ghost use Rattle.aci_lists.specs.kept.Lists.{AreInForce, IsKept, tuples_below};

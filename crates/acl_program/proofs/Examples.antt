@@ -4,16 +4,16 @@ use Rattle.std.specs.Fmt.{digits}
 use Rattle.command_files.specs.hex.Hex.{encode_with}
 use Rattle.command_files.specs.script_text.declared.event.ScriptEvent.{ScriptEvent}
 use Rattle.command_files.specs.script_text.declared.event.ScriptEvent.TheVariants.{Opened, Ended}
-use Rattle.command_files.specs.wire_io.laws.Pieces.{pieces_of, pieces}
+use Rattle.command_files.specs.wire_io.Pieces.{pieces_of, pieces}
 use Rattle.command_files.specs.wire_io.Rising.{are_above, put_rising, rising_after, rising}
-use Rattle.session_hub.specs.session_model.laws.Run.{start, step, held_numbers}
-use Rattle.session_hub.specs.session_model.laws.Journaled.{steps_of_events}
-use Rattle.session_hub.specs.session_model.laws.Replaying.{replayed_from}
-use Rattle.session_hub.specs.messages.Answering.{rules}
+use Rattle.session_hub.specs.session_model.Run.{start, step, held_numbers}
+use Rattle.session_hub.specs.session_model.Journaled.{steps_of_events}
+use Rattle.session_hub.specs.session_model.Replaying.{replayed_from}
+use Rattle.session_hub.specs.Answering.{rules}
 use Rattle.session_hub.specs.declared.ended.Ended.TheVariants as ended
 use Rattle.acl_program.specs.declared.status.Status.TheVariants.{Done, TurnsSpent, LinkFault}
-use Rattle.acl_program.specs.printing.Lines.{line_of, lines_of, replay_text}
-use Rattle.acl_program.specs.status.Outcomes.{BadLine, Replayed, Served, text_of, status_of}
+use Rattle.acl_program.specs.Lines.{line_of, lines_of, replay_text}
+use Rattle.acl_program.specs.Outcomes.{BadLine, Replayed, Served, text_of, status_of}
 use Rattle.acl_program.specs.serve.Serving.{ServeAsked, NotOpened, LoopEnded, serve_asked}
 
 -- a line with octets, with none, and of a connection that was hung up

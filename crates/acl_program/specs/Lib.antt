@@ -1,10 +1,10 @@
 -- what public clauses cite
 pub mod program
-pub mod printing
+pub mod Lines
 pub mod serve
-pub mod explain
-pub mod sample
-pub mod status
+pub mod Explaining
+pub mod Sampling
+pub mod Outcomes
 -- for the inside of the crate alone
 pub mod Troubles
-pub mod replay
+pub mod Asked

@@ -1,8 +1,8 @@
 -- The outcome of a file of a command that wasn't read.
-use Rattle.command_files.specs.data_file.loading.Files.{cause_of}
+use Rattle.command_files.specs.data_file.Files.{cause_of}
 use Rattle.command_files.specs.declared.loading.Trouble.{Trouble}
 use Rattle.command_files.specs.declared.loading.Trouble.TheVariants as trouble
-use Rattle.acl_program.specs.status.Outcomes.{Outcome, NoFile, BadDataLine, BadLine, OutOfMemory}
+use Rattle.acl_program.specs.Outcomes.{Outcome, NoFile, BadDataLine, BadLine, OutOfMemory}
 
 -- the outcome of a file that wasn't read
 abbrev pub outcome_of : Trouble → Outcome

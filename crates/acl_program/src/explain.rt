@@ -3,10 +3,10 @@
 ghost use Rattle.std.specs.Prelude.{◌≡◌, ℕ, List, Some};
 ghost use Rattle.command_words.specs.command.Command.{Explain};
 ghost use Rattle.command_files.specs.dir_tree.tree.Numbered.{entries_of};
-ghost use Rattle.explain_text.specs.question_words.asked.Questions.{question_view};
+ghost use Rattle.explain_text.specs.question_words.Questions.{question_view};
 ghost use Rattle.explain_text.specs.question_words.Reading.{question_of};
 ghost use Rattle.explain_text.specs.Texts.{text_explained};
-ghost use Rattle.acl_program.specs.status.Outcomes.{Explained};
+ghost use Rattle.acl_program.specs.Outcomes.{Explained};
 ghost use Rattle.acl_program.specs.program.Outside.{Linked, outside, written};
 ghost use Rattle.acl_program.specs.program.Playing.{Ends, Performs};
 

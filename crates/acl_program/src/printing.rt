@@ -2,9 +2,9 @@
 
 ghost use Rattle.std.specs.Prelude.{◌≡◌, ◌++◌, IfOk, string_bytes, decimal, codes};
 ghost use Rattle.std.specs.Option.{option_map};
-ghost use Rattle.acl_program.specs.printing.Lines.{shown, ending, line_of};
+ghost use Rattle.acl_program.specs.Lines.{shown, ending, line_of};
 ghost use Rattle.acl_program.specs.program.Playing.{journal_lines, journal_text, dumped_text, IsDumpable};
-ghost use Rattle.command_files.specs.wire_io.sink.Putting.{PutsAll, PutCause};
+ghost use Rattle.command_files.specs.wire_io.Putting.{PutsAll, PutCause};
 ghost use Rattle.command_files.specs.wire_io.Journal.{taken_of, is_hung_up};
 
 use command_files::data_file::put_tree;

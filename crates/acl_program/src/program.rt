@@ -3,12 +3,12 @@
 ghost use Rattle.std.specs.Prelude.{◌≡◌, map, string_bytes};
 ghost use Rattle.command_files.specs.plain_values.Counts.{Rose};
 ghost use Rattle.acl_program.specs.program.Causes.{AsksServing, IsNoCommand, IsDue};
-ghost use Rattle.acl_program.specs.status.Outcomes.{Outcome};
+ghost use Rattle.acl_program.specs.Outcomes.{Outcome};
 ghost use Rattle.acl_program.specs.program.Outside.{linked, outside};
 ghost use Rattle.acl_program.specs.program.Running.{Prints, EndsAs, IsCause, EndsAtFaults};
 ghost use Rattle.acl_program.specs.program.Playing.{Runs, Performs};
 ghost use Rattle.acl_program.specs.program.Twins.{PrintsAlike};
-ghost use Rattle.acl_program.specs.sample.Sampling.{IsFew};
+ghost use Rattle.acl_program.specs.Sampling.{IsFew};
 ghost use Rattle.command_words.specs.command.Command.{view};
 
 use crate::data::{check, dump};

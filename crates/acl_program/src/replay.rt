@@ -3,12 +3,12 @@
 ghost use Rattle.std.specs.Prelude.{◌≡◌, [], Some};
 ghost use Rattle.std.specs.Option.{option_map};
 ghost use Rattle.command_words.specs.command.Command.{Replay};
-ghost use Rattle.command_files.specs.wire_io.script_link.Scripted.{fresh_link};
+ghost use Rattle.command_files.specs.wire_io.Scripted.{fresh_link};
 ghost use Rattle.command_files.specs.dir_tree.tree.Numbered.{entries_of};
 ghost use Rattle.command_files.specs.aci_item.Rules.{IsGoodTree};
-ghost use Rattle.acl_program.specs.status.Outcomes.{Replayed, dump_text};
+ghost use Rattle.acl_program.specs.Outcomes.{Replayed, dump_text};
 ghost use Rattle.acl_program.specs.program.Outside.{Linked, outside, written};
-ghost use Rattle.acl_program.specs.replay.Asked.{Replays, replay_asked};
+ghost use Rattle.acl_program.specs.Asked.{Replays, replay_asked};
 ghost use Rattle.acl_program.specs.program.Playing.{Performs, Plays, Shows, Ends, dumped_text, IsDumpable};
 
 use crate::printing::print_replay;

@@ -4,18 +4,18 @@
 ghost use Rattle.std.specs.Prelude.{◌≡◌, ◌≤◌, [], ℕ, Option, Ok, IfErr, IfOk, OnOk, string_bytes};
 ghost use Rattle.command_words.specs.command.Command.{Sample};
 ghost use Rattle.command_files.specs.plain_values.Answers.{IsFaultOf};
-ghost use Rattle.command_files.specs.data_file.loading.Files.{fault_of};
+ghost use Rattle.command_files.specs.data_file.Files.{fault_of};
 ghost use Rattle.command_files.specs.dir_tree.tree.Numbered.{entries_of};
 ghost use Rattle.command_files.specs.ldif_load.load.DataFile.{loads};
-ghost use Rattle.sample_input.specs.file.SampleFile.{sample_file};
-ghost use Rattle.sample_input.specs.events.SampleEvents.{sample_events};
-ghost use Rattle.command_files.specs.wire_io.shelf.Files.{Files};
+ghost use Rattle.sample_input.specs.SampleFile.{sample_file};
+ghost use Rattle.sample_input.specs.SampleEvents.{sample_events};
+ghost use Rattle.command_files.specs.wire_io.Files.{Files};
 ghost use Rattle.command_files.specs.wire_io.Journal.{taken_of};
-ghost use Rattle.command_files.specs.wire_io.script_link.Scripted.{fresh_link};
-ghost use Rattle.acl_program.specs.status.Outcomes.{Sampled};
+ghost use Rattle.command_files.specs.wire_io.Scripted.{fresh_link};
+ghost use Rattle.acl_program.specs.Outcomes.{Sampled};
 ghost use Rattle.acl_program.specs.program.Outside.{Linked, outside, written};
 ghost use Rattle.acl_program.specs.program.Playing.{Ends, Performs};
-ghost use Rattle.acl_program.specs.sample.Sampling.{sample_text, sample_replies, summary};
+ghost use Rattle.acl_program.specs.Sampling.{sample_text, sample_replies, summary};
 
 use crate::status::Status;
 use crate::troubles::print_bad_data;

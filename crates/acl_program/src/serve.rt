@@ -3,9 +3,9 @@
 ghost use Rattle.std.specs.Prelude.{◌≡◌, ℕ, List, IfOk, string_bytes};
 ghost use Rattle.command_words.specs.command.Command.{Serve};
 ghost use Rattle.command_files.specs.dir_tree.tree.Numbered.{entries_of};
-ghost use Rattle.command_files.specs.wire_io.sink.Putting.{PutsAll, PutCause};
+ghost use Rattle.command_files.specs.wire_io.Putting.{PutsAll, PutCause};
 ghost use Rattle.acl_program.specs.serve.Listening.{Listens, ListensOn, ServesOpened};
-ghost use Rattle.acl_program.specs.status.Outcomes.{Served};
+ghost use Rattle.acl_program.specs.Outcomes.{Served};
 ghost use Rattle.acl_program.specs.program.Outside.{Shelved, beside, linked, outside, written};
 ghost use Rattle.acl_program.specs.program.Playing.{Ends, Performs};
 ghost use Rattle.acl_program.specs.serve.Serving.{NotOpened, ServeAsked, ended_text, listening_text, loop_status, serve_asked};

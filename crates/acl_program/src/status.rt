@@ -1,7 +1,7 @@
 //! How the program ends.
 
 ghost use Rattle.std.specs.Prelude.{◌≡◌, Ok, Err};
-ghost use Rattle.acl_program.specs.status.Outcomes.{number_of, settled};
+ghost use Rattle.acl_program.specs.Outcomes.{number_of, settled};
 
 use command_files::wire_io::PutFault;
 

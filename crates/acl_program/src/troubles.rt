@@ -1,8 +1,8 @@
 //! What is printed of words that are no command, and of files that aren't read.
 
 ghost use Rattle.std.specs.Prelude.{◌≡◌, IfOk, string_bytes};
-ghost use Rattle.command_files.specs.data_file.loading.Files.{cause_of};
-ghost use Rattle.acl_program.specs.status.Outcomes.{NoCommand, NoFile, BadDataLine, BadLine, cause_text, line_cause_text, record_cause_text, status_of, text_of};
+ghost use Rattle.command_files.specs.data_file.Files.{cause_of};
+ghost use Rattle.acl_program.specs.Outcomes.{NoCommand, NoFile, BadDataLine, BadLine, cause_text, line_cause_text, record_cause_text, status_of, text_of};
 ghost use Rattle.acl_program.specs.program.Outside.{written};
 ghost use Rattle.acl_program.specs.program.Playing.{Ends};
 ghost use Rattle.acl_program.specs.Troubles.{outcome_of};

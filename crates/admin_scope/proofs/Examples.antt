@@ -5,15 +5,15 @@ use Prim.Native.String.{String}
 use Rattle.dir_tree.specs.schema_tables.Attributes.{attributes, attr_of}
 use Rattle.dir_tree.specs.schema_tables.classes.Classes.{classes}
 use Rattle.dir_tree.specs.dn_names.name.Names.{Keyed, TypeAndValue, RdnSequence}
-use Rattle.dir_tree.specs.dn_names.order.NameOrder.{name_cmp, is_same, is_prefix_of}
+use Rattle.dir_tree.specs.dn_names.NameOrder.{name_cmp, is_same, is_prefix_of}
 use Rattle.dir_tree.specs.Entry.{EntryInformation}
-use Rattle.dir_tree.specs.classes.EntryClasses.{has_class}
-use Rattle.dir_tree.specs.subentries.Points.{is_specific_point, is_inner_point}
-use Rattle.subtree_spec.specs.spec.Subtrees.{Choice, Item, And, Or, Not, gathered, Subtree}
+use Rattle.dir_tree.specs.EntryClasses.{has_class}
+use Rattle.dir_tree.specs.Points.{is_specific_point, is_inner_point}
+use Rattle.subtree_spec.specs.Subtrees.{Choice, Item, And, Or, Not, gathered, Subtree}
 use Rattle.subtree_spec.specs.membership.Membership.{holds_below}
 use Rattle.admin_scope.specs.Refinements.{is_true_of, holds}
-use Rattle.admin_scope.specs.point_list.Areas.{areas, without_subtree}
-use Rattle.admin_scope.specs.subentries.InForce.{subtree_specification}
+use Rattle.admin_scope.specs.Areas.{areas, without_subtree}
+use Rattle.admin_scope.specs.InForce.{subtree_specification}
 
 number : attr_of (codes "subtreeSpecification") ≡ Some subtree_specification
 unfolding attributes

@@ -1,7 +1,7 @@
 -- what public clauses cite
 pub mod Refinements
-pub mod point_list
-pub mod subentries
-pub mod subtrees
+pub mod Areas
+pub mod InForce
+pub mod Finding
 -- for the inside of the crate alone
-pub mod upwards
+pub mod Walking

@@ -3,9 +3,9 @@
 use Rattle.std.specs.Prelude.{Bool, true, false, not, ◌&&◌, ◌||◌, Option, Some, None}
 use Rattle.dir_tree.specs.dn_names.name.Names.{RdnSequence}
 use Rattle.dir_tree.specs.Entry.{EntryInformation}
-use Rattle.dir_tree.specs.classes.EntryClasses.{has_class}
-use Rattle.subtree_spec.specs.spec.Subtrees.{Choice, Item, And, Or, Not, Choices, Subtree}
-use Rattle.subtree_spec.specs.spec.Subtrees as refinement
+use Rattle.dir_tree.specs.EntryClasses.{has_class}
+use Rattle.subtree_spec.specs.Subtrees.{Choice, Item, And, Or, Not, Choices, Subtree}
+use Rattle.subtree_spec.specs.Subtrees as refinement
 use Rattle.subtree_spec.specs.membership.Membership.{holds_below}
 
 -- an item is true of an entry that has the class, also as a superclass; the standards leave the empty sets open:

@@ -3,11 +3,11 @@
 ghost use Rattle.std.specs.Prelude.{◌≡◌, false, List};
 ghost use Rattle.dir_tree.specs.dn_names.name.Names.{RdnSequence};
 ghost use Rattle.dir_tree.specs.Entry.{EntryInformation};
-ghost use Rattle.dir_tree.specs.subentries.Points.{is_access_subentry};
+ghost use Rattle.dir_tree.specs.Points.{is_access_subentry};
 ghost use Rattle.dir_tree.specs.Scope.{is_within};
 ghost use Rattle.dir_tree.specs.tree.Trees.{taken_out};
-ghost use Rattle.admin_scope.specs.point_list.Areas.{areas, without_subtree, has_within};
-ghost use Rattle.admin_scope.specs.subentries.InForce.{in_force};
+ghost use Rattle.admin_scope.specs.Areas.{areas, without_subtree, has_within};
+ghost use Rattle.admin_scope.specs.InForce.{in_force};
 
 /// Leaving out all entries at or below a name changes no area of an entry that is not among them; and no list of
 /// subentries in force, where no access control subentry is among them.

@@ -1,7 +1,7 @@
 //! Which entries belong to a subtree.
 
 ghost use Rattle.std.specs.Prelude.{◌≡◌};
-ghost use Rattle.subtree_spec.specs.spec.Subtrees.{subtree_of};
+ghost use Rattle.subtree_spec.specs.Subtrees.{subtree_of};
 ghost use Rattle.admin_scope.specs.Refinements.{holds};
 
 use crate::refinements::meets_filter;

@@ -4,8 +4,8 @@ ghost use Rattle.std.specs.Prelude.{◌≡◌, map, Some, IsSome, IfOk};
 ghost use Rattle.std.specs.List.{AllByRecursion};
 ghost use Rattle.dir_tree.specs.Entry.{EntryInformation};
 ghost use Rattle.dir_tree.specs.tree.Numbered.{entry_of, entries_of, entries_at};
-ghost use Rattle.admin_scope.specs.point_list.Areas.{areas};
-ghost use Rattle.admin_scope.specs.upwards.Walking.{walk_of};
+ghost use Rattle.admin_scope.specs.Areas.{areas};
+ghost use Rattle.admin_scope.specs.Walking.{walk_of};
 
 use crate::upwards::walk;
 use dir_tree::dn_names::Dn;

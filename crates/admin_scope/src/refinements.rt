@@ -1,7 +1,7 @@
 //! Refinements of an entry's classes.
 
 ghost use Rattle.std.specs.Prelude.{◌≡◌, option_map};
-ghost use Rattle.subtree_spec.specs.spec.Subtrees.{choice_of};
+ghost use Rattle.subtree_spec.specs.Subtrees.{choice_of};
 ghost use Rattle.admin_scope.specs.Refinements.{is_true_of, meets_filter};
 
 use dir_tree::Entry;

@@ -3,9 +3,9 @@
 ghost use Rattle.std.specs.Prelude.{◌≡◌, false};
 ghost use Rattle.std.specs.Option.{option_map_or};
 ghost use Rattle.dir_tree.specs.Entry.{has_key, values_of};
-ghost use Rattle.dir_tree.specs.subentries.Points.{administrative_role, is_specific_point, is_inner_point};
+ghost use Rattle.dir_tree.specs.Points.{administrative_role, is_specific_point, is_inner_point};
 ghost use Rattle.dir_tree.specs.tree.Numbered.{entry_of};
-ghost use Rattle.admin_scope.specs.subtrees.Finding.{stands};
+ghost use Rattle.admin_scope.specs.Finding.{stands};
 
 use dir_tree::schema_tables::AttrId;
 use dir_tree::{Entry, EntryNo, Tree};

@@ -5,9 +5,9 @@ ghost use Rattle.std.specs.List.{AllByRecursion};
 ghost use Rattle.std.specs.Option.{option_map_or};
 ghost use Rattle.dir_tree.specs.Entry.{EntryInformation};
 ghost use Rattle.dir_tree.specs.tree.Numbered.{entry_of, entries_of, entries_at};
-ghost use Rattle.admin_scope.specs.subentries.InForce.{applies, in_force};
-ghost use Rattle.admin_scope.specs.upwards.Walking.{walk_of};
-ghost use Rattle.admin_scope.specs.subtrees.Finding.{AreSubtrees, numbers_by};
+ghost use Rattle.admin_scope.specs.InForce.{applies, in_force};
+ghost use Rattle.admin_scope.specs.Walking.{walk_of};
+ghost use Rattle.admin_scope.specs.Finding.{AreSubtrees, numbers_by};
 
 use crate::membership::holds;
 use crate::roles::is_specific;

@@ -3,10 +3,10 @@
 ghost use Rattle.std.specs.Prelude.{◌≡◌, ◌==◌, ◌+◌, length, IfOk, option_map};
 ghost use Rattle.std.specs.Result.{result_ok};
 ghost use Rattle.dir_tree.specs.Scope.{is_child};
-ghost use Rattle.subtree_spec.specs.spec.Subtrees.{subtree_of};
-ghost use Rattle.subtree_spec.specs.reading.SubtreeText.{read_subtree};
-ghost use Rattle.admin_scope.specs.subentries.InForce.{subtree_of_entry};
-ghost use Rattle.admin_scope.specs.subtrees.Finding.{AreSubtrees, holds_by, holds_read, subtree_at};
+ghost use Rattle.subtree_spec.specs.Subtrees.{subtree_of};
+ghost use Rattle.subtree_spec.specs.SubtreeText.{read_subtree};
+ghost use Rattle.admin_scope.specs.InForce.{subtree_of_entry};
+ghost use Rattle.admin_scope.specs.Finding.{AreSubtrees, holds_by, holds_read, subtree_at};
 
 use crate::membership::holds;
 use dir_tree::dn_names::{Dn, is_prefix};

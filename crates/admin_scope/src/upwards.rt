@@ -2,7 +2,7 @@
 
 ghost use Rattle.std.specs.Prelude.{◌≡◌, [], ◌∷◌, MatchOption, false, length};
 ghost use Rattle.std.specs.Option.{option_map_or};
-ghost use Rattle.admin_scope.specs.upwards.Walking.{points_up, is_specific_front, has_specific, first_front, walk_of};
+ghost use Rattle.admin_scope.specs.Walking.{points_up, is_specific_front, has_specific, first_front, walk_of};
 
 use crate::roles::{is_inner, is_specific};
 use dir_tree::dn_names::Dn;
@@ -19,7 +19,7 @@ pub(crate) struct PointWalk<'a> {
 
 impl<'a> Model for PointWalk<'a> {
     ghost use Rattle.std.specs.Prelude.{ℕ, List};
-    ghost use Rattle.admin_scope.specs.upwards.Walking.{points_up};
+    ghost use Rattle.admin_scope.specs.Walking.{points_up};
 
     ghost Value = { List ℕ };
 

@@ -7,9 +7,9 @@ ghost use Rattle.ldap_msg.specs.declared.operations.ResultCode.TheVariants as co
 ghost use Rattle.ldap_msg.specs.declared.kinds.SearchRequest.{SearchRequest};
 ghost use Rattle.ldap_msg.specs.declared.kinds.CompareRequest.{CompareRequest};
 ghost use Rattle.ldap_msg.specs.declared.kinds.Message.{Message};
-ghost use Rattle.read_laws.specs.laws.Complete.{HasKnownBase, IsComparable};
-ghost use Rattle.session_hub.specs.messages.Answering.{answer_read};
-ghost use Rattle.answer_laws.specs.laws.Asked.{AsksSearch, AsksCompare, IsSearchedWith, IsComparedWith};
+ghost use Rattle.read_laws.specs.Complete.{HasKnownBase, IsComparable};
+ghost use Rattle.session_hub.specs.Answering.{answer_read};
+ghost use Rattle.answer_laws.specs.Asked.{AsksSearch, AsksCompare, IsSearchedWith, IsComparedWith};
 
 /// A message with a search whose base the requester may know of is answered by the octets of entries, or of none, and of
 /// an end with success or with sizeLimitExceeded, where no control of it is refused (RFC 4511 4.1.11 and 4.5.2).

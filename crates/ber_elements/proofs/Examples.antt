@@ -2,7 +2,7 @@
 use Rattle.std.proofs.Common.{◌≡◌, ◌^◌, ◌-◌, [], ◌∷◌, Some, None, refl}
 use Rattle.std.specs.Prelude.{pos, negsuc}
 use Rattle.ber_elements.specs.declared.kinds.Header.TheVariants.{Head, Short, Bad}
-use Rattle.ber_elements.specs.read.Heading.{length_at, header_at}
+use Rattle.ber_elements.specs.Heading.{length_at, header_at}
 use Rattle.ber_elements.specs.Integer.{int_at, int_octets}
 use Rattle.ber_elements.specs.write.Spelling.{length_octets, header_octets}
 

@@ -5,7 +5,7 @@ use Rattle.std.specs.List.{AllByRecursion}
 use Rattle.ber_elements.specs.declared.kinds.Header.{Header}
 use Rattle.ber_elements.specs.declared.kinds.Header.TheVariants.{Head}
 use Rattle.ber_elements.specs.write.Element.{SpellsLength, IsTag, IsHeader, Elem}
-use Rattle.ber_elements.specs.read.Heading.{IsHeading, header_at}
+use Rattle.ber_elements.specs.Heading.{IsHeading, header_at}
 use Rattle.ber_elements.specs.Integer.{IsInteger, int_at, int_octets}
 use Rattle.ber_elements.specs.write.Spelling.{length_octets, header_octets}
 

@@ -1,5 +1,5 @@
 -- what public clauses cite
 pub mod write
-pub mod read
+pub mod Heading
 pub mod Integer
 pub mod Laws

@@ -2,7 +2,7 @@
 
 ghost use Rattle.std.specs.Prelude.{◌≡◌};
 ghost use Rattle.ber_elements.specs.declared.kinds.Header.{Header};
-ghost use Rattle.ber_elements.specs.read.Heading.{IsHeading, length_at, header_at};
+ghost use Rattle.ber_elements.specs.Heading.{IsHeading, length_at, header_at};
 
 use crate::kinds::Header;
 use crate::number::number_of;

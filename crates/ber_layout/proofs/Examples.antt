@@ -1,12 +1,12 @@
 -- Layouts on known cases (RFC 4511 4.5.1.7.2 and 4.1.11 have such contents).
 use Rattle.std.proofs.Common.{◌≡◌, true, false, [], ◌∷◌, Some, None, refl}
-use Rattle.ber_elements.specs.read.Heading.{length_at, header_at}
+use Rattle.ber_elements.specs.Heading.{length_at, header_at}
 use Rattle.ber_elements.specs.write.Spelling.{length_octets}
 use Rattle.ber_layout.specs.element.Pieces.{piece_of, piece_at, tagged_at}
 use Rattle.ber_layout.specs.components.Components.{required_of, marked_of, each_from, each_of}
-use Rattle.ber_layout.specs.write.Spellings.{element_octets}
-use Rattle.ber_layout.specs.laid.Layouts.{reads_into, reads, writes, is_clear}
-use Rattle.ber_layout.specs.laid.Layouts.Layout.{AnyOctets, End, Then, Maybe, Marked, Each}
+use Rattle.ber_layout.specs.Spellings.{element_octets}
+use Rattle.ber_layout.specs.Layouts.{reads_into, reads, writes, is_clear}
+use Rattle.ber_layout.specs.Layouts.Layout.{AnyOctets, End, Then, Maybe, Marked, Each}
 
 -- tags differ, so it can be read in one way; an optional element and a list of one tag can't
 noted_clear : is_clear (Then 4 AnyOctets (Marked 1 (Maybe 0x80 AnyOctets End))) ≡ true

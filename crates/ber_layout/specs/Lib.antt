@@ -1,6 +1,7 @@
 -- what public clauses cite
 pub mod element
 pub mod components
-pub mod laid
-pub mod write
-pub mod laws
+pub mod Layouts
+pub mod Spellings
+pub mod Ranges
+pub mod Laws

@@ -3,8 +3,8 @@
 ghost use Rattle.std.specs.Prelude.{◌≡◌, ◌≤◌, ℕ, Bool, map, option_map, IfOk, OnOk, ◌++◌, ◌∷◌, []};
 ghost use Rattle.ber_layout.specs.components.Flags.{flag_of};
 ghost use Rattle.ber_layout.specs.components.Components.{any_of, required_of, optional_of, marked_of, each_of};
-ghost use Rattle.ber_layout.specs.laid.Layouts.{reads};
-ghost use Rattle.ber_layout.specs.laid.Layouts.Layout.{AnyOctets, Ignored, Number, Skipped, Flag, End, Each};
+ghost use Rattle.ber_layout.specs.Layouts.{reads};
+ghost use Rattle.ber_layout.specs.Layouts.Layout.{AnyOctets, Ignored, Number, Skipped, Flag, End, Each};
 ghost use Rattle.ber_layout.specs.element.Reading.{Gives};
 
 use crate::element::{Element, any_element, begins, number, tagged};

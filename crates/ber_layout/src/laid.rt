@@ -7,9 +7,9 @@ use std::alloc::Global;
 /// A value that stands in the content of an element.
 pub trait Laid: Drop {
     ghost use Rattle.std.specs.Prelude.{◌≡◌, ◌++◌, OnOk};
-    ghost use Rattle.ber_layout.specs.laid.Layouts.{Layout, Value, reads, writes};
+    ghost use Rattle.ber_layout.specs.Layouts.{Layout, Value, reads, writes};
     ghost use Rattle.ber_layout.specs.element.Reading.{Gives};
-    ghost use Rattle.ber_layout.specs.write.Spellings.{Extends};
+    ghost use Rattle.ber_layout.specs.Spellings.{Extends};
 
     ghost layout: { Layout };
 
@@ -28,7 +28,7 @@ pub trait Laid: Drop {
 }
 
 impl Laid for Octets {
-    ghost use Rattle.ber_layout.specs.laid.Layouts.Layout.{AnyOctets};
+    ghost use Rattle.ber_layout.specs.Layouts.Layout.{AnyOctets};
 
     ghost layout = { AnyOctets };
 

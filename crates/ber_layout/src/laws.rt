@@ -1,6 +1,6 @@
 //! Laws over the definitions: each function's clause is the law, and its body does nothing.
 
-ghost use Rattle.ber_layout.specs.laws.Laws.{ReadingIsSound, ReadingIsComplete, WritingSays, WritingIsReadAgain, ShortValuesFit};
+ghost use Rattle.ber_layout.specs.Laws.{ReadingIsSound, ReadingIsComplete, WritingSays, WritingIsReadAgain, ShortValuesFit};
 
 /// What is read of a layout is what the octets say.
 pub fn reading_is_sound()

@@ -5,9 +5,9 @@ ghost use Rattle.std.specs.List.{slice_rotate_right};
 ghost use Rattle.ber_elements.specs.write.Element.{IsTag};
 ghost use Rattle.ber_elements.specs.Integer.{int_octets};
 ghost use Rattle.ber_layout.specs.components.Flags.{flag_octets};
-ghost use Rattle.ber_layout.specs.laid.Layouts.{writes};
-ghost use Rattle.ber_layout.specs.laid.Layouts.Layout.{AnyOctets, End, Each};
-ghost use Rattle.ber_layout.specs.write.Spellings.{Extends, element_octets, optional_octets, marked_octets, each_octets};
+ghost use Rattle.ber_layout.specs.Layouts.{writes};
+ghost use Rattle.ber_layout.specs.Layouts.Layout.{AnyOctets, End, Each};
+ghost use Rattle.ber_layout.specs.Spellings.{Extends, element_octets, optional_octets, marked_octets, each_octets};
 
 use crate::kinds::NoMemory;
 use crate::laid::Laid;

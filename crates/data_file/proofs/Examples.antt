@@ -15,7 +15,7 @@ use Rattle.ldif_load.specs.ldif_records.lines.Places.{physical_from, logical_fro
 use Rattle.ldif_load.specs.ldif_records.writing.Written.{is_plain, written_value, written_entry}
 use Rattle.ldif_load.specs.ldif_records.writing.WrittenFile.{written_file}
 use Rattle.ldif_load.specs.load.DataFile.{FileFault, OfLine, loads, loads_after}
-use Rattle.data_file.specs.writing.Steps.{text_at}
+use Rattle.data_file.specs.Steps.{text_at}
 
 -- lines that end in LF
 ended : List (List ℕ) → List ℕ

@@ -1,7 +1,7 @@
 -- what public clauses cite
-pub mod loading
+pub mod Files
 -- for the inside of the crate alone
-pub mod writing
+pub mod Steps
 -- the words of crates below, handed on
 pub use Rattle.ldif_load.specs as ldif_load
 pub use Rattle.ldif_load.specs.ldif_records as ldif_records

@@ -8,8 +8,8 @@ ghost use Rattle.ldif_load.specs.ldif_records.writing.WrittenFile.{written_file}
 ghost use Rattle.ldif_load.specs.load.Loading.{IsLoaded, loaded_entry};
 ghost use Rattle.ldif_load.specs.load.DataFile.{loads, loads_after, file_start, in_file};
 ghost use Rattle.wire_io.specs.plain_values.Answers.{IsFaultOf};
-ghost use Rattle.data_file.specs.loading.Files.{fault_of};
-ghost use Rattle.data_file.specs.writing.Steps.{IsStep, of_line, of_record};
+ghost use Rattle.data_file.specs.Files.{fault_of};
+ghost use Rattle.data_file.specs.Steps.{IsStep, of_line, of_record};
 
 use crate::fault::{DataCause, DataFault};
 use dir_tree::Tree;

@@ -1,14 +1,14 @@
 //! A tree, written as a data file.
 
 ghost use Rattle.std.specs.Prelude.{◌≡◌, ◌∷◌, flat_map, OnOk};
-ghost use Rattle.wire_io.specs.sink.Putting.{PutsAll, PutCause};
+ghost use Rattle.wire_io.specs.Putting.{PutsAll, PutCause};
 ghost use Rattle.dir_tree.specs.Scope.{scoped};
 ghost use Rattle.dir_tree.specs.declared.scope.Scope.TheVariants.{Sub};
 ghost use Rattle.ldif_load.specs.ldif_records.writing.Written.{AreInTable};
 ghost use Rattle.ldif_load.specs.ldif_records.writing.WrittenFile.{written_file, written_record, written_records};
 ghost use Rattle.dir_tree.specs.tree.Numbered.{entries_of};
 ghost use Rattle.aci_item.specs.Rules.{IsGoodTree};
-ghost use Rattle.data_file.specs.writing.Steps.{AreOfTable, text_at};
+ghost use Rattle.data_file.specs.Steps.{AreOfTable, text_at};
 
 use crate::fault::NoMemory;
 use dir_tree::{Entry, EntryNo, Scope, Tree};

@@ -7,8 +7,8 @@ use Rattle.schema_tables.specs.classes.Classes.{classes}
 use Rattle.dn_names.specs.name.Names.{Keyed}
 use Rattle.dir_tree.specs.Entry.{EntryInformation, values_of, kinds_of}
 use Rattle.dir_tree.specs.attributes.Changes.{with_value, without_value, without_kind}
-use Rattle.dir_tree.specs.classes.EntryClasses.{object_class, oids_of_classes, has_class}
-use Rattle.dir_tree.specs.subentries.Points.{administrative_role, is_point, is_specific_point, is_inner_point, is_subentry, is_access_subentry, access_subentries}
+use Rattle.dir_tree.specs.EntryClasses.{object_class, oids_of_classes, has_class}
+use Rattle.dir_tree.specs.Points.{administrative_role, is_point, is_specific_point, is_inner_point, is_subentry, is_access_subentry, access_subentries}
 
 -- a value of its octets and its key
 abbrev value : String → String → Keyed

@@ -1,7 +1,7 @@
 -- The definitions of trees computed on a small one.
 use Rattle.std.proofs.Common.{◌≡◌, ℕ, List, [], ◌∷◌, Some, None, refl}
 use Rattle.dn_names.specs.name.Names.{TypeAndValue, RdnSequence}
-use Rattle.dn_names.specs.order.NameOrder.{name_cmp, is_same, is_prefix_of}
+use Rattle.dn_names.specs.NameOrder.{name_cmp, is_same, is_prefix_of}
 use Rattle.dir_tree.specs.tree.Numbered.{Numbered, entries_of, find_name, find_front, suffix_of, superior_of, put_row, without}
 use Rattle.dir_tree.specs.Scope.{scoped}
 use Rattle.dir_tree.specs.declared.scope.Scope.TheVariants.{Base, One, Sub}

@@ -1,7 +1,7 @@
 -- When a tree does not take a change, by the first cause that is found.
 use Rattle.std.specs.Prelude.{ℕ, ◌==◌, Bool, true, not, ◌&&◌, List, [], ◌∷◌, length, if◌then◌else◌, Option, Some, None}
 use Rattle.dn_names.specs.name.Names.{RdnSequence}
-use Rattle.dn_names.specs.order.NameOrder.{is_same}
+use Rattle.dn_names.specs.NameOrder.{is_same}
 use Rattle.dir_tree.specs.Entry.{EntryInformation}
 use Rattle.dir_tree.specs.tree.Trees.{most_entries, has_name, lacks_superior, has_below, superior_name}
 use Rattle.dir_tree.specs.tree.Numbered.{Numbered, entries_of, entry_of, without}

@@ -1,7 +1,7 @@
 -- Which entries a scope takes in (RFC 4511 4.5.1.2).
 use Rattle.std.specs.Prelude.{ℕ, ◌+◌, ◌==◌, ◌&&◌, Bool, false, List, [], ◌∷◌, length, filter, Option, Some, None}
 use Rattle.dn_names.specs.name.Names.{RdnSequence}
-use Rattle.dn_names.specs.order.NameOrder.{is_prefix_of}
+use Rattle.dn_names.specs.NameOrder.{is_prefix_of}
 use Rattle.dir_tree.specs.Entry.{EntryInformation}
 use Rattle.dir_tree.specs.tree.Numbered.{Numbered, ids_of, entry_of, superior_of}
 use Rattle.dir_tree.specs.declared.scope.Scope.{Scope}

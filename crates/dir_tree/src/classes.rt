@@ -3,7 +3,7 @@
 ghost use Rattle.std.specs.Prelude.{◌≡◌};
 ghost use Rattle.std.specs.List.{list_any};
 ghost use Rattle.std.specs.Str.{bytes_eq};
-ghost use Rattle.dir_tree.specs.classes.EntryClasses.{own_oid, oids_of, oids_of_listed};
+ghost use Rattle.dir_tree.specs.EntryClasses.{own_oid, oids_of, oids_of_listed};
 
 use dn_names::Value;
 use schema_tables::{ClassId, class_oid, class_with, superior};

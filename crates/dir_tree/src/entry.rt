@@ -5,8 +5,8 @@ ghost use Rattle.std.specs.List.{IsDistinct};
 ghost use Rattle.std.specs.Option.{option_map};
 ghost use Rattle.dir_tree.specs.Entry.{kinds_of, values_of, has_key, has_kind, is_match, IsGoodAttributes};
 ghost use Rattle.dir_tree.specs.attributes.Changes.{with_value, with_values, without_value, without_kind};
-ghost use Rattle.dir_tree.specs.classes.EntryClasses.{has_class};
-ghost use Rattle.dir_tree.specs.subentries.Points.{is_point, is_subentry, is_access_subentry};
+ghost use Rattle.dir_tree.specs.EntryClasses.{has_class};
+ghost use Rattle.dir_tree.specs.Points.{is_point, is_subentry, is_access_subentry};
 
 use crate::attribute_iter::Attributes;
 use crate::attributes::{

@@ -3,10 +3,10 @@
 ghost use Rattle.std.specs.Prelude.{◌≡◌, IfOk};
 ghost use Rattle.std.specs.Option.{option_map};
 ghost use Rattle.dn_names.specs.name.Names.{RdnSequence};
-ghost use Rattle.dn_names.specs.order.NameOrder.{is_same};
+ghost use Rattle.dn_names.specs.NameOrder.{is_same};
 ghost use Rattle.dn_names.specs.path.PathKeys.{path_key};
 ghost use Rattle.dir_tree.specs.tree.Trees.{superior_name};
-ghost use Rattle.dir_tree.specs.paths.Maps.{HasSamePlaces};
+ghost use Rattle.dir_tree.specs.Maps.{HasSamePlaces};
 
 use crate::number::EntryNo;
 use crate::tree::Tree;

@@ -2,7 +2,7 @@
 
 ghost use Rattle.std.specs.Prelude.{◌≡◌, Some, None, IfOk, IfErr, OnOk, OnErr, IsSomeAnd, MatchResult, true, false};
 ghost use Rattle.std.specs.Option.{option_map_or};
-ghost use Rattle.dir_tree.specs.remove.Removals.{IsRemovable};
+ghost use Rattle.dir_tree.specs.Removals.{IsRemovable};
 
 use crate::entry::Entry;
 use crate::number::EntryNo;

@@ -2,8 +2,8 @@
 
 ghost use Rattle.std.specs.Prelude.{◌≡◌, ◌⊎◌, ◌&&◌, not, true, false, Some, None, IfOk, IfErr, OnOk, OnErr};
 ghost use Rattle.std.specs.Option.{option_map_or};
-ghost use Rattle.dn_names.specs.order.NameOrder.{is_same};
-ghost use Rattle.dir_tree.specs.remove.Removals.{IsReplaceable};
+ghost use Rattle.dn_names.specs.NameOrder.{is_same};
+ghost use Rattle.dir_tree.specs.Removals.{IsReplaceable};
 ghost use Rattle.dir_tree.specs.Refusals.{is_elsewhere};
 
 use crate::entry::Entry;

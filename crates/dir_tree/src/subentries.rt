@@ -1,7 +1,7 @@
 //! The numbers of the access control subentries, kept in the order of the names.
 
 ghost use Rattle.std.specs.Prelude.{◌≡◌, ◌<◌, ◌≤◌, not, ◌==◌, true, length, IfOk, OnErr, OnOk, vec_len, vec_capacity};
-ghost use Rattle.dir_tree.specs.subentries.Points.{is_access_subentry};
+ghost use Rattle.dir_tree.specs.Points.{is_access_subentry};
 ghost use Rattle.dir_tree.specs.tree.Trees.{is_before};
 ghost use Rattle.dir_tree.specs.slots.Slots.{slot_of, entry_in, numbers_in, place_among, listed_in, unlisted};
 

@@ -27,7 +27,7 @@ impl Model for Tree {
     ghost use Rattle.std.specs.BTreeMap.{values};
     ghost use Rattle.dir_tree.specs.tree.Numbered.{Numbered};
     ghost use Rattle.dir_tree.specs.slots.Slots.{rows_of, numbers_in};
-    ghost use Rattle.dir_tree.specs.paths.Maps.{IsMapped};
+    ghost use Rattle.dir_tree.specs.Maps.{IsMapped};
 
     ghost Value = { List Numbered };
 

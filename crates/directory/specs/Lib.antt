@@ -2,6 +2,6 @@
 pub mod Asking
 pub mod Targets
 -- for the inside of the crate alone
-pub mod hiding
+pub mod Nearest
 -- the words of crates below, handed on
 pub use Rattle.aci_lists.specs as aci_lists

@@ -5,7 +5,7 @@ ghost use Rattle.std.specs.Option.{option_map};
 ghost use Rattle.dir_tree.specs.tree.Trees.{named_in};
 ghost use Rattle.dir_tree.specs.tree.Numbered.{entry_of, entries_of};
 ghost use Rattle.acdf_filters.specs.Asking.{protected_of};
-ghost use Rattle.acdf_filters.specs.laws.Granted.{granted};
+ghost use Rattle.acdf_filters.specs.Granted.{granted};
 ghost use Rattle.directory.specs.Asking.{Knows, knows-prop};
 
 use acdf_filters::aci_item::Permission;

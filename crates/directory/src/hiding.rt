@@ -3,7 +3,7 @@
 ghost use Rattle.std.specs.Prelude.{◌≡◌, IfOk};
 ghost use Rattle.read_model.specs.Views.{discloses, hidden, no_such_object};
 ghost use Rattle.directory.specs.Asking.{view_in};
-ghost use Rattle.directory.specs.hiding.Nearest.{without_object, nearest_name};
+ghost use Rattle.directory.specs.Nearest.{without_object, nearest_name};
 
 use crate::asking::{Asking, find_target};
 use crate::results::{result_of, result_with};

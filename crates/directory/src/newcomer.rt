@@ -4,7 +4,7 @@ ghost use Rattle.std.specs.Prelude.{◌≡◌, map, IfOk};
 ghost use Rattle.std.proofs.Props.{props};
 ghost use Rattle.dir_tree.specs.tree.Numbered.{entries_of};
 ghost use Rattle.acdf_filters.specs.Asking.{protected_of};
-ghost use Rattle.acdf_filters.specs.laws.Granted.{granted_new};
+ghost use Rattle.acdf_filters.specs.Granted.{granted_new};
 ghost use Rattle.aci_lists.specs.kept.Lists.{AreInForce};
 
 use crate::asking::Asking;

@@ -4,7 +4,7 @@ use Rattle.std.proofs.Common.{◌≡◌, ℕ, List, [], ◌∷◌, Some, None, r
 use Rattle.std.specs.Prelude.{codes}
 use Rattle.dn_names.specs.Classes.{class_of}
 use Rattle.dn_names.specs.Modes.{text_fault}
-use Rattle.dn_names.specs.octets.Reading.{parts_of, value_octets, pair_of, rdn_of, written_of}
+use Rattle.dn_names.specs.Reading.{parts_of, value_octets, pair_of, rdn_of, written_of}
 use Rattle.dn_names.specs.Printing.{print_value}
 use Rattle.dn_names.specs.value.Pieces.{octets_in, key_in, split_of}
 use Rattle.dn_names.specs.name.Names.{TypeAndValue}

@@ -1,6 +1,6 @@
 -- The states of reading a name's text, and the machine that they are.
 use Rattle.std.specs.Prelude.{ℕ, Bool, true, false, List, Option, Some, None, if◌then◌else◌}
-use Rattle.regular_text.specs.laws.Machine.{Machine, fault_at}
+use Rattle.regular_text.specs.Machine.{Machine, fault_at}
 use Rattle.dn_names.specs.declared.classes.Class.{Class}
 use Rattle.dn_names.specs.declared.classes.Class.TheVariants.{HexLetter, Letter, Zero, Digit, Dot, Space, Equals, Plus, Comma, Hash, Backslash, Mark, Nul}
 use Rattle.dn_names.specs.declared.modes.Mode.{Mode}

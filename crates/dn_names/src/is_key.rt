@@ -5,7 +5,7 @@ ghost use Rattle.std.specs.Option.{option_map};
 ghost use Rattle.dn_names.specs.name.Names.{rdns_of};
 ghost use Rattle.dn_names.specs.Printing.{print_octet, print_value, print_pair, print_rdn, shown_of, print_by, name_key};
 ghost use Rattle.dn_names.specs.declared.printing.Shown.TheVariants.{Key};
-ghost use Rattle.dn_names.specs.is_key.KeyReading.{strip};
+ghost use Rattle.dn_names.specs.KeyReading.{strip};
 
 use crate::name::{Dn, Pair, Rdn};
 use crate::printing::{is_escaped, type_name};

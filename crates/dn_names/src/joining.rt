@@ -4,7 +4,7 @@ ghost use Rattle.std.specs.Prelude.{◌≡◌, ◌++◌, ◌+◌, ◌<◌, ◌�
 ghost use Rattle.dn_names.specs.declared.error.BadName.TheVariants.{TooMany, NoMemory};
 ghost use Rattle.dn_names.specs.Limits.{most_rdns};
 ghost use Rattle.dn_names.specs.name.Names.{rdns_of};
-ghost use Rattle.dn_names.specs.order.NameOrder.{is_prefix_of};
+ghost use Rattle.dn_names.specs.NameOrder.{is_prefix_of};
 
 use crate::error::BadName;
 use crate::limits::MOST_RDNS;

@@ -6,7 +6,7 @@ ghost use Rattle.std.specs.Option.{option_map};
 ghost use Rattle.schema_tables.specs.Oids.{oid_of};
 ghost use Rattle.match_rules.specs.declared.errors.PrepareFault.TheVariants.{NotOfSyntax};
 ghost use Rattle.dn_names.specs.value.Values.{of_text, plain_key};
-ghost use Rattle.dn_names.specs.make.NameValues.{value_key};
+ghost use Rattle.dn_names.specs.NameValues.{value_key};
 
 use match_rules::{PrepareFault, Rule, is_own_key, prepare};
 use schema_tables::{Syntax, oid_of};

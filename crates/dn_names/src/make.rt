@@ -4,7 +4,7 @@ ghost use Rattle.std.specs.Prelude.{◌≡◌, ◌↔◌, Some, None, IfOk, IsEr
 ghost use Rattle.match_rules.specs.declared.errors.PrepareFault.TheVariants.{NotOfSyntax};
 ghost use Rattle.schema_tables.specs.Attributes.{IsAttrId};
 ghost use Rattle.dn_names.specs.parsing.NameText.{read_name};
-ghost use Rattle.dn_names.specs.make.NameValues.{read_key, value_key, value_of};
+ghost use Rattle.dn_names.specs.NameValues.{read_key, value_key, value_of};
 
 use crate::error::BadName;
 use crate::keys::{has_own_key, make_key};

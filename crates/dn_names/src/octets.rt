@@ -2,7 +2,7 @@
 
 ghost use Rattle.std.specs.Prelude.{◌≡◌, IfOk, IfSome};
 ghost use Rattle.dn_names.specs.Classes.{class_of, is_hex};
-ghost use Rattle.dn_names.specs.octets.Reading.{without_spaces, hex_value, piece_of, value_octets};
+ghost use Rattle.dn_names.specs.Reading.{without_spaces, hex_value, piece_of, value_octets};
 
 use crate::classes::{Class, classify};
 use plain_values::position_of;

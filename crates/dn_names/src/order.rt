@@ -1,7 +1,7 @@
 //! Which names are the same, which are prefixes, and which come first: by types and keys alone.
 
 ghost use Rattle.std.specs.Prelude.{◌≡◌, take};
-ghost use Rattle.dn_names.specs.order.NameOrder.{name_cmp, is_same, is_prefix_of};
+ghost use Rattle.dn_names.specs.NameOrder.{name_cmp, is_same, is_prefix_of};
 
 use crate::name::Dn;
 use std::cmp::Ordering;

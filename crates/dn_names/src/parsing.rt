@@ -4,9 +4,9 @@ ghost use Rattle.std.specs.Prelude.{◌≡◌, ◌≤◌, ◌<◌, ◌+◌, ◌^
 ghost use Rattle.dn_names.specs.Limits.{most_rdns};
 ghost use Rattle.dn_names.specs.name.Names.{rdns_of};
 ghost use Rattle.dn_names.specs.name.GoodNames.{IsGoodName};
-ghost use Rattle.dn_names.specs.octets.Reading.{rdn_of, parts_of, written_of};
-ghost use Rattle.dn_names.specs.resolve.Resolving.{rdn_from, rdns_from, from_root};
-ghost use Rattle.dn_names.specs.resolve.Resolving.{resolve, resolve_rdn};
+ghost use Rattle.dn_names.specs.Reading.{rdn_of, parts_of, written_of};
+ghost use Rattle.dn_names.specs.Resolving.{rdn_from, rdns_from, from_root};
+ghost use Rattle.dn_names.specs.Resolving.{resolve, resolve_rdn};
 ghost use Rattle.dn_names.specs.parsing.NameCause.{NameCause, cause_of};
 ghost use Rattle.plain_values.specs.Answers.{Answers};
 ghost use Rattle.dn_names.specs.parsing.NameText.{NameText, RdnText, read_name, read_rdn};

@@ -1,7 +1,7 @@
 //! The parts of a name's text: RDNs between commas, pairs between plus signs, a type and a value round `=`.
 
 ghost use Rattle.std.specs.Prelude.{◌≡◌, ◌≤◌, ◌<◌, ◌+◌, suc, false, [], ◌∷◌, length, MatchOption, IfSome};
-ghost use Rattle.dn_names.specs.octets.Reading.{is_mark, escapes_next, parts_of, marks_from, mark_from, is_blank, word_of, kind_size, value_octets, pair_of};
+ghost use Rattle.dn_names.specs.Reading.{is_mark, escapes_next, parts_of, marks_from, mark_from, is_blank, word_of, kind_size, value_octets, pair_of};
 
 use crate::octets::skip_spaces;
 

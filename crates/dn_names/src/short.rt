@@ -1,7 +1,7 @@
 //! The octets and the key of a value in one text, which takes no memory beside its own where it is short.
 
 ghost use Rattle.std.specs.Prelude.{◌≡◌, ◌↔◌, ◌≤◌, ◌<◌, ◌+◌, ◌++◌, true, length, take, IfOk, IsTrue};
-ghost use Rattle.dn_names.specs.short.Texts.{room, text_in, is_short};
+ghost use Rattle.dn_names.specs.Texts.{room, text_in, is_short};
 
 use std::alloc::{AllocError, Global};
 use std::marker::Model;
@@ -30,7 +30,7 @@ enum Form {
 }
 
 impl Model for Text {
-    ghost use Rattle.dn_names.specs.short.Texts.{SplitText, text_in};
+    ghost use Rattle.dn_names.specs.Texts.{SplitText, text_in};
 
     ghost Value = { SplitText };
 

@@ -8,14 +8,14 @@ use Rattle.dir_tree.specs.dn_names.Printing.{print_name}
 use Rattle.acdf_filters.specs.gser_tree.Writing.{text_of, print_string}
 use Rattle.dir_tree.specs.Entry.{EntryInformation}
 use Rattle.dir_tree.specs.tree.Trees.{named_in}
-use Rattle.acdf_filters.specs.admin_scope.subentries.InForce.{in_force}
+use Rattle.acdf_filters.specs.admin_scope.InForce.{in_force}
 use Rattle.acdf_filters.specs.aci_item.declared.permission.Permission.{Permission}
 use Rattle.acdf_filters.specs.declared.asking.Requester.{Requester}
 use Rattle.acdf_filters.specs.Asking.{Protected, Asked}
-use Rattle.acdf_filters.specs.laws.Filters.{Placed, level_1, level_2, level_3, level_4, level_5, level_6}
-use Rattle.acdf_filters.specs.laws.Granted.{placed_of, granted}
-use Rattle.question_words.specs.asked.Questions.{Question}
-use Rattle.acdf_core.specs.explaining.Explained.{Kept, kept_of}
+use Rattle.acdf_filters.specs.Filters.{Placed, level_1, level_2, level_3, level_4, level_5, level_6}
+use Rattle.acdf_filters.specs.Granted.{placed_of, granted}
+use Rattle.question_words.specs.Questions.{Question}
+use Rattle.acdf_core.specs.Explained.{Kept, kept_of}
 
 -- `subentry NAME`
 abbrev pub subentry_line : EntryInformation → List ℕ

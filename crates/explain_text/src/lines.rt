@@ -4,7 +4,7 @@ ghost use Rattle.std.specs.Prelude.{◌≡◌, ◌++◌, [], OnOk, codes, decima
 ghost use Rattle.std.specs.Option.{option_map_or};
 ghost use Rattle.dir_tree.specs.dn_names.Printing.{print_name};
 ghost use Rattle.dir_tree.specs.tree.Numbered.{entry_of, entries_at};
-ghost use Rattle.acdf_core.specs.explaining.Explained.{name_at, kept_at};
+ghost use Rattle.acdf_core.specs.Explained.{name_at, kept_at};
 ghost use Rattle.explain_text.specs.Texts.{subentry_line, count_line, effect, kept_line, outcome_line};
 
 use acdf_core::{Counts, KeptTuple};

@@ -4,7 +4,7 @@ ghost use Rattle.std.specs.Prelude.{◌≡◌, Some, IfOk, string_bytes};
 ghost use Rattle.dir_tree.specs.Entry.{EntryInformation};
 ghost use Rattle.dir_tree.specs.tree.Numbered.{entry_of, entries_of};
 ghost use Rattle.acdf_filters.specs.Asking.{protected_of};
-ghost use Rattle.question_words.specs.asked.Questions.{question_view};
+ghost use Rattle.question_words.specs.Questions.{question_view};
 ghost use Rattle.explain_text.specs.Texts.{entry_text, explained_text, text_explained};
 
 use crate::lines::{outcome_line, put_all_kept, put_counts, put_subentries};

@@ -6,18 +6,18 @@ use Prim.Native.String.{String}
 use Rattle.dir_tree.specs.schema_tables.Attributes.{attributes}
 use Rattle.dir_tree.specs.schema_tables.classes.Classes.{classes}
 use Rattle.dir_tree.specs.dn_names.name.Names.{Keyed}
-use Rattle.dir_tree.specs.dn_names.make.NameValues.{value_of}
+use Rattle.dir_tree.specs.dn_names.NameValues.{value_of}
 use Rattle.dir_tree.specs.match_rules.Keys.{key_of}
-use Rattle.dir_tree.specs.match_rules.rules.Syntaxes.{is_of}
+use Rattle.dir_tree.specs.match_rules.Syntaxes.{is_of}
 use Rattle.dir_tree.specs.Entry.{EntryInformation}
 use Rattle.ldap_filter.specs.filter.Filters.{Filter}
 use Rattle.ldap_filter.specs.filter.Filters.Filter.{And, Or, Not, Equal, Parts, AtLeast, Present, Extensible}
 use Rattle.ldap_filter.specs.filter.Filters.Filters.{Nil, Cons}
 use Rattle.filter_match.specs.declared.truth.Truth.TheVariants.{True, False, Undefined}
-use Rattle.filter_match.specs.matching.Substrings.{is_substring}
-use Rattle.filter_match.specs.prepared.Tests.{equal_test, order_test, parts_test, present_test, rule_of, test_of}
-use Rattle.filter_match.specs.prepared.Tests.Assertion.{HasKey, IsClass, IsAtLeast, IsAtMost}
-use Rattle.filter_match.specs.prepared.Tests.Test.{Nothing, IsThere, HasValue}
+use Rattle.filter_match.specs.Substrings.{is_substring}
+use Rattle.filter_match.specs.Tests.{equal_test, order_test, parts_test, present_test, rule_of, test_of}
+use Rattle.filter_match.specs.Tests.Assertion.{HasKey, IsClass, IsAtLeast, IsAtMost}
+use Rattle.filter_match.specs.Tests.Test.{Nothing, IsThere, HasValue}
 use Rattle.filter_match.specs.Truth.{Permits, matches, has_match, test_truth, truth}
 
 -- ---- what items ask

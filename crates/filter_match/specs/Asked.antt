@@ -4,9 +4,9 @@ use Rattle.filter_match.specs.declared.asked.Asks.{Asks}
 use Rattle.filter_match.specs.declared.asked.Asks.TheVariants as asks
 use Rattle.filter_match.specs.declared.asked.Asserted.{Asserted}
 use Rattle.filter_match.specs.declared.asked.Asserted.TheVariants as asserts
-use Rattle.filter_match.specs.prepared.Tests.{Assertion, Test}
-use Rattle.filter_match.specs.prepared.Tests.Assertion.{HasKey, IsClass, IsAtLeast, IsAtMost, HasParts}
-use Rattle.filter_match.specs.prepared.Tests.Test.{Nothing, IsThere, HasValue}
+use Rattle.filter_match.specs.Tests.{Assertion, Test}
+use Rattle.filter_match.specs.Tests.Assertion.{HasKey, IsClass, IsAtLeast, IsAtMost, HasParts}
+use Rattle.filter_match.specs.Tests.Test.{Nothing, IsThere, HasValue}
 
 -- what is asserted
 abbrev pub assertion_asked : Asserted → Assertion

@@ -7,16 +7,16 @@ use Rattle.std.specs.Cmp.Lexicographic.{slice_cmp}
 use Rattle.std.specs.Ordering.{nat_cmp, is_ge, is_le}
 use Rattle.dir_tree.specs.dn_names.name.Names.{Keyed}
 use Rattle.dir_tree.specs.Entry.{EntryInformation, values_of, has_kind}
-use Rattle.dir_tree.specs.classes.EntryClasses.{oids_of_listed}
+use Rattle.dir_tree.specs.EntryClasses.{oids_of_listed}
 use Rattle.ldap_filter.specs.filter.Filters.{Filter, Filters}
 use Rattle.ldap_filter.specs.filter.Filters.Filter.{And, Or, Not, Equal, Parts, AtLeast, AtMost, Present, Approx, Extensible}
 use Rattle.ldap_filter.specs.filter.Filters.Filters.{Nil, Cons}
 use Rattle.filter_match.specs.declared.truth.Truth.{Truth}
 use Rattle.filter_match.specs.declared.truth.Truth.TheVariants.{True, False, Undefined}
-use Rattle.filter_match.specs.matching.Substrings.{is_substring}
-use Rattle.filter_match.specs.prepared.Tests.{Assertion, Test, test_of}
-use Rattle.filter_match.specs.prepared.Tests.Assertion.{HasKey, IsClass, IsAtLeast, IsAtMost, HasParts}
-use Rattle.filter_match.specs.prepared.Tests.Test.{Nothing, IsThere, HasValue}
+use Rattle.filter_match.specs.Substrings.{is_substring}
+use Rattle.filter_match.specs.Tests.{Assertion, Test, test_of}
+use Rattle.filter_match.specs.Tests.Assertion.{HasKey, IsClass, IsAtLeast, IsAtMost, HasParts}
+use Rattle.filter_match.specs.Tests.Test.{Nothing, IsThere, HasValue}
 
 -- whether FilterMatch is granted on the type of a number, and on a value of it
 pub record Permits : Type 0 where

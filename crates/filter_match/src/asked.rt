@@ -1,7 +1,7 @@
 //! What the items of a filter ask, prepared.
 
 ghost use Rattle.std.specs.Prelude.{◌≡◌};
-ghost use Rattle.filter_match.specs.prepared.Tests.Test.{Nothing};
+ghost use Rattle.filter_match.specs.Tests.Test.{Nothing};
 
 use dir_tree::dn_names::Value;
 use dir_tree::schema_tables::AttrId;
@@ -40,7 +40,7 @@ pub(crate) enum Asserted {
 }
 
 impl Model for Test {
-    ghost use Rattle.filter_match.specs.prepared.Tests as tests;
+    ghost use Rattle.filter_match.specs.Tests as tests;
 
     ghost Value = { tests.Test };
 

@@ -1,7 +1,7 @@
 //! Filters evaluated over entries.
 
 ghost use Rattle.std.specs.Prelude.{◌≡◌, true};
-ghost use Rattle.filter_match.specs.evaluating.Judging.{judged, possible};
+ghost use Rattle.filter_match.specs.Judging.{judged, possible};
 ghost use Rattle.filter_match.specs.Truth.{truth, is_true};
 ghost use Rattle.filter_match.specs.walk.Walks.{answer};
 

@@ -1,7 +1,7 @@
 //! Items answered by the entry and by permission.
 
 ghost use Rattle.std.specs.Prelude.{◌≡◌};
-ghost use Rattle.filter_match.specs.evaluating.Judging.{exact};
+ghost use Rattle.filter_match.specs.Judging.{exact};
 ghost use Rattle.filter_match.specs.Truth.{if_permitted, test_truth};
 ghost use Rattle.filter_match.specs.walk.Walks.{answer};
 

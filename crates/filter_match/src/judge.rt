@@ -1,7 +1,7 @@
 //! Who answers for items.
 
 ghost use Rattle.std.specs.Prelude.{◌≡◌, Bool};
-ghost use Rattle.filter_match.specs.prepared.Tests as items;
+ghost use Rattle.filter_match.specs.Tests as items;
 
 use crate::asked::Test;
 use crate::question::Question;

@@ -2,7 +2,7 @@
 
 ghost use Rattle.std.specs.Prelude.{◌≡◌, ◌↔◌, ℕ, List, true};
 ghost use Rattle.dir_tree.specs.match_rules.substrings.Substrings.{IsSubstring};
-ghost use Rattle.filter_match.specs.matching.Substrings.{is_substring};
+ghost use Rattle.filter_match.specs.Substrings.{is_substring};
 
 /// The test by cuts is true exactly where the key has the parts (RFC 4511 4.5.1.7.2).
 pub fn substrings_are_cuts()

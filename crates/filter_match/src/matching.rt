@@ -4,10 +4,10 @@ ghost use Rattle.std.specs.Prelude.{◌≡◌, ◌&&◌, map};
 ghost use Rattle.std.specs.List.{list_any};
 ghost use Rattle.std.specs.Str.{bytes_eq};
 ghost use Rattle.dir_tree.specs.Entry.{values_of};
-ghost use Rattle.dir_tree.specs.classes.EntryClasses.{own_oid, oids_of, oids_of_listed};
+ghost use Rattle.dir_tree.specs.EntryClasses.{own_oid, oids_of, oids_of_listed};
 ghost use Rattle.filter_match.specs.Asked.{assertion_asked};
-ghost use Rattle.filter_match.specs.evaluating.Judging.{has_value};
-ghost use Rattle.filter_match.specs.matching.Substrings.{is_substring};
+ghost use Rattle.filter_match.specs.Judging.{has_value};
+ghost use Rattle.filter_match.specs.Substrings.{is_substring};
 ghost use Rattle.filter_match.specs.Truth.{matches, has_match};
 
 use crate::allow::Allow;

@@ -1,7 +1,7 @@
 //! Items answered by the entry alone.
 
 ghost use Rattle.std.specs.Prelude.{◌≡◌};
-ghost use Rattle.filter_match.specs.evaluating.Judging.{possible, has_possible};
+ghost use Rattle.filter_match.specs.Judging.{possible, has_possible};
 
 use crate::asked::{Asks, Test};
 use crate::judge::Judge;

@@ -2,7 +2,7 @@
 
 ghost use Rattle.std.specs.Prelude.{◌≡◌, ◌++◌, ◌∷◌, [], IfOk, OnOk};
 ghost use Rattle.ldap_filter.specs.filter.Nodes.{filter_of_node};
-ghost use Rattle.filter_match.specs.prepared.Tests.{test_of};
+ghost use Rattle.filter_match.specs.Tests.{test_of};
 ghost use Rattle.filter_match.specs.walk.Walks.{tests_of};
 
 use crate::asked::Test;

@@ -4,10 +4,10 @@ ghost use Rattle.std.specs.Prelude.{◌≡◌, Option, Some, None, [], ◌∷◌
 ghost use Rattle.dir_tree.specs.match_rules.Keys.{key_of};
 ghost use Rattle.dir_tree.specs.match_rules.Parts.{part_key_of};
 ghost use Rattle.dir_tree.specs.schema_tables.Attributes.{IsAttrId, attr_of};
-ghost use Rattle.dir_tree.specs.dn_names.make.NameValues.{value_of};
-ghost use Rattle.filter_match.specs.prepared.Tests as tests;
-ghost use Rattle.filter_match.specs.prepared.Tests.{rule_of, equality, equal_test, order_test, outer_key, middle_keys, parts_asserted, parts_test, present_test, test_of};
-ghost use Rattle.filter_match.specs.prepared.Tests.Test.{Nothing};
+ghost use Rattle.dir_tree.specs.dn_names.NameValues.{value_of};
+ghost use Rattle.filter_match.specs.Tests as tests;
+ghost use Rattle.filter_match.specs.Tests.{rule_of, equality, equal_test, order_test, outer_key, middle_keys, parts_asserted, parts_test, present_test, test_of};
+ghost use Rattle.filter_match.specs.Tests.Test.{Nothing};
 ghost use Rattle.filter_match.specs.Asked.{assertion_asked};
 ghost use Rattle.filter_match.specs.Preparing.{Gives};
 

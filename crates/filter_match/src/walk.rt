@@ -1,8 +1,8 @@
 //! The walk down a filter.
 
 ghost use Rattle.std.specs.Prelude.{◌≡◌, ◌∷◌, []};
-ghost use Rattle.filter_match.specs.evaluating.Judging.{judged};
-ghost use Rattle.filter_match.specs.prepared.Tests as items;
+ghost use Rattle.filter_match.specs.Judging.{judged};
+ghost use Rattle.filter_match.specs.Tests as items;
 ghost use Rattle.filter_match.specs.walk.Walks.{tests_of, Walks};
 
 use crate::asked::Test;

@@ -5,9 +5,9 @@ use Rattle.std.specs.Prelude as std
 use Rattle.gser_tree.specs.declared.marks.Class.TheVariants.{Letter, Other}
 use Rattle.gser_tree.specs.declared.token.Token.TheVariants as token
 use Rattle.gser_tree.specs.declared.marks.Mark.TheVariants.{Open, Close, Comma, Colon}
-use Rattle.gser_tree.specs.marks.Lexemes.{class_of, show, Quoted}
+use Rattle.gser_tree.specs.Lexemes.{class_of, show, Quoted}
 use Rattle.gser_tree.specs.looking.Shapes.{Shape, Word, Braces, Named, Chosen, None, Some, tokens_of, nest}
-use Rattle.gser_tree.specs.part.TextOf.{part_at}
+use Rattle.gser_tree.specs.TextOf.{part_at}
 use Rattle.gser_tree.specs.Growing.{grow, value_of}
 use Rattle.gser_tree.specs.Reading.{is_number, at_most, noted}
 use Rattle.gser_tree.specs.Writing.{text_of, print_word, print_string, print_component, print_choice, print_braces, print_optional, print_flag, print_filled}

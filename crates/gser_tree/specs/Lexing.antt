@@ -9,8 +9,8 @@ use Rattle.gser_tree.specs.declared.token.Token.{Token}
 use Rattle.gser_tree.specs.declared.token.Token.TheVariants as token
 use Rattle.gser_tree.specs.declared.lexing.Mode.{Mode}
 use Rattle.gser_tree.specs.declared.lexing.Mode.TheVariants.{Between, InWord, InString, AfterQuote}
-use Rattle.gser_tree.specs.marks.Lexemes.{class_of}
-use Rattle.gser_tree.specs.part.TextOf.{part_at}
+use Rattle.gser_tree.specs.Lexemes.{class_of}
+use Rattle.gser_tree.specs.TextOf.{part_at}
 
 -- the tokens that an octet ends, and where reading stands behind it
 pub record Step : Type 0 where

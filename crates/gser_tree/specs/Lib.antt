@@ -1,8 +1,8 @@
 -- what public clauses cite
-pub mod marks
+pub mod Lexemes
 pub mod looking
 pub mod Tree
-pub mod part
+pub mod TextOf
 pub mod Reading
 pub mod Writing
 -- for the inside of the crate alone

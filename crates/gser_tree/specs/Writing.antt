@@ -2,7 +2,7 @@
 -- is no member.
 use Rattle.std.specs.Prelude.{◌≡◌, ℕ, Bool, true, false, List, [], ◌∷◌, ◌++◌, Option, Some, None, codes, flat_map, decimal, if◌then◌else◌}
 use Rattle.gser_tree.specs.declared.marks.Mark.TheVariants.{Open, Close, Comma, Colon}
-use Rattle.gser_tree.specs.marks.Lexemes.{Lexeme, Space, Marked, Word, Quoted, show}
+use Rattle.gser_tree.specs.Lexemes.{Lexeme, Space, Marked, Word, Quoted, show}
 
 -- the octets of lexemes
 abbrev pub text_of : List Lexeme → List ℕ

@@ -2,7 +2,7 @@
 
 ghost use Rattle.std.specs.Prelude.{◌≡◌, ◌==◌, ◌≤◌, ◌<◌, ◌^◌, [], List, IfOk, IfSome, Some, map, length, option_map};
 ghost use Rattle.gser_tree.specs.looking.Shapes.{Shape, nest};
-ghost use Rattle.gser_tree.specs.part.TextOf.{IsTextOf};
+ghost use Rattle.gser_tree.specs.TextOf.{IsTextOf};
 ghost use Rattle.gser_tree.specs.Growing.{tree_of};
 ghost use Rattle.gser_tree.specs.Tree.{shape_of, behind_of};
 ghost use Rattle.gser_tree.specs.looking.Looking.{members_in, word_in, string_in, named_in, chosen_in, Behind, component, is_null, flag};

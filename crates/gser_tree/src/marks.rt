@@ -1,7 +1,7 @@
 //! The octets that the encoding rules tell apart.
 
 ghost use Rattle.std.specs.Prelude.{◌≡◌};
-ghost use Rattle.gser_tree.specs.marks.Lexemes.{class_of};
+ghost use Rattle.gser_tree.specs.Lexemes.{class_of};
 
 /// A mark between words and strings.
 #[derive(Clone, Copy)]

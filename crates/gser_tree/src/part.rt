@@ -2,7 +2,7 @@
 
 ghost use Rattle.std.specs.Prelude.{◌≡◌, ◌++◌, [], ◌∷◌, IfOk, OnOk, Some, None, if◌then◌else◌};
 ghost use Rattle.std.specs.Str.{is_utf8};
-ghost use Rattle.gser_tree.specs.part.TextOf.{part_at};
+ghost use Rattle.gser_tree.specs.TextOf.{part_at};
 ghost use Rattle.gser_tree.specs.Lexing.{more};
 
 use plain_values::Text;

@@ -1,7 +1,7 @@
 -- An attribute's type and a value that is asserted of it (RFC 4511 4.1.6).
 use Rattle.std.specs.Prelude.{ℕ, List}
-use Rattle.ber_layout.specs.laid.Layouts.{Layout, Value}
-use Rattle.ber_layout.specs.laid.Layouts.Layout.{AnyOctets, End, Then}
+use Rattle.ber_layout.specs.Layouts.{Layout, Value}
+use Rattle.ber_layout.specs.Layouts.Layout.{AnyOctets, End, Then}
 use Rattle.ldap_filter.specs.declared.assertion.Assertion.{Assertion}
 
 -- AttributeValueAssertion ::= SEQUENCE { attributeDesc AttributeDescription, assertionValue AssertionValue }

@@ -2,4 +2,4 @@
 pub mod Assertion
 pub mod filter
 pub mod reading
-pub mod writing
+pub mod FilterSpelling

@@ -2,8 +2,8 @@
 
 ghost use Rattle.std.specs.Prelude.{◌≡◌, ◌++◌, OnOk};
 ghost use Rattle.ber_elements.specs.write.Element.{IsTag};
-ghost use Rattle.ber_layout.specs.laid.Layouts.{writes};
-ghost use Rattle.ber_layout.specs.write.Spellings.{Extends, element_octets};
+ghost use Rattle.ber_layout.specs.Layouts.{writes};
+ghost use Rattle.ber_layout.specs.Spellings.{Extends, element_octets};
 ghost use Rattle.ldap_filter.specs.Assertion.{assertion_layout};
 
 use ber_layout::{Laid, NoMemory, ReadFault, enclose, put_element, required};

@@ -1,11 +1,11 @@
 //! Laws over the definitions: each function's clauses are the laws, and its body does nothing.
 
 ghost use Rattle.std.specs.Prelude.{◌≡◌, ℕ, ◌≤◌, List, Some};
-ghost use Rattle.ber_layout.specs.laid.Layouts.{IsShort};
+ghost use Rattle.ber_layout.specs.Layouts.{IsShort};
 ghost use Rattle.ldap_filter.specs.filter.Filters.{Filter, depth};
 ghost use Rattle.ldap_filter.specs.reading.FilterLayouts.{IsFilter, SaysFilter, most_deep};
 ghost use Rattle.ldap_filter.specs.reading.FilterReading.{filter_of};
-ghost use Rattle.ldap_filter.specs.writing.FilterSpelling.{filter_content, filter_octets, HasParts};
+ghost use Rattle.ldap_filter.specs.FilterSpelling.{filter_content, filter_octets, HasParts};
 
 /// What is computed of an element's tag and content is the filter that they say.
 pub fn filters_are_read()

@@ -1,7 +1,7 @@
 //! Filters read where they lie; only the fields' octets are copied.
 
 ghost use Rattle.std.specs.Prelude.{◌≡◌, ◌++◌, ◌∷◌, [], OnOk, IfOk, Some, None};
-ghost use Rattle.ber_layout.specs.laid.Layouts.{reads};
+ghost use Rattle.ber_layout.specs.Layouts.{reads};
 ghost use Rattle.ber_layout.specs.element.Reading.{Gives};
 ghost use Rattle.ldap_filter.specs.filter.Filters.Filter.{Not, Equal, AtLeast, AtMost, Present, Approx, Extensible};
 ghost use Rattle.ldap_filter.specs.filter.Filters.{filters_of};

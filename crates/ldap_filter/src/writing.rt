@@ -2,11 +2,11 @@
 
 ghost use Rattle.std.specs.Prelude.{◌≡◌, ◌++◌, OnOk, List, ℕ, Option};
 ghost use Rattle.ber_elements.specs.write.Element.{IsTag};
-ghost use Rattle.ber_layout.specs.laid.Layouts.{writes};
-ghost use Rattle.ber_layout.specs.write.Spellings.{Extends, element_octets};
+ghost use Rattle.ber_layout.specs.Layouts.{writes};
+ghost use Rattle.ber_layout.specs.Spellings.{Extends, element_octets};
 ghost use Rattle.ldap_filter.specs.filter.Nodes.{filter_of_node};
 ghost use Rattle.ldap_filter.specs.reading.FilterLayouts.{substrings_layout, parts_layout};
-ghost use Rattle.ldap_filter.specs.writing.FilterSpelling.{filter_tag, filter_content, filter_octets};
+ghost use Rattle.ldap_filter.specs.FilterSpelling.{filter_tag, filter_content, filter_octets};
 
 use crate::assertion::put_pair;
 use crate::filter::{Filter, Node};

@@ -1,7 +1,7 @@
 -- An attribute's type and values, and a change of one (RFC 4511 4.1.7, 4.6).
 use Rattle.std.specs.Prelude.{ℕ, List}
-use Rattle.ber_layout.specs.laid.Layouts.{Layout, Value}
-use Rattle.ber_layout.specs.laid.Layouts.Layout.{AnyOctets, Number, End, Then, Each}
+use Rattle.ber_layout.specs.Layouts.{Layout, Value}
+use Rattle.ber_layout.specs.Layouts.Layout.{AnyOctets, Number, End, Then, Each}
 use Rattle.ldap_msg.specs.declared.kinds.KindValues.{KindValues}
 use Rattle.ldap_msg.specs.declared.kinds.Change.{Change}
 

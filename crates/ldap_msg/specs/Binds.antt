@@ -2,8 +2,8 @@
 use Rattle.std.specs.Prelude.{◌≡◌, ◌≢◌, ℕ, List, [], Option, Some, ◌==◌, if◌then◌else◌}
 use Rattle.ber_elements.specs.write.Element.{IsTag}
 use Rattle.ber_layout.specs.element.Pieces.{◌>>=◌}
-use Rattle.ber_layout.specs.laid.Layouts.{Layout, Value, reads}
-use Rattle.ber_layout.specs.laid.Layouts.Layout.{AnyOctets, Number, Further, AnyElement, Then}
+use Rattle.ber_layout.specs.Layouts.{Layout, Value, reads}
+use Rattle.ber_layout.specs.Layouts.Layout.{AnyOctets, Number, Further, AnyElement, Then}
 use Rattle.ldap_msg.specs.declared.kinds.Auth.{Auth}
 use Rattle.ldap_msg.specs.declared.kinds.Auth.TheVariants.{Simple, Other}
 use Rattle.ldap_msg.specs.declared.kinds.BindRequest.{BindRequest}

@@ -1,7 +1,7 @@
 -- Controls (RFC 4511 4.1.11).
 use Rattle.std.specs.Prelude.{ℕ, Bool, List, [], ◌∷◌, map, Option, Some, None}
-use Rattle.ber_layout.specs.laid.Layouts.{Layout, Value}
-use Rattle.ber_layout.specs.laid.Layouts.Layout.{AnyOctets, End, Then, Maybe, Marked, Each}
+use Rattle.ber_layout.specs.Layouts.{Layout, Value}
+use Rattle.ber_layout.specs.Layouts.Layout.{AnyOctets, End, Then, Maybe, Marked, Each}
 use Rattle.ldap_msg.specs.declared.kinds.Control.{Control}
 
 -- Control ::= SEQUENCE { controlType LDAPOID, criticality BOOLEAN DEFAULT FALSE, controlValue OCTET STRING OPTIONAL }

@@ -1,7 +1,7 @@
 -- The other requests (RFC 4511 4.3 to 4.12): each has a layout, its parts, and the request of such parts.
 use Rattle.std.specs.Prelude.{ℕ, Bool, List, map, Option}
-use Rattle.ber_layout.specs.laid.Layouts.{Layout, Value}
-use Rattle.ber_layout.specs.laid.Layouts.Layout.{AnyOctets, Number, Flag, End, Further, FurtherBut, Then, Maybe, Each}
+use Rattle.ber_layout.specs.Layouts.{Layout, Value}
+use Rattle.ber_layout.specs.Layouts.Layout.{AnyOctets, Number, Flag, End, Further, FurtherBut, Then, Maybe, Each}
 use Rattle.ldap_msg.specs.Attributes.{attribute_layout, attribute_parts, attribute_from, change_layout, change_parts, change_from}
 use Rattle.ldap_msg.specs.declared.kinds.ModifyRequest.{ModifyRequest}
 use Rattle.ldap_msg.specs.declared.kinds.AddRequest.{AddRequest}

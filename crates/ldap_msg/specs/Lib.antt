@@ -1,5 +1,5 @@
 -- what public clauses cite
-pub mod framing
+pub mod Streams
 pub mod operations
 pub mod Attributes
 pub mod Binds
@@ -9,7 +9,8 @@ pub mod Controls
 pub mod reading
 pub mod Results
 pub mod Replies
-pub mod laws
+pub mod Ranges
+pub mod Laws
 -- the words of crates below, handed on
 pub use Rattle.ldap_filter.specs as ldap_filter
 pub use Rattle.ber_layout.specs as ber_layout

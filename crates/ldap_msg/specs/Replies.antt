@@ -2,9 +2,9 @@
 use Rattle.std.specs.Prelude.{◌≡◌, ℕ, List, [], ◌∷◌, length, map, Option, Some, None, ◌==◌, if◌then◌else◌}
 use Rattle.ber_layout.specs.element.Pieces.{◌>>=◌}
 use Rattle.ber_layout.specs.components.Components.{Follows, required_of}
-use Rattle.ber_layout.specs.write.Spellings.{element_octets}
-use Rattle.ber_layout.specs.laid.Layouts.{Layout, Value, Says as SaysLayout, reads, writes}
-use Rattle.ber_layout.specs.laid.Layouts.Layout.{Number, FurtherBut, AnyElement, Then, Maybe}
+use Rattle.ber_layout.specs.Spellings.{element_octets}
+use Rattle.ber_layout.specs.Layouts.{Layout, Value, Says as SaysLayout, reads, writes}
+use Rattle.ber_layout.specs.Layouts.Layout.{Number, FurtherBut, AnyElement, Then, Maybe}
 use Rattle.ldap_msg.specs.declared.kinds.LdapResult.{LdapResult}
 use Rattle.ldap_msg.specs.declared.kinds.Reply.{Reply}
 use Rattle.ldap_msg.specs.declared.kinds.Reply.TheVariants as reply

@@ -1,7 +1,7 @@
 -- What responses hold: results, entries, and what an extended operation answers (RFC 4511 4.1.9, 4.5.2, 4.12).
 use Rattle.std.specs.Prelude.{ℕ, List, map, Option}
-use Rattle.ber_layout.specs.laid.Layouts.{Layout, Value}
-use Rattle.ber_layout.specs.laid.Layouts.Layout.{AnyOctets, Ignored, Number, End, Then, Maybe, Each}
+use Rattle.ber_layout.specs.Layouts.{Layout, Value}
+use Rattle.ber_layout.specs.Layouts.Layout.{AnyOctets, Ignored, Number, End, Then, Maybe, Each}
 use Rattle.ldap_msg.specs.declared.kinds.KindValues.{KindValues}
 use Rattle.ldap_msg.specs.declared.kinds.LdapResult.{LdapResult}
 use Rattle.ldap_msg.specs.Attributes.{attribute_layout, attribute_parts}

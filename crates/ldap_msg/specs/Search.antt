@@ -1,12 +1,12 @@
 -- Search requests (RFC 4511 4.5.1).
 use Rattle.std.specs.Prelude.{◌≡◌, ℕ, Bool, List, Option, Some}
 use Rattle.ber_layout.specs.element.Pieces.{◌>>=◌}
-use Rattle.ber_layout.specs.laid.Layouts.{Layout, Value, Says as SaysLayout, reads}
-use Rattle.ber_layout.specs.laid.Layouts.Layout.{AnyOctets, Number, Skipped, Flag, End, Further, AnyElement, Then, Each}
+use Rattle.ber_layout.specs.Layouts.{Layout, Value, Says as SaysLayout, reads}
+use Rattle.ber_layout.specs.Layouts.Layout.{AnyOctets, Number, Skipped, Flag, End, Further, AnyElement, Then, Each}
 use Rattle.ldap_filter.specs.filter.Filters.{Filter}
 use Rattle.ldap_filter.specs.reading.FilterLayouts.{IsFilter}
 use Rattle.ldap_filter.specs.reading.FilterReading.{filter_of}
-use Rattle.ldap_filter.specs.writing.FilterSpelling.{filter_octets}
+use Rattle.ldap_filter.specs.FilterSpelling.{filter_octets}
 use Rattle.ldap_msg.specs.declared.kinds.SearchRequest.{SearchRequest}
 
 -- sizeLimit INTEGER (0 .. maxInt), timeLimit INTEGER (0 .. maxInt), typesOnly BOOLEAN, filter Filter, attributes

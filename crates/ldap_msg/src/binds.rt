@@ -1,9 +1,9 @@
 //! Bind requests (RFC 4511 4.2).
 
 ghost use Rattle.std.specs.Prelude.{◌≡◌, ◌++◌, OnOk, Some};
-ghost use Rattle.ber_layout.specs.laid.Layouts.{writes};
+ghost use Rattle.ber_layout.specs.Layouts.{writes};
 ghost use Rattle.ber_layout.specs.element.Reading.{Gives};
-ghost use Rattle.ber_layout.specs.write.Spellings.{Extends, element_octets};
+ghost use Rattle.ber_layout.specs.Spellings.{Extends, element_octets};
 ghost use Rattle.ldap_msg.specs.Binds.{bind_layout, bind_of, bind_parts, auth_from, auth_parts, HasTag};
 
 use crate::kinds::{Auth, BindRequest, NoMemory};

@@ -2,9 +2,9 @@
 
 ghost use Rattle.std.specs.Prelude.{◌≡◌, ◌++◌, OnOk, map, option_map};
 ghost use Rattle.ber_layout.specs.components.Components.{optional_of};
-ghost use Rattle.ber_layout.specs.laid.Layouts.{reads, writes};
+ghost use Rattle.ber_layout.specs.Layouts.{reads, writes};
 ghost use Rattle.ber_layout.specs.element.Reading.{Gives};
-ghost use Rattle.ber_layout.specs.write.Spellings.{Extends, optional_octets as optional_spelling};
+ghost use Rattle.ber_layout.specs.Spellings.{Extends, optional_octets as optional_spelling};
 ghost use Rattle.ldap_msg.specs.Controls.{controls_layout, controls_parts, control_parts};
 
 use crate::kinds::{Control, NoMemory};

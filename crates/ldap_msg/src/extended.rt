@@ -1,9 +1,9 @@
 //! Extended requests (RFC 4511 4.12).
 
 ghost use Rattle.std.specs.Prelude.{◌≡◌, ◌++◌, OnOk};
-ghost use Rattle.ber_layout.specs.laid.Layouts.{reads, writes};
+ghost use Rattle.ber_layout.specs.Layouts.{reads, writes};
 ghost use Rattle.ber_layout.specs.element.Reading.{Gives};
-ghost use Rattle.ber_layout.specs.write.Spellings.{Extends};
+ghost use Rattle.ber_layout.specs.Spellings.{Extends};
 ghost use Rattle.ldap_msg.specs.Kinds.{extended_layout};
 
 use crate::kinds::NoMemory;

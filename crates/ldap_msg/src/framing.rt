@@ -2,7 +2,7 @@
 
 ghost use Rattle.std.specs.Prelude.{◌≡◌};
 ghost use Rattle.ldap_msg.specs.declared.kinds.Frame.{Frame};
-ghost use Rattle.ldap_msg.specs.framing.Streams.{IsFrame, framed, frame_at};
+ghost use Rattle.ldap_msg.specs.Streams.{IsFrame, framed, frame_at};
 
 use crate::kinds::{Frame, MAX_CONTENT};
 use ber_elements::{Header, header};

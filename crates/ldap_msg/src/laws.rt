@@ -4,11 +4,11 @@ ghost use Rattle.std.specs.Prelude.{◌≡◌, ℕ, ◌<◌, true, false, List, 
 ghost use Rattle.ldap_msg.specs.declared.kinds.Frame.TheVariants.{Whole, More, Bad};
 ghost use Rattle.ldap_msg.specs.declared.kinds.Message.{Message};
 ghost use Rattle.ldap_msg.specs.declared.kinds.Reply.{Reply};
-ghost use Rattle.ldap_msg.specs.framing.Streams.{IsWhole, IsBroken, frame_at, whole, rest_of, is_broken};
+ghost use Rattle.ldap_msg.specs.Streams.{IsWhole, IsBroken, frame_at, whole, rest_of, is_broken};
 ghost use Rattle.ldap_msg.specs.reading.Messages.{Says, message_of, request_octets};
 ghost use Rattle.ldap_msg.specs.Replies.{Replies, reply_of, reply_octets};
-ghost use Rattle.ldap_msg.specs.laws.Ranges.{IsWritable, IsWritableReply};
-ghost use Rattle.ldap_msg.specs.laws.Laws.{GoesOn, IsDone, StepsOver, StopsAt, OnlyWhole};
+ghost use Rattle.ldap_msg.specs.Ranges.{IsWritable, IsWritableReply};
+ghost use Rattle.ldap_msg.specs.Laws.{GoesOn, IsDone, StepsOver, StopsAt, OnlyWhole};
 
 /// The messages of a stream are those of its front, and then those of its rest with what came.
 pub fn streams_go_on()

@@ -1,7 +1,7 @@
 //! The reply of a result with no matched name, written in one piece: most replies are one.
 
 ghost use Rattle.std.specs.Prelude.{◌≡◌, ◌<◌, ◌≤◌, ◌++◌, [], IfSome, OnOk, OnErr};
-ghost use Rattle.ber_layout.specs.laid.Layouts.{writes};
+ghost use Rattle.ber_layout.specs.Layouts.{writes};
 ghost use Rattle.ldap_msg.specs.Results.{result_layout};
 ghost use Rattle.ldap_msg.specs.Replies.{reply_content, reply_octets};
 

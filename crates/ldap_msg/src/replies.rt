@@ -2,9 +2,9 @@
 
 ghost use Rattle.std.specs.Prelude.{◌≡◌, ◌++◌, ℕ, IfOk, MatchResult, OnOk, OnErr, Some, None};
 ghost use Rattle.ber_layout.specs.declared.kinds.ReadFault.TheVariants.{NoMemory as no_memory};
-ghost use Rattle.ber_layout.specs.laid.Layouts.{reads, writes};
+ghost use Rattle.ber_layout.specs.Layouts.{reads, writes};
 ghost use Rattle.ber_layout.specs.element.Reading.{Gives};
-ghost use Rattle.ber_layout.specs.write.Spellings.{Extends, element_octets};
+ghost use Rattle.ber_layout.specs.Spellings.{Extends, element_octets};
 ghost use Rattle.ldap_msg.specs.declared.kinds.Reply.{Reply};
 ghost use Rattle.ldap_msg.specs.declared.operations.Response.TheVariants as response_is;
 ghost use Rattle.ldap_msg.specs.operations.Operations.{response_tag};

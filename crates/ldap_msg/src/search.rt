@@ -1,9 +1,9 @@
 //! Search requests (RFC 4511 4.5.1).
 
 ghost use Rattle.std.specs.Prelude.{◌≡◌, ◌++◌, OnOk};
-ghost use Rattle.ber_layout.specs.laid.Layouts.{writes};
+ghost use Rattle.ber_layout.specs.Layouts.{writes};
 ghost use Rattle.ber_layout.specs.element.Reading.{Gives};
-ghost use Rattle.ber_layout.specs.write.Spellings.{Extends};
+ghost use Rattle.ber_layout.specs.Spellings.{Extends};
 ghost use Rattle.ldap_msg.specs.Search.{search_layout, limits_layout, search_of, search_parts};
 
 use crate::kinds::{NoMemory, SearchRequest};

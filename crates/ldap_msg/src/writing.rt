@@ -1,8 +1,8 @@
 //! Requests written.
 
 ghost use Rattle.std.specs.Prelude.{◌≡◌, ◌++◌, OnOk, OnErr};
-ghost use Rattle.ber_layout.specs.laid.Layouts.{writes};
-ghost use Rattle.ber_layout.specs.write.Spellings.{Extends, element_octets};
+ghost use Rattle.ber_layout.specs.Layouts.{writes};
+ghost use Rattle.ber_layout.specs.Spellings.{Extends, element_octets};
 ghost use Rattle.ldap_msg.specs.operations.Operations.{request_tag};
 ghost use Rattle.ldap_msg.specs.reading.Contents.{operation_for, content_octets};
 ghost use Rattle.ldap_msg.specs.reading.Messages.{message_layout, message_parts, request_octets, HasOwnTag};

@@ -9,17 +9,17 @@ use Rattle.dir_tree.specs.schema_tables.classes.Classes.{classes}
 use Rattle.dir_tree.specs.schema_tables.roles.Roles.{roles}
 use Rattle.dir_tree.specs.schema_tables.Oids.{is_dotted_oid}
 use Rattle.dir_tree.specs.match_rules.Keys.{prepared_text, key_of}
-use Rattle.dir_tree.specs.match_rules.rules.Syntaxes.{is_of}
+use Rattle.dir_tree.specs.match_rules.Syntaxes.{is_of}
 use Rattle.dir_tree.specs.dn_names.name.Names.{Keyed, RdnSequence}
-use Rattle.dir_tree.specs.dn_names.make.NameValues.{value_of}
-use Rattle.dir_tree.specs.dn_names.resolve.Resolving.{naming_value, pair_meaning, resolve}
+use Rattle.dir_tree.specs.dn_names.NameValues.{value_of}
+use Rattle.dir_tree.specs.dn_names.Resolving.{naming_value, pair_meaning, resolve}
 use Rattle.dir_tree.specs.dn_names.parsing.NameText.{read_name}
 use Rattle.dir_tree.specs.dn_names.Modes.{text_fault}
 use Rattle.dir_tree.specs.dn_names.Classes.{class_of}
-use Rattle.dir_tree.specs.dn_names.octets.Reading.{written_of, rdn_of, parts_of, pair_of, value_octets}
+use Rattle.dir_tree.specs.dn_names.Reading.{written_of, rdn_of, parts_of, pair_of, value_octets}
 use Rattle.caseless.proofs.Computing.{caseless}
 use Rattle.dir_tree.specs.match_rules.Folding.{folded_octets}
-use Rattle.dir_tree.specs.dn_names.order.NameOrder.{name_cmp, is_same}
+use Rattle.dir_tree.specs.dn_names.NameOrder.{name_cmp, is_same}
 use Rattle.dir_tree.specs.Entry.{EntryInformation}
 use Rattle.ldif_records.specs.declared.types.RecordLine.{RecordLine}
 use Rattle.ldif_records.specs.lines.Lines.{logical, beginning, continued}

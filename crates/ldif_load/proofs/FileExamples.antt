@@ -3,11 +3,11 @@ use Rattle.std.proofs.Common.{◌≡◌, ℕ, [], ◌∷◌, ◌++◌, List, Ok,
 use Rattle.std.specs.Prelude.{codes, flat_map}
 use Prim.Native.String.{String}
 use Rattle.dir_tree.specs.dn_names.name.Names.{Keyed}
-use Rattle.dir_tree.specs.dn_names.order.NameOrder.{name_cmp, is_same}
+use Rattle.dir_tree.specs.dn_names.NameOrder.{name_cmp, is_same}
 use Rattle.dir_tree.specs.dn_names.Printing.{print_value, print_by, print_name}
 use Rattle.dir_tree.specs.Entry.{EntryInformation}
-use Rattle.dir_tree.specs.classes.EntryClasses.{has_class}
-use Rattle.dir_tree.specs.subentries.Points.{is_subentry, is_access_subentry}
+use Rattle.dir_tree.specs.EntryClasses.{has_class}
+use Rattle.dir_tree.specs.Points.{is_subentry, is_access_subentry}
 use Rattle.ldif_records.specs.lines.Lines.{logical, beginning, continued}
 use Rattle.ldif_records.specs.Fields.{is_kind, field_of, after_spaces, decoded, is_changetype, is_dn}
 use Rattle.ldif_records.specs.reading.Records.{without_comments, is_version, without_version, attribute_lines, record_of, records}

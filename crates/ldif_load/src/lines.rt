@@ -5,7 +5,7 @@ ghost use Rattle.dir_tree.specs.schema_tables.Attributes.{IsAttrId};
 ghost use Rattle.dir_tree.specs.dn_names.parsing.NameText.{read_name};
 ghost use Rattle.dir_tree.specs.plain_values.Answers.{Answers, IsFaultOf};
 ghost use Rattle.ldif_load.specs.load.Loading.{fault_of, named, loaded_value, with_new_kind, with_new_value, with_line, with_lines};
-ghost use Rattle.ldif_load.specs.lines.Steps.{value_or_fault};
+ghost use Rattle.ldif_load.specs.Steps.{value_or_fault};
 
 use crate::fault::{LoadCause, LoadFault, bad_at};
 use dir_tree::Entry;

@@ -7,7 +7,7 @@ ghost use Rattle.dir_tree.specs.tree.Trees.{most_entries, has_name, lacks_superi
 ghost use Rattle.dir_tree.specs.tree.Numbered.{entries_of, find_name};
 ghost use Rattle.dir_tree.specs.Refusals.{insert_refusal};
 ghost use Rattle.dir_tree.specs.Vacancy.{IsVacancy};
-ghost use Rattle.schema_rules.specs.check.Checking.{IsFor};
+ghost use Rattle.schema_rules.specs.Checking.{IsFor};
 ghost use Rattle.aci_item.specs.Rules.{broken_rule};
 ghost use Rattle.ldif_load.specs.load.Loading.{entry_of_record, ruled, placed, loaded_entry, IsLoaded, fault_of};
 ghost use Rattle.dir_tree.specs.plain_values.Answers.{Answers, IsFaultOf};

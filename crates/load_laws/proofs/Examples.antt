@@ -8,23 +8,23 @@ use Rattle.caseless.proofs.Computing.{caseless}
 use Prim.Native.String.{String}
 use Rattle.dir_tree.specs.match_rules.Folding.{folded_octets}
 use Rattle.dir_tree.specs.match_rules.Keys.{prepared_text, key_of}
-use Rattle.dir_tree.specs.match_rules.rules.Syntaxes.{is_of}
+use Rattle.dir_tree.specs.match_rules.Syntaxes.{is_of}
 use Rattle.dir_tree.specs.schema_tables.Attributes.{attributes}
 use Rattle.dir_tree.specs.schema_tables.classes.Classes.{classes}
 use Rattle.dir_tree.specs.dn_names.name.GoodNames.{IsGoodRdn}
 use Rattle.dir_tree.specs.dn_names.name.Names.{Keyed}
-use Rattle.dir_tree.specs.dn_names.order.NameOrder.{name_cmp, is_same}
-use Rattle.dir_tree.specs.dn_names.make.NameValues.{value_of}
-use Rattle.dir_tree.specs.dn_names.resolve.Resolving.{naming_value}
+use Rattle.dir_tree.specs.dn_names.NameOrder.{name_cmp, is_same}
+use Rattle.dir_tree.specs.dn_names.NameValues.{value_of}
+use Rattle.dir_tree.specs.dn_names.Resolving.{naming_value}
 use Rattle.dir_tree.specs.Entry.{EntryInformation, IsGoodAttribute}
-use Rattle.dir_tree.specs.classes.EntryClasses.{has_class}
-use Rattle.dir_tree.specs.subentries.Points.{is_subentry, is_access_subentry}
+use Rattle.dir_tree.specs.EntryClasses.{has_class}
+use Rattle.dir_tree.specs.Points.{is_subentry, is_access_subentry}
 use Rattle.dir_tree.specs.tree.Trees.{IsTree}
 use Rattle.ldif_load.specs.ldif_records.writing.WrittenFile.{written_file}
 use Rattle.aci_item.specs.Rules.{lacks_own_value, has_other_structural, breaks_classes, has_unread, has_two_values, is_misplaced, is_past_limits, broken_rule, MeetsRules, IsGoodTree}
 use Rattle.ldif_load.specs.load.Loading.{loaded_value}
 use Rattle.ldif_load.specs.load.DataFile.{loads}
-use Rattle.load_laws.specs.laws.Loadable.{IsLoadableValue, IsLoadable}
+use Rattle.load_laws.specs.Loadable.{IsLoadableValue, IsLoadable}
 use Rattle.load_laws.proofs.laws.OctetLemmas.{IsBytes-from_AreBelow, IsBytes-from_IsUtf8}
 use Rattle.load_laws.proofs.laws.ValueLemmas.{IsLoadableValue-loaded}
 use Rattle.load_laws.proofs.laws.LoadLemmas.{loads-written_file}

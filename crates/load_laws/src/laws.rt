@@ -8,7 +8,7 @@ ghost use Rattle.ldif_load.specs.ldif_records.writing.Written.{AreInTable};
 ghost use Rattle.ldif_load.specs.ldif_records.writing.WrittenFile.{written_file};
 ghost use Rattle.aci_item.specs.Rules.{AreGood, IsGoodTree};
 ghost use Rattle.ldif_load.specs.load.DataFile.{FileFault, loads};
-ghost use Rattle.load_laws.specs.laws.Loadable.{IsLoadable};
+ghost use Rattle.load_laws.specs.Loadable.{IsLoadable};
 
 /// What a data file of octets loads is a good tree (RFC 2849).
 pub fn what_is_loaded_is_good()

@@ -9,7 +9,7 @@ use Rattle.match_rules.specs.Folding.{folded_octets}
 use Rattle.match_rules.specs.Keys.{prepared_text, key_of}
 use Rattle.match_rules.specs.Parts.{prepared_part_text, part_key_of}
 use Rattle.match_rules.specs.substrings.Substrings.{IsSubstring}
-use Rattle.match_rules.specs.rules.Syntaxes.{is_of, is_part_of}
+use Rattle.match_rules.specs.Syntaxes.{is_of, is_part_of}
 
 -- what computes a key
 unfoldable computed : Unit {0}

@@ -7,7 +7,7 @@ use Rattle.match_rules.specs.declared.rules.Rule.{Rule}
 use Rattle.match_rules.specs.declared.rules.Rule.TheVariants.{Text, Ascii, Phone, Country, Octets}
 use Rattle.match_rules.specs.Folding.{folded_octets}
 use Rattle.match_rules.specs.Spaces.{is_space, cut_and_joined}
-use Rattle.match_rules.specs.rules.Syntaxes.{is_of}
+use Rattle.match_rules.specs.Syntaxes.{is_of}
 
 -- the octet separates groups of digits in a telephone number (RFC 4518, section 2.6.3): a space or a hyphen
 abbrev pub is_separator : ℕ → Bool

@@ -10,7 +10,7 @@ use Rattle.match_rules.specs.declared.rules.Rule.TheVariants.{Text, Ascii, Phone
 use Rattle.match_rules.specs.Keys.{without_separators, key_of}
 use Rattle.match_rules.specs.Parts.{part_key_of}
 use Rattle.match_rules.specs.Spaces.{cut_and_joined}
-use Rattle.match_rules.specs.rules.Syntaxes.{IsOf, IsPartOf}
+use Rattle.match_rules.specs.Syntaxes.{IsOf, IsPartOf}
 
 -- the text in small letters
 abbrev pub lower_case : List ℕ → List ℕ

@@ -1,10 +1,10 @@
 -- what the contracts of public functions cite
 pub mod Keys
 pub mod Laws
-pub mod own
+pub mod OwnKeys
 pub mod Parts
 pub mod substrings
-pub mod rules
+pub mod Syntaxes
 -- what those definitions are made of
 pub mod Folding
 pub mod Spaces

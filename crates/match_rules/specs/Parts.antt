@@ -7,7 +7,7 @@ use Rattle.match_rules.specs.declared.rules.Rule.TheVariants.{Text, Ascii, Phone
 use Rattle.match_rules.specs.Folding.{folded_octets}
 use Rattle.match_rules.specs.Keys.{without_separators}
 use Rattle.match_rules.specs.Spaces.{cut_front, cut_end, single_spaces}
-use Rattle.match_rules.specs.rules.Syntaxes.{is_part_of}
+use Rattle.match_rules.specs.Syntaxes.{is_part_of}
 
 -- a part without the spaces at the end that is an end of the value: no other end is cut
 abbrev pub cut_outer : Part → List ℕ → List ℕ

@@ -2,7 +2,7 @@
 
 ghost use Rattle.std.specs.Prelude.{◌≡◌, ◌↔◌, None, Some, IfOk, IsErrOf, IsUtf8};
 ghost use Rattle.match_rules.specs.Keys.{without_separators, prepared_text, prepared, key_of};
-ghost use Rattle.match_rules.specs.rules.Syntaxes.{IsOf};
+ghost use Rattle.match_rules.specs.Syntaxes.{IsOf};
 
 use crate::errors::PrepareFault;
 use crate::folding::fold_octets;

@@ -2,7 +2,7 @@
 
 ghost use Rattle.std.specs.Prelude.{◌≡◌, ◌≢◌, ◌↔◌, [], All, IsTrue, Some};
 ghost use Rattle.match_rules.specs.Keys.{key_of};
-ghost use Rattle.match_rules.specs.own.OwnKeys.{IsSmall, IsOwn};
+ghost use Rattle.match_rules.specs.OwnKeys.{IsSmall, IsOwn};
 
 use crate::rules::Rule;
 

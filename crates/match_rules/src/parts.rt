@@ -3,7 +3,7 @@
 ghost use Rattle.std.specs.Prelude.{◌≡◌, ◌↔◌, None, Some, IfOk, IsErrOf, IsUtf8};
 ghost use Rattle.match_rules.specs.Keys.{without_separators};
 ghost use Rattle.match_rules.specs.Parts.{cut_outer, prepared_part_text, prepared_part, part_key_of};
-ghost use Rattle.match_rules.specs.rules.Syntaxes.{IsPartOf};
+ghost use Rattle.match_rules.specs.Syntaxes.{IsPartOf};
 
 use crate::errors::PrepareFault;
 use crate::folding::fold_octets;

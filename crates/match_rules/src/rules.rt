@@ -1,7 +1,7 @@
 //! The rules, each with the syntax of its values.
 
 ghost use Rattle.std.specs.Prelude.{◌≢◌, ◌≤◌, ◌↔◌, [], All, IsTrue, IsAscii, IsUtf8};
-ghost use Rattle.match_rules.specs.rules.Syntaxes.{IsLetter, IsPrintable, IsOf, IsPartOf};
+ghost use Rattle.match_rules.specs.Syntaxes.{IsLetter, IsPrintable, IsOf, IsPartOf};
 
 use std::str;
 

@@ -1,7 +1,7 @@
 //! The link over the system's sockets.
 
 ghost use Rattle.std.specs.Prelude.{◌≡◌, IfOk};
-ghost use Rattle.mio_link.specs.link.SystemLink.{link_faults, lost_connections};
+ghost use Rattle.mio_link.specs.SystemLink.{link_faults, lost_connections};
 
 use crate::sockets::Sockets;
 use plain_values::raised;

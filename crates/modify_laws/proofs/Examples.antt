@@ -3,7 +3,7 @@ use Rattle.std.proofs.Common.{◌≡◌, true, false, [], ◌∷◌, refl}
 use Rattle.dir_tree.specs.dn_names.name.Names.{Keyed}
 use Rattle.entry_changes.specs.declared.kind.ChangeKind.TheVariants.{Add, Delete, Replace}
 use Rattle.entry_changes.specs.Change.{Asks}
-use Rattle.modify_laws.specs.laws.Changing.{MayDo}
+use Rattle.modify_laws.specs.Changing.{MayDo}
 
 -- one who may do everything, and one who may do nothing
 abbrev everything : Asks

@@ -11,7 +11,7 @@ ghost use Rattle.ldap_msg.specs.declared.kinds.LdapResult.{LdapResult};
 ghost use Rattle.op_add_delete.specs.adding.Updates.{IsChanged};
 ghost use Rattle.op_modify.specs.Modifying.{modified};
 ghost use Rattle.op_modify.specs.Renames.{renamed};
-ghost use Rattle.modify_laws.specs.laws.Granting.{MayModify, MayRename};
+ghost use Rattle.modify_laws.specs.Granting.{MayModify, MayRename};
 
 use entry_changes::laws::changes_keep_attributes_good;
 use op_add_delete::schema_rules::laws::a_tree_stays_good_in_place;

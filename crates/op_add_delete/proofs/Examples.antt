@@ -8,9 +8,9 @@ use Rattle.dir_tree.specs.schema_tables.classes.Classes.{classes}
 use Rattle.dir_tree.specs.schema_tables.roles.Roles.{roles}
 use Rattle.dir_tree.specs.schema_tables.Oids.{is_dotted_oid}
 use Rattle.dir_tree.specs.match_rules.Keys.{key_of}
-use Rattle.dir_tree.specs.match_rules.rules.Syntaxes.{is_of}
+use Rattle.dir_tree.specs.match_rules.Syntaxes.{is_of}
 use Rattle.dir_tree.specs.dn_names.name.Names.{Keyed, RdnSequence}
-use Rattle.dir_tree.specs.dn_names.make.NameValues.{value_of}
+use Rattle.dir_tree.specs.dn_names.NameValues.{value_of}
 use Rattle.dir_tree.specs.dn_names.declared.error.BadName.TheVariants.{TooMany}
 use Rattle.dir_tree.specs.Entry.{EntryInformation}
 use Rattle.ldif_load.specs.load.Loading.{with_pairs}

@@ -7,7 +7,7 @@ use Rattle.dir_tree.specs.tree.Trees.{has_below}
 use Rattle.acdf_filters.specs.aci_item.declared.permission.Permission.TheVariants.{Remove}
 use Rattle.acdf_filters.specs.declared.asking.Requester.{Requester}
 use Rattle.acdf_filters.specs.Asking.{Entry}
-use Rattle.acdf_filters.specs.laws.Granted.{granted}
+use Rattle.acdf_filters.specs.Granted.{granted}
 use Rattle.ldap_msg.specs.declared.operations.ResultCode.TheVariants as code
 use Rattle.ldap_msg.specs.declared.kinds.LdapResult.{LdapResult}
 use Rattle.read_model.specs.Views.{view_of, hidden, result_of}

@@ -7,7 +7,7 @@ ghost use Rattle.dir_tree.specs.tree.Numbered.{entry_of, entries_of};
 ghost use Rattle.acdf_filters.specs.aci_item.Rules.{broken_rule};
 ghost use Rattle.acdf_filters.specs.aci_item.declared.permission.Permission.TheVariants as permission;
 ghost use Rattle.acdf_filters.specs.Asking as protected;
-ghost use Rattle.acdf_filters.specs.laws.Granted.{granted_new};
+ghost use Rattle.acdf_filters.specs.Granted.{granted_new};
 ghost use Rattle.op_add_delete.specs.reading.NewEntries.{read_attributes};
 ghost use Rattle.op_add_delete.specs.adding.Adding.{there_already, taken_refusal, refuses_attribute, refuses_entry, rule_refusal, add_refusal};
 ghost use Rattle.op_add_delete.specs.adding.Updates.{IsChanged, unless, added_entry, added_named, added};

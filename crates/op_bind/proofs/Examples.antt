@@ -6,7 +6,7 @@ use Rattle.sha2.proofs.Facts256.{digest_of_abc_256}
 use Rattle.base64.specs.Rfc4648.{encode_symbols}
 use Rattle.dir_tree.specs.dn_names.name.Names.{RdnSequence}
 use Rattle.dir_tree.specs.dn_names.declared.error.BadName.TheVariants.{TooMany}
-use Rattle.dir_tree.specs.dn_names.order.NameOrder.{name_cmp, is_same}
+use Rattle.dir_tree.specs.dn_names.NameOrder.{name_cmp, is_same}
 use Rattle.dir_tree.specs.Entry.{EntryInformation}
 use Rattle.ldap_msg.specs.declared.operations.ResultCode.TheVariants.{Success, ProtocolError, AuthMethodNotSupported, InvalidDnSyntax, InvalidCredentials, UnwillingToPerform}
 use Rattle.ldap_msg.specs.declared.kinds.Auth.TheVariants.{Other}

@@ -2,10 +2,10 @@
 
 ghost use Rattle.std.specs.Prelude.{◌≡◌, false, List, IfOk};
 ghost use Rattle.dir_tree.specs.dn_names.name.Names.{RdnSequence};
-ghost use Rattle.dir_tree.specs.dn_names.order.NameOrder.{is_prefix_of};
+ghost use Rattle.dir_tree.specs.dn_names.NameOrder.{is_prefix_of};
 ghost use Rattle.dir_tree.specs.dn_names.parsing.NameText.{read_name};
 ghost use Rattle.dir_tree.specs.Entry.{EntryInformation};
-ghost use Rattle.acdf_filters.specs.admin_scope.point_list.Areas.{without_subtree};
+ghost use Rattle.acdf_filters.specs.admin_scope.Areas.{without_subtree};
 ghost use Rattle.ldap_msg.specs.declared.kinds.BindRequest.{BindRequest};
 ghost use Rattle.op_bind.specs.Binds.{bind_answer};
 

@@ -5,10 +5,10 @@ use Rattle.std.specs.Str.{is_utf8, chars}
 use lib.Utf8.{encode}
 use Rattle.dir_tree.specs.schema_tables.Attributes.{attributes}
 use Rattle.dir_tree.specs.match_rules.Keys.{key_of}
-use Rattle.dir_tree.specs.match_rules.rules.Syntaxes.{is_of}
+use Rattle.dir_tree.specs.match_rules.Syntaxes.{is_of}
 use Rattle.dir_tree.specs.dn_names.name.Names.{Keyed, RdnSequence}
-use Rattle.dir_tree.specs.dn_names.make.NameValues.{value_of}
-use Rattle.dir_tree.specs.dn_names.order.NameOrder.{name_cmp, is_same}
+use Rattle.dir_tree.specs.dn_names.NameValues.{value_of}
+use Rattle.dir_tree.specs.dn_names.NameOrder.{name_cmp, is_same}
 use Rattle.dir_tree.specs.dn_names.declared.error.BadName.TheVariants.{TooMany}
 use Rattle.dir_tree.specs.Entry.{EntryInformation}
 use Rattle.acdf_filters.specs.declared.asking.Requester.{Requester}
@@ -18,7 +18,7 @@ use Rattle.ldap_msg.specs.declared.kinds.Change.{Change}
 use Rattle.read_model.specs.Views.{result_of}
 use Rattle.op_add_delete.specs.reading.NewEntries.{read_values, repeats}
 use Rattle.op_add_delete.specs.adding.Updates.{refused}
-use Rattle.op_modify.specs.reading.ReadChanges.{is_no_change, change_of, read_each, read_changes}
+use Rattle.op_modify.specs.ReadChanges.{is_no_change, change_of, read_each, read_changes}
 use Rattle.op_modify.specs.Modifying.{modified_as, modified_named}
 use Rattle.op_modify.specs.Renames.{moves, is_unwilling, new_name, taken_refusal, other_named, renamed_by}
 

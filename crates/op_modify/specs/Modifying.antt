@@ -10,7 +10,7 @@ use Rattle.acdf_filters.specs.aci_item.Rules.{broken_rule}
 use Rattle.acdf_filters.specs.aci_item.declared.permission.Permission.TheVariants.{Modify}
 use Rattle.acdf_filters.specs.declared.asking.Requester.{Requester}
 use Rattle.acdf_filters.specs.Asking.{Entry}
-use Rattle.acdf_filters.specs.laws.Granted.{granted}
+use Rattle.acdf_filters.specs.Granted.{granted}
 use Rattle.entry_changes.specs.Change.{Modification, changed_by}
 use Rattle.ldap_msg.specs.declared.operations.ResultCode.{ResultCode}
 use Rattle.ldap_msg.specs.declared.operations.ResultCode.TheVariants as code
@@ -19,7 +19,7 @@ use Rattle.ldap_msg.specs.declared.kinds.ModifyRequest.{ModifyRequest}
 use Rattle.read_model.specs.Views.{view_of, hidden, result_of}
 use Rattle.op_add_delete.specs.adding.Adding.{rule_refusal}
 use Rattle.op_add_delete.specs.adding.Updates.{Changed, refused, unless}
-use Rattle.op_modify.specs.reading.ReadChanges.{read_changes}
+use Rattle.op_modify.specs.ReadChanges.{read_changes}
 
 -- the entry that the changes leave takes the target's place, unless it breaks a rule there
 abbrev pub modified_as : List EntryInformation → EntryInformation → Result EntryInformation ResultCode → Changed

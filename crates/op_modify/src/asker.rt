@@ -1,6 +1,6 @@
 //! What is asked of one entry.
 
-ghost use Rattle.op_modify.specs.asker.Asked.{granted_at};
+ghost use Rattle.op_modify.specs.Asked.{granted_at};
 
 use acdf_filters::Item;
 use acdf_filters::aci_item::Permission;

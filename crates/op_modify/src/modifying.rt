@@ -3,12 +3,12 @@
 ghost use Rattle.std.specs.Prelude.{◌≡◌, Some, Ok, IfOk, OnErr};
 ghost use Rattle.dir_tree.specs.tree.Trees.{named_in};
 ghost use Rattle.dir_tree.specs.tree.Numbered.{entry_of, entries_of};
-ghost use Rattle.acdf_filters.specs.laws.Granted.{granted};
+ghost use Rattle.acdf_filters.specs.Granted.{granted};
 ghost use Rattle.entry_changes.specs.Change.{changed_by};
 ghost use Rattle.op_add_delete.specs.adding.Updates.{IsChanged};
-ghost use Rattle.op_modify.specs.reading.ReadChanges.{read_changes};
+ghost use Rattle.op_modify.specs.ReadChanges.{read_changes};
 ghost use Rattle.op_modify.specs.Modifying.{modified_as, modified_target, modified_by, modified_named, modified};
-ghost use Rattle.op_modify.specs.replacing.Steps.{IsChecked};
+ghost use Rattle.op_modify.specs.Steps.{IsChecked};
 
 use crate::asker::EntryAsker;
 use crate::reading::read_changes;

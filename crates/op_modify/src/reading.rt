@@ -4,7 +4,7 @@ ghost use Rattle.std.specs.Prelude.{◌≡◌};
 ghost use Rattle.std.specs.List.{list_any};
 ghost use Rattle.ldap_msg.specs.plain_values.Answers.{Answers};
 ghost use Rattle.op_add_delete.specs.reading.Reading.{cause_of, attribute_of};
-ghost use Rattle.op_modify.specs.reading.ReadChanges.{is_no_change, change_of, change_with, read_change, read_each, read_changes};
+ghost use Rattle.op_modify.specs.ReadChanges.{is_no_change, change_of, change_with, read_change, read_each, read_changes};
 
 use entry_changes::{ChangeKind, EntryChange};
 use ldap_msg::{Change, ResultCode};

@@ -8,7 +8,7 @@ ghost use Rattle.ldap_msg.specs.plain_values.Refusals.{first_some};
 ghost use Rattle.entry_changes.specs.Renaming.{renamed_entry};
 ghost use Rattle.op_add_delete.specs.adding.Updates.{IsChanged};
 ghost use Rattle.op_modify.specs.Renames.{new_name, other_named, taken_refusal, renamed_as, renamed_target, renamed_by, renamed};
-ghost use Rattle.op_modify.specs.replacing.Steps.{IsChecked, target_rows, place_rows};
+ghost use Rattle.op_modify.specs.Steps.{IsChecked, target_rows, place_rows};
 
 use crate::renaming::{Renaming, is_unwilling, read_renaming};
 use crate::replacing::{Checked, make, rule_refusal};

@@ -7,7 +7,7 @@ ghost use Rattle.dir_tree.specs.tree.Numbered.{entry_of, entries_of};
 ghost use Rattle.acdf_filters.specs.aci_item.Rules.{broken_rule};
 ghost use Rattle.op_add_delete.specs.adding.Adding.{rule_refusal};
 ghost use Rattle.op_add_delete.specs.adding.Updates.{Changed, IsChanged};
-ghost use Rattle.op_modify.specs.replacing.Steps.{IsChecked};
+ghost use Rattle.op_modify.specs.Steps.{IsChecked};
 
 use dir_tree::{Entry, EntryNo, NoMemory, Tree};
 use ldap_msg::LdapResult;

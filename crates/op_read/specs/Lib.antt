@@ -1,9 +1,9 @@
 -- what public clauses cite
-pub mod comparing
+pub mod Alike
 -- for the inside of the crate alone
-pub mod seen
-pub mod choosing
-pub mod root_entry
+pub mod Seeing
+pub mod Choices
+pub mod Rooting
 pub mod Sending
 -- the words of crates below, handed on
 pub use Rattle.read_model.specs as read_model

@@ -13,7 +13,7 @@ use Rattle.read_model.specs.SearchReplies.{within_limit, limit_code, nothing_fou
 use Rattle.op_read.specs.declared.sending.Sent.{Sent}
 use Rattle.op_read.specs.declared.sending.Found.{Found}
 use Rattle.op_read.specs.declared.sending.Found.TheVariants.{Nothing, Some as FoundSome, TooMany}
-use Rattle.op_read.specs.seen.Seeing.{row_in, one_or_none}
+use Rattle.op_read.specs.Seeing.{row_in, one_or_none}
 
 -- there are some
 abbrev pub is_filled : View → Bool

@@ -6,8 +6,8 @@ ghost use Rattle.dir_tree.specs.schema_tables.Attributes.{is_operational, name_o
 ghost use Rattle.acdf_filters.specs.Asking as protected;
 ghost use Rattle.acdf_filters.specs.aci_item.declared.permission.Permission.TheVariants as permission;
 ghost use Rattle.read_model.specs.Choosing.{is_chosen_by, is_chosen, is_sent, readable_values, sent_attribute, sent_attributes, sent_entry};
-ghost use Rattle.op_read.specs.seen.Seeing.{row_in};
-ghost use Rattle.op_read.specs.choosing.Choices.{chooses, sent_of};
+ghost use Rattle.op_read.specs.Seeing.{row_in};
+ghost use Rattle.op_read.specs.Choices.{chooses, sent_of};
 
 use crate::seen::Seen;
 use acdf_filters::Item;

@@ -3,15 +3,15 @@
 ghost use Rattle.std.specs.Prelude.{◌≡◌, ◌&&◌, Some, None, IfOk, filter, []};
 ghost use Rattle.std.specs.Str.{bytes_eq};
 ghost use Rattle.dir_tree.specs.schema_tables.Attributes.{IsAttrId, attr_of};
-ghost use Rattle.dir_tree.specs.dn_names.make.NameValues.{value_of};
+ghost use Rattle.dir_tree.specs.dn_names.NameValues.{value_of};
 ghost use Rattle.dir_tree.specs.tree.Numbered.{entries_of};
 ghost use Rattle.acdf_filters.specs.Asking as protected;
 ghost use Rattle.acdf_filters.specs.aci_item.declared.permission.Permission.TheVariants as permission;
 ghost use Rattle.read_model.specs.Views.{view_of, result_of};
 ghost use Rattle.read_model.specs.CompareReplies.{has_equal, compared, readable, compared_in, compared_value, compared_kind, compare_result};
 ghost use Rattle.directory.specs.Asking.{view_in};
-ghost use Rattle.op_read.specs.comparing.Alike.{ComparesAlike};
-ghost use Rattle.op_read.specs.seen.Seeing.{row_in, rows_at};
+ghost use Rattle.op_read.specs.Alike.{ComparesAlike};
+ghost use Rattle.op_read.specs.Seeing.{row_in, rows_at};
 
 use crate::seen::Seen;
 use acdf_filters::aci_item::Permission;

@@ -6,7 +6,7 @@ ghost use Rattle.std.specs.Str.{bytes_eq};
 ghost use Rattle.dir_tree.specs.schema_tables.Naming.{is_same_name};
 ghost use Rattle.read_model.specs.RootEntry.{suffix_name, is_root_chosen_by, is_root_chosen, sent_root, root_entry, asks_for_root, finds_root};
 ghost use Rattle.directory.specs.Asking.{view_in};
-ghost use Rattle.op_read.specs.root_entry.Rooting.{root_of, root_sent_of, roots_with};
+ghost use Rattle.op_read.specs.Rooting.{root_of, root_sent_of, roots_with};
 
 use dir_tree::NoMemory;
 use dir_tree::schema_tables::{AttrId, attr_named};

@@ -2,14 +2,14 @@
 
 ghost use Rattle.std.specs.Prelude.{◌≡◌, ◌++◌, ◌∷◌, [], Some, Ok, OnOk, OnErr, if◌then◌else◌};
 ghost use Rattle.dir_tree.specs.tree.Numbered.{IsNumberedTree, entries_of, find_name};
-ghost use Rattle.ldap_msg.specs.ber_layout.write.Spellings.{Extends};
+ghost use Rattle.ldap_msg.specs.ber_layout.Spellings.{Extends};
 ghost use Rattle.ldap_msg.specs.declared.kinds.Reply.TheVariants as reply;
 ghost use Rattle.read_model.specs.Views.{view_of, hidden};
 ghost use Rattle.read_model.specs.Selecting.{selected};
 ghost use Rattle.read_model.specs.RootEntry.{finds_root, root_entry, root_replies};
 ghost use Rattle.read_model.specs.SearchReplies.{replies_octets, found_replies, replies_at, replies_by, search_replies};
 ghost use Rattle.directory.specs.Asking.{view_in};
-ghost use Rattle.op_read.specs.comparing.Alike.{SendsAlike};
+ghost use Rattle.op_read.specs.Alike.{SendsAlike};
 
 use crate::choosing::{Selection, read_choices};
 use crate::root_entry::{finds_root, root_entry};

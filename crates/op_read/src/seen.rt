@@ -5,7 +5,7 @@ ghost use Rattle.dir_tree.specs.tree.Numbered.{entry_of};
 ghost use Rattle.acdf_filters.specs.Asking.{protected_of};
 ghost use Rattle.read_model.specs.Selecting.{permits_of};
 ghost use Rattle.directory.specs.Asking.{Knows, knows-prop};
-ghost use Rattle.op_read.specs.seen.Seeing.{row_in};
+ghost use Rattle.op_read.specs.Seeing.{row_in};
 
 use acdf_filters::aci_item::Permission;
 use acdf_filters::{Item, Membership, Requester};

@@ -2,7 +2,7 @@
 
 ghost use Rattle.std.specs.Prelude.{◌≡◌};
 ghost use Rattle.read_model.specs.Selecting.{is_seen, is_found};
-ghost use Rattle.op_read.specs.seen.Seeing.{row_in, scope_of};
+ghost use Rattle.op_read.specs.Seeing.{row_in, scope_of};
 
 use crate::seen::Seen;
 use acdf_filters::Item;

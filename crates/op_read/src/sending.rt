@@ -3,14 +3,14 @@
 ghost use Rattle.std.specs.Prelude.{◌≡◌, ◌++◌, ◌∷◌, [], ℕ, IfOk, OnOk, filter};
 ghost use Rattle.std.specs.List.{list_any};
 ghost use Rattle.dir_tree.specs.Scope.{scoped};
-ghost use Rattle.ldap_msg.specs.ber_layout.write.Spellings.{Extends};
+ghost use Rattle.ldap_msg.specs.ber_layout.Spellings.{Extends};
 ghost use Rattle.ldap_msg.specs.declared.kinds.Reply.TheVariants as reply;
 ghost use Rattle.read_model.specs.Selecting.{is_shown};
 ghost use Rattle.read_model.specs.Choosing.{is_chosen};
 ghost use Rattle.read_model.specs.SearchReplies.{replies_octets, nothing_found};
 ghost use Rattle.directory.specs.Asking.{view_in};
-ghost use Rattle.op_read.specs.choosing.Choices.{chooses};
-ghost use Rattle.op_read.specs.seen.Seeing.{row_in, scope_of};
+ghost use Rattle.op_read.specs.Choices.{chooses};
+ghost use Rattle.op_read.specs.Seeing.{row_in, scope_of};
 ghost use Rattle.op_read.specs.Sending.{shown_at, shown_among, entry_octets, Goes, IsSent, ended_by};
 
 use crate::choosing::{Selection, sent_entry};

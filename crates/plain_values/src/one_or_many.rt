@@ -4,7 +4,7 @@ ghost use Rattle.std.specs.Prelude.{◌≡◌, ◌++◌, [], ◌∷◌, ◌==◌
 ghost use Rattle.std.specs.Mem.{FitsInMemory};
 ghost use Rattle.std.specs.Fn.{CalledAt};
 ghost use Rattle.std.specs.List.Retain.{IsFiltered};
-ghost use Rattle.plain_values.specs.one_or_many.Items.{items_in};
+ghost use Rattle.plain_values.specs.Items.{items_in};
 
 use std::alloc::{AllocError, Global};
 use std::marker::Model;
@@ -31,7 +31,7 @@ impl<T> Model for OneOrMany<T> {
 
     ghost coded = { coded_list T.code };
 
-    ghost use Rattle.plain_values.specs.one_or_many.Items.{items_in};
+    ghost use Rattle.plain_values.specs.Items.{items_in};
 
     ghost view = { λ items. items_in items.kept };
 }

@@ -3,18 +3,18 @@ use Rattle.std.proofs.Common.{◌≡◌, [], Some, None, refl}
 use Rattle.std.specs.Prelude.{codes}
 use Rattle.dir_tree.specs.schema_tables.Attributes.{attributes}
 use Rattle.dir_tree.specs.match_rules.Keys.{key_of}
-use Rattle.dir_tree.specs.match_rules.rules.Syntaxes.{is_of}
+use Rattle.dir_tree.specs.match_rules.Syntaxes.{is_of}
 use Rattle.dir_tree.specs.dn_names.Classes.{class_of}
 use Rattle.dir_tree.specs.dn_names.Modes.{text_fault}
 use Rattle.dir_tree.specs.dn_names.parsing.NameText.{read_name}
-use Rattle.dir_tree.specs.dn_names.make.NameValues.{value_of}
-use Rattle.dir_tree.specs.dn_names.octets.Reading.{written_of}
-use Rattle.dir_tree.specs.dn_names.resolve.Resolving.{resolve}
+use Rattle.dir_tree.specs.dn_names.NameValues.{value_of}
+use Rattle.dir_tree.specs.dn_names.Reading.{written_of}
+use Rattle.dir_tree.specs.dn_names.Resolving.{resolve}
 use Rattle.acdf_filters.specs.aci_item.declared.permission.Permission.TheVariants.{ReturnDn}
 use Rattle.acdf_filters.specs.Asking.{Entry, Kind, Value}
-use Rattle.question_words.specs.names.NameWords.{anonymous, who_of, target_of}
-use Rattle.question_words.specs.item.ItemWords.{kind_item, value_item, item_of}
-use Rattle.question_words.specs.permission.PermissionWords.{permission_of}
+use Rattle.question_words.specs.NameWords.{anonymous, who_of, target_of}
+use Rattle.question_words.specs.ItemWords.{kind_item, value_item, item_of}
+use Rattle.question_words.specs.PermissionWords.{permission_of}
 
 -- who asks: the word, the empty name, and a text that is no name
 nobody : who_of (codes "anonymous") ≡ Some anonymous

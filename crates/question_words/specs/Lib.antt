@@ -1,7 +1,7 @@
 -- what public clauses cite
-pub mod asked
+pub mod Questions
 pub mod Cutting
-pub mod names
-pub mod item
-pub mod permission
+pub mod NameWords
+pub mod ItemWords
+pub mod PermissionWords
 pub mod Reading

@@ -1,10 +1,10 @@
 -- The question that four words ask.
 use Rattle.std.specs.Prelude.{ℕ, List, Option, Some}
 use Rattle.dir_tree.specs.plain_values.Options.{◌>>=◌}
-use Rattle.question_words.specs.asked.Questions.{Question}
-use Rattle.question_words.specs.names.NameWords.{who_of, target_of}
-use Rattle.question_words.specs.item.ItemWords.{item_of}
-use Rattle.question_words.specs.permission.PermissionWords.{permission_of}
+use Rattle.question_words.specs.Questions.{Question}
+use Rattle.question_words.specs.NameWords.{who_of, target_of}
+use Rattle.question_words.specs.ItemWords.{item_of}
+use Rattle.question_words.specs.PermissionWords.{permission_of}
 
 -- each word says its part, or there is no question
 unfoldable pub question_of : List ℕ → List ℕ → List ℕ → List ℕ → Option Question

@@ -2,7 +2,7 @@
 
 ghost use Rattle.std.specs.Prelude.{◌≡◌};
 ghost use Rattle.acdf_filters.specs.Asking.{protected_of};
-ghost use Rattle.question_words.specs.asked.Questions.{item_asked};
+ghost use Rattle.question_words.specs.Questions.{item_asked};
 
 use acdf_filters::aci_item::Permission;
 use acdf_filters::{Item, Requester};

@@ -3,9 +3,9 @@
 ghost use Rattle.std.specs.Prelude.{◌≡◌, IfOk};
 ghost use Rattle.std.specs.Option.{option_map};
 ghost use Rattle.dir_tree.specs.schema_tables.Attributes.{IsAttrId};
-ghost use Rattle.dir_tree.specs.dn_names.make.NameValues.{value_of};
-ghost use Rattle.question_words.specs.asked.Questions.{item_asked};
-ghost use Rattle.question_words.specs.item.ItemWords.{item_of, kind_item, value_item};
+ghost use Rattle.dir_tree.specs.dn_names.NameValues.{value_of};
+ghost use Rattle.question_words.specs.Questions.{item_asked};
+ghost use Rattle.question_words.specs.ItemWords.{item_of, kind_item, value_item};
 
 use crate::asked::{AskedItem, NoMemory};
 use crate::cutting::{after, cut_at_equals};

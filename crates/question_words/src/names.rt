@@ -1,7 +1,7 @@
 //! Who asks, and on which entry.
 
 ghost use Rattle.std.specs.Prelude.{◌≡◌, IfOk};
-ghost use Rattle.question_words.specs.names.NameWords.{anonymous, name_in, named, requester, target_of, who_of};
+ghost use Rattle.question_words.specs.NameWords.{anonymous, name_in, named, requester, target_of, who_of};
 
 use crate::asked::NoMemory;
 use acdf_filters::Requester;

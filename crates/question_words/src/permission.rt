@@ -1,8 +1,8 @@
 //! For which permission.
 
 ghost use Rattle.std.specs.Prelude.{◌≡◌};
-ghost use Rattle.acdf_filters.specs.aci_item.printing.ItemPrinted.{permission_name};
-ghost use Rattle.question_words.specs.permission.PermissionWords.{asked_permissions, permission_of};
+ghost use Rattle.acdf_filters.specs.aci_item.ItemPrinted.{permission_name};
+ghost use Rattle.question_words.specs.PermissionWords.{asked_permissions, permission_of};
 
 use acdf_filters::aci_item::Permission;
 

@@ -2,7 +2,7 @@
 
 ghost use Rattle.std.specs.Prelude.{◌≡◌, IfOk};
 ghost use Rattle.std.specs.Option.{option_map};
-ghost use Rattle.question_words.specs.asked.Questions.{question_view};
+ghost use Rattle.question_words.specs.Questions.{question_view};
 ghost use Rattle.question_words.specs.Reading.{question_of};
 
 use crate::asked::{AskedDecision, NoMemory};

@@ -3,28 +3,28 @@ use Rattle.std.proofs.Common.{◌≡◌, List, [], ◌∷◌, true, false, Some,
 use Rattle.std.specs.Prelude.{codes}
 use Rattle.dir_tree.specs.schema_tables.Attributes.{attr_of}
 use Rattle.dir_tree.specs.dn_names.name.Names.{Keyed, RdnSequence}
-use Rattle.dir_tree.specs.dn_names.order.NameOrder.{name_cmp, is_same, is_prefix_of}
+use Rattle.dir_tree.specs.dn_names.NameOrder.{name_cmp, is_same, is_prefix_of}
 use Rattle.dir_tree.specs.dn_names.parsing.NameText.{read_name}
-use Rattle.dir_tree.specs.dn_names.make.NameValues.{value_of}
+use Rattle.dir_tree.specs.dn_names.NameValues.{value_of}
 use Rattle.dir_tree.specs.Entry.{EntryInformation}
 use Rattle.dir_tree.specs.tree.Trees.{named_in}
-use Rattle.dir_tree.specs.classes.EntryClasses.{has_class}
-use Rattle.dir_tree.specs.subentries.Points.{is_point, is_specific_point, is_inner_point, is_subentry}
-use Rattle.acdf_filters.specs.admin_scope.point_list.Areas.{areas}
-use Rattle.acdf_filters.specs.admin_scope.subentries.InForce.{in_force}
+use Rattle.dir_tree.specs.EntryClasses.{has_class}
+use Rattle.dir_tree.specs.Points.{is_point, is_specific_point, is_inner_point, is_subentry}
+use Rattle.acdf_filters.specs.admin_scope.Areas.{areas}
+use Rattle.acdf_filters.specs.admin_scope.InForce.{in_force}
 use Rattle.acdf_filters.specs.aci_item.declared.level.Level.TheVariants.{Anyone}
 use Rattle.acdf_filters.specs.aci_item.declared.permission.Permission.TheVariants.{Read, Compare, DiscloseOnError}
 use Rattle.acdf_filters.specs.aci_item.Permission.{Bit}
 use Rattle.acdf_filters.specs.aci_item.item.Items.{Item, UserFirst}
-use Rattle.acdf_filters.specs.aci_item.reading.AciText.{item_of}
-use Rattle.acdf_filters.specs.aci_item.splitting.AciTuples.{tuples_of_item}
+use Rattle.acdf_filters.specs.aci_item.AciText.{item_of}
+use Rattle.acdf_filters.specs.aci_item.AciTuples.{tuples_of_item}
 use Rattle.acdf_filters.specs.declared.asking.Requester.{Requester}
 use Rattle.acdf_filters.specs.Asking.{Entry, Kind}
-use Rattle.acdf_filters.specs.reading.Tuples.{items_in, inherited, tuples_of}
+use Rattle.acdf_filters.specs.Tuples.{items_in, inherited, tuples_of}
 use Rattle.acdf_filters.specs.users.Users.{ranks_of}
 use Rattle.acdf_filters.specs.Covering.{covers, is_explicit}
-use Rattle.acdf_filters.specs.laws.Filters.{decided}
-use Rattle.acdf_filters.specs.laws.Granted.{granted}
+use Rattle.acdf_filters.specs.Filters.{decided}
+use Rattle.acdf_filters.specs.Granted.{granted}
 use Rattle.ldap_msg.specs.declared.kinds.SearchRequest.{SearchRequest}
 use Rattle.ldap_msg.specs.declared.kinds.CompareRequest.{CompareRequest}
 use Rattle.ldap_msg.specs.ldap_filter.filter.Filters.Filter.{Present}
@@ -33,7 +33,7 @@ use Rattle.ldap_msg.specs.declared.kinds.Reply.TheVariants as reply
 use Rattle.read_model.specs.Views.{Row, matched_name, result_of, result_with}
 use Rattle.read_model.specs.Selecting.{is_selected, selected}
 use Rattle.read_model.specs.SearchReplies.{found_replies, replies_at}
-use Rattle.read_laws.specs.laws.Complete.{HasKnownBase, IsComparable, is_entry, EndsWith}
+use Rattle.read_laws.specs.Complete.{HasKnownBase, IsComparable, is_entry, EndsWith}
 
 -- the name of one RDN
 abbrev suffix : RdnSequence

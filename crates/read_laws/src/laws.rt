@@ -11,7 +11,7 @@ ghost use Rattle.ldap_msg.specs.declared.kinds.CompareRequest.{CompareRequest};
 ghost use Rattle.read_model.specs.Views.{view_of, result_of};
 ghost use Rattle.read_model.specs.SearchReplies.{search_replies};
 ghost use Rattle.read_model.specs.CompareReplies.{compare_result};
-ghost use Rattle.read_laws.specs.laws.Complete.{HasKnownBase, IsComparable, EndsWith};
+ghost use Rattle.read_laws.specs.Complete.{HasKnownBase, IsComparable, EndsWith};
 
 /// A search whose base is an entry that the requester may know of sends entries, or none, and ends with success or with
 /// sizeLimitExceeded, whatever its scope, its filter, its selection and its limit are, and with the control of subentries

@@ -6,7 +6,7 @@ use Rattle.dir_tree.specs.schema_tables.Attributes.{attr_of}
 use Rattle.dir_tree.specs.dn_names.name.Names.{Keyed, RdnSequence}
 use Rattle.dir_tree.specs.dn_names.declared.error.BadName.{BadName}
 use Rattle.dir_tree.specs.dn_names.parsing.NameText.{read_name}
-use Rattle.dir_tree.specs.dn_names.make.NameValues.{value_of}
+use Rattle.dir_tree.specs.dn_names.NameValues.{value_of}
 use Rattle.dir_tree.specs.Entry.{values_of, has_kind}
 use Rattle.acdf_filters.specs.aci_item.declared.permission.Permission.TheVariants.{Read, Compare, DiscloseOnError}
 use Rattle.acdf_filters.specs.Asking.{Entry, Kind, Value}

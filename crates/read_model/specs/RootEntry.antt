@@ -6,7 +6,7 @@ use Rattle.std.specs.Str.{bytes_eq}
 use Rattle.dir_tree.specs.schema_tables.Attributes.{attr_of}
 use Rattle.dir_tree.specs.schema_tables.Naming.{is_same_name}
 use Rattle.dir_tree.specs.dn_names.Printing.{print_name}
-use Rattle.dir_tree.specs.classes.EntryClasses.{object_class}
+use Rattle.dir_tree.specs.EntryClasses.{object_class}
 use Rattle.ldap_msg.specs.ldap_filter.filter.Filters.{Filter}
 use Rattle.ldap_msg.specs.ldap_filter.filter.Filters.Filter.{And, Or, Not, Equal, Parts, AtLeast, AtMost, Present, Approx, Extensible}
 use Rattle.ldap_msg.specs.declared.operations.ResultCode.TheVariants as code

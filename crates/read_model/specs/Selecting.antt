@@ -3,7 +3,7 @@ use Rattle.std.specs.Prelude.{ℕ, ◌==◌, Bool, not, ◌&&◌, ◌||◌, filt
 use Rattle.dir_tree.specs.dn_names.name.Names.{RdnSequence}
 use Rattle.dir_tree.specs.Entry.{EntryInformation}
 use Rattle.dir_tree.specs.tree.Trees.{is_named}
-use Rattle.dir_tree.specs.subentries.Points.{is_subentry}
+use Rattle.dir_tree.specs.Points.{is_subentry}
 use Rattle.dir_tree.specs.Scope.{is_child, is_within}
 use Rattle.acdf_filters.specs.aci_item.declared.permission.Permission.TheVariants.{Browse, ReturnDn, FilterMatch}
 use Rattle.acdf_filters.specs.Asking.{Entry, Kind, Value}

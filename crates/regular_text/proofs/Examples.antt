@@ -1,10 +1,10 @@
 -- A grammar of any number of `a` and then one other octet, its machine, and what they say of three texts.
 use Rattle.std.proofs.Common.{◌≡◌, ℕ, Bool, true, false, List, [], ◌∷◌, Option, Some, None, refl}
 use Rattle.std.specs.Prelude.{not, ◌==◌}
-use Rattle.regular_text.specs.laws.Grammar.{Grammar}
-use Rattle.regular_text.specs.laws.Grammar.Grammar.{Nothing, One, Then, Many}
-use Rattle.regular_text.specs.laws.Derivative.{after, has_empty}
-use Rattle.regular_text.specs.laws.Machine.{Machine, grammar_at, fault_at, front, IsMachineOf}
+use Rattle.regular_text.specs.Grammar.{Grammar}
+use Rattle.regular_text.specs.Grammar.Grammar.{Nothing, One, Then, Many}
+use Rattle.regular_text.specs.Derivative.{after, has_empty}
+use Rattle.regular_text.specs.Machine.{Machine, grammar_at, fault_at, front, IsMachineOf}
 
 -- the state is whether the last octet has come
 abbrev step : Bool → Bool → Option Bool

@@ -2,10 +2,10 @@
 use Rattle.std.proofs.Common.{◌≡◌, ℕ, ◌+◌, Bool, true, List, [], ◌∷◌, Some, None, subst, arith}
 use Rattle.std.specs.Prelude.{◌↔◌, MatchOption}
 use Rattle.std.specs.List.{AllByRecursion}
-use Rattle.regular_text.specs.laws.Grammar.{Grammar, Matches, IsWithin}
-use Rattle.regular_text.specs.laws.Derivative.{after, has_empty}
-use Rattle.regular_text.specs.laws.Place.{IsPlace, IsLongestFront, HasNoFront}
-use Rattle.regular_text.specs.laws.Machine.{Machine, fault_at, reach, front, IsMachineOf}
+use Rattle.regular_text.specs.Grammar.{Grammar, Matches, IsWithin}
+use Rattle.regular_text.specs.Derivative.{after, has_empty}
+use Rattle.regular_text.specs.Place.{IsPlace, IsLongestFront, HasNoFront}
+use Rattle.regular_text.specs.Machine.{Machine, fault_at, reach, front, IsMachineOf}
 use Rattle.regular_text.proofs.laws.GrammarLemmas.{matches-nil, has_empty-matches}
 use Rattle.regular_text.proofs.laws.WithinLemmas.{matches-all}
 use Rattle.regular_text.proofs.laws.DerivativeLemmas.{matches-cons, matches-after}

@@ -1,2 +1,5 @@
 -- what public clauses cite
-pub mod laws
+pub mod Grammar
+pub mod Derivative
+pub mod Place
+pub mod Machine

@@ -2,10 +2,10 @@
 
 ghost use Rattle.std.specs.Prelude.{◌≡◌, ℕ, ◌↔◌, Bool, true, List, ◌∷◌, Some, None, MatchOption};
 ghost use Rattle.std.specs.List.{AllByRecursion};
-ghost use Rattle.regular_text.specs.laws.Grammar.{Grammar, Matches, IsWithin};
-ghost use Rattle.regular_text.specs.laws.Derivative.{after};
-ghost use Rattle.regular_text.specs.laws.Place.{IsPlace, IsLongestFront, HasNoFront};
-ghost use Rattle.regular_text.specs.laws.Machine.{Machine, fault_at, front, IsMachineOf};
+ghost use Rattle.regular_text.specs.Grammar.{Grammar, Matches, IsWithin};
+ghost use Rattle.regular_text.specs.Derivative.{after};
+ghost use Rattle.regular_text.specs.Place.{IsPlace, IsLongestFront, HasNoFront};
+ghost use Rattle.regular_text.specs.Machine.{Machine, fault_at, front, IsMachineOf};
 
 /// A text follows an octet in the derivative of a grammar exactly where both together are in the
 /// grammar (Brzozowski 1964, theorem 3.1).

@@ -1,13 +1,13 @@
 -- The definitions, computed over trees that are numbers: an empty message counts one more, a message of one octet is said
 -- back, and one of two octets is told the number.
 use Rattle.std.proofs.Common.{◌≡◌, ℕ, ◌+◌, ◌==◌, Bool, true, false, cond, List, [], ◌∷◌, Some, None, length, refl}
-use Rattle.ldap_msg.specs.ber_elements.read.Heading.{length_at, header_at}
-use Rattle.ldap_msg.specs.framing.Streams.{framed, frame_at, whole_of, rest_behind, whole, rest_of, is_broken}
-use Rattle.session_model.specs.laws.Rules.{Rules, Answered, talk}
-use Rattle.session_model.specs.laws.Run.{Step, Opened, Bytes, Ended, HungUp, start, step, run, run_from, held_numbers}
-use Rattle.run_laws.specs.laws.AnsweredMessages.{AnsweredMessage, answered_messages, answered_of_step, answered_of_run, answered_of_replay}
-use Rattle.session_model.specs.laws.Replaying.{replayed_from}
-use Rattle.run_laws.specs.laws.Purging.{purged, openings, finds_room, answered_of_connection}
+use Rattle.ldap_msg.specs.ber_elements.Heading.{length_at, header_at}
+use Rattle.ldap_msg.specs.Streams.{framed, frame_at, whole_of, rest_behind, whole, rest_of, is_broken}
+use Rattle.session_model.specs.Rules.{Rules, Answered, talk}
+use Rattle.session_model.specs.Run.{Step, Opened, Bytes, Ended, HungUp, start, step, run, run_from, held_numbers}
+use Rattle.run_laws.specs.AnsweredMessages.{AnsweredMessage, answered_messages, answered_of_step, answered_of_run, answered_of_replay}
+use Rattle.session_model.specs.Replaying.{replayed_from}
+use Rattle.run_laws.specs.Purging.{purged, openings, finds_room, answered_of_connection}
 
 answer_of : ℕ → ℕ → List ℕ → Answered ℕ ℕ
 answer_of count who message =

@@ -1,5 +1,6 @@
 -- what public clauses cite
-pub mod laws
+pub mod AnsweredMessages
+pub mod Purging
 -- the words of crates below, handed on
 pub use Rattle.session_model.specs as session_model
 pub use Rattle.session_model.specs.wire_io as wire_io

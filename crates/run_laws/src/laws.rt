@@ -3,13 +3,13 @@
 
 ghost use Rattle.std.specs.Prelude.{◌≡◌, ◌≤◌, ℕ, Bool, true, List, Option};
 ghost use Rattle.std.specs.List.{AllByRecursion};
-ghost use Rattle.session_model.specs.laws.Rules.{Rules, talk, said, up_to};
-ghost use Rattle.session_model.specs.laws.Run.{Sessions, Step, start, step, run, run_from};
-ghost use Rattle.session_model.specs.laws.Kept.{Held, heard};
-ghost use Rattle.session_model.specs.laws.Keeping.{Keeps};
-ghost use Rattle.session_model.specs.laws.Replaying.{replayed, replayed_from};
-ghost use Rattle.run_laws.specs.laws.AnsweredMessages.{AreAlike, AreOver, AreHeldOver, IsAnsweredAlike, over, held_over, answered_messages, answered_of_step, answered_of_run, answered_of_replay, answered_of_held};
-ghost use Rattle.run_laws.specs.laws.Purging.{purged, openings, finds_room, answered_of_connection};
+ghost use Rattle.session_model.specs.Rules.{Rules, talk, said, up_to};
+ghost use Rattle.session_model.specs.Run.{Sessions, Step, start, step, run, run_from};
+ghost use Rattle.session_model.specs.Kept.{Held, heard};
+ghost use Rattle.session_model.specs.Keeping.{Keeps};
+ghost use Rattle.session_model.specs.Replaying.{replayed, replayed_from};
+ghost use Rattle.run_laws.specs.AnsweredMessages.{AreAlike, AreOver, AreHeldOver, IsAnsweredAlike, over, held_over, answered_messages, answered_of_step, answered_of_run, answered_of_replay, answered_of_held};
+ghost use Rattle.run_laws.specs.Purging.{purged, openings, finds_room, answered_of_connection};
 
 /// Messages are answered alike over two trees where each of them is that is answered, for the requester for whom
 /// it is: the same octets are sent, the same requester is left, and each tree stays. So it is with what ends them,

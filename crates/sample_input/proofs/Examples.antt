@@ -2,8 +2,8 @@
 use Rattle.std.proofs.Common.{◌≡◌, ◌++◌, length, refl, ap, arith}
 use Rattle.std.proofs.lemmas.Fmt.{decimal_digit}
 use Rattle.std.specs.Prelude.{codes}
-use Rattle.sample_input.specs.file.SampleFile.{person_name, person_record}
-use Rattle.sample_input.specs.events.SampleEvents.{sample_events}
+use Rattle.sample_input.specs.SampleFile.{person_name, person_record}
+use Rattle.sample_input.specs.SampleEvents.{sample_events}
 
 -- odd numbers are in the open unit, even ones in the other
 open_person : person_name 1 ≡ codes "uid=u1,ou=open,dc=sample"

@@ -3,7 +3,7 @@ use Rattle.std.specs.Prelude.{ℕ, Bool, true, false, ◌==◌, List, count_by}
 use Rattle.std.specs.Option.{option_map_or}
 use Rattle.ldap_msg.specs.declared.kinds.Reply.{Reply}
 use Rattle.ldap_msg.specs.declared.kinds.Reply.TheVariants as reply
-use Rattle.ldap_msg.specs.framing.Streams.{whole, whole_of}
+use Rattle.ldap_msg.specs.Streams.{whole, whole_of}
 use Rattle.ldap_msg.specs.Replies.{reply_of}
 
 -- the reply is an entry of a search

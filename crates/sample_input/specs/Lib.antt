@@ -1,3 +1,3 @@
-pub mod file
-pub mod events
+pub mod SampleFile
+pub mod SampleEvents
 pub mod Counting

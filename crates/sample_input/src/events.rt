@@ -5,8 +5,8 @@ ghost use Rattle.script_text.specs.script.Script.{OpensOnce, AreFilled};
 ghost use Rattle.ldap_msg.specs.ldap_filter.filter.Filters.Filter.{Present};
 ghost use Rattle.script_text.specs.declared.event.ScriptEvent.TheVariants.{Opened, Bytes};
 ghost use Rattle.ldap_msg.specs.reading.Messages.{request_octets, HasOwnTag};
-ghost use Rattle.sample_input.specs.file.SampleFile.{person_name};
-ghost use Rattle.sample_input.specs.events.SampleEvents.{sample_bind, sample_search, sample_events};
+ghost use Rattle.sample_input.specs.SampleFile.{person_name};
+ghost use Rattle.sample_input.specs.SampleEvents.{sample_bind, sample_search, sample_events};
 
 use crate::file::person_name;
 use ldap_msg::ldap_filter::{Filter, Node};

@@ -1,8 +1,8 @@
 //! The data file of a sample.
 
 ghost use Rattle.std.specs.Prelude.{◌≡◌, ◌<◌, ◌++◌, ◌==◌, IfOk, OnOk, string_bytes};
-ghost use Rattle.sample_input.specs.file.SampleFile.{area_record, subentry_record, unit_records};
-ghost use Rattle.sample_input.specs.file.SampleFile.{unit_of, person_name, person_record, sample_file};
+ghost use Rattle.sample_input.specs.SampleFile.{area_record, subentry_record, unit_records};
+ghost use Rattle.sample_input.specs.SampleFile.{unit_of, person_name, person_record, sample_file};
 
 use std::alloc::{AllocError, Global};
 

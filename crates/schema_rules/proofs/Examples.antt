@@ -5,14 +5,14 @@ use Prim.Native.String.{String}
 use Rattle.dir_tree.specs.schema_tables.Attributes.{attributes}
 use Rattle.dir_tree.specs.schema_tables.classes.Classes.{classes}
 use Rattle.dir_tree.specs.dn_names.name.Names.{Keyed, RdnSequence}
-use Rattle.dir_tree.specs.dn_names.order.NameOrder.{name_cmp, is_same, is_prefix_of}
+use Rattle.dir_tree.specs.dn_names.NameOrder.{name_cmp, is_same, is_prefix_of}
 use Rattle.dir_tree.specs.Entry.{Attribute, EntryInformation}
-use Rattle.dir_tree.specs.classes.EntryClasses.{has_class}
-use Rattle.dir_tree.specs.subentries.Points.{is_point, is_subentry, is_access_subentry}
+use Rattle.dir_tree.specs.EntryClasses.{has_class}
+use Rattle.dir_tree.specs.Points.{is_point, is_subentry, is_access_subentry}
 use Rattle.dir_tree.specs.schema_tables.Superclasses.{with_superclasses}
 use Rattle.dir_tree.specs.schema_tables.declared.kinds.Syntax.TheVariants.{Subtree, Aci}
-use Rattle.aci_item.specs.subtree_spec.reading.SubtreeText.{read_subtree}
-use Rattle.aci_item.specs.reading.AciText.{read_item}
+use Rattle.aci_item.specs.subtree_spec.SubtreeText.{read_subtree}
+use Rattle.aci_item.specs.AciText.{read_item}
 use Rattle.aci_item.specs.Listed.{are_in_line}
 use Rattle.aci_item.specs.Rules.{broken_rule, lacks_own_value, has_other_structural, breaks_classes, is_unread, has_unread, has_two_values, is_misplaced, is_past_limits, stands_wrong, octets_in}
 

@@ -1,5 +1,5 @@
 -- what public clauses cite
-pub mod check
+pub mod Checking
 -- for the inside of the crate alone
 pub mod Classes
-pub mod old
+pub mod Beside

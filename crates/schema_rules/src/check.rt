@@ -3,7 +3,7 @@
 ghost use Rattle.std.specs.Prelude.{◌≡◌, None, IfOk, IfErr};
 ghost use Rattle.std.specs.Option.{option_map};
 ghost use Rattle.dir_tree.specs.tree.Numbered.{entries_of};
-ghost use Rattle.schema_rules.specs.check.Checking.{IsSuperior, IsFor, replaced, others};
+ghost use Rattle.schema_rules.specs.Checking.{IsSuperior, IsFor, replaced, others};
 ghost use Rattle.aci_item.specs.Rules.{broken_rule};
 
 use crate::broken::Broken;

@@ -1,7 +1,7 @@
 //! The laws of the rules: each function computes nothing, and what it ensures is a law.
 
 ghost use Rattle.std.specs.Prelude.{◌≡◌, ◌≢◌, ◌↔◌, List, [], Option, None, Some, true, false};
-ghost use Rattle.dir_tree.specs.dn_names.order.NameOrder.{is_same};
+ghost use Rattle.dir_tree.specs.dn_names.NameOrder.{is_same};
 ghost use Rattle.dir_tree.specs.dn_names.name.GoodNames.{IsGoodName};
 ghost use Rattle.dir_tree.specs.Entry.{EntryInformation, IsGoodAttributes};
 ghost use Rattle.dir_tree.specs.tree.Trees.{has_name, named_in, superior_name, lacks_superior, has_below, put_in, taken_out};

@@ -3,8 +3,8 @@
 ghost use Rattle.std.specs.Prelude.{◌≡◌, false, ◌&&◌, nat_le, nat_lt, length};
 ghost use Rattle.std.specs.Option.{option_map, option_map_or};
 ghost use Rattle.dir_tree.specs.tree.Numbered.{IsNumberedTree, entries_of};
-ghost use Rattle.dir_tree.specs.subentries.Points.{is_access_subentry, access_subentries};
-ghost use Rattle.schema_rules.specs.check.Checking.{replaced, others};
+ghost use Rattle.dir_tree.specs.Points.{is_access_subentry, access_subentries};
+ghost use Rattle.schema_rules.specs.Checking.{replaced, others};
 ghost use Rattle.dir_tree.specs.tree.Trees.{most_entries};
 ghost use Rattle.aci_item.specs.Rules.{most_subentries, most_octets_in, octets_in, is_past_limits};
 

@@ -4,8 +4,8 @@ ghost use Rattle.std.specs.Prelude.{◌≡◌};
 ghost use Rattle.std.specs.Option.{option_map, option_and_then};
 ghost use Rattle.dir_tree.specs.tree.Numbered.{IsNumberedTree};
 ghost use Rattle.dir_tree.specs.Scope.{is_number};
-ghost use Rattle.schema_rules.specs.check.Checking.{replaced};
-ghost use Rattle.schema_rules.specs.old.Beside.{entry_beside};
+ghost use Rattle.schema_rules.specs.Checking.{replaced};
+ghost use Rattle.schema_rules.specs.Beside.{entry_beside};
 
 use dir_tree::{Entry, EntryNo, Tree};
 

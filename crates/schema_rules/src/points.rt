@@ -7,8 +7,8 @@ ghost use Rattle.dir_tree.specs.tree.Trees.{superior_name, named_in};
 ghost use Rattle.dir_tree.specs.tree.Numbered.{IsNumberedTree, find_name};
 ghost use Rattle.dir_tree.specs.Scope.{scoped};
 ghost use Rattle.dir_tree.specs.declared.scope.Scope.TheVariants.{One};
-ghost use Rattle.schema_rules.specs.check.Checking.{IsSuperior, replaced, others};
-ghost use Rattle.schema_rules.specs.old.Beside.{stands_wrong_below, takes_all_below, is_wrong_below};
+ghost use Rattle.schema_rules.specs.Checking.{IsSuperior, replaced, others};
+ghost use Rattle.schema_rules.specs.Beside.{stands_wrong_below, takes_all_below, is_wrong_below};
 ghost use Rattle.aci_item.specs.Rules.{stands_wrong, stands_wrong_above, is_misplaced};
 
 use crate::old::entry_beside;

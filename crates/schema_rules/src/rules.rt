@@ -2,7 +2,7 @@
 
 ghost use Rattle.std.specs.Prelude.{◌≡◌, IfOk};
 ghost use Rattle.std.specs.Option.{option_map};
-ghost use Rattle.schema_rules.specs.check.Checking.{IsSuperior, replaced, others};
+ghost use Rattle.schema_rules.specs.Checking.{IsSuperior, replaced, others};
 ghost use Rattle.aci_item.specs.Rules.{breaks_classes, broken_rule};
 
 use crate::broken::NoMemory;

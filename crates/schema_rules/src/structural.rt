@@ -6,7 +6,7 @@ ghost use Rattle.std.specs.Option.{option_map, option_map_or};
 ghost use Rattle.dir_tree.specs.schema_tables.classes.Classes.{class_with};
 ghost use Rattle.aci_item.specs.Listed.{is_among, is_structural};
 ghost use Rattle.schema_rules.specs.Classes.{structural_in};
-ghost use Rattle.schema_rules.specs.check.Checking.{replaced};
+ghost use Rattle.schema_rules.specs.Checking.{replaced};
 ghost use Rattle.aci_item.specs.Rules.{are_among, has_other_structural};
 
 use crate::classes::is_structural;

@@ -3,8 +3,8 @@
 ghost use Rattle.std.specs.Prelude.{◌≡◌, ◌≤◌, ◌+◌, ◌&&◌, [], false, length, min, nat_lt, slice_get, sum_by, is_err, IfOk};
 ghost use Rattle.std.specs.Option.{option_map_or};
 ghost use Rattle.dir_tree.specs.schema_tables.Attributes.{is_single, syntax_of};
-ghost use Rattle.aci_item.specs.reading.AciText.{read_item};
-ghost use Rattle.aci_item.specs.subtree_spec.reading.SubtreeText.{read_subtree};
+ghost use Rattle.aci_item.specs.AciText.{read_item};
+ghost use Rattle.aci_item.specs.subtree_spec.SubtreeText.{read_subtree};
 ghost use Rattle.aci_item.specs.Rules.{is_unread, has_unread_of, has_unread_value, has_unread, has_two_values, octets_in};
 
 use crate::broken::NoMemory;

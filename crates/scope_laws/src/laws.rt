@@ -5,8 +5,8 @@ ghost use Rattle.dir_tree.specs.dn_names.name.Names.{RdnSequence};
 ghost use Rattle.dir_tree.specs.Entry.{EntryInformation};
 ghost use Rattle.dir_tree.specs.tree.Numbered.{Numbered, entries_of, entry_of, put_entry, without, IsNumberedTree};
 ghost use Rattle.dir_tree.specs.Scope.{is_within};
-ghost use Rattle.admin_scope.specs.subentries.InForce.{in_force};
-ghost use Rattle.scope_laws.specs.laws.Aside.{put_some, IsAside, IsBeside, IsSamePoint, IsUnder, IsChangeOf, AreInForce};
+ghost use Rattle.admin_scope.specs.InForce.{in_force};
+ghost use Rattle.scope_laws.specs.Aside.{put_some, IsAside, IsBeside, IsSamePoint, IsUnder, IsChangeOf, AreInForce};
 
 /// What stands aside from an entry changes nothing in force for it: of entries of which one is put in, or another
 /// in its place, or none; and of two trees that are equal but for one number, which both, one or none may have.

@@ -3,7 +3,7 @@ use Rattle.std.proofs.Common.{◌≡◌, refl, [], ◌∷◌, ◌++◌, Some, No
 use Rattle.std.specs.Prelude.{codes}
 use Rattle.hex.proofs.OnLiterals.{hex_on_literals}
 use Rattle.script_text.specs.declared.event.ScriptEvent.TheVariants.{Opened, Bytes, Ended}
-use Rattle.script_text.specs.words.LineReading.{number_of, octets_of, sent_by, event_of}
+use Rattle.script_text.specs.LineReading.{number_of, octets_of, sent_by, event_of}
 use Rattle.script_text.specs.script.ScriptReading.{after_line, after_lines, script_of}
 
 -- lines of each form

@@ -3,8 +3,8 @@
 ghost use Rattle.std.specs.Prelude.{◌≡◌, ◌≢◌, ◌↔◌, ◌++◌, ◌∷◌, [], ℕ, List, All, Some, Ok, Err};
 ghost use Rattle.std.specs.Str.Lines.{lines, strip_carriage_return};
 ghost use Rattle.script_text.specs.declared.event.ScriptEvent.{ScriptEvent};
-ghost use Rattle.script_text.specs.lines.LineText.{Spells};
-ghost use Rattle.script_text.specs.words.LineReading.{event_of};
+ghost use Rattle.script_text.specs.LineText.{Spells};
+ghost use Rattle.script_text.specs.LineReading.{event_of};
 ghost use Rattle.script_text.specs.script.Script.{IsScript, IsFirstBadLine};
 ghost use Rattle.script_text.specs.script.ScriptReading.{script_of};
 

@@ -1,7 +1,7 @@
 //! The events read so far, with the state of each connection that they open.
 
 ghost use Rattle.std.specs.Prelude.{◌≡◌, ◌∷◌, ◌++◌, [], IfOk, IsTrue};
-ghost use Rattle.script_text.specs.reading.Connections.{Follows};
+ghost use Rattle.script_text.specs.Connections.{Follows};
 
 use crate::event::ScriptEvent;
 use crate::recording::Recording;
@@ -25,7 +25,7 @@ impl Model for Reading {
 
     ghost view = { λ reading. reading.events };
 
-    ghost use Rattle.script_text.specs.reading.Connections.{Tracks};
+    ghost use Rattle.script_text.specs.Connections.{Tracks};
 
     ghost invariant = { λ reading. Tracks reading.connections reading.events };
 }

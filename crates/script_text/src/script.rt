@@ -1,7 +1,7 @@
 //! Scripts, line by line.
 
 ghost use Rattle.std.specs.Prelude.{◌≡◌, ℕ, Ok, Err, IfOk, MatchResult, Some};
-ghost use Rattle.script_text.specs.lines.LineText.{is_silent};
+ghost use Rattle.script_text.specs.LineText.{is_silent};
 ghost use Rattle.script_text.specs.script.Script.{IsScript, IsFirstBadLine, OpensOnce, AreFilled};
 ghost use Rattle.script_text.specs.script.ScriptReading.{Gives, IsCause, admitted, after_line, script_of};
 

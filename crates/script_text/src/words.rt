@@ -4,7 +4,7 @@ ghost use Rattle.std.specs.Prelude.{◌≡◌, ◌≤◌, ◌&&◌, nat_le, leng
 ghost use Rattle.std.specs.Char.{is_ascii_digit};
 ghost use Rattle.std.specs.List.{AllPass, list_all, before_first, after_first};
 ghost use Rattle.std.specs.Str.Parse.{digits_value};
-ghost use Rattle.script_text.specs.words.LineReading.{is_space, in_range, number_of, octets_of, sent_by, event_of};
+ghost use Rattle.script_text.specs.LineReading.{is_space, in_range, number_of, octets_of, sent_by, event_of};
 
 use crate::event::ScriptEvent;
 use hex::FromHexError;

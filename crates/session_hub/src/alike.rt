@@ -3,13 +3,13 @@
 ghost use Rattle.std.specs.Prelude.{◌≡◌, ◌≤◌, ℕ, true, List};
 ghost use Rattle.std.specs.List.{AllByRecursion};
 ghost use Rattle.dir_tree.specs.dn_names.name.Names.{RdnSequence};
-ghost use Rattle.run_laws.specs.session_model.laws.Run.{Step, start, run};
-ghost use Rattle.run_laws.specs.session_model.laws.Replaying.{replayed};
-ghost use Rattle.run_laws.specs.laws.AnsweredMessages.{AnsweredMessage, AreOver, IsAnsweredAlike, answered_of_run, answered_of_replay};
-ghost use Rattle.run_laws.specs.laws.Purging.{purged, openings, finds_room, answered_of_connection};
-ghost use Rattle.session_hub.specs.requester.Parties.{DirectoryEntries, Requester};
-ghost use Rattle.session_hub.specs.messages.Answering.{rules};
-ghost use Rattle.session_hub.specs.alike.Twins.{IsOverTwins};
+ghost use Rattle.run_laws.specs.session_model.Run.{Step, start, run};
+ghost use Rattle.run_laws.specs.session_model.Replaying.{replayed};
+ghost use Rattle.run_laws.specs.AnsweredMessages.{AnsweredMessage, AreOver, IsAnsweredAlike, answered_of_run, answered_of_replay};
+ghost use Rattle.run_laws.specs.Purging.{purged, openings, finds_room, answered_of_connection};
+ghost use Rattle.session_hub.specs.Parties.{DirectoryEntries, Requester};
+ghost use Rattle.session_hub.specs.Answering.{rules};
+ghost use Rattle.session_hub.specs.Twins.{IsOverTwins};
 
 /// A search, a compare, an abandon, an unbind, an extended request, a bind with a name outside the subtree, or octets
 /// that are no message are answered alike over twins: the same octets are sent, the same requester is left, and the

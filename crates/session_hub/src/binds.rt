@@ -5,9 +5,9 @@ ghost use Rattle.dir_tree.specs.tree.Numbered.{entries_of};
 ghost use Rattle.run_laws.specs.ldap_msg.declared.kinds.Reply.TheVariants as reply;
 ghost use Rattle.op_read.specs.read_model.Views.{result_of as result_with};
 ghost use Rattle.op_read.specs.read_model.SearchReplies.{replies_octets};
-ghost use Rattle.session_hub.specs.messages.Answering.{bound, answer_read};
-ghost use Rattle.session_hub.specs.stream.Answers.{Gives, Sends};
-ghost use Rattle.session_hub.specs.simple.SimpleBinds.{message_for};
+ghost use Rattle.session_hub.specs.Answering.{bound, answer_read};
+ghost use Rattle.session_hub.specs.Answers.{Gives, Sends};
+ghost use Rattle.session_hub.specs.SimpleBinds.{message_for};
 
 use crate::results::result_of;
 use crate::simple::SimpleBind;

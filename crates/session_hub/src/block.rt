@@ -6,10 +6,10 @@ ghost use Rattle.run_laws.specs.wire_io.Answers.{HeardFits};
 ghost use Rattle.run_laws.specs.wire_io.link.Telling.{event_of};
 ghost use Rattle.run_laws.specs.wire_io.declared.journal.Event.TheVariants as event;
 ghost use Rattle.run_laws.specs.wire_io.declared.journal.Item.{Item};
-ghost use Rattle.session_hub.specs.requester.Parties.{DirectoryEntries};
+ghost use Rattle.session_hub.specs.Parties.{DirectoryEntries};
 ghost use Rattle.session_hub.specs.hub.Hubs.{held};
-ghost use Rattle.session_hub.specs.block.Telling.{journal_event_of, IsOf};
-ghost use Rattle.session_hub.specs.serving.Adding.{Adds, OnlyServes, IsServing, IsHeard, IsTurnedAway, After};
+ghost use Rattle.session_hub.specs.Telling.{journal_event_of, IsOf};
+ghost use Rattle.session_hub.specs.Adding.{Adds, OnlyServes, IsServing, IsHeard, IsTurnedAway, After};
 
 use crate::serving::settle_all;
 use crate::waiting::Waiting;

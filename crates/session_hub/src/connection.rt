@@ -2,9 +2,9 @@
 
 ghost use Rattle.std.specs.Prelude.{◌≡◌, ◌≤◌, [], length, drop, vec_len};
 ghost use Rattle.dir_tree.specs.tree.Numbered.{entries_of};
-ghost use Rattle.run_laws.specs.session_model.laws.Kept.{closed, without_front, opened_kept};
-ghost use Rattle.session_hub.specs.messages.Answering.{rules};
-ghost use Rattle.session_hub.specs.stream.Answers.{closes_at, cut_at};
+ghost use Rattle.run_laws.specs.session_model.Kept.{closed, without_front, opened_kept};
+ghost use Rattle.session_hub.specs.Answering.{rules};
+ghost use Rattle.session_hub.specs.Answers.{closes_at, cut_at};
 ghost use Rattle.session_hub.specs.connection.Connections.{HearsPiece, KeepsRest};
 ghost use Rattle.session_hub.specs.connection.Limits.{most_unread};
 
@@ -33,8 +33,8 @@ pub struct Connection {
 
 impl Model for Connection {
     ghost use Rattle.std.specs.Prelude.{◌≤◌, drop, length};
-    ghost use Rattle.run_laws.specs.session_model.laws.Kept.{Kept};
-    ghost use Rattle.session_hub.specs.requester.Parties.{Requester};
+    ghost use Rattle.run_laws.specs.session_model.Kept.{Kept};
+    ghost use Rattle.session_hub.specs.Parties.{Requester};
 
     ghost Value = { Kept Requester };
 

@@ -2,7 +2,7 @@
 
 ghost use Rattle.std.specs.Prelude.{◌≡◌, nat_lt, count_by, find, option_copied};
 ghost use Rattle.run_laws.specs.ber_layout.element.Reading.{Gives};
-ghost use Rattle.run_laws.specs.ber_layout.laid.Layouts.{reads};
+ghost use Rattle.run_laws.specs.ber_layout.Layouts.{reads};
 ghost use Rattle.session_hub.specs.Controls.{is_subentries, is_search, is_known, is_refused, subentries_layout, flag_in, flag_of, subentries_asked};
 
 use run_laws::ber_layout::flag;

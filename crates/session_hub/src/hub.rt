@@ -2,12 +2,12 @@
 
 ghost use Rattle.std.specs.Prelude.{◌≡◌, ◌≤◌, length, IfOk, OnOk, OnErr};
 ghost use Rattle.dir_tree.specs.tree.Numbered.{entries_of};
-ghost use Rattle.run_laws.specs.session_model.laws.Run as run;
-ghost use Rattle.run_laws.specs.session_model.laws.Kept.{queue_of, closing_of, cut_of, taken_off, forgotten};
+ghost use Rattle.run_laws.specs.session_model.Run as run;
+ghost use Rattle.run_laws.specs.session_model.Kept.{queue_of, closing_of, cut_of, taken_off, forgotten};
 ghost use Rattle.session_hub.specs.hub.Hubs.{held, no_hub, Hears, HearsAnywhere, OpensOne, IsBounded};
 ghost use Rattle.session_hub.specs.hub.Following.{FollowsStart, FollowsStep, FollowsAnywhere, FollowsTaking, QueuesReply, ClosesWith, CountsHeld};
 ghost use Rattle.session_hub.specs.Event.{step_by};
-ghost use Rattle.session_hub.specs.alike.Twins.{HearsAlike};
+ghost use Rattle.session_hub.specs.Twins.{HearsAlike};
 
 use crate::Event;
 use crate::connection::Connection;

@@ -2,9 +2,9 @@
 
 ghost use Rattle.std.specs.Prelude.{List};
 ghost use Rattle.op_read.specs.aci_item.Rules.{IsGoodTree};
-ghost use Rattle.run_laws.specs.session_model.laws.Run.{Step, run};
-ghost use Rattle.session_hub.specs.requester.Parties.{DirectoryEntries};
-ghost use Rattle.session_hub.specs.messages.Answering.{rules};
+ghost use Rattle.run_laws.specs.session_model.Run.{Step, run};
+ghost use Rattle.session_hub.specs.Parties.{DirectoryEntries};
+ghost use Rattle.session_hub.specs.Answering.{rules};
 
 use modify_laws::laws::a_good_tree_stays_good_when_changed;
 use update_laws::laws::a_good_tree_stays_good;

@@ -2,17 +2,17 @@
 
 ghost use Rattle.std.specs.Prelude.{◌≡◌, ◌≤◌, ◌++◌, [], ◌∷◌, length, take, vec_len, IfOk, OnOk, OnErr, Some, None};
 ghost use Rattle.dir_tree.specs.tree.Numbered.{entries_of};
-ghost use Rattle.run_laws.specs.ldap_msg.framing.Streams.{frame_at};
+ghost use Rattle.run_laws.specs.ldap_msg.Streams.{frame_at};
 ghost use Rattle.run_laws.specs.ldap_msg.declared.operations.ResultCode.TheVariants as code;
 ghost use Rattle.op_read.specs.read_model.Views.{view_of};
 ghost use Rattle.op_read.specs.read_model.SearchReplies.{replies_octets};
 ghost use Rattle.op_read.specs.read_model.CompareReplies.{compare_result};
 ghost use Rattle.run_laws.specs.ldap_msg.declared.kinds.Reply.TheVariants as reply;
 ghost use Rattle.modify_laws.specs.op_add_delete.adding.Updates.{IsChanged};
-ghost use Rattle.session_hub.specs.requester.Parties.{DirectoryEntries, Requester};
+ghost use Rattle.session_hub.specs.Parties.{DirectoryEntries, Requester};
 ghost use Rattle.session_hub.specs.Controls.{subentries_asked};
-ghost use Rattle.session_hub.specs.messages.Answering.{rules, response_to as response_of, replies_in, ended_with, asking, searched, change_of, changing, operated, answered, is_unbind, answer_read};
-ghost use Rattle.session_hub.specs.stream.Answers.{Gives, Sends};
+ghost use Rattle.session_hub.specs.Answering.{rules, response_to as response_of, replies_in, ended_with, asking, searched, change_of, changing, operated, answered, is_unbind, answer_read};
+ghost use Rattle.session_hub.specs.Answers.{Gives, Sends};
 
 use crate::binds::{answer_bind, answer_simple_bind};
 use crate::controls::{is_refused, subentries_asked};

@@ -2,7 +2,7 @@
 
 ghost use Rattle.std.specs.Prelude.{◌≡◌, ◌≤◌, length, MatchOption, None, true};
 ghost use Rattle.dir_tree.specs.tree.Numbered.{entries_of};
-ghost use Rattle.run_laws.specs.session_model.laws.Kept.{kept_of, is_kept, queue_of, closing_of, cut_of, forgotten, taken_off, changed, closed};
+ghost use Rattle.run_laws.specs.session_model.Kept.{kept_of, is_kept, queue_of, closing_of, cut_of, forgotten, taken_off, changed, closed};
 ghost use Rattle.session_hub.specs.hub.Hubs.{IsAt, IsBounded, AreDistinct, HearsAt};
 
 use crate::connection::Connection;

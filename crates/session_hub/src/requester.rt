@@ -1,7 +1,7 @@
 //! Who asks.
 
 ghost use Rattle.std.specs.Prelude.{◌≡◌};
-ghost use Rattle.session_hub.specs.requester.Parties.{nobody};
+ghost use Rattle.session_hub.specs.Parties.{nobody};
 
 use op_read::acdf_filters::Requester;
 use op_read::aci_item::Level;

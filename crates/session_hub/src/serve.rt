@@ -4,7 +4,7 @@ ghost use Rattle.std.specs.Prelude.{◌≡◌, [], IfOk, IfNone, IfSome, length,
 ghost use Rattle.dir_tree.specs.tree.Numbered.{entries_of};
 ghost use Rattle.dir_tree.specs.plain_values.Counts.{NeverFalls};
 ghost use Rattle.session_hub.specs.hub.Hubs.{held, no_hub};
-ghost use Rattle.session_hub.specs.serving.Adding.{stops_with};
+ghost use Rattle.session_hub.specs.Adding.{stops_with};
 ghost use Rattle.session_hub.specs.serve.Loops.{buffer_length, Serves, PlaysOut, EndsFor, ends_with};
 ghost use Rattle.session_hub.specs.serve.Turns.{GoesOn, EndsWith};
 

@@ -1,14 +1,14 @@
 //! One event of a link, served.
 
 ghost use Rattle.std.specs.Prelude.{◌≡◌, false, [], ◌∷◌, List, ℕ, OnOk};
-ghost use Rattle.run_laws.specs.session_model.laws.Keeping.{is_listed};
-ghost use Rattle.run_laws.specs.session_model.laws.Kept.{Held};
-ghost use Rattle.run_laws.specs.session_model.laws.Serving.{Leads};
-ghost use Rattle.run_laws.specs.session_model.laws.Working.{Refused, Lost};
-ghost use Rattle.session_hub.specs.requester.Parties.{DirectoryEntries, Requester};
-ghost use Rattle.session_hub.specs.messages.Answering.{rules};
+ghost use Rattle.run_laws.specs.session_model.Keeping.{is_listed};
+ghost use Rattle.run_laws.specs.session_model.Kept.{Held};
+ghost use Rattle.run_laws.specs.session_model.Serving.{Leads};
+ghost use Rattle.run_laws.specs.session_model.Working.{Refused, Lost};
+ghost use Rattle.session_hub.specs.Parties.{DirectoryEntries, Requester};
+ghost use Rattle.session_hub.specs.Answering.{rules};
 ghost use Rattle.session_hub.specs.hub.Hubs.{held};
-ghost use Rattle.session_hub.specs.serving.Adding.{Adds, OnlyServes, IsServing, IsSent, IsFree, SentAs, After};
+ghost use Rattle.session_hub.specs.Adding.{Adds, OnlyServes, IsServing, IsSent, IsFree, SentAs, After};
 
 use crate::Hub;
 use crate::sent::Sent;

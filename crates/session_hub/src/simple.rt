@@ -5,7 +5,7 @@ ghost use Rattle.run_laws.specs.ber_layout.element.Pieces.{number_in};
 ghost use Rattle.run_laws.specs.ldap_msg.Binds.{bind_of};
 ghost use Rattle.run_laws.specs.ldap_msg.reading.Messages.{message_in, message_of};
 ghost use Rattle.op_bind.specs.Binds.{with_password};
-ghost use Rattle.session_hub.specs.simple.SimpleBinds.{message_for};
+ghost use Rattle.session_hub.specs.SimpleBinds.{message_for};
 
 use run_laws::ber_layout::{any, integer, is_further, tagged};
 use run_laws::ldap_msg::Operation;

@@ -1,7 +1,7 @@
 //! The answers to the messages of a stream.
 
 ghost use Rattle.dir_tree.specs.tree.Numbered.{entries_of};
-ghost use Rattle.session_hub.specs.stream.Answers.{Speaks};
+ghost use Rattle.session_hub.specs.Answers.{Speaks};
 
 use crate::messages::answer;
 use crate::spoken::{SpeechEnd, Spoken};

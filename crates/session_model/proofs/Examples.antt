@@ -1,17 +1,17 @@
 -- The definitions, computed over rules that say each message back, and close after an unbind.
 use Rattle.std.proofs.Common.{◌≡◌, ℕ, Bool, false, List, [], ◌∷◌, Some, None, map, refl}
 use Rattle.std.specs.Prelude.{◌==◌, cond, length}
-use Rattle.ldap_msg.specs.ber_elements.read.Heading.{length_at, header_at}
-use Rattle.ldap_msg.specs.framing.Streams.{framed, frame_at, whole_of, rest_behind, whole, rest_of, is_broken}
+use Rattle.ldap_msg.specs.ber_elements.Heading.{length_at, header_at}
+use Rattle.ldap_msg.specs.Streams.{framed, frame_at, whole_of, rest_behind, whole, rest_of, is_broken}
 use Rattle.ldap_msg.specs.Replies.{notice_octets}
 use Rattle.wire_io.specs.declared.journal.Event.TheVariants as event
 use Rattle.wire_io.specs.declared.journal.Item.{Item}
 use Rattle.wire_io.specs.declared.journal.Item.TheVariants as item
-use Rattle.session_model.specs.laws.Rules.{Rules, talk}
-use Rattle.session_model.specs.laws.Run.{State, Closing, Step, Opened, Bytes, Ended, Gone, HungUp, start, step, run, run_from, held_numbers}
-use Rattle.session_model.specs.laws.Kept.{speech, heard}
+use Rattle.session_model.specs.Rules.{Rules, talk}
+use Rattle.session_model.specs.Run.{State, Closing, Step, Opened, Bytes, Ended, Gone, HungUp, start, step, run, run_from, held_numbers}
+use Rattle.session_model.specs.Kept.{speech, heard}
 use Rattle.wire_io.specs.Journal.{heard as heard_by}
-use Rattle.session_model.specs.laws.Journaled.{steps_of, all_taken, WasLater, uncut, cuts_of}
+use Rattle.session_model.specs.Journaled.{steps_of, all_taken, WasLater, uncut, cuts_of}
 
 -- an empty message closes, and is not said back
 closes_on : List ℕ → Bool

@@ -1,9 +1,9 @@
 -- What the crates above may cite.
 use Rattle.std.proofs.Common.{◌≡◌, ℕ, false, [], refl, arith}
-use Rattle.session_model.specs.laws.Rules.{Rules}
-use Rattle.session_model.specs.laws.Run.{Sessions, Step, Opened, Bytes, Ended, Gone, HungUp, step, start, held_numbers}
-use Rattle.session_model.specs.laws.Kept.{Held, heard}
-use Rattle.session_model.specs.laws.Keeping.{Keeps, IsNew}
+use Rattle.session_model.specs.Rules.{Rules}
+use Rattle.session_model.specs.Run.{Sessions, Step, Opened, Bytes, Ended, Gone, HungUp, step, start, held_numbers}
+use Rattle.session_model.specs.Kept.{Held, heard}
+use Rattle.session_model.specs.Keeping.{Keeps, IsNew}
 use Rattle.session_model.proofs.laws.KeepingLemmas.{Keeps-opened, Keeps-left}
 use Rattle.session_model.proofs.laws.BytesLemmas.{Keeps-bytes, Keeps-ended}
 -- queues and what closes, by number

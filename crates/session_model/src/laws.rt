@@ -3,12 +3,12 @@
 ghost use Rattle.std.specs.Prelude.{◌≡◌, ◌≤◌, ◌+◌, ◌++◌, ℕ, length, List, filter, None};
 ghost use Rattle.wire_io.specs.declared.journal.Item.{Item};
 ghost use Rattle.wire_io.specs.Journal.{heard as heard_events};
-ghost use Rattle.session_model.specs.laws.Rules.{Rules, talk};
-ghost use Rattle.session_model.specs.laws.Run.{Sessions, Step, Bytes, step};
-ghost use Rattle.session_model.specs.laws.Kept.{Held, heard, taken_off};
-ghost use Rattle.session_model.specs.laws.Keeping.{Keeps, IsNew, more_taken};
-ghost use Rattle.session_model.specs.laws.Journaled.{StepsOf, HasNoCut, steps_of, steps_of_events, is_event};
-ghost use Rattle.session_model.specs.laws.Joined.{and_then, LeavesAlike};
+ghost use Rattle.session_model.specs.Rules.{Rules, talk};
+ghost use Rattle.session_model.specs.Run.{Sessions, Step, Bytes, step};
+ghost use Rattle.session_model.specs.Kept.{Held, heard, taken_off};
+ghost use Rattle.session_model.specs.Keeping.{Keeps, IsNew, more_taken};
+ghost use Rattle.session_model.specs.Journaled.{StepsOf, HasNoCut, steps_of, steps_of_events, is_event};
+ghost use Rattle.session_model.specs.Joined.{and_then, LeavesAlike};
 
 /// What a server holds stays true to its sessions at each step, as long as no number is opened twice.
 pub fn keeps_each_step<T, W>()

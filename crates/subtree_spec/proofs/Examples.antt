@@ -3,8 +3,8 @@ use Rattle.std.proofs.Common.{◌≡◌, [], ◌∷◌, refl}
 use Rattle.std.specs.Prelude.{codes}
 use Rattle.std.specs.Prelude as std
 use Rattle.gser_tree.specs.Writing.{text_of}
-use Rattle.subtree_spec.specs.spec.Subtrees.{Subtree, Item, And, Not, None, Some}
-use Rattle.subtree_spec.specs.printing.SubtreePrinted.{print_subtree}
+use Rattle.subtree_spec.specs.Subtrees.{Subtree, Item, And, Not, None, Some}
+use Rattle.subtree_spec.specs.SubtreePrinted.{print_subtree}
 
 -- what is left out
 whole : Subtree

@@ -1,9 +1,9 @@
 -- what public clauses cite
-pub mod spec
+pub mod Subtrees
 pub mod Parts
-pub mod reading
-pub mod printing
-pub mod laws
+pub mod SubtreeText
+pub mod SubtreePrinted
+pub mod GoodSubtrees
 pub mod membership
 -- for the inside of the crate alone
-pub mod exclusions
+pub mod Excluding

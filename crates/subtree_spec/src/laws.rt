@@ -2,10 +2,10 @@
 
 ghost use Rattle.std.specs.Prelude.{◌≡◌, ℕ, List, Ok};
 ghost use Rattle.gser_tree.specs.Writing.{text_of};
-ghost use Rattle.subtree_spec.specs.spec.Subtrees.{Subtree};
-ghost use Rattle.subtree_spec.specs.reading.SubtreeText.{SubText, read_subtree};
-ghost use Rattle.subtree_spec.specs.printing.SubtreePrinted.{print_subtree};
-ghost use Rattle.subtree_spec.specs.laws.GoodSubtrees.{IsGoodSubtree};
+ghost use Rattle.subtree_spec.specs.Subtrees.{Subtree};
+ghost use Rattle.subtree_spec.specs.SubtreeText.{SubText, read_subtree};
+ghost use Rattle.subtree_spec.specs.SubtreePrinted.{print_subtree};
+ghost use Rattle.subtree_spec.specs.GoodSubtrees.{IsGoodSubtree};
 
 /// A specification that some text gives is good, its printed form is a text that gives it, and is read as it.
 pub fn a_printed_specification_is_read_again()

@@ -2,9 +2,9 @@
 
 ghost use Rattle.std.specs.Prelude.{◌≡◌, ◌≤◌, ◌+◌, ◌++◌, ◌&&◌, [], true, false, MatchOption, IfSome, length, drop, nat_lt, slice_index_or};
 ghost use Rattle.std.specs.List.{list_any};
-ghost use Rattle.dn_names.specs.order.NameOrder.{pair_cmp, rdn_cmp, is_prefix_of};
+ghost use Rattle.dn_names.specs.NameOrder.{pair_cmp, rdn_cmp, is_prefix_of};
 ghost use Rattle.subtree_spec.specs.membership.Membership.{is_within, holds_rest, holds_below, holds_name};
-ghost use Rattle.subtree_spec.specs.spec.Subtrees.{subtree_of};
+ghost use Rattle.subtree_spec.specs.Subtrees.{subtree_of};
 
 use crate::spec::Spec;
 use dn_names::{Dn, Pair, is_prefix};

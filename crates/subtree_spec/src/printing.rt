@@ -2,8 +2,8 @@
 
 ghost use Rattle.std.specs.Prelude.{◌≡◌, ◌++◌, None, Some, if◌then◌else◌, IfOk, OnOk, OnErr, codes, map, option_map, string_bytes};
 ghost use Rattle.gser_tree.specs.Writing.{text_of, print_number, print_choice, print_braces, print_optional, print_filled, PutsMembers};
-ghost use Rattle.subtree_spec.specs.spec.Subtrees.{choice_of, gathered, subtree_of};
-ghost use Rattle.subtree_spec.specs.printing.SubtreePrinted.{print_dn, print_base, print_chops, print_exclusions, print_minimum, print_refinement, print_refinements, print_subtree};
+ghost use Rattle.subtree_spec.specs.Subtrees.{choice_of, gathered, subtree_of};
+ghost use Rattle.subtree_spec.specs.SubtreePrinted.{print_dn, print_base, print_chops, print_exclusions, print_minimum, print_refinement, print_refinements, print_subtree};
 
 use crate::spec::{Refinement, Spec};
 use dn_names::Dn;

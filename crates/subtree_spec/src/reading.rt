@@ -2,15 +2,15 @@
 
 ghost use Rattle.std.specs.Prelude.{◌≡◌, ◌≤◌, None, Ok, Err, [], codes, map, option_map, IfOk};
 ghost use Rattle.gser_tree.specs.looking.Shapes.{Shape, nest};
-ghost use Rattle.gser_tree.specs.part.TextOf.{IsTextOf};
+ghost use Rattle.gser_tree.specs.TextOf.{IsTextOf};
 ghost use Rattle.subtree_spec.specs.declared.error.BadText.TheVariants.{Text};
 ghost use Rattle.gser_tree.specs.Tree.{shape_of};
 ghost use Rattle.gser_tree.specs.Reading.{Reads, optional};
 ghost use Rattle.subtree_spec.specs.Parts.{name};
-ghost use Rattle.subtree_spec.specs.reading.SubtreeText.{no_chops, exclusions, distance, there, refinement, components, subtree, SubText, read_subtree, judged, fault_of};
-ghost use Rattle.subtree_spec.specs.exclusions.Excluding.{chops_of, behind};
+ghost use Rattle.subtree_spec.specs.SubtreeText.{no_chops, exclusions, distance, there, refinement, components, subtree, SubText, read_subtree, judged, fault_of};
+ghost use Rattle.subtree_spec.specs.Excluding.{chops_of, behind};
 ghost use Rattle.plain_values.specs.Answers.{Answers};
-ghost use Rattle.subtree_spec.specs.spec.Subtrees.{Subtree, choice_of, subtree_of};
+ghost use Rattle.subtree_spec.specs.Subtrees.{Subtree, choice_of, subtree_of};
 
 use crate::error::BadText;
 use crate::exclusions::{Chopped, exclusions};

@@ -4,8 +4,8 @@ ghost use Rattle.std.specs.Prelude.{◌≡◌, map, option_map, string_bytes};
 ghost use Rattle.gser_tree.specs.Tree.{shape_of};
 ghost use Rattle.gser_tree.specs.Reading.{Reads};
 ghost use Rattle.subtree_spec.specs.Parts.{class_oid, set_of};
-ghost use Rattle.subtree_spec.specs.reading.SubtreeText.{item, alternative, refinement};
-ghost use Rattle.subtree_spec.specs.spec.Subtrees.{choice_of};
+ghost use Rattle.subtree_spec.specs.SubtreeText.{item, alternative, refinement};
+ghost use Rattle.subtree_spec.specs.Subtrees.{choice_of};
 
 use crate::parts::oid;
 use crate::spec::Refinement;

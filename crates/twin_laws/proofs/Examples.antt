@@ -3,20 +3,20 @@ use Rattle.std.proofs.Common.{◌≡◌, List, [], ◌∷◌, Bool, true, false,
 use Rattle.std.specs.Prelude.{codes}
 use Prim.Native.String.{String}
 use Rattle.dir_tree.specs.dn_names.name.Names.{TypeAndValue, RdnSequence}
-use Rattle.dir_tree.specs.dn_names.order.NameOrder.{name_cmp, is_same, is_prefix_of}
+use Rattle.dir_tree.specs.dn_names.NameOrder.{name_cmp, is_same, is_prefix_of}
 use Rattle.dir_tree.specs.Entry.{Attribute, EntryInformation}
-use Rattle.dir_tree.specs.classes.EntryClasses.{has_class}
-use Rattle.dir_tree.specs.subentries.Points.{is_point, is_specific_point, is_inner_point, is_subentry}
-use Rattle.acdf_filters.specs.admin_scope.point_list.Areas.{areas, has_within}
-use Rattle.acdf_filters.specs.admin_scope.subentries.InForce.{in_force}
+use Rattle.dir_tree.specs.EntryClasses.{has_class}
+use Rattle.dir_tree.specs.Points.{is_point, is_specific_point, is_inner_point, is_subentry}
+use Rattle.acdf_filters.specs.admin_scope.Areas.{areas, has_within}
+use Rattle.acdf_filters.specs.admin_scope.InForce.{in_force}
 use Rattle.acdf_filters.specs.aci_item.declared.level.Level.TheVariants.{Anyone}
 use Rattle.acdf_filters.specs.aci_item.declared.permission.Permission.TheVariants.{Browse}
 use Rattle.acdf_filters.specs.aci_item.Permission.{is_same as is_same_permission}
 use Rattle.acdf_filters.specs.aci_item.item.Items.{UserClasses, ProtectedItems, ItemFirst, UserFirst}
 use Rattle.acdf_filters.specs.declared.asking.Requester.{Requester}
-use Rattle.acdf_filters.specs.reading.Tuples.{items_in, inherited, tuples_of}
-use Rattle.acdf_filters.specs.laws.Filters.{decided}
-use Rattle.acdf_filters.specs.laws.Granted.{granted}
+use Rattle.acdf_filters.specs.Tuples.{items_in, inherited, tuples_of}
+use Rattle.acdf_filters.specs.Filters.{decided}
+use Rattle.acdf_filters.specs.Granted.{granted}
 use Rattle.ldap_msg.specs.ldap_filter.filter.Filters.Filter.{Present}
 use Rattle.ldap_msg.specs.declared.operations.ResultCode.TheVariants as code
 use Rattle.ldap_msg.specs.declared.kinds.SearchRequest.{SearchRequest}
@@ -25,8 +25,8 @@ use Rattle.ldap_msg.specs.declared.kinds.Reply.TheVariants as reply
 use Rattle.read_model.specs.Views.{Row, view_of, matched_name, hidden, result_of, result_with}
 use Rattle.read_model.specs.Selecting.{is_selected, selected}
 use Rattle.read_model.specs.SearchReplies.{found_replies, replies_at, search_replies}
-use Rattle.twin_laws.specs.laws.Groups.{groups_of}
-use Rattle.twin_laws.specs.laws.Twins.{is_below_suffix, shows_within, IsUnseen, AreTwins}
+use Rattle.twin_laws.specs.Groups.{groups_of}
+use Rattle.twin_laws.specs.Twins.{is_below_suffix, shows_within, IsUnseen, AreTwins}
 use Rattle.twin_laws.proofs.Theorems.{search_replies-twins}
 
 -- a name of one RDN for each letter

@@ -1,2 +1,3 @@
 -- what public clauses cite
-pub mod laws
+pub mod Groups
+pub mod Twins

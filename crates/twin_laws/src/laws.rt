@@ -2,12 +2,12 @@
 
 ghost use Rattle.std.specs.Prelude.{◌≡◌, Bool, true, false, List, [], ◌∷◌, Option};
 ghost use Rattle.dir_tree.specs.dn_names.name.Names.{RdnSequence};
-ghost use Rattle.dir_tree.specs.dn_names.order.NameOrder.{is_prefix_of};
+ghost use Rattle.dir_tree.specs.dn_names.NameOrder.{is_prefix_of};
 ghost use Rattle.dir_tree.specs.Entry.{EntryInformation};
 ghost use Rattle.dir_tree.specs.tree.Trees.{IsTree, named_in};
 ghost use Rattle.dir_tree.specs.Scope.{is_within};
-ghost use Rattle.acdf_filters.specs.admin_scope.point_list.Areas.{without_subtree};
-ghost use Rattle.acdf_filters.specs.admin_scope.subentries.InForce.{in_force};
+ghost use Rattle.acdf_filters.specs.admin_scope.Areas.{without_subtree};
+ghost use Rattle.acdf_filters.specs.admin_scope.InForce.{in_force};
 ghost use Rattle.acdf_filters.specs.declared.asking.Requester.{Requester};
 ghost use Rattle.ldap_msg.specs.declared.kinds.SearchRequest.{SearchRequest};
 ghost use Rattle.ldap_msg.specs.declared.kinds.CompareRequest.{CompareRequest};
@@ -16,7 +16,7 @@ ghost use Rattle.read_model.specs.Views.{view_of, matched_name, hidden, no_such_
 ghost use Rattle.read_model.specs.Selecting.{selected};
 ghost use Rattle.read_model.specs.SearchReplies.{replies_at, search_replies};
 ghost use Rattle.read_model.specs.CompareReplies.{compare_result};
-ghost use Rattle.twin_laws.specs.laws.Twins.{is_below_suffix, rows_outside, IsUnseen, AreTwins};
+ghost use Rattle.twin_laws.specs.Twins.{is_below_suffix, rows_outside, IsUnseen, AreTwins};
 
 /// A requester gets of twins the same replies to every search, and the same result of every compare (X.511 9
 /// and 10), with the same matched names.

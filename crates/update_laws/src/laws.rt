@@ -9,7 +9,7 @@ ghost use Rattle.ldap_msg.specs.declared.kinds.AddRequest.{AddRequest};
 ghost use Rattle.ldap_msg.specs.declared.kinds.DeleteRequest.{DeleteRequest};
 ghost use Rattle.ldap_msg.specs.declared.kinds.LdapResult.{LdapResult};
 ghost use Rattle.op_add_delete.specs.adding.Updates.{deleted, added, IsChanged};
-ghost use Rattle.update_laws.specs.laws.Granting.{MayDelete, MayAdd};
+ghost use Rattle.update_laws.specs.Granting.{MayDelete, MayAdd};
 
 /// A good tree stays good, whatever is deleted or added, and by whom.
 pub fn a_good_tree_stays_good()

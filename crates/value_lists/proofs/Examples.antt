@@ -1,7 +1,7 @@
 -- The definitions on values that are known.
 use Rattle.std.proofs.Common.{◌≡◌, ℕ, true, false, List, [], ◌∷◌, map, filter, not, ◌==◌, remove, refl}
 use Rattle.dn_names.specs.name.Names.{Keyed}
-use Rattle.value_lists.specs.ordered.Orders.{is_before, key_at, place_after}
+use Rattle.value_lists.specs.Orders.{is_before, key_at, place_after}
 
 -- a value whose key is its octets
 abbrev keyed : List ℕ → Keyed

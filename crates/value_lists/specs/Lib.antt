@@ -1,3 +1,3 @@
 -- for the inside of the crate alone
-pub mod ordered
+pub mod Orders
 pub mod Kept

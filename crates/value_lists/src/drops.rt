@@ -3,7 +3,7 @@
 ghost use Rattle.std.specs.Prelude.{◌≡◌, ◌<◌, not, length, map, filter, ◌==◌};
 ghost use Rattle.std.specs.List.{remove};
 ghost use Rattle.std.specs.Str.{bytes_eq};
-ghost use Rattle.value_lists.specs.ordered.Orders.{IsOrder, place_after};
+ghost use Rattle.value_lists.specs.Orders.{IsOrder, place_after};
 
 use crate::places::place_of;
 use dn_names::Value;

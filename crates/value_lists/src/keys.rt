@@ -3,7 +3,7 @@
 ghost use Rattle.std.specs.Prelude.{◌≡◌, not, filter, IfOk};
 ghost use Rattle.std.specs.List.{list_any};
 ghost use Rattle.std.specs.Str.{bytes_eq};
-ghost use Rattle.value_lists.specs.ordered.Orders.{key_at};
+ghost use Rattle.value_lists.specs.Orders.{key_at};
 
 use dn_names::Value;
 use std::alloc::{AllocError, Global};

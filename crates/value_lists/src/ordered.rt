@@ -3,7 +3,7 @@
 ghost use Rattle.std.specs.Prelude.{◌≡◌, ◌++◌, [], ◌∷◌, not, filter, IfOk, IfErr, OnOk, OnErr};
 ghost use Rattle.std.specs.List.{list_any};
 ghost use Rattle.std.specs.Str.{bytes_eq};
-ghost use Rattle.value_lists.specs.ordered.Orders.{IsOrder};
+ghost use Rattle.value_lists.specs.Orders.{IsOrder};
 
 use crate::drops::drop_in_order;
 use crate::keys::copy_values;
@@ -22,7 +22,7 @@ pub(crate) struct Ordered {
 impl Model for Ordered {
     ghost use Rattle.std.specs.Prelude.{List};
     ghost use Rattle.dn_names.specs.name.Names.{Keyed};
-    ghost use Rattle.value_lists.specs.ordered.Orders.{IsOrder};
+    ghost use Rattle.value_lists.specs.Orders.{IsOrder};
 
     ghost Value = { List Keyed };
 

@@ -4,12 +4,12 @@ use Rattle.script_text.specs.declared.event.ScriptEvent.TheVariants as script
 use Rattle.wire_io.specs.declared.journal.Event.TheVariants.{Opened, Bytes, Ended, Ready, Stop}
 use Rattle.wire_io.specs.declared.journal.Item.{Item}
 use Rattle.wire_io.specs.declared.journal.Item.TheVariants.{Heard, Taken, Later, Held, Released, HungUp}
-use Rattle.wire_io.specs.shelf.Files.{file_of}
+use Rattle.wire_io.specs.Files.{file_of}
 use Rattle.wire_io.specs.Journal.{heard, opened_by, taken_at, taken_of, hangs_up, is_hung_up, hold_after, hold_after_all, is_held}
-use Rattle.wire_io.specs.laws.Laws.{first_events}
-use Rattle.wire_io.specs.laws.Pieces.{cut, pieces_of, pieces}
-use Rattle.wire_io.specs.script.Playing.{left_over, first_turn, front_turn, next_turn}
-use Rattle.wire_io.specs.reading.ReadWhole.{line_past}
+use Rattle.wire_io.specs.Laws.{first_events}
+use Rattle.wire_io.specs.Pieces.{cut, pieces_of, pieces}
+use Rattle.wire_io.specs.Playing.{left_over, first_turn, front_turn, next_turn}
+use Rattle.wire_io.specs.ReadWhole.{line_past}
 use Rattle.wire_io.specs.Rising.{are_above, put_rising, rising_after, rising}
 
 -- five octets in a buffer of two come in three pieces

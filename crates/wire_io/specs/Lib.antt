@@ -1,17 +1,18 @@
 pub mod Answers
-pub mod shelf
+pub mod Files
 pub mod Journal
-pub mod laws
+pub mod Laws
+pub mod Pieces
 pub mod Log
-pub mod memory_shelf
+pub mod MemoryForms
 pub mod Peers
 pub mod link
-pub mod script
-pub mod sink
-pub mod reading
+pub mod Playing
+pub mod Putting
+pub mod ReadWhole
 pub mod Rising
-pub mod script_link
-pub mod file_shelf
+pub mod Scripted
+pub mod SystemForms
 -- the words of crates below, handed on
 pub use Rattle.script_text.specs as script_text
 pub use Rattle.plain_values.specs as plain_values

@@ -1,7 +1,7 @@
 //! The shelf of the system's files.
 
 ghost use Rattle.std.specs.Prelude.{◌≡◌, ◌≤◌, length, IfOk};
-ghost use Rattle.wire_io.specs.file_shelf.SystemForms.{shelf_faults};
+ghost use Rattle.wire_io.specs.SystemForms.{shelf_faults};
 
 use crate::{FetchFault, Shelf};
 use plain_values::raised;

@@ -1,6 +1,6 @@
 //! Laws of the definitions.
 
-ghost use Rattle.wire_io.specs.laws.Laws.{ScriptsComeInPieces, EventsBringScriptsOn, NumbersArePutInOrder};
+ghost use Rattle.wire_io.specs.Laws.{ScriptsComeInPieces, EventsBringScriptsOn, NumbersArePutInOrder};
 
 /// While no connection is on hold, a script's events come in pieces of the buffer's length, and then
 /// Stop for ever.

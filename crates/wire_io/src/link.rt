@@ -4,7 +4,7 @@ ghost use Rattle.std.specs.Prelude.{◌≡◌, ◌<◌, length, IfOk};
 ghost use Rattle.plain_values.specs.Counts.{NeverFalls};
 ghost use Rattle.wire_io.specs.Answers.{HeardFits, TookFits, LinkCause, WriteCause};
 ghost use Rattle.wire_io.specs.link.Telling.{OpenTells, NextTells, TookTells, NoteTells};
-ghost use Rattle.wire_io.specs.script.Playing.{NextPlays};
+ghost use Rattle.wire_io.specs.Playing.{NextPlays};
 
 use crate::{Heard, Item, NextFault, NoMemory, Took};
 

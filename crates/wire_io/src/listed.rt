@@ -1,7 +1,7 @@
 //! Which calls of a form in memory are to fail.
 
 ghost use Rattle.std.specs.Prelude.{◌≡◌};
-ghost use Rattle.wire_io.specs.memory_shelf.MemoryForms.{is_listed};
+ghost use Rattle.wire_io.specs.MemoryForms.{is_listed};
 
 /// Whether the number of the call is listed.
 pub(crate) fn is_listed(call: u64, calls: &[u64]) -> bool

@@ -1,8 +1,8 @@
 //! A shelf in memory.
 
 ghost use Rattle.std.specs.Prelude.{◌≡◌, ◌<◌, ◌≤◌, ◌-◌, map, min, string_bytes, Some, length, take, drop, IfOk, IfSome, IfNone, None};
-ghost use Rattle.wire_io.specs.shelf.Files.{Files, file_of, FetchGives, FetchCause};
-ghost use Rattle.wire_io.specs.memory_shelf.MemoryForms.{ShelfState, ShelfFetches, files_view};
+ghost use Rattle.wire_io.specs.Files.{Files, file_of, FetchGives, FetchCause};
+ghost use Rattle.wire_io.specs.MemoryForms.{ShelfState, ShelfFetches, files_view};
 
 use crate::copying::copy_front;
 use crate::listed::is_listed;
@@ -20,7 +20,7 @@ pub struct MemShelf {
 }
 
 impl Model for MemShelf {
-    ghost use Rattle.wire_io.specs.memory_shelf.MemoryForms.{ShelfState, files_view};
+    ghost use Rattle.wire_io.specs.MemoryForms.{ShelfState, files_view};
 
     ghost Value = { ShelfState };
 

@@ -2,8 +2,8 @@
 
 ghost use Rattle.std.specs.Prelude.{◌≡◌, ◌<◌, ◌≤◌, [], Some, length, IfOk};
 ghost use Rattle.plain_values.specs.Counts.{next_count};
-ghost use Rattle.wire_io.specs.sink.Putting.{WriteTells, PutCause};
-ghost use Rattle.wire_io.specs.memory_shelf.MemoryForms.{SinkState, SinkWrites};
+ghost use Rattle.wire_io.specs.Putting.{WriteTells, PutCause};
+ghost use Rattle.wire_io.specs.MemoryForms.{SinkState, SinkWrites};
 
 use crate::listed::is_listed;
 use crate::{PutFault, Sink};
@@ -21,7 +21,7 @@ pub struct MemSink {
 }
 
 impl Model for MemSink {
-    ghost use Rattle.wire_io.specs.memory_shelf.MemoryForms.{SinkState};
+    ghost use Rattle.wire_io.specs.MemoryForms.{SinkState};
 
     ghost Value = { SinkState };
 

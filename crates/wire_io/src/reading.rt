@@ -1,7 +1,7 @@
 //! Reading a file whole.
 
 ghost use Rattle.std.specs.Prelude.{◌≡◌, ◌<◌, ◌+◌, ◌==◌, ◌≤◌, ◌^◌, IfOk, count_by, vec_len, length};
-ghost use Rattle.wire_io.specs.reading.ReadWhole.{line_past, GivesFile, HasRead, PieceGives, PieceCause, ReadCause};
+ghost use Rattle.wire_io.specs.ReadWhole.{line_past, GivesFile, HasRead, PieceGives, PieceCause, ReadCause};
 
 use crate::{FetchFault, ReadFault, Shelf};
 use std::alloc::{AllocError, Global};

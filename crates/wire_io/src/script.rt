@@ -4,7 +4,7 @@ ghost use Rattle.std.specs.Prelude.{◌≡◌, ◌<◌, ◌++◌, min, take, dro
 ghost use Rattle.script_text.specs.Recording.{first_head, first_octets, without_first};
 ghost use Rattle.script_text.specs.script.Script.{AreFilled};
 ghost use Rattle.wire_io.specs.Answers.{HeardFits};
-ghost use Rattle.wire_io.specs.script.Playing.{first_conn, front_turn, next_turn, holds_of, left_by};
+ghost use Rattle.wire_io.specs.Playing.{first_conn, front_turn, next_turn, holds_of, left_by};
 ghost use Rattle.wire_io.specs.link.Telling.{event_of};
 
 use crate::copying::copy_front;
@@ -29,7 +29,7 @@ pub(crate) struct Script {
 impl Model for Script {
     ghost use Rattle.std.specs.Prelude.{List, ◌++◌, drop};
     ghost use Rattle.script_text.specs.declared.event.ScriptEvent.{ScriptEvent};
-    ghost use Rattle.wire_io.specs.script.Playing.{without_front};
+    ghost use Rattle.wire_io.specs.Playing.{without_front};
 
     ghost Value = { List ScriptEvent };
 

@@ -7,10 +7,10 @@ ghost use Rattle.script_text.specs.script.ScriptReading.{IsCause, script_of};
 ghost use Rattle.wire_io.specs.declared.journal.Item.{Item};
 ghost use Rattle.wire_io.specs.Answers.{HeardFits, TookFits, LinkCause, WriteCause};
 ghost use Rattle.wire_io.specs.Journal.{is_hung_up, opened_by, taken_of};
-ghost use Rattle.wire_io.specs.memory_shelf.MemoryForms.{is_listed};
-ghost use Rattle.wire_io.specs.script.Playing.{NextPlays};
+ghost use Rattle.wire_io.specs.MemoryForms.{is_listed};
+ghost use Rattle.wire_io.specs.Playing.{NextPlays};
 ghost use Rattle.wire_io.specs.Rising.{rising};
-ghost use Rattle.wire_io.specs.script_link.Scripted.{fresh_link, AreApart, LinkOpens, LinkHears, LinkWrites, LinkNotes};
+ghost use Rattle.wire_io.specs.Scripted.{fresh_link, AreApart, LinkOpens, LinkHears, LinkWrites, LinkNotes};
 ghost use Rattle.wire_io.specs.link.Telling.{OpenTells, NextTells, TookTells, NoteTells};
 
 use crate::listed::is_listed;
@@ -40,7 +40,7 @@ pub struct ScriptLink {
 }
 
 impl Model for ScriptLink {
-    ghost use Rattle.wire_io.specs.script_link.Scripted.{LinkState, IsPlayable};
+    ghost use Rattle.wire_io.specs.Scripted.{LinkState, IsPlayable};
 
     ghost Value = { LinkState };
 

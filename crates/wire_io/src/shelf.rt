@@ -5,7 +5,7 @@ use crate::FetchFault;
 /// Named files. Where the shelf tells, `files` is the files that it has.
 pub trait Shelf {
     ghost use Rattle.std.specs.Prelude.{◌≡◌, ◌<◌, ◌≤◌, ℕ, Option, List, length, IfOk};
-    ghost use Rattle.wire_io.specs.shelf.Files.{Files, FetchGives, FetchCause};
+    ghost use Rattle.wire_io.specs.Files.{Files, FetchGives, FetchCause};
 
     ghost files: { Self → Option Files };
 

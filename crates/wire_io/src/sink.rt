@@ -5,7 +5,7 @@ use crate::PutFault;
 /// What takes octets in order. Where the sink tells, `put` is the octets put so far.
 pub trait Sink {
     ghost use Rattle.std.specs.Prelude.{◌≡◌, ◌<◌, ◌≤◌, ℕ, Option, List, length, IfOk};
-    ghost use Rattle.wire_io.specs.sink.Putting.{WriteTells, PutCause};
+    ghost use Rattle.wire_io.specs.Putting.{WriteTells, PutCause};
 
     ghost put: { Self → Option (List ℕ) };
 

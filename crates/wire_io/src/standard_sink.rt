@@ -1,7 +1,7 @@
 //! The sink of the system's standard output.
 
 ghost use Rattle.std.specs.Prelude.{◌≡◌};
-ghost use Rattle.wire_io.specs.file_shelf.SystemForms.{sink_faults};
+ghost use Rattle.wire_io.specs.SystemForms.{sink_faults};
 
 use crate::{PutFault, Sink};
 use plain_values::raised;

@@ -1,6 +1,6 @@
 //! Putting all octets of a piece.
 
-ghost use Rattle.wire_io.specs.sink.Putting.{PutsAll, PutCause};
+ghost use Rattle.wire_io.specs.Putting.{PutsAll, PutCause};
 
 use crate::{PutFault, Sink};
 

@@ -7,12 +7,12 @@ use Rattle.std.proofs.lemmas.List.{append_assoc}
 use Rattle.dir_tree.specs.dn_names.name.Names.{RdnSequence}
 use Rattle.dir_tree.specs.Entry.{EntryInformation}
 use Rattle.dir_tree.specs.tree.Trees.{superior_name, named_in}
-use Rattle.dir_tree.specs.subentries.Points.{is_subentry}
+use Rattle.dir_tree.specs.Points.{is_subentry}
 use Rattle.dir_tree.specs.tree.Numbered.{Numbered, IsNumberedTree, entry_of, entries_of, entries_at, find_name, superior_of}
 use Rattle.dir_tree.specs.declared.number.EntryNo.{EntryNo}
 use Rattle.dir_tree.proofs.TreeTheorems.{entry_of-found}
-use Rattle.acdf_filters.specs.admin_scope.subentries.InForce.{in_force}
-use Rattle.acdf_filters.specs.reading.Tuples.{Listed, prescriptive_aci, entry_aci, subentry_aci, listed_by, listed_in, inherited, tuples_of}
+use Rattle.acdf_filters.specs.admin_scope.InForce.{in_force}
+use Rattle.acdf_filters.specs.Tuples.{Listed, prescriptive_aci, entry_aci, subentry_aci, listed_by, listed_in, inherited, tuples_of}
 use Rattle.acdf_filters.specs.aci_item.item.Views.{tuple_of}
 use Rattle.acdf_filters.specs.aci_item.declared.splitting.AciTuple as code
 use Rattle.acdf_filters.specs.declared.question.Question.{Question}

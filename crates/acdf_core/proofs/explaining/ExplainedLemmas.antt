@@ -5,9 +5,9 @@ use Rattle.dir_tree.specs.Entry.{EntryInformation}
 use Rattle.dir_tree.specs.tree.Numbered.{Numbered, entries_of}
 use Rattle.acdf_filters.specs.Asking.{Asked, protected_of}
 use Rattle.acdf_filters.specs.users.Choices.{is_filled}
-use Rattle.acdf_filters.specs.laws.Filters.{Placed, level_1, level_2, level_3, level_4, level_5, level_6, decided}
-use Rattle.acdf_filters.specs.reading.Tuples.{Listed, tuples_of}
-use Rattle.acdf_filters.specs.laws.Granted.{placed_of, granted}
+use Rattle.acdf_filters.specs.Filters.{Placed, level_1, level_2, level_3, level_4, level_5, level_6, decided}
+use Rattle.acdf_filters.specs.Tuples.{Listed, tuples_of}
+use Rattle.acdf_filters.specs.Granted.{placed_of, granted}
 use Rattle.acdf_filters.specs.weighing.Weighing.{asked_of, asked_ranks}
 use Rattle.acdf_filters.specs.declared.question.Question.{Question}
 use Rattle.acdf_core.specs.declared.candidates.Candidate.{Candidate}
@@ -15,7 +15,7 @@ use Rattle.acdf_core.specs.declared.facts.Facts.{Facts}
 use Rattle.acdf_core.specs.declared.steps.Counts.{Counts}
 use Rattle.acdf_core.specs.declared.steps.KeptTuple.{KeptTuple}
 use Rattle.acdf_core.specs.declared.steps.Steps.{Steps}
-use Rattle.acdf_core.specs.explaining.Explained.{AreCounts, Kept, kept_at, kept_of, IsExplained}
+use Rattle.acdf_core.specs.Explained.{AreCounts, Kept, kept_at, kept_of, IsExplained}
 use Rattle.acdf_core.specs.Candidates.{Described, described, described_for, described_at, described_all, staying, covering, permitted, foremost, most_specific, deciding, AreCounted, kept_from, kept_in, all_grant}
 use Rattle.acdf_core.proofs.filters.MappedLemmas.{map-both, same_length, staying-mapped, covering-mapped, permitted-mapped, foremost-mapped, most_specific-mapped, deciding-mapped, granting-mapped}
 

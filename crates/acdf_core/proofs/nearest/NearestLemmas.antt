@@ -9,7 +9,7 @@ use Rattle.std.proofs.lemmas.List.{reverse-append}
 use Rattle.std.proofs.lemmas.List.Folds.{find-append}
 use Rattle.dir_tree.proofs.base_laws_proofs.Theorems.{all_map}
 use Rattle.dir_tree.specs.dn_names.name.Names.{RdnSequence}
-use Rattle.dir_tree.specs.dn_names.order.NameOrder.{name_cmp, is_prefix_of}
+use Rattle.dir_tree.specs.dn_names.NameOrder.{name_cmp, is_prefix_of}
 use Rattle.dir_tree.specs.Entry.{EntryInformation}
 use Rattle.dir_tree.specs.tree.Numbered.{Numbered, entries_of, entry_of, find_name, find_front, AreDistinct, IsNumberedTree}
 use Rattle.dir_tree.proofs.TreeTheorems.{entry_of-found}
@@ -17,7 +17,7 @@ use Rattle.dir_tree.specs.tree.Trees.{is_named, named_in, is_below, IsInOrder}
 use Rattle.dir_tree.specs.declared.number.EntryNo.{EntryNo}
 use Rattle.acdf_filters.proofs.admin_scope_proofs.Theorems.{longer_front, length-named, front-named, named-front}
 use Rattle.acdf_filters.specs.declared.asking.Requester.{Requester}
-use Rattle.acdf_filters.specs.laws.Granted.{is_disclosed, matched}
+use Rattle.acdf_filters.specs.Granted.{is_disclosed, matched}
 use Rattle.acdf_core.specs.nearest.Nearest.{IsEntryOf}
 use Rattle.acdf_core.specs.nearest.Fronts.{where_passes, NonePasses}
 

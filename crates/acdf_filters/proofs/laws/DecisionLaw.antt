@@ -8,11 +8,11 @@ use Rattle.acdf_filters.specs.declared.standing.Standing.{Standing}
 use Rattle.acdf_filters.specs.Asking.{Asked}
 use Rattle.acdf_filters.specs.users.Choices.{least, is_filled}
 use Rattle.acdf_filters.specs.Covering.{covers}
-use Rattle.acdf_filters.specs.laws.Filters.{Placed, stays, has_permission, level_3, decided}
-use Rattle.acdf_filters.specs.laws.Granted.{placed}
+use Rattle.acdf_filters.specs.Filters.{Placed, stays, has_permission, level_3, decided}
+use Rattle.acdf_filters.specs.Granted.{placed}
 use Rattle.acdf_filters.specs.Standing as generic
 use Rattle.acdf_filters.specs.Standing.{initial, standing}
-use Rattle.acdf_filters.specs.reading.Tuples.{Listed}
+use Rattle.acdf_filters.specs.Tuples.{Listed}
 use Rattle.acdf_filters.specs.users.Users.{listed_ranks}
 use Rattle.acdf_filters.specs.weighing.Weighing.{passes, weighed, keys_of, asked_of, weighed_for, is_granted}
 use Rattle.acdf_filters.proofs.laws.StandingLaw.{fold-weighed}

@@ -7,25 +7,25 @@ use Rattle.std.proofs.lemmas.Bool.{cases_Bool, both_ways, or_parts, false_from_n
 use Rattle.std.proofs.lemmas.List.{take-append-drop, map-append}
 use Rattle.dir_tree.proofs.base_laws_proofs.Theorems.{all_map, all_append, all_filter, none_passes, map-agree, find-filter}
 use Rattle.dir_tree.specs.dn_names.name.Names.{RdnSequence}
-use Rattle.dir_tree.specs.dn_names.order.NameOrder.{is_same, is_prefix_of, types_and_keys, type_and_key}
+use Rattle.dir_tree.specs.dn_names.NameOrder.{is_same, is_prefix_of, types_and_keys, type_and_key}
 use Rattle.dir_tree.proofs.dn_names_proofs.Theorems.{is_prefix_of-types_and_keys}
 use Rattle.dir_tree.specs.Entry.{EntryInformation}
 use Rattle.dir_tree.specs.tree.Trees.{is_named, named_in, superior_name}
-use Rattle.dir_tree.specs.subentries.Points.{is_subentry, is_access_subentry}
+use Rattle.dir_tree.specs.Points.{is_subentry, is_access_subentry}
 use Rattle.dir_tree.specs.Scope.{is_within}
 use Rattle.dir_tree.proofs.TreeTheorems.{prefix_like}
-use Rattle.admin_scope.specs.point_list.Areas.{areas, without_subtree, has_within}
-use Rattle.admin_scope.specs.subentries.InForce.{reaches, in_force_at, in_force}
+use Rattle.admin_scope.specs.Areas.{areas, without_subtree, has_within}
+use Rattle.admin_scope.specs.InForce.{reaches, in_force_at, in_force}
 use Rattle.admin_scope.proofs.Theorems.{prefix_chain, in_force-without}
 use Rattle.aci_item.specs.item.Items.{UserClasses}
 use Rattle.aci_item.specs.declared.permission.Permission.{Permission}
 use Rattle.acdf_filters.specs.declared.asking.Requester.{Requester}
 use Rattle.acdf_filters.specs.Asking.{Protected, Asked}
-use Rattle.acdf_filters.specs.reading.Tuples.{Listed, prescriptive_aci, entry_aci, subentry_aci, listed_in, inherited, tuples_of, tuples_new}
+use Rattle.acdf_filters.specs.Tuples.{Listed, prescriptive_aci, entry_aci, subentry_aci, listed_in, inherited, tuples_of, tuples_new}
 use Rattle.acdf_filters.specs.users.Users.{has_member, is_in_group, is_in_groups, ranks_of, rank_where, is_held}
-use Rattle.acdf_filters.specs.laws.Filters.{Placed, decided}
-use Rattle.acdf_filters.specs.laws.Granted.{placed, granted, granted_new}
-use Rattle.acdf_filters.specs.laws.Unseen.{names_group, names_group_in, has_group, IsApart}
+use Rattle.acdf_filters.specs.Filters.{Placed, decided}
+use Rattle.acdf_filters.specs.Granted.{placed, granted, granted_new}
+use Rattle.acdf_filters.specs.Unseen.{names_group, names_group_in, has_group, IsApart}
 use Rattle.acdf_filters.proofs.laws.ListLemmas.{all_flat_map, all_flat_map_of, list_any-agree}
 
 -- no entry of the subtree has a name outside it

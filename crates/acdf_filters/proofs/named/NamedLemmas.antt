@@ -7,7 +7,7 @@ use Rattle.dir_tree.specs.schema_tables.declared.kinds.Syntax.TheVariants.{Name}
 use Rattle.dir_tree.specs.schema_tables.Attributes.{attributes, syntax_of}
 use Rattle.dir_tree.specs.dn_names.name.Names.{Keyed, RdnSequence}
 use Rattle.dir_tree.specs.dn_names.name.GoodNames.{IsGoodName}
-use Rattle.dir_tree.specs.dn_names.make.NameValues.{value_key, value_of, read_key}
+use Rattle.dir_tree.specs.dn_names.NameValues.{value_key, value_of, read_key}
 use Rattle.dir_tree.specs.dn_names.Printing.{print_name, name_key}
 use Rattle.dir_tree.proofs.dn_names_proofs.Theorems.{read_name-print_name}
 use Rattle.acdf_filters.specs.users.Users.{member}

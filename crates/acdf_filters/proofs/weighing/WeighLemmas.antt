@@ -2,11 +2,11 @@
 use Rattle.std.proofs.Common.{◌≡◌, ℕ, ◌<◌, Bool, true, false, not, ◌&&◌, ◌||◌, List, [], ◌∷◌, refl, ap, ◌∙◌, arith}
 use Rattle.std.specs.Prelude.{cond, nat_lt}
 use Rattle.std.proofs.lemmas.Bool.{cond-true, cond-false, lt-ltb, le-ltb}
-use Rattle.aci_item.specs.splitting.AciTuples.{AciTuple}
+use Rattle.aci_item.specs.AciTuples.{AciTuple}
 use Rattle.acdf_filters.specs.Asking.{Asked}
 use Rattle.acdf_filters.specs.users.Choices.{least}
 use Rattle.acdf_filters.specs.Covering.{covers}
-use Rattle.acdf_filters.specs.laws.Filters.{stays, asks_above, has_permission}
+use Rattle.acdf_filters.specs.Filters.{stays, asks_above, has_permission}
 use Rattle.acdf_filters.specs.Standing.{with_one, with_class}
 use Rattle.acdf_filters.specs.users.Users.{listed_ranks}
 use Rattle.acdf_filters.specs.weighing.Weighing.{passes, alone_at, alone, weighed, with_class_of, with_permission_of, least_class, by_class}

@@ -4,11 +4,11 @@ use Rattle.std.specs.Prelude.{ℕ, Bool, false, ◌&&◌, ◌||◌, List, [], �
 use Rattle.std.specs.List.{list_any}
 use Rattle.std.specs.Option.{option_map_or}
 use Rattle.dir_tree.specs.dn_names.name.Names.{RdnSequence}
-use Rattle.dir_tree.specs.dn_names.order.NameOrder.{is_same}
+use Rattle.dir_tree.specs.dn_names.NameOrder.{is_same}
 use Rattle.dir_tree.specs.dn_names.Printing.{name_key}
 use Rattle.dir_tree.specs.Entry.{EntryInformation, values_of, has_key}
 use Rattle.dir_tree.specs.tree.Trees.{named_in}
-use Rattle.aci_item.specs.subtree_spec.spec.Subtrees.{Subtree}
+use Rattle.aci_item.specs.subtree_spec.Subtrees.{Subtree}
 use Rattle.aci_item.specs.subtree_spec.membership.Membership.{holds_name}
 use Rattle.aci_item.specs.item.Items.{UserClasses}
 use Rattle.acdf_filters.specs.users.Choices.{is_filled}

@@ -3,21 +3,21 @@ use Rattle.std.specs.Prelude.{◌≡◌, ℕ, Bool, true, false, not, ◌&&◌, 
 use Rattle.std.specs.List.{AllByRecursion}
 use Rattle.std.specs.Option.{option_map}
 use Rattle.dir_tree.specs.dn_names.name.Names.{RdnSequence}
-use Rattle.dir_tree.specs.dn_names.order.NameOrder.{is_same}
+use Rattle.dir_tree.specs.dn_names.NameOrder.{is_same}
 use Rattle.dir_tree.specs.Entry.{EntryInformation}
 use Rattle.dir_tree.specs.tree.Numbered.{entries_of}
-use Rattle.aci_item.specs.splitting.AciTuples.{AciTuple}
+use Rattle.aci_item.specs.AciTuples.{AciTuple}
 use Rattle.acdf_filters.specs.Asking.{Asked, protected_of}
 use Rattle.acdf_filters.specs.users.Choices.{least, is_filled}
 use Rattle.acdf_filters.specs.users.Users.{is_in_group, ranks_of, listed_ranks}
 use Rattle.acdf_filters.specs.Covering.{covers, is_explicit}
-use Rattle.acdf_filters.specs.laws.Filters.{Placed, asks_above, stays, rank, has_permission}
+use Rattle.acdf_filters.specs.Filters.{Placed, asks_above, stays, rank, has_permission}
 use Rattle.acdf_filters.specs.weighing.LastFilters.{Keys}
 use Rattle.acdf_filters.specs.Standing.{with_one}
 use Rattle.acdf_filters.specs.declared.question.Membership.{Membership}
 use Rattle.acdf_filters.specs.declared.question.Question.{Question}
 use Rattle.aci_item.specs.item.Views.{tuple_of}
-use Rattle.acdf_filters.specs.reading.Tuples as tuples
+use Rattle.acdf_filters.specs.Tuples as tuples
 use Rattle.acdf_filters.specs.declared.weighing.TaggedTuples as code
 use Rattle.acdf_filters.specs.declared.standing.Standing.{Standing}
 

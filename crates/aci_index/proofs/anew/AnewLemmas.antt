@@ -6,9 +6,9 @@ use Rattle.std.proofs.lemmas.Bool.{cases_eq}
 use Rattle.std.proofs.lemmas.List.{length-set}
 use Rattle.dir_tree.specs.Entry.{EntryInformation}
 use Rattle.dir_tree.specs.tree.Numbered.{Numbered, IsNumberedTree, entry_of}
-use Rattle.acdf_filters.specs.admin_scope.subtrees.Finding.{AreSubtrees}
+use Rattle.acdf_filters.specs.admin_scope.Finding.{AreSubtrees}
 use Rattle.acdf_filters.specs.admin_scope.declared.subtrees.AccessSubentry.{AccessSubentry}
-use Rattle.scope_laws.specs.laws.Aside.{IsAside, IsChangeOf}
+use Rattle.scope_laws.specs.Aside.{IsAside, IsChangeOf}
 use Rattle.scope_laws.proofs.Theorems.{entry_of-new}
 use Rattle.aci_lists.specs.declared.kept.Kept.{Kept}
 use Rattle.aci_lists.specs.declared.kept.Holdings.{Holdings}
@@ -18,7 +18,7 @@ use Rattle.aci_lists.proofs.Theorems.{lists_at-set_other, lists_at-set_same}
 use Rattle.aci_index.specs.declared.anew.Remade.{Remade}
 use Rattle.aci_index.specs.declared.anew.Anew.{Anew}
 use Rattle.aci_index.specs.declared.anew.Reach.{Reach}
-use Rattle.aci_index.specs.points.Reach.{AreBelow, HaveRoom, IsAnew, IsPut, IsRemade, numbers_of, put_one, reached}
+use Rattle.aci_index.specs.Reach.{AreBelow, HaveRoom, IsAnew, IsPut, IsRemade, numbers_of, put_one, reached}
 use Rattle.aci_index.proofs.inserting.HeldLemmas.{lists-aside}
 use Rattle.aci_index.proofs.anew.NumberLemmas.{below-scoped}
 

@@ -8,7 +8,7 @@ use Rattle.dir_tree.specs.tree.Numbered.{Numbered, ids_of, entry_of, put_row, wi
 use Rattle.dir_tree.specs.Scope.{is_within, in_scope, scoped}
 use Rattle.dir_tree.specs.declared.scope.Scope.TheVariants.{Sub}
 use Rattle.dir_tree.proofs.TreeTheorems.{all_known}
-use Rattle.aci_index.specs.points.Reach.{AreBelow}
+use Rattle.aci_index.specs.Reach.{AreBelow}
 
 pub below-more : (bound more : ℕ) (rows : List Numbered) → bound ≤ more → AreBelow bound rows → AreBelow more rows
 below-more bound more [] e h = tt

@@ -1,11 +1,11 @@
 -- What comes, goes or changes immediately below a name stands aside from all entries that are not at or below that name.
 use Rattle.std.proofs.Common.{◌≡◌, ◌≢◌, ◌+◌, ◌==◌, true, false, [], ◌∷◌, length, sym, ◌∙◌, Some, None}
 use Rattle.std.proofs.lemmas.Bool.{and_parts}
-use Rattle.dir_tree.specs.dn_names.order.NameOrder.{is_prefix_of, is_same}
+use Rattle.dir_tree.specs.dn_names.NameOrder.{is_prefix_of, is_same}
 use Rattle.dir_tree.specs.Entry.{EntryInformation}
 use Rattle.dir_tree.specs.tree.Trees.{superior_name}
 use Rattle.dir_tree.proofs.TreeTheorems.{same_like, child_is}
-use Rattle.scope_laws.specs.laws.Aside.{IsAside}
+use Rattle.scope_laws.specs.Aside.{IsAside}
 use Rattle.scope_laws.proofs.Theorems.{aside-under}
 use Rattle.aci_index.proofs.inserting.ReachLemmas.{IsApart}
 

@@ -4,14 +4,14 @@ use Rattle.std.specs.Prelude.{IfSome}
 use Rattle.std.proofs.lemmas.Bool.{cases_eq}
 use Rattle.dir_tree.specs.Entry.{EntryInformation}
 use Rattle.dir_tree.specs.tree.Numbered.{Numbered, IsNumberedTree, entry_of}
-use Rattle.acdf_filters.specs.admin_scope.subtrees.Finding.{AreSubtrees}
+use Rattle.acdf_filters.specs.admin_scope.Finding.{AreSubtrees}
 use Rattle.acdf_filters.specs.admin_scope.declared.subtrees.AccessSubentry.{AccessSubentry}
-use Rattle.scope_laws.specs.laws.Aside.{IsAside, IsChangeOf}
+use Rattle.scope_laws.specs.Aside.{IsAside, IsChangeOf}
 use Rattle.scope_laws.proofs.Theorems.{entry_of-new, numbers-aside}
 use Rattle.aci_lists.specs.declared.kept.Holdings.{Holdings}
 use Rattle.aci_lists.specs.kept.Lists.{Lists, lists_at, AreOf}
 use Rattle.aci_lists.specs.kept.Holdings.{IsHeld}
-use Rattle.aci_index.specs.anew.Steps.{AllStay, IsKeptOf, OthersStay}
+use Rattle.aci_index.specs.Steps.{AllStay, IsKeptOf, OthersStay}
 use Rattle.aci_index.proofs.inserting.SubtreeLemmas.{IsOrdinary, subtrees-stay}
 
 -- the lists of an entry from which what changes stands aside

@@ -3,7 +3,7 @@ use Rattle.std.proofs.Common.{◌≡◌, ◌≢◌, ℕ, List, [], ap, sym, subs
 use Rattle.dir_tree.specs.Entry.{EntryInformation}
 use Rattle.dir_tree.specs.tree.Numbered.{Numbered, IsNumberedTree, entry_of, put_entry}
 use Rattle.scope_laws.proofs.Theorems.{change-put}
-use Rattle.aci_index.specs.points.Reach.{reached}
+use Rattle.aci_index.specs.Reach.{reached}
 use Rattle.aci_index.specs.declared.anew.Reach.TheVariants.{Around}
 use Rattle.aci_index.proofs.inserting.ReachLemmas.{IsApart, unreached-around}
 use Rattle.aci_index.proofs.inserting.AroundLemmas.{apart-put, apart-itself}

@@ -5,14 +5,14 @@ use Rattle.std.specs.List.{AllByRecursion}
 use Rattle.std.specs.Option.{option_map, option_and_then}
 use Rattle.std.proofs.lemmas.Bool.{cases_Bool, eqb-false}
 use Rattle.dir_tree.specs.Entry.{EntryInformation}
-use Rattle.dir_tree.specs.subentries.Points.{is_access_subentry}
+use Rattle.dir_tree.specs.Points.{is_access_subentry}
 use Rattle.dir_tree.specs.tree.Numbered.{Numbered, IsNumberedTree, ids_of, entry_of, subentry_rows, without}
 use Rattle.dir_tree.proofs.TreeTheorems.{put_row-taken, without-absent as without-unused, filter-put_other}
-use Rattle.acdf_filters.specs.subtree_spec.spec.Subtrees.{subtree_of}
-use Rattle.acdf_filters.specs.admin_scope.subentries.InForce.{subtree_of_entry}
-use Rattle.acdf_filters.specs.admin_scope.subtrees.Finding.{AreSubtrees, subtree_at}
+use Rattle.acdf_filters.specs.subtree_spec.Subtrees.{subtree_of}
+use Rattle.acdf_filters.specs.admin_scope.InForce.{subtree_of_entry}
+use Rattle.acdf_filters.specs.admin_scope.Finding.{AreSubtrees, subtree_at}
 use Rattle.acdf_filters.specs.admin_scope.declared.subtrees.AccessSubentry.{AccessSubentry}
-use Rattle.scope_laws.specs.laws.Aside.{IsChangeOf}
+use Rattle.scope_laws.specs.Aside.{IsChangeOf}
 use Rattle.scope_laws.proofs.Theorems.{entry_of-new}
 
 -- the entry is no access control subentry

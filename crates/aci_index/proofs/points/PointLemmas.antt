@@ -1,15 +1,15 @@
 -- An entry in place of one that is the same as a point changes nothing in force for any entry.
 use Rattle.std.proofs.Common.{◌≡◌, ◌⊎◌, inl, inr, Bool, true, false, not, ◌&&◌, ◌||◌, refl, ap, sym, ◌∙◌, length, Some, None}
 use Rattle.std.proofs.lemmas.Bool.{cond-false, and_parts, or_cases, not-true}
-use Rattle.dir_tree.specs.dn_names.order.NameOrder.{is_same}
+use Rattle.dir_tree.specs.dn_names.NameOrder.{is_same}
 use Rattle.dir_tree.specs.Entry.{EntryInformation}
-use Rattle.dir_tree.specs.subentries.Points.{is_specific_point, is_inner_point, is_access_subentry}
+use Rattle.dir_tree.specs.Points.{is_specific_point, is_inner_point, is_access_subentry}
 use Rattle.dir_tree.specs.Scope.{is_within}
 use Rattle.dir_tree.proofs.TreeTheorems.{same_itself}
-use Rattle.acdf_filters.specs.admin_scope.point_list.Areas.{is_access_point}
-use Rattle.scope_laws.specs.laws.Aside.{is_point_over, point_over, IsAside}
+use Rattle.acdf_filters.specs.admin_scope.Areas.{is_access_point}
+use Rattle.scope_laws.specs.Aside.{is_point_over, point_over, IsAside}
 use Rattle.scope_laws.proofs.Theorems.{aside-same}
-use Rattle.aci_index.specs.anew.Steps.{are_alike, are_ordinary, has_same_roles, is_same_point, is_own_change}
+use Rattle.aci_index.specs.Steps.{are_alike, are_ordinary, has_same_roles, is_same_point, is_own_change}
 use Rattle.aci_index.proofs.inserting.SubtreeLemmas.{IsOrdinary}
 
 alike : (a b : Bool) → are_alike a b ≡ true → a ≡ b

@@ -6,7 +6,7 @@ use Rattle.scope_laws.proofs.Theorems.{change-replaced}
 use Rattle.aci_lists.specs.declared.kept.Holdings.{Holdings}
 use Rattle.aci_lists.specs.kept.Lists.{AreOf, lists_at}
 use Rattle.aci_lists.specs.kept.Holdings.{IsHeld}
-use Rattle.aci_index.specs.anew.Steps.{OthersStay, is_own_change}
+use Rattle.aci_index.specs.Steps.{OthersStay, is_own_change}
 use Rattle.aci_index.proofs.points.PointLemmas.{own-change}
 use Rattle.aci_index.proofs.inserting.HeldLemmas.{held-aside, lists-aside}
 

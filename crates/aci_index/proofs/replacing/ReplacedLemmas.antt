@@ -4,25 +4,25 @@ use Rattle.std.specs.Option.{option_map_or}
 use Rattle.std.proofs.lemmas.Bool.{cases_Bool, cond-true, cond-false, and_parts, not-true}
 use Rattle.std.proofs.lemmas.List.{take_all}
 use Rattle.dir_tree.specs.dn_names.name.Names.{RdnSequence}
-use Rattle.dir_tree.specs.dn_names.order.NameOrder.{is_same, is_prefix_of}
+use Rattle.dir_tree.specs.dn_names.NameOrder.{is_same, is_prefix_of}
 use Rattle.dir_tree.specs.Entry.{EntryInformation}
 use Rattle.dir_tree.specs.tree.Trees.{has_below}
 use Rattle.dir_tree.specs.tree.Numbered.{Numbered, IsNumberedTree, entries_of, entry_of, put_entry, without}
 use Rattle.dir_tree.specs.Refusals.{refusal_in_place, replace_refusal}
-use Rattle.dir_tree.specs.subentries.Points.{is_access_subentry}
+use Rattle.dir_tree.specs.Points.{is_access_subentry}
 use Rattle.dir_tree.specs.Scope.{is_within}
 use Rattle.dir_tree.proofs.TreeTheorems.{same_itself, elsewhere_filled as elsewhere-filled, elsewhere_under as elsewhere-under, prefix_same, outside}
 use Rattle.dir_tree.proofs.TreeTheorems.{all_known_entry}
 use Rattle.dir_tree.proofs.TreeTheorems.{IsAllowedThere, allowed_there}
 use Rattle.aci_lists.specs.declared.kept.Holdings.{Holdings}
 use Rattle.aci_lists.specs.kept.Holdings.{IsHeld}
-use Rattle.scope_laws.specs.laws.Aside.{IsAside}
+use Rattle.scope_laws.specs.Aside.{IsAside}
 use Rattle.scope_laws.proofs.Theorems.{aside-beside, change-taken, change-replaced, entry_of-new}
 use Rattle.aci_index.specs.declared.anew.Reach.{Reach}
 use Rattle.aci_index.specs.declared.anew.Reach.TheVariants.{Below, Around}
 use Rattle.aci_index.specs.declared.anew.Anew.{Anew}
-use Rattle.aci_index.specs.points.Reach.{AreBelow, HaveRoom, IsAnew, IsPut, reach_of, reached}
-use Rattle.aci_index.specs.anew.Steps.{are_ordinary}
+use Rattle.aci_index.specs.Reach.{AreBelow, HaveRoom, IsAnew, IsPut, reach_of, reached}
+use Rattle.aci_index.specs.Steps.{are_ordinary}
 use Rattle.aci_index.proofs.inserting.SubtreeLemmas.{IsOrdinary}
 use Rattle.aci_index.proofs.inserting.ReachLemmas.{IsApart, unreached-Sub, unreached-around}
 use Rattle.aci_index.proofs.inserting.AroundLemmas.{apart-itself, apart-replaced}

@@ -11,8 +11,8 @@ use Rattle.aci_item.specs.declared.permission.Permission.{Permission}
 use Rattle.aci_item.specs.declared.permission.Permission.TheVariants.{Add, DiscloseOnError, Read, Remove, Browse, Export, Import, Modify, Rename, ReturnDn, Compare, FilterMatch, Invoke}
 use Rattle.std.specs.Str.{bytes_eq}
 use Rattle.aci_item.specs.declared.bits.Row.{Row}
-use Rattle.aci_item.specs.printing.ItemPrinted.{bit_name}
-use Rattle.aci_item.specs.bits.Rows.{named_bit, row_of}
+use Rattle.aci_item.specs.ItemPrinted.{bit_name}
+use Rattle.aci_item.specs.Rows.{named_bit, row_of}
 use Rattle.aci_item.specs.Permission.{Bit, permissions, place_of, bit_place, all_bits, is_same, is_bit, is_among, has_bit, in_order, put_bit, permissions_of, has_some, bits_of}
 
 -- each bit is one of all

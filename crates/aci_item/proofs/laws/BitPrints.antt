@@ -5,15 +5,15 @@ use Rattle.std.proofs.lemmas.List.Folds.{list_any-append}
 use Rattle.std.specs.Prelude.{◌==◌, ◌||◌, find, map, Option, Some}
 use Rattle.std.specs.List.{list_any}
 use Rattle.std.specs.Str.{bytes_eq}
-use Rattle.gser_tree.specs.marks.Lexemes.{class_of, is_word}
+use Rattle.gser_tree.specs.Lexemes.{class_of, is_word}
 use Rattle.gser_tree.specs.looking.Shapes.{Shape}
 use Rattle.gser_tree.specs.Writing.{print_word}
 use Rattle.gser_tree.proofs.Theorems.{listed_gathered, AreWritten, IsRead, Prints, none_are_written, more_are_written, braces_are_written, word_is_written}
 use Rattle.aci_item.specs.declared.permission.Permission.{Permission}
 use Rattle.aci_item.specs.declared.permission.Permission.TheVariants.{Add, DiscloseOnError, Read, Remove, Browse, Export, Import, Modify, Rename, ReturnDn, Compare, FilterMatch, Invoke}
-use Rattle.aci_item.specs.laws.GoodItems.{AreGoodBits}
+use Rattle.aci_item.specs.GoodItems.{AreGoodBits}
 use Rattle.aci_item.specs.members.ItemParts.{bit, bits}
-use Rattle.aci_item.specs.printing.ItemPrinted.{bit_name, print_bits}
+use Rattle.aci_item.specs.ItemPrinted.{bit_name, print_bits}
 use Rattle.aci_item.specs.Permission.{Bit, all_bits, bit_place, in_order, is_among, is_bit, put_bit}
 use Rattle.aci_item.specs.Sets.{gather_into}
 use Rattle.aci_item.proofs.bits.BitLemmas.{among_filtered, filtered}

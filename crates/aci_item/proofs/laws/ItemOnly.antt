@@ -10,15 +10,15 @@ use Rattle.gser_tree.specs.looking.Looking.{chosen_in, string_in}
 use Rattle.gser_tree.specs.Reading.{expect, give}
 use Rattle.gser_tree.specs.looking.Shapes.{Shape}
 use Rattle.gser_tree.proofs.Theorems.{gives_both, gives_choice, gives_end, gives_expected, gives_nothing, gives_value, gives_weaker}
-use Rattle.subtree_spec.specs.laws.GoodSubtrees.{IfThere}
-use Rattle.subtree_spec.specs.printing.SubtreePrinted.{print_subtree}
-use Rattle.subtree_spec.specs.reading.SubtreeText.{there}
-use Rattle.subtree_spec.specs.spec.Subtrees.{Subtree}
+use Rattle.subtree_spec.specs.GoodSubtrees.{IfThere}
+use Rattle.subtree_spec.specs.SubtreePrinted.{print_subtree}
+use Rattle.subtree_spec.specs.SubtreeText.{there}
+use Rattle.subtree_spec.specs.Subtrees.{Subtree}
 use Rattle.aci_item.specs.declared.level.Level.{Level}
-use Rattle.aci_item.specs.reading.AciText.{aci_item, classes, first, item_first, item_permission, items, kinds, precedence, sorted_set, tag, user_first, user_permission}
-use Rattle.aci_item.specs.laws.GoodItems.{AreGoodBits, IsGoodClasses, IsGoodClassSubtree, IsGoodFirst, IsGoodItem, IsGoodItemPermission, IsGoodItems, IsGoodUserPermission, IsGoodValue, IsSetOf}
+use Rattle.aci_item.specs.AciText.{aci_item, classes, first, item_first, item_permission, items, kinds, precedence, sorted_set, tag, user_first, user_permission}
+use Rattle.aci_item.specs.GoodItems.{AreGoodBits, IsGoodClasses, IsGoodClassSubtree, IsGoodFirst, IsGoodItem, IsGoodItemPermission, IsGoodItems, IsGoodUserPermission, IsGoodValue, IsSetOf}
 use Rattle.aci_item.specs.members.ItemParts.{bits, class_subtree, kind, kind_and_value, level, user}
-use Rattle.aci_item.specs.printing.ItemPrinted.{print_item_permission, print_kind, print_user, print_user_permission, print_value}
+use Rattle.aci_item.specs.ItemPrinted.{print_item_permission, print_kind, print_user, print_user_permission, print_value}
 use Rattle.aci_item.specs.item.Items.{ItemPermission, UserPermission, ItemFirst, UserFirst}
 use Rattle.aci_item.proofs.laws.OnlyLemmas.{OnlyTexts, gives_flagged, gives_members, gives_next, gives_optional_texts, gives_required_texts, no_members, set_is_good}
 use Rattle.aci_item.proofs.laws.PartOnly.{bits_are_good, kind_is_good, level_is_good, own_is_good, precedence_is_good, user_is_good, value_is_good}

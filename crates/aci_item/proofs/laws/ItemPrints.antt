@@ -1,16 +1,16 @@
 -- Printed permissions and items are read as they were.
 use Rattle.std.proofs.Common.{◌≡◌, ℕ, true, List, [], ◌∷◌, ◌++◌, refl, arith}
 use Rattle.std.specs.Prelude.{codes, map, Option, None, option_map}
-use Rattle.gser_tree.specs.marks.Lexemes.{Lexeme, class_of, is_word}
+use Rattle.gser_tree.specs.Lexemes.{Lexeme, class_of, is_word}
 use Rattle.gser_tree.specs.Reading.{Read}
 use Rattle.gser_tree.specs.looking.Shapes.{Shape}
 use Rattle.gser_tree.specs.Writing.{print_braces, print_component, print_number, print_string}
 use Rattle.gser_tree.proofs.Theorems.{listed_gathered, AreWritten, IsRead, OptionalRead, Prints, RequiredRead, braces_are_written, choice_is_written, none_are_written, optional_is_written, required_is_written, string_is_written, written_within}
-use Rattle.subtree_spec.specs.reading.SubtreeText.{there}
-use Rattle.aci_item.specs.reading.AciText.{aci_item, classes, first, item_first, item_permission, items, precedence, sorted_set, tag, user_first, user_permission}
-use Rattle.aci_item.specs.laws.GoodItems.{IsGoodClasses, IsGoodFirst, IsGoodItem, IsGoodItemPermission, IsGoodItems, IsGoodUserPermission, IsSetOf}
+use Rattle.subtree_spec.specs.SubtreeText.{there}
+use Rattle.aci_item.specs.AciText.{aci_item, classes, first, item_first, item_permission, items, precedence, sorted_set, tag, user_first, user_permission}
+use Rattle.aci_item.specs.GoodItems.{IsGoodClasses, IsGoodFirst, IsGoodItem, IsGoodItemPermission, IsGoodItems, IsGoodUserPermission, IsSetOf}
 use Rattle.aci_item.specs.members.ItemParts.{bits, level}
-use Rattle.aci_item.specs.printing.ItemPrinted.{print_bits, print_classes, print_first, print_item, print_item_first, print_item_permission, print_items, print_level, print_precedence, print_user_first, print_user_permission}
+use Rattle.aci_item.specs.ItemPrinted.{print_bits, print_classes, print_first, print_item, print_item_first, print_item_permission, print_items, print_level, print_precedence, print_user_first, print_user_permission}
 use Rattle.aci_item.specs.item.Items.{UserClasses, ProtectedItems, ItemPermission, UserPermission, First, ItemFirst, UserFirst, Item}
 use Rattle.aci_item.specs.Permission.{Bit}
 use Rattle.aci_item.proofs.laws.BitPrints.{bits_print}

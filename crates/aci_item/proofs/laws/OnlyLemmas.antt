@@ -1,14 +1,14 @@
 -- What is read of a value whose strings are texts is good: components one behind the other, and sets.
 use Rattle.std.proofs.Common.{◌≡◌, ℕ, List, [], ◌∷◌, refl}
 use Rattle.std.specs.Prelude.{Option, Some, None}
-use Rattle.gser_tree.specs.marks.Lexemes.{Lexeme}
+use Rattle.gser_tree.specs.Lexemes.{Lexeme}
 use Rattle.gser_tree.specs.looking.Looking.{Behind, component, flag, members_in}
 use Rattle.gser_tree.specs.Reading.{Read, give, ◌>>=◌, expect, optional, present, required}
 use Rattle.gser_tree.specs.looking.Shapes.{Shape}
 use Rattle.gser_tree.specs.Writing.{text_of}
 use Rattle.gser_tree.proofs.Theorems.{Gives, gives_both, gives_expected, gives_value, gives_weaker}
-use Rattle.aci_item.specs.reading.AciText.{sorted_set}
-use Rattle.aci_item.specs.laws.GoodItems.{IsSetOf}
+use Rattle.aci_item.specs.AciText.{sorted_set}
+use Rattle.aci_item.specs.GoodItems.{IsSetOf}
 use Rattle.aci_item.specs.members.ItemParts.{flag_by, flagged}
 use Rattle.aci_item.specs.Sets.{gather_into, put_member}
 use Rattle.aci_item.proofs.laws.SortedLemmas.{put_member-sorted, none_sorted, put_member-all}

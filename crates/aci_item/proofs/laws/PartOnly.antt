@@ -6,20 +6,20 @@ use Rattle.dir_tree.specs.schema_tables.Attributes.{attr_of, IsAttrId}
 use Rattle.dir_tree.proofs.schema_tables_proofs.Theorems.{IsAttrId-from_attr_of}
 use Rattle.dir_tree.specs.dn_names.name.GoodNames.{IsGoodName}
 use Rattle.dir_tree.specs.dn_names.name.Names.{Keyed}
-use Rattle.dir_tree.specs.dn_names.make.NameValues.{value_of}
+use Rattle.dir_tree.specs.dn_names.NameValues.{value_of}
 use Rattle.dir_tree.proofs.dn_names_proofs.Theorems.{value_of-octets}
 use Rattle.gser_tree.specs.declared.part.Part.{Part}
 use Rattle.gser_tree.specs.looking.Looking.{chosen_in, members_in, word_in, string_in}
 use Rattle.gser_tree.specs.Reading.{expect, give, part, required}
 use Rattle.gser_tree.specs.looking.Shapes.{Shape}
 use Rattle.gser_tree.proofs.Theorems.{Gives, Only, gives_both, gives_choice, gives_end, gives_expected, gives_nothing, gives_part, gives_required, gives_value, gives_weaker, number_is_at_most}
-use Rattle.subtree_spec.specs.laws.GoodSubtrees.{IfThere}
+use Rattle.subtree_spec.specs.GoodSubtrees.{IfThere}
 use Rattle.subtree_spec.specs.Parts.{is_oid, name, oid}
-use Rattle.subtree_spec.specs.reading.SubtreeText.{there}
+use Rattle.subtree_spec.specs.SubtreeText.{there}
 use Rattle.subtree_spec.proofs.Theorems.{name_is_good}
 use Rattle.aci_item.specs.declared.level.Level.{Level}
-use Rattle.aci_item.specs.reading.AciText.{precedence}
-use Rattle.aci_item.specs.laws.GoodItems.{AreGoodBits, IsGoodValue}
+use Rattle.aci_item.specs.AciText.{precedence}
+use Rattle.aci_item.specs.GoodItems.{AreGoodBits, IsGoodValue}
 use Rattle.aci_item.specs.members.ItemParts.{assertion, basic_levels, bit, bits, kind, kind_and_value, level, level_by, level_word, named_user, no_octets, user, user_by}
 use Rattle.aci_item.specs.Permission.{Bit, all_bits, bit_place, in_order, is_among, put_bit}
 use Rattle.aci_item.specs.Sets.{gather_into}

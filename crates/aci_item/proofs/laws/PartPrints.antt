@@ -11,24 +11,24 @@ use Rattle.dir_tree.specs.schema_tables.Oids.{is_dotted_oid}
 use Rattle.dir_tree.proofs.schema_tables_proofs.Theorems.{attribute_at-Some, attr_of-name_of, is_keystring-name_of}
 use Rattle.dir_tree.specs.dn_names.name.GoodNames.{IsGoodName}
 use Rattle.dir_tree.specs.dn_names.name.Names.{RdnSequence, TypeAndValue}
-use Rattle.gser_tree.specs.marks.Lexemes.{class_of, is_word}
+use Rattle.gser_tree.specs.Lexemes.{class_of, is_word}
 use Rattle.gser_tree.specs.Reading.{Found}
 use Rattle.gser_tree.specs.looking.Shapes.{Shape}
 use Rattle.gser_tree.specs.Writing.{print_braces, print_component, print_number, print_string, print_word}
 use Rattle.gser_tree.proofs.Theorems.{listed_gathered, IsRead, Prints, PrintsOptional, RequiredRead, braces_are_written, choice_is_written, none_are_written, number_prints, required_is_written, string_is_written, word_is_written}
-use Rattle.subtree_spec.specs.laws.GoodSubtrees.{IfThere}
+use Rattle.subtree_spec.specs.GoodSubtrees.{IfThere}
 use Rattle.subtree_spec.specs.Parts.{name, is_oid, oid}
-use Rattle.subtree_spec.specs.printing.SubtreePrinted.{print_dn, print_subtree}
-use Rattle.subtree_spec.specs.reading.SubtreeText.{there}
-use Rattle.subtree_spec.specs.spec.Subtrees.{Subtree}
+use Rattle.subtree_spec.specs.SubtreePrinted.{print_dn, print_subtree}
+use Rattle.subtree_spec.specs.SubtreeText.{there}
+use Rattle.subtree_spec.specs.Subtrees.{Subtree}
 use Rattle.subtree_spec.proofs.Theorems.{name_prints, there_prints}
 use Rattle.subtree_spec.proofs.Theorems.{subtree_prints}
 use Rattle.aci_item.specs.declared.level.Level.{Level}
 use Rattle.aci_item.specs.declared.level.Level.TheVariants.{Anyone, Simple, Strong}
-use Rattle.aci_item.specs.reading.AciText.{precedence}
-use Rattle.aci_item.specs.laws.GoodItems.{IsGoodClassSubtree, IsGoodValue}
+use Rattle.aci_item.specs.AciText.{precedence}
+use Rattle.aci_item.specs.GoodItems.{IsGoodClassSubtree, IsGoodValue}
 use Rattle.aci_item.specs.members.ItemParts.{assertion, basic_levels, class_subtree, kind, kind_and_value, level, level_word, named_user, unrefined, user}
-use Rattle.aci_item.specs.printing.ItemPrinted.{level_name, print_kind, print_level, print_user, print_value}
+use Rattle.aci_item.specs.ItemPrinted.{level_name, print_kind, print_level, print_user, print_value}
 use Rattle.aci_item.specs.Level.{levels}
 use Rattle.dir_tree.proofs.base_laws_proofs.Theorems.{passes_at}
 

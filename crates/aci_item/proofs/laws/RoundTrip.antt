@@ -3,10 +3,10 @@ use Rattle.std.proofs.Common.{◌≡◌, ℕ, List, ap, ◌∙◌, arith}
 use Rattle.std.specs.Prelude.{None, Ok}
 use Rattle.gser_tree.specs.Writing.{text_of}
 use Rattle.gser_tree.proofs.Theorems.{IsRead, IsTextOf-written}
-use Rattle.subtree_spec.specs.reading.SubtreeText.{judged}
-use Rattle.aci_item.specs.reading.AciText.{AciText, aci_item, read_item}
-use Rattle.aci_item.specs.laws.GoodItems.{IsGoodItem}
-use Rattle.aci_item.specs.printing.ItemPrinted.{print_item}
+use Rattle.subtree_spec.specs.SubtreeText.{judged}
+use Rattle.aci_item.specs.AciText.{AciText, aci_item, read_item}
+use Rattle.aci_item.specs.GoodItems.{IsGoodItem}
+use Rattle.aci_item.specs.ItemPrinted.{print_item}
 use Rattle.aci_item.specs.item.Items.{Item}
 use Rattle.aci_item.proofs.laws.ItemOnly.{item_is_good}
 use Rattle.aci_item.proofs.laws.ItemPrints.{item_prints}

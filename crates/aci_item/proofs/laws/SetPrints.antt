@@ -7,13 +7,13 @@ use Rattle.std.specs.List.{AllByRecursion}
 use Rattle.std.specs.List.Sorted.{IsStrictlySortedBy}
 use Rattle.std.specs.Ordering.{ordering_reverse}
 use Rattle.std.specs.declared.cmp.Ordering.TheVariants.{Less, Greater}
-use Rattle.gser_tree.specs.marks.Lexemes.{Lexeme}
+use Rattle.gser_tree.specs.Lexemes.{Lexeme}
 use Rattle.gser_tree.specs.Reading.{Read}
 use Rattle.gser_tree.specs.looking.Shapes.{Shape}
 use Rattle.gser_tree.specs.Writing.{text_of, print_braces, print_filled}
 use Rattle.gser_tree.proofs.Theorems.{listed_gathered, AreWritten, IsRead, Prints, PrintsOptional, none_are_written, more_are_written, braces_are_written}
-use Rattle.aci_item.specs.reading.AciText.{sorted_set}
-use Rattle.aci_item.specs.laws.GoodItems.{IsSetOf}
+use Rattle.aci_item.specs.AciText.{sorted_set}
+use Rattle.aci_item.specs.GoodItems.{IsSetOf}
 use Rattle.aci_item.specs.Sets.{by_text, gather_into, put_member}
 
 module _ {A : Type 0} (text : A → List ℕ) where

@@ -7,13 +7,13 @@ use Rattle.std.specs.Ordering.{match_ordering, ordering_reverse}
 use Rattle.std.specs.declared.cmp.Ordering.{Ordering}
 use Rattle.std.specs.declared.cmp.Ordering.TheVariants.{Less, Equal, Greater}
 use Rattle.std.proofs.lemmas.Cmp.{nat_list_cmp_total}
-use Rattle.gser_tree.specs.marks.Lexemes.{Lexeme}
+use Rattle.gser_tree.specs.Lexemes.{Lexeme}
 use Rattle.gser_tree.specs.looking.Looking.{members_in}
 use Rattle.gser_tree.specs.Reading.{Found, Read, expect, ◌>>=◌}
 use Rattle.gser_tree.specs.looking.Shapes.{Shape}
 use Rattle.gser_tree.specs.Writing.{text_of}
 use Rattle.aci_item.specs.Sets.{by_text, put_member, gather_into}
-use Rattle.aci_item.specs.reading.AciText.{sorted_set}
+use Rattle.aci_item.specs.AciText.{sorted_set}
 
 module _ {A : Type 0} (text : A → List ℕ) where
   after : (one other : A) → by_text text one other ≡ Greater → by_text text other one ≡ Less

@@ -10,10 +10,10 @@ use Rattle.gser_tree.specs.Reading.{Found, Read, expect, give, nothing_left, opt
 use Rattle.gser_tree.specs.looking.Shapes.{Shape, Word, Quoted, Braces, Named, Chosen}
 use Rattle.gser_tree.proofs.Theorems.{both_read, was_there}
 use Rattle.subtree_spec.specs.Parts.{name}
-use Rattle.subtree_spec.specs.reading.SubtreeText.{components, distance, exclusions, no_chops, refinement, subtree, there}
-use Rattle.subtree_spec.specs.spec.Subtrees.{Choice, Subtree}
+use Rattle.subtree_spec.specs.SubtreeText.{components, distance, exclusions, no_chops, refinement, subtree, there}
+use Rattle.subtree_spec.specs.Subtrees.{Choice, Subtree}
 use Rattle.subtree_spec.proofs.Theorems.{subtree_is_good}
-use Rattle.aci_item.specs.laws.GoodItems.{IsGoodClassSubtree}
+use Rattle.aci_item.specs.GoodItems.{IsGoodClassSubtree}
 use Rattle.aci_item.specs.members.ItemParts.{class_subtree, filter_place, last_of, least, unrefined}
 use Rattle.aci_item.proofs.laws.OnlyLemmas.{OnlyTexts}
 

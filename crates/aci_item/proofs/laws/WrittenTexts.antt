@@ -3,10 +3,10 @@ use Rattle.std.proofs.Common.{◌≡◌, ℕ, ◌+◌, true, List, [], ◌∷◌
 use Rattle.std.proofs.lemmas.List.{append-nil}
 use Rattle.std.specs.Str.{is_utf8}
 use Rattle.gser_tree.specs.declared.part.Part.{Part}
-use Rattle.gser_tree.specs.marks.Lexemes as lexemes
-use Rattle.gser_tree.specs.marks.Lexemes.{Lexeme, AreLexemes, show}
+use Rattle.gser_tree.specs.Lexemes as lexemes
+use Rattle.gser_tree.specs.Lexemes.{Lexeme, AreLexemes, show}
 use Rattle.gser_tree.specs.looking.Shapes.{Shape, Shapes, Word, Quoted, Braces, Named, Chosen, None, Some, tokens_of, tokens_in, tokens_behind}
-use Rattle.gser_tree.specs.part.TextOf.{IsTextOf, part_at, tokens_at}
+use Rattle.gser_tree.specs.TextOf.{IsTextOf, part_at, tokens_at}
 use Rattle.aci_item.proofs.laws.StringLemmas.{HasTexts, HaveTextsIn}
 
 abbrev tail : {A : Type 0} → List A → List A

@@ -5,13 +5,13 @@ use Rattle.std.proofs.lemmas.List.{map-append, take_all}
 use Rattle.std.proofs.lemmas.List.Elements.{filter-append}
 use Rattle.std.proofs.lemmas.Simd.{map-map}
 use Rattle.std.specs.Prelude.{filter, map, ◌==◌, if◌then◌else◌}
-use Rattle.gser_tree.specs.marks.Lexemes.{Lexeme}
+use Rattle.gser_tree.specs.Lexemes.{Lexeme}
 use Rattle.gser_tree.specs.Writing.{text_of, print_braces, print_component, print_filled, print_optional, print_word, separator, ending, PutsMembers}
 use Rattle.gser_tree.proofs.Theorems.{PutsMembers-none, PutsMembers-component, PutsMembers-append, PutsMembers-braces}
 use Rattle.aci_item.specs.declared.bits.Row.{Row}
-use Rattle.aci_item.specs.printing.ItemPrinted.{bit_name, print_bits}
+use Rattle.aci_item.specs.ItemPrinted.{bit_name, print_bits}
 use Rattle.aci_item.specs.Permission.{Bit, all_bits, has_bit, in_order, is_among}
-use Rattle.aci_item.specs.bits.Rows.{named_bit, row_of}
+use Rattle.aci_item.specs.Rows.{named_bit, row_of}
 
 -- all members of a set, and the end of the braces
 pub put_members : {A : Type 0} (print : A → List Lexeme) (old middle new : List ℕ) (next : Bool) (values : List A) (count : ℕ) → length values ≤ count

@@ -8,17 +8,17 @@ use Rattle.gser_tree.specs.looking.Shapes.{Shape, nest}
 use Rattle.gser_tree.specs.looking.Looking.{members_in, chosen_in}
 use Rattle.gser_tree.specs.Reading.{give, expect, part}
 use Rattle.gser_tree.proofs.Theorems.{Shallow, both_read, was_there, chosen_nest, members_nest, number_is_shallow}
-use Rattle.dir_tree.specs.dn_names.make.NameValues.{value_of}
+use Rattle.dir_tree.specs.dn_names.NameValues.{value_of}
 use Rattle.dir_tree.specs.schema_tables.Attributes.{attr_of}
 use Rattle.subtree_spec.specs.declared.error.BadText.{BadText}
 use Rattle.subtree_spec.specs.Parts.{name, oid}
-use Rattle.subtree_spec.specs.printing.SubtreePrinted.{print_subtree}
-use Rattle.subtree_spec.specs.reading.SubtreeText.{subtree, there, judged, fault_of}
+use Rattle.subtree_spec.specs.SubtreePrinted.{print_subtree}
+use Rattle.subtree_spec.specs.SubtreeText.{subtree, there, judged, fault_of}
 use Rattle.subtree_spec.proofs.Theorems.{subtree_is_shallow}
 use Rattle.aci_item.specs.declared.item.AciItem.{AciItem}
-use Rattle.aci_item.specs.reading.AciText.{sorted_set, classes, kinds, items, precedence, item_permission, user_permission, item_first, user_first, first, tag, aci_item, AciText, read_item}
+use Rattle.aci_item.specs.AciText.{sorted_set, classes, kinds, items, precedence, item_permission, user_permission, item_first, user_first, first, tag, aci_item, AciText, read_item}
 use Rattle.aci_item.specs.members.ItemParts.{level_word, basic_levels, level_by, level, bit, bits, named_user, user_by, user, kind, no_octets, assertion, kind_and_value, unrefined, class_subtree}
-use Rattle.aci_item.specs.printing.ItemPrinted.{level_name, bit_name, print_user, print_kind, print_value, print_item_permission, print_user_permission}
+use Rattle.aci_item.specs.ItemPrinted.{level_name, bit_name, print_user, print_kind, print_value, print_item_permission, print_user_permission}
 use Rattle.aci_item.specs.item.Items.{Item, ItemFirst, UserFirst}
 use Rattle.aci_item.specs.Level.{levels}
 use Rattle.aci_item.specs.Permission.{all_bits, put_bit}

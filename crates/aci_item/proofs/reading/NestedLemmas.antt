@@ -4,7 +4,7 @@ use Rattle.std.specs.Prelude.{Option, Some, None, ◌&&◌, if◌then◌else◌}
 use Rattle.std.specs.Str.{bytes_eq}
 use Rattle.std.proofs.lemmas.Option.{same_Some}
 use Rattle.gser_tree.specs.declared.part.Part.{Part}
-use Rattle.gser_tree.specs.marks.Lexemes.{Lexeme}
+use Rattle.gser_tree.specs.Lexemes.{Lexeme}
 use Rattle.gser_tree.specs.looking.Shapes as shapes
 use Rattle.gser_tree.specs.looking.Shapes.{Shape, gathered, nest, nest_in}
 use Rattle.gser_tree.specs.looking.Looking.{Behind, members_in, word_in, string_in, component, flag, is_null}
@@ -12,7 +12,7 @@ use Rattle.gser_tree.specs.Reading.{Found, Read, give, ◌>>=◌, expect, part, 
 use Rattle.gser_tree.specs.Writing.{text_of}
 use Rattle.gser_tree.proofs.Theorems.{Shallow, both_read, was_there, word_nest, string_nest, members_nest, optional_nest}
 use Rattle.subtree_spec.specs.Parts.{name, name_of, is_oid, oid}
-use Rattle.aci_item.specs.reading.AciText.{sorted_set}
+use Rattle.aci_item.specs.AciText.{sorted_set}
 use Rattle.aci_item.specs.members.ItemParts.{flag_by, flagged}
 use Rattle.aci_item.specs.Sets.{put_member, gather_into}
 

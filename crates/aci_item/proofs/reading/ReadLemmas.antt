@@ -3,7 +3,7 @@ use Rattle.std.proofs.Common.{◌≡◌, ◌≤◌, ℕ, List, refl, ap, ◌∙�
 use Rattle.std.specs.Prelude.{Option, Some, None, option_and_then, Result, Ok, Err, IfOk}
 use Rattle.dir_tree.specs.plain_values.Answers.{Answers}
 use Rattle.gser_tree.specs.looking.Shapes.{Shape, nest}
-use Rattle.gser_tree.specs.part.TextOf.{IsTextOf}
+use Rattle.gser_tree.specs.TextOf.{IsTextOf}
 use Rattle.gser_tree.specs.Growing.{tree_of}
 use Rattle.gser_tree.specs.Reading.{Found}
 use Rattle.gser_tree.proofs.Theorems.{tree_of-IsTextOf, IsTextOf-tree_of}
@@ -12,8 +12,8 @@ use Rattle.subtree_spec.specs.declared.error.BadText.TheVariants.{Text}
 use Rattle.aci_item.specs.declared.item.AciItem.{AciItem}
 use Rattle.aci_item.specs.item.Items.{Item}
 use Rattle.aci_item.specs.item.Views.{item_of_code}
-use Rattle.subtree_spec.specs.reading.SubtreeText.{unless_bad, judged, fault_of}
-use Rattle.aci_item.specs.reading.AciText.{aci_item, AciText, read_item}
+use Rattle.subtree_spec.specs.SubtreeText.{unless_bad, judged, fault_of}
+use Rattle.aci_item.specs.AciText.{aci_item, AciText, read_item}
 
 -- a value without a bad place
 judged_ok : (found : Option (Found Item)) (item : Item) → judged found ≡ Ok item → found ≡ Some (record { value = item; bad = None })

@@ -3,7 +3,7 @@ use Rattle.std.proofs.Common.{◌≡◌, ℕ, suc, add-one, ◌<◌, ◌+◌, Li
 use Rattle.std.specs.Prelude.{flat_map}
 use Rattle.std.proofs.lemmas.List.Elements.{filter-append}
 use Rattle.aci_item.specs.Permission.{has_some}
-use Rattle.aci_item.specs.splitting.AciTuples.{AciTuple, kept}
+use Rattle.aci_item.specs.AciTuples.{AciTuple, kept}
 
 -- what stays of tuples behind others
 pub kept_append : (one other : List AciTuple) → kept (one ++ other) ≡ kept one ++ kept other

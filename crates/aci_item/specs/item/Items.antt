@@ -1,7 +1,7 @@
 -- Access control items as plain values (X.501 18.4.2). Attribute types are their numbers in the table of the schema.
 use Rattle.std.specs.Prelude.{ℕ, Bool, List, Option}
 use Rattle.dir_tree.specs.dn_names.name.Names.{RdnSequence, TypeAndValue}
-use Rattle.subtree_spec.specs.spec.Subtrees.{Subtree}
+use Rattle.subtree_spec.specs.Subtrees.{Subtree}
 use Rattle.aci_item.specs.declared.level.Level.{Level}
 use Rattle.aci_item.specs.Permission.{Bit}
 

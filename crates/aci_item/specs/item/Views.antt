@@ -1,6 +1,6 @@
 -- The items and tuples that the program holds, as plain values.
 use Rattle.std.specs.Prelude.{map, string_bytes}
-use Rattle.subtree_spec.specs.spec.Subtrees.{subtree_of}
+use Rattle.subtree_spec.specs.Subtrees.{subtree_of}
 use Rattle.aci_item.specs.declared.classes.UserClasses as classes
 use Rattle.aci_item.specs.declared.protected.ProtectedItems as protected
 use Rattle.aci_item.specs.declared.item.ItemPermission as item_permission
@@ -10,7 +10,7 @@ use Rattle.aci_item.specs.declared.item.First.TheVariants as code
 use Rattle.aci_item.specs.declared.item.AciItem.{AciItem}
 use Rattle.aci_item.specs.declared.splitting.AciTuple as tuples
 use Rattle.aci_item.specs.Permission.{permissions_of}
-use Rattle.aci_item.specs.splitting.AciTuples.{AciTuple}
+use Rattle.aci_item.specs.AciTuples.{AciTuple}
 use Rattle.aci_item.specs.item.Items.{UserClasses, ProtectedItems, ItemPermission, UserPermission, First, ItemFirst, UserFirst, Item}
 
 -- user classes

@@ -3,7 +3,7 @@ use Rattle.std.specs.Prelude.{◌≡◌, List, map}
 use Rattle.std.specs.List.{AllByRecursion}
 use Rattle.std.specs.Borrow.{Bor}
 use Rattle.gser_tree.specs.declared.tree.Tree.{Tree}
-use Rattle.gser_tree.specs.marks.Lexemes.{Lexeme}
+use Rattle.gser_tree.specs.Lexemes.{Lexeme}
 use Rattle.gser_tree.specs.looking.Looking.{Behind}
 use Rattle.gser_tree.specs.Tree.{shape_of}
 use Rattle.gser_tree.specs.Writing.{text_of}

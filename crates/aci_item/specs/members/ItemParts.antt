@@ -2,20 +2,20 @@
 use Rattle.std.specs.Prelude.{ℕ, Bool, true, false, min, ◌-◌, length, slice_get, List, [], find, Option, Some, None, option_map, option_and_then, codes, if◌then◌else◌}
 use Rattle.std.specs.Str.{bytes_eq}
 use Rattle.dir_tree.specs.dn_names.name.Names.{Keyed, RdnSequence, TypeAndValue}
-use Rattle.dir_tree.specs.dn_names.make.NameValues.{value_of}
+use Rattle.dir_tree.specs.dn_names.NameValues.{value_of}
 use Rattle.dir_tree.specs.schema_tables.Attributes.{attr_of}
 use Rattle.gser_tree.specs.declared.part.Part.{Part}
 use Rattle.gser_tree.specs.looking.Shapes.{Shape}
 use Rattle.gser_tree.specs.looking.Looking.{Behind, members_in, word_in, string_in, named_in, chosen_in, flag}
 use Rattle.gser_tree.specs.Reading.{Read, give, ◌>>=◌, expect, part, required, nothing_left}
 use Rattle.subtree_spec.specs.Parts.{name, oid}
-use Rattle.subtree_spec.specs.spec.Subtrees.{Choice, Subtree}
-use Rattle.subtree_spec.specs.reading.SubtreeText.{subtree}
+use Rattle.subtree_spec.specs.Subtrees.{Choice, Subtree}
+use Rattle.subtree_spec.specs.SubtreeText.{subtree}
 use Rattle.aci_item.specs.declared.level.Level.{Level}
 use Rattle.aci_item.specs.Level.{levels}
 use Rattle.aci_item.specs.Permission.{Bit, all_bits, put_bit}
 use Rattle.aci_item.specs.Sets.{gather_into}
-use Rattle.aci_item.specs.printing.ItemPrinted.{level_name, bit_name}
+use Rattle.aci_item.specs.ItemPrinted.{level_name, bit_name}
 
 -- ENUMERATED { none (0), simple (1), strong (2) }
 unfoldable pub level_word : Shape → Read Level

@@ -8,20 +8,20 @@ use Rattle.std.proofs.lemmas.List.Sums.{fold-append}
 use Rattle.dir_tree.specs.Entry.{EntryInformation}
 use Rattle.dir_tree.specs.dn_names.name.Names.{RdnSequence}
 use Rattle.dir_tree.specs.tree.Trees.{superior_name, named_in}
-use Rattle.dir_tree.specs.subentries.Points.{is_subentry}
+use Rattle.dir_tree.specs.Points.{is_subentry}
 use Rattle.dir_tree.specs.tree.Numbered.{Numbered, IsNumberedTree, entry_of, entries_of, entries_at, find_name, superior_of}
 use Rattle.dir_tree.proofs.TreeTheorems.{entry_of-found, found_both}
-use Rattle.acdf_filters.specs.admin_scope.subentries.InForce.{in_force}
-use Rattle.acdf_filters.specs.aci_item.splitting.AciTuples.{AciTuple}
-use Rattle.acdf_filters.specs.reading.Tuples.{TaggedTuples, Listed, prescriptive_aci, entry_aci, subentry_aci, items_in, listed_by, listed_in, inherited, tuples_of}
+use Rattle.acdf_filters.specs.admin_scope.InForce.{in_force}
+use Rattle.acdf_filters.specs.aci_item.AciTuples.{AciTuple}
+use Rattle.acdf_filters.specs.Tuples.{TaggedTuples, Listed, prescriptive_aci, entry_aci, subentry_aci, items_in, listed_by, listed_in, inherited, tuples_of}
 use Rattle.acdf_filters.specs.declared.question.Question.{Question}
 use Rattle.acdf_filters.specs.Asking.{protected_of}
-use Rattle.acdf_filters.specs.laws.Granted.{granted}
+use Rattle.acdf_filters.specs.Granted.{granted}
 use Rattle.acdf_filters.specs.Standing.{initial}
 use Rattle.acdf_filters.specs.weighing.Weighing.{weighed_for, is_granted}
 use Rattle.acdf_filters.specs.declared.standing.Standing.{Standing}
 use Rattle.acdf_filters.proofs.Theorems.{decided-fold}
-use Rattle.acdf_order.specs.ordering.Order.{highest_first}
+use Rattle.acdf_order.specs.Order.{highest_first}
 use Rattle.acdf_order.proofs.Theorems.{fold-highest_first}
 use Rattle.aci_lists.specs.declared.kept.Kept.{Kept}
 use Rattle.aci_lists.specs.kept.Lists.{lists_at, IsKept, tuples_in, tuples_at, tuples_below, tuples_inherited, tuples_kept}

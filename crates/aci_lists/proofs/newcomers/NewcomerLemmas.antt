@@ -4,13 +4,13 @@ use Rattle.std.specs.Prelude.{flat_map, fold}
 use Rattle.std.specs.Option.{option_map_or}
 use Rattle.std.proofs.lemmas.Bool.{cond-true, cond-false}
 use Rattle.dir_tree.specs.tree.Trees.{superior_name, named_in}
-use Rattle.dir_tree.specs.subentries.Points.{is_subentry}
+use Rattle.dir_tree.specs.Points.{is_subentry}
 use Rattle.dir_tree.specs.tree.Numbered.{IsNumberedTree, entries_of, find_name}
-use Rattle.acdf_filters.specs.admin_scope.subentries.InForce.{in_force}
-use Rattle.acdf_filters.specs.reading.Tuples.{prescriptive_aci, subentry_aci, listed_in, inherited, tuples_new}
+use Rattle.acdf_filters.specs.admin_scope.InForce.{in_force}
+use Rattle.acdf_filters.specs.Tuples.{prescriptive_aci, subentry_aci, listed_in, inherited, tuples_new}
 use Rattle.acdf_filters.specs.declared.question.Question.{Question}
 use Rattle.acdf_filters.specs.Asking.{protected_of}
-use Rattle.acdf_filters.specs.laws.Granted.{granted_new}
+use Rattle.acdf_filters.specs.Granted.{granted_new}
 use Rattle.acdf_filters.specs.Standing.{initial}
 use Rattle.acdf_filters.specs.weighing.Weighing.{weighed_for, is_granted}
 use Rattle.acdf_filters.proofs.Theorems.{decided-fold}

@@ -8,10 +8,10 @@ use Rattle.dir_tree.specs.Entry.{EntryInformation}
 use Rattle.dir_tree.specs.tree.Trees.{has_below, taken_out}
 use Rattle.dir_tree.specs.tree.Numbered.{Numbered, IsNumberedTree, entries_of, entry_of, entries_at, without}
 use Rattle.dir_tree.proofs.TreeTheorems.{entries_of-without, same_itself, entry_of-other, unlisted-without, number_left, other_name, outside}
-use Rattle.acdf_filters.specs.subtree_spec.spec.Subtrees.{subtree_of}
-use Rattle.acdf_filters.specs.admin_scope.subentries.InForce.{subtree_of_entry, in_force}
+use Rattle.acdf_filters.specs.subtree_spec.Subtrees.{subtree_of}
+use Rattle.acdf_filters.specs.admin_scope.InForce.{subtree_of_entry, in_force}
 use Rattle.acdf_filters.specs.admin_scope.declared.subtrees.AccessSubentry.{AccessSubentry}
-use Rattle.acdf_filters.specs.admin_scope.subtrees.Finding.{AreSubtrees, subtree_at}
+use Rattle.acdf_filters.specs.admin_scope.Finding.{AreSubtrees, subtree_at}
 use Rattle.acdf_filters.proofs.admin_scope_proofs.Theorems.{in_force-taken}
 use Rattle.aci_lists.specs.declared.kept.Holdings.{Holdings}
 use Rattle.aci_lists.specs.kept.Lists.{Lists, lists_at, AreOf}

@@ -1,7 +1,7 @@
 -- What a directory keeps beside its tree.
 use Rattle.std.specs.Prelude.{◌≡◌, ◌≢◌, ◌==◌, ℕ, not, List, filter}
 use Rattle.dir_tree.specs.tree.Numbered.{Numbered}
-use Rattle.acdf_filters.specs.admin_scope.subtrees.Finding.{AreSubtrees}
+use Rattle.acdf_filters.specs.admin_scope.Finding.{AreSubtrees}
 use Rattle.acdf_filters.specs.admin_scope.declared.subtrees.AccessSubentry.{AccessSubentry}
 use Rattle.aci_lists.specs.declared.kept.Holdings.{Holdings}
 use Rattle.aci_lists.specs.kept.Lists.{Lists, lists_at, no_lists, IsKept}

@@ -3,12 +3,12 @@ use Rattle.std.specs.Prelude.{◌≡◌, ℕ, ◌<◌, length, List, [], ◌++�
 use Rattle.std.specs.List.{AllByRecursion}
 use Rattle.dir_tree.specs.Entry.{EntryInformation}
 use Rattle.dir_tree.specs.tree.Numbered.{Numbered, entry_of, entries_of, entries_at, superior_of}
-use Rattle.dir_tree.specs.subentries.Points.{is_subentry}
-use Rattle.acdf_filters.specs.admin_scope.subentries.InForce.{in_force}
-use Rattle.acdf_filters.specs.aci_item.splitting.AciTuples.{AciTuple}
-use Rattle.acdf_filters.specs.reading.Tuples.{TaggedTuples, prescriptive_aci, entry_aci, subentry_aci, items_in}
+use Rattle.dir_tree.specs.Points.{is_subentry}
+use Rattle.acdf_filters.specs.admin_scope.InForce.{in_force}
+use Rattle.acdf_filters.specs.aci_item.AciTuples.{AciTuple}
+use Rattle.acdf_filters.specs.Tuples.{TaggedTuples, prescriptive_aci, entry_aci, subentry_aci, items_in}
 use Rattle.acdf_filters.specs.aci_item.item.Views.{tuple_of}
-use Rattle.acdf_order.specs.ordering.Order.{highest_first}
+use Rattle.acdf_order.specs.Order.{highest_first}
 use Rattle.aci_lists.specs.declared.kept.Kept.{Kept}
 
 -- the tuples of items

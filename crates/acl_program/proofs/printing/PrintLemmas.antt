@@ -8,9 +8,9 @@ use Rattle.command_files.specs.wire_io.declared.answers.PutFault.{PutFault}
 use Rattle.command_files.specs.wire_io.declared.journal.Item.{Item}
 use Rattle.command_files.specs.wire_io.Journal.{opened_by, taken_of, is_hung_up}
 use Rattle.command_files.specs.wire_io.Rising.{rising}
-use Rattle.command_files.specs.wire_io.sink.Putting.{appended, PutsAll}
+use Rattle.command_files.specs.wire_io.Putting.{appended, PutsAll}
 use Rattle.command_files.proofs.wire_io_proofs.Theorems.{appended-appended, PutsAll-cut, PutsAll-then}
-use Rattle.acl_program.specs.printing.Lines.{shown, ending, line_of}
+use Rattle.acl_program.specs.Lines.{shown, ending, line_of}
 use Rattle.acl_program.specs.program.Playing.{journal_lines, journal_text}
 
 -- the line of a connection, as the journal tells it

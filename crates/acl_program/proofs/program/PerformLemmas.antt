@@ -1,18 +1,18 @@
 -- What the parts of a command say together of how it ended.
 use Rattle.std.proofs.Common.{◌≡◌, ℕ, List, Option, Some, Ok, Err, refl, subst, ◌∙◌, inl, inr}
-use Rattle.command_files.specs.wire_io.shelf.Files.{Files}
+use Rattle.command_files.specs.wire_io.Files.{Files}
 use Rattle.command_words.specs.command.Command.{CommandView, IsCommand, Replay, Check, Dump}
 use Rattle.command_files.specs.dir_tree.tree.Numbered.{Numbered}
 use Rattle.command_files.specs.dir_tree.tree.Numbered.{entries_of}
 use Rattle.acl_program.specs.declared.status.Status.{Status}
 use Rattle.command_files.specs.declared.loading.Trouble.{Trouble}
 use Rattle.command_files.specs.declared.loading.Trouble.TheVariants as trouble
-use Rattle.acl_program.specs.status.Outcomes.{Outcome, NoCommand, NoFile, BadDataLine, BadLine, Checked, Dumped, Replayed, Served, Explained, Sampled, OutOfMemory}
+use Rattle.acl_program.specs.Outcomes.{Outcome, NoCommand, NoFile, BadDataLine, BadLine, Checked, Dumped, Replayed, Served, Explained, Sampled, OutOfMemory}
 use Rattle.command_files.specs.loading.Accepting.{IsUnread}
 use Rattle.acl_program.specs.program.Causes.{AsksData, Comes, Links, data_of}
 use Rattle.acl_program.specs.program.Outside.{Linked, Outside}
 use Rattle.acl_program.specs.program.Playing.{Ends, ComesFor, Performs}
-use Rattle.acl_program.specs.replay.Asked.{ReplayAsked, ReplayComes, Replays}
+use Rattle.acl_program.specs.Asked.{ReplayAsked, ReplayComes, Replays}
 use Rattle.command_files.specs.loading.Loading.{LoadsData}
 use Rattle.acl_program.specs.Troubles.{outcome_of}
 

@@ -4,9 +4,9 @@ use Rattle.std.proofs.lemmas.Bool.Decides.{nat_tests}
 use Rattle.command_files.specs.plain_values.Counts.{Rose}
 use Rattle.command_files.specs.script_text.declared.event.ScriptEvent.{ScriptEvent}
 use Rattle.command_files.specs.wire_io.declared.journal.Item.{Item}
-use Rattle.command_files.specs.wire_io.shelf.Files.{Files}
-use Rattle.command_files.specs.wire_io.laws.Pieces.{pieces}
-use Rattle.command_files.specs.wire_io.script_link.Scripted.{LinkState, fresh_link}
+use Rattle.command_files.specs.wire_io.Files.{Files}
+use Rattle.command_files.specs.wire_io.Pieces.{pieces}
+use Rattle.command_files.specs.wire_io.Scripted.{LinkState, fresh_link}
 use Rattle.command_files.proofs.wire_io_proofs.Theorems.{appended-none}
 use Rattle.session_hub.specs.declared.ended.Ended.TheVariants as ended
 use Rattle.session_hub.specs.serve.Loops.{buffer_length}
@@ -20,13 +20,13 @@ use Rattle.acl_program.specs.declared.status.Status.{Status}
 use Rattle.acl_program.specs.declared.status.Status.TheVariants.{Done, Usage, BadData, ShelfFault, SinkFault, LinkFault, TurnsSpent, NoMemory, BadScript}
 use Rattle.command_files.specs.declared.loading.Trouble.{Trouble}
 use Rattle.command_files.specs.declared.loading.Trouble.TheVariants as trouble
-use Rattle.acl_program.specs.status.Outcomes.{Outcome, NoCommand, NoFile, BadLine, Replayed, OutOfMemory, dump_text, text_of, status_of}
-use Rattle.acl_program.specs.printing.Lines.{entries_after}
+use Rattle.acl_program.specs.Outcomes.{Outcome, NoCommand, NoFile, BadLine, Replayed, OutOfMemory, dump_text, text_of, status_of}
+use Rattle.acl_program.specs.Lines.{entries_after}
 use Rattle.acl_program.specs.program.Causes.{IsNoCommand, IsPerformed, AsksServing, Comes, Links, IsDue}
 use Rattle.acl_program.specs.program.Running.{Prints, Puts, EndsAs, IsCause, EndsAtFaults}
 use Rattle.acl_program.specs.program.Outside.{Written, Outside}
 use Rattle.acl_program.specs.program.Playing.{IsSinkCount, Plays, Shows, Ends, Performs, Runs, journal_text}
-use Rattle.acl_program.specs.replay.Asked.{ReplayAsked, Replays}
+use Rattle.acl_program.specs.Asked.{ReplayAsked, Replays}
 use Rattle.command_files.specs.loading.Loading.{LoadsScript, LoadsData}
 use Rattle.acl_program.specs.Troubles.{outcome_of}
 use Rattle.acl_program.proofs.troubles.EndsLemmas.{Ends-no_memory}

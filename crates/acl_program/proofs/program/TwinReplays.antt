@@ -3,19 +3,19 @@ use Rattle.std.proofs.Common.{◌≡◌, ℕ, false, List, Option, refl, ap, sym
 use Rattle.std.specs.List.{AllByRecursion}
 use Rattle.command_files.specs.plain_values.Counts.{Rose}
 use Rattle.command_files.specs.script_text.declared.event.ScriptEvent.{ScriptEvent}
-use Rattle.command_files.specs.wire_io.shelf.Files.{Files}
-use Rattle.command_files.specs.wire_io.sink.Putting.{appended}
+use Rattle.command_files.specs.wire_io.Files.{Files}
+use Rattle.command_files.specs.wire_io.Putting.{appended}
 use Rattle.command_files.specs.dn_names.name.Names.{RdnSequence}
-use Rattle.session_hub.specs.session_model.laws.Run.{Sessions}
-use Rattle.session_hub.specs.session_model.laws.Journaled.{steps_of_events}
-use Rattle.session_hub.specs.run_laws.laws.AnsweredMessages.{over}
-use Rattle.session_hub.specs.requester.Parties.{DirectoryEntries, Requester}
-use Rattle.session_hub.specs.alike.Twins.{IsOverTwins}
+use Rattle.session_hub.specs.session_model.Run.{Sessions}
+use Rattle.session_hub.specs.session_model.Journaled.{steps_of_events}
+use Rattle.session_hub.specs.run_laws.AnsweredMessages.{over}
+use Rattle.session_hub.specs.Parties.{DirectoryEntries, Requester}
+use Rattle.session_hub.specs.Twins.{IsOverTwins}
 use Rattle.session_hub.proofs.Theorems.{replayed-twins}
 use Rattle.acl_program.specs.declared.status.Status.{Status}
 use Rattle.acl_program.specs.declared.status.Status.TheVariants.{Done, ShelfFault, TurnsSpent, NoMemory}
-use Rattle.acl_program.specs.printing.Lines.{lines_of, heard_of, replay_of, replay_text}
-use Rattle.acl_program.specs.status.Outcomes.{Outcome, NoFile, Replayed, OutOfMemory, text_of, status_of}
+use Rattle.acl_program.specs.Lines.{lines_of, heard_of, replay_of, replay_text}
+use Rattle.acl_program.specs.Outcomes.{Outcome, NoFile, Replayed, OutOfMemory, text_of, status_of}
 use Rattle.acl_program.specs.program.Outside.{Outside}
 use Rattle.acl_program.specs.program.Causes.{Comes}
 use Rattle.acl_program.specs.program.Running.{Puts}

@@ -5,14 +5,14 @@ use Rattle.command_files.specs.wire_io.declared.journal.Event.TheVariants as eve
 use Rattle.command_files.specs.wire_io.declared.journal.Item.{Item}
 use Rattle.command_files.specs.wire_io.declared.journal.Item.TheVariants as item
 use Rattle.command_files.specs.wire_io.Journal.{heard, opened_by, was_stopped, stops, taken_of, is_hung_up}
-use Rattle.command_files.specs.wire_io.laws.Pieces.{steps_of, step_of}
+use Rattle.command_files.specs.wire_io.Pieces.{steps_of, step_of}
 use Rattle.command_files.specs.wire_io.Rising.{rising}
-use Rattle.session_hub.specs.session_model.laws.Journaled.{steps_of as journal_steps, steps_of_events}
-use Rattle.session_hub.specs.session_model.laws.Run.{Sessions, State, Open, Closing, TurnedAway, Away, Unopened, Step, Opened, Bytes, Ended, Gone, HungUp, step, hears, run, run_from, start}
-use Rattle.session_hub.specs.session_model.laws.Replaying.{is_away, IsReplay}
-use Rattle.session_hub.specs.requester.Parties.{DirectoryEntries, Requester}
-use Rattle.session_hub.specs.messages.Answering.{rules}
-use Rattle.acl_program.specs.printing.Lines.{line_of, lines_of}
+use Rattle.session_hub.specs.session_model.Journaled.{steps_of as journal_steps, steps_of_events}
+use Rattle.session_hub.specs.session_model.Run.{Sessions, State, Open, Closing, TurnedAway, Away, Unopened, Step, Opened, Bytes, Ended, Gone, HungUp, step, hears, run, run_from, start}
+use Rattle.session_hub.specs.session_model.Replaying.{is_away, IsReplay}
+use Rattle.session_hub.specs.Parties.{DirectoryEntries, Requester}
+use Rattle.session_hub.specs.Answering.{rules}
+use Rattle.acl_program.specs.Lines.{line_of, lines_of}
 use Rattle.acl_program.specs.program.Playing.{journal_text}
 
 -- the numbers that steps open, in order

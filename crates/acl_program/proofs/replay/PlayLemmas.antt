@@ -6,20 +6,20 @@ use Rattle.command_files.specs.script_text.declared.event.ScriptEvent.{ScriptEve
 use Rattle.command_files.specs.wire_io.declared.journal.Event.{Event}
 use Rattle.command_files.specs.wire_io.declared.journal.Item.{Item}
 use Rattle.command_files.specs.wire_io.Journal.{heard, is_held, hold_after_all}
-use Rattle.command_files.specs.wire_io.laws.Pieces.{pieces, steps_of, Plays as BringsOn}
+use Rattle.command_files.specs.wire_io.Pieces.{pieces, steps_of, Plays as BringsOn}
 use Rattle.command_files.specs.wire_io.link.Plan.{Plan}
-use Rattle.command_files.specs.wire_io.script_link.Scripted.{LinkState, fresh_link}
-use Rattle.session_hub.specs.session_model.laws.Run.{Step, run}
-use Rattle.session_hub.specs.session_model.laws.Journaled.{steps_of as journal_steps, steps_of_events}
+use Rattle.command_files.specs.wire_io.Scripted.{LinkState, fresh_link}
+use Rattle.session_hub.specs.session_model.Run.{Step, run}
+use Rattle.session_hub.specs.session_model.Journaled.{steps_of as journal_steps, steps_of_events}
 use Rattle.session_hub.proofs.session_model_proofs.Theorems.{events_of}
-use Rattle.session_hub.specs.session_model.laws.Replaying.{IsReplay, replayed}
+use Rattle.session_hub.specs.session_model.Replaying.{IsReplay, replayed}
 use Rattle.session_hub.specs.declared.ended.Ended.{Ended}
 use Rattle.session_hub.specs.declared.ended.Ended.TheVariants as ended
 use Rattle.command_files.specs.aci_item.Rules.{IsGoodTree}
-use Rattle.session_hub.specs.requester.Parties.{DirectoryEntries}
-use Rattle.session_hub.specs.messages.Answering.{rules}
+use Rattle.session_hub.specs.Parties.{DirectoryEntries}
+use Rattle.session_hub.specs.Answering.{rules}
 use Rattle.session_hub.specs.serve.Loops.{buffer_length, Serves, ServesAll, PlaysOut, PlayedOut, EndsFor}
-use Rattle.acl_program.specs.printing.Lines.{lines_of, heard_of, replay_of, replay_text, entries_after}
+use Rattle.acl_program.specs.Lines.{lines_of, heard_of, replay_of, replay_text, entries_after}
 use Rattle.acl_program.specs.program.Playing.{Plays, journal_text}
 use Rattle.acl_program.proofs.replay.JournalLemmas.{journal_text-sessions, steps_of_events-steps, length-stopped}
 

@@ -5,16 +5,16 @@ use Rattle.command_files.specs.script_text.declared.event.ScriptEvent.{ScriptEve
 use Rattle.command_files.specs.wire_io.declared.journal.Event.{Event}
 use Rattle.command_files.specs.wire_io.declared.journal.Item.{Item}
 use Rattle.command_files.specs.wire_io.Journal.{heard, is_held, hold_after_all, taken_of}
-use Rattle.command_files.specs.wire_io.laws.Pieces.{pieces, steps_of, Plays as BringsOn}
+use Rattle.command_files.specs.wire_io.Pieces.{pieces, steps_of, Plays as BringsOn}
 use Rattle.command_files.specs.wire_io.link.Plan.{Plan}
-use Rattle.command_files.specs.wire_io.script_link.Scripted.{LinkState, fresh_link}
-use Rattle.session_hub.specs.session_model.laws.Run.{run}
-use Rattle.session_hub.specs.session_model.laws.Journaled.{steps_of as journal_steps, steps_of_events}
-use Rattle.session_hub.specs.session_model.laws.Replaying.{IsReplay, replayed}
+use Rattle.command_files.specs.wire_io.Scripted.{LinkState, fresh_link}
+use Rattle.session_hub.specs.session_model.Run.{run}
+use Rattle.session_hub.specs.session_model.Journaled.{steps_of as journal_steps, steps_of_events}
+use Rattle.session_hub.specs.session_model.Replaying.{IsReplay, replayed}
 use Rattle.session_hub.specs.declared.ended.Ended.{Ended}
 use Rattle.session_hub.specs.declared.ended.Ended.TheVariants as ended
-use Rattle.session_hub.specs.requester.Parties.{DirectoryEntries}
-use Rattle.session_hub.specs.messages.Answering.{rules}
+use Rattle.session_hub.specs.Parties.{DirectoryEntries}
+use Rattle.session_hub.specs.Answering.{rules}
 use Rattle.session_hub.specs.serve.Loops.{buffer_length, Serves, ServesAll, PlaysOut, PlayedOut}
 use Rattle.command_words.specs.declared.table.CommandName.{CommandName}
 use Rattle.command_words.specs.declared.table.CommandName.TheVariants as commands
@@ -23,15 +23,15 @@ use Rattle.command_words.specs.command.Command.{CommandView, Serve, Replay, Chec
 use Rattle.command_files.specs.dir_tree.Entry.{EntryInformation}
 use Rattle.command_files.specs.dir_tree.tree.Numbered.{Numbered, entries_of}
 use Rattle.command_files.specs.ldif_load.load.DataFile.{FileCause, loads}
-use Rattle.sample_input.specs.file.SampleFile.{sample_file}
-use Rattle.sample_input.specs.events.SampleEvents.{sample_events}
+use Rattle.sample_input.specs.SampleFile.{sample_file}
+use Rattle.sample_input.specs.SampleEvents.{sample_events}
 use Rattle.acl_program.specs.declared.status.Status.{Status}
-use Rattle.acl_program.specs.printing.Lines.{heard_of, replay_of}
+use Rattle.acl_program.specs.Lines.{heard_of, replay_of}
 use Rattle.acl_program.specs.program.Causes.{Comes, Links}
-use Rattle.acl_program.specs.status.Outcomes.{Sampled, BadDataLine}
+use Rattle.acl_program.specs.Outcomes.{Sampled, BadDataLine}
 use Rattle.acl_program.specs.program.Outside.{Outside}
 use Rattle.acl_program.specs.program.Playing.{Ends, Performs}
-use Rattle.acl_program.specs.sample.Sampling.{IsFew, sample_turns, sample_replies, summary, sample_text}
+use Rattle.acl_program.specs.Sampling.{IsFew, sample_turns, sample_replies, summary, sample_text}
 use Rattle.acl_program.proofs.replay.JournalLemmas.{length-stopped}
 use Rattle.acl_program.proofs.replay.PlayLemmas.{heard_is, front_heard, all_heard, none_left, not_held}
 

@@ -9,7 +9,7 @@ use Rattle.command_files.specs.wire_io.declared.journal.Item.{Item}
 use Rattle.command_files.specs.wire_io.declared.journal.Item.TheVariants as item
 use Rattle.command_files.specs.wire_io.Answers.{LinkCause}
 use Rattle.command_files.specs.wire_io.Journal.{stops, was_stopped}
-use Rattle.command_files.specs.wire_io.sink.Putting.{PutsAll, PutCause}
+use Rattle.command_files.specs.wire_io.Putting.{PutsAll, PutCause}
 use Rattle.command_files.specs.wire_io.link.Telling.{OpenTells, noted}
 use Rattle.command_files.proofs.wire_io_proofs.Theorems.{appended-none, PutsAll-then, PutCause-then}
 use Rattle.session_hub.specs.declared.ended.Ended.{Ended}
@@ -23,7 +23,7 @@ use Rattle.acl_program.specs.declared.status.Status.{Status}
 use Rattle.acl_program.specs.declared.status.Status.TheVariants.{Done, SinkFault, LinkFault, TurnsSpent, NoMemory}
 use Rattle.acl_program.specs.program.Causes.{Comes, Links, HearsStop}
 use Rattle.acl_program.specs.serve.Listening.{FollowsOpen, Listens, ListensOn, ServesOpened}
-use Rattle.acl_program.specs.status.Outcomes.{Served, text_of, status_of, settled}
+use Rattle.acl_program.specs.Outcomes.{Served, text_of, status_of, settled}
 use Rattle.acl_program.specs.program.Outside.{Written, Linked, Outside, beside}
 use Rattle.acl_program.specs.program.Playing.{Ends, Performs}
 use Rattle.acl_program.specs.serve.Serving.{ServeAsked, ServeEnd, NotBegun, NotOpened, NotServed, LoopEnded, Opens, ServesUntil, LinkServes, listening_text, ended_text, loop_status, serve_asked, serve_status}

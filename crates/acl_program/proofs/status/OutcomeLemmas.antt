@@ -2,17 +2,17 @@
 use Rattle.std.proofs.Common.{◌≡◌, ℕ, Bool, true, false, List, length, Option, ap, inl, inr, ◌⊎◌, if◌then◌else◌, nat_lt}
 use Rattle.command_files.specs.script_text.declared.event.ScriptEvent.{ScriptEvent}
 use Rattle.command_files.specs.plain_values.Counts.{Rose}
-use Rattle.command_files.specs.wire_io.shelf.Files.{Files}
-use Rattle.command_files.specs.wire_io.laws.Pieces.{pieces}
+use Rattle.command_files.specs.wire_io.Files.{Files}
+use Rattle.command_files.specs.wire_io.Pieces.{pieces}
 use Rattle.session_hub.specs.serve.Loops.{buffer_length}
 use Rattle.command_files.specs.dir_tree.Entry.{EntryInformation}
 use Rattle.command_files.specs.ldif_load.load.DataFile.{FileCause}
 use Rattle.acl_program.specs.declared.status.Status.{Status}
 use Rattle.acl_program.specs.declared.status.Status.TheVariants.{Done, Usage, BadData, ShelfFault, SinkFault, LinkFault, TurnsSpent, NoMemory, BadScript}
 use Rattle.acl_program.specs.program.Outside.{Linked, Outside}
-use Rattle.acl_program.specs.status.Outcomes.{Outcome, NoCommand, NoFile, BadDataLine, BadLine, Checked, Dumped, Replayed, Served, Explained, Sampled, OutOfMemory, status_of}
+use Rattle.acl_program.specs.Outcomes.{Outcome, NoCommand, NoFile, BadDataLine, BadLine, Checked, Dumped, Replayed, Served, Explained, Sampled, OutOfMemory, status_of}
 use Rattle.acl_program.specs.program.Causes.{IsNoCommand, AsksServing, AsksServe, LacksData, LacksScript, RefusesData, RefusesScript, Comes, Links}
-use Rattle.acl_program.specs.sample.Sampling.{RefusesSample}
+use Rattle.acl_program.specs.Sampling.{RefusesSample}
 use Rattle.acl_program.specs.program.Running.{Puts, IsCause, EndsAtFaults}
 use Rattle.acl_program.specs.program.Playing.{Ends}
 use Rattle.acl_program.specs.serve.Serving.{ServeAsked}

@@ -3,14 +3,14 @@ use Rattle.std.proofs.Common.{◌≡◌, ℕ, Bool, true, false, List, length, t
 use Rattle.std.proofs.Math.Seq.{take-length}
 use Rattle.command_files.specs.wire_io.declared.answers.PutFault.{PutFault}
 use Rattle.command_files.specs.wire_io.declared.answers.PutFault.TheVariants as put
-use Rattle.command_files.specs.wire_io.laws.Pieces.{pieces}
-use Rattle.command_files.specs.wire_io.sink.Putting.{appended, PutsAll, PutCause}
+use Rattle.command_files.specs.wire_io.Pieces.{pieces}
+use Rattle.command_files.specs.wire_io.Putting.{appended, PutsAll, PutCause}
 use Rattle.session_hub.specs.declared.ended.Ended.{Ended}
 use Rattle.session_hub.specs.declared.ended.Ended.TheVariants as ended
 use Rattle.session_hub.specs.serve.Loops.{buffer_length}
 use Rattle.acl_program.specs.declared.status.Status.{Status}
 use Rattle.acl_program.specs.declared.status.Status.TheVariants.{Done, Usage, BadData, ShelfFault, SinkFault, LinkFault, TurnsSpent, NoMemory, BadScript}
-use Rattle.acl_program.specs.status.Outcomes.{Outcome, NoCommand, NoFile, BadDataLine, BadLine, Checked, Dumped, Replayed, Served, Explained, Sampled, OutOfMemory, text_of, status_of, settled}
+use Rattle.acl_program.specs.Outcomes.{Outcome, NoCommand, NoFile, BadDataLine, BadLine, Checked, Dumped, Replayed, Served, Explained, Sampled, OutOfMemory, text_of, status_of, settled}
 use Rattle.acl_program.specs.program.Outside.{Written}
 use Rattle.acl_program.specs.program.Running.{PutsFront}
 use Rattle.acl_program.specs.serve.Serving.{ServeEnd, NotBegun, NotOpened, NotServed, LoopEnded, serve_status}

@@ -4,19 +4,19 @@ use Rattle.std.specs.Prelude.{◌≡◌, ◌⊎◌, ℕ, Bool, true, List, ◌++
 use Rattle.command_files.specs.plain_values.Counts.{Rose}
 use Rattle.command_files.specs.script_text.declared.event.ScriptEvent.{ScriptEvent}
 use Rattle.command_files.specs.wire_io.declared.journal.Item.{Item}
-use Rattle.command_files.specs.wire_io.shelf.Files.{Files}
+use Rattle.command_files.specs.wire_io.Files.{Files}
 use Rattle.command_files.specs.wire_io.Journal.{was_stopped}
 use Rattle.session_hub.specs.declared.ended.Ended.TheVariants as ended
 use Rattle.command_words.specs.command.Command.{CommandView, Serve, Replay, Check, Dump, Explain, Sample, IsCommand}
-use Rattle.explain_text.specs.question_words.asked.Questions.{Question}
+use Rattle.explain_text.specs.question_words.Questions.{Question}
 use Rattle.explain_text.specs.question_words.Reading.{question_of}
 use Rattle.command_files.specs.dir_tree.Entry.{EntryInformation}
 use Rattle.command_files.specs.ldif_load.load.DataFile.{FileCause}
 use Rattle.command_files.specs.loading.Accepting.{IsUnread, HoldsIn, IsTold, IsGoodData, IsBadData, IsGoodScript, IsBadScript}
-use Rattle.acl_program.specs.status.Outcomes.{Outcome, NoCommand, NoFile, BadDataLine, BadLine, Checked, Dumped, Replayed, Served, Explained, Sampled, OutOfMemory}
+use Rattle.acl_program.specs.Outcomes.{Outcome, NoCommand, NoFile, BadDataLine, BadLine, Checked, Dumped, Replayed, Served, Explained, Sampled, OutOfMemory}
 use Rattle.acl_program.specs.program.Outside.{Linked}
-use Rattle.acl_program.specs.explain.Explaining.{Explains}
-use Rattle.acl_program.specs.sample.Sampling.{Samples, RefusesSample}
+use Rattle.acl_program.specs.Explaining.{Explains}
+use Rattle.acl_program.specs.Sampling.{Samples, RefusesSample}
 use Rattle.acl_program.specs.serve.Serving.{ServeAsked, LoopEnded, LinkServes}
 
 -- the command is done: an explanation where its words are a question

@@ -2,7 +2,7 @@
 -- each with its count of faults; a link also counts the connections that it found lost.
 use Rattle.std.specs.Prelude.{ℕ, List, Option}
 use Rattle.command_files.specs.wire_io.declared.journal.Item.{Item}
-use Rattle.command_files.specs.wire_io.shelf.Files.{Files}
+use Rattle.command_files.specs.wire_io.Files.{Files}
 use Rattle.command_files.specs.wire_io.link.Plan.{Plan}
 
 -- the files of a shelf

@@ -3,9 +3,9 @@ use Rattle.std.specs.Prelude.{◌≡◌, ◌<◌, ◌≤◌, ◌++◌, ℕ, List
 use Rattle.command_files.specs.plain_values.Counts.{Rose}
 use Rattle.command_files.specs.script_text.declared.event.ScriptEvent.{ScriptEvent}
 use Rattle.command_files.specs.wire_io.declared.journal.Item.{Item}
-use Rattle.command_files.specs.wire_io.shelf.Files.{Files}
+use Rattle.command_files.specs.wire_io.Files.{Files}
 use Rattle.command_files.specs.wire_io.Journal.{opened_by, taken_of, is_hung_up}
-use Rattle.command_files.specs.wire_io.laws.Pieces.{pieces}
+use Rattle.command_files.specs.wire_io.Pieces.{pieces}
 use Rattle.command_files.specs.wire_io.Rising.{rising}
 use Rattle.session_hub.specs.declared.ended.Ended.{Ended}
 use Rattle.session_hub.specs.declared.ended.Ended.TheVariants as ended
@@ -17,8 +17,8 @@ use Rattle.command_files.specs.ldif_records.writing.WrittenFile.{written_file}
 use Rattle.command_files.specs.aci_item.Rules.{IsGoodTree}
 use Rattle.acl_program.specs.declared.status.Status.{Status}
 use Rattle.acl_program.specs.declared.status.Status.TheVariants.{Done, Usage, BadData, ShelfFault, SinkFault, LinkFault, TurnsSpent, NoMemory, BadScript}
-use Rattle.acl_program.specs.printing.Lines.{line_of, replay_text, entries_after}
-use Rattle.acl_program.specs.status.Outcomes.{Outcome, text_of, status_of}
+use Rattle.acl_program.specs.Lines.{line_of, replay_text, entries_after}
+use Rattle.acl_program.specs.Outcomes.{Outcome, text_of, status_of}
 use Rattle.acl_program.specs.program.Causes.{Comes, Links}
 use Rattle.acl_program.specs.program.Outside.{Written, Outside}
 use Rattle.acl_program.specs.program.Running.{Puts}

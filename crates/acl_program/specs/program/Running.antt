@@ -1,14 +1,14 @@
 -- What the program puts, and when it ends as it does.
 use Rattle.std.specs.Prelude.{◌≡◌, ◌⊎◌, ℕ, List, take, Option}
 use Rattle.command_files.specs.plain_values.Counts.{Rose}
-use Rattle.command_files.specs.wire_io.sink.Putting.{appended}
+use Rattle.command_files.specs.wire_io.Putting.{appended}
 use Rattle.acl_program.specs.declared.status.Status.{Status}
 use Rattle.acl_program.specs.declared.status.Status.TheVariants.{Done, Usage, BadData, ShelfFault, SinkFault, LinkFault, TurnsSpent, NoMemory, BadScript}
 use Rattle.acl_program.specs.program.Outside.{Outside}
-use Rattle.acl_program.specs.status.Outcomes.{Outcome, text_of, status_of}
+use Rattle.acl_program.specs.Outcomes.{Outcome, text_of, status_of}
 use Rattle.command_files.specs.ldif_load.load.DataFile.{FileCause}
 use Rattle.acl_program.specs.program.Causes.{Comes, Links, AsksServing, LacksData, LacksScript, RefusesData, RefusesScript}
-use Rattle.acl_program.specs.sample.Sampling.{RefusesSample}
+use Rattle.acl_program.specs.Sampling.{RefusesSample}
 
 -- a front of the text was put
 abbrev pub PutsFront : Option (List ℕ) → List ℕ → Option (List ℕ) → Type 0

@@ -3,20 +3,20 @@
 use Rattle.std.specs.Prelude.{◌≡◌, ◌⊎◌, ℕ, false, List, Option}
 use Rattle.std.specs.List.{AllByRecursion}
 use Rattle.command_files.specs.script_text.declared.event.ScriptEvent.{ScriptEvent}
-use Rattle.command_files.specs.wire_io.shelf.Files.{Files}
-use Rattle.command_files.specs.wire_io.sink.Putting.{appended}
+use Rattle.command_files.specs.wire_io.Files.{Files}
+use Rattle.command_files.specs.wire_io.Putting.{appended}
 use Rattle.command_files.specs.dn_names.name.Names.{RdnSequence}
-use Rattle.session_hub.specs.session_model.laws.Run.{start}
-use Rattle.session_hub.specs.session_model.laws.Journaled.{steps_of_events}
-use Rattle.session_hub.specs.run_laws.laws.AnsweredMessages.{AnsweredMessage, answered_of_replay}
-use Rattle.session_hub.specs.requester.Parties.{DirectoryEntries, Requester}
-use Rattle.session_hub.specs.messages.Answering.{rules}
-use Rattle.session_hub.specs.alike.Twins.{IsOverTwins}
+use Rattle.session_hub.specs.session_model.Run.{start}
+use Rattle.session_hub.specs.session_model.Journaled.{steps_of_events}
+use Rattle.session_hub.specs.run_laws.AnsweredMessages.{AnsweredMessage, answered_of_replay}
+use Rattle.session_hub.specs.Parties.{DirectoryEntries, Requester}
+use Rattle.session_hub.specs.Answering.{rules}
+use Rattle.session_hub.specs.Twins.{IsOverTwins}
 use Rattle.command_words.specs.command.Command.{Replay, IsCommand}
 use Rattle.command_files.specs.loading.Accepting.{IsTold, IsGoodData, IsGoodScript}
 use Rattle.acl_program.specs.declared.status.Status.{Status}
 use Rattle.acl_program.specs.declared.status.Status.TheVariants.{Done, TurnsSpent}
-use Rattle.acl_program.specs.printing.Lines.{heard_of, replay_text}
+use Rattle.acl_program.specs.Lines.{heard_of, replay_text}
 use Rattle.acl_program.specs.program.Outside.{Outside}
 
 -- the messages that a replay answers

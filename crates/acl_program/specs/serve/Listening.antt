@@ -1,12 +1,12 @@
 -- What the parts of serving promise each other, for the inside of the crate alone.
 use Rattle.std.specs.Prelude.{◌≡◌, ℕ, List, Result}
 use Rattle.command_files.specs.wire_io.declared.answers.PutFault.{PutFault}
-use Rattle.command_files.specs.wire_io.sink.Putting.{PutsAll, PutCause}
+use Rattle.command_files.specs.wire_io.Putting.{PutsAll, PutCause}
 use Rattle.session_hub.specs.declared.ended.Ended.{Ended}
 use Rattle.acl_program.specs.declared.status.Status.{Status}
 use Rattle.acl_program.specs.program.Outside.{Written, Linked, Outside}
 use Rattle.acl_program.specs.serve.Serving.{ServeAsked, ServeEnd, NotBegun, NotOpened, NotServed, LoopEnded, ServesUntil, LinkServes, ended_text, loop_status}
-use Rattle.acl_program.specs.status.Outcomes.{Served, settled}
+use Rattle.acl_program.specs.Outcomes.{Served, settled}
 use Rattle.acl_program.specs.program.Playing.{Ends}
 
 -- serving came to an end: its text was put, and the link did what it says

@@ -2,7 +2,7 @@
 use Rattle.std.proofs.Common.{◌≡◌, true, ◌++◌, ap, ◌∙◌}
 use Rattle.std.proofs.lemmas.List.{append_assoc}
 use Rattle.dir_tree.specs.dn_names.name.Names.{RdnSequence}
-use Rattle.dir_tree.specs.dn_names.order.NameOrder.{is_prefix_of, types_and_keys}
+use Rattle.dir_tree.specs.dn_names.NameOrder.{is_prefix_of, types_and_keys}
 use Rattle.dir_tree.proofs.dn_names_proofs.Theorems.{is_prefix_of-types_and_keys}
 
 -- a front of a front is a front

@@ -5,14 +5,14 @@ use Rattle.std.proofs.lemmas.Bool.{false_from_ne_true, not-false}
 use Rattle.std.proofs.lemmas.List.Elements.{filter-append, filter_agree}
 use Rattle.dir_tree.proofs.base_laws_proofs.Theorems.{all_true, filter-filter_kept, filter-filter}
 use Rattle.dir_tree.specs.dn_names.name.Names.{RdnSequence}
-use Rattle.dir_tree.specs.dn_names.order.NameOrder.{is_prefix_of}
+use Rattle.dir_tree.specs.dn_names.NameOrder.{is_prefix_of}
 use Rattle.dir_tree.specs.Entry.{EntryInformation}
 use Rattle.dir_tree.specs.tree.Trees.{is_named, taken_out}
-use Rattle.dir_tree.specs.subentries.Points.{is_subentry}
+use Rattle.dir_tree.specs.Points.{is_subentry}
 use Rattle.dir_tree.specs.Scope.{is_within}
 use Rattle.dir_tree.proofs.TreeTheorems.{prefix_same}
-use Rattle.admin_scope.specs.point_list.Areas.{line_of, is_access_point, to_specific, areas}
-use Rattle.admin_scope.specs.subentries.InForce.{reaches, in_force_at, in_force}
+use Rattle.admin_scope.specs.Areas.{line_of, is_access_point, to_specific, areas}
+use Rattle.admin_scope.specs.InForce.{reaches, in_force_at, in_force}
 use Rattle.admin_scope.proofs.subentries.ListLemmas.{flat_map-agree}
 
 -- two filters come in either order

@@ -4,12 +4,12 @@ use Rattle.std.specs.Prelude.{unwrap_or, flat_map}
 use Rattle.std.proofs.lemmas.Bool.{false_from_ne_true, not-false}
 use Rattle.dir_tree.proofs.base_laws_proofs.Theorems.{all_true, all_map, none_passes, filter-filter_kept, and_middle}
 use Rattle.dir_tree.specs.dn_names.name.Names.{RdnSequence}
-use Rattle.dir_tree.specs.dn_names.order.NameOrder.{is_prefix_of}
+use Rattle.dir_tree.specs.dn_names.NameOrder.{is_prefix_of}
 use Rattle.dir_tree.specs.Entry.{EntryInformation}
-use Rattle.dir_tree.specs.subentries.Points.{is_subentry, is_access_subentry}
+use Rattle.dir_tree.specs.Points.{is_subentry, is_access_subentry}
 use Rattle.dir_tree.specs.Scope.{is_within, is_child}
-use Rattle.admin_scope.specs.point_list.Areas.{line_of, is_access_point, to_specific, areas, without_subtree, has_within}
-use Rattle.admin_scope.specs.subentries.InForce.{subtree_holds, reaches, in_force_at, in_force}
+use Rattle.admin_scope.specs.Areas.{line_of, is_access_point, to_specific, areas, without_subtree, has_within}
+use Rattle.admin_scope.specs.InForce.{subtree_holds, reaches, in_force_at, in_force}
 use Rattle.admin_scope.proofs.subentries.ListLemmas.{flat_map-agree}
 use Rattle.admin_scope.proofs.laws.PrefixLemmas.{prefix_chain}
 

@@ -7,16 +7,16 @@ use Rattle.std.proofs.lemmas.Bool.{cases_Bool}
 use Rattle.std.proofs.lemmas.List.Elements.{filter_map-append, filter_agree}
 use Rattle.dir_tree.proofs.base_laws_proofs.Theorems.{filter-filter, all_append}
 use Rattle.dir_tree.specs.Entry.{EntryInformation}
-use Rattle.dir_tree.specs.subentries.Points.{is_subentry, is_access_subentry}
+use Rattle.dir_tree.specs.Points.{is_subentry, is_access_subentry}
 use Rattle.dir_tree.specs.tree.Numbered.{Numbered, ids_of, entries_of, entry_of, entries_at, subentry_rows, IsNumberedTree}
 use Rattle.dir_tree.specs.Scope.{is_child}
 use Rattle.dir_tree.proofs.TreeTheorems.{entries_at-kept}
-use Rattle.subtree_spec.specs.spec.Subtrees.{Subtree, subtree_of}
+use Rattle.subtree_spec.specs.Subtrees.{Subtree, subtree_of}
 use Rattle.admin_scope.specs.declared.subtrees.AccessSubentry.{AccessSubentry}
-use Rattle.admin_scope.specs.point_list.Areas.{areas}
-use Rattle.admin_scope.specs.subentries.InForce.{subtree_of_entry, subtree_holds, reaches, in_force_at, in_force}
-use Rattle.admin_scope.specs.upwards.Walking.{walk_of}
-use Rattle.admin_scope.specs.subtrees.Finding.{stands, holds_under, applying, numbers_at, subtree_at, holds_read, AreSubtrees, holds_by, applying_by, numbers_by}
+use Rattle.admin_scope.specs.Areas.{areas}
+use Rattle.admin_scope.specs.InForce.{subtree_of_entry, subtree_holds, reaches, in_force_at, in_force}
+use Rattle.admin_scope.specs.Walking.{walk_of}
+use Rattle.admin_scope.specs.Finding.{stands, holds_under, applying, numbers_at, subtree_at, holds_read, AreSubtrees, holds_by, applying_by, numbers_by}
 use Rattle.admin_scope.proofs.subentries.ListLemmas.{flat_map-agree}
 use Rattle.admin_scope.proofs.subentries.WalkLemmas.{live-stands, areas-gathered}
 

@@ -5,7 +5,7 @@ use Rattle.std.specs.declared.cmp.Ordering.TheVariants.{Less, Greater}
 use Rattle.std.proofs.lemmas.Bool.{cases_lt}
 use Rattle.std.proofs.lemmas.List.{length-take-le, take-map, take-take}
 use Rattle.dir_tree.specs.dn_names.name.Names.{RdnSequence}
-use Rattle.dir_tree.specs.dn_names.order.NameOrder.{name_cmp, is_same, is_prefix_of, type_and_key, types_and_keys}
+use Rattle.dir_tree.specs.dn_names.NameOrder.{name_cmp, is_same, is_prefix_of, type_and_key, types_and_keys}
 use Rattle.dir_tree.proofs.dn_names_proofs.Theorems.{name_cmp_total, is_same-types_and_keys, name_cmp-prefix}
 use Rattle.dir_tree.proofs.TreeTheorems.{length-same}
 

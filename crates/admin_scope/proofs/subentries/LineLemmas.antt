@@ -8,11 +8,11 @@ use Rattle.std.proofs.lemmas.List.{reverse-append}
 use Rattle.std.proofs.lemmas.List.Elements.{filter_agree}
 use Rattle.dir_tree.proofs.base_laws_proofs.Theorems.{all_map, filter-none}
 use Rattle.dir_tree.specs.dn_names.name.Names.{RdnSequence}
-use Rattle.dir_tree.specs.dn_names.order.NameOrder.{name_cmp, is_same, is_prefix_of}
+use Rattle.dir_tree.specs.dn_names.NameOrder.{name_cmp, is_same, is_prefix_of}
 use Rattle.dir_tree.specs.Entry.{EntryInformation}
 use Rattle.dir_tree.specs.tree.Trees.{is_named, named_in, IsInOrder}
 use Rattle.dir_tree.proofs.TreeTheorems.{length-front}
-use Rattle.admin_scope.specs.point_list.Areas.{line_of}
+use Rattle.admin_scope.specs.Areas.{line_of}
 use Rattle.admin_scope.proofs.subentries.FrontLemmas.{longer_front, length-named, front-named, named-front}
 
 -- the entries of the fronts of at most so many RDNs, the longest first

@@ -6,12 +6,12 @@ use Rattle.std.specs.Option.{option_and_then, option_map_or}
 use Rattle.std.proofs.lemmas.Bool.{cases_Bool, le-leb}
 use Rattle.dir_tree.specs.dn_names.name.Names.{RdnSequence}
 use Rattle.dir_tree.specs.Entry.{EntryInformation}
-use Rattle.dir_tree.specs.subentries.Points.{is_specific_point, is_inner_point}
+use Rattle.dir_tree.specs.Points.{is_specific_point, is_inner_point}
 use Rattle.dir_tree.specs.tree.Numbered.{Numbered, entries_of, entry_of, entries_at, find_name, find_front, AreDistinct, IsNumberedTree}
 use Rattle.dir_tree.proofs.TreeTheorems.{entry_of-found}
-use Rattle.admin_scope.specs.point_list.Areas.{is_access_point, to_specific, areas}
-use Rattle.admin_scope.specs.upwards.Walking.{with_front, points_up, is_specific_front, has_specific, first_front, walk_of}
-use Rattle.admin_scope.specs.subtrees.Finding.{stands}
+use Rattle.admin_scope.specs.Areas.{is_access_point, to_specific, areas}
+use Rattle.admin_scope.specs.Walking.{with_front, points_up, is_specific_front, has_specific, first_front, walk_of}
+use Rattle.admin_scope.specs.Finding.{stands}
 use Rattle.admin_scope.proofs.subentries.LineLemmas.{line_up, reverse-line_of}
 
 -- what the walk finds, where there is a specific point among it

@@ -3,7 +3,7 @@ use Rattle.std.proofs.Common.{◌≡◌, ℕ, ◌+◌, ◌≤◌, List, [], ◌�
 use Rattle.std.proofs.lemmas.List.{append_assoc, append_cancel_left, take_at, drop_at, length-append, length-take-le, length-drop, take-append-drop, drop-take, take-take}
 use Rattle.ber_elements.specs.declared.kinds.Header.TheVariants.{Head}
 use Rattle.ber_elements.specs.write.Element.{IsHeader, Elem}
-use Rattle.ber_elements.specs.read.Heading.{Begins, IsHeading, header_at}
+use Rattle.ber_elements.specs.Heading.{Begins, IsHeading, header_at}
 use Rattle.ber_elements.specs.Laws.{SameElement}
 use Rattle.ber_elements.proofs.laws.HeadingLemmas.{heading_sound, begins_again, header_again}
 

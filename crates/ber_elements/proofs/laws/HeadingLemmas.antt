@@ -5,7 +5,7 @@ use Rattle.std.proofs.lemmas.List.{length-append, length-take, length-replicate,
 use Rattle.ber_elements.specs.declared.kinds.Header.{Header}
 use Rattle.ber_elements.specs.declared.kinds.Header.TheVariants.{Head, Short, Bad}
 use Rattle.ber_elements.specs.write.Element.{number_after, IsTag, IsHeader}
-use Rattle.ber_elements.specs.read.Heading.{Begins, IsFront, IsUnreadable, IsHeading, length_at, header_at}
+use Rattle.ber_elements.specs.Heading.{Begins, IsFront, IsUnreadable, IsHeading, length_at, header_at}
 
 add-two : (n : ℕ) → n + 2 ≡ suc (suc n)
 add-two n = omega arith

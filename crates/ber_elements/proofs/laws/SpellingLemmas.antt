@@ -5,7 +5,7 @@ use Rattle.std.proofs.lemmas.Bool.{cases_lt, lt-ltb, le-ltb}
 use Rattle.std.proofs.lemmas.Nat.{from_be_bytes-to_be_bytes_4}
 use Rattle.ber_elements.specs.declared.kinds.Header.TheVariants.{Head}
 use Rattle.ber_elements.specs.write.Element.{number_after, SpellsLength, IsTag, IsHeader}
-use Rattle.ber_elements.specs.read.Heading.{header_at}
+use Rattle.ber_elements.specs.Heading.{header_at}
 use Rattle.ber_elements.specs.write.Spelling.{length_octets, header_octets}
 use Rattle.ber_elements.proofs.laws.HeadingLemmas.{header_again}
 

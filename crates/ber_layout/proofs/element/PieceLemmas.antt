@@ -7,7 +7,7 @@ use Rattle.std.proofs.lemmas.Option.{same_Some}
 use Rattle.ber_elements.specs.declared.kinds.Header.{Header}
 use Rattle.ber_elements.specs.declared.kinds.Header.TheVariants as header
 use Rattle.ber_elements.specs.write.Element.{Elem}
-use Rattle.ber_elements.specs.read.Heading.{header_at}
+use Rattle.ber_elements.specs.Heading.{header_at}
 use Rattle.ber_elements.proofs.Theorems.{heading_begins, heading_bound, element_again}
 use Rattle.ber_layout.specs.element.Pieces.{Piece, piece_of, piece_at, piece_and, pieces_of, are_pieces}
 

@@ -8,8 +8,8 @@ use Rattle.ber_elements.specs.write.Element.{Elem}
 use Rattle.ber_layout.specs.element.Pieces.{ArePieces, IsFurther, ◌>>=◌, number_in, any_tag, other_than, are_pieces}
 use Rattle.ber_layout.specs.components.Flags.{flag_of}
 use Rattle.ber_layout.specs.components.Components.{Component, begins, any_of, required_of, optional_of, marked_of, each_of}
-use Rattle.ber_layout.specs.laid.Layouts.{Layout, Value, Says, reads_into, may_begin, is_clear}
-use Rattle.ber_layout.specs.laid.Layouts.Layout.{AnyOctets, Ignored, Number, Skipped, Flag, End, Further, FurtherBut, AnyElement, Then, Maybe, Marked, Each}
+use Rattle.ber_layout.specs.Layouts.{Layout, Value, Says, reads_into, may_begin, is_clear}
+use Rattle.ber_layout.specs.Layouts.Layout.{AnyOctets, Ignored, Number, Skipped, Flag, End, Further, FurtherBut, AnyElement, Then, Maybe, Marked, Each}
 use Rattle.ber_layout.proofs.components.StepLemmas.{bind_some, guard_passed, number_sound, number_again, further_sound, further_again}
 use Rattle.ber_layout.proofs.components.ComponentLemmas.{follows, any_sound, any_again, required_sound, required_again, begins_not, optional_sound, flag_sound, flag_again, marked_sound, optional_again, marked_again, may_not, mark_not, each_not}
 use Rattle.ber_layout.proofs.components.EachLemmas.{each_sound, each_again}

@@ -2,10 +2,10 @@
 use Rattle.std.proofs.Common.{◌≡◌, ℕ, ◌+◌, ◌^◌, ◌<◌, ◌≤◌, Bool, true, false, List, [], ◌∷◌, ◌++◌, length, Option, Some, None, arith, length-append}
 use Rattle.std.specs.List.{AllByRecursion}
 use Rattle.ber_elements.specs.write.Spelling.{header_octets}
-use Rattle.ber_layout.specs.write.Spellings.{element_octets, optional_octets, marked_octets, each_octets}
-use Rattle.ber_layout.specs.laid.Layouts.{Layout, Value, writes, Fits, IsShort, MayFit}
-use Rattle.ber_layout.specs.laid.Layouts.Layout.{AnyOctets, Ignored, Number, Skipped, Flag, End, Further, FurtherBut, AnyElement, Then, Maybe, Marked, Each}
-use Rattle.ber_layout.specs.laws.Ranges.{Within}
+use Rattle.ber_layout.specs.Spellings.{element_octets, optional_octets, marked_octets, each_octets}
+use Rattle.ber_layout.specs.Layouts.{Layout, Value, writes, Fits, IsShort, MayFit}
+use Rattle.ber_layout.specs.Layouts.Layout.{AnyOctets, Ignored, Number, Skipped, Flag, End, Further, FurtherBut, AnyElement, Then, Maybe, Marked, Each}
+use Rattle.ber_layout.specs.Ranges.{Within}
 
 -- an element is no shorter than its content
 pub element_longer : (tag : ℕ) (content : List ℕ) → length content ≤ length (element_octets tag content)

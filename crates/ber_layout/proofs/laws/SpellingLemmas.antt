@@ -12,9 +12,9 @@ use Rattle.ber_elements.proofs.Theorems.{header_spells, int_spells}
 use Rattle.ber_layout.specs.element.Pieces.{IsNumberIn}
 use Rattle.ber_layout.specs.components.Flags.{IsFlag, flag_octets}
 use Rattle.ber_layout.specs.components.Components.{Follows, MayFollow, MarkFollows, EachFollows}
-use Rattle.ber_layout.specs.write.Spellings.{element_octets, optional_octets, marked_octets, each_octets}
-use Rattle.ber_layout.specs.laid.Layouts.{Layout, Value, Says, reads_into, writes, Fits, IsShort, MayFit, may_begin, is_clear}
-use Rattle.ber_layout.specs.laid.Layouts.Layout.{AnyOctets, Ignored, Number, Skipped, Flag, End, Further, FurtherBut, AnyElement, Then, Maybe, Marked, Each}
+use Rattle.ber_layout.specs.Spellings.{element_octets, optional_octets, marked_octets, each_octets}
+use Rattle.ber_layout.specs.Layouts.{Layout, Value, Says, reads_into, writes, Fits, IsShort, MayFit, may_begin, is_clear}
+use Rattle.ber_layout.specs.Layouts.Layout.{AnyOctets, Ignored, Number, Skipped, Flag, End, Further, FurtherBut, AnyElement, Then, Maybe, Marked, Each}
 use Rattle.ber_layout.proofs.laws.LayoutLemmas.{complete_into}
 
 -- an element as it is written

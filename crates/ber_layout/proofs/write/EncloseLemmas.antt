@@ -3,7 +3,7 @@ use Rattle.std.proofs.Common.{◌≡◌, ℕ, ◌+◌, ◌-◌, ◌≤◌, List,
 use Rattle.std.proofs.lemmas.List.{take-append-drop, take_at, drop_at, length-take-le, nil_from_length}
 use Rattle.std.specs.List.{slice_rotate_right}
 use Rattle.ber_elements.specs.write.Spelling.{length_octets, header_octets}
-use Rattle.ber_layout.specs.write.Spellings.{element_octets}
+use Rattle.ber_layout.specs.Spellings.{element_octets}
 
 -- the octets before, the content and the header, with the header moved to the content's front
 moved : (before content header : List ℕ) → take (length before) ((before ++ content) ++ header) ++ slice_rotate_right (drop (length before) ((before ++ content) ++ header)) (length header)

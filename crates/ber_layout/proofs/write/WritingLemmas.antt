@@ -1,7 +1,7 @@
 -- The elements of values, one more at a time.
 use Rattle.std.proofs.Common.{◌≡◌, ℕ, ◌+◌, ◌<◌, List, [], ◌∷◌, ◌++◌, length, get_or, take, map, sym, ap, ◌∙◌, append_assoc}
 use Rattle.std.proofs.lemmas.List.{append-nil, take_more, map_push}
-use Rattle.ber_layout.specs.write.Spellings.{element_octets, each_octets}
+use Rattle.ber_layout.specs.Spellings.{element_octets, each_octets}
 
 -- the elements of values and one more
 pub each_octets_more : {A : Type 0} (tag : ℕ) (content : A → List ℕ) (values : List A) (value : A)

@@ -5,7 +5,7 @@ pub use Rattle.plain_values.specs.Options.{◌>>=◌}
 use Rattle.ber_elements.specs.declared.kinds.Header.{Header}
 use Rattle.ber_elements.specs.declared.kinds.Header.TheVariants as header
 use Rattle.ber_elements.specs.write.Element.{Elem}
-use Rattle.ber_elements.specs.read.Heading.{header_at}
+use Rattle.ber_elements.specs.Heading.{header_at}
 use Rattle.ber_elements.specs.Integer.{IsInteger, int_at}
 
 -- ---- the relations

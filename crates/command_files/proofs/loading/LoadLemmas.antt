@@ -1,14 +1,14 @@
 -- Lemmas on a data file and a script read from a shelf.
 use Rattle.std.proofs.Common.{◌≡◌, ℕ, ◌≤◌, List, length, Option, Some, None, Result, Ok, Err, refl, sym, subst, inl, inr}
-use Rattle.wire_io.specs.shelf.Files.{Files, file_of}
-use Rattle.wire_io.specs.reading.ReadWhole.{GivesFile, IsLonger, IsLongerFile, ReadCause}
+use Rattle.wire_io.specs.Files.{Files, file_of}
+use Rattle.wire_io.specs.ReadWhole.{GivesFile, IsLonger, IsLongerFile, ReadCause}
 use Rattle.wire_io.specs.declared.answers.ReadFault.{ReadFault}
 use Rattle.wire_io.specs.declared.answers.ReadFault.TheVariants as read
 use Rattle.wire_io.specs.script_text.declared.event.ScriptFault.{ScriptFault}
 use Rattle.wire_io.specs.script_text.declared.event.ScriptFault.TheVariants as script
 use Rattle.wire_io.specs.script_text.script.ScriptReading.{IsCause, script_of}
 use Rattle.wire_io.proofs.script_text_proofs.Theorems.{script_of-err}
-use Rattle.wire_io.specs.script_link.Scripted.{LinkState}
+use Rattle.wire_io.specs.Scripted.{LinkState}
 use Rattle.command_files.specs.declared.loading.Trouble.{Trouble}
 use Rattle.command_files.specs.declared.loading.Trouble.TheVariants as trouble
 use Rattle.dir_tree.specs.tree.Numbered.{Numbered, entries_of}
@@ -18,7 +18,7 @@ use Rattle.data_file.specs.declared.fault.DataCause.TheVariants as DataCause
 use Rattle.data_file.specs.declared.fault.DataFault.{DataFault}
 use Rattle.data_file.specs.declared.fault.DataFault.TheVariants as loading
 use Rattle.wire_io.specs.plain_values.Answers.{IsFaultOf}
-use Rattle.data_file.specs.loading.Files.{cause_of, fault_of}
+use Rattle.data_file.specs.Files.{cause_of, fault_of}
 use Rattle.command_files.specs.loading.Accepting.{HoldsOf, HoldsIn, IsUnread, IsBadData, IsGoodData, IsBadScript, IsGoodScript, most_data, most_script}
 use Rattle.command_files.specs.loading.Loading.{LoadsScript, LoadsData, ReadsScript, ReadsData, data_trouble_of_file, trouble_of_data, trouble_of_file, trouble_of_script}
 

@@ -4,8 +4,8 @@ use Rattle.std.specs.Prelude.{◌≡◌, ◌⊎◌, ◌<◌, ◌≤◌, ℕ, Lis
 use Rattle.wire_io.specs.plain_values.Counts.{Rose}
 use Rattle.wire_io.specs.script_text.declared.event.ScriptEvent.{ScriptEvent}
 use Rattle.wire_io.specs.script_text.script.Script.{IsScript, IsFirstBadLine}
-use Rattle.wire_io.specs.shelf.Files.{Files, file_of, Lacks}
-use Rattle.wire_io.specs.reading.ReadWhole.{line_past}
+use Rattle.wire_io.specs.Files.{Files, file_of, Lacks}
+use Rattle.wire_io.specs.ReadWhole.{line_past}
 use Rattle.dir_tree.specs.Entry.{EntryInformation}
 use Rattle.data_file.specs.ldif_load.declared.fault.LoadCause.TheVariants.{Limit}
 use Rattle.data_file.specs.ldif_load.load.DataFile.{FileCause, OfRecord, loads}

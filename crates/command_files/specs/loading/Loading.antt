@@ -4,15 +4,15 @@ use Rattle.wire_io.specs.script_text.declared.event.ScriptFault.{ScriptFault}
 use Rattle.wire_io.specs.script_text.declared.event.ScriptFault.TheVariants as script
 use Rattle.wire_io.specs.declared.answers.ReadFault.{ReadFault}
 use Rattle.wire_io.specs.declared.answers.ReadFault.TheVariants as read
-use Rattle.wire_io.specs.shelf.Files.{Files}
-use Rattle.wire_io.specs.script_link.Scripted.{LinkState, fresh_link}
+use Rattle.wire_io.specs.Files.{Files}
+use Rattle.wire_io.specs.Scripted.{LinkState, fresh_link}
 use Rattle.dir_tree.specs.tree.Numbered.{Numbered, entries_of}
 use Rattle.aci_item.specs.Rules.{IsGoodTree}
 use Rattle.data_file.specs.ldif_load.declared.fault.LoadCause.TheVariants.{Limit}
 use Rattle.data_file.specs.declared.fault.DataCause.TheVariants as DataCause
 use Rattle.data_file.specs.declared.fault.DataFault.{DataFault}
 use Rattle.data_file.specs.declared.fault.DataFault.TheVariants as loading
-use Rattle.data_file.specs.loading.Files.{cause_of}
+use Rattle.data_file.specs.Files.{cause_of}
 use Rattle.command_files.specs.declared.loading.Trouble.{Trouble}
 use Rattle.command_files.specs.declared.loading.Trouble.TheVariants as trouble
 use Rattle.command_files.specs.loading.Accepting.{IsUnread, HoldsIn, IsBadData, IsGoodData, IsBadScript, IsGoodScript}

@@ -19,8 +19,8 @@ use Rattle.ldif_load.proofs.Theorems.{ends_at_first as loads_after-line}
 use Rattle.data_file.specs.declared.fault.DataFault.{DataFault}
 use Rattle.data_file.specs.declared.fault.DataFault.TheVariants.{Bad, NoMemory}
 use Rattle.wire_io.specs.plain_values.Answers.{IsFaultOf}
-use Rattle.data_file.specs.loading.Files.{fault_of, cause_of}
-use Rattle.data_file.specs.writing.Steps.{of_line, IsStep}
+use Rattle.data_file.specs.Files.{fault_of, cause_of}
+use Rattle.data_file.specs.Steps.{of_line, IsStep}
 
 -- loading goes on after a record
 loads_after-record : (old new : List Numbered) (given : Record) (rest : List (Result Record LineFault)) → IsLoaded old given new

@@ -6,14 +6,14 @@ use Rattle.std.proofs.lemmas.Grind.{flat_map-append}
 use Rattle.std.proofs.lemmas.List.{map-append}
 use Rattle.std.proofs.lemmas.Bool.{cases_Bool, cond-true, cond-false}
 use Rattle.wire_io.specs.declared.answers.PutFault.{PutFault}
-use Rattle.wire_io.specs.sink.Putting.{PutsAll}
+use Rattle.wire_io.specs.Putting.{PutsAll}
 use Rattle.wire_io.proofs.Theorems.{PutsAll-nothing, PutsAll-cut, PutsAll-then}
 use Rattle.dir_tree.specs.Entry.{EntryInformation}
 use Rattle.dir_tree.specs.declared.number.EntryNo.{EntryNo}
 use Rattle.dir_tree.specs.tree.Numbered.{Numbered, entry_of, entries_of}
 use Rattle.ldif_load.specs.ldif_records.writing.Written.{AreInTable}
 use Rattle.ldif_load.specs.ldif_records.writing.WrittenFile.{written_file, written_record, written_records}
-use Rattle.data_file.specs.writing.Steps.{AreOfTable, text_at}
+use Rattle.data_file.specs.Steps.{AreOfTable, text_at}
 
 -- a text of nothing was put
 pub PutsAll-empty : (old : Option (List ℕ)) (text : List ℕ) → text ≡ [] → PutsAll {T = Unit {0}} old text (Ok tt) old

@@ -8,7 +8,7 @@ use Rattle.dir_tree.specs.declared.scope.Scope.TheVariants.{Sub}
 use Rattle.dir_tree.specs.tree.Numbered.{Numbered, ids_of, entry_of, suffix_of, IsNumberedTree, entries_of}
 use Rattle.dir_tree.proofs.TreeTheorems.{scoped-Sub, own_entries}
 use Rattle.ldif_load.specs.ldif_records.writing.WrittenFile.{written_record, written_records}
-use Rattle.data_file.specs.writing.Steps.{text_at}
+use Rattle.data_file.specs.Steps.{text_at}
 
 -- the records of numbers by which their entries are found are those of the entries
 texts_found : (rows items : List Numbered) → AllByRecursion (λ row. entry_of row.id rows ≡ Some row.entry) items → flat_map (text_at rows) (ids_of items) ≡ written_records (entries_of items)

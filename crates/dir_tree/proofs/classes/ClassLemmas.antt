@@ -5,7 +5,7 @@ use Rattle.std.specs.Option.{option_map_or}
 use Rattle.std.proofs.lemmas.List.Folds.{list_any-append}
 use Rattle.schema_tables.specs.classes.Classes.{superior_of}
 use Rattle.schema_tables.proofs.Theorems.{superior_of_below}
-use Rattle.dir_tree.specs.classes.EntryClasses.{own_oid, oids_up, oids_of}
+use Rattle.dir_tree.specs.EntryClasses.{own_oid, oids_up, oids_of}
 
 -- a class of number 0 has no superior
 none_above :

@@ -7,9 +7,9 @@ use Rattle.std.proofs.lemmas.Bool.{cases_Bool, eqb-true}
 use Rattle.std.proofs.lemmas.List.{length-map}
 use Rattle.std.proofs.lemmas.Option.{same_Some}
 use Rattle.dn_names.specs.name.Names.{RdnSequence}
-use Rattle.dn_names.specs.order.NameOrder.{name_cmp}
+use Rattle.dn_names.specs.NameOrder.{name_cmp}
 use Rattle.dir_tree.specs.Entry.{EntryInformation}
-use Rattle.dir_tree.specs.subentries.Points.{is_access_subentry, access_subentries}
+use Rattle.dir_tree.specs.Points.{is_access_subentry, access_subentries}
 use Rattle.dir_tree.specs.tree.Trees.{is_named, named_in}
 use Rattle.dir_tree.specs.tree.Numbered.{Numbered, AreDistinct, ids_of, entries_of, entry_of, subentry_rows, without}
 use Rattle.dir_tree.specs.declared.number.EntryNo.{EntryNo}

@@ -6,7 +6,7 @@ use Rattle.std.proofs.lemmas.Bool.{cases_Bool, cases_lt, false_from_ne_true, and
 use Rattle.std.proofs.lemmas.List.{length-take-le, take-take}
 use Rattle.base_laws.proofs.Theorems.{none_passes}
 use Rattle.dn_names.specs.name.Names.{RdnSequence}
-use Rattle.dn_names.specs.order.NameOrder.{is_same, is_prefix_of}
+use Rattle.dn_names.specs.NameOrder.{is_same, is_prefix_of}
 use Rattle.dir_tree.specs.Entry.{EntryInformation}
 use Rattle.dir_tree.specs.tree.Trees.{is_named, is_below, has_name, has_below, superior_name, lacks_superior, IsTree}
 use Rattle.dir_tree.specs.Scope.{is_within}

@@ -5,7 +5,7 @@ use Rattle.std.specs.Map.{values_of}
 use Rattle.dn_names.specs.path.PathKeys.{path_key}
 use Rattle.dir_tree.specs.Entry.{EntryInformation}
 use Rattle.dir_tree.specs.slots.Slots.{row_at}
-use Rattle.dir_tree.specs.paths.Maps.{AreKeyed, HasSamePlaces}
+use Rattle.dir_tree.specs.Maps.{AreKeyed, HasSamePlaces}
 
 -- where a clone of a key has the same octets
 pub same_places : {K : Type 0} (octets : K → List ℕ) (C : K → K → Type 0) (D : ℕ → ℕ → Type 0) → ((one other : K) → C one other → octets other ≡ octets one) → ((one other : ℕ) → D one other → other ≡ one) → (places others : List (K × ℕ)) → AllZip (λ one other. C one.0 other.0 × D one.1 other.1) places others → HasSamePlaces octets places others

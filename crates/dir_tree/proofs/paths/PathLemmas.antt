@@ -8,7 +8,7 @@ use Rattle.std.specs.Cmp.Lexicographic.{slice_cmp}
 use Rattle.std.proofs.lemmas.Bool.{cases_Bool, cond-false, le-ltb, eqb-true, false_from_ne_true}
 use Rattle.std.proofs.lemmas.Cmp.{alike_right}
 use Rattle.dn_names.specs.name.Names.{RdnSequence}
-use Rattle.dn_names.specs.order.NameOrder.{is_same}
+use Rattle.dn_names.specs.NameOrder.{is_same}
 use Rattle.dn_names.specs.path.PathKeys.{path_key}
 use Rattle.dn_names.proofs.Theorems.{name_cmp_total}
 use Rattle.dir_tree.specs.Entry.{EntryInformation}
@@ -17,7 +17,7 @@ use Rattle.dir_tree.specs.tree.Numbered.{Numbered, entries_of, entry_of, without
 use Rattle.dir_tree.specs.Refusals.{insert_refusal}
 use Rattle.dir_tree.specs.slots.Places.{place_of, place_without}
 use Rattle.dir_tree.specs.slots.Slots.{slot_of, entry_in, rows_of, has_id, count_full, HasSameSlots, IsKept}
-use Rattle.dir_tree.specs.paths.Maps.{AreKeyed}
+use Rattle.dir_tree.specs.Maps.{AreKeyed}
 use Rattle.dir_tree.proofs.tree.NameLemmas.{Equal-from_same, same_itself, same_back}
 use Rattle.dir_tree.proofs.tree.RootLemmas.{any_put}
 use Rattle.dir_tree.proofs.slots.CountLemmas.{full_within}

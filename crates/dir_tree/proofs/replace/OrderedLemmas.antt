@@ -4,7 +4,7 @@ use Rattle.std.specs.List.{AllByRecursion}
 use Rattle.std.proofs.lemmas.Bool.{cases_Bool, true_from_ne_false, or_parts, or_left, or_right, or_cases}
 use Rattle.std.proofs.lemmas.List.{length-take-le}
 use Rattle.dn_names.specs.name.Names.{RdnSequence}
-use Rattle.dn_names.specs.order.NameOrder.{is_same}
+use Rattle.dn_names.specs.NameOrder.{is_same}
 use Rattle.dir_tree.specs.Entry.{EntryInformation}
 use Rattle.dir_tree.specs.tree.Trees.{is_before, is_below, is_named, has_name, has_below, superior_name, put_in, IsInOrder}
 use Rattle.dir_tree.specs.slots.Slots.{has_before, HasSuperiors, IsOrderedTree}

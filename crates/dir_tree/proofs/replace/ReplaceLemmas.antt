@@ -8,7 +8,7 @@ use Rattle.std.proofs.lemmas.Bool.{cases_Bool, cases_lt, cond-true, cond-false, 
 use Rattle.std.proofs.lemmas.List.{length-map, length-set, get_or-map}
 use Rattle.std.proofs.lemmas.List.Edits.{length-insert, length-remove}
 use Rattle.dn_names.specs.name.Names.{RdnSequence}
-use Rattle.dn_names.specs.order.NameOrder.{name_cmp, is_same}
+use Rattle.dn_names.specs.NameOrder.{name_cmp, is_same}
 use Rattle.dir_tree.specs.Entry.{EntryInformation}
 use Rattle.dir_tree.specs.tree.Trees.{is_named, is_before, has_name, has_below, superior_name, IsInOrder, put_in}
 use Rattle.dir_tree.specs.tree.Numbered.{Numbered, find_name, entry_of, put_row, without, AreDistinct, entries_of}

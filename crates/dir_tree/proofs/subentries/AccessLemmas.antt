@@ -7,7 +7,7 @@ use Rattle.std.proofs.lemmas.List.{map-append, take-map, drop-map, drop_more, dr
 use Rattle.base_laws.proofs.Theorems.{all_filter}
 use Rattle.dn_names.specs.name.Names.{RdnSequence}
 use Rattle.dir_tree.specs.Entry.{EntryInformation}
-use Rattle.dir_tree.specs.subentries.Points.{is_access_subentry}
+use Rattle.dir_tree.specs.Points.{is_access_subentry}
 use Rattle.dir_tree.specs.tree.Trees.{is_before, IsInOrder}
 use Rattle.dir_tree.specs.tree.Numbered.{Numbered, ids_of, entries_of, subentry_rows, put_row, without}
 use Rattle.dir_tree.specs.slots.Places.{stands_before, place_of}

@@ -11,7 +11,7 @@ use Rattle.std.proofs.lemmas.Bool.{cases_Bool, false_from_ne_true, or_parts, con
 use Rattle.std.proofs.lemmas.Bool.Decides.{Decides-eqb}
 use Rattle.std.proofs.lemmas.Slice.Eq.{starts_is}
 use Rattle.dn_names.specs.name.Names.{RdnSequence}
-use Rattle.dn_names.specs.order.NameOrder.{name_cmp, is_same, is_prefix_of}
+use Rattle.dn_names.specs.NameOrder.{name_cmp, is_same, is_prefix_of}
 use Rattle.dn_names.specs.path.PathKeys.{path_key}
 use Rattle.dn_names.proofs.Theorems.{tied_octets, octets_cmp-path_key, is_prefix_of-path_key}
 use Rattle.dir_tree.specs.Entry.{EntryInformation}
@@ -19,7 +19,7 @@ use Rattle.dir_tree.specs.tree.Trees.{is_named, is_before, has_name, IsInOrder}
 use Rattle.dir_tree.specs.tree.Numbered.{Numbered, entries_of, find_name}
 use Rattle.dir_tree.specs.slots.Places.{front_count, stands_before, place_of}
 use Rattle.dir_tree.specs.slots.Slots.{row_at, rows_of}
-use Rattle.dir_tree.specs.paths.Maps.{AreKeyed}
+use Rattle.dir_tree.specs.Maps.{AreKeyed}
 use Rattle.dir_tree.proofs.tree.NameLemmas.{Less-from_before, Equal-from_same, same-from_Equal, is_gt-turned, before_chain, before_not_back, before_not_same, same_back, same_not_before}
 use Rattle.dir_tree.proofs.tree.OrderLemmas.{absent_before}
 

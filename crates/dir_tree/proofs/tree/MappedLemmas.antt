@@ -6,15 +6,15 @@ use Rattle.std.specs.Map.{values_of, remove_entry}
 use Rattle.std.specs.BTreeMap.{insert_entry, is_at}
 use Rattle.std.specs.Cmp.Lexicographic.{slice_cmp}
 use Rattle.std.proofs.lemmas.List.{set-set, set-get_or}
-use Rattle.dn_names.specs.order.NameOrder.{is_same}
+use Rattle.dn_names.specs.NameOrder.{is_same}
 use Rattle.dn_names.specs.path.PathKeys.{path_key}
 use Rattle.dir_tree.specs.Entry.{EntryInformation}
 use Rattle.dir_tree.specs.tree.Trees.{put_in, IsInOrder}
 use Rattle.dir_tree.specs.tree.Numbered.{Numbered, ids_of, subentry_rows, entries_of, entry_of, put_row, without}
 use Rattle.dir_tree.specs.slots.Places.{place_of}
 use Rattle.dir_tree.specs.slots.Slots.{slot_of, rows_of, listed_in, unlisted, IsKept}
-use Rattle.dir_tree.specs.paths.Maps.{HasSamePlaces, IsMapped}
-use Rattle.dir_tree.specs.remove.Removals.{IsReplaceable}
+use Rattle.dir_tree.specs.Maps.{HasSamePlaces, IsMapped}
+use Rattle.dir_tree.specs.Removals.{IsReplaceable}
 use Rattle.dir_tree.proofs.slots.SlotLemmas.{entry_of-rows_of}
 use Rattle.dir_tree.proofs.subentries.AccessLemmas.{own_rows_of, own_filter, listed-put, unlisted-without}
 use Rattle.dir_tree.proofs.tree.RootLemmas.{sorted_left}

@@ -8,7 +8,7 @@ use Rattle.std.proofs.lemmas.List.{length-map, take-map, take_all, length-take-l
 use Rattle.std.proofs.lemmas.Bool.{and_from, and_left, and_right, cases_lt, lt-ltb, le-ltb, true_from_ne_false, not_from_false, not_from_true}
 use Rattle.base_laws.proofs.Theorems.{is_equal}
 use Rattle.dn_names.specs.name.Names.{RdnSequence}
-use Rattle.dn_names.specs.order.NameOrder.{rdn_cmp, name_cmp, is_same, is_prefix_of, type_and_key}
+use Rattle.dn_names.specs.NameOrder.{rdn_cmp, name_cmp, is_same, is_prefix_of, type_and_key}
 use Rattle.dn_names.proofs.Theorems.{name_cmp_total, is_same-types_and_keys, name_cmp-prefix}
 use Rattle.dir_tree.specs.tree.Trees.{is_before, is_below, superior_name}
 

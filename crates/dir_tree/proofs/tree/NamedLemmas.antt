@@ -6,7 +6,7 @@ use Rattle.std.specs.declared.cmp.Ordering.TheVariants.{Less}
 use Rattle.std.proofs.lemmas.Bool.{cases_Bool, cond-true, cond-false, false_from_ne_true, not_from_true, not-false, true≢false}
 use Rattle.std.proofs.lemmas.Option.{same_Some}
 use Rattle.dn_names.specs.name.Names.{RdnSequence}
-use Rattle.dn_names.specs.order.NameOrder.{name_cmp, is_same}
+use Rattle.dn_names.specs.NameOrder.{name_cmp, is_same}
 use Rattle.dn_names.proofs.Theorems.{name_cmp_total}
 use Rattle.dir_tree.specs.Entry.{EntryInformation}
 use Rattle.dir_tree.specs.tree.Trees.{is_before, is_named, has_name, named_in, superior_name, lacks_superior, put_in, taken_out}

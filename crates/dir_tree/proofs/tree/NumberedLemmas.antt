@@ -6,7 +6,7 @@ use Rattle.std.specs.Ordering.{is_lt}
 use Rattle.std.proofs.lemmas.Bool.{cases_Bool, cond-true, cond-false, eqb-true, ne_eqb, eq-eqb}
 use Rattle.std.specs.declared.cmp.Ordering.TheVariants.{Less}
 use Rattle.dn_names.specs.name.Names.{RdnSequence}
-use Rattle.dn_names.specs.order.NameOrder.{name_cmp}
+use Rattle.dn_names.specs.NameOrder.{name_cmp}
 use Rattle.dir_tree.specs.Entry.{EntryInformation}
 use Rattle.dir_tree.specs.tree.Trees.{is_before, is_named, put_in, IsInOrder}
 use Rattle.dir_tree.specs.tree.Numbered.{Numbered, entries_of, entry_of, put_row, without, AreDistinct}

@@ -6,7 +6,7 @@ use Rattle.std.proofs.lemmas.Bool.{cond_both, false_from_ne_true, or_parts, or_l
 use Rattle.std.specs.declared.cmp.Ordering.TheVariants.{Less}
 use Rattle.base_laws.proofs.Theorems.{all_map}
 use Rattle.dn_names.specs.name.Names.{RdnSequence}
-use Rattle.dn_names.specs.order.NameOrder.{name_cmp, is_same, is_prefix_of}
+use Rattle.dn_names.specs.NameOrder.{name_cmp, is_same, is_prefix_of}
 use Rattle.dir_tree.specs.Entry.{EntryInformation}
 use Rattle.dir_tree.specs.tree.Trees.{is_before, is_below, is_named, has_name, has_below, superior_name, put_in, IsInOrder}
 use Rattle.dir_tree.specs.slots.Slots.{has_before, HasSuperiors}

@@ -9,7 +9,7 @@ use Rattle.std.proofs.lemmas.Bool.{cases_Bool, eqb-true, eqb-false, ne_eqb, eq-e
 use Rattle.std.proofs.lemmas.List.{length-take-le}
 use Rattle.base_laws.proofs.Theorems.{all_true, filter-none}
 use Rattle.dn_names.specs.name.Names.{RdnSequence}
-use Rattle.dn_names.specs.order.NameOrder.{name_cmp, is_same, is_prefix_of}
+use Rattle.dn_names.specs.NameOrder.{name_cmp, is_same, is_prefix_of}
 use Rattle.dir_tree.specs.Entry.{EntryInformation}
 use Rattle.dir_tree.specs.tree.Trees.{is_named, is_before, has_name, named_in, superior_name, put_in, taken_out, IsInOrder}
 use Rattle.dir_tree.specs.tree.Numbered.{Numbered, ids_of, entries_of, find_name, entry_of, entries_at, suffix_of, superior_of, put_row, without, AreDistinct, IsNumberedTree}

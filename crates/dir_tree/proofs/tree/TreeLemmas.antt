@@ -5,7 +5,7 @@ use Rattle.std.specs.Ordering.{is_lt}
 use Rattle.std.specs.declared.cmp.Ordering.TheVariants.{Less}
 use Rattle.std.proofs.lemmas.Bool.{or_left, or_right, eq-eqb}
 use Rattle.std.proofs.lemmas.List.{length-map}
-use Rattle.dn_names.specs.order.NameOrder.{name_cmp}
+use Rattle.dn_names.specs.NameOrder.{name_cmp}
 use Rattle.dir_tree.specs.Entry.{EntryInformation}
 use Rattle.dir_tree.specs.tree.Trees.{is_named, is_before, has_name, superior_name, IsRooted}
 use Rattle.dir_tree.specs.tree.Numbered.{Numbered, entries_of, IsNumberedTree}

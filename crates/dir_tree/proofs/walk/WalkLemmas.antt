@@ -10,7 +10,7 @@ use Rattle.std.proofs.lemmas.List.{take_all}
 use Rattle.std.proofs.lemmas.Bool.{cases_Bool, cond_both, and_right, eqb-true}
 use Rattle.base_laws.proofs.Theorems.{filter-none, filter-filter}
 use Rattle.dn_names.specs.name.Names.{RdnSequence}
-use Rattle.dn_names.specs.order.NameOrder.{name_cmp, is_same, is_prefix_of}
+use Rattle.dn_names.specs.NameOrder.{name_cmp, is_same, is_prefix_of}
 use Rattle.dn_names.specs.path.PathKeys.{path_key}
 use Rattle.dir_tree.specs.Entry.{EntryInformation}
 use Rattle.dir_tree.specs.tree.Trees.{is_before, is_below, is_named, has_below, IsInOrder}
@@ -19,7 +19,7 @@ use Rattle.dir_tree.specs.Scope.{is_within, is_child, in_scope}
 use Rattle.dir_tree.specs.declared.scope.Scope.{Scope}
 use Rattle.dir_tree.specs.declared.scope.Scope.TheVariants.{Base, One, Sub}
 use Rattle.dir_tree.specs.slots.Slots.{row_at, rows_of}
-use Rattle.dir_tree.specs.paths.Maps.{AreKeyed}
+use Rattle.dir_tree.specs.Maps.{AreKeyed}
 use Rattle.dir_tree.specs.Walk.{is_one_below, is_at_depth, front_of, walked}
 use Rattle.dir_tree.proofs.tree.NameLemmas.{prefix_between, below_between, before_not_back, before_not_same, same_itself, same_back, length-same, is_gt-turned, same-from_Equal}
 use Rattle.dir_tree.proofs.tree.OrderLemmas.{other_way}

@@ -4,7 +4,7 @@ use Rattle.std.specs.Option.{option_map, option_and_then}
 use Rattle.std.specs.List.{AllByRecursion, filter_map}
 use Rattle.dn_names.specs.name.Names.{RdnSequence}
 use Rattle.dir_tree.specs.Entry.{EntryInformation}
-use Rattle.dir_tree.specs.subentries.Points.{is_access_subentry}
+use Rattle.dir_tree.specs.Points.{is_access_subentry}
 use Rattle.dir_tree.specs.tree.Trees.{most_entries, is_named, superior_name, is_before, IsTree}
 
 -- an entry, and the number by which it is known

@@ -5,7 +5,7 @@ use Rattle.std.specs.List.{AllByRecursion, list_any}
 use Rattle.std.specs.Ordering.{is_lt}
 use Rattle.std.specs.declared.cmp.Ordering.TheVariants.{Less}
 use Rattle.dn_names.specs.name.Names.{RdnSequence}
-use Rattle.dn_names.specs.order.NameOrder.{name_cmp, is_same, is_prefix_of}
+use Rattle.dn_names.specs.NameOrder.{name_cmp, is_same, is_prefix_of}
 use Rattle.dir_tree.specs.Entry.{EntryInformation}
 
 -- how many entries a tree has at most

@@ -9,7 +9,7 @@ use Rattle.std.proofs.Math.Bool.{or-false}
 use mathlib.Core.List.{reverse_aux}
 use Rattle.dir_tree.proofs.base_laws_proofs.Theorems.{find-map, list_any-map}
 use Rattle.dir_tree.specs.dn_names.name.Names.{RdnSequence}
-use Rattle.dir_tree.specs.dn_names.order.NameOrder.{name_cmp}
+use Rattle.dir_tree.specs.dn_names.NameOrder.{name_cmp}
 use Rattle.dir_tree.specs.dn_names.Printing.{print_name, print_by}
 use Rattle.dir_tree.specs.Entry.{EntryInformation}
 use Rattle.dir_tree.specs.tree.Trees.{is_named, is_below, named_in, IsInOrder}
@@ -19,13 +19,13 @@ use Rattle.dir_tree.specs.declared.number.EntryNo.{EntryNo}
 use Rattle.acdf_filters.specs.aci_item.declared.permission.Permission.TheVariants.{DiscloseOnError}
 use Rattle.acdf_filters.specs.declared.asking.Requester.{Requester}
 use Rattle.acdf_filters.specs.Asking.{Entry}
-use Rattle.acdf_filters.specs.laws.Granted as decision
-use Rattle.acdf_filters.specs.laws.Granted.{granted}
+use Rattle.acdf_filters.specs.Granted as decision
+use Rattle.acdf_filters.specs.Granted.{granted}
 use Rattle.acdf_core.specs.nearest.Nearest.{IsEntryOf}
 use Rattle.ldap_msg.specs.declared.operations.ResultCode.TheVariants as code
 use Rattle.read_model.specs.Views.{Row, View, row_of, view_of, matched_name, discloses, is_disclosed, no_such_object, result_of, result_with}
 use Rattle.directory.specs.Asking.{view_in}
-use Rattle.directory.specs.hiding.Nearest.{nearest_name, without_object}
+use Rattle.directory.specs.Nearest.{nearest_name, without_object}
 
 -- ---- lists of what is seen of other lists
 

@@ -5,7 +5,7 @@ use Rattle.std.proofs.lemmas.Bool.{cond-true}
 use Rattle.std.proofs.lemmas.Bool.Decides.{nat_tests}
 use Rattle.std.specs.Prelude.{◌==◌, if◌then◌else◌}
 use Rattle.dn_names.specs.Printing.{print_octet, is_empty, print_from, join_from}
-use Rattle.dn_names.specs.is_key.KeyReading.{strip}
+use Rattle.dn_names.specs.KeyReading.{strip}
 
 -- where the first is there
 pub strip_some : (front more octets rest : List ℕ) → strip front octets ≡ Some rest → strip (front ++ more) octets ≡ strip more rest

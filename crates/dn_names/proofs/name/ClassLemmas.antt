@@ -6,7 +6,7 @@ use Rattle.std.proofs.lemmas.Bool.Decides.{nat_tests}
 use Rattle.dn_names.specs.declared.classes.Class.{Class}
 use Rattle.dn_names.specs.declared.classes.Class.TheVariants.{HexLetter, Letter, Zero, Digit, Dash, Dot}
 use Rattle.dn_names.specs.Classes.{class_of, is_space, is_equals, is_plus, is_comma, is_backslash, is_hex, is_plain, is_escapable}
-use Rattle.dn_names.specs.octets.Reading.{hex_value}
+use Rattle.dn_names.specs.Reading.{hex_value}
 
 -- a class has the one octet that it is named for
 pub space_is : (x : ℕ) → is_space (class_of x) ≡ true → x ≡ 32

@@ -7,8 +7,8 @@ use Rattle.schema_tables.specs.Attributes.{attr_of, name_of}
 use Rattle.schema_tables.proofs.Theorems.{attr_of-name_of, is_keystring-name_of}
 use Rattle.dn_names.specs.declared.printing.Shown.TheVariants.{Key}
 use Rattle.dn_names.specs.name.Names.{TypeAndValue, RdnSequence}
-use Rattle.dn_names.specs.order.NameOrder.{is_same, is_prefix_of, type_and_key, types_and_keys}
-use Rattle.dn_names.specs.laws.Spelling.{WrittenPair, SpellsPair, SpellsRdn, SpellsName}
+use Rattle.dn_names.specs.NameOrder.{is_same, is_prefix_of, type_and_key, types_and_keys}
+use Rattle.dn_names.specs.Spelling.{WrittenPair, SpellsPair, SpellsRdn, SpellsName}
 use Rattle.dn_names.specs.parsing.NameText.{NameText, read_name}
 use Rattle.dn_names.specs.Printing.{print_value, join_from, print_pair, print_rdn, shown_of, print_by, print_name, name_key}
 use Rattle.dn_names.specs.name.GoodNames.{IsGoodPair, IsGoodRdn, IsGoodName}

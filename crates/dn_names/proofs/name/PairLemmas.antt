@@ -10,9 +10,9 @@ use Rattle.regular_text.proofs.Theorems.{has_empty-Matches, Matches-AllByRecursi
 use Rattle.dn_names.specs.declared.classes.Class.{Class}
 use Rattle.dn_names.specs.declared.classes.Class.TheVariants.{Dot}
 use Rattle.dn_names.specs.Classes.{class_of, is_letter, is_word, is_zero, is_nonzero, is_digit, is_dot}
-use Rattle.dn_names.specs.laws.NameGrammar.{kind}
-use Rattle.dn_names.specs.laws.Spelling.{WrittenPair, AreSpaces, IsKind, SpellsPair, IsJoined, SpellsRdn, SpellsName}
-use Rattle.dn_names.specs.octets.Reading.{parts_of, is_blank, word_of, kind_size, value_octets, pair_of, rdn_of, written_of}
+use Rattle.dn_names.specs.NameGrammar.{kind}
+use Rattle.dn_names.specs.Spelling.{WrittenPair, AreSpaces, IsKind, SpellsPair, IsJoined, SpellsRdn, SpellsName}
+use Rattle.dn_names.specs.Reading.{parts_of, is_blank, word_of, kind_size, value_octets, pair_of, rdn_of, written_of}
 use Rattle.dn_names.proofs.name.ClassLemmas.{is_kind, kind_other}
 use Rattle.dn_names.proofs.parts.PartsLemmas.{is_clean, is_clean-append, is_clean-joined, map-parts_from}
 use Rattle.dn_names.proofs.value.ValueLemmas.{separator, without_spaces-append, value_octets-spelled, spaces_clean, value_clean}

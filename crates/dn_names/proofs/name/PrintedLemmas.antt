@@ -5,7 +5,7 @@ use Rattle.std.proofs.lemmas.Bool.Decides.{nat_tests}
 use Rattle.dn_names.specs.declared.classes.Class.{Class}
 use Rattle.dn_names.specs.declared.classes.Class.TheVariants.{Space, Nul}
 use Rattle.dn_names.specs.Classes.{class_of, is_plain, is_escapable, is_hex}
-use Rattle.dn_names.specs.laws.Spelling.{IsPiece, SpellsOctets, SpellsValue}
+use Rattle.dn_names.specs.Spelling.{IsPiece, SpellsOctets, SpellsValue}
 use Rattle.dn_names.specs.Printing.{is_escaped, print_octet, is_empty, print_from, print_value}
 
 -- how a printed octet stands for the octet

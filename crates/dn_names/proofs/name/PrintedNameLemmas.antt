@@ -9,8 +9,8 @@ use Rattle.std.proofs.lemmas.Bool.Decides.{nat_tests}
 use Rattle.std.proofs.lemmas.List.{append-nil, length-map, length-reverse, reverse-reverse}
 use Rattle.std.proofs.lemmas.Option.{slice_get_within}
 use Rattle.base_laws.proofs.Theorems.{all_push}
-use Rattle.regular_text.specs.laws.Grammar.{Matches}
-use Rattle.regular_text.specs.laws.Grammar.Grammar.{One, Many}
+use Rattle.regular_text.specs.Grammar.{Matches}
+use Rattle.regular_text.specs.Grammar.Grammar.{One, Many}
 use Rattle.schema_tables.specs.Attributes.{Attribute, attributes, attribute_at, name_of, is_naming, syntax_of, IsAttrId}
 use Rattle.schema_tables.specs.Naming.{is_keystring}
 use Rattle.schema_tables.proofs.Theorems.{attr_of-name_of, is_keystring-name_of}
@@ -18,9 +18,9 @@ use Rattle.dn_names.specs.declared.error.BadName.TheVariants.{TooMany}
 use Rattle.dn_names.specs.declared.printing.Shown.TheVariants.{Octets}
 use Rattle.dn_names.specs.Classes.{class_of, is_letter, is_word}
 use Rattle.dn_names.specs.name.Names.{Keyed, TypeAndValue, RdnSequence}
-use Rattle.dn_names.specs.laws.Spelling.{WrittenPair, IsKind, SpellsPair, IsJoined, SpellsRdn, SpellsName}
+use Rattle.dn_names.specs.Spelling.{WrittenPair, IsKind, SpellsPair, IsJoined, SpellsRdn, SpellsName}
 use Rattle.dn_names.specs.value.Values.{plain_key}
-use Rattle.dn_names.specs.resolve.Resolving.{naming_value, pair_meaning, put_pair, add_pair, and_then, rdn_from, rdns_from, from_root, resolve}
+use Rattle.dn_names.specs.Resolving.{naming_value, pair_meaning, put_pair, add_pair, and_then, rdn_from, rdns_from, from_root, resolve}
 use Rattle.dn_names.specs.parsing.NameText.{NameText}
 use Rattle.dn_names.specs.Printing.{print_value, join_from, print_pair, print_rdn, shown_of, print_by, print_name}
 use Rattle.dn_names.specs.name.GoodNames.{IsGoodPair, IsInTableOrder, IsGoodRdn, IsGoodName}

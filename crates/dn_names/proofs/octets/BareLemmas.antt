@@ -4,7 +4,7 @@ use Rattle.std.specs.Prelude.{◌==◌, not, cond, if◌then◌else◌}
 use Rattle.std.specs.List.{position_or_len}
 use Rattle.std.proofs.lemmas.Bool.{cond-false}
 use Rattle.dn_names.specs.declared.octets.Reading.TheVariants.{Plain, Escaped}
-use Rattle.dn_names.specs.octets.Reading.{spaced, octets_from}
+use Rattle.dn_names.specs.Reading.{spaced, octets_from}
 use Rattle.dn_names.specs.path.PathKeys.{escape}
 
 -- where the octet is nowhere, it is not the first, and nowhere after it

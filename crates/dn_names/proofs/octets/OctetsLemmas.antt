@@ -7,7 +7,7 @@ use Rattle.dn_names.specs.declared.octets.Reading.TheVariants.{Plain, Escaped, H
 use Rattle.dn_names.specs.declared.octets.Piece.{Piece}
 use Rattle.dn_names.specs.declared.octets.Piece.TheVariants.{Within, BareSpace, Octet}
 use Rattle.dn_names.specs.Classes.{class_of, is_hex}
-use Rattle.dn_names.specs.octets.Reading.{spaced, hex_value, piece_of, octets_from}
+use Rattle.dn_names.specs.Reading.{spaced, hex_value, piece_of, octets_from}
 
 -- octets before others; those that are kept where no other comes
 abbrev pub ended : ℕ → List ℕ → List ℕ → List ℕ

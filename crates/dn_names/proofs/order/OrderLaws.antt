@@ -8,7 +8,7 @@ use Rattle.std.specs.Cmp.Lexicographic.{slice_cmp, lists_total, on_texts}
 use Rattle.std.proofs.lemmas.List.{map-id, take-map, take-append-drop, take_at, map-append, length-map}
 use Rattle.base_laws.proofs.Theorems.{both_equal}
 use Rattle.dn_names.specs.name.Names.{TypeAndValue, RdnSequence}
-use Rattle.dn_names.specs.order.NameOrder.{pair_cmp, rdn_cmp, name_cmp, is_same, is_prefix_of, type_and_key, types_and_keys}
+use Rattle.dn_names.specs.NameOrder.{pair_cmp, rdn_cmp, name_cmp, is_same, is_prefix_of, type_and_key, types_and_keys}
 use Rattle.dn_names.proofs.parsing.OrderedLemmas.{which_first}
 
 pair_total : IsTotalOrder pair_cmp

@@ -10,7 +10,7 @@ use Rattle.std.proofs.lemmas.List.{map-id, take-append-drop}
 use Rattle.std.proofs.lemmas.Grind.{flat_map-append}
 use Rattle.base_laws.proofs.Theorems.{both_equal}
 use Rattle.dn_names.specs.name.Names.{TypeAndValue, RdnSequence}
-use Rattle.dn_names.specs.order.NameOrder.{pair_cmp, rdn_cmp, name_cmp, is_same, is_prefix_of}
+use Rattle.dn_names.specs.NameOrder.{pair_cmp, rdn_cmp, name_cmp, is_same, is_prefix_of}
 use Rattle.dn_names.specs.path.PathKeys.{escape, pair_part, rdn_part, path_key}
 use Rattle.dn_names.proofs.order.OrderLaws.{equal_same, nat_equal}
 

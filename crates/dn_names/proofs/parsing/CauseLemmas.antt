@@ -8,12 +8,12 @@ use Rattle.regular_text.proofs.Theorems.{IsPlace-unique}
 use Rattle.dn_names.specs.declared.error.BadName.{BadName}
 use Rattle.dn_names.specs.declared.error.BadName.TheVariants.{Text, Part, TooMany, NoMemory}
 use Rattle.dn_names.specs.name.Names.{RdnSequence}
-use Rattle.dn_names.specs.laws.NameGrammar.{IsNameText}
-use Rattle.dn_names.specs.laws.Spelling.{WrittenPair, SpellsName}
+use Rattle.dn_names.specs.NameGrammar.{IsNameText}
+use Rattle.dn_names.specs.Spelling.{WrittenPair, SpellsName}
 use Rattle.dn_names.specs.Modes.{text_fault}
-use Rattle.dn_names.specs.octets.Reading.{written_of}
-use Rattle.dn_names.specs.resolve.Resolving.{from_root, rdns_from, resolve, resolve_rdn}
-use Rattle.dn_names.specs.laws.GoodPlaces.{Placed, placed_pairs, IsGoodPlace, IsFirstBad}
+use Rattle.dn_names.specs.Reading.{written_of}
+use Rattle.dn_names.specs.Resolving.{from_root, rdns_from, resolve, resolve_rdn}
+use Rattle.dn_names.specs.GoodPlaces.{Placed, placed_pairs, IsGoodPlace, IsFirstBad}
 use Rattle.dn_names.specs.parsing.NameText.{LeavesGrammar, read_by, read_name, read_rdn}
 use Rattle.dn_names.specs.parsing.NameCause.{NameCause, cause_of}
 use Rattle.dn_names.proofs.parsing.OrderedLemmas.{which_first}

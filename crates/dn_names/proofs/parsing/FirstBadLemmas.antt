@@ -9,10 +9,10 @@ use Rattle.base_laws.proofs.Theorems.{all_map, all_push}
 use Rattle.dn_names.specs.declared.error.BadName.{BadName}
 use Rattle.dn_names.specs.declared.error.BadName.TheVariants.{Part, TooMany}
 use Rattle.dn_names.specs.name.Names.{TypeAndValue, RdnSequence}
-use Rattle.dn_names.specs.laws.Spelling.{WrittenPair}
-use Rattle.dn_names.specs.resolve.Resolving.{pair_meaning, put_pair, or_part, and_then, rdn_from, rdns_from, from_root, resolve}
+use Rattle.dn_names.specs.Spelling.{WrittenPair}
+use Rattle.dn_names.specs.Resolving.{pair_meaning, put_pair, or_part, and_then, rdn_from, rdns_from, from_root, resolve}
 use Rattle.dn_names.specs.name.GoodNames.{IsInTableOrder}
-use Rattle.dn_names.specs.laws.GoodPlaces.{Placed, placed_from, placed_pairs, LacksKind, IsGoodPlace, IsFirstBad}
+use Rattle.dn_names.specs.GoodPlaces.{Placed, placed_from, placed_pairs, LacksKind, IsGoodPlace, IsFirstBad}
 use Rattle.dn_names.proofs.resolve.PutPairLemmas.{put_pair-less, put_pair-same, put_pair-more}
 use Rattle.dn_names.proofs.parsing.OrderedLemmas.{which_first, put_pair-all, put_pair-ordered, put_pair-parts}
 

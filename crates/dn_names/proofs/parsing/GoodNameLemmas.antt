@@ -11,10 +11,10 @@ use Rattle.schema_tables.specs.Attributes.{attr_of, is_naming, syntax_of}
 use Rattle.dn_names.specs.declared.error.BadName.{BadName}
 use Rattle.dn_names.specs.declared.error.BadName.TheVariants.{TooMany}
 use Rattle.dn_names.specs.name.Names.{Keyed, TypeAndValue, RdnSequence}
-use Rattle.dn_names.specs.laws.Spelling.{WrittenPair, IsJoined, SpellsRdn, SpellsName}
+use Rattle.dn_names.specs.Spelling.{WrittenPair, IsJoined, SpellsRdn, SpellsName}
 use Rattle.dn_names.specs.value.Values.{plain_key}
-use Rattle.dn_names.specs.octets.Reading.{parts_of, parts_from, is_blank, pair_of, rdn_of, written_of}
-use Rattle.dn_names.specs.resolve.Resolving.{naming_value, pair_meaning, put_pair, add_pair, or_part, and_then, rdn_from, rdns_from, from_root, resolve, resolve_rdn}
+use Rattle.dn_names.specs.Reading.{parts_of, parts_from, is_blank, pair_of, rdn_of, written_of}
+use Rattle.dn_names.specs.Resolving.{naming_value, pair_meaning, put_pair, add_pair, or_part, and_then, rdn_from, rdns_from, from_root, resolve, resolve_rdn}
 use Rattle.dn_names.specs.parsing.NameText.{NameText, RdnText}
 use Rattle.dn_names.specs.name.GoodNames.{IsGoodPair, IsInTableOrder, IsGoodRdn, IsGoodName}
 use Rattle.dn_names.proofs.parts.PartsLemmas.{length-parts_from}

@@ -5,13 +5,13 @@ use Rattle.std.specs.Char.{digit_value}
 use Rattle.std.specs.List.{AllByRecursion, concat}
 use Rattle.std.proofs.lemmas.List.{append-nil}
 use Rattle.std.proofs.lemmas.Bool.Decides.{nat_tests}
-use Rattle.regular_text.specs.laws.Grammar.{Grammar, Matches}
-use Rattle.regular_text.specs.laws.Grammar.Grammar.{One, Then, Many}
+use Rattle.regular_text.specs.Grammar.{Grammar, Matches}
+use Rattle.regular_text.specs.Grammar.Grammar.{One, Then, Many}
 use Rattle.regular_text.proofs.Theorems.{Matches-AllByRecursion}
 use Rattle.dn_names.specs.declared.classes.Class.{Class}
 use Rattle.dn_names.specs.Classes.{class_of, is_space, is_plus, is_comma, is_plain, is_first, is_backslash}
-use Rattle.dn_names.specs.laws.NameGrammar.{spaces, kind, escape, first_piece, piece, value, pair, rdn, IsNameText}
-use Rattle.dn_names.specs.laws.Spelling.{WrittenPair, AreSpaces, IsPiece, SpellsOctets, SpellsValue, SpellsPair, IsJoined, SpellsRdn, SpellsName}
+use Rattle.dn_names.specs.NameGrammar.{spaces, kind, escape, first_piece, piece, value, pair, rdn, IsNameText}
+use Rattle.dn_names.specs.Spelling.{WrittenPair, AreSpaces, IsPiece, SpellsOctets, SpellsValue, SpellsPair, IsJoined, SpellsRdn, SpellsName}
 use Rattle.dn_names.proofs.name.ClassLemmas.{space_is, equals_is, plus_is, comma_is, backslash_is}
 
 all_spaces : (text : List ℕ) → AllByRecursion (λ x. is_space (class_of x) ≡ true) text → AreSpaces text

@@ -1,15 +1,15 @@
 -- The machine of names is that of the outer grammar: its table of states, their grammars and their steps.
 use Rattle.std.proofs.Common.{◌≡◌, ℕ, List, [], ◌∷◌, None, refl}
-use Rattle.regular_text.specs.laws.Grammar.{Grammar}
-use Rattle.regular_text.specs.laws.Grammar.Grammar.{One, Then, Many}
-use Rattle.regular_text.specs.laws.Derivative.{has_empty, after}
-use Rattle.regular_text.specs.laws.Machine.{grammar_at, fault_at, IsMachineOf}
+use Rattle.regular_text.specs.Grammar.{Grammar}
+use Rattle.regular_text.specs.Grammar.Grammar.{One, Then, Many}
+use Rattle.regular_text.specs.Derivative.{has_empty, after}
+use Rattle.regular_text.specs.Machine.{grammar_at, fault_at, IsMachineOf}
 use Rattle.dn_names.specs.declared.classes.Class.{Class}
 use Rattle.dn_names.specs.declared.classes.Class.TheVariants.{Space}
 use Rattle.dn_names.specs.declared.modes.Mode.{Mode}
 use Rattle.dn_names.specs.declared.modes.Mode.TheVariants.{Start, PairStart, Word, FirstZero, FirstNumber, AfterDot, LaterZero, LaterNumber, AfterKind, ValueStart, InValue, Escape, HalfByte}
 use Rattle.dn_names.specs.Classes.{class_of, is_word, is_digit, is_hex, is_equals}
-use Rattle.dn_names.specs.laws.NameGrammar.{spaces, number, dot_number, escape, piece, value, pair, more_pairs, more_rdns, name}
+use Rattle.dn_names.specs.NameGrammar.{spaces, number, dot_number, escape, piece, value, pair, more_pairs, more_rdns, name}
 use Rattle.dn_names.specs.Modes.{step_of, may_end, machine}
 
 -- what ends a pair, then its RDN, then the name

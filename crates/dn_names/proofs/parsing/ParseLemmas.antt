@@ -1,16 +1,16 @@
 -- What is read as a name is a text of it, and the other way round.
 use Rattle.std.proofs.Common.{◌≡◌, ℕ, IfOk, List, Some, None, Result, Ok, Err, refl, sym, ap, subst, ◌∙◌}
 use Rattle.plain_values.specs.Answers.{Answers}
-use Rattle.regular_text.specs.laws.Place.{IsPlace}
+use Rattle.regular_text.specs.Place.{IsPlace}
 use Rattle.regular_text.proofs.Theorems.{fault_at-None, fault_at-Some}
 use Rattle.dn_names.specs.declared.error.BadName.{BadName}
 use Rattle.dn_names.specs.declared.modes.Mode.TheVariants.{Start}
 use Rattle.dn_names.specs.name.Names.{RdnSequence}
-use Rattle.dn_names.specs.laws.NameGrammar.{IsNameText}
-use Rattle.dn_names.specs.laws.Spelling.{WrittenPair, SpellsName}
+use Rattle.dn_names.specs.NameGrammar.{IsNameText}
+use Rattle.dn_names.specs.Spelling.{WrittenPair, SpellsName}
 use Rattle.dn_names.specs.Modes.{machine, text_fault}
-use Rattle.dn_names.specs.octets.Reading.{written_of}
-use Rattle.dn_names.specs.resolve.Resolving.{resolve, resolve_rdn}
+use Rattle.dn_names.specs.Reading.{written_of}
+use Rattle.dn_names.specs.Resolving.{resolve, resolve_rdn}
 use Rattle.dn_names.specs.parsing.NameText.{NameText, RdnText, LeavesGrammar, read_by, read_name, read_rdn}
 use Rattle.dn_names.specs.parsing.NameCause.{cause_of}
 use Rattle.dn_names.proofs.parsing.MachineOfNames.{grammar_of, names_machine}

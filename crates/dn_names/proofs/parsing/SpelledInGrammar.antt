@@ -3,12 +3,12 @@ use Rattle.std.proofs.Common.{◌≡◌, ◌≢◌, ℕ, Bool, true, List, [], �
 use Rattle.std.specs.Prelude.{slice_index}
 use Rattle.std.proofs.lemmas.List.{append-nil}
 use Rattle.std.proofs.lemmas.Bool.Decides.{nat_tests}
-use Rattle.regular_text.specs.laws.Grammar.{Grammar, Matches}
-use Rattle.regular_text.specs.laws.Grammar.Grammar.{Nothing, One, Either, Then, Many}
+use Rattle.regular_text.specs.Grammar.{Grammar, Matches}
+use Rattle.regular_text.specs.Grammar.Grammar.{Nothing, One, Either, Then, Many}
 use Rattle.dn_names.specs.declared.classes.Class.{Class}
 use Rattle.dn_names.specs.Classes.{class_of, is_space, is_plus, is_comma, is_plain, is_first, is_backslash, is_equals}
-use Rattle.dn_names.specs.laws.NameGrammar.{spaces, escape, first_piece, piece, pair, rdn, IsNameText}
-use Rattle.dn_names.specs.laws.Spelling.{WrittenPair, AreSpaces, IsPiece, SpellsOctets, SpellsPair, IsJoined, SpellsRdn, SpellsName}
+use Rattle.dn_names.specs.NameGrammar.{spaces, escape, first_piece, piece, pair, rdn, IsNameText}
+use Rattle.dn_names.specs.Spelling.{WrittenPair, AreSpaces, IsPiece, SpellsOctets, SpellsPair, IsJoined, SpellsRdn, SpellsName}
 
 -- one more text before any number of them
 many_cons : (g : Grammar Class) (front rest : List ℕ) → Matches class_of g front → Matches class_of (Many g) rest → Matches class_of (Many g) (front ++ rest)

@@ -4,8 +4,8 @@ use Rattle.std.specs.Prelude.{◌==◌, ◌&&◌, if◌then◌else◌}
 use Rattle.std.proofs.lemmas.List.{drop_more}
 use Rattle.std.proofs.lemmas.Bool.{false≢true, cond-false, cond-true, and_parts, and_from, not-true}
 use Rattle.std.proofs.lemmas.Bool.Decides.{nat_tests}
-use Rattle.dn_names.specs.laws.Spelling.{IsJoined}
-use Rattle.dn_names.specs.octets.Reading.{is_mark, escapes_next, put_front, parts_from, mark_from, marks_from}
+use Rattle.dn_names.specs.Spelling.{IsJoined}
+use Rattle.dn_names.specs.Reading.{is_mark, escapes_next, put_front, parts_from, mark_from, marks_from}
 
 -- no bare mark, and no backslash before the end
 abbrev pub is_clean : ℕ → Bool → List ℕ → Bool

@@ -6,8 +6,8 @@ use Rattle.std.proofs.lemmas.Bool.{cond-false, cond-true}
 use Rattle.std.proofs.lemmas.Bool.Decides.{nat_tests}
 use Rattle.dn_names.specs.declared.octets.Reading.TheVariants.{Plain, Escaped, HalfByte}
 use Rattle.dn_names.specs.Classes.{class_of, is_hex, is_plain, is_escapable}
-use Rattle.dn_names.specs.laws.Spelling.{AreSpaces, IsPiece, SpellsOctets, SpellsValue}
-use Rattle.dn_names.specs.octets.Reading.{without_spaces, spaced, hex_value, octets_from, value_octets}
+use Rattle.dn_names.specs.Spelling.{AreSpaces, IsPiece, SpellsOctets, SpellsValue}
+use Rattle.dn_names.specs.Reading.{without_spaces, spaced, hex_value, octets_from, value_octets}
 use Rattle.dn_names.proofs.name.ClassLemmas.{hex_value_is, hex_below, plain_other, hex_other, escapable_no_hex}
 use Rattle.dn_names.proofs.parts.PartsLemmas.{is_clean, is_clean-append}
 

@@ -3,7 +3,7 @@ use Rattle.std.specs.Prelude.{◌≡◌, ◌≢◌, ◌<◌, ◌≤◌, List, []
 use Rattle.std.specs.List.{AllByRecursion}
 use Rattle.dn_names.specs.Limits.{most_rdns}
 use Rattle.dn_names.specs.name.Names.{TypeAndValue, RdnSequence}
-use Rattle.dn_names.specs.resolve.Resolving.{naming_value}
+use Rattle.dn_names.specs.Resolving.{naming_value}
 
 -- the value is one of the pair's type, which may name: of its syntax, with its key, and not too long
 abbrev pub IsGoodPair : TypeAndValue → Type 0

@@ -2,8 +2,8 @@
 use Rattle.std.specs.Prelude.{ℕ, List, length, Option, Some, None}
 use Rattle.dn_names.specs.declared.error.BadName.{BadName}
 use Rattle.dn_names.specs.declared.error.BadName.TheVariants.{Text, Part, TooMany, NoMemory}
-use Rattle.dn_names.specs.laws.Spelling.{WrittenPair, SpellsName}
-use Rattle.dn_names.specs.laws.GoodPlaces.{placed_pairs, IsFirstBad}
+use Rattle.dn_names.specs.Spelling.{WrittenPair, SpellsName}
+use Rattle.dn_names.specs.GoodPlaces.{placed_pairs, IsFirstBad}
 use Rattle.dn_names.specs.parsing.NameText.{LeavesGrammar}
 
 -- the octets spell RDNs, and not as many as fit

@@ -1,14 +1,14 @@
 -- Which texts are names (RFC 4514 section 3), and reading them as a function.
 use Rattle.std.specs.Prelude.{◌≡◌, ℕ, List, Option, Some, None, Result, Ok, Err}
-use Rattle.regular_text.specs.laws.Place.{IsPlace}
+use Rattle.regular_text.specs.Place.{IsPlace}
 use Rattle.dn_names.specs.declared.error.BadName.{BadName}
 use Rattle.dn_names.specs.declared.error.BadName.TheVariants.{Text}
 use Rattle.dn_names.specs.name.Names.{RdnSequence}
-use Rattle.dn_names.specs.laws.NameGrammar.{IsNameText}
-use Rattle.dn_names.specs.laws.Spelling.{WrittenPair, SpellsName}
-use Rattle.dn_names.specs.resolve.Resolving.{resolve, resolve_rdn}
+use Rattle.dn_names.specs.NameGrammar.{IsNameText}
+use Rattle.dn_names.specs.Spelling.{WrittenPair, SpellsName}
+use Rattle.dn_names.specs.Resolving.{resolve, resolve_rdn}
 use Rattle.dn_names.specs.Modes.{text_fault}
-use Rattle.dn_names.specs.octets.Reading.{written_of}
+use Rattle.dn_names.specs.Reading.{written_of}
 
 -- the octets spell pairs whose meaning is the name
 unfoldable pub NameText : RdnSequence → List ℕ → Type 0

@@ -9,15 +9,15 @@ use Rattle.dir_tree.specs.Entry.{EntryInformation}
 use Rattle.dir_tree.specs.tree.Trees.{named_in}
 use Rattle.dir_tree.specs.tree.Numbered.{Numbered, IsNumberedTree, AreDistinct, entries_of, entry_of, find_name}
 use Rattle.dir_tree.proofs.TreeTheorems.{entry_of-found, found_both}
-use Rattle.acdf_filters.specs.admin_scope.subentries.InForce.{in_force}
+use Rattle.acdf_filters.specs.admin_scope.InForce.{in_force}
 use Rattle.acdf_filters.specs.aci_item.declared.permission.Permission.{Permission}
 use Rattle.acdf_filters.specs.declared.asking.Requester.{Requester}
 use Rattle.acdf_filters.specs.Asking.{Protected, Asked}
-use Rattle.acdf_filters.specs.laws.Filters.{level_6}
-use Rattle.acdf_filters.specs.laws.Granted.{placed_of}
+use Rattle.acdf_filters.specs.Filters.{level_6}
+use Rattle.acdf_filters.specs.Granted.{placed_of}
 use Rattle.acdf_core.specs.declared.steps.Counts.{Counts}
 use Rattle.acdf_core.specs.declared.steps.Steps.{Steps}
-use Rattle.acdf_core.specs.explaining.Explained.{IsExplained, name_at, kept_at, kept_of}
+use Rattle.acdf_core.specs.Explained.{IsExplained, name_at, kept_at, kept_of}
 use Rattle.explain_text.specs.Texts.{subentry_line, count_line, count_lines, kept_line, outcome_line, entry_text, explained_text}
 
 -- the lines of counts

@@ -9,9 +9,9 @@ use Rattle.ldap_filter.specs.filter.Filters.Filters.{Nil, Cons}
 use Rattle.filter_match.specs.declared.question.Question.{Question}
 use Rattle.filter_match.specs.declared.question.Question.TheVariants.{IsTrue, IsFalse, Settled}
 use Rattle.filter_match.specs.declared.truth.Truth.TheVariants.{True, False, Undefined}
-use Rattle.filter_match.specs.evaluating.Judging.{exact, possible, has_possible, judged, judged_all}
-use Rattle.filter_match.specs.prepared.Tests.{Test, test_of}
-use Rattle.filter_match.specs.prepared.Tests.Test.{Nothing, IsThere, HasValue}
+use Rattle.filter_match.specs.Judging.{exact, possible, has_possible, judged, judged_all}
+use Rattle.filter_match.specs.Tests.{Test, test_of}
+use Rattle.filter_match.specs.Tests.Test.{Nothing, IsThere, HasValue}
 use Rattle.filter_match.specs.Truth.{Permits, is_true, matches, has_match, test_truth, truth, truths}
 use Rattle.filter_match.specs.walk.Walks.{answer, turned, asks_all_of_and, asks_all_of_or, join, joined}
 use Rattle.filter_match.proofs.evaluating.JoinLemmas.{answer-all_of, answer-any_of, answer-negated}

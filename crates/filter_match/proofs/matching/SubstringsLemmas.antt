@@ -5,7 +5,7 @@ use Rattle.std.proofs.lemmas.Slice.Eq.{bytes_eq-Decides}
 use Rattle.std.specs.List.{list_any}
 use Rattle.dir_tree.proofs.base_laws_proofs.Theorems.{list_any-map}
 use Rattle.dir_tree.specs.match_rules.substrings.Substrings.{InOrder, IsSubstring}
-use Rattle.filter_match.specs.matching.Substrings.{Cut, cuts, begins_with, are_in_order, ends_with, is_substring}
+use Rattle.filter_match.specs.Substrings.{Cut, cuts, begins_with, are_in_order, ends_with, is_substring}
 
 -- one octet more at the front of a cut
 abbrev further : ℕ → Cut → Cut

@@ -8,7 +8,7 @@ use Rattle.dir_tree.specs.match_rules.Parts.{part_key_of}
 use Rattle.dir_tree.specs.match_rules.declared.errors.PrepareFault.{PrepareFault}
 use Rattle.dir_tree.specs.match_rules.declared.errors.PrepareFault.TheVariants.{NotOfSyntax, NoMemory}
 use Rattle.filter_match.specs.Preparing.{Fails}
-use Rattle.filter_match.specs.prepared.Tests.{middle_keys}
+use Rattle.filter_match.specs.Tests.{middle_keys}
 
 -- two lists of keys behind each other, where there are both
 abbrev both : Option (List (List ℕ)) → Option (List (List ℕ)) → Option (List (List ℕ))

@@ -5,9 +5,9 @@ use Rattle.std.proofs.lemmas.Bool.{false≢true}
 use Rattle.ldap_filter.specs.filter.Filters.{Filter, filters_of}
 use Rattle.ldap_filter.specs.filter.Filters.Filter.{And, Or, Not, Equal, Parts, AtLeast, AtMost, Present, Approx, Extensible}
 use Rattle.filter_match.specs.declared.question.Question.{Question}
-use Rattle.filter_match.specs.evaluating.Judging.{judged, judged_all}
+use Rattle.filter_match.specs.Judging.{judged, judged_all}
 use Rattle.filter_match.specs.walk.OnTheWay.{IsOnTheWay}
-use Rattle.filter_match.specs.prepared.Tests.{Test, test_of}
+use Rattle.filter_match.specs.Tests.{Test, test_of}
 use Rattle.filter_match.specs.walk.Walks.{tests_of, tests_of_all, join, asked_next, Walks}
 use Rattle.filter_match.proofs.evaluating.JoinLemmas.{join-every, join-done}
 

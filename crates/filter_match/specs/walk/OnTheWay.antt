@@ -2,8 +2,8 @@
 use Rattle.std.specs.Prelude.{◌≡◌, ℕ, Bool, List, ◌++◌, drop}
 use Rattle.ldap_filter.specs.filter.Filters.{Filter, filters_of}
 use Rattle.filter_match.specs.declared.question.Question.{Question}
-use Rattle.filter_match.specs.evaluating.Judging.{judged_all}
-use Rattle.filter_match.specs.prepared.Tests.{Test}
+use Rattle.filter_match.specs.Judging.{judged_all}
+use Rattle.filter_match.specs.Tests.{Test}
 use Rattle.filter_match.specs.walk.Walks.{tests_of_all, join}
 
 -- before the member at the index: with the answers of those that are left the answer is that of all members, and their

@@ -6,7 +6,7 @@ use Rattle.ldap_filter.specs.filter.Filters.Filters.{Nil, Cons}
 use Rattle.filter_match.specs.declared.truth.Truth.{Truth}
 use Rattle.filter_match.specs.declared.question.Question.{Question}
 use Rattle.filter_match.specs.declared.question.Question.TheVariants.{IsTrue, IsFalse, Settled}
-use Rattle.filter_match.specs.prepared.Tests.{Test, test_of}
+use Rattle.filter_match.specs.Tests.{Test, test_of}
 use Rattle.filter_match.specs.Truth.{is_true, is_false}
 
 -- the tests of a filter's items, in their order

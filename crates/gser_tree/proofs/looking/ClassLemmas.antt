@@ -9,7 +9,7 @@ use Rattle.gser_tree.specs.declared.marks.Mark.{Mark}
 use Rattle.gser_tree.specs.declared.marks.Mark.TheVariants.{Open, Close, Comma, Colon}
 use Rattle.gser_tree.specs.declared.marks.Class.{Class}
 use Rattle.gser_tree.specs.declared.marks.Class.TheVariants.{Blank, Letter, Quote, Sign}
-use Rattle.gser_tree.specs.marks.Lexemes.{class_of, octet_of, is_letter, is_word}
+use Rattle.gser_tree.specs.Lexemes.{class_of, octet_of, is_letter, is_word}
 
 -- the octets of the classes
 pub blank_is : (x : ℕ) → class_of x ≡ Blank → x ≡ 32

@@ -10,8 +10,8 @@ use Rattle.gser_tree.specs.declared.token.Token.{Token}
 use Rattle.gser_tree.specs.declared.token.Token.TheVariants as token
 use Rattle.gser_tree.specs.declared.lexing.Mode.{Mode}
 use Rattle.gser_tree.specs.declared.lexing.Mode.TheVariants.{Between, InWord, InString, AfterQuote}
-use Rattle.gser_tree.specs.marks.Lexemes.{Lexeme, Word, Quoted, class_of, is_word, show, AreLexemes}
-use Rattle.gser_tree.specs.part.TextOf.{tokens_at}
+use Rattle.gser_tree.specs.Lexemes.{Lexeme, Word, Quoted, class_of, is_word, show, AreLexemes}
+use Rattle.gser_tree.specs.TextOf.{tokens_at}
 use Rattle.gser_tree.specs.Lexing.{Step, go, more, finish, whole, in_word, in_string, after_quote, step, lex_from, lex}
 use Rattle.gser_tree.proofs.looking.ClassLemmas.{quote_is, not_quote, is_word-push, doubled-push, doubled-quote, doubled-other}
 use Rattle.gser_tree.proofs.looking.ItemLemmas.{Lexed, split, from_between, Item, from_finish, Stands, Leads}

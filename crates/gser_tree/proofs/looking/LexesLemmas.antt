@@ -17,8 +17,8 @@ use Rattle.gser_tree.specs.declared.token.Token.{Token}
 use Rattle.gser_tree.specs.declared.token.Token.TheVariants as token
 use Rattle.gser_tree.specs.declared.lexing.Mode.{Mode}
 use Rattle.gser_tree.specs.declared.lexing.Mode.TheVariants.{Between, InWord, InString, AfterQuote}
-use Rattle.gser_tree.specs.marks.Lexemes.{Lexeme, Space, Marked, Word, Quoted, class_of, octet_of, is_letter, is_word, show, EndsBefore, AreLexemes}
-use Rattle.gser_tree.specs.part.TextOf.{part_at, tokens_at}
+use Rattle.gser_tree.specs.Lexemes.{Lexeme, Space, Marked, Word, Quoted, class_of, octet_of, is_letter, is_word, show, EndsBefore, AreLexemes}
+use Rattle.gser_tree.specs.TextOf.{part_at, tokens_at}
 use Rattle.gser_tree.specs.Lexing.{more, begin, finish, in_word, in_string, after_quote, step, at_end, lex_from, lex}
 use Rattle.gser_tree.proofs.looking.ClassLemmas.{are_letters, quote_is, quote_class, blank_class, mark_class}
 

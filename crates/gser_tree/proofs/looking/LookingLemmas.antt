@@ -9,7 +9,7 @@ use Rattle.gser_tree.specs.declared.tree.Tree.TheOpen.{Tree-F}
 use Rattle.gser_tree.specs.declared.tree.Tree.TheVariants as tree
 use Rattle.gser_tree.specs.declared.tree.Tree.TheVariants.{rolls-Braces}
 use Rattle.gser_tree.specs.looking.Shapes.{Shape, Braces, listed, gathered, nest}
-use Rattle.gser_tree.specs.part.TextOf.{IsTextOf}
+use Rattle.gser_tree.specs.TextOf.{IsTextOf}
 use Rattle.gser_tree.specs.Growing.{tree_of}
 use Rattle.gser_tree.specs.Tree.{shape_of, level_shape}
 use Rattle.gser_tree.proofs.looking.TextLemmas.{tree_of-IsTextOf, IsTextOf-tree_of}

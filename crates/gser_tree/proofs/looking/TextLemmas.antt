@@ -3,7 +3,7 @@ use Rattle.std.proofs.Common.{◌≡◌, ◌≤◌, ℕ, List, refl, sym, ap, �
 use Rattle.std.specs.Prelude.{Option, Some, None, option_and_then}
 use Rattle.gser_tree.specs.declared.token.Token.{Token}
 use Rattle.gser_tree.specs.looking.Shapes.{Shape, nest}
-use Rattle.gser_tree.specs.part.TextOf.{IsTextOf}
+use Rattle.gser_tree.specs.TextOf.{IsTextOf}
 use Rattle.gser_tree.specs.Lexing.{lex}
 use Rattle.gser_tree.specs.Growing.{value_of, tree_of}
 use Rattle.gser_tree.proofs.looking.LexemesLemmas.{lexed_text}

@@ -4,7 +4,7 @@ use Rattle.std.specs.Prelude.{IsUtf8, Some, None, if◌then◌else◌}
 use Rattle.std.specs.Str.{is_utf8}
 use Rattle.std.proofs.lemmas.Str.{IsUtf8-from_is_utf8, is_utf8-from_IsUtf8}
 use Rattle.gser_tree.specs.declared.part.Part.{Part}
-use Rattle.gser_tree.specs.part.TextOf.{part_at}
+use Rattle.gser_tree.specs.TextOf.{part_at}
 
 -- a test of octets
 pub is_text : (octets : List ℕ) → IsUtf8 octets → true ≡ is_utf8 octets

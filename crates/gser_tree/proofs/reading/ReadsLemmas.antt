@@ -5,10 +5,10 @@ use Rattle.std.specs.Prelude.{Option, Some, None, Bool, codes, map}
 use Rattle.std.specs.List.{AllByRecursion}
 use Rattle.std.specs.Str.{bytes_eq}
 use Rattle.std.proofs.lemmas.Slice.Eq.{bytes_eq-Decides}
-use Rattle.gser_tree.specs.marks.Lexemes.{Lexeme, class_of, is_word}
+use Rattle.gser_tree.specs.Lexemes.{Lexeme, class_of, is_word}
 use Rattle.gser_tree.specs.looking.Shapes as shapes
 use Rattle.gser_tree.specs.looking.Shapes.{Shape, gathered}
-use Rattle.gser_tree.specs.part.TextOf.{part_at}
+use Rattle.gser_tree.specs.TextOf.{part_at}
 use Rattle.gser_tree.specs.looking.Looking.{component, flag, is_null}
 use Rattle.gser_tree.specs.Reading.{Read, present, optional, required, gather}
 use Rattle.gser_tree.specs.Writing.{print_word, print_component, print_optional, print_flag}

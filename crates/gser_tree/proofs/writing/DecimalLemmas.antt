@@ -8,7 +8,7 @@ use Rattle.std.specs.Char.{is_ascii_digit, is_ascii_alphanumeric}
 use Rattle.std.specs.List.{list_all}
 use Rattle.std.specs.Str.Parse.{digits_value}
 use Rattle.gser_tree.specs.declared.marks.Class.TheVariants.{Letter}
-use Rattle.gser_tree.specs.marks.Lexemes.{class_of, is_letter, is_word}
+use Rattle.gser_tree.specs.Lexemes.{class_of, is_letter, is_word}
 use Rattle.gser_tree.specs.looking.Looking.{word_in}
 use Rattle.gser_tree.specs.Reading.{is_number, at_most, number, part, expect}
 use Rattle.gser_tree.specs.Writing.{print_number}

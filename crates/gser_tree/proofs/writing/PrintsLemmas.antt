@@ -5,10 +5,10 @@ use Rattle.std.specs.Str.{is_utf8}
 use Rattle.gser_tree.specs.declared.marks.Mark.TheVariants.{Open, Close, Comma, Colon}
 use Rattle.gser_tree.specs.declared.token.Token.{Token}
 use Rattle.gser_tree.specs.declared.token.Token.TheVariants as token
-use Rattle.gser_tree.specs.marks.Lexemes.{Lexeme, Quoted, show, is_word, EndsBefore, AreLexemes}
+use Rattle.gser_tree.specs.Lexemes.{Lexeme, Quoted, show, is_word, EndsBefore, AreLexemes}
 use Rattle.gser_tree.specs.looking.Shapes as shapes
 use Rattle.gser_tree.specs.looking.Shapes.{Shape, gathered, tokens_of, tokens_in, tokens_behind, nest, nest_in}
-use Rattle.gser_tree.specs.part.TextOf.{part_at, tokens_at, IsTextOf}
+use Rattle.gser_tree.specs.TextOf.{part_at, tokens_at, IsTextOf}
 use Rattle.gser_tree.specs.Writing.{text_of, print_word, print_string, print_component, print_choice, print_members, print_braces}
 use Rattle.gser_tree.proofs.writing.PutsLemmas.{text_of-append}
 

@@ -2,7 +2,7 @@
 use Rattle.std.proofs.Common.{◌≡◌, ℕ, Bool, true, false, List, [], ◌∷◌, ◌++◌, refl, sym, ap, ◌∙◌, append_assoc}
 use Rattle.std.proofs.lemmas.List.{append-nil}
 use Rattle.std.proofs.lemmas.Grind.{flat_map-append}
-use Rattle.gser_tree.specs.marks.Lexemes.{Lexeme, show}
+use Rattle.gser_tree.specs.Lexemes.{Lexeme, show}
 use Rattle.gser_tree.specs.Writing.{text_of, separator, ending, print_choice, print_component, print_members, print_braces, listed, is_first, PutsMembers}
 
 -- the octets of lexemes behind lexemes

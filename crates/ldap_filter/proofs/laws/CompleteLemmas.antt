@@ -2,7 +2,7 @@
 use Rattle.std.proofs.Common.{◌≡◌, ℕ, zero, suc, ◌+◌, ◌≤◌, true, cond, eqb, List, [], ◌∷◌, ◌++◌, length, Option, Some, None, refl, sym, ap, ◌∙◌, arith, max}
 use Rattle.ber_layout.specs.element.Pieces.{◌>>=◌}
 use Rattle.ber_layout.specs.components.Components.{Component, Follows, any_of}
-use Rattle.ber_layout.specs.laid.Layouts.{Value, Says as SaysLayout, reads}
+use Rattle.ber_layout.specs.Layouts.{Value, Says as SaysLayout, reads}
 use Rattle.ber_layout.proofs.Theorems.{reads_complete, any_again}
 use Rattle.ldap_filter.specs.filter.Filters.{Filter, Filters, depth, depths}
 use Rattle.ldap_filter.specs.filter.Filters.Filter.{And, Or, Not, Equal, Parts, AtLeast, AtMost, Present, Approx, Extensible}

@@ -5,7 +5,7 @@ use Rattle.std.proofs.lemmas.List.{nil_from_length}
 use Rattle.std.proofs.lemmas.Option.{same_Some}
 use Rattle.ber_layout.specs.element.Pieces.{◌>>=◌}
 use Rattle.ber_layout.specs.components.Components.{Component, Follows, any_of}
-use Rattle.ber_layout.specs.laid.Layouts.{Value, Says as SaysLayout, reads}
+use Rattle.ber_layout.specs.Layouts.{Value, Says as SaysLayout, reads}
 use Rattle.ber_layout.proofs.Theorems.{bind_some, guard_some, guard_passed, reads_sound, any_sound}
 use Rattle.ldap_filter.specs.filter.Filters.{Filter, Filters, depth, depths}
 use Rattle.ldap_filter.specs.filter.Filters.Filter.{And, Or, Not, Equal, Parts, AtLeast, AtMost, Present, Approx, Extensible}

@@ -4,16 +4,16 @@ use Rattle.std.proofs.lemmas.List.{take_more}
 use Rattle.std.specs.List.{AllByRecursion}
 use Rattle.ber_elements.specs.write.Element.{Elem, IsTag}
 use Rattle.ber_layout.specs.components.Components.{Follows}
-use Rattle.ber_layout.specs.write.Spellings.{element_octets}
-use Rattle.ber_layout.specs.laid.Layouts.{Layout, Value, Says as SaysLayout, IsShort, MayFit, writes, is_clear}
-use Rattle.ber_layout.specs.laws.Ranges.{Within}
+use Rattle.ber_layout.specs.Spellings.{element_octets}
+use Rattle.ber_layout.specs.Layouts.{Layout, Value, Says as SaysLayout, IsShort, MayFit, writes, is_clear}
+use Rattle.ber_layout.specs.Ranges.{Within}
 use Rattle.ber_layout.proofs.Theorems.{element_spells, writes_says, fits_within, content_short, front_short, back_short}
 use Rattle.ldap_filter.specs.filter.Filters.{Filter, Filters, filters_of}
 use Rattle.ldap_filter.specs.filter.Filters.Filter.{And, Or, Not, Equal, Parts, AtLeast, AtMost, Present, Approx, Extensible}
 use Rattle.ldap_filter.specs.filter.Filters.Filters.{Nil, Cons}
 use Rattle.ldap_filter.specs.Assertion.{assertion_layout}
 use Rattle.ldap_filter.specs.reading.FilterLayouts.{parts_layout, IsSome, SaysFilter, SaysFilters}
-use Rattle.ldap_filter.specs.writing.FilterSpelling.{filter_tag, filter_content, members_octets, filter_octets, HasParts, HaveParts}
+use Rattle.ldap_filter.specs.FilterSpelling.{filter_tag, filter_content, members_octets, filter_octets, HasParts, HaveParts}
 
 -- ---- the filter's elements, one more at a time
 

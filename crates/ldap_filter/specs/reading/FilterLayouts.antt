@@ -2,8 +2,8 @@
 use Rattle.std.specs.Prelude.{◌≡◌, ℕ, zero, suc, ◌≤◌, Bool, List, [], ◌∷◌, length, Option, Some, None, ◌==◌, if◌then◌else◌}
 use Rattle.ber_layout.specs.element.Pieces.{◌>>=◌}
 use Rattle.ber_layout.specs.components.Components.{Component, Follows, any_of}
-use Rattle.ber_layout.specs.laid.Layouts.{Layout, Value, Says as SaysLayout, reads}
-use Rattle.ber_layout.specs.laid.Layouts.Layout.{AnyOctets, End, Then, Maybe, Each}
+use Rattle.ber_layout.specs.Layouts.{Layout, Value, Says as SaysLayout, reads}
+use Rattle.ber_layout.specs.Layouts.Layout.{AnyOctets, End, Then, Maybe, Each}
 use Rattle.ldap_filter.specs.filter.Filters.{Filter, Filters, depth}
 use Rattle.ldap_filter.specs.filter.Filters.Filter.{And, Or, Not, Equal, Parts, AtLeast, AtMost, Present, Approx, Extensible}
 use Rattle.ldap_filter.specs.filter.Filters.Filters.{Nil, Cons}

@@ -2,7 +2,7 @@
 use Rattle.std.specs.Prelude.{◌≡◌, ℕ, zero, suc, Bool, List, [], ◌∷◌, length, Option, Some, None, ◌==◌, if◌then◌else◌}
 use Rattle.ber_layout.specs.element.Pieces.{◌>>=◌}
 use Rattle.ber_layout.specs.components.Components.{Component, any_of}
-use Rattle.ber_layout.specs.laid.Layouts.{Value, reads}
+use Rattle.ber_layout.specs.Layouts.{Value, reads}
 use Rattle.ldap_filter.specs.filter.Filters.{Filter, Filters}
 use Rattle.ldap_filter.specs.filter.Filters.Filter.{And, Or, Not, Equal, Parts, AtLeast, AtMost, Present, Approx, Extensible}
 use Rattle.ldap_filter.specs.filter.Filters.Filters.{Nil, Cons}

@@ -1,6 +1,6 @@
 -- The parts of substrings (RFC 4511 4.5.1.7.2).
 use Rattle.std.specs.Prelude.{ℕ, List, Option}
-use Rattle.ber_layout.specs.laid.Layouts.{Value}
+use Rattle.ber_layout.specs.Layouts.{Value}
 use Rattle.ldap_filter.specs.declared.reading.Substrings.{Substrings}
 use Rattle.ldap_filter.specs.reading.FilterLayouts.{substrings_layout}
 

@@ -5,11 +5,11 @@ use Rattle.std.proofs.lemmas.List.{length-append, length-take-le, take-append-dr
 use Rattle.ber_elements.specs.declared.kinds.Header.{Header}
 use Rattle.ber_elements.specs.declared.kinds.Header.TheVariants as header
 use Rattle.ber_elements.specs.write.Element.{SpellsLength, IsHeader, Elem}
-use Rattle.ber_elements.specs.read.Heading.{IsUnreadable, IsHeading, header_at}
+use Rattle.ber_elements.specs.Heading.{IsUnreadable, IsHeading, header_at}
 use Rattle.ber_elements.proofs.Theorems.{heading_sound, heading_begins, header_again, unreadable_again, element_again, element_there}
 use Rattle.ldap_msg.specs.declared.kinds.Frame.{Frame}
 use Rattle.ldap_msg.specs.declared.kinds.Frame.TheVariants.{Whole, More, Bad}
-use Rattle.ldap_msg.specs.framing.Streams.{most_content, IsOuter, SpellsTooMuch, IsBrokenLength, IsBroken, IsFrame, framed, frame_at}
+use Rattle.ldap_msg.specs.Streams.{most_content, IsOuter, SpellsTooMuch, IsBrokenLength, IsBroken, IsFrame, framed, frame_at}
 use Rattle.ldap_msg.proofs.framing.StreamLemmas.{frame_opened, frame_there, frame_bound}
 
 -- ---- whole messages

@@ -4,11 +4,11 @@ use Rattle.std.proofs.lemmas.Bool.{cases_lt, cases_eq, lt-ltb, le-ltb, eq-eqb, n
 use Rattle.std.proofs.lemmas.List.{length-append}
 use Rattle.ber_elements.specs.declared.kinds.Header.{Header}
 use Rattle.ber_elements.specs.declared.kinds.Header.TheVariants as header
-use Rattle.ber_elements.specs.read.Heading.{IsFront, IsHeading, header_at}
+use Rattle.ber_elements.specs.Heading.{IsFront, IsHeading, header_at}
 use Rattle.ber_elements.proofs.Theorems.{heading_sound, header_bound, heading_again, heading_bound}
 use Rattle.ldap_msg.specs.declared.kinds.Frame.{Frame}
 use Rattle.ldap_msg.specs.declared.kinds.Frame.TheVariants.{Whole, More, Bad}
-use Rattle.ldap_msg.specs.framing.Streams.{most_content, framed, frame_at}
+use Rattle.ldap_msg.specs.Streams.{most_content, framed, frame_at}
 
 -- what a whole message at the front says of its header
 pub record IsFramed (s : List ℕ) (n : ℕ) : Type 0 where

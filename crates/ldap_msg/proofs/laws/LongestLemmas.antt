@@ -4,8 +4,8 @@ use Rattle.std.proofs.lemmas.List.{append_assoc, take-append-drop, take_at, drop
 use Rattle.std.proofs.lemmas.List.Elements.{All-nil, All-cons, All-head, All-tail}
 use Rattle.ldap_msg.specs.declared.kinds.Frame.{Frame}
 use Rattle.ldap_msg.specs.declared.kinds.Frame.TheVariants.{Whole, More, Bad}
-use Rattle.ldap_msg.specs.framing.Streams.{IsOuter, joined, Parts, IsWhole, IsBroken, frame_at, whole, rest_of, is_bad, is_broken}
-use Rattle.ldap_msg.specs.laws.Laws.{OnlyWhole}
+use Rattle.ldap_msg.specs.Streams.{IsOuter, joined, Parts, IsWhole, IsBroken, frame_at, whole, rest_of, is_bad, is_broken}
+use Rattle.ldap_msg.specs.Laws.{OnlyWhole}
 use Rattle.ldap_msg.proofs.framing.StreamLemmas.{frame_bound}
 use Rattle.ldap_msg.proofs.framing.OuterLemmas.{outer_frame, frame_outer, broken_frame, frame_broken}
 use Rattle.ldap_msg.proofs.laws.WholeLemmas.{left_behind, whole_step, rest_step, whole_more, rest_more, whole_bad, rest_bad}

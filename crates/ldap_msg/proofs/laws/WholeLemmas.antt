@@ -3,7 +3,7 @@ use Rattle.std.proofs.Common.{◌≡◌, ℕ, zero, suc, ◌-◌, ◌≤◌, tru
 use Rattle.std.proofs.lemmas.List.{length-drop, take-append-le, drop-append-le}
 use Rattle.ldap_msg.specs.declared.kinds.Frame.{Frame}
 use Rattle.ldap_msg.specs.declared.kinds.Frame.TheVariants.{Whole, More, Bad}
-use Rattle.ldap_msg.specs.framing.Streams.{frame_at, message_and, whole_of, rest_and, rest_behind, whole, rest_of, is_bad, is_broken}
+use Rattle.ldap_msg.specs.Streams.{frame_at, message_and, whole_of, rest_and, rest_behind, whole, rest_of, is_bad, is_broken}
 use Rattle.ldap_msg.proofs.framing.StreamLemmas.{frame_again, frame_bound, more_bound}
 
 -- ---- a count of steps that suffices gives the same as any other

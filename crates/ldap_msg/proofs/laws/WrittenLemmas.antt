@@ -4,9 +4,9 @@ use Rattle.std.proofs.lemmas.Bool.{ne_eqb}
 use Rattle.ber_elements.specs.write.Element.{Elem, IsTag}
 use Rattle.ber_elements.specs.write.Spelling.{header_octets}
 use Rattle.ber_layout.specs.components.Components.{Follows}
-use Rattle.ber_layout.specs.write.Spellings.{element_octets}
-use Rattle.ber_layout.specs.laid.Layouts.{IsShort, writes}
-use Rattle.ber_layout.specs.laid.Layouts.Layout.{AnyOctets, End}
+use Rattle.ber_layout.specs.Spellings.{element_octets}
+use Rattle.ber_layout.specs.Layouts.{IsShort, writes}
+use Rattle.ber_layout.specs.Layouts.Layout.{AnyOctets, End}
 use Rattle.ber_layout.proofs.Theorems.{element_spells, writes_says, fits_within}
 use Rattle.ldap_msg.specs.declared.kinds.Auth.{Auth}
 use Rattle.ldap_msg.specs.declared.kinds.Auth.TheVariants.{Simple, Other}
@@ -27,7 +27,7 @@ use Rattle.ldap_msg.specs.reading.Contents.{SaysContent, content_octets}
 use Rattle.ldap_msg.specs.reading.Messages.{message_layout, message_parts, Says, request_octets}
 use Rattle.ldap_msg.specs.Results.{result_layout, result_parts, entry_layout, entry_parts, answered_layout, answered_parts}
 use Rattle.ldap_msg.specs.Replies.{reply_layout, reply_parts, reply_content, SaysReply, Replies, reply_octets}
-use Rattle.ldap_msg.specs.laws.Ranges.{IsWithin, IsWritable, IsReplyWithin, IsWritableReply}
+use Rattle.ldap_msg.specs.Ranges.{IsWithin, IsWritable, IsReplyWithin, IsWritableReply}
 use Rattle.ldap_msg.proofs.reading.PartLemmas.{controls_back, modify_back, add_back, attributes_back}
 
 -- what is made of the parts of a bind request is the request

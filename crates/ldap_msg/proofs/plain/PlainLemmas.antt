@@ -4,8 +4,8 @@ use Rattle.std.specs.Prelude.{ℤ, pos, ◌&&◌, Result, Ok, Err, OnOk, is_ok, 
 use Rattle.std.specs.Int.{byte_at, to_be_bytes}
 use Rattle.std.proofs.lemmas.Bool.{cases_Bool, and_parts, eqb-true, ltb-true, eq-eqb, lt-ltb, le-ltb}
 use Rattle.ber_elements.specs.Integer.{trimmed, int_octets}
-use Rattle.ber_layout.specs.laid.Layouts.{writes}
-use Rattle.ber_layout.specs.write.Spellings.{element_octets}
+use Rattle.ber_layout.specs.Layouts.{writes}
+use Rattle.ber_layout.specs.Spellings.{element_octets}
 use Rattle.ldap_msg.specs.declared.kinds.Reply.{Reply}
 use Rattle.ldap_msg.specs.operations.Operations.{response_tag}
 use Rattle.ldap_msg.specs.Results.{result_layout}

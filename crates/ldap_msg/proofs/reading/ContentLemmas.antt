@@ -3,8 +3,8 @@ use Rattle.std.proofs.Common.{◌≡◌, ℕ, Bool, true, false, cond, eqb, List
 use Rattle.std.proofs.lemmas.Bool.{eqb-true}
 use Rattle.std.proofs.lemmas.Option.{same_Some}
 use Rattle.ber_layout.specs.element.Pieces.{◌>>=◌}
-use Rattle.ber_layout.specs.laid.Layouts.{Layout, Value, Says as SaysLayout, reads, is_clear}
-use Rattle.ber_layout.specs.laid.Layouts.Layout.{AnyOctets, End}
+use Rattle.ber_layout.specs.Layouts.{Layout, Value, Says as SaysLayout, reads, is_clear}
+use Rattle.ber_layout.specs.Layouts.Layout.{AnyOctets, End}
 use Rattle.ber_layout.proofs.Theorems.{bind_some, reads_sound, reads_complete}
 use Rattle.ldap_msg.specs.declared.kinds.BindRequest.{BindRequest}
 use Rattle.ldap_msg.specs.declared.kinds.Request.{Request}

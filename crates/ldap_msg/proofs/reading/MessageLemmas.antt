@@ -8,7 +8,7 @@ use Rattle.ber_layout.specs.declared.kinds.ReadFault.{ReadFault}
 use Rattle.ber_layout.specs.declared.kinds.ReadFault.TheVariants.{BadMessage, NoMemory}
 use Rattle.ber_layout.specs.element.Pieces.{◌>>=◌}
 use Rattle.ber_layout.specs.components.Components.{Component, Follows, required_of}
-use Rattle.ber_layout.specs.laid.Layouts.{Value, reads}
+use Rattle.ber_layout.specs.Layouts.{Value, reads}
 use Rattle.ber_layout.specs.element.Reading.{Gives}
 use Rattle.ber_layout.proofs.Theorems.{bind_some, guard_passed, reads_sound, reads_complete, required_sound, required_again, follows}
 use Rattle.ldap_msg.specs.declared.kinds.Request.{Request}

@@ -2,7 +2,7 @@
 use Rattle.std.proofs.Common.{◌≡◌, ℕ, List, Option, Some, None, refl, sym, ap, subst, ◌∙◌}
 use Rattle.std.proofs.lemmas.Option.{same_Some}
 use Rattle.ber_layout.specs.element.Pieces.{◌>>=◌}
-use Rattle.ber_layout.specs.laid.Layouts.{Value, reads}
+use Rattle.ber_layout.specs.Layouts.{Value, reads}
 use Rattle.ber_layout.proofs.Theorems.{bind_some, reads_sound, reads_complete}
 use Rattle.ldap_filter.specs.filter.Filters.{Filter}
 use Rattle.ldap_filter.specs.reading.FilterLayouts.{IsFilter}

@@ -1,8 +1,8 @@
 -- The content of each request: what it says, what is read of it, and what is written (RFC 4511 4.2 to 4.12).
 use Rattle.std.specs.Prelude.{◌≡◌, ℕ, List, [], Option, Some, None}
 use Rattle.ber_layout.specs.element.Pieces.{◌>>=◌}
-use Rattle.ber_layout.specs.laid.Layouts.{Layout, Value, Says as SaysLayout, reads, writes}
-use Rattle.ber_layout.specs.laid.Layouts.Layout.{AnyOctets, End}
+use Rattle.ber_layout.specs.Layouts.{Layout, Value, Says as SaysLayout, reads, writes}
+use Rattle.ber_layout.specs.Layouts.Layout.{AnyOctets, End}
 use Rattle.ldap_msg.specs.declared.kinds.Request.{Request}
 use Rattle.ldap_msg.specs.declared.kinds.Request.TheVariants as request
 use Rattle.ldap_msg.specs.declared.operations.Operation.{Operation}

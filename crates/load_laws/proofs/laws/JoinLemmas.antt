@@ -11,7 +11,7 @@ use Rattle.aci_item.specs.Rules.{broken_rule}
 use Rattle.ldif_load.specs.load.Loading.{RecordFault}
 use Rattle.ldif_load.specs.load.Loading.{entry_of_record, ruled, placed, loaded_entry}
 use Rattle.ldif_load.specs.load.DataFile.{in_file, record_entry, loads_after, loads_records, file_start, loads}
-use Rattle.load_laws.specs.laws.Loadable.{IsLoadable}
+use Rattle.load_laws.specs.Loadable.{IsLoadable}
 use Rattle.load_laws.proofs.laws.OctetLemmas.{AreBelow-from_IsBytes}
 use Rattle.load_laws.proofs.laws.ReadLemmas.{HasOctets, GivesOctets, GivesOctets-records_from}
 use Rattle.load_laws.proofs.laws.LoadableLemmas.{IsLoadable-entry_of_record}

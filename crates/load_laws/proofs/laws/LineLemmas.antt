@@ -8,14 +8,14 @@ use Rattle.dir_tree.specs.schema_tables.Attributes.{attributes, IsAttrId, attrib
 use Rattle.dir_tree.specs.schema_tables.Attributes as table
 use Rattle.dir_tree.proofs.schema_tables_proofs.Theorems.{attr_of-name_of}
 use Rattle.dir_tree.specs.dn_names.name.Names.{Keyed, RdnSequence}
-use Rattle.dir_tree.specs.dn_names.make.NameValues.{value_of}
+use Rattle.dir_tree.specs.dn_names.NameValues.{value_of}
 use Rattle.dir_tree.specs.Entry.{Attribute, EntryInformation, kinds_of, values_of, has_key, is_match, IsGoodAttribute}
 use Rattle.dir_tree.specs.attributes.Changes.{put_value}
 use Rattle.ldif_load.specs.ldif_records.declared.types.RecordLine.{RecordLine}
 use Rattle.ldif_load.specs.ldif_records.writing.WrittenFile.{TypeAndOctets, values_in, lines_from}
 use Rattle.ldif_load.specs.load.Loading.{RecordFault}
 use Rattle.ldif_load.specs.load.Loading.{◌>>=◌, loaded_value, with_new_value, with_new_kind, with_line, with_lines}
-use Rattle.load_laws.specs.laws.Loadable.{IsLoadableValue}
+use Rattle.load_laws.specs.Loadable.{IsLoadableValue}
 use Rattle.dir_tree.proofs.base_laws_proofs.Theorems.{text_apart, number_apart}
 
 -- the type of a value that is read is in the table

@@ -11,7 +11,7 @@ use Rattle.ldif_load.proofs.schema_rules_proofs.Theorems.{Meets-from_broken_rule
 use Rattle.ldif_load.specs.load.Loading.{RecordFault}
 use Rattle.ldif_load.specs.load.Loading.{◌>>=◌, placed, loaded_entry}
 use Rattle.ldif_load.specs.load.DataFile.{in_file, loads_after, loads_records, loads}
-use Rattle.load_laws.specs.laws.Loadable.{IsLoadable}
+use Rattle.load_laws.specs.Loadable.{IsLoadable}
 use Rattle.load_laws.proofs.laws.OrderLemmas.{before_place, put_in-last}
 use Rattle.load_laws.proofs.laws.OwnLemmas.{entry_of_record-record_from}
 use Rattle.load_laws.proofs.laws.PlaceLemmas.{placed-front}

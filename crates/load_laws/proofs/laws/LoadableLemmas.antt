@@ -15,7 +15,7 @@ use Rattle.ldif_load.specs.ldif_records.declared.types.Record.{Record}
 use Rattle.ldif_load.specs.ldif_records.declared.types.RecordLine.{RecordLine}
 use Rattle.ldif_load.specs.load.Loading.{RecordFault}
 use Rattle.ldif_load.specs.load.Loading.{◌>>=◌, named, loaded_value, with_new_value, with_new_kind, with_line, with_lines, with_pairs, with_own_values, entry_of_record}
-use Rattle.load_laws.specs.laws.Loadable.{IsLoadableValue, IsLoadable}
+use Rattle.load_laws.specs.Loadable.{IsLoadableValue, IsLoadable}
 use Rattle.load_laws.proofs.laws.OctetLemmas.{IsBytes-from_AreBelow}
 use Rattle.load_laws.proofs.laws.ReadLemmas.{HasOctets}
 use Rattle.load_laws.proofs.laws.ValueLemmas.{IsLoadableValue-loaded, IsOwn, last_rdn-own}

@@ -11,7 +11,7 @@ use Rattle.ldif_load.specs.ldif_records.writing.WrittenFile.{values_in, lines_fr
 use Rattle.aci_item.specs.Rules.{lacks_own_value}
 use Rattle.ldif_load.specs.load.Loading.{RecordFault}
 use Rattle.ldif_load.specs.load.Loading.{◌>>=◌, named, with_lines, with_pairs, with_own_values, entry_of_record}
-use Rattle.load_laws.specs.laws.Loadable.{IsLoadable}
+use Rattle.load_laws.specs.Loadable.{IsLoadable}
 use Rattle.load_laws.proofs.laws.LineLemmas.{with_lines-values_in}
 
 -- pairs whose values are the entry's add nothing

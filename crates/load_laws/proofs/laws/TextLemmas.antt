@@ -6,11 +6,11 @@ use Rattle.base64.specs.GeneralPurpose.{IsBytes}
 use Rattle.dir_tree.specs.schema_tables.Attributes.{IsAttrId, name_of}
 use Rattle.dir_tree.specs.dn_names.name.Names.{Keyed}
 use Rattle.dir_tree.specs.Entry.{Attribute, EntryInformation, values_of, IsGoodAttribute}
-use Rattle.dir_tree.specs.classes.EntryClasses.{object_class}
+use Rattle.dir_tree.specs.EntryClasses.{object_class}
 use Rattle.ldif_load.specs.ldif_records.writing.Written.{AreInTable}
 use Rattle.ldif_load.specs.ldif_records.writing.WrittenFile.{TypeAndOctets, values_in, IsWritable}
 use Rattle.aci_item.specs.Rules.{lists_none, breaks_classes}
-use Rattle.load_laws.specs.laws.Loadable.{IsLoadableValue, IsLoadable}
+use Rattle.load_laws.specs.Loadable.{IsLoadableValue, IsLoadable}
 use Rattle.load_laws.proofs.laws.LineLemmas.{IsAttrId-from_loaded_value}
 use Rattle.load_laws.proofs.laws.OctetLemmas.{IsBytes-print_name}
 

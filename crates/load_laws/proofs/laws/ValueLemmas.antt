@@ -10,12 +10,12 @@ use Rattle.dir_tree.specs.schema_tables.declared.kinds.Syntax.TheVariants.{Text,
 use Rattle.dir_tree.specs.schema_tables.Attributes.{is_naming, syntax_of}
 use Rattle.dir_tree.specs.dn_names.name.Names.{Keyed, TypeAndValue, RdnSequence, last_rdn}
 use Rattle.dir_tree.specs.dn_names.name.GoodNames.{IsGoodPair, IsGoodRdn, IsGoodName}
-use Rattle.dir_tree.specs.dn_names.make.NameValues.{value_key, value_of}
-use Rattle.dir_tree.specs.dn_names.resolve.Resolving.{naming_value}
+use Rattle.dir_tree.specs.dn_names.NameValues.{value_key, value_of}
+use Rattle.dir_tree.specs.dn_names.Resolving.{naming_value}
 use Rattle.dir_tree.specs.dn_names.value.Values.{plain_key}
 use Rattle.dir_tree.proofs.dn_names_proofs.Theorems.{is_utf8-naming_value, value_of-octets}
 use Rattle.ldif_load.specs.load.Loading.{loaded_value}
-use Rattle.load_laws.specs.laws.Loadable.{IsLoadableValue}
+use Rattle.load_laws.specs.Loadable.{IsLoadableValue}
 use Rattle.load_laws.proofs.laws.OctetLemmas.{IsBytes-from_IsUtf8}
 use Rattle.load_laws.proofs.laws.PartLemmas.{all_drop, all_joined}
 

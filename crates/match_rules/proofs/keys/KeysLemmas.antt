@@ -6,7 +6,7 @@ use Rattle.match_rules.specs.declared.parts.Part.{Part}
 use Rattle.match_rules.specs.declared.rules.Rule.{Rule}
 use Rattle.match_rules.specs.Keys.{prepared, key_of}
 use Rattle.match_rules.specs.Parts.{prepared_part, part_key_of}
-use Rattle.match_rules.specs.rules.Syntaxes.{IsOf, IsPartOf, is_of}
+use Rattle.match_rules.specs.Syntaxes.{IsOf, IsPartOf, is_of}
 use Rattle.match_rules.proofs.keys.SyntaxesLemmas.{is_of-Decides, is_part_of-Decides}
 
 -- a value has its prepared octets for a key

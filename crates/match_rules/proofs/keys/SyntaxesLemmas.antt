@@ -9,7 +9,7 @@ use Rattle.std.specs.List.{list_all}
 use Rattle.std.specs.Str.{is_utf8}
 use Rattle.match_rules.specs.declared.rules.Rule.{Rule}
 use Rattle.match_rules.specs.declared.rules.Rule.TheVariants.{Text, Ascii, Phone, Country, Octets}
-use Rattle.match_rules.specs.rules.Syntaxes.{IsLetter, IsPrintable, IsOf, IsPartOf, is_letter, is_printable, is_filled, is_of, is_part_of}
+use Rattle.match_rules.specs.Syntaxes.{IsLetter, IsPrintable, IsOf, IsPartOf, is_letter, is_printable, is_filled, is_of, is_part_of}
 
 is_letter-Decides : (octet : ℕ) → Decides (is_letter octet) (IsLetter octet)
 is_letter-Decides octet = grind (arith, nat_tests)

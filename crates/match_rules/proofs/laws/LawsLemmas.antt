@@ -12,7 +12,7 @@ use Rattle.match_rules.specs.declared.rules.Rule.TheVariants.{Text, Ascii, Phone
 use Rattle.match_rules.specs.Keys.{is_separator, without_separators, prepared_text, prepared, key_of}
 use Rattle.match_rules.specs.Laws.{lower_case}
 use Rattle.match_rules.specs.Spaces.{is_space, cut_and_joined}
-use Rattle.match_rules.specs.rules.Syntaxes.{IsLetter, IsPrintable, is_of}
+use Rattle.match_rules.specs.Syntaxes.{IsLetter, IsPrintable, is_of}
 use Rattle.match_rules.proofs.laws.AsciiLemmas.{NoSpace, prepared_text-ascii, cut_and_joined-again, cut_and_joined-plain, Each-cut_and_joined, without_separators-cut_and_joined}
 use Rattle.match_rules.proofs.laws.CutLemmas.{Each}
 use Rattle.match_rules.proofs.folding.FoldingLemmas.{IsAscii-lower}

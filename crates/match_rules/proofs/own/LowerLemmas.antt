@@ -12,7 +12,7 @@ use Rattle.std.specs.Str.{is_utf8}
 use Rattle.match_rules.specs.declared.rules.Rule.{Rule}
 use Rattle.match_rules.specs.declared.rules.Rule.TheVariants.{Text, Ascii, Phone, Country, Octets}
 use Rattle.match_rules.specs.Laws.{lower_case}
-use Rattle.match_rules.specs.rules.Syntaxes.{is_letter, is_printable, is_filled, is_of}
+use Rattle.match_rules.specs.Syntaxes.{is_letter, is_printable, is_filled, is_of}
 use Rattle.match_rules.proofs.laws.CutLemmas.{Each}
 use Rattle.match_rules.proofs.folding.FoldingLemmas.{IsAscii-lower}
 

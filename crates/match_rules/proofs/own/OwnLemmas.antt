@@ -8,7 +8,7 @@ use Rattle.match_rules.specs.declared.rules.Rule.{Rule}
 use Rattle.match_rules.specs.declared.rules.Rule.TheVariants.{Text, Ascii, Phone, Country, Octets}
 use Rattle.match_rules.specs.Keys.{prepared_text, key_of}
 use Rattle.match_rules.specs.Laws.{lower_case}
-use Rattle.match_rules.specs.own.OwnKeys.{IsSmall, IsOwn}
+use Rattle.match_rules.specs.OwnKeys.{IsSmall, IsOwn}
 use Rattle.match_rules.specs.Spaces.{is_space, cut_and_joined}
 use Rattle.match_rules.proofs.laws.AsciiLemmas.{prepared_text-ascii, cut_and_joined-plain}
 use Rattle.match_rules.proofs.keys.KeysLemmas.{key_of-value}

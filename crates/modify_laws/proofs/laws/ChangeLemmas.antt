@@ -13,7 +13,7 @@ use Rattle.entry_changes.specs.declared.kind.ChangeKind.{ChangeKind}
 use Rattle.entry_changes.specs.declared.kind.ChangeKind.TheVariants.{Add, Delete, Replace}
 use Rattle.entry_changes.specs.Change.{Asks, Modification, are_none, withheld, add_value_refusal, add_refusal, delete_value_refusal, delete_refusal, has_octets, goes_refusal, comes_refusal, replace_refusal, refusal_by, left_by, unless_refused, changed, changed_by}
 use Rattle.entry_changes.proofs.Theorems.{filled_from as some_there}
-use Rattle.modify_laws.specs.laws.Changing.{MayAddValue, MayAddValues, MayRemoveValue, MayRemoveValues, MayReplaceValues, MayDo, MayChangeEach}
+use Rattle.modify_laws.specs.Changing.{MayAddValue, MayAddValues, MayRemoveValue, MayRemoveValues, MayReplaceValues, MayDo, MayChangeEach}
 use Rattle.modify_laws.proofs.laws.TableLemmas.{none_of_both, none_from_both, each_from_none, none_from_each, granted_where, where_granted, granted_where_both, where_both_granted}
 
 -- no values are there, or some

@@ -10,7 +10,7 @@ use Rattle.acdf_filters.specs.aci_item.Rules.{broken_rule}
 use Rattle.acdf_filters.specs.aci_item.declared.permission.Permission.TheVariants.{Modify}
 use Rattle.acdf_filters.specs.declared.asking.Requester.{Requester}
 use Rattle.acdf_filters.specs.Asking.{Entry}
-use Rattle.acdf_filters.specs.laws.Granted.{granted}
+use Rattle.acdf_filters.specs.Granted.{granted}
 use Rattle.ldap_msg.specs.declared.operations.ResultCode.{ResultCode}
 use Rattle.ldap_msg.specs.declared.kinds.ModifyRequest.{ModifyRequest}
 use Rattle.op_add_delete.specs.read_model.Views.{view_of, hidden}
@@ -18,9 +18,9 @@ use Rattle.op_add_delete.specs.adding.Adding.{rule_refusal}
 use Rattle.op_add_delete.specs.adding.Updates.{refused, unless, IsChanged}
 use Rattle.op_add_delete.proofs.Theorems.{not_broken, unless-made}
 use Rattle.entry_changes.specs.Change.{Modification, changed_by}
-use Rattle.op_modify.specs.reading.ReadChanges.{read_changes}
+use Rattle.op_modify.specs.ReadChanges.{read_changes}
 use Rattle.op_modify.specs.Modifying.{modified_as, modified_target, modified_by, modified_named, modified}
-use Rattle.modify_laws.specs.laws.Granting.{MayModify}
+use Rattle.modify_laws.specs.Granting.{MayModify}
 use Rattle.modify_laws.proofs.laws.ChangeLemmas.{may-changed_by, changed_by-may}
 
 -- what nothing refuses is made

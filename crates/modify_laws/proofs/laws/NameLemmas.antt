@@ -7,11 +7,11 @@ use Rattle.std.proofs.lemmas.List.{length-reverse, take_at}
 use Rattle.dir_tree.specs.dn_names.declared.error.BadName.{BadName}
 use Rattle.dir_tree.specs.dn_names.declared.error.BadName.TheVariants.{TooMany}
 use Rattle.dir_tree.specs.dn_names.name.Names.{RdnSequence}
-use Rattle.dir_tree.specs.dn_names.order.NameOrder.{is_same}
+use Rattle.dir_tree.specs.dn_names.NameOrder.{is_same}
 use Rattle.dir_tree.specs.dn_names.parsing.NameText.{RdnText, read_rdn}
 use Rattle.dir_tree.specs.dn_names.name.GoodNames.{IsGoodRdn, IsGoodName}
-use Rattle.dir_tree.specs.dn_names.laws.Spelling.{WrittenPair}
-use Rattle.dir_tree.specs.dn_names.resolve.Resolving.{and_then, rdn_from, rdns_from, from_root, resolve_rdn}
+use Rattle.dir_tree.specs.dn_names.Spelling.{WrittenPair}
+use Rattle.dir_tree.specs.dn_names.Resolving.{and_then, rdn_from, rdns_from, from_root, resolve_rdn}
 use Rattle.dir_tree.proofs.dn_names_proofs.Theorems.{IsGoodName-from_RdnText, RdnText-read_rdn, IsGoodName-append}
 use Rattle.dir_tree.specs.Entry.{EntryInformation}
 use Rattle.dir_tree.specs.tree.Trees.{named_in, superior_name}

@@ -10,7 +10,7 @@ use Rattle.op_add_delete.specs.reading.NewEntries.{read_attribute, repeats}
 use Rattle.op_add_delete.proofs.Theorems.{distinct-repeats as IsDistinct-from_repeats}
 use Rattle.entry_changes.specs.declared.kind.ChangeKind.{ChangeKind}
 use Rattle.entry_changes.specs.Change.{Modification}
-use Rattle.op_modify.specs.reading.ReadChanges.{is_no_change, change_of, change_with, read_change, read_each, read_changes}
+use Rattle.op_modify.specs.ReadChanges.{is_no_change, change_of, change_with, read_change, read_each, read_changes}
 
 -- the values of the change are so
 abbrev pub HasDistinctValues : Modification → Type 0

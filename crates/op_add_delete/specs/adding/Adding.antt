@@ -11,7 +11,7 @@ use Rattle.acdf_filters.specs.aci_item.declared.permission.Permission.{Permissio
 use Rattle.acdf_filters.specs.aci_item.declared.permission.Permission.TheVariants.{Add, DiscloseOnError}
 use Rattle.acdf_filters.specs.declared.asking.Requester.{Requester}
 use Rattle.acdf_filters.specs.Asking.{Protected, Entry, Kind, Value}
-use Rattle.acdf_filters.specs.laws.Granted.{granted, granted_new}
+use Rattle.acdf_filters.specs.Granted.{granted, granted_new}
 use Rattle.ldap_msg.specs.declared.operations.ResultCode.TheVariants as code
 use Rattle.ldap_msg.specs.declared.kinds.LdapResult.{LdapResult}
 use Rattle.read_model.specs.Views.{view_of, no_such_object, result_of}

@@ -5,7 +5,7 @@ use Rattle.std.specs.List.{list_any}
 use Rattle.ldap_msg.specs.plain_values.Results.{◌>>=◌}
 use Rattle.dir_tree.specs.schema_tables.Attributes.{attr_of}
 use Rattle.dir_tree.specs.dn_names.name.Names.{Keyed, RdnSequence}
-use Rattle.dir_tree.specs.dn_names.make.NameValues.{value_of}
+use Rattle.dir_tree.specs.dn_names.NameValues.{value_of}
 use Rattle.dir_tree.specs.dn_names.Limits.{most_octets}
 use Rattle.dir_tree.specs.Entry.{Attribute, EntryInformation, kinds_of, is_match}
 use Rattle.ldif_load.specs.load.Loading.{with_own_values}

@@ -2,10 +2,10 @@
 use Rattle.std.proofs.Common.{◌≡◌, ℕ, ◌==◌, false, List, [], ◌∷◌, Option, Result, Ok, Err, IfOk, refl, ap, ◌∙◌, if◌then◌else◌}
 use Rattle.dir_tree.specs.dn_names.name.Names.{RdnSequence}
 use Rattle.dir_tree.specs.dn_names.declared.error.BadName.{BadName}
-use Rattle.dir_tree.specs.dn_names.order.NameOrder.{is_prefix_of}
+use Rattle.dir_tree.specs.dn_names.NameOrder.{is_prefix_of}
 use Rattle.dir_tree.specs.dn_names.parsing.NameText.{read_name}
 use Rattle.dir_tree.specs.Entry.{EntryInformation}
-use Rattle.acdf_filters.specs.admin_scope.point_list.Areas.{without_subtree}
+use Rattle.acdf_filters.specs.admin_scope.Areas.{without_subtree}
 use Rattle.ldap_msg.specs.declared.operations.ResultCode.TheVariants.{ProtocolError}
 use Rattle.ldap_msg.specs.declared.kinds.Auth.{Auth}
 use Rattle.ldap_msg.specs.declared.kinds.Auth.TheVariants.{Simple, Other}

@@ -9,13 +9,13 @@ use Rattle.dir_tree.specs.Entry.{EntryInformation}
 use Rattle.dir_tree.specs.tree.Trees.{put_in, taken_out}
 use Rattle.dir_tree.specs.tree.Numbered.{Numbered, IsNumberedTree, entries_of, entry_of, without}
 use Rattle.dir_tree.proofs.TreeTheorems.{entries_of-without}
-use Rattle.op_add_delete.specs.schema_rules.check.Checking.{replaced, others}
+use Rattle.op_add_delete.specs.schema_rules.Checking.{replaced, others}
 use Rattle.acdf_filters.specs.aci_item.Rules.{broken_rule}
 use Rattle.dir_tree.specs.declared.number.EntryNo.{EntryNo}
 use Rattle.acdf_filters.specs.aci_item.declared.permission.Permission.{Permission}
 use Rattle.acdf_filters.specs.declared.asking.Requester.{Requester}
 use Rattle.acdf_filters.specs.Asking.{Protected}
-use Rattle.acdf_filters.specs.laws.Granted.{granted}
+use Rattle.acdf_filters.specs.Granted.{granted}
 use Rattle.entry_changes.specs.Change.{Asks, Modification, changed_by}
 use Rattle.ldap_msg.specs.declared.operations.ResultCode.{ResultCode}
 use Rattle.ldap_msg.specs.declared.operations.ResultCode.TheVariants as code
@@ -25,12 +25,12 @@ use Rattle.ldap_msg.specs.declared.kinds.ModifyRequest.{ModifyRequest}
 use Rattle.read_model.specs.Views.{result_of}
 use Rattle.op_add_delete.specs.adding.Updates.{Changed, IsChanged, refused}
 use Rattle.op_add_delete.proofs.Theorems.{changed-refused, changed-done}
-use Rattle.op_modify.specs.asker.Asked.{granted_at}
-use Rattle.op_modify.specs.reading.ReadChanges.{read_changes}
+use Rattle.op_modify.specs.Asked.{granted_at}
+use Rattle.op_modify.specs.ReadChanges.{read_changes}
 use Rattle.op_modify.specs.Modifying.{modified_as, modified_by, modified_named, modified}
 use Rattle.op_modify.specs.declared.replacing.Checked.{Checked}
 use Rattle.op_modify.specs.declared.replacing.Checked.TheVariants.{Refused, Allowed}
-use Rattle.op_modify.specs.replacing.Steps.{IsInPlace, IsChecked}
+use Rattle.op_modify.specs.Steps.{IsInPlace, IsChecked}
 
 -- what was checked, as it came
 pub made-refused : (changed : Changed) (rows : List Numbered) (checked : Checked) (refusal : LdapResult) → checked ≡ Refused refusal → IsChecked changed rows checked → IsChanged changed (Some refusal) (entries_of rows)

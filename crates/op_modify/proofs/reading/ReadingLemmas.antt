@@ -10,7 +10,7 @@ use Rattle.op_add_delete.specs.declared.fault.Fault.{Fault}
 use Rattle.op_add_delete.specs.declared.fault.Fault.TheVariants as fault
 use Rattle.op_add_delete.specs.reading.Reading.{cause_of}
 use Rattle.op_add_delete.proofs.Theorems.{put_before, before-more}
-use Rattle.op_modify.specs.reading.ReadChanges.{read_change, read_each}
+use Rattle.op_modify.specs.ReadChanges.{read_change, read_each}
 
 -- one change more
 pub changes-step : (done : List Modification) (given : List Change) (index : ℕ) (item : Change) (change : Modification) → drop index given ≡ item ∷ drop (index + 1) given → read_change item ≡ Ok change

@@ -15,7 +15,7 @@ use Rattle.read_model.specs.Views.{result_of}
 use Rattle.op_add_delete.specs.adding.Updates.{refused, unless}
 use Rattle.op_modify.specs.declared.renaming.Renaming.{Renaming}
 use Rattle.op_modify.specs.Renames.{is_unwilling, above_in, rename_refusal, renamed_as, renamed_target, renamed_by}
-use Rattle.op_modify.specs.replacing.Steps.{target_rows, place_rows}
+use Rattle.op_modify.specs.Steps.{target_rows, place_rows}
 
 -- the entry of the superior's number has the superior's name
 superior-named : (rows : List Numbered) (id : ℕ) (target : EntryInformation) → IsNumberedTree rows → entry_of id rows ≡ Some target

@@ -11,7 +11,7 @@ use Rattle.ldap_msg.specs.declared.kinds.Reply.TheVariants as reply
 use Rattle.read_model.specs.Views.{Row}
 use Rattle.read_model.specs.Choosing.{is_chosen_by, is_chosen, sent_attribute, sent_attributes, sent_entry}
 use Rattle.op_read.specs.declared.choosing.Choice.{Choice}
-use Rattle.op_read.specs.choosing.Choices.{chooses, sent_of}
+use Rattle.op_read.specs.Choices.{chooses, sent_of}
 
 -- attributes one by one
 pub attributes-one : {A B : Type 0} (c d : A → Bool) (b : A → Bool) (f : A → B) → ((x : A) → c x ≡ d x) → (xs : List A) → flat_map (λ x. if c x then (if b x then f x ∷ [] else []) else []) xs ≡ map f (filter (λ x. if d x then b x else false) xs)

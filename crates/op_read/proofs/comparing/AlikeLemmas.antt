@@ -10,7 +10,7 @@ use Rattle.read_model.specs.Views.{view_of}
 use Rattle.read_model.specs.SearchReplies.{search_replies, replies_octets}
 use Rattle.read_model.specs.CompareReplies.{compare_result}
 use Rattle.twin_laws.proofs.Theorems.{search_replies-twins, compare_result-twins}
-use Rattle.op_read.specs.comparing.Alike.{SendsAlike, ComparesAlike}
+use Rattle.op_read.specs.Alike.{SendsAlike, ComparesAlike}
 
 pub sends_alike : (who : Requester) (entries : List EntryInformation) (id : ℕ) (request : SearchRequest) (subentries : Option Bool) (old new : List ℕ)
     → new ≡ old ++ replies_octets id (search_replies (view_of entries who) request subentries)

@@ -9,7 +9,7 @@ use Rattle.ldap_msg.specs.declared.kinds.SearchRequest.{SearchRequest}
 use Rattle.ldap_msg.specs.declared.kinds.Reply.TheVariants as reply
 use Rattle.read_model.specs.RootEntry.{RootAttribute, suffix_name, root_attributes, is_root_chosen, sent_root, root_entry}
 use Rattle.directory.specs.Asking.{view_in}
-use Rattle.op_read.specs.root_entry.Rooting.{root_sent_of, roots_with}
+use Rattle.op_read.specs.Rooting.{root_sent_of, roots_with}
 use Rattle.op_read.proofs.choosing.ChoosingLemmas.{roots-one}
 
 -- four lists, one behind the other

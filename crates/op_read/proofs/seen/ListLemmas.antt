@@ -4,7 +4,7 @@ use Rattle.std.specs.Prelude.{flat_map}
 use Rattle.std.specs.List.{filter_map}
 use Rattle.std.specs.Option.{option_map_or}
 use Rattle.std.proofs.lemmas.Bool.{cases_Bool}
-use Rattle.op_read.specs.seen.Seeing.{one_or_none}
+use Rattle.op_read.specs.Seeing.{one_or_none}
 
 -- the first of two tests, asked before
 pub filter-two : {A B : Type 0} (f : A → B) (t : A → Bool) (u s : B → Bool) → ((x : A) → u (f x) ≡ t x) → (xs : List A) → filter (λ y. u y && s y) (map f xs) ≡ filter s (map f (filter t xs))

@@ -5,14 +5,14 @@ use Rattle.std.specs.List.{AllByRecursion}
 use Rattle.std.specs.declared.cmp.Ordering.TheVariants.{Less}
 use Rattle.std.proofs.lemmas.Bool.{cases_Bool}
 use Rattle.dir_tree.specs.dn_names.name.Names.{RdnSequence}
-use Rattle.dir_tree.specs.dn_names.order.NameOrder.{name_cmp, is_same}
+use Rattle.dir_tree.specs.dn_names.NameOrder.{name_cmp, is_same}
 use Rattle.dir_tree.specs.Entry.{EntryInformation}
 use Rattle.dir_tree.specs.tree.Trees.{is_named, named_in, IsInOrder}
 use Rattle.dir_tree.specs.Scope.{is_within}
 use Rattle.dir_tree.proofs.TreeTheorems.{prefix_same as prefix-like, later-other}
 use Rattle.read_model.specs.Views as views
 use Rattle.read_model.specs.Views.{Row}
-use Rattle.op_read.specs.seen.Seeing.{one_or_none}
+use Rattle.op_read.specs.Seeing.{one_or_none}
 
 -- what comes later than an entry of the name has another
 none-later : (view : EntryInformation → Row) (P : Row → Bool) (name : RdnSequence) → ((entry : EntryInformation) → views.has_name name (view entry) ≡ is_named name entry) → (first : EntryInformation) → is_named name first ≡ true → (rest : List EntryInformation) → AllByRecursion (λ later. name_cmp first.name later.name ≡ Less) rest → filter (λ row. views.has_name name row && P row) (map view rest) ≡ []

@@ -9,10 +9,10 @@ use Rattle.dir_tree.specs.declared.number.EntryNo.{EntryNo}
 use Rattle.acdf_filters.specs.aci_item.declared.permission.Permission.TheVariants.{Read}
 use Rattle.acdf_filters.specs.declared.asking.Requester.{Requester}
 use Rattle.acdf_filters.specs.Asking.{Entry}
-use Rattle.acdf_filters.specs.laws.Granted.{granted}
+use Rattle.acdf_filters.specs.Granted.{granted}
 use Rattle.read_model.specs.CompareReplies.{readable}
 use Rattle.directory.specs.Asking.{view_in}
-use Rattle.op_read.specs.seen.Seeing.{row_in, one_or_none}
+use Rattle.op_read.specs.Seeing.{row_in, one_or_none}
 use Rattle.op_read.proofs.seen.ListLemmas.{kept-one, dropped-one}
 use Rattle.op_read.proofs.seen.NameLemmas.{only-named}
 

@@ -7,7 +7,7 @@ use Rattle.std.proofs.lemmas.Bool.{cases_Bool}
 use Rattle.std.proofs.lemmas.List.Elements.{filter_agree}
 use Rattle.dir_tree.proofs.base_laws_proofs.Theorems.{find-map, list_any-map, find-passes}
 use Rattle.dir_tree.specs.dn_names.name.Names.{RdnSequence}
-use Rattle.dir_tree.specs.dn_names.order.NameOrder.{is_same}
+use Rattle.dir_tree.specs.dn_names.NameOrder.{is_same}
 use Rattle.dir_tree.specs.Entry.{EntryInformation}
 use Rattle.dir_tree.specs.tree.Trees.{is_named, named_in}
 use Rattle.dir_tree.specs.tree.Numbered.{Numbered, IsNumberedTree, entries_of, entries_at, entry_of, find_name}
@@ -23,7 +23,7 @@ use Rattle.read_model.specs.Views.{Row, View, hidden}
 use Rattle.read_model.specs.SearchReplies.{found_replies, replies_at}
 use Rattle.read_model.specs.Selecting.{takes_in, is_shown, is_selected, selected}
 use Rattle.directory.specs.Asking.{view_in}
-use Rattle.op_read.specs.seen.Seeing.{row_in, one_or_none, scope_of}
+use Rattle.op_read.specs.Seeing.{row_in, one_or_none, scope_of}
 use Rattle.op_read.specs.Sending.{shown_among}
 use Rattle.op_read.proofs.seen.ListLemmas.{filter-two, among}
 use Rattle.op_read.proofs.seen.NameLemmas.{named-entries, within-like}

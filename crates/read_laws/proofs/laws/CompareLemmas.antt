@@ -7,13 +7,13 @@ use Rattle.dir_tree.specs.tree.Trees.{is_named, named_in}
 use Rattle.acdf_filters.specs.aci_item.declared.permission.Permission.TheVariants.{Read, Compare}
 use Rattle.acdf_filters.specs.declared.asking.Requester.{Requester}
 use Rattle.acdf_filters.specs.Asking.{Entry, Kind}
-use Rattle.acdf_filters.specs.laws.Granted.{granted}
+use Rattle.acdf_filters.specs.Granted.{granted}
 use Rattle.ldap_msg.specs.declared.operations.ResultCode.TheVariants as code
 use Rattle.ldap_msg.specs.declared.kinds.LdapResult.{LdapResult}
 use Rattle.ldap_msg.specs.declared.kinds.CompareRequest.{CompareRequest}
 use Rattle.read_model.specs.Views.{Row, View, row_of, view_of, result_of}
 use Rattle.read_model.specs.CompareReplies.{has_equal, compared, readable, compared_in, compared_value, compared_kind, compared_by, compare_result}
-use Rattle.read_laws.specs.laws.Complete.{IsComparable}
+use Rattle.read_laws.specs.Complete.{IsComparable}
 
 -- the compare was done
 abbrev pub IsCompared : LdapResult → Type 0

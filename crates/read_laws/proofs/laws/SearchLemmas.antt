@@ -10,7 +10,7 @@ use Rattle.dir_tree.specs.tree.Trees.{is_named, named_in}
 use Rattle.acdf_filters.specs.aci_item.declared.permission.Permission.TheVariants.{DiscloseOnError}
 use Rattle.acdf_filters.specs.declared.asking.Requester.{Requester}
 use Rattle.acdf_filters.specs.Asking.{Entry}
-use Rattle.acdf_filters.specs.laws.Granted.{granted}
+use Rattle.acdf_filters.specs.Granted.{granted}
 use Rattle.ldap_msg.specs.declared.operations.ResultCode.{ResultCode}
 use Rattle.ldap_msg.specs.declared.operations.ResultCode.TheVariants as code
 use Rattle.ldap_msg.specs.declared.kinds.SearchRequest.{SearchRequest}
@@ -20,7 +20,7 @@ use Rattle.read_model.specs.Views.{View, row_of, view_of, has_name, is_disclosed
 use Rattle.read_model.specs.Selecting.{selected}
 use Rattle.read_model.specs.Choosing.{sent_entry}
 use Rattle.read_model.specs.SearchReplies.{within_limit, limit_code, found_replies, replies_at, replies_by, search_replies}
-use Rattle.read_laws.specs.laws.Complete.{HasKnownBase, is_entry, EndsWith}
+use Rattle.read_laws.specs.Complete.{HasKnownBase, is_entry, EndsWith}
 use Rattle.read_laws.proofs.laws.FoundLemmas.{any-found}
 
 -- a search that succeeds, or sends as many entries as its limit lets it

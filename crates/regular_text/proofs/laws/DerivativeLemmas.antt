@@ -3,9 +3,9 @@ use Rattle.std.proofs.Common.{◌≡◌, ℕ, Bool, true, false, inl, inr, List,
 use Rattle.std.specs.Prelude.{if◌then◌else◌}
 use Rattle.std.specs.List.{AllByRecursion, concat}
 use Rattle.std.proofs.lemmas.Bool.{false≢true}
-use Rattle.regular_text.specs.laws.Grammar.{Grammar, Matches}
-use Rattle.regular_text.specs.laws.Grammar.Grammar.{Never, Nothing, One, Either, Then, Many}
-use Rattle.regular_text.specs.laws.Derivative.{has_empty, either, then_next, after}
+use Rattle.regular_text.specs.Grammar.{Grammar, Matches}
+use Rattle.regular_text.specs.Grammar.Grammar.{Never, Nothing, One, Either, Then, Many}
+use Rattle.regular_text.specs.Derivative.{has_empty, either, then_next, after}
 use Rattle.regular_text.proofs.laws.GrammarLemmas.{either-matches, matches-either, then-matches, matches-then, matches-nil, has_empty-matches}
 
 one_step : {K : Type 0} (class : ℕ → K) (test : K → Bool) (x : ℕ) (text : List ℕ) (passes : Bool) → test (class x) ≡ passes → Matches class (if passes then Nothing else Never) text → Matches class (One test) (x ∷ text)

@@ -1,9 +1,9 @@
 -- Either and Then without needless parts name the same texts, and has_empty is exact.
 use Rattle.std.proofs.Common.{◌≡◌, ℕ, true, ◌⊎◌, inl, inr, List, [], ◌∷◌, ◌++◌, refl, sym, subst}
 use Rattle.std.proofs.lemmas.Bool.{false≢true, and_parts, and_from, or_right, or_left, or_cases}
-use Rattle.regular_text.specs.laws.Grammar.{Grammar, Matches}
-use Rattle.regular_text.specs.laws.Grammar.Grammar.{Never, Nothing, One, Either, Then, Many}
-use Rattle.regular_text.specs.laws.Derivative.{has_empty, either, then_next}
+use Rattle.regular_text.specs.Grammar.{Grammar, Matches}
+use Rattle.regular_text.specs.Grammar.Grammar.{Never, Nothing, One, Either, Then, Many}
+use Rattle.regular_text.specs.Derivative.{has_empty, either, then_next}
 
 -- a text of one of two grammars is one of both together
 pub either-matches : {K : Type 0} (class : ℕ → K) (a b : Grammar K) (text : List ℕ) → Matches class a text ⊎ Matches class b text → Matches class (either a b) text

@@ -2,9 +2,9 @@
 use Rattle.std.proofs.Common.{◌≡◌, ℕ, ◌+◌, ◌≤◌, zero, suc, true, false, List, [], ◌∷◌, length, take, Option, Some, None, refl, sym, ap, subst, ◌∙◌, arith}
 use Rattle.std.specs.Prelude.{if◌then◌else◌, MatchOption}
 use Rattle.std.proofs.lemmas.Bool.{false≢true}
-use Rattle.regular_text.specs.laws.Grammar.{Grammar, Matches}
-use Rattle.regular_text.specs.laws.Place.{Begins, IsPlace, IsLongestFront, HasNoFront}
-use Rattle.regular_text.specs.laws.Machine.{Machine, by_step, grammar_at, fault_at, reach, longer, front, IsMachineOf}
+use Rattle.regular_text.specs.Grammar.{Grammar, Matches}
+use Rattle.regular_text.specs.Place.{Begins, IsPlace, IsLongestFront, HasNoFront}
+use Rattle.regular_text.specs.Machine.{Machine, by_step, grammar_at, fault_at, reach, longer, front, IsMachineOf}
 use Rattle.regular_text.proofs.laws.GrammarLemmas.{matches-nil, has_empty-matches}
 use Rattle.regular_text.proofs.laws.DerivativeLemmas.{matches-cons, matches-after}
 

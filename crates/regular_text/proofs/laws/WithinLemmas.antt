@@ -2,8 +2,8 @@
 use Rattle.std.proofs.Common.{◌≡◌, ℕ, Bool, true, inl, inr, List, [], ◌∷◌, sym, subst}
 use Rattle.std.specs.List.{AllByRecursion, concat}
 use Rattle.base_laws.proofs.Theorems.{all_append}
-use Rattle.regular_text.specs.laws.Grammar.{Grammar, Matches, IsWithin}
-use Rattle.regular_text.specs.laws.Grammar.Grammar.{Never, Nothing, One, Either, Then, Many}
+use Rattle.regular_text.specs.Grammar.{Grammar, Matches, IsWithin}
+use Rattle.regular_text.specs.Grammar.Grammar.{Never, Nothing, One, Either, Then, Many}
 
 all_concat : (P : ℕ → Type 0) (Q : List ℕ → Type 0) → ((part : List ℕ) → Q part → AllByRecursion P part) → (parts : List (List ℕ)) → AllByRecursion Q parts → AllByRecursion P (concat parts)
 all_concat P Q each [] a = tt

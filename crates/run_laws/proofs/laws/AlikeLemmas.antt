@@ -1,8 +1,8 @@
 -- Messages that are answered alike one by one are answered alike in turn.
 use Rattle.std.proofs.Common.{◌≡◌, ℕ, Bool, true, false, cond, List, [], ◌∷◌, ◌++◌, Option, Some, None, refl, ap, sym, ◌∙◌, subst}
 use Rattle.std.specs.List.{AllByRecursion}
-use Rattle.session_model.specs.laws.Rules.{Rules, Answered, talk, said, ending, up_to, after_octets}
-use Rattle.run_laws.specs.laws.AnsweredMessages.{AreAlike, IsAnsweredAlike, answered_messages}
+use Rattle.session_model.specs.Rules.{Rules, Answered, talk, said, ending, up_to, after_octets}
+use Rattle.run_laws.specs.AnsweredMessages.{AreAlike, IsAnsweredAlike, answered_messages}
 
 -- what holds of two lists in a row holds of each
 pub all_append : {A : Type 0} (P : A → Type 0) (xs ys : List A) → AllByRecursion P (xs ++ ys) → AllByRecursion P xs × AllByRecursion P ys

@@ -1,13 +1,13 @@
 -- What a server holds is left the same over two trees, and its messages are those of its sessions.
 use Rattle.std.proofs.Common.{◌≡◌, ℕ, Bool, true, false, cond, ◌||◌, List, [], ◌++◌, Option, Some, None, refl, ap, ap₂, sym, ◌∙◌}
 use Rattle.std.specs.List.{AllByRecursion}
-use Rattle.ldap_msg.specs.framing.Streams.{whole, is_broken}
-use Rattle.session_model.specs.laws.Rules.{Rules, Answered, up_to}
-use Rattle.session_model.specs.laws.Run.{Sessions, State, Open, Closing, TurnedAway, Away, Unopened, Step, Opened, Bytes, Ended, Gone, HungUp}
-use Rattle.session_model.specs.laws.Kept.{Kept, Held, kept_of, changed, heard, hears_kept, heard_piece, speech, is_cut}
-use Rattle.session_model.specs.laws.Keeping.{Keeps, shown}
+use Rattle.ldap_msg.specs.Streams.{whole, is_broken}
+use Rattle.session_model.specs.Rules.{Rules, Answered, up_to}
+use Rattle.session_model.specs.Run.{Sessions, State, Open, Closing, TurnedAway, Away, Unopened, Step, Opened, Bytes, Ended, Gone, HungUp}
+use Rattle.session_model.specs.Kept.{Kept, Held, kept_of, changed, heard, hears_kept, heard_piece, speech, is_cut}
+use Rattle.session_model.specs.Keeping.{Keeps, shown}
 use Rattle.session_model.proofs.Theorems.{new_messages-are as new_messages-rest}
-use Rattle.run_laws.specs.laws.AnsweredMessages.{AreAlike, AreHeldOver, IsAnsweredAlike, held_over, answered_messages, answered_of_piece, answered_of_step, answered_of_kept, answered_of_held}
+use Rattle.run_laws.specs.AnsweredMessages.{AreAlike, AreHeldOver, IsAnsweredAlike, held_over, answered_messages, answered_of_piece, answered_of_step, answered_of_kept, answered_of_held}
 use Rattle.run_laws.proofs.laws.AlikeLemmas.{AreAlike-over, said-alike}
 
 module _ {T W : Type 0} (r : Rules T W) where

@@ -3,12 +3,12 @@ use Rattle.std.proofs.Common.{◌≡◌, ◌≤◌, ◌+◌, ℕ, ◌==◌, Bool
 use Rattle.std.specs.List.{AllByRecursion}
 use Rattle.std.proofs.lemmas.Bool.{and_parts}
 use Rattle.std.proofs.lemmas.Bool.Decides.{nat_tests}
-use Rattle.ldap_msg.specs.framing.Streams.{is_broken}
-use Rattle.session_model.specs.laws.Rules.{Rules, Answered, said}
-use Rattle.session_model.specs.laws.Run.{Session, Sessions, State, Open, Closing, TurnedAway, Away, Unopened, Step, Opened, Bytes, Ended, Gone, HungUp, step, start, run, run_from, hears, ended, with_session, new_messages, held_numbers, newcomer, is_held}
+use Rattle.ldap_msg.specs.Streams.{is_broken}
+use Rattle.session_model.specs.Rules.{Rules, Answered, said}
+use Rattle.session_model.specs.Run.{Session, Sessions, State, Open, Closing, TurnedAway, Away, Unopened, Step, Opened, Bytes, Ended, Gone, HungUp, step, start, run, run_from, hears, ended, with_session, new_messages, held_numbers, newcomer, is_held}
 use Rattle.session_model.proofs.Theorems.{with_session-same, none_taken as no_number}
-use Rattle.run_laws.specs.laws.AnsweredMessages.{IsAnsweredAlike, answered_of_piece, answered_of_step}
-use Rattle.run_laws.specs.laws.Purging.{is_of, purged, is_opening, openings, has_room, finds_room, answered_of_connection}
+use Rattle.run_laws.specs.AnsweredMessages.{IsAnsweredAlike, answered_of_piece, answered_of_step}
+use Rattle.run_laws.specs.Purging.{is_of, purged, is_opening, openings, has_room, finds_room, answered_of_connection}
 use Rattle.run_laws.proofs.laws.AlikeLemmas.{all_append, said-alike}
 
 with_session-other : {W : Type 0} (c d : ℕ) (s : Session W) (of : ℕ → Session W) → (c == d) ≡ false → with_session c s of d ≡ of d

@@ -1,11 +1,11 @@
 -- Steps whose messages are answered alike leave the same sessions over two trees.
 use Rattle.std.proofs.Common.{ℕ, Bool, true, false, cond, List, [], ◌∷◌, ◌++◌, Option, refl, ap, ◌∙◌}
 use Rattle.std.specs.List.{AllByRecursion}
-use Rattle.ldap_msg.specs.framing.Streams.{is_broken}
-use Rattle.session_model.specs.laws.Rules.{Rules, Answered, said}
-use Rattle.session_model.specs.laws.Run.{Sessions, State, Open, Closing, TurnedAway, Away, Unopened, Step, Opened, Bytes, Ended, Gone, HungUp, step, start, run, run_from, hears, with_session, new_messages, held_numbers}
-use Rattle.session_model.specs.laws.Replaying.{number_of, is_leaving, hung_up, step_and_hang_up, replayed, replayed_from}
-use Rattle.run_laws.specs.laws.AnsweredMessages.{AreOver, IsAnsweredAlike, over, answered_of_piece, answered_of_step, answered_of_run, answered_of_replay}
+use Rattle.ldap_msg.specs.Streams.{is_broken}
+use Rattle.session_model.specs.Rules.{Rules, Answered, said}
+use Rattle.session_model.specs.Run.{Sessions, State, Open, Closing, TurnedAway, Away, Unopened, Step, Opened, Bytes, Ended, Gone, HungUp, step, start, run, run_from, hears, with_session, new_messages, held_numbers}
+use Rattle.session_model.specs.Replaying.{number_of, is_leaving, hung_up, step_and_hang_up, replayed, replayed_from}
+use Rattle.run_laws.specs.AnsweredMessages.{AreOver, IsAnsweredAlike, over, answered_of_piece, answered_of_step, answered_of_run, answered_of_replay}
 use Rattle.run_laws.proofs.laws.AlikeLemmas.{all_append, AreAlike-over, said-alike}
 
 module _ {T W : Type 0} (r : Rules T W) (other : T) where

@@ -3,7 +3,7 @@ use Rattle.std.proofs.Common.{◌≡◌, ℕ, zero, suc, ◌+◌, ◌≤◌, ◌
 use Rattle.std.proofs.lemmas.List.Sums.{sum_by-cons}
 use Rattle.ldap_msg.specs.declared.kinds.Frame.TheVariants.{Whole, More, Bad}
 use Rattle.ldap_msg.specs.declared.kinds.Reply.{Reply}
-use Rattle.ldap_msg.specs.framing.Streams.{frame_at, whole, whole_of}
+use Rattle.ldap_msg.specs.Streams.{frame_at, whole, whole_of}
 use Rattle.sample_input.specs.Counting.{says_such, such_in, such_of}
 
 -- at most one more

@@ -4,12 +4,12 @@ use Rattle.std.specs.Prelude.{nat_eq}
 use Rattle.std.specs.List.{IsDistinct}
 use Rattle.std.proofs.lemmas.List.Elements.{filter_map-append}
 use Rattle.base_laws.proofs.Theorems.{all_push}
-use Rattle.ldap_msg.specs.ber_layout.write.Spellings.{element_octets}
+use Rattle.ldap_msg.specs.ber_layout.Spellings.{element_octets}
 use Rattle.script_text.specs.declared.event.ScriptEvent.TheVariants.{Bytes}
 use Rattle.script_text.specs.script.Script.{OpensOnce, AreFilled, IsFilled, opened_by, opens}
 use Rattle.ldap_msg.specs.declared.kinds.Message.{Message}
 use Rattle.ldap_msg.specs.reading.Messages.{request_octets}
-use Rattle.sample_input.specs.events.SampleEvents.{sample_bind, sample_search, sample_events}
+use Rattle.sample_input.specs.SampleEvents.{sample_bind, sample_search, sample_events}
 
 -- a request has octets
 request_some : (message : Message) → 0 < length (request_octets message)

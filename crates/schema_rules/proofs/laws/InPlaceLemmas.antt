@@ -3,10 +3,10 @@ use Rattle.std.proofs.Common.{◌≡◌, ◌≢◌, Bool, true, false, not, ◌&
 use Rattle.std.specs.List.{AllByRecursion, list_any}
 use Rattle.std.proofs.lemmas.Bool.{cases_Bool, or_parts, or_from, false_from_ne_true, true≢false}
 use Rattle.dir_tree.proofs.base_laws_proofs.Theorems.{all_map, all_filter}
-use Rattle.dir_tree.specs.dn_names.order.NameOrder.{is_same}
+use Rattle.dir_tree.specs.dn_names.NameOrder.{is_same}
 use Rattle.dir_tree.specs.dn_names.name.GoodNames.{IsGoodName}
 use Rattle.dir_tree.specs.Entry.{EntryInformation, IsGoodAttributes}
-use Rattle.dir_tree.specs.subentries.Points.{is_point, is_subentry}
+use Rattle.dir_tree.specs.Points.{is_point, is_subentry}
 use Rattle.dir_tree.specs.Scope.{is_child}
 use Rattle.dir_tree.specs.tree.Trees.{is_named, named_in, superior_name, put_in, taken_out}
 use Rattle.dir_tree.proofs.TreeTheorems.{tree-same_name, left_out as none_named, child_is, same_back, same_over, all_put as all_put_in, is_put, taken_at}

@@ -1,7 +1,7 @@
 -- Good entries stay so where an entry below which none stands is renamed below the same superior.
 use Rattle.std.proofs.Common.{◌≡◌, ◌≢◌, true, false, List, [], ◌⊎◌, None, Some, ap, ◌∙◌, inl, inr}
 use Rattle.dir_tree.specs.dn_names.name.Names.{RdnSequence}
-use Rattle.dir_tree.specs.dn_names.order.NameOrder.{is_same}
+use Rattle.dir_tree.specs.dn_names.NameOrder.{is_same}
 use Rattle.dir_tree.specs.dn_names.name.GoodNames.{IsGoodName}
 use Rattle.dir_tree.specs.Entry.{EntryInformation, IsGoodAttributes}
 use Rattle.dir_tree.specs.tree.Trees.{has_name, has_below, named_in, superior_name, lacks_superior, put_in, taken_out}

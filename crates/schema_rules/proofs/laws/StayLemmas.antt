@@ -3,7 +3,7 @@ use Rattle.std.proofs.Common.{◌≡◌, ◌≢◌, ℕ, ◌<◌, nat_le, false,
 use Rattle.std.specs.List.{AllByRecursion}
 use Rattle.std.proofs.lemmas.Bool.{or_parts}
 use Rattle.std.proofs.lemmas.Bool.Decides.{nat_tests}
-use Rattle.dir_tree.specs.dn_names.order.NameOrder.{is_same}
+use Rattle.dir_tree.specs.dn_names.NameOrder.{is_same}
 use Rattle.dir_tree.specs.dn_names.name.GoodNames.{IsGoodName}
 use Rattle.dir_tree.specs.Entry.{EntryInformation, IsGoodAttributes}
 use Rattle.dir_tree.specs.tree.Trees.{IsTree, put_in, has_name, lacks_superior, superior_name}

@@ -5,10 +5,10 @@ use Rattle.std.proofs.lemmas.Bool.{or_parts, or_from}
 use Rattle.std.proofs.lemmas.Bool.Decides.{nat_tests}
 use Rattle.dir_tree.proofs.base_laws_proofs.Theorems.{all_filter}
 use Rattle.dir_tree.specs.dn_names.name.Names.{RdnSequence}
-use Rattle.dir_tree.specs.dn_names.order.NameOrder.{is_same}
+use Rattle.dir_tree.specs.dn_names.NameOrder.{is_same}
 use Rattle.dir_tree.specs.dn_names.name.GoodNames.{IsGoodName}
 use Rattle.dir_tree.specs.Entry.{EntryInformation, IsGoodAttributes}
-use Rattle.dir_tree.specs.subentries.Points.{is_access_subentry, access_subentries}
+use Rattle.dir_tree.specs.Points.{is_access_subentry, access_subentries}
 use Rattle.dir_tree.specs.tree.Trees.{is_named, has_below, named_in, superior_name, taken_out}
 use Rattle.dir_tree.proofs.TreeTheorems.{taken_at, tree-taken_out, apart_from_leaf}
 use Rattle.aci_item.specs.Rules.{broken_rule, is_misplaced, is_past_limits, stands_wrong, MeetsRules, AreGood}

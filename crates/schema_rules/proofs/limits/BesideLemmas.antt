@@ -5,13 +5,13 @@ use Rattle.std.proofs.lemmas.Bool.{cases_Bool, eqb-true, eqb-false, eq-eqb, ne_e
 use Rattle.std.proofs.lemmas.List.{length-map}
 use Rattle.dir_tree.specs.dn_names.name.Names.{RdnSequence}
 use Rattle.dir_tree.specs.Entry.{EntryInformation}
-use Rattle.dir_tree.specs.subentries.Points.{is_access_subentry, access_subentries}
+use Rattle.dir_tree.specs.Points.{is_access_subentry, access_subentries}
 use Rattle.dir_tree.specs.tree.Trees.{is_named, named_in, superior_name, IsInOrder}
 use Rattle.dir_tree.specs.tree.Numbered.{Numbered, IsNumberedTree, AreDistinct, entries_of, entry_of, find_name, without}
 use Rattle.dir_tree.specs.Scope.{is_number}
 use Rattle.dir_tree.proofs.TreeTheorems.{entry_of-found, further, other_number, one_if, count_beside, length_beside, none_beside}
-use Rattle.schema_rules.specs.check.Checking.{IsSuperior, replaced, others}
-use Rattle.schema_rules.specs.old.Beside.{entry_beside}
+use Rattle.schema_rules.specs.Checking.{IsSuperior, replaced, others}
+use Rattle.schema_rules.specs.Beside.{entry_beside}
 
 -- a row that does not have the number is passed over
 passed_over :

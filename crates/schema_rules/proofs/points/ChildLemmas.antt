@@ -3,15 +3,15 @@ use Rattle.std.proofs.Common.{◌≡◌, ℕ, ◌+◌, ◌==◌, Bool, true, fal
 use Rattle.std.specs.List.{list_any}
 use Rattle.std.proofs.lemmas.Bool.{cases_Bool}
 use Rattle.std.proofs.lemmas.Bool.Decides.{nat_tests}
-use Rattle.dir_tree.specs.dn_names.order.NameOrder.{is_prefix_of}
+use Rattle.dir_tree.specs.dn_names.NameOrder.{is_prefix_of}
 use Rattle.dir_tree.specs.Entry.{EntryInformation}
-use Rattle.dir_tree.specs.subentries.Points.{is_point, is_subentry}
+use Rattle.dir_tree.specs.Points.{is_point, is_subentry}
 use Rattle.dir_tree.specs.tree.Numbered.{Numbered, IsNumberedTree, entries_of, entry_of, without}
 use Rattle.dir_tree.specs.Scope.{is_child, scoped}
 use Rattle.dir_tree.specs.declared.scope.Scope.TheVariants.{One}
 use Rattle.dir_tree.proofs.TreeTheorems.{scoped-One-entries, any_beside}
 use Rattle.aci_item.specs.Rules.{stands_wrong_above}
-use Rattle.schema_rules.specs.old.Beside.{stands_wrong_below, takes_all_below, is_wrong_below}
+use Rattle.schema_rules.specs.Beside.{stands_wrong_below, takes_all_below, is_wrong_below}
 use Rattle.schema_rules.proofs.values.ListLemmas.{list_any-filter, list_any-filter_map}
 
 -- no entry stands immediately below itself

@@ -4,15 +4,15 @@ use Rattle.std.specs.Prelude.{⊤, unwrap_or, option_map, flat_map}
 use Rattle.std.proofs.lemmas.Bool.{cases_Bool}
 use Rattle.std.proofs.lemmas.Grind.{reverse_onto}
 use Rattle.dir_tree.proofs.base_laws_proofs.Theorems.{filter-filter, reverse-filter}
-use Rattle.dir_tree.specs.dn_names.order.NameOrder.{is_same, is_prefix_of}
+use Rattle.dir_tree.specs.dn_names.NameOrder.{is_same, is_prefix_of}
 use Rattle.dir_tree.proofs.dn_names_proofs.Theorems.{is_same-types_and_keys}
 use Rattle.dir_tree.specs.Entry.{EntryInformation}
 use Rattle.dir_tree.specs.tree.Trees.{is_before, put_in}
-use Rattle.dir_tree.specs.subentries.Points.{is_specific_point}
+use Rattle.dir_tree.specs.Points.{is_specific_point}
 use Rattle.dir_tree.specs.Scope.{is_within}
 use Rattle.dir_tree.proofs.TreeTheorems.{like_before}
-use Rattle.admin_scope.specs.point_list.Areas.{line_of, is_access_point, points_from, to_specific, areas}
-use Rattle.scope_laws.specs.laws.Aside.{is_point_over}
+use Rattle.admin_scope.specs.Areas.{line_of, is_access_point, points_from, to_specific, areas}
+use Rattle.scope_laws.specs.Aside.{is_point_over}
 
 -- two points over the entry, of one place and one kind
 pub record IsLike (entry one other : EntryInformation) : Type 0 where

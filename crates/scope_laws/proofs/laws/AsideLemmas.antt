@@ -5,15 +5,15 @@ use Rattle.std.specs.Option.{option_and_then}
 use Rattle.std.proofs.lemmas.Bool.{cond-false, and_parts, and_left, eqb-true, false_from_ne_true}
 use Rattle.dir_tree.proofs.base_laws_proofs.Theorems.{and_middle}
 use Rattle.dir_tree.specs.dn_names.name.Names.{RdnSequence}
-use Rattle.dir_tree.specs.dn_names.order.NameOrder.{is_same, is_prefix_of}
+use Rattle.dir_tree.specs.dn_names.NameOrder.{is_same, is_prefix_of}
 use Rattle.dir_tree.specs.Entry.{EntryInformation}
-use Rattle.dir_tree.specs.subentries.Points.{is_specific_point, is_inner_point, is_access_subentry}
+use Rattle.dir_tree.specs.Points.{is_specific_point, is_inner_point, is_access_subentry}
 use Rattle.dir_tree.specs.Scope.{is_within, is_child}
 use Rattle.dir_tree.proofs.TreeTheorems.{length-same, prefix_same}
-use Rattle.admin_scope.specs.point_list.Areas.{is_access_point}
-use Rattle.admin_scope.specs.subentries.InForce.{subtree_holds, applies, reaches}
+use Rattle.admin_scope.specs.Areas.{is_access_point}
+use Rattle.admin_scope.specs.InForce.{subtree_holds, applies, reaches}
 use Rattle.admin_scope.proofs.Theorems.{prefix_chain, same_fronts}
-use Rattle.scope_laws.specs.laws.Aside.{is_point_over, point_over, IsNeverInForce, IsAside, IsBeside, IsSamePoint, IsUnder}
+use Rattle.scope_laws.specs.Aside.{is_point_over, point_over, IsNeverInForce, IsAside, IsBeside, IsSamePoint, IsUnder}
 
 -- no access control subentry is in force
 never_ordinary : (entry one : EntryInformation) → is_access_subentry one ≡ false → IsNeverInForce entry one

@@ -5,12 +5,12 @@ use Rattle.std.specs.Option.{option_and_then}
 use Rattle.std.proofs.lemmas.Bool.{cases_Bool, cond-true, cond-false, and_parts}
 use Rattle.std.proofs.lemmas.List.Elements.{filter_agree}
 use Rattle.dir_tree.specs.Entry.{EntryInformation}
-use Rattle.dir_tree.specs.subentries.Points.{is_specific_point, is_subentry}
+use Rattle.dir_tree.specs.Points.{is_specific_point, is_subentry}
 use Rattle.dir_tree.specs.Scope.{is_within}
-use Rattle.admin_scope.specs.point_list.Areas.{is_access_point, areas}
-use Rattle.admin_scope.specs.subentries.InForce.{reaches, in_force_at, in_force}
+use Rattle.admin_scope.specs.Areas.{is_access_point, areas}
+use Rattle.admin_scope.specs.InForce.{reaches, in_force_at, in_force}
 use Rattle.admin_scope.proofs.Theorems.{same_fronts}
-use Rattle.scope_laws.specs.laws.Aside.{put_some, is_point_over, point_over, IsNeverInForce, IsAside}
+use Rattle.scope_laws.specs.Aside.{put_some, is_point_over, point_over, IsNeverInForce, IsAside}
 use Rattle.scope_laws.proofs.laws.ListLemmas.{filter-put_some}
 use Rattle.scope_laws.proofs.laws.PlaceLemmas.{reaches-same}
 use Rattle.scope_laws.proofs.laws.AreaLemmas.{IsLike, AreLike, are_like_itself, like-put_in, like-areas, like-flat_map}

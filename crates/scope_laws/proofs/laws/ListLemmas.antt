@@ -4,7 +4,7 @@ use Rattle.std.specs.Prelude.{IfSome}
 use Rattle.std.proofs.lemmas.Bool.{cases_Bool}
 use Rattle.dir_tree.specs.Entry.{EntryInformation}
 use Rattle.dir_tree.specs.tree.Trees.{is_before, put_in}
-use Rattle.scope_laws.specs.laws.Aside.{put_some}
+use Rattle.scope_laws.specs.Aside.{put_some}
 
 -- an entry that fails the test is put in unseen
 filter-put_in : (p : EntryInformation → Bool) (one : EntryInformation) (entries : List EntryInformation) → p one ≡ false

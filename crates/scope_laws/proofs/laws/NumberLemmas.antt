@@ -5,13 +5,13 @@ use Rattle.std.specs.List.{AllByRecursion}
 use Rattle.std.proofs.lemmas.Bool.{cases_Bool}
 use Rattle.dir_tree.proofs.base_laws_proofs.Theorems.{all_append}
 use Rattle.dir_tree.specs.Entry.{EntryInformation}
-use Rattle.dir_tree.specs.subentries.Points.{is_subentry}
+use Rattle.dir_tree.specs.Points.{is_subentry}
 use Rattle.dir_tree.specs.Scope.{is_within}
 use Rattle.dir_tree.specs.tree.Numbered.{Numbered, entries_of, entry_of, entries_at, without, IsNumberedTree}
 use Rattle.dir_tree.proofs.TreeTheorems.{entry_of-other}
-use Rattle.admin_scope.specs.point_list.Areas.{areas}
-use Rattle.admin_scope.specs.subentries.InForce.{reaches, in_force_at, in_force}
-use Rattle.scope_laws.specs.laws.Aside.{IsNeverInForce, IsAside, IsChangeOf, AreInForce}
+use Rattle.admin_scope.specs.Areas.{areas}
+use Rattle.admin_scope.specs.InForce.{reaches, in_force_at, in_force}
+use Rattle.scope_laws.specs.Aside.{IsNeverInForce, IsAside, IsChangeOf, AreInForce}
 use Rattle.scope_laws.proofs.laws.AreaLemmas.{AreLike, are_like_itself, like-areas}
 use Rattle.scope_laws.proofs.laws.RowLemmas.{in_force-aside}
 

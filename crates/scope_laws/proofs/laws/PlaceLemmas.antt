@@ -4,16 +4,16 @@ use Rattle.std.specs.Prelude.{◌==◌}
 use Rattle.std.specs.Option.{option_map_or}
 use Rattle.std.proofs.lemmas.List.{map-append}
 use Rattle.dir_tree.specs.dn_names.name.Names.{RdnSequence}
-use Rattle.dir_tree.specs.dn_names.order.NameOrder.{is_same, is_prefix_of, type_and_key, types_and_keys}
+use Rattle.dir_tree.specs.dn_names.NameOrder.{is_same, is_prefix_of, type_and_key, types_and_keys}
 use Rattle.dir_tree.proofs.dn_names_proofs.Theorems.{is_same-types_and_keys}
 use Rattle.dir_tree.specs.Entry.{EntryInformation}
-use Rattle.dir_tree.specs.subentries.Points.{is_access_subentry}
+use Rattle.dir_tree.specs.Points.{is_access_subentry}
 use Rattle.dir_tree.specs.Scope.{is_child}
 use Rattle.dir_tree.proofs.TreeTheorems.{begins_both, child_same, length-same}
-use Rattle.subtree_spec.specs.spec.Subtrees.{Subtree}
+use Rattle.subtree_spec.specs.Subtrees.{Subtree}
 use Rattle.subtree_spec.specs.membership.Membership.{holds_below, holds_rest}
 use Rattle.admin_scope.specs.Refinements.{holds, meets_filter}
-use Rattle.admin_scope.specs.subentries.InForce.{subtree_of_entry, subtree_holds, reaches}
+use Rattle.admin_scope.specs.InForce.{subtree_of_entry, subtree_holds, reaches}
 
 -- a subtree holds below a name what it holds below what is the same
 holds_below-same : (subtree : Subtree) (x y name : RdnSequence) → is_same x y ≡ true

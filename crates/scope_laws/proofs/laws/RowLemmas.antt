@@ -3,8 +3,8 @@ use Rattle.std.proofs.Common.{◌≡◌, ℕ, ◌==◌, List, [], ◌∷◌, ap,
 use Rattle.dir_tree.specs.Entry.{EntryInformation}
 use Rattle.dir_tree.specs.tree.Numbered.{Numbered, entries_of, entry_of, put_entry, without, IsNumberedTree}
 use Rattle.dir_tree.proofs.TreeTheorems.{put_row-taken, entries_of-put_row, without-put_row, entry_of-put, entry_of-gone, without-absent}
-use Rattle.admin_scope.specs.subentries.InForce.{in_force}
-use Rattle.scope_laws.specs.laws.Aside.{put_some, IsAside, IsChangeOf}
+use Rattle.admin_scope.specs.InForce.{in_force}
+use Rattle.scope_laws.specs.Aside.{put_some, IsAside, IsChangeOf}
 use Rattle.scope_laws.proofs.laws.ForceLemmas.{in_force-put_some}
 
 -- the entries are those of the other numbers, and that of the number put in

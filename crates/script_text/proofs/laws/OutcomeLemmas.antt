@@ -5,8 +5,8 @@ use Rattle.std.proofs.lemmas.Bool.{cases_Bool, cases_order, eqb-true}
 use Rattle.std.proofs.lemmas.List.{append-nil, append_assoc, length-append, take_at, take-append-le, get_or_at, get_or_append_left}
 use Rattle.std.proofs.lemmas.List.Elements.{filter_map-append}
 use Rattle.script_text.specs.declared.event.ScriptEvent.{ScriptEvent}
-use Rattle.script_text.specs.lines.LineText.{is_silent}
-use Rattle.script_text.specs.words.LineReading.{event_of}
+use Rattle.script_text.specs.LineText.{is_silent}
+use Rattle.script_text.specs.LineReading.{event_of}
 use Rattle.script_text.specs.script.Script.{gives_next, is_good_line, events_of, is_good_at, AreGood}
 use Rattle.script_text.specs.script.ScriptReading.{admitted, after_line, after_lines}
 use Rattle.script_text.proofs.script.ScriptLemmas.{after_lines-nil, after_lines-good, after_lines-bad}

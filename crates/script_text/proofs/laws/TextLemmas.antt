@@ -11,8 +11,8 @@ use Rattle.std.proofs.lemmas.List.Sums.{split_at_first, passes_at_first, positio
 use Rattle.std.proofs.lemmas.Slice.Eq.{starts_is}
 use Rattle.script_text.specs.declared.event.ScriptEvent.{ScriptEvent}
 use Rattle.script_text.specs.declared.event.ScriptEvent.TheVariants.{Opened, Bytes, Ended}
-use Rattle.script_text.specs.lines.LineText.{IsNumber, IsHexadecimal, Spells}
-use Rattle.script_text.specs.words.LineReading.{is_space, number_of, octets_of, sent, sent_by, event_of}
+use Rattle.script_text.specs.LineText.{IsNumber, IsHexadecimal, Spells}
+use Rattle.script_text.specs.LineReading.{is_space, number_of, octets_of, sent, sent_by, event_of}
 use Rattle.script_text.proofs.lines.LineLemmas.{number_of-some, IsNumber-read, octets_of-some, IsHexadecimal-read, no_octets_read, sent-some}
 use Rattle.script_text.proofs.words.WordLemmas.{is_ascii_digit-from}
 use Rattle.base_laws.proofs.Theorems.{choose, other_choice}

@@ -10,8 +10,8 @@ use Rattle.hex.specs.declared.error.FromHexError.{FromHexError}
 use Rattle.hex.proofs.HexLemmas.{decode_of-ok}
 use Rattle.script_text.specs.declared.event.ScriptEvent.{ScriptEvent}
 use Rattle.script_text.specs.declared.event.ScriptEvent.TheVariants.{Bytes}
-use Rattle.script_text.specs.lines.LineText.{IsNumber, IsHexadecimal}
-use Rattle.script_text.specs.words.LineReading.{in_range, number_of, read_pairs, octets_of, sent}
+use Rattle.script_text.specs.LineText.{IsNumber, IsHexadecimal}
+use Rattle.script_text.specs.LineReading.{in_range, number_of, read_pairs, octets_of, sent}
 use Rattle.base_laws.proofs.Theorems.{choose, other_choice, suc_not_zero}
 
 -- what a test chose, where the other choice gives nothing

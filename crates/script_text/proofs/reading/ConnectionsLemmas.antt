@@ -9,7 +9,7 @@ use Rattle.std.proofs.lemmas.List.Elements.{filter_map-append}
 use Rattle.std.proofs.lemmas.List.Folds.{list_any-append}
 use Rattle.script_text.specs.declared.event.ScriptEvent.{ScriptEvent}
 use Rattle.script_text.specs.declared.event.ScriptEvent.TheVariants.{Opened, Bytes, Ended}
-use Rattle.script_text.specs.reading.Connections.{state_of, state_after, Tracks, Follows}
+use Rattle.script_text.specs.Connections.{state_of, state_after, Tracks, Follows}
 use Rattle.script_text.specs.script.Script.{has, opens, ends, opened_by, ended_by, may_follow}
 
 -- `false` changes no disjunction

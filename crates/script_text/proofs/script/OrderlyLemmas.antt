@@ -6,8 +6,8 @@ use Rattle.std.proofs.lemmas.Bool.{cases_Bool, not-true}
 use Rattle.std.proofs.lemmas.Map.Keys.{IsDistinct-push}
 use Rattle.script_text.specs.declared.event.ScriptEvent.{ScriptEvent}
 use Rattle.script_text.specs.declared.event.ScriptEvent.TheVariants.{Opened, Bytes, Ended}
-use Rattle.script_text.specs.lines.LineText.{is_silent, Spells}
-use Rattle.script_text.specs.words.LineReading.{event_of}
+use Rattle.script_text.specs.LineText.{is_silent, Spells}
+use Rattle.script_text.specs.LineReading.{event_of}
 use Rattle.script_text.specs.script.Script.{opens, has, opened_by, may_follow, OpensOnce, IsFilled, AreFilled}
 use Rattle.script_text.specs.script.ScriptReading.{◌>>=◌, admitted, after_line, after_lines, script_of}
 use Rattle.script_text.proofs.reading.ConnectionsLemmas.{filter_map-none, filter_map-some}

@@ -5,8 +5,8 @@ use Rattle.std.specs.Str.Lines.{lines}
 pub use Rattle.plain_values.specs.Numbers.{has}
 use Rattle.script_text.specs.declared.event.ScriptEvent.{ScriptEvent}
 use Rattle.script_text.specs.declared.event.ScriptEvent.TheVariants.{Opened, Bytes, Ended}
-use Rattle.script_text.specs.lines.LineText.{is_silent}
-use Rattle.script_text.specs.words.LineReading.{event_of}
+use Rattle.script_text.specs.LineText.{is_silent}
+use Rattle.script_text.specs.LineReading.{event_of}
 
 -- the number that the event opens
 abbrev pub opens : ScriptEvent → Option ℕ

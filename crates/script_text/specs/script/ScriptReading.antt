@@ -5,8 +5,8 @@ pub use Rattle.plain_values.specs.Results.{◌>>=◌}
 use Rattle.script_text.specs.declared.event.ScriptEvent.{ScriptEvent}
 use Rattle.script_text.specs.declared.event.ScriptFault.{ScriptFault}
 use Rattle.script_text.specs.declared.event.ScriptFault.TheVariants.{Bad, NoMemory}
-use Rattle.script_text.specs.lines.LineText.{is_silent}
-use Rattle.script_text.specs.words.LineReading.{event_of}
+use Rattle.script_text.specs.LineText.{is_silent}
+use Rattle.script_text.specs.LineReading.{event_of}
 use Rattle.script_text.specs.script.Script.{may_follow}
 
 -- the events with that of a line, or the line's number

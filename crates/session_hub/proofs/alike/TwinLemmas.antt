@@ -5,7 +5,7 @@ use Rattle.std.specs.Option.{option_map_or}
 use Rattle.std.proofs.lemmas.Bool.{cases_Bool, not-true}
 use Rattle.dir_tree.proofs.base_laws_proofs.Theorems.{all_map}
 use Rattle.dir_tree.specs.dn_names.name.Names.{RdnSequence}
-use Rattle.dir_tree.specs.dn_names.order.NameOrder.{is_prefix_of}
+use Rattle.dir_tree.specs.dn_names.NameOrder.{is_prefix_of}
 use Rattle.dir_tree.specs.dn_names.parsing.NameText.{read_name}
 use Rattle.dir_tree.specs.dn_names.declared.error.BadName.{BadName}
 use Rattle.run_laws.specs.ldap_msg.declared.kinds.BindRequest.{BindRequest}
@@ -22,21 +22,21 @@ use Rattle.op_read.specs.read_model.SearchReplies.{replies_octets}
 use Rattle.op_bind.specs.declared.binds.Bound.{Bound}
 use Rattle.op_bind.specs.Binds.{bind_answer}
 use Rattle.op_bind.proofs.Theorems.{bind_answer-without}
-use Rattle.op_read.specs.twin_laws.laws.Twins.{AreTwins}
+use Rattle.op_read.specs.twin_laws.Twins.{AreTwins}
 use Rattle.op_read.proofs.twin_laws_proofs.Theorems.{search_replies-twins, compare_result-twins}
-use Rattle.run_laws.specs.session_model.laws.Run.{Step, start, run}
-use Rattle.run_laws.specs.session_model.laws.Kept.{Held, heard}
-use Rattle.run_laws.specs.session_model.laws.Replaying.{replayed}
-use Rattle.run_laws.specs.laws.AnsweredMessages.{AnsweredMessage, AreAlike, AreOver, IsAnsweredAlike, held_over, answered_of_held, answered_of_run, answered_of_replay}
-use Rattle.run_laws.specs.laws.Purging.{purged, openings, finds_room, answered_of_connection}
+use Rattle.run_laws.specs.session_model.Run.{Step, start, run}
+use Rattle.run_laws.specs.session_model.Kept.{Held, heard}
+use Rattle.run_laws.specs.session_model.Replaying.{replayed}
+use Rattle.run_laws.specs.AnsweredMessages.{AnsweredMessage, AreAlike, AreOver, IsAnsweredAlike, held_over, answered_of_held, answered_of_run, answered_of_replay}
+use Rattle.run_laws.specs.Purging.{purged, openings, finds_room, answered_of_connection}
 use Rattle.run_laws.proofs.Theorems.{heard-alike, run-alike, replayed-alike, run-purged}
-use Rattle.session_hub.specs.requester.Parties.{DirectoryEntries, Requester}
+use Rattle.session_hub.specs.Parties.{DirectoryEntries, Requester}
 use Rattle.session_hub.specs.Controls.{is_refused, subentries_asked}
-use Rattle.session_hub.specs.messages.Answering.{rules, searched, answer_read}
+use Rattle.session_hub.specs.Answering.{rules, searched, answer_read}
 use Rattle.session_hub.specs.declared.event.Event.{Event}
 use Rattle.session_hub.specs.Event.{step_by}
 use Rattle.session_hub.specs.hub.Hubs.{Hears}
-use Rattle.session_hub.specs.alike.Twins.{is_read_within, reads_outside, IsOverTwins, HearsAlike}
+use Rattle.session_hub.specs.Twins.{is_read_within, reads_outside, IsOverTwins, HearsAlike}
 use Rattle.session_hub.proofs.hub.FollowingLemmas.{follows_step}
 
 -- a name that isn't at or below another, if there is one

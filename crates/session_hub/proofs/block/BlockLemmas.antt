@@ -8,20 +8,20 @@ use Rattle.run_laws.specs.wire_io.declared.journal.Item.TheVariants as item
 use Rattle.run_laws.specs.wire_io.Journal.{opens}
 use Rattle.run_laws.specs.wire_io.link.Plan.{Plan}
 use Rattle.run_laws.specs.wire_io.link.Telling.{NoteTells}
-use Rattle.run_laws.specs.session_model.laws.Journaled.{step_of_event}
-use Rattle.run_laws.specs.session_model.laws.Run.{Opened, Bytes, Ended, most_held}
-use Rattle.run_laws.specs.session_model.laws.Kept.{Kept, Held, kept_of, heard, forgotten}
-use Rattle.run_laws.specs.session_model.laws.Serving.{Leads}
-use Rattle.run_laws.specs.session_model.laws.Working.{Covers, CutsOpen}
+use Rattle.run_laws.specs.session_model.Journaled.{step_of_event}
+use Rattle.run_laws.specs.session_model.Run.{Opened, Bytes, Ended, most_held}
+use Rattle.run_laws.specs.session_model.Kept.{Kept, Held, kept_of, heard, forgotten}
+use Rattle.run_laws.specs.session_model.Serving.{Leads}
+use Rattle.run_laws.specs.session_model.Working.{Covers, CutsOpen}
 use Rattle.run_laws.proofs.session_model_proofs.Theorems.{opened_leads, works_opened, works_turned, works_bytes, works_ended, works_idle, works_as, works_leads}
-use Rattle.session_hub.specs.requester.Parties.{DirectoryEntries, Requester}
-use Rattle.session_hub.specs.messages.Answering.{rules}
+use Rattle.session_hub.specs.Parties.{DirectoryEntries, Requester}
+use Rattle.session_hub.specs.Answering.{rules}
 use Rattle.session_hub.specs.hub.Hubs.{HubState, held, Hears, OpensOne}
 use Rattle.session_hub.specs.declared.event.Event.{Event}
 use Rattle.session_hub.specs.declared.event.Event.TheVariants as came
 use Rattle.session_hub.specs.Event.{new_cut}
-use Rattle.session_hub.specs.block.Telling.{journal_event_of, IsOf}
-use Rattle.session_hub.specs.serving.Adding.{Adds, IsServing, IsHeard, IsTurnedAway, After}
+use Rattle.session_hub.specs.Telling.{journal_event_of, IsOf}
+use Rattle.session_hub.specs.Adding.{Adds, IsServing, IsHeard, IsTurnedAway, After}
 use Rattle.session_hub.proofs.serving.AddingLemmas.{adds_nothing, adds_one}
 use Rattle.session_hub.proofs.serving.ServingLemmas.{block_hung_up}
 

@@ -3,11 +3,11 @@ use Rattle.std.proofs.Common.{◌≡◌, ◌≤◌, ◌<◌, ℕ, ◌==◌, true
 use Rattle.std.proofs.lemmas.Bool.Decides.{nat_tests}
 use Rattle.std.proofs.lemmas.Option.{slice_get-get_or, get_or_from_slice_get}
 use Rattle.run_laws.proofs.session_model_proofs.Theorems.{kept_of-number}
-use Rattle.run_laws.specs.session_model.laws.Run.{most_held}
-use Rattle.run_laws.specs.session_model.laws.Kept.{Kept, kept_of, is_kept, changed, closed, without_front, taken_off, forgotten, heard, opened_kept}
-use Rattle.session_hub.specs.requester.Parties.{Requester}
+use Rattle.run_laws.specs.session_model.Run.{most_held}
+use Rattle.run_laws.specs.session_model.Kept.{Kept, kept_of, is_kept, changed, closed, without_front, taken_off, forgotten, heard, opened_kept}
+use Rattle.session_hub.specs.Parties.{Requester}
 use Rattle.session_hub.specs.declared.event.Event.TheVariants as came
-use Rattle.session_hub.specs.messages.Answering.{rules}
+use Rattle.session_hub.specs.Answering.{rules}
 use Rattle.session_hub.proofs.places.PlaceLemmas.{absent_at}
 use Rattle.session_hub.specs.hub.Hubs.{HubState, IsAt, IsBounded, AreDistinct, AreHeld, HearsAnywhere}
 

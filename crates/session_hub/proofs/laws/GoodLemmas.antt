@@ -13,11 +13,11 @@ use Rattle.op_read.specs.aci_item.Rules.{IsGoodTree}
 use Rattle.modify_laws.specs.op_add_delete.adding.Updates.{added, deleted}
 use Rattle.modify_laws.specs.op_modify.Modifying.{modified}
 use Rattle.modify_laws.specs.op_modify.Renames.{renamed}
-use Rattle.run_laws.specs.session_model.laws.Run.{Step, run}
+use Rattle.run_laws.specs.session_model.Run.{Step, run}
 use Rattle.run_laws.proofs.session_model_proofs.Theorems.{AnswersKeep, run_claim}
-use Rattle.session_hub.specs.requester.Parties.{DirectoryEntries, Requester}
+use Rattle.session_hub.specs.Parties.{DirectoryEntries, Requester}
 use Rattle.session_hub.specs.Controls.{is_refused}
-use Rattle.session_hub.specs.messages.Answering.{rules, Operated, asking, operated, refused, answered, answer_read}
+use Rattle.session_hub.specs.Answering.{rules, Operated, asking, operated, refused, answered, answer_read}
 
 -- of two operations one is done
 one_good : (first : Bool) (a b : Operated) → IsGoodTree a.entries → IsGoodTree b.entries → IsGoodTree (if first then a else b).entries

@@ -1,15 +1,15 @@
 -- Which requests read outside a subtree, computed.
 use Rattle.std.proofs.Common.{◌≡◌, true, false, [], ◌∷◌, codes, Ok, refl}
 use Rattle.dir_tree.specs.dn_names.name.Names.{RdnSequence}
-use Rattle.dir_tree.specs.dn_names.order.NameOrder.{is_prefix_of, is_same, name_cmp}
+use Rattle.dir_tree.specs.dn_names.NameOrder.{is_prefix_of, is_same, name_cmp}
 use Rattle.dir_tree.specs.dn_names.parsing.NameText.{read_name}
 use Rattle.dir_tree.specs.dn_names.Modes.{text_fault}
-use Rattle.dir_tree.specs.dn_names.resolve.Resolving.{resolve}
-use Rattle.dir_tree.specs.dn_names.octets.Reading.{written_of}
+use Rattle.dir_tree.specs.dn_names.Resolving.{resolve}
+use Rattle.dir_tree.specs.dn_names.Reading.{written_of}
 use Rattle.run_laws.specs.ldap_msg.declared.kinds.Auth.TheVariants.{Simple}
 use Rattle.run_laws.specs.ldap_msg.declared.kinds.BindRequest.{BindRequest}
 use Rattle.run_laws.specs.ldap_msg.declared.kinds.Request.TheVariants as request
-use Rattle.session_hub.specs.alike.Twins.{is_read_within, reads_outside}
+use Rattle.session_hub.specs.Twins.{is_read_within, reads_outside}
 
 -- a name of one RDN, and one of the same key below it
 abbrev top : RdnSequence

@@ -3,9 +3,9 @@ use Rattle.std.proofs.Common.{◌≡◌, ℕ, Bool, List, Option, None, Result, 
 use Rattle.std.proofs.lemmas.Result.{IfOk-weaker}
 use Rattle.run_laws.specs.ldap_msg.declared.kinds.Message.{Message}
 use Rattle.run_laws.specs.ldap_msg.reading.Messages.{message_of}
-use Rattle.session_hub.specs.requester.Parties.{DirectoryEntries, Requester}
-use Rattle.session_hub.specs.stream.Answers.{Gives}
-use Rattle.session_hub.specs.messages.Answering.{answer_read, rules}
+use Rattle.session_hub.specs.Parties.{DirectoryEntries, Requester}
+use Rattle.session_hub.specs.Answers.{Gives}
+use Rattle.session_hub.specs.Answering.{answer_read, rules}
 
 -- a message, or octets that are none, answered by the rules
 pub answered_as : {E : Type 0} (r : Result Bool E) (o : Option Message) (entries left : DirectoryEntries) (who after : Requester) (bytes old new : List ℕ) → message_of bytes ≡ o →

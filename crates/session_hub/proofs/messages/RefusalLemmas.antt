@@ -10,8 +10,8 @@ use Rattle.run_laws.specs.ldap_msg.declared.kinds.LdapResult.{LdapResult}
 use Rattle.modify_laws.specs.op_add_delete.adding.Updates.{Changed, IsChanged, unless, added, deleted}
 use Rattle.modify_laws.specs.op_modify.Modifying.{modified}
 use Rattle.modify_laws.specs.op_modify.Renames.{renamed}
-use Rattle.session_hub.specs.requester.Parties.{DirectoryEntries, Requester}
-use Rattle.session_hub.specs.messages.Answering.{change_of}
+use Rattle.session_hub.specs.Parties.{DirectoryEntries, Requester}
+use Rattle.session_hub.specs.Answering.{change_of}
 
 -- where it is refused, the entries stay
 abbrev IsKept : DirectoryEntries → Changed → Type 0

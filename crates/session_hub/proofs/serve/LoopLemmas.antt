@@ -9,22 +9,22 @@ use Rattle.run_laws.specs.wire_io.declared.journal.Item.{Item}
 use Rattle.run_laws.specs.wire_io.declared.journal.Item.TheVariants as item
 use Rattle.run_laws.specs.wire_io.Journal.{heard, was_stopped, stops, was_opened}
 use Rattle.run_laws.specs.wire_io.link.Telling.{event_of, NextTells, MayCome}
-use Rattle.run_laws.specs.wire_io.script.Playing.{NextPlays}
+use Rattle.run_laws.specs.wire_io.Playing.{NextPlays}
 use Rattle.run_laws.specs.wire_io.link.Plan.{Plan}
 use Rattle.run_laws.proofs.wire_io_proofs.Theorems.{heard-append}
-use Rattle.run_laws.specs.session_model.laws.Run.{run}
-use Rattle.run_laws.specs.session_model.laws.Kept.{Held}
-use Rattle.run_laws.specs.session_model.laws.Journaled.{steps_of, all_taken}
-use Rattle.run_laws.specs.session_model.laws.Serving.{Leads, Served}
-use Rattle.run_laws.specs.session_model.laws.Replaying.{IsReplay}
+use Rattle.run_laws.specs.session_model.Run.{run}
+use Rattle.run_laws.specs.session_model.Kept.{Held}
+use Rattle.run_laws.specs.session_model.Journaled.{steps_of, all_taken}
+use Rattle.run_laws.specs.session_model.Serving.{Leads, Served}
+use Rattle.run_laws.specs.session_model.Replaying.{IsReplay}
 use Rattle.run_laws.proofs.session_model_proofs.Theorems.{was_opened-append, works_start, works_served, works_replayed, works_leads, own_steps}
-use Rattle.session_hub.specs.requester.Parties.{DirectoryEntries, Requester}
+use Rattle.session_hub.specs.Parties.{DirectoryEntries, Requester}
 use Rattle.session_hub.specs.declared.ended.Ended.{Ended}
 use Rattle.session_hub.specs.declared.ended.Ended.TheVariants as ended
-use Rattle.session_hub.specs.messages.Answering.{rules}
+use Rattle.session_hub.specs.Answering.{rules}
 use Rattle.session_hub.specs.hub.Hubs.{held, no_hub}
 use Rattle.session_hub.specs.serve.Loops.{Serves, ServesAll, IsServed, EndsAt, ends_with}
-use Rattle.session_hub.specs.serving.Adding.{Adds, IsServing, IsHeard, stops_with}
+use Rattle.session_hub.specs.Adding.{Adds, IsServing, IsHeard, stops_with}
 use Rattle.session_hub.specs.serve.Turns.{Ran, Running, failing_of}
 use Rattle.session_hub.proofs.serving.AddingLemmas.{was_stopped-both}
 

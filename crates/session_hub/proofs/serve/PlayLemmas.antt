@@ -10,20 +10,20 @@ use Rattle.run_laws.specs.wire_io.declared.journal.Event.TheVariants as event
 use Rattle.run_laws.specs.wire_io.declared.journal.Item.{Item}
 use Rattle.run_laws.specs.wire_io.declared.journal.Item.TheVariants as item
 use Rattle.run_laws.specs.wire_io.Journal.{heard, is_held, hold_after, hold_after_all}
-use Rattle.run_laws.specs.wire_io.laws.Pieces.{Plays, steps_of, step_of}
+use Rattle.run_laws.specs.wire_io.Pieces.{Plays, steps_of, step_of}
 use Rattle.run_laws.specs.wire_io.link.Plan.{Plan}
-use Rattle.run_laws.specs.wire_io.script.Playing.{NextPlays, holds_of, next_turn, front_turn}
+use Rattle.run_laws.specs.wire_io.Playing.{NextPlays, holds_of, next_turn, front_turn}
 use Rattle.run_laws.specs.wire_io.link.Telling.{event_of, NextTells}
 use Rattle.run_laws.proofs.wire_io_proofs.Theorems.{heard-append, steps_of-append, Plays-none, Plays-trans, Plays-heard, NextPlays-ok, NextPlays-told, NextPlays-says, SaysOf}
-use Rattle.run_laws.specs.session_model.laws.Kept.{Held}
-use Rattle.run_laws.specs.session_model.laws.Journaled.{all_taken}
+use Rattle.run_laws.specs.session_model.Kept.{Held}
+use Rattle.run_laws.specs.session_model.Journaled.{all_taken}
 use Rattle.run_laws.proofs.session_model_proofs.Theorems.{all_taken-one, works_free, all_taken-both}
-use Rattle.session_hub.specs.requester.Parties.{DirectoryEntries, Requester}
+use Rattle.session_hub.specs.Parties.{DirectoryEntries, Requester}
 use Rattle.session_hub.specs.declared.ended.Ended.{Ended}
 use Rattle.session_hub.specs.declared.ended.Ended.TheVariants as ended
-use Rattle.session_hub.specs.messages.Answering.{rules}
+use Rattle.session_hub.specs.Answering.{rules}
 use Rattle.session_hub.specs.serve.Loops.{PlaysOut, PlayedOut, buffer_length}
-use Rattle.session_hub.specs.serving.Adding.{Adds, IsBlock}
+use Rattle.session_hub.specs.Adding.{Adds, IsBlock}
 use Rattle.session_hub.specs.serve.Turns.{Running, Playing, PlayedSoFar}
 use Rattle.session_hub.proofs.serve.LoopLemmas.{is_stop, one_event, comes}
 

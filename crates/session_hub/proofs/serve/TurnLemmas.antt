@@ -4,17 +4,17 @@ use Rattle.run_laws.specs.wire_io.declared.answers.Heard.{Heard as Answer}
 use Rattle.run_laws.specs.wire_io.declared.answers.NextFault.{NextFault}
 use Rattle.run_laws.specs.wire_io.declared.journal.Item.{Item}
 use Rattle.run_laws.specs.wire_io.link.Plan.{Plan}
-use Rattle.run_laws.specs.wire_io.script.Playing.{NextPlays}
+use Rattle.run_laws.specs.wire_io.Playing.{NextPlays}
 use Rattle.run_laws.specs.wire_io.link.Telling.{event_of, NextTells}
-use Rattle.run_laws.specs.session_model.laws.Kept.{Held}
-use Rattle.run_laws.specs.session_model.laws.Serving.{Leads}
-use Rattle.session_hub.specs.requester.Parties.{DirectoryEntries, Requester}
+use Rattle.run_laws.specs.session_model.Kept.{Held}
+use Rattle.run_laws.specs.session_model.Serving.{Leads}
+use Rattle.session_hub.specs.Parties.{DirectoryEntries, Requester}
 use Rattle.session_hub.specs.declared.ended.Ended.{Ended}
 use Rattle.session_hub.specs.declared.ended.Ended.TheVariants as ended
-use Rattle.session_hub.specs.messages.Answering.{rules}
+use Rattle.session_hub.specs.Answering.{rules}
 use Rattle.session_hub.specs.hub.Hubs.{HubState, held, no_hub}
 use Rattle.session_hub.specs.serve.Loops.{buffer_length, Serves, PlaysOut, ends_with}
-use Rattle.session_hub.specs.serving.Adding.{Adds, IsServing, IsHeard, stops_with}
+use Rattle.session_hub.specs.Adding.{Adds, IsServing, IsHeard, stops_with}
 use Rattle.session_hub.specs.serve.Turns.{IsUnderWay, GoesOn, EndsWith, failing_of}
 use Rattle.session_hub.proofs.serve.LoopLemmas.{is_stop, running_start, running_on, running_spent, running_failed, running_starved, running_cut, running_stopped, next_fails, goes_on_with, stops_is, failing_kept}
 use Rattle.session_hub.proofs.serve.PlayLemmas.{playing_start, playing_on, playing_kept, plays_ended, plays_spent, plays_stopped, plays_kept}

@@ -6,9 +6,9 @@ use Rattle.run_laws.specs.wire_io.Journal.{heard, was_stopped}
 use Rattle.run_laws.specs.wire_io.link.Telling.{noted}
 use Rattle.run_laws.specs.wire_io.link.Plan.{Plan}
 use Rattle.run_laws.proofs.wire_io_proofs.Theorems.{heard-append}
-use Rattle.run_laws.specs.session_model.laws.Journaled.{all_taken}
+use Rattle.run_laws.specs.session_model.Journaled.{all_taken}
 use Rattle.run_laws.proofs.session_model_proofs.Theorems.{all_taken-both}
-use Rattle.session_hub.specs.serving.Adding.{Adds, IsBlock, OnlyServes}
+use Rattle.session_hub.specs.Adding.{Adds, IsBlock, OnlyServes}
 
 -- what is said of two lists of items in turn
 pub was_stopped-both : (j k : List Item) → was_stopped (j ++ k) ≡ (was_stopped j || was_stopped k)

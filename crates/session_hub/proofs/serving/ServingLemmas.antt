@@ -9,18 +9,18 @@ use Rattle.run_laws.specs.wire_io.link.Plan.{Plan}
 use Rattle.run_laws.specs.wire_io.Answers.{WriteCause}
 use Rattle.run_laws.specs.wire_io.link.Telling.{TookTells, NoteTells}
 use Rattle.run_laws.proofs.wire_io_proofs.Theorems.{WriteCause-never_later, WriteCause-never_gone}
-use Rattle.run_laws.specs.session_model.laws.Kept.{Kept, Held, queue_of, closing_of, taken_off, forgotten}
-use Rattle.run_laws.specs.session_model.laws.Keeping.{is_listed}
-use Rattle.run_laws.specs.session_model.laws.Journaled.{all_taken}
-use Rattle.run_laws.specs.session_model.laws.Serving.{Leads}
-use Rattle.run_laws.specs.session_model.laws.Working.{Refused, Lost, Puts, Covers}
+use Rattle.run_laws.specs.session_model.Kept.{Kept, Held, queue_of, closing_of, taken_off, forgotten}
+use Rattle.run_laws.specs.session_model.Keeping.{is_listed}
+use Rattle.run_laws.specs.session_model.Journaled.{all_taken}
+use Rattle.run_laws.specs.session_model.Serving.{Leads}
+use Rattle.run_laws.specs.session_model.Working.{Refused, Lost, Puts, Covers}
 use Rattle.run_laws.proofs.session_model_proofs.Theorems.{works_taken, works_refused, refused_stands, refused_held, works_released, works_sent, works_hung_up, works_leads, works_as, lost_leads, lost_hung_up}
-use Rattle.session_hub.specs.requester.Parties.{DirectoryEntries, Requester}
-use Rattle.session_hub.specs.messages.Answering.{rules}
+use Rattle.session_hub.specs.Parties.{DirectoryEntries, Requester}
+use Rattle.session_hub.specs.Answering.{rules}
 use Rattle.session_hub.specs.hub.Hubs.{HubState, held}
 use Rattle.session_hub.specs.declared.sent.Sent.{Sent}
 use Rattle.session_hub.specs.declared.sent.Sent.TheVariants as sent
-use Rattle.session_hub.specs.serving.Adding.{Adds, IsBlock, IsServing, IsSent, IsFree, SentIs, After}
+use Rattle.session_hub.specs.Adding.{Adds, IsBlock, IsServing, IsSent, IsFree, SentIs, After}
 use Rattle.session_hub.proofs.serving.AddingLemmas.{adds_nothing, adds_one, adds_as, adds_after}
 
 -- items that refuse nothing, and those that do, which a plan lists

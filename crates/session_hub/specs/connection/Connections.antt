@@ -1,11 +1,11 @@
 -- What a connection leaves of itself and of the directory when it hears a piece.
 use Rattle.std.specs.Prelude.{◌≡◌, ◌⊎◌, ℕ, List, [], ◌++◌}
-use Rattle.run_laws.specs.session_model.laws.Kept.{Kept, heard_piece}
-use Rattle.session_hub.specs.requester.Parties.{DirectoryEntries, Requester}
+use Rattle.run_laws.specs.session_model.Kept.{Kept, heard_piece}
+use Rattle.session_hub.specs.Parties.{DirectoryEntries, Requester}
 use Rattle.session_hub.specs.declared.spoken.SpeechEnd.{SpeechEnd}
 use Rattle.session_hub.specs.declared.spoken.SpeechEnd.TheVariants.{StaysOpen, Closes, IsCut}
-use Rattle.session_hub.specs.messages.Answering.{rules}
-use Rattle.session_hub.specs.stream.Answers.{said_to}
+use Rattle.session_hub.specs.Answering.{rules}
+use Rattle.session_hub.specs.Answers.{said_to}
 
 -- what is said to an open connection's unread octets and a piece, up to where it was then cut, is queued and done
 pub record HearsPiece (piece : List ℕ) (before : DirectoryEntries) (old : Kept Requester) (after : DirectoryEntries) (new : Kept Requester) : Type 0 where

@@ -1,12 +1,12 @@
 -- A hub follows a run of sessions: it begins with those before any step and, whatever sessions it holds, each call leaves it
 -- those of the next step.
 use Rattle.std.specs.Prelude.{◌≡◌, ℕ, Bool, List, length}
-use Rattle.run_laws.specs.session_model.laws.Run.{Sessions, Step, start, step, held_numbers}
-use Rattle.run_laws.specs.session_model.laws.Kept.{Held}
-use Rattle.run_laws.specs.session_model.laws.Keeping.{Keeps, IsNew, more_taken}
-use Rattle.run_laws.specs.session_model.laws.Replaying.{is_closing}
-use Rattle.session_hub.specs.requester.Parties.{DirectoryEntries, Requester}
-use Rattle.session_hub.specs.messages.Answering.{rules}
+use Rattle.run_laws.specs.session_model.Run.{Sessions, Step, start, step, held_numbers}
+use Rattle.run_laws.specs.session_model.Kept.{Held}
+use Rattle.run_laws.specs.session_model.Keeping.{Keeps, IsNew, more_taken}
+use Rattle.run_laws.specs.session_model.Replaying.{is_closing}
+use Rattle.session_hub.specs.Parties.{DirectoryEntries, Requester}
+use Rattle.session_hub.specs.Answering.{rules}
 use Rattle.session_hub.specs.hub.Hubs.{HubState, held, left_of}
 
 -- what is held is that of these sessions, of which so much of each reply was taken

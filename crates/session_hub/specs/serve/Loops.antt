@@ -4,16 +4,16 @@ use Rattle.dir_tree.specs.plain_values.Counts.{Rose, NeverFalls}
 use Rattle.run_laws.specs.wire_io.declared.journal.Item.{Item}
 use Rattle.run_laws.specs.wire_io.Journal.{heard, was_stopped, is_held}
 use Rattle.run_laws.specs.wire_io.link.Plan.{Plan}
-use Rattle.run_laws.specs.wire_io.laws.Pieces as pieces
-use Rattle.run_laws.specs.wire_io.laws.Pieces.{Plays}
-use Rattle.run_laws.specs.session_model.laws.Run.{run}
-use Rattle.run_laws.specs.session_model.laws.Journaled.{steps_of, all_taken}
-use Rattle.run_laws.specs.session_model.laws.Serving.{Served, Leads}
-use Rattle.run_laws.specs.session_model.laws.Replaying.{IsReplay}
-use Rattle.session_hub.specs.requester.Parties.{DirectoryEntries}
+use Rattle.run_laws.specs.wire_io.Pieces as pieces
+use Rattle.run_laws.specs.wire_io.Pieces.{Plays}
+use Rattle.run_laws.specs.session_model.Run.{run}
+use Rattle.run_laws.specs.session_model.Journaled.{steps_of, all_taken}
+use Rattle.run_laws.specs.session_model.Serving.{Served, Leads}
+use Rattle.run_laws.specs.session_model.Replaying.{IsReplay}
+use Rattle.session_hub.specs.Parties.{DirectoryEntries}
 use Rattle.session_hub.specs.declared.ended.Ended.{Ended}
 use Rattle.session_hub.specs.declared.ended.Ended.TheVariants.{Stopped, TurnsSpent, LinkFault, NoMemory}
-use Rattle.session_hub.specs.messages.Answering.{rules}
+use Rattle.session_hub.specs.Answering.{rules}
 
 -- the length of the loop's buffer
 abbrev pub buffer_length : ℕ

@@ -2,14 +2,14 @@
 use Rattle.std.specs.Prelude.{◌≡◌, ◌<◌, ◌+◌, ℕ, true, false, List, [], ◌++◌, length, Option, Some, None}
 use Rattle.run_laws.specs.wire_io.declared.journal.Item.{Item}
 use Rattle.run_laws.specs.wire_io.Journal.{heard, was_stopped, is_held}
-use Rattle.run_laws.specs.wire_io.laws.Pieces.{Plays, steps_of}
+use Rattle.run_laws.specs.wire_io.Pieces.{Plays, steps_of}
 use Rattle.run_laws.specs.wire_io.link.Plan.{Plan}
-use Rattle.run_laws.specs.session_model.laws.Kept.{Held}
-use Rattle.run_laws.specs.session_model.laws.Journaled.{all_taken}
-use Rattle.session_hub.specs.requester.Parties.{DirectoryEntries, Requester}
+use Rattle.run_laws.specs.session_model.Kept.{Held}
+use Rattle.run_laws.specs.session_model.Journaled.{all_taken}
+use Rattle.session_hub.specs.Parties.{DirectoryEntries, Requester}
 use Rattle.session_hub.specs.declared.ended.Ended.{Ended}
 use Rattle.session_hub.specs.serve.Loops.{buffer_length, Serves, PlaysOut}
-use Rattle.session_hub.specs.serving.Adding.{IsServing}
+use Rattle.session_hub.specs.Adding.{IsServing}
 
 -- so many events were heard, none of them Stop, and nobody is due
 pub record Ran (entries : DirectoryEntries) (count : ℕ) (held : Held DirectoryEntries Requester) (on_hold : List ℕ) (added : List Item) : Type 0 where

@@ -3,12 +3,12 @@ use Rattle.std.proofs.Common.{◌≡◌, ◌≤◌, ℕ, Bool, true, false, cond
 use Rattle.std.proofs.lemmas.List.{drop-append-le}
 use Rattle.std.proofs.Math.Seq.{drop-append_seam}
 use Rattle.std.proofs.lemmas.Bool.Decides.{nat_tests}
-use Rattle.ldap_msg.specs.framing.Streams.{whole, rest_of, is_broken}
+use Rattle.ldap_msg.specs.Streams.{whole, rest_of, is_broken}
 use Rattle.ldap_msg.proofs.Theorems.{whole_append, rest_append, broken_rest}
-use Rattle.session_model.specs.laws.Rules.{Rules, Answered, said}
-use Rattle.session_model.specs.laws.Run.{Session, Sessions, State, Open, Closing, TurnedAway, Away, Unopened, Bytes, Ended, is_held, held_numbers, with_session, step, hears, ended, new_messages}
-use Rattle.session_model.specs.laws.Kept.{Kept, Held, changed, closed, heard, hears_kept, speech, is_cut}
-use Rattle.session_model.specs.laws.Keeping.{Keeps, shown}
+use Rattle.session_model.specs.Rules.{Rules, Answered, said}
+use Rattle.session_model.specs.Run.{Session, Sessions, State, Open, Closing, TurnedAway, Away, Unopened, Bytes, Ended, is_held, held_numbers, with_session, step, hears, ended, new_messages}
+use Rattle.session_model.specs.Kept.{Kept, Held, changed, closed, heard, hears_kept, speech, is_cut}
+use Rattle.session_model.specs.Keeping.{Keeps, shown}
 use Rattle.session_model.proofs.laws.HeldLemmas.{held_among-same}
 use Rattle.session_model.proofs.laws.KeptLemmas.{kept_of-changed, number-changed}
 

@@ -1,8 +1,8 @@
 -- What each answer keeps true of a tree stays true of it, whatever is said and whatever steps come.
 use Rattle.std.proofs.Common.{◌≡◌, ℕ, Bool, true, false, cond, List, [], ◌∷◌, ◌++◌, Option, Some, None, refl}
-use Rattle.ldap_msg.specs.framing.Streams.{is_broken}
-use Rattle.session_model.specs.laws.Rules.{Rules, Answered, talk, after_octets, said, up_to}
-use Rattle.session_model.specs.laws.Run.{Sessions, State, Open, Closing, TurnedAway, Away, Unopened, Step, Opened, Bytes, Ended, Gone, HungUp, step, hears, run, run_from, start, new_messages}
+use Rattle.ldap_msg.specs.Streams.{is_broken}
+use Rattle.session_model.specs.Rules.{Rules, Answered, talk, after_octets, said, up_to}
+use Rattle.session_model.specs.Run.{Sessions, State, Open, Closing, TurnedAway, Away, Unopened, Step, Opened, Bytes, Ended, Gone, HungUp, step, hears, run, run_from, start, new_messages}
 
 -- a claim that holds of a tree holds of the tree that each answer leaves of it
 abbrev pub AnswersKeep : {T W : Type 0} → Rules T W → (T → Type 0) → Type 0

@@ -7,16 +7,16 @@ use Rattle.wire_io.specs.declared.journal.Item.{Item}
 use Rattle.wire_io.specs.declared.journal.Item.TheVariants as item
 use Rattle.wire_io.specs.Journal.{taken_of, is_hung_up, opens}
 use Rattle.wire_io.proofs.Theorems.{was_opened-quiet}
-use Rattle.session_model.specs.laws.Rules.{Rules}
-use Rattle.session_model.specs.laws.Run.{Session, Sessions, State, Open, Closing, TurnedAway, Away, Unopened, Step, Opened, Bytes, Ended, step, run, start}
-use Rattle.session_model.specs.laws.Run as session
-use Rattle.session_model.specs.laws.Kept.{Kept, Held, kept_of, hears_kept, is_cut}
-use Rattle.session_model.specs.laws.Kept as kept
-use Rattle.session_model.specs.laws.Keeping.{Keeps, is_listed, shown}
-use Rattle.session_model.specs.laws.Journaled.{step_of_event, is_event, uncut, cuts_of, cuts_at, HasNoCut}
-use Rattle.session_model.specs.laws.Serving.{IsFront, Rightly, Stands}
-use Rattle.session_model.specs.laws.Replaying.{is_away, is_leaving, number_of, hung_up}
-use Rattle.session_model.specs.laws.Working.{Works, Covers, CutsOpen, is_open_in, is_turned, cuts_in}
+use Rattle.session_model.specs.Rules.{Rules}
+use Rattle.session_model.specs.Run.{Session, Sessions, State, Open, Closing, TurnedAway, Away, Unopened, Step, Opened, Bytes, Ended, step, run, start}
+use Rattle.session_model.specs.Run as session
+use Rattle.session_model.specs.Kept.{Kept, Held, kept_of, hears_kept, is_cut}
+use Rattle.session_model.specs.Kept as kept
+use Rattle.session_model.specs.Keeping.{Keeps, is_listed, shown}
+use Rattle.session_model.specs.Journaled.{step_of_event, is_event, uncut, cuts_of, cuts_at, HasNoCut}
+use Rattle.session_model.specs.Serving.{IsFront, Rightly, Stands}
+use Rattle.session_model.specs.Replaying.{is_away, is_leaving, number_of, hung_up}
+use Rattle.session_model.specs.Working.{Works, Covers, CutsOpen, is_open_in, is_turned, cuts_in}
 use Rattle.session_model.proofs.laws.JournalLemmas.{Still, still-heard, all_taken-front}
 use Rattle.session_model.proofs.laws.StepLemmas.{Speaks, OpenFor, step-other, bytes-speaks, end-speaks, bytes-opened, end-opened, replayed-more, run_from-one, cuts_of-one, cuts_at-other}
 use Rattle.session_model.proofs.laws.StandLemmas.{at_numbers, Keeps-as, front_as, front_more, stands_free, stands_unleaving}

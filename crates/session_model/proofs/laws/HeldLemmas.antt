@@ -1,8 +1,8 @@
 -- The numbers held after one session changes.
 use Rattle.std.proofs.Common.{◌≡◌, ℕ, ◌==◌, false, cond, ◌||◌, List, [], ◌∷◌, ◌++◌, filter, refl, arith}
 use Rattle.std.proofs.lemmas.Bool.Decides.{nat_tests}
-use Rattle.session_model.specs.laws.Run.{Session, is_held, with_session}
-use Rattle.session_model.specs.laws.Keeping.{is_listed}
+use Rattle.session_model.specs.Run.{Session, is_held, with_session}
+use Rattle.session_model.specs.Keeping.{is_listed}
 use Rattle.session_model.proofs.laws.KeptLemmas.{without}
 
 -- of these numbers, those whose session is held

@@ -6,15 +6,15 @@ use Rattle.wire_io.specs.declared.journal.Item.{Item}
 use Rattle.wire_io.specs.declared.journal.Item.TheVariants as item
 use Rattle.wire_io.specs.Journal.{taken_of, is_hung_up, is_held}
 use Rattle.wire_io.proofs.Theorems.{was_opened-quiet}
-use Rattle.session_model.specs.laws.Rules.{Rules}
-use Rattle.session_model.specs.laws.Run.{Session, Sessions, State, Away, Unopened, Step, HungUp, step, start, run}
-use Rattle.session_model.specs.laws.Run as session
-use Rattle.session_model.specs.laws.Kept.{Held, queue_of, closing_of, taken_off, forgotten}
-use Rattle.session_model.specs.laws.Keeping.{is_listed, more_taken}
-use Rattle.session_model.specs.laws.Journaled.{cuts_of, all_taken}
-use Rattle.session_model.specs.laws.Serving.{IsFront, unsent, Rightly, Stands, MayHangUp}
-use Rattle.session_model.specs.laws.Replaying.{is_away, is_leaving}
-use Rattle.session_model.specs.laws.Working.{Tracks, Works, Replays, Refused, Puts, Covers, is_turned, cuts_in}
+use Rattle.session_model.specs.Rules.{Rules}
+use Rattle.session_model.specs.Run.{Session, Sessions, State, Away, Unopened, Step, HungUp, step, start, run}
+use Rattle.session_model.specs.Run as session
+use Rattle.session_model.specs.Kept.{Held, queue_of, closing_of, taken_off, forgotten}
+use Rattle.session_model.specs.Keeping.{is_listed, more_taken}
+use Rattle.session_model.specs.Journaled.{cuts_of, all_taken}
+use Rattle.session_model.specs.Serving.{IsFront, unsent, Rightly, Stands, MayHangUp}
+use Rattle.session_model.specs.Replaying.{is_away, is_leaving}
+use Rattle.session_model.specs.Working.{Tracks, Works, Replays, Refused, Puts, Covers, is_turned, cuts_in}
 use Rattle.session_model.proofs.laws.JournalLemmas.{Still, IsAbout, still-about, still-later, all_taken-front, was_later-more, was_later-now, about-taken, about-later, about-held, about-released, about-hung_up, taken_of-taken, is_hung_up-taken, is_held-taken, taken_of-held, is_hung_up-held, is_held-held, taken_of-released, is_hung_up-released, is_held-released, taken_of-hung_up, is_hung_up-hung_up, is_held-hung_up}
 use Rattle.session_model.proofs.laws.StepLemmas.{with_session-same, with_session-other, replayed-stay, run_from-one, cuts_of-one}
 use Rattle.session_model.proofs.laws.StandLemmas.{at_numbers, Keeps-as, front_as, stands_more, stands_held, stands_done, all_sent, may_hang_up, leaving_held, not_unopened, taken_front, taken_fits}

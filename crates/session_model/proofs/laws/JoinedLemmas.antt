@@ -1,11 +1,11 @@
 -- Two pieces in a row leave what they leave as one.
 use Rattle.std.proofs.Common.{◌≡◌, ℕ, Bool, true, false, cond, not, ◌&&◌, ◌||◌, List, [], ◌∷◌, ◌++◌, None, refl, ap, ap₂, sym, ◌∙◌, append_assoc, append-nil, inl, inr, subst}
 use Rattle.ldap_msg.specs.declared.kinds.Frame.TheVariants.{Bad}
-use Rattle.ldap_msg.specs.framing.Streams.{frame_at, whole, rest_of, is_broken, IsBroken, IsBrokenLength}
+use Rattle.ldap_msg.specs.Streams.{frame_at, whole, rest_of, is_broken, IsBroken, IsBrokenLength}
 use Rattle.ldap_msg.proofs.Theorems.{frame_complete, broken_sound, whole_append, rest_append, broken_rest, whole_bad, broken_bad}
-use Rattle.session_model.specs.laws.Rules.{Rules, Answered, talk, after_octets, said, ending, notice_if}
-use Rattle.session_model.specs.laws.Run.{Session, Sessions, State, Open, Closing, TurnedAway, Away, Unopened, Bytes, step, hears, new_messages}
-use Rattle.session_model.specs.laws.Joined.{and_then, LeavesAlike}
+use Rattle.session_model.specs.Rules.{Rules, Answered, talk, after_octets, said, ending, notice_if}
+use Rattle.session_model.specs.Run.{Session, Sessions, State, Open, Closing, TurnedAway, Away, Unopened, Bytes, step, hears, new_messages}
+use Rattle.session_model.specs.Joined.{and_then, LeavesAlike}
 use Rattle.session_model.proofs.laws.BytesLemmas.{new_messages-are}
 use Rattle.session_model.proofs.laws.StepLemmas.{with_session-same, with_session-other}
 

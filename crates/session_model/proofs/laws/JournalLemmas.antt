@@ -7,7 +7,7 @@ use Rattle.wire_io.specs.declared.journal.Item.{Item}
 use Rattle.wire_io.specs.declared.journal.Item.TheVariants as item
 use Rattle.wire_io.specs.Journal.{heard, taken_of, taken_at, is_hung_up, hangs_up, is_held, hold_after, was_opened, opens}
 use Rattle.wire_io.proofs.Theorems.{heard-append, taken_of-push, is_held-push}
-use Rattle.session_model.specs.laws.Journaled.{steps_of, step_of_item, all_taken, is_no_refusal, WasLater}
+use Rattle.session_model.specs.Journaled.{steps_of, step_of_item, all_taken, is_no_refusal, WasLater}
 
 pub steps_of-append : (j k : List Item) → steps_of (j ++ k) ≡ steps_of j ++ steps_of k
 unfolding steps_of

@@ -2,12 +2,12 @@
 use Rattle.std.proofs.Common.{◌≡◌, ◌≤◌, ◌+◌, ℕ, ◌==◌, nat_lt, Bool, true, false, cond, not, List, [], ◌∷◌, ◌++◌, length, map, Option, Some, None, option_map, refl, ap, sym, ◌∙◌, ap₂, arith, drop-drop, append-nil, drop_of_length-le}
 use Rattle.std.proofs.lemmas.List.{length-map, map-append}
 use Rattle.std.proofs.lemmas.Bool.Decides.{nat_tests}
-use Rattle.ldap_msg.specs.framing.Streams.{rest_of}
+use Rattle.ldap_msg.specs.Streams.{rest_of}
 use Rattle.ldap_msg.proofs.Theorems.{rest_nil}
-use Rattle.session_model.specs.laws.Rules.{Rules}
-use Rattle.session_model.specs.laws.Run.{Session, Sessions, State, Open, Closing, TurnedAway, Away, Unopened, Opened, HungUp, is_held, held_numbers, with_session, step, most_held, newcomer}
-use Rattle.session_model.specs.laws.Kept.{Kept, Held, kept_of, forgotten, taken_off, without_front, heard, opened_kept}
-use Rattle.session_model.specs.laws.Keeping.{Keeps, shown, is_listed, more_taken}
+use Rattle.session_model.specs.Rules.{Rules}
+use Rattle.session_model.specs.Run.{Session, Sessions, State, Open, Closing, TurnedAway, Away, Unopened, Opened, HungUp, is_held, held_numbers, with_session, step, most_held, newcomer}
+use Rattle.session_model.specs.Kept.{Kept, Held, kept_of, forgotten, taken_off, without_front, heard, opened_kept}
+use Rattle.session_model.specs.Keeping.{Keeps, shown, is_listed, more_taken}
 use Rattle.session_model.proofs.laws.HeldLemmas.{held_among-unlisted, held_among-left, held_among-append, is_listed-append}
 use Rattle.session_model.proofs.laws.KeptLemmas.{kept_of-changed, number-changed, kept_of-forgotten, number-forgotten, without, kept_of-append, found_or}
 

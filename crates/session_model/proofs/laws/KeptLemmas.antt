@@ -1,7 +1,7 @@
 -- Look-ups by number in the connections held, after each change.
 use Rattle.std.proofs.Common.{◌≡◌, ℕ, ◌==◌, Bool, true, false, cond, List, [], ◌∷◌, ◌++◌, map, Option, Some, None, option_map, refl, arith, filter}
 use Rattle.std.proofs.lemmas.Bool.Decides.{nat_tests}
-use Rattle.session_model.specs.laws.Kept.{Kept, kept_of, queue_of, closing_of, changed, forgotten}
+use Rattle.session_model.specs.Kept.{Kept, kept_of, queue_of, closing_of, changed, forgotten}
 
 -- the queue and the closing of what was found
 abbrev pub queue_in : {W : Type 0} → Option (Kept W) → List ℕ

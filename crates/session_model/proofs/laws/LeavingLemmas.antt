@@ -1,10 +1,10 @@
 -- The sessions once all were hung up that are to be.
 use Rattle.std.proofs.Common.{◌≡◌, ◌≢◌, ℕ, Bool, true, false, cond, refl, ap, sym, ◌∙◌}
 use std.Path.{fun_ext}
-use Rattle.session_model.specs.laws.Rules.{Rules}
-use Rattle.session_model.specs.laws.Run.{Session, Sessions, Away, HungUp, step, with_session}
-use Rattle.session_model.specs.laws.Replaying.{is_leaving, hung_up}
-use Rattle.session_model.specs.laws.Working.{left, all_left}
+use Rattle.session_model.specs.Rules.{Rules}
+use Rattle.session_model.specs.Run.{Session, Sessions, Away, HungUp, step, with_session}
+use Rattle.session_model.specs.Replaying.{is_leaving, hung_up}
+use Rattle.session_model.specs.Working.{left, all_left}
 use Rattle.session_model.proofs.laws.StepLemmas.{with_session-same, with_session-other}
 use Rattle.session_model.proofs.laws.StandLemmas.{at_numbers}
 

@@ -5,15 +5,15 @@ use Rattle.wire_io.specs.declared.journal.Item.{Item}
 use Rattle.wire_io.specs.declared.journal.Item.TheVariants as item
 use Rattle.wire_io.specs.Journal.{taken_of}
 use Rattle.wire_io.proofs.Theorems.{was_opened-quiet}
-use Rattle.session_model.specs.laws.Rules.{Rules}
-use Rattle.session_model.specs.laws.Run.{Session, Sessions, State, Away, Unopened, Step, Gone, step}
-use Rattle.session_model.specs.laws.Run as session
-use Rattle.session_model.specs.laws.Kept.{Kept, Held, queue_of, forgotten}
-use Rattle.session_model.specs.laws.Keeping.{is_listed}
-use Rattle.session_model.specs.laws.Journaled.{cuts_of, all_taken}
-use Rattle.session_model.specs.laws.Serving.{IsFront, Rightly, Stands, MayHangUp, Leads}
-use Rattle.session_model.specs.laws.Replaying.{is_away}
-use Rattle.session_model.specs.laws.Working.{Tracks, Works, Lost, Puts, is_turned, cuts_in}
+use Rattle.session_model.specs.Rules.{Rules}
+use Rattle.session_model.specs.Run.{Session, Sessions, State, Away, Unopened, Step, Gone, step}
+use Rattle.session_model.specs.Run as session
+use Rattle.session_model.specs.Kept.{Kept, Held, queue_of, forgotten}
+use Rattle.session_model.specs.Keeping.{is_listed}
+use Rattle.session_model.specs.Journaled.{cuts_of, all_taken}
+use Rattle.session_model.specs.Serving.{IsFront, Rightly, Stands, MayHangUp, Leads}
+use Rattle.session_model.specs.Replaying.{is_away}
+use Rattle.session_model.specs.Working.{Tracks, Works, Lost, Puts, is_turned, cuts_in}
 use Rattle.session_model.proofs.laws.JournalLemmas.{Still, still-gone, all_taken-one, was_later-more, about-gone}
 use Rattle.session_model.proofs.laws.StepLemmas.{with_session-same, with_session-other, run_from-one, cuts_of-one}
 use Rattle.session_model.proofs.laws.StandLemmas.{at_numbers, Keeps-as, front_as, stands_more, not_unopened, held_not_away}

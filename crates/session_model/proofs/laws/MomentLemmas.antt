@@ -2,8 +2,8 @@
 use Rattle.std.proofs.Common.{◌≡◌, ◌≤◌, ◌+◌, List, [], ◌∷◌, ◌++◌, length, refl, ap, sym, ◌∙◌, arith, inl, inr, ◌⊎◌, subst, subst₂, length-append}
 use Rattle.std.proofs.lemmas.List.{length-map}
 use Rattle.wire_io.specs.declared.journal.Item.{Item}
-use Rattle.session_model.specs.laws.Run.{Step}
-use Rattle.session_model.specs.laws.Journaled.{steps_of, StepsOf, uncut, AtEachMoment, AtEachItem}
+use Rattle.session_model.specs.Run.{Step}
+use Rattle.session_model.specs.Journaled.{steps_of, StepsOf, uncut, AtEachMoment, AtEachItem}
 use Rattle.session_model.proofs.laws.JournalLemmas.{steps_of-append}
 
 pub nothing_before : {A : Type 0} (f : List A) (x : A) (back : List A) → [] ≡ f ++ x ∷ back → ⊥

@@ -6,14 +6,14 @@ use Rattle.wire_io.specs.declared.journal.Event.TheVariants as event
 use Rattle.wire_io.specs.declared.journal.Item.{Item}
 use Rattle.wire_io.specs.declared.journal.Item.TheVariants as item
 use Rattle.wire_io.specs.Journal.{heard, taken_of, is_held}
-use Rattle.session_model.specs.laws.Rules.{Rules}
-use Rattle.session_model.specs.laws.Run.{Session, Sessions, Step, run}
-use Rattle.session_model.specs.laws.Run as session
-use Rattle.session_model.specs.laws.Kept.{Held}
-use Rattle.session_model.specs.laws.Journaled.{steps_of, steps_of_events, step_of_event, StepsOf, HasNoCut, is_event, all_taken}
-use Rattle.session_model.specs.laws.Serving.{Served, Leads}
-use Rattle.session_model.specs.laws.Replaying.{IsReplay, is_away}
-use Rattle.session_model.specs.laws.Working.{Works}
+use Rattle.session_model.specs.Rules.{Rules}
+use Rattle.session_model.specs.Run.{Session, Sessions, Step, run}
+use Rattle.session_model.specs.Run as session
+use Rattle.session_model.specs.Kept.{Held}
+use Rattle.session_model.specs.Journaled.{steps_of, steps_of_events, step_of_event, StepsOf, HasNoCut, is_event, all_taken}
+use Rattle.session_model.specs.Serving.{Served, Leads}
+use Rattle.session_model.specs.Replaying.{IsReplay, is_away}
+use Rattle.session_model.specs.Working.{Works}
 use Rattle.session_model.proofs.laws.StandLemmas.{stands_unleaving, stands_sent, stands_unheld, all_sent}
 use Rattle.session_model.proofs.laws.TrackLemmas.{front_now, settled_now}
 use Rattle.session_model.proofs.laws.LeavingLemmas.{unleaving_same}

@@ -1,11 +1,11 @@
 -- What is said to a stream, message by message from its front.
 use Rattle.std.proofs.Common.{◌≡◌, ℕ, suc, Bool, true, false, cond, not, ◌&&◌, ◌||◌, List, [], ◌∷◌, take, drop, Option, Some, None, refl, ap, ap₂, ◌∙◌, append_assoc, append-nil}
 use Rattle.ldap_msg.specs.declared.kinds.Frame.TheVariants.{Whole, More, Bad}
-use Rattle.ldap_msg.specs.framing.Streams.{frame_at, whole, is_broken}
+use Rattle.ldap_msg.specs.Streams.{frame_at, whole, is_broken}
 use Rattle.ldap_msg.specs.Replies.{notice_octets}
 use Rattle.ldap_msg.proofs.Theorems.{whole_step, broken_step, whole_more, broken_more, whole_bad, broken_bad}
-use Rattle.session_model.specs.laws.Rules.{Rules, Answered, talk, after_octets, notice_if, ending}
-use Rattle.session_model.specs.laws.Kept.{speech}
+use Rattle.session_model.specs.Rules.{Rules, Answered, talk, after_octets, notice_if, ending}
+use Rattle.session_model.specs.Kept.{speech}
 
 -- a cut one message later
 abbrev pub one_later : Option ℕ → Option ℕ

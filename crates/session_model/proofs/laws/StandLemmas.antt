@@ -5,14 +5,14 @@ use Rattle.std.proofs.lemmas.Bool.Decides.{eqb_tells}
 use Rattle.std.proofs.Math.Seq.{drop-append_seam}
 use Rattle.wire_io.specs.declared.journal.Item.{Item}
 use Rattle.wire_io.specs.Journal.{taken_of, is_hung_up, is_held}
-use Rattle.session_model.specs.laws.Run.{Session, Sessions, State, Open, Closing, TurnedAway, Away, Unopened}
-use Rattle.session_model.specs.laws.Run as session
-use Rattle.session_model.specs.laws.Kept.{Held}
-use Rattle.session_model.specs.laws.Keeping.{Keeps, shown}
-use Rattle.session_model.specs.laws.Journaled.{WasLater, all_taken}
-use Rattle.session_model.specs.laws.Serving.{IsFront, unsent, Waits, Stands, MayHangUp}
-use Rattle.session_model.specs.laws.Replaying.{is_away, is_leaving}
-use Rattle.session_model.specs.laws.Working.{is_turned}
+use Rattle.session_model.specs.Run.{Session, Sessions, State, Open, Closing, TurnedAway, Away, Unopened}
+use Rattle.session_model.specs.Run as session
+use Rattle.session_model.specs.Kept.{Held}
+use Rattle.session_model.specs.Keeping.{Keeps, shown}
+use Rattle.session_model.specs.Journaled.{WasLater, all_taken}
+use Rattle.session_model.specs.Serving.{IsFront, unsent, Waits, Stands, MayHangUp}
+use Rattle.session_model.specs.Replaying.{is_away, is_leaving}
+use Rattle.session_model.specs.Working.{is_turned}
 use Rattle.session_model.proofs.laws.KeptLemmas.{queue_in, closing_in}
 use Rattle.session_model.proofs.laws.JournalLemmas.{Still, never_later}
 

@@ -2,12 +2,12 @@
 use Rattle.std.proofs.Common.{◌≡◌, ◌≢◌, ◌≤◌, ◌+◌, ℕ, Bool, true, false, cond, List, [], ◌∷◌, ◌++◌, filter, Option, Some, None, refl, ap, sym, ◌∙◌, append-nil, add_assoc, arith, subst, true≢false}
 use Rattle.std.proofs.lemmas.Bool.Decides.{nat_tests}
 use Rattle.std.proofs.lemmas.List.Elements.{filter-append}
-use Rattle.ldap_msg.specs.framing.Streams.{is_broken}
-use Rattle.session_model.specs.laws.Working.{is_turned, cuts_in}
-use Rattle.session_model.specs.laws.Rules.{Rules, said}
-use Rattle.session_model.specs.laws.Run.{Session, Sessions, State, Open, Closing, TurnedAway, Away, Unopened, Step, Opened, Bytes, Ended, Gone, HungUp, step, run_from, hears, ended, is_held, with_session, new_messages}
-use Rattle.session_model.specs.laws.Journaled.{cuts_of, cuts_at, is_event}
-use Rattle.session_model.specs.laws.Replaying.{number_of, replayed_from, step_and_hang_up, is_away}
+use Rattle.ldap_msg.specs.Streams.{is_broken}
+use Rattle.session_model.specs.Working.{is_turned, cuts_in}
+use Rattle.session_model.specs.Rules.{Rules, said}
+use Rattle.session_model.specs.Run.{Session, Sessions, State, Open, Closing, TurnedAway, Away, Unopened, Step, Opened, Bytes, Ended, Gone, HungUp, step, run_from, hears, ended, is_held, with_session, new_messages}
+use Rattle.session_model.specs.Journaled.{cuts_of, cuts_at, is_event}
+use Rattle.session_model.specs.Replaying.{number_of, replayed_from, step_and_hang_up, is_away}
 
 pub with_session-other : {W : Type 0} (c d : ℕ) (s : Session W) (of : ℕ → Session W) → d ≢ c → with_session c s of d ≡ of d
 with_session-other c d s of differs = grind (arith, nat_tests)

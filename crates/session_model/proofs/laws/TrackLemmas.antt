@@ -4,15 +4,15 @@ use Rattle.std.proofs.lemmas.List.{map-append}
 use Rattle.wire_io.specs.declared.journal.Item.{Item}
 use Rattle.wire_io.specs.Journal.{taken_of, is_hung_up, is_held, hold_after_all, was_opened, opens}
 use Rattle.wire_io.proofs.Theorems.{was_opened-quiet}
-use Rattle.session_model.specs.laws.Rules.{Rules}
-use Rattle.session_model.specs.laws.Run.{Session, Sessions, State, Open, Closing, TurnedAway, Away, Unopened, Step, step, run, run_from, start, held_numbers}
-use Rattle.session_model.specs.laws.Run as session
-use Rattle.session_model.specs.laws.Kept.{Held, queue_of, closing_of}
-use Rattle.session_model.specs.laws.Keeping.{Keeps, is_listed}
-use Rattle.session_model.specs.laws.Journaled.{steps_of, step_of_item, StepsOf, uncut, HasNoCut, cuts_of, CutOnce, AtEachMoment, AtEachItem}
-use Rattle.session_model.specs.laws.Serving.{IsFront, unsent, AreFronts, IsSettled, Rightly, Stands}
-use Rattle.session_model.specs.laws.Replaying.{is_leaving, replayed_from}
-use Rattle.session_model.specs.laws.Working.{Tracks, Works, cuts_in, is_turned}
+use Rattle.session_model.specs.Rules.{Rules}
+use Rattle.session_model.specs.Run.{Session, Sessions, State, Open, Closing, TurnedAway, Away, Unopened, Step, step, run, run_from, start, held_numbers}
+use Rattle.session_model.specs.Run as session
+use Rattle.session_model.specs.Kept.{Held, queue_of, closing_of}
+use Rattle.session_model.specs.Keeping.{Keeps, is_listed}
+use Rattle.session_model.specs.Journaled.{steps_of, step_of_item, StepsOf, uncut, HasNoCut, cuts_of, CutOnce, AtEachMoment, AtEachItem}
+use Rattle.session_model.specs.Serving.{IsFront, unsent, AreFronts, IsSettled, Rightly, Stands}
+use Rattle.session_model.specs.Replaying.{is_leaving, replayed_from}
+use Rattle.session_model.specs.Working.{Tracks, Works, cuts_in, is_turned}
 use Rattle.session_model.proofs.laws.KeptLemmas.{queue_in, closing_in, queue_of_is, closing_of_is}
 use Rattle.session_model.proofs.laws.JournalLemmas.{steps_of-one}
 use Rattle.session_model.proofs.laws.MomentLemmas.{AtEachMoment-more, AtEachItem-more, nothing_before, nothing_joined}

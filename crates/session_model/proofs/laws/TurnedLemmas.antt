@@ -5,16 +5,16 @@ use Rattle.wire_io.specs.declared.journal.Event.TheVariants as event
 use Rattle.wire_io.specs.declared.journal.Item.{Item}
 use Rattle.wire_io.specs.declared.journal.Item.TheVariants as item
 use Rattle.wire_io.specs.Journal.{taken_of, is_hung_up, was_opened, opens}
-use Rattle.session_model.specs.laws.Rules.{Rules}
-use Rattle.session_model.specs.laws.Run.{Session, Sessions, Open, TurnedAway, Unopened, Step, Opened, step, start, held_numbers, most_held, newcomer}
-use Rattle.session_model.specs.laws.Run as session
-use Rattle.session_model.specs.laws.Kept.{Held, forgotten}
-use Rattle.session_model.specs.laws.Kept as kept
-use Rattle.session_model.specs.laws.Keeping.{is_listed}
-use Rattle.session_model.specs.laws.Journaled.{cuts_of, all_taken}
-use Rattle.session_model.specs.laws.Serving.{IsFront, Rightly, Stands, MayHangUp, Leads}
-use Rattle.session_model.specs.laws.Replaying.{is_away, is_leaving, hung_up}
-use Rattle.session_model.specs.laws.Working.{Tracks, Works, Replays, Covers, is_turned, cuts_in}
+use Rattle.session_model.specs.Rules.{Rules}
+use Rattle.session_model.specs.Run.{Session, Sessions, Open, TurnedAway, Unopened, Step, Opened, step, start, held_numbers, most_held, newcomer}
+use Rattle.session_model.specs.Run as session
+use Rattle.session_model.specs.Kept.{Held, forgotten}
+use Rattle.session_model.specs.Kept as kept
+use Rattle.session_model.specs.Keeping.{is_listed}
+use Rattle.session_model.specs.Journaled.{cuts_of, all_taken}
+use Rattle.session_model.specs.Serving.{IsFront, Rightly, Stands, MayHangUp, Leads}
+use Rattle.session_model.specs.Replaying.{is_away, is_leaving, hung_up}
+use Rattle.session_model.specs.Working.{Tracks, Works, Replays, Covers, is_turned, cuts_in}
 use Rattle.session_model.proofs.laws.JournalLemmas.{Still, still-heard, was_opened-one, all_taken-front}
 use Rattle.session_model.proofs.laws.HeldLemmas.{is_listed-append}
 use Rattle.session_model.proofs.laws.StepLemmas.{with_session-same, with_session-other, replayed-more, run_from-one, cuts_of-one}

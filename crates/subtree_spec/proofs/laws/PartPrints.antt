@@ -18,16 +18,16 @@ use Rattle.dn_names.specs.name.GoodNames.{IsGoodName}
 use Rattle.dn_names.specs.parsing.NameText.{read_name}
 use Rattle.dn_names.specs.Printing.{print_name}
 use Rattle.dn_names.proofs.Theorems.{read_name-print_name, NameText-read_name, IsGoodName-from_NameText, IsUtf8-print_name, all_reverse, text_name}
-use Rattle.gser_tree.specs.marks.Lexemes as lexemes
-use Rattle.gser_tree.specs.marks.Lexemes.{is_letter, is_word}
+use Rattle.gser_tree.specs.Lexemes as lexemes
+use Rattle.gser_tree.specs.Lexemes.{is_letter, is_word}
 use Rattle.gser_tree.specs.declared.part.Part.{Part}
 use Rattle.gser_tree.specs.looking.Looking.{string_in, word_in}
 use Rattle.gser_tree.specs.Reading.{expect, part, give}
 use Rattle.gser_tree.specs.Writing.{print_word}
 use Rattle.gser_tree.proofs.Theorems.{IsRead, Prints, word_is_written, string_is_written, is_letter-digit, is_letter-dot, Only, Gives, gives_both, gives_choice, gives_expected, gives_part, gives_value, gives_nothing}
 use Rattle.subtree_spec.specs.Parts.{name, name_of, is_oid, oid, class_oid}
-use Rattle.subtree_spec.specs.reading.SubtreeText.{item}
-use Rattle.subtree_spec.specs.printing.SubtreePrinted.{print_dn}
+use Rattle.subtree_spec.specs.SubtreeText.{item}
+use Rattle.subtree_spec.specs.SubtreePrinted.{print_dn}
 
 -- ---- names
 

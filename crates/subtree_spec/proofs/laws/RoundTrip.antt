@@ -3,10 +3,10 @@ use Rattle.std.proofs.Common.{◌≡◌, ℕ, List, ap, ◌∙◌, arith}
 use Rattle.std.specs.Prelude.{None, Ok}
 use Rattle.gser_tree.specs.Writing.{text_of}
 use Rattle.gser_tree.proofs.Theorems.{IsRead, IsTextOf-written}
-use Rattle.subtree_spec.specs.spec.Subtrees.{Subtree}
-use Rattle.subtree_spec.specs.reading.SubtreeText.{subtree, SubText, judged, read_subtree}
-use Rattle.subtree_spec.specs.printing.SubtreePrinted.{print_subtree}
-use Rattle.subtree_spec.specs.laws.GoodSubtrees.{IsGoodSubtree}
+use Rattle.subtree_spec.specs.Subtrees.{Subtree}
+use Rattle.subtree_spec.specs.SubtreeText.{subtree, SubText, judged, read_subtree}
+use Rattle.subtree_spec.specs.SubtreePrinted.{print_subtree}
+use Rattle.subtree_spec.specs.GoodSubtrees.{IsGoodSubtree}
 use Rattle.subtree_spec.proofs.laws.SubtreePrints.{subtree_prints}
 use Rattle.subtree_spec.proofs.laws.SubtreeOnly.{subtree_is_good}
 use Rattle.subtree_spec.proofs.reading.ReadLemmas.{reads_shape}

@@ -12,9 +12,9 @@ use Rattle.gser_tree.specs.looking.Looking.{members_in, chosen_in}
 use Rattle.gser_tree.specs.Reading.{Read, expect, give, gather, optional}
 use Rattle.gser_tree.proofs.Theorems.{Only, Gives, gives_value, gives_nothing, gives_weaker, gives_both, gives_choice, gives_expected, gives_optional, gives_end, gives_gathered, number_is_at_most}
 use Rattle.subtree_spec.specs.Parts.{name, set_of}
-use Rattle.subtree_spec.specs.spec.Subtrees.{Choice, Item, And, Or, Not, gathered}
-use Rattle.subtree_spec.specs.reading.SubtreeText.{Chops, no_chops, put_name, chop, chop_member, chops, exclusions, distance, item, alternative, refinement, there, components, subtree}
-use Rattle.subtree_spec.specs.laws.GoodSubtrees.{AreGoodNames, IsGoodChoice, AreGoodChoices, IfThere, IsGoodSubtree}
+use Rattle.subtree_spec.specs.Subtrees.{Choice, Item, And, Or, Not, gathered}
+use Rattle.subtree_spec.specs.SubtreeText.{Chops, no_chops, put_name, chop, chop_member, chops, exclusions, distance, item, alternative, refinement, there, components, subtree}
+use Rattle.subtree_spec.specs.GoodSubtrees.{AreGoodNames, IsGoodChoice, AreGoodChoices, IfThere, IsGoodSubtree}
 use Rattle.subtree_spec.proofs.laws.PartPrints.{name_is_good, item_is_good}
 use Rattle.subtree_spec.proofs.exclusions.ChopLemmas.{put_name-all, put_name-sorted}
 

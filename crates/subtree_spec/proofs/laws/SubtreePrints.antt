@@ -7,21 +7,21 @@ use Rattle.std.specs.List.{AllByRecursion}
 use Rattle.std.specs.List.Sorted.{IsStrictlySortedBy}
 use Rattle.std.proofs.lemmas.Bool.Decides.{nat_tests}
 use Rattle.dn_names.specs.name.Names.{RdnSequence}
-use Rattle.dn_names.specs.order.NameOrder.{name_cmp}
+use Rattle.dn_names.specs.NameOrder.{name_cmp}
 use Rattle.dn_names.specs.name.GoodNames.{IsGoodName}
-use Rattle.gser_tree.specs.marks.Lexemes.{Lexeme, class_of, is_word}
-use Rattle.gser_tree.specs.part.TextOf.{part_at}
+use Rattle.gser_tree.specs.Lexemes.{Lexeme, class_of, is_word}
+use Rattle.gser_tree.specs.TextOf.{part_at}
 use Rattle.gser_tree.specs.looking.Shapes as shapes
 use Rattle.gser_tree.specs.looking.Shapes.{Shape, listed}
 use Rattle.gser_tree.specs.Reading.{Read}
 use Rattle.gser_tree.specs.Writing.{print_choice, print_optional, print_filled, print_braces, print_number, print_word}
 use Rattle.gser_tree.proofs.Theorems.{listed_gathered, IsWritten, AreWritten, IsRead, Prints, AreGathered, none_gathered, more_gathered, choice_is_written, none_are_written, more_are_written, braces_are_written, written_weaker, written_within, Skips, skips_end, OptionalRead, PrintsOptional, optional_is_written, number_prints}
 use Rattle.subtree_spec.specs.Parts.{name, set_of}
-use Rattle.subtree_spec.specs.spec.Subtrees as subtrees
-use Rattle.subtree_spec.specs.spec.Subtrees.{Choice, Choices, Item, And, Or, Not, gathered, Subtree}
-use Rattle.subtree_spec.specs.reading.SubtreeText.{no_chops, chops, exclusions, distance, item, refinement, there, components, subtree}
-use Rattle.subtree_spec.specs.printing.SubtreePrinted.{print_dn, print_base, print_chops, print_exclusions, print_minimum, print_refinement, print_refinements, print_components, print_subtree}
-use Rattle.subtree_spec.specs.laws.GoodSubtrees.{AreGoodNames, IsGoodChoice, AreGoodChoices, IfThere, IsGoodSubtree}
+use Rattle.subtree_spec.specs.Subtrees as subtrees
+use Rattle.subtree_spec.specs.Subtrees.{Choice, Choices, Item, And, Or, Not, gathered, Subtree}
+use Rattle.subtree_spec.specs.SubtreeText.{no_chops, chops, exclusions, distance, item, refinement, there, components, subtree}
+use Rattle.subtree_spec.specs.SubtreePrinted.{print_dn, print_base, print_chops, print_exclusions, print_minimum, print_refinement, print_refinements, print_components, print_subtree}
+use Rattle.subtree_spec.specs.GoodSubtrees.{AreGoodNames, IsGoodChoice, AreGoodChoices, IfThere, IsGoodSubtree}
 use Rattle.subtree_spec.proofs.laws.PartPrints.{name_prints, item_prints}
 use Rattle.subtree_spec.proofs.exclusions.ChopLemmas.{put_name-next}
 

@@ -7,7 +7,7 @@ use Rattle.std.specs.Cmp.Lexicographic.{slice_cmp}
 use Rattle.std.specs.declared.cmp.Ordering.{Ordering}
 use Rattle.std.specs.declared.cmp.Ordering.TheVariants.{Less, Equal, Greater}
 use Rattle.dn_names.specs.name.Names.{RdnSequence}
-use Rattle.dn_names.specs.order.NameOrder.{rdn_cmp, name_cmp, is_same, is_prefix_of}
+use Rattle.dn_names.specs.NameOrder.{rdn_cmp, name_cmp, is_same, is_prefix_of}
 use Rattle.subtree_spec.specs.membership.Fronts.{begins}
 
 both_equal : (one other : Ordering) → is_eq (ordering_then one other) ≡ (is_eq one && is_eq other)

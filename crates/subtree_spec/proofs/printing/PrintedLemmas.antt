@@ -5,13 +5,13 @@ use Rattle.std.proofs.lemmas.List.{append-nil, map-append, take_all}
 use Rattle.std.proofs.lemmas.Simd.{map-map}
 use Rattle.std.specs.Prelude.{map, Some, None, ◌==◌, if◌then◌else◌}
 use Rattle.dn_names.specs.name.Names.{RdnSequence}
-use Rattle.gser_tree.specs.marks.Lexemes.{Lexeme}
+use Rattle.gser_tree.specs.Lexemes.{Lexeme}
 use Rattle.gser_tree.specs.Writing.{text_of, print_braces, print_filled, separator, ending, PutsMembers}
 use Rattle.gser_tree.proofs.Theorems.{PutsMembers-one, PutsMembers-append, PutsMembers-braces}
 pub use Rattle.gser_tree.proofs.Theorems.{put_choice}
 use Rattle.subtree_spec.specs.declared.spec.Refinement.{Refinement}
-use Rattle.subtree_spec.specs.spec.Subtrees.{Choice, gathered, choice_of}
-use Rattle.subtree_spec.specs.printing.SubtreePrinted.{print_exclusions, print_refinement, print_refinements}
+use Rattle.subtree_spec.specs.Subtrees.{Choice, gathered, choice_of}
+use Rattle.subtree_spec.specs.SubtreePrinted.{print_exclusions, print_refinement, print_refinements}
 
 -- the printed refinements of a set, one by one
 pub print_refinements-gathered : (choices : List Choice) → print_refinements (gathered choices) ≡ map print_refinement choices

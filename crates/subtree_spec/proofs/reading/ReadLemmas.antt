@@ -3,15 +3,15 @@ use Rattle.std.proofs.Common.{◌≡◌, ◌≤◌, ℕ, List, refl, ap, ◌∙�
 use Rattle.std.specs.Prelude.{Option, Some, None, option_and_then, Result, Ok, Err, IfOk}
 use Rattle.plain_values.specs.Answers.{Answers}
 use Rattle.gser_tree.specs.looking.Shapes.{Shape, nest}
-use Rattle.gser_tree.specs.part.TextOf.{IsTextOf}
+use Rattle.gser_tree.specs.TextOf.{IsTextOf}
 use Rattle.gser_tree.specs.Growing.{tree_of}
 use Rattle.gser_tree.specs.Reading.{Found}
 use Rattle.gser_tree.proofs.Theorems.{tree_of-IsTextOf, IsTextOf-tree_of}
 use Rattle.subtree_spec.specs.declared.error.BadText.{BadText}
 use Rattle.subtree_spec.specs.declared.error.BadText.TheVariants.{Text}
 use Rattle.subtree_spec.specs.declared.spec.Spec.{Spec}
-use Rattle.subtree_spec.specs.spec.Subtrees.{Subtree, subtree_of}
-use Rattle.subtree_spec.specs.reading.SubtreeText.{subtree, SubText, unless_bad, judged, fault_of, read_subtree}
+use Rattle.subtree_spec.specs.Subtrees.{Subtree, subtree_of}
+use Rattle.subtree_spec.specs.SubtreeText.{subtree, SubText, unless_bad, judged, fault_of, read_subtree}
 
 -- a value without a bad place
 judged_ok : (found : Option (Found Subtree)) (spec : Subtree) → judged found ≡ Ok spec → found ≡ Some (record { value = spec; bad = None })

@@ -11,9 +11,9 @@ use Rattle.gser_tree.proofs.Theorems.{Shallow, both_read, was_there, word_nest, 
 use Rattle.subtree_spec.specs.declared.error.BadText.{BadText}
 use Rattle.subtree_spec.specs.declared.spec.Spec.{Spec}
 use Rattle.subtree_spec.specs.Parts.{name, name_of, is_oid, oid, class_oid, set_of}
-use Rattle.subtree_spec.specs.spec.Subtrees as subtrees
-use Rattle.subtree_spec.specs.spec.Subtrees.{Choice, Item, And, Or, Not, Subtree, subtree_of}
-use Rattle.subtree_spec.specs.reading.SubtreeText.{Chops, no_chops, put_name, chop, chop_member, chops, exclusions, distance, item, alternative, refinement, there, components, subtree, SubText, judged, fault_of, read_subtree}
+use Rattle.subtree_spec.specs.Subtrees as subtrees
+use Rattle.subtree_spec.specs.Subtrees.{Choice, Item, And, Or, Not, Subtree, subtree_of}
+use Rattle.subtree_spec.specs.SubtreeText.{Chops, no_chops, put_name, chop, chop_member, chops, exclusions, distance, item, alternative, refinement, there, components, subtree, SubText, judged, fault_of, read_subtree}
 use Rattle.subtree_spec.proofs.reading.ReadLemmas.{reads_shape}
 
 name_is_shallow : (deep : ℕ) → Shallow deep name

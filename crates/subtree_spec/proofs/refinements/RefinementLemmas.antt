@@ -5,7 +5,7 @@ use Rattle.std.specs.Prelude.{Option, None}
 use Rattle.gser_tree.specs.looking.Shapes.{Shape}
 use Rattle.gser_tree.specs.looking.Looking.{chosen_in}
 use Rattle.gser_tree.specs.Reading.{expect, ◌>>=◌}
-use Rattle.subtree_spec.specs.reading.SubtreeText.{alternative, refinement}
+use Rattle.subtree_spec.specs.SubtreeText.{alternative, refinement}
 
 -- no depth is left
 pub no_level : (depth : ℕ) (shape : Shape) (bad : Option ℕ) → depth ≡ 0 → refinement depth shape bad ≡ None

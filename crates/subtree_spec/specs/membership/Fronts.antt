@@ -2,7 +2,7 @@
 use Rattle.std.specs.Prelude.{Bool, true, false, ◌&&◌, [], ◌∷◌}
 use Rattle.std.specs.Ordering.{is_eq}
 use Rattle.dn_names.specs.name.Names.{RdnSequence}
-use Rattle.dn_names.specs.order.NameOrder.{rdn_cmp}
+use Rattle.dn_names.specs.NameOrder.{rdn_cmp}
 
 -- the name begins with the front
 abbrev pub begins : RdnSequence → RdnSequence → Bool

@@ -2,8 +2,8 @@
 use Rattle.std.specs.Prelude.{ℕ, ◌+◌, Bool, true, ◌&&◌, nat_le, nat_lt, not, ◌++◌, length, drop, Option, Some, None}
 use Rattle.std.specs.List.{list_any}
 use Rattle.dn_names.specs.name.Names.{RdnSequence}
-use Rattle.dn_names.specs.order.NameOrder.{is_prefix_of}
-use Rattle.subtree_spec.specs.spec.Subtrees.{Subtree}
+use Rattle.dn_names.specs.NameOrder.{is_prefix_of}
+use Rattle.subtree_spec.specs.Subtrees.{Subtree}
 
 -- at most the maximum, where there is one
 abbrev pub is_within : Option ℕ → ℕ → Bool

@@ -6,13 +6,13 @@ use Rattle.dir_tree.specs.schema_tables.Attributes.{attr_of}
 use Rattle.dir_tree.specs.dn_names.name.Names.{Keyed, RdnSequence}
 use Rattle.dir_tree.specs.dn_names.declared.error.BadName.{BadName}
 use Rattle.dir_tree.specs.dn_names.parsing.NameText.{read_name}
-use Rattle.dir_tree.specs.dn_names.make.NameValues.{value_of}
+use Rattle.dir_tree.specs.dn_names.NameValues.{value_of}
 use Rattle.acdf_filters.specs.aci_item.declared.permission.Permission.TheVariants.{Read}
 use Rattle.acdf_filters.specs.Asking.{Entry}
 use Rattle.ldap_msg.specs.declared.kinds.CompareRequest.{CompareRequest}
 use Rattle.read_model.specs.Views.{Row, View, has_name}
 use Rattle.read_model.specs.CompareReplies.{readable, compared_in, compared_value, compared_kind, compared_by, compare_result}
-use Rattle.twin_laws.specs.laws.Twins.{rows_outside}
+use Rattle.twin_laws.specs.Twins.{rows_outside}
 use Rattle.twin_laws.proofs.laws.SeenLemmas.{IsHidden, AreHidden, none_out, is_left, hidden-outside}
 
 -- what a compare is answered stays

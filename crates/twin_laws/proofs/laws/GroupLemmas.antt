@@ -7,16 +7,16 @@ use Rattle.std.proofs.lemmas.Bool.{or_parts, or_from}
 use Rattle.std.proofs.lemmas.List.Folds.{list_any-append}
 use Rattle.dir_tree.proofs.base_laws_proofs.Theorems.{all_filter}
 use Rattle.dir_tree.specs.dn_names.name.Names.{Keyed, RdnSequence}
-use Rattle.dir_tree.specs.dn_names.order.NameOrder.{is_prefix_of}
+use Rattle.dir_tree.specs.dn_names.NameOrder.{is_prefix_of}
 use Rattle.dir_tree.specs.Entry.{EntryInformation, values_of}
 use Rattle.acdf_filters.specs.aci_item.declared.level.Level.{Level}
 use Rattle.acdf_filters.specs.aci_item.item.Items.{ItemPermission, UserPermission, First, ItemFirst, UserFirst, Item}
-use Rattle.acdf_filters.specs.aci_item.reading.AciText.{item_of}
+use Rattle.acdf_filters.specs.aci_item.AciText.{item_of}
 use Rattle.acdf_filters.specs.aci_item.Permission.{has_some}
-use Rattle.acdf_filters.specs.aci_item.splitting.AciTuples.{AciTuple, split_first, tuples_of_item}
-use Rattle.acdf_filters.specs.reading.Tuples.{Listed, tagged, prescriptive_aci, entry_aci, subentry_aci, items_in, listed_by}
-use Rattle.acdf_filters.specs.laws.Unseen as tuples
-use Rattle.twin_laws.specs.laws.Groups.{groups_of, names_group, names_group_in, lists_group}
+use Rattle.acdf_filters.specs.aci_item.AciTuples.{AciTuple, split_first, tuples_of_item}
+use Rattle.acdf_filters.specs.Tuples.{Listed, tagged, prescriptive_aci, entry_aci, subentry_aci, items_in, listed_by}
+use Rattle.acdf_filters.specs.Unseen as tuples
+use Rattle.twin_laws.specs.Groups.{groups_of, names_group, names_group_in, lists_group}
 
 -- a tuple names no group at or below the name
 abbrev NamesNone : RdnSequence → AciTuple → Type 0

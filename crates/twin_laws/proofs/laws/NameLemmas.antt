@@ -2,7 +2,7 @@
 use Rattle.std.proofs.Common.{◌≡◌, true, false, ◌∙◌, length, nat_lt, arith}
 use Rattle.std.proofs.lemmas.Bool.{false_from_ne_true, both_ways, and_parts, ltb-true}
 use Rattle.dir_tree.specs.dn_names.name.Names.{RdnSequence}
-use Rattle.dir_tree.specs.dn_names.order.NameOrder.{is_same, is_prefix_of}
+use Rattle.dir_tree.specs.dn_names.NameOrder.{is_same, is_prefix_of}
 use Rattle.acdf_filters.proofs.admin_scope_proofs.Theorems.{prefix_chain}
 use Rattle.dir_tree.specs.tree.Trees.{is_below}
 use Rattle.dir_tree.proofs.TreeTheorems.{prefix_like as same_below, same_back, length-front}

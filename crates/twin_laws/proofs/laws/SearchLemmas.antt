@@ -5,7 +5,7 @@ use Rattle.std.proofs.lemmas.Bool.{cases_Bool, and_left, and_right, not-false}
 use Rattle.dir_tree.proofs.base_laws_proofs.Theorems.{all_map, all_filter, list_any-none, filter-none, filter-filter_kept}
 use Rattle.dir_tree.specs.dn_names.name.Names.{RdnSequence}
 use Rattle.dir_tree.specs.dn_names.declared.error.BadName.{BadName}
-use Rattle.dir_tree.specs.dn_names.order.NameOrder.{is_prefix_of}
+use Rattle.dir_tree.specs.dn_names.NameOrder.{is_prefix_of}
 use Rattle.dir_tree.specs.dn_names.parsing.NameText.{read_name}
 use Rattle.dir_tree.specs.Scope.{is_within}
 use Rattle.acdf_filters.specs.aci_item.declared.permission.Permission.TheVariants.{Browse, ReturnDn}
@@ -20,7 +20,7 @@ use Rattle.read_model.specs.Views.{Row, View, has_name, is_disclosed, matched_na
 use Rattle.read_model.specs.Selecting.{takes_in, is_seen, permits_of, is_selected, selected, is_shown, is_found}
 use Rattle.read_model.specs.RootEntry.{root_entry, root_replies}
 use Rattle.read_model.specs.SearchReplies.{nothing_found, found_replies, replies_at, replies_by, search_replies}
-use Rattle.twin_laws.specs.laws.Twins.{rows_outside}
+use Rattle.twin_laws.specs.Twins.{rows_outside}
 use Rattle.twin_laws.proofs.laws.ListLemmas.{list_any-left}
 use Rattle.twin_laws.proofs.laws.NameLemmas.{same_outside, same_within, below_within}
 use Rattle.twin_laws.proofs.laws.SeenLemmas.{IsHiddenWithin, AreHidden, none_out, is_left, is_known_as, refused, matched_name-outside, discloses-outside, hidden-outside}

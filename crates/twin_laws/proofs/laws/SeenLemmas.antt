@@ -14,7 +14,7 @@ use Rattle.acdf_filters.specs.Asking.{Entry}
 use Rattle.ldap_msg.specs.declared.operations.ResultCode.TheVariants as code
 use Rattle.ldap_msg.specs.declared.kinds.LdapResult.{LdapResult}
 use Rattle.read_model.specs.Views.{Row, View, has_name, is_disclosed, matched_name, result_of, result_with, discloses, hidden}
-use Rattle.twin_laws.specs.laws.Twins.{is_shown, shows_within, rows_outside}
+use Rattle.twin_laws.specs.Twins.{is_shown, shows_within, rows_outside}
 use Rattle.twin_laws.proofs.laws.ListLemmas.{list_any-left, find-left}
 
 -- the row may not be browsed, read or known of

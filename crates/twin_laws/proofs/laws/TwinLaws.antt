@@ -6,15 +6,15 @@ use Rattle.std.specs.declared.cmp.Ordering.TheVariants.{Less, Greater}
 use Rattle.std.proofs.lemmas.Bool.{cases_Bool, and_parts, ltb-true}
 use Rattle.dir_tree.proofs.base_laws_proofs.Theorems.{all_filter}
 use Rattle.dir_tree.specs.dn_names.name.Names.{RdnSequence}
-use Rattle.dir_tree.specs.dn_names.order.NameOrder.{name_cmp, is_prefix_of}
+use Rattle.dir_tree.specs.dn_names.NameOrder.{name_cmp, is_prefix_of}
 use Rattle.dir_tree.proofs.dn_names_proofs.Theorems.{name_cmp_total, name_cmp-prefix}
 use Rattle.acdf_filters.proofs.admin_scope_proofs.Theorems.{prefix_chain, in_force-without}
 use Rattle.dir_tree.specs.Entry.{EntryInformation}
 use Rattle.dir_tree.specs.tree.Trees.{named_in, is_below, IsTree}
 use Rattle.dir_tree.specs.Scope.{is_within}
 use Rattle.dir_tree.proofs.TreeTheorems.{length-front}
-use Rattle.acdf_filters.specs.admin_scope.point_list.Areas.{without_subtree}
-use Rattle.acdf_filters.specs.admin_scope.subentries.InForce.{in_force}
+use Rattle.acdf_filters.specs.admin_scope.Areas.{without_subtree}
+use Rattle.acdf_filters.specs.admin_scope.InForce.{in_force}
 use Rattle.acdf_filters.specs.declared.asking.Requester.{Requester}
 use Rattle.acdf_filters.proofs.Theorems.{named-without as named_in-without}
 use Rattle.ldap_msg.specs.declared.kinds.SearchRequest.{SearchRequest}
@@ -24,7 +24,7 @@ use Rattle.read_model.specs.Views.{View, view_of, matched_name, no_such_object, 
 use Rattle.read_model.specs.Selecting.{selected}
 use Rattle.read_model.specs.SearchReplies.{replies_at, search_replies}
 use Rattle.read_model.specs.CompareReplies.{compare_result}
-use Rattle.twin_laws.specs.laws.Twins.{is_below_suffix, rows_outside, IsUnseen, AreTwins}
+use Rattle.twin_laws.specs.Twins.{is_below_suffix, rows_outside, IsUnseen, AreTwins}
 use Rattle.twin_laws.proofs.laws.NameLemmas.{above_outside}
 use Rattle.twin_laws.proofs.laws.ViewLemmas.{access_none, view_of-without}
 use Rattle.twin_laws.proofs.laws.SeenLemmas.{AreHidden, AreHidden-from_shows_within, matched_name-outside, hidden-outside}

@@ -6,18 +6,18 @@ use Rattle.dir_tree.proofs.base_laws_proofs.Theorems.{all_map, map-agree, filter
 use std.Path.{fun_ext}
 use Rattle.dir_tree.specs.dn_names.name.Names.{RdnSequence}
 use Rattle.dir_tree.specs.Entry.{EntryInformation}
-use Rattle.dir_tree.specs.subentries.Points.{is_subentry, is_access_subentry}
+use Rattle.dir_tree.specs.Points.{is_subentry, is_access_subentry}
 use Rattle.dir_tree.specs.Scope.{is_within}
-use Rattle.acdf_filters.specs.admin_scope.point_list.Areas.{without_subtree, has_within}
+use Rattle.acdf_filters.specs.admin_scope.Areas.{without_subtree, has_within}
 use Rattle.acdf_filters.specs.aci_item.declared.permission.Permission.{Permission}
 use Rattle.acdf_filters.specs.declared.asking.Requester.{Requester}
 use Rattle.acdf_filters.specs.Asking.{Protected}
-use Rattle.acdf_filters.specs.laws.Granted.{granted}
-use Rattle.acdf_filters.specs.laws.Unseen.{IsApart, has_group}
+use Rattle.acdf_filters.specs.Granted.{granted}
+use Rattle.acdf_filters.specs.Unseen.{IsApart, has_group}
 use Rattle.acdf_filters.proofs.Theorems.{granted-without}
 use Rattle.read_model.specs.Views.{Row, view_of}
-use Rattle.twin_laws.specs.laws.Groups.{lists_group}
-use Rattle.twin_laws.specs.laws.Twins.{rows_outside, IsUnseen}
+use Rattle.twin_laws.specs.Groups.{lists_group}
+use Rattle.twin_laws.specs.Twins.{rows_outside, IsUnseen}
 use Rattle.twin_laws.proofs.laws.ListLemmas.{list_any-from, all_left}
 use Rattle.twin_laws.proofs.laws.GroupLemmas.{lists_group-none}
 

@@ -2,7 +2,7 @@
 use Rattle.std.proofs.Common.{◌≡◌, ◌≢◌, ℕ, true, false, ◌||◌, List, [], ◌∷◌, Option, Some, None, Result, Ok, Err, if◌then◌else◌, refl, sym, ap, subst, ◌∙◌}
 use Rattle.std.proofs.lemmas.Bool.{not-false, not_from_true}
 use Rattle.dir_tree.specs.dn_names.name.Names.{RdnSequence}
-use Rattle.dir_tree.specs.dn_names.order.NameOrder.{is_same}
+use Rattle.dir_tree.specs.dn_names.NameOrder.{is_same}
 use Rattle.dir_tree.specs.dn_names.parsing.NameText.{read_name}
 use Rattle.dir_tree.specs.dn_names.name.GoodNames.{IsGoodName}
 use Rattle.dir_tree.specs.dn_names.declared.error.BadName.{BadName}
@@ -13,7 +13,7 @@ use Rattle.dir_tree.proofs.TreeTheorems.{none_named, put_in-some, has_superior a
 use Rattle.acdf_filters.specs.aci_item.Rules.{broken_rule, IsGoodTree}
 use Rattle.ldif_load.proofs.schema_rules_proofs.Theorems.{AreGood-put_in}
 use Rattle.acdf_filters.specs.declared.asking.Requester.{Requester}
-use Rattle.acdf_filters.specs.laws.Granted.{granted_new}
+use Rattle.acdf_filters.specs.Granted.{granted_new}
 use Rattle.ldap_msg.specs.declared.operations.ResultCode.{ResultCode}
 use Rattle.ldap_msg.specs.declared.kinds.AddRequest.{AddRequest}
 use Rattle.ldap_msg.specs.declared.kinds.KindValues.{KindValues}

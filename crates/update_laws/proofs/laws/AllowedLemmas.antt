@@ -8,7 +8,7 @@ use Rattle.acdf_filters.specs.aci_item.declared.permission.Permission.{Permissio
 use Rattle.acdf_filters.specs.aci_item.declared.permission.Permission.TheVariants.{Add}
 use Rattle.acdf_filters.specs.Asking.{Protected, Entry, Kind, Value}
 use Rattle.op_add_delete.specs.adding.Adding.{refuses_attribute, refuses_entry}
-use Rattle.update_laws.specs.laws.Granting.{MayAddAttribute, MayAddEach}
+use Rattle.update_laws.specs.Granting.{MayAddAttribute, MayAddEach}
 
 module _ (allows : Protected → Permission → Bool) where
   values-unrefused :

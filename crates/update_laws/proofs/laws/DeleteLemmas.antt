@@ -11,14 +11,14 @@ use Rattle.acdf_filters.specs.aci_item.Rules.{IsGoodTree}
 use Rattle.acdf_filters.specs.aci_item.declared.permission.Permission.TheVariants.{Remove}
 use Rattle.acdf_filters.specs.declared.asking.Requester.{Requester}
 use Rattle.acdf_filters.specs.Asking.{Entry}
-use Rattle.acdf_filters.specs.laws.Granted.{granted}
+use Rattle.acdf_filters.specs.Granted.{granted}
 use Rattle.ldap_msg.specs.declared.kinds.DeleteRequest.{DeleteRequest}
 use Rattle.ldap_msg.specs.declared.kinds.LdapResult.{LdapResult}
 use Rattle.op_add_delete.specs.directory.Targets.{is_suffix}
 use Rattle.op_add_delete.specs.Deleting.{delete_refusal}
 use Rattle.op_add_delete.specs.adding.Updates.{unless, deleted_target, deleted_named, deleted, IsChanged}
 use Rattle.op_add_delete.proofs.Theorems.{unless-good, unless-refused, unless-made}
-use Rattle.update_laws.specs.laws.Granting.{MayDelete}
+use Rattle.update_laws.specs.Granting.{MayDelete}
 use Rattle.ldif_load.proofs.schema_rules_proofs.Theorems.{AreGood-taken_out}
 use Rattle.ldap_msg.proofs.plain_values_proofs.Theorems.{none_of, none_from, not_when, when_not}
 

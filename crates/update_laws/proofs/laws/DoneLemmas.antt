@@ -6,14 +6,14 @@ use Rattle.dir_tree.specs.dn_names.declared.error.BadName.{BadName}
 use Rattle.dir_tree.specs.Entry.{Attribute, EntryInformation}
 use Rattle.dir_tree.specs.tree.Trees.{put_in}
 use Rattle.acdf_filters.specs.declared.asking.Requester.{Requester}
-use Rattle.acdf_filters.specs.laws.Granted.{granted_new}
+use Rattle.acdf_filters.specs.Granted.{granted_new}
 use Rattle.ldap_msg.specs.declared.operations.ResultCode.{ResultCode}
 use Rattle.ldap_msg.specs.declared.kinds.AddRequest.{AddRequest}
 use Rattle.op_add_delete.specs.adding.Adding.{add_refusal}
 use Rattle.op_add_delete.specs.reading.NewEntries.{read_attributes, new_entry}
 use Rattle.op_add_delete.specs.adding.Updates.{unless, added_entry, added_named, added, IsChanged}
 use Rattle.op_add_delete.proofs.Theorems.{unless-made}
-use Rattle.update_laws.specs.laws.Granting.{MayAdd}
+use Rattle.update_laws.specs.Granting.{MayAdd}
 use Rattle.update_laws.proofs.laws.AllowedLemmas.{MayAddEach-unrefused, unrefused-MayAddEach}
 use Rattle.update_laws.proofs.laws.AddLemmas.{IsAddable, IsAddable-unrefused, unrefused-IsAddable}
 

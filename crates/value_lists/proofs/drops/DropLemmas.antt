@@ -5,7 +5,7 @@ use Rattle.std.specs.Str.{bytes_eq}
 use Rattle.std.proofs.lemmas.Bool.Decides.{nat_tests}
 use Rattle.std.proofs.lemmas.Bool.{or_left, or_right}
 use Rattle.dn_names.specs.name.Names.{Keyed}
-use Rattle.value_lists.specs.ordered.Orders.{key_at, place_after, IsOrder}
+use Rattle.value_lists.specs.Orders.{key_at, place_after, IsOrder}
 use Rattle.value_lists.proofs.places.OrderLemmas.{AreInOrder-filter}
 use Rattle.value_lists.proofs.places.PlaceLemmas.{or_cases}
 

@@ -2,9 +2,9 @@
 use Rattle.std.proofs.Common.{◌≡◌, ℕ, zero, suc, ◌<◌, ◌≤◌, List, [], ◌∷◌, ◌++◌, take, replicate, refl, ap, sym, ◌∙◌, arith}
 use Rattle.script_text.specs.declared.event.ScriptEvent.{ScriptEvent}
 use Rattle.wire_io.specs.declared.journal.Event.TheVariants.{Stop}
-use Rattle.wire_io.specs.laws.Laws.{first_events}
-use Rattle.wire_io.specs.laws.Pieces.{pieces}
-use Rattle.wire_io.specs.script.Playing.{next_turn, front_turn, first_turn}
+use Rattle.wire_io.specs.Laws.{first_events}
+use Rattle.wire_io.specs.Pieces.{pieces}
+use Rattle.wire_io.specs.Playing.{next_turn, front_turn, first_turn}
 use Rattle.wire_io.proofs.laws.PiecesLemmas.{pieces-first}
 
 -- after the last event comes Stop for ever

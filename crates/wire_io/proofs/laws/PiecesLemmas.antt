@@ -4,8 +4,8 @@ use Rattle.script_text.specs.declared.event.ScriptEvent.{ScriptEvent}
 use Rattle.script_text.specs.declared.event.ScriptEvent.TheVariants as script
 use Rattle.wire_io.specs.declared.journal.Event.{Event}
 use Rattle.wire_io.specs.declared.journal.Event.TheVariants.{Bytes, Ready}
-use Rattle.wire_io.specs.laws.Pieces.{cut, pieces_of, pieces, step_of, steps_of, Plays}
-use Rattle.wire_io.specs.script.Playing.{Turn, conn_of, left_over, first_turn, front_turn, next_turn}
+use Rattle.wire_io.specs.Pieces.{cut, pieces_of, pieces, step_of, steps_of, Plays}
+use Rattle.wire_io.specs.Playing.{Turn, conn_of, left_over, first_turn, front_turn, next_turn}
 
 -- none are cut to none
 cut-none : (most len : ℕ) → cut most len [] ≡ []

@@ -14,9 +14,9 @@ use Rattle.wire_io.specs.declared.journal.Item.{Item}
 use Rattle.wire_io.specs.declared.journal.Item.TheVariants.{Heard, OpenedAt, Taken, Later, Gone, Held, Released, HungUp}
 use Rattle.wire_io.specs.Answers.{IsPlanned, LinkCause, WriteCause}
 use Rattle.wire_io.specs.Journal.{heard}
-use Rattle.wire_io.specs.laws.Pieces.{Plays}
+use Rattle.wire_io.specs.Pieces.{Plays}
 use Rattle.wire_io.specs.link.Plan.{Plan}
-use Rattle.wire_io.specs.script.Playing.{conn_of, first_turn, front_turn, next_turn, holds_of, NextPlays}
+use Rattle.wire_io.specs.Playing.{conn_of, first_turn, front_turn, next_turn, holds_of, NextPlays}
 use Rattle.wire_io.specs.link.Telling.{event_of}
 use Rattle.wire_io.proofs.laws.PiecesLemmas.{Plays-turn}
 

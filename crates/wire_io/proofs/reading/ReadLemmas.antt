@@ -2,9 +2,9 @@
 use Rattle.std.proofs.Common.{◌≡◌, ℕ, ◌+◌, ◌<◌, ◌≤◌, List, [], ◌++◌, length, take, drop, Option, Some, None, Ok, Err, Bool, true, false, refl, ap, sym, ◌∙◌, subst, min, arith, length-append}
 use Rattle.std.proofs.Math.Seq.{take-add}
 use Rattle.std.proofs.lemmas.List.{take_all, length-take, length-take-le, take-append-le, take-append-drop}
-use Rattle.wire_io.specs.shelf.Files.{Files, file_of, FetchGives, ReadsFile, ReadsFrom}
+use Rattle.wire_io.specs.Files.{Files, file_of, FetchGives, ReadsFile, ReadsFrom}
 use Rattle.wire_io.specs.declared.answers.ReadFault.TheVariants.{TooLong}
-use Rattle.wire_io.specs.reading.ReadWhole.{HasRead, IsFrontOf, GivesFile, PieceGives, PieceCause, ReadCause, IsLonger, IsLongerFile, line_past}
+use Rattle.wire_io.specs.ReadWhole.{HasRead, IsFrontOf, GivesFile, PieceGives, PieceCause, ReadCause, IsLonger, IsLongerFile, line_past}
 
 -- a front of the content and the piece that follows it are a front
 IsFrontOf-more :

@@ -4,7 +4,7 @@ use Rattle.std.proofs.lemmas.List.{drop-drop, drop_all, drop_more}
 use Rattle.script_text.specs.declared.event.ScriptEvent.{ScriptEvent}
 use Rattle.script_text.specs.declared.event.ScriptEvent.TheVariants as script
 use Rattle.script_text.specs.Recording.{first_octets, without_first}
-use Rattle.wire_io.specs.script.Playing.{left_over, without_front, front_turn, first_turn}
+use Rattle.wire_io.specs.Playing.{left_over, without_front, front_turn, first_turn}
 
 -- octets of which some are left stay in front
 left_over-filled : (conn : ℕ) (octets : List ℕ) (events : List ScriptEvent) → 0 < length octets → left_over conn octets events ≡ script.Bytes conn octets ∷ events

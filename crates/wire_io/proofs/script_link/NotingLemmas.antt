@@ -1,7 +1,7 @@
 -- Lemmas on an item that was noted, or refused for want of memory.
 use Rattle.std.proofs.Common.{◌≡◌, List, [], ◌∷◌, ◌++◌, Result, Ok, Err, Some, OnOk, OnErr, ap, ◌∙◌}
 use Rattle.wire_io.specs.declared.journal.Item.{Item}
-use Rattle.wire_io.specs.script_link.Scripted.{LinkState, LinkNotes, with_item}
+use Rattle.wire_io.specs.Scripted.{LinkState, LinkNotes, with_item}
 use Rattle.wire_io.specs.link.Telling.{NoteTells}
 
 -- what is told of it

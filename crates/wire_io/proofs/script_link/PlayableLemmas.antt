@@ -5,7 +5,7 @@ use Rattle.script_text.specs.script.Script.{OpensOnce, AreFilled}
 use Rattle.wire_io.specs.declared.journal.Item.{Item}
 use Rattle.wire_io.specs.declared.journal.Item.TheVariants.{Heard, OpenedAt, Taken, Later, Gone, Held, Released, HungUp}
 use Rattle.wire_io.specs.Journal.{opens, was_opened, stops, was_stopped}
-use Rattle.wire_io.specs.script_link.Scripted.{IsPlayable}
+use Rattle.wire_io.specs.Scripted.{IsPlayable}
 use Rattle.wire_io.proofs.journal.JournalLemmas.{was_opened-push, was_stopped-push, or-false}
 
 -- the item is no event

@@ -9,8 +9,8 @@ use Rattle.wire_io.specs.declared.journal.Event.TheVariants.{Opened, Bytes, Ende
 use Rattle.wire_io.specs.declared.journal.Item.{Item}
 use Rattle.wire_io.specs.declared.journal.Item.TheVariants.{Heard}
 use Rattle.wire_io.specs.Journal.{opens, was_opened, stops, was_stopped, is_held}
-use Rattle.wire_io.specs.script.Playing.{Turn, conn_of, left_over, first_turn, front_turn, next_turn, holds_of}
-use Rattle.wire_io.specs.script_link.Scripted.{IsPlayable}
+use Rattle.wire_io.specs.Playing.{Turn, conn_of, left_over, first_turn, front_turn, next_turn, holds_of}
+use Rattle.wire_io.specs.Scripted.{IsPlayable}
 use Rattle.wire_io.specs.link.Telling.{MayCome, StaysStopped, NextTells, event_of}
 use Rattle.wire_io.specs.declared.answers.Heard.{Heard as Answer}
 use Rattle.wire_io.proofs.journal.JournalLemmas.{was_opened-push}

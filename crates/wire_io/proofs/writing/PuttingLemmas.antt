@@ -6,7 +6,7 @@ use Rattle.std.proofs.lemmas.List.{take_all, take-append-le}
 use Rattle.plain_values.specs.Counts.{Rose}
 use Rattle.wire_io.specs.declared.answers.PutFault.{PutFault}
 use Rattle.wire_io.specs.declared.answers.PutFault.TheVariants.{Failed, NoMemory}
-use Rattle.wire_io.specs.sink.Putting.{appended, WriteTells, PutsAll, PutCause}
+use Rattle.wire_io.specs.Putting.{appended, WriteTells, PutsAll, PutCause}
 
 -- two pieces put one after the other are one
 pub appended-appended : (old : Option (List ℕ)) (front back : List ℕ) → appended (appended old front) back ≡ appended old (front ++ back)

@@ -3,7 +3,7 @@ use Rattle.std.proofs.Common.{◌++◌, List, [], map, sym, ap, ◌∙◌}
 use Rattle.std.specs.Prelude.{flat_map}
 use Rattle.std.specs.Option.{option_map_or}
 use Rattle.dir_tree.specs.tree.Numbered.{superior_of}
-use Rattle.acdf_filters.specs.reading.Tuples.{prescriptive_aci, subentry_aci}
+use Rattle.acdf_filters.specs.Tuples.{prescriptive_aci, subentry_aci}
 use Rattle.acdf_core.specs.declared.candidates.Candidate.{Candidate}
 use Rattle.acdf_core.specs.Candidates.{described_for, described_all, listed_at}
 use Rattle.acdf_core.proofs.candidates.CandidateLemmas.{inherited-subentry, inherited-ordinary}

@@ -2,7 +2,7 @@
 use Rattle.std.proofs.Common.{◌++◌, List, map, sym, ap, ◌∙◌}
 use Rattle.std.proofs.lemmas.List.{map-append}
 use Rattle.dir_tree.specs.tree.Numbered.{entries_of}
-use Rattle.acdf_filters.specs.reading.Tuples.{inherited, entry_aci}
+use Rattle.acdf_filters.specs.Tuples.{inherited, entry_aci}
 use Rattle.acdf_core.specs.Candidates.{Described, described_for, listed_at}
 use Rattle.acdf_core.proofs.candidates.CandidateLemmas.{counting}
 use Rattle.acdf_core.proofs.candidates.list_candidates.Goals as goal

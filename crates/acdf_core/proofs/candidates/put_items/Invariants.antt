@@ -1,9 +1,9 @@
 -- What is put so far, and the items that are left.
 use Rattle.std.proofs.Common.{◌≡◌, ◌++◌, map, drop}
 use Rattle.std.specs.Prelude.{flat_map}
-use Rattle.acdf_filters.specs.reading.Tuples.{listed_by}
+use Rattle.acdf_filters.specs.Tuples.{listed_by}
 use Rattle.acdf_filters.specs.weighing.Weighing.{tagged_of}
-use Rattle.acdf_core.specs.explaining.Explained.{name_at}
+use Rattle.acdf_core.specs.Explained.{name_at}
 use Rattle.acdf_core.specs.Candidates.{described_for, described_all}
 use Rattle.acdf_core.proofs.candidates.put_items.Given as goal
 

@@ -1,7 +1,7 @@
 -- What is put so far, and the subentries that are left.
 use Rattle.std.proofs.Common.{◌≡◌, ◌++◌, map, drop}
 use Rattle.std.specs.Prelude.{flat_map}
-use Rattle.acdf_filters.specs.reading.Tuples.{prescriptive_aci}
+use Rattle.acdf_filters.specs.Tuples.{prescriptive_aci}
 use Rattle.acdf_core.specs.Candidates.{described_for, described_all, listed_at}
 use Rattle.acdf_core.proofs.candidates.put_subentries.Given as goal
 

@@ -1,7 +1,7 @@
 -- One tuple more.
 use Rattle.std.proofs.Common.{◌≡◌, ◌+◌, ◌∷◌, drop, arith}
 use Rattle.std.proofs.lemmas.Grind.{common_steps}
-use Rattle.acdf_core.specs.explaining.Explained.{name_at}
+use Rattle.acdf_core.specs.Explained.{name_at}
 use Rattle.acdf_core.specs.Candidates.{described_all}
 use Rattle.acdf_core.proofs.candidates.CandidateLemmas.{one_more}
 use Rattle.acdf_core.proofs.candidates.put_tuples.Goals as goal

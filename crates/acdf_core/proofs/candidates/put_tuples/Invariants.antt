@@ -1,8 +1,8 @@
 -- What is put so far, and the tuples that are left.
 use Rattle.std.proofs.Common.{◌≡◌, ◌++◌, map, drop}
 use Rattle.acdf_filters.specs.aci_item.item.Views.{tuple_of}
-use Rattle.acdf_filters.specs.reading.Tuples.{listed_by}
-use Rattle.acdf_core.specs.explaining.Explained.{name_at}
+use Rattle.acdf_filters.specs.Tuples.{listed_by}
+use Rattle.acdf_core.specs.Explained.{name_at}
 use Rattle.acdf_core.specs.Candidates.{described_for, described_all}
 use Rattle.acdf_core.proofs.candidates.put_tuples.Given as goal
 

@@ -3,7 +3,7 @@ use Rattle.std.proofs.Common.{sym, ap, ◌∙◌}
 use Rattle.std.specs.Option.{option_map}
 use Rattle.dir_tree.specs.tree.Numbered.{entries_of}
 use Rattle.dir_tree.specs.declared.number.EntryNo.{EntryNo}
-use Rattle.acdf_filters.specs.laws.Granted.{is_disclosed}
+use Rattle.acdf_filters.specs.Granted.{is_disclosed}
 use Rattle.acdf_core.proofs.nearest.NearestLemmas.{front-found, front-missing}
 use Rattle.acdf_core.proofs.nearest.disclosed_front.Goals as goal
 

@@ -1,7 +1,7 @@
 -- Front by front: the one that passes is matched, and where none does, none is.
 use Rattle.std.proofs.Common.{arith, subst}
 use Rattle.dir_tree.specs.tree.Numbered.{entries_of, IsNumberedTree}
-use Rattle.acdf_filters.specs.laws.Granted.{is_disclosed}
+use Rattle.acdf_filters.specs.Granted.{is_disclosed}
 use Rattle.acdf_core.proofs.nearest.NearestLemmas.{matched-found, matched-none, hidden-next}
 use Rattle.acdf_core.proofs.nearest.matched.Goals as goal
 

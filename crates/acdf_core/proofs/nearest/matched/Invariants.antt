@@ -1,7 +1,7 @@
 -- No entry above the name that has at least so many RDNs may be known of.
 use Rattle.std.proofs.Common.{◌≤◌, length}
 use Rattle.dir_tree.specs.tree.Numbered.{entries_of}
-use Rattle.acdf_filters.specs.laws.Granted.{is_disclosed}
+use Rattle.acdf_filters.specs.Granted.{is_disclosed}
 use Rattle.acdf_core.specs.nearest.Fronts.{NonePasses}
 use Rattle.acdf_core.proofs.nearest.matched.Given as goal
 

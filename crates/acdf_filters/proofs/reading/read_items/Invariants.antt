@@ -2,8 +2,8 @@
 use Rattle.std.proofs.Common.{◌≡◌, ◌++◌, map, drop}
 use Rattle.std.specs.List.{filter_map}
 use Rattle.std.specs.Option.{option_map}
-use Rattle.aci_item.specs.reading.AciText.{item_of}
-use Rattle.acdf_filters.specs.reading.Tuples.{tagged}
+use Rattle.aci_item.specs.AciText.{item_of}
+use Rattle.acdf_filters.specs.Tuples.{tagged}
 use Rattle.acdf_filters.specs.weighing.Weighing.{tagged_of}
 use Rattle.acdf_filters.proofs.reading.read_items.Given as goal
 

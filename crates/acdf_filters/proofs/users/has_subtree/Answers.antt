@@ -1,6 +1,6 @@
 -- By the length.
 use Rattle.std.proofs.Common.{not, sym, ap, ◌∙◌}
-use Rattle.aci_item.specs.subtree_spec.spec.Subtrees.{subtree_of}
+use Rattle.aci_item.specs.subtree_spec.Subtrees.{subtree_of}
 use Rattle.acdf_filters.proofs.users.UserLemmas.{is_filled-map}
 use Rattle.acdf_filters.proofs.users.has_subtree.Goals as goal
 

@@ -1,6 +1,6 @@
 -- The subtrees so far hold the name no, so those that are left decide.
 use Rattle.std.proofs.Common.{◌≡◌, map, drop}
-use Rattle.aci_item.specs.subtree_spec.spec.Subtrees.{subtree_of}
+use Rattle.aci_item.specs.subtree_spec.Subtrees.{subtree_of}
 use Rattle.acdf_filters.specs.users.Users.{is_held}
 use Rattle.acdf_filters.proofs.users.is_in_subtrees.Given as goal
 

@@ -1,6 +1,6 @@
 -- The least rank is that of the first class that is listed.
 use Rattle.std.proofs.Common.{◌||◌, map, sym}
-use Rattle.aci_item.specs.subtree_spec.spec.Subtrees.{subtree_of}
+use Rattle.aci_item.specs.subtree_spec.Subtrees.{subtree_of}
 use Rattle.acdf_filters.specs.users.Choices.{is_filled}
 use Rattle.acdf_filters.specs.users.Users.{listed_ranks}
 use Rattle.acdf_filters.proofs.users.UserLemmas.{least-ranks}

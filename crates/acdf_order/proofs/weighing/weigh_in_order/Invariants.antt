@@ -3,7 +3,7 @@ use Rattle.std.proofs.Common.{◌≡◌, map, drop}
 use Rattle.std.specs.Prelude.{fold}
 use Rattle.acdf_filters.specs.aci_item.item.Views.{tuple_of}
 use Rattle.acdf_filters.specs.weighing.Weighing.{weighed_for}
-use Rattle.acdf_order.specs.ordering.Order.{IsHighestFirst}
+use Rattle.acdf_order.specs.Order.{IsHighestFirst}
 use Rattle.acdf_order.proofs.weighing.weigh_in_order.Given as goal
 
 abbrev pub invariant-loop-tuple : goal.invariant-loop-tuple

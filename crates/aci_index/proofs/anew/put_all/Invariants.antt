@@ -2,7 +2,7 @@
 use Rattle.std.proofs.Common.{◌≡◌, length}
 use Rattle.std.specs.Prelude.{fold}
 use Rattle.std.specs.Vec.Iter.{into_iter_items}
-use Rattle.aci_index.specs.points.Reach.{HaveRoom, put_one}
+use Rattle.aci_index.specs.Reach.{HaveRoom, put_one}
 use Rattle.aci_index.proofs.anew.put_all.Given as goal
 
 abbrev pub invariant-loop-one : goal.invariant-loop-one

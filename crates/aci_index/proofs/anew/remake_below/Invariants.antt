@@ -3,7 +3,7 @@ use Rattle.std.proofs.Common.{◌≡◌, ◌++◌}
 use Rattle.std.specs.List.{AllByRecursion}
 use Rattle.dir_tree.specs.Scope.{scoped}
 use Rattle.dir_tree.specs.declared.scope.Scope.TheVariants.{Sub}
-use Rattle.aci_index.specs.points.Reach.{IsRemade, numbers_of}
+use Rattle.aci_index.specs.Reach.{IsRemade, numbers_of}
 use Rattle.aci_index.proofs.anew.remake_below.Given as goal
 
 abbrev pub invariant-loop-number : goal.invariant-loop-number

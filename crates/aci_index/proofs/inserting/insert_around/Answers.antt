@@ -6,7 +6,7 @@ use Rattle.dir_tree.proofs.TreeTheorems.{without-put_row}
 use Rattle.scope_laws.proofs.Theorems.{change-put}
 use Rattle.aci_lists.specs.kept.Holdings.{IsHeld}
 use Rattle.dir_tree.proofs.TreeTheorems.{new_removable}
-use Rattle.aci_index.specs.points.Reach.{IsAnew}
+use Rattle.aci_index.specs.Reach.{IsAnew}
 use Rattle.aci_index.specs.declared.anew.Reach.TheVariants.{Around}
 use Rattle.aci_index.proofs.inserting.HeldLemmas.{held-same}
 use Rattle.aci_index.proofs.anew.AnewLemmas.{held-anew}

@@ -3,11 +3,11 @@ use Rattle.std.proofs.Common.{◌≡◌, List, None, Some, ap, sym, subst, ◌�
 use Rattle.dir_tree.specs.tree.Numbered.{Numbered, IsNumberedTree, put_entry, without}
 use Rattle.dir_tree.specs.Refusals.{remove_refusal}
 use Rattle.dir_tree.proofs.TreeTheorems.{without-put_row}
-use Rattle.acdf_filters.specs.admin_scope.subtrees.Finding.{AreSubtrees}
+use Rattle.acdf_filters.specs.admin_scope.Finding.{AreSubtrees}
 use Rattle.scope_laws.proofs.Theorems.{change-put}
 use Rattle.aci_lists.specs.kept.Holdings.{IsHeld}
 use Rattle.dir_tree.proofs.TreeTheorems.{new_removable}
-use Rattle.aci_index.specs.anew.Steps.{IsKeptOf}
+use Rattle.aci_index.specs.Steps.{IsKeptOf}
 use Rattle.aci_index.proofs.inserting.SubtreeLemmas.{subtrees-stay}
 use Rattle.aci_index.proofs.inserting.HeldLemmas.{held-unused}
 use Rattle.aci_index.proofs.inserting.LeafLemmas.{held-put}

@@ -1,7 +1,7 @@
 -- A subentry is forgotten, and of another entry the own lists go.
 use Rattle.std.proofs.Common.{List, inl, inr, sym, subst}
 use Rattle.std.proofs.lemmas.Bool.{cases_Bool}
-use Rattle.dir_tree.specs.subentries.Points.{is_access_subentry}
+use Rattle.dir_tree.specs.Points.{is_access_subentry}
 use Rattle.dir_tree.specs.tree.Numbered.{Numbered, IsNumberedTree}
 use Rattle.aci_lists.specs.kept.Holdings.{IsHeld}
 use Rattle.aci_index.proofs.inserting.LeafLemmas.{held-taken, held-forgotten}

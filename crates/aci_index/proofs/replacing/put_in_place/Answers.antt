@@ -4,7 +4,7 @@ use Rattle.std.specs.Option.{option_map_or}
 use Rattle.dir_tree.specs.tree.Numbered.{Numbered, IsNumberedTree}
 use Rattle.aci_lists.specs.kept.Lists.{AreOf}
 use Rattle.aci_lists.specs.kept.Holdings.{IsHeld}
-use Rattle.aci_index.specs.anew.Steps.{is_own_change}
+use Rattle.aci_index.specs.Steps.{is_own_change}
 use Rattle.aci_index.proofs.replacing.OwnLemmas.{held-own}
 use Rattle.aci_index.proofs.replacing.put_in_place.Goals as goal
 

@@ -1,7 +1,7 @@
 use Rattle.std.proofs.Common.{List, sym, subst}
 use Rattle.dir_tree.specs.tree.Numbered.{Numbered, IsNumberedTree}
 use Rattle.aci_lists.specs.kept.Holdings.{IsHeld}
-use Rattle.aci_index.specs.points.Reach.{IsAnew}
+use Rattle.aci_index.specs.Reach.{IsAnew}
 use Rattle.aci_index.proofs.replacing.ReplacedLemmas.{room-replaced, held-replaced}
 use Rattle.aci_index.proofs.replacing.replace_reached.Goals as goal
 

@@ -2,7 +2,7 @@
 use Rattle.std.proofs.Common.{◌≡◌, ap, sym, ◌∙◌}
 use Rattle.std.specs.Prelude.{Option, option_map}
 use Rattle.std.specs.Option.{option_copied}
-use Rattle.aci_item.specs.bits.Rows.{row_of}
+use Rattle.aci_item.specs.Rows.{row_of}
 use Rattle.aci_item.proofs.bits.BitLemmas.{row_named}
 use Rattle.aci_item.proofs.bits.bit_named.Goals as goal
 

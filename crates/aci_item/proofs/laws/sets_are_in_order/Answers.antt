@@ -1,8 +1,8 @@
 -- Each set that is read is in order.
-use Rattle.subtree_spec.specs.printing.SubtreePrinted.{print_subtree}
+use Rattle.subtree_spec.specs.SubtreePrinted.{print_subtree}
 use Rattle.aci_item.specs.members.ItemParts.{user, kind, kind_and_value, class_subtree}
-use Rattle.aci_item.specs.printing.ItemPrinted.{print_user, print_kind, print_value, print_item_permission, print_user_permission}
-use Rattle.aci_item.specs.reading.AciText.{item_permission, user_permission}
+use Rattle.aci_item.specs.ItemPrinted.{print_user, print_kind, print_value, print_item_permission, print_user_permission}
+use Rattle.aci_item.specs.AciText.{item_permission, user_permission}
 use Rattle.aci_item.proofs.laws.SortedLemmas.{set_is_sorted}
 use Rattle.aci_item.proofs.laws.sets_are_in_order.Goals as goal
 

@@ -1,7 +1,7 @@
 -- Each set that is read is its members, sorted.
 use Rattle.aci_item.specs.members.ItemParts.{user}
-use Rattle.aci_item.specs.printing.ItemPrinted.{print_user, print_item_permission, print_user_permission}
-use Rattle.aci_item.specs.reading.AciText.{item_permission, user_permission}
+use Rattle.aci_item.specs.ItemPrinted.{print_user, print_item_permission, print_user_permission}
+use Rattle.aci_item.specs.AciText.{item_permission, user_permission}
 use Rattle.aci_item.proofs.sets.SetLemmas.{sorted_set-sorted}
 use Rattle.aci_item.proofs.laws.sets_are_their_members_sorted.Goals as goal
 

@@ -4,7 +4,7 @@ use Rattle.std.specs.Prelude.{Some}
 use Rattle.std.proofs.lemmas.Grind.{common_steps}
 use Rattle.gser_tree.specs.looking.Looking.{members_in}
 use Rattle.gser_tree.specs.Tree.{shape_of}
-use Rattle.aci_item.specs.printing.ItemPrinted.{print_kind}
+use Rattle.aci_item.specs.ItemPrinted.{print_kind}
 use Rattle.aci_item.specs.members.ItemParts.{kind}
 use Rattle.aci_item.proofs.sets.SetLemmas.{set_loop, set_end}
 use Rattle.aci_item.proofs.members.kinds_of.Goals as goal

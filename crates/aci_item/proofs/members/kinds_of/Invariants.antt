@@ -3,7 +3,7 @@ use Rattle.std.proofs.Common.{◌≡◌, [], drop, map}
 use Rattle.gser_tree.specs.Tree.{shape_of}
 use Rattle.gser_tree.specs.Writing.{text_of}
 use Rattle.aci_item.specs.members.ItemParts.{kind}
-use Rattle.aci_item.specs.printing.ItemPrinted.{print_kind}
+use Rattle.aci_item.specs.ItemPrinted.{print_kind}
 use Rattle.aci_item.specs.Sets.{put_member, gather_into}
 use Rattle.aci_item.specs.members.Gathering.{ArePrinted, values_of}
 use Rattle.aci_item.proofs.members.kinds_of.Given as goal

@@ -4,8 +4,8 @@ use Rattle.std.specs.Prelude.{Some}
 use Rattle.std.proofs.lemmas.Grind.{common_steps}
 use Rattle.gser_tree.specs.looking.Looking.{members_in}
 use Rattle.gser_tree.specs.Tree.{shape_of}
-use Rattle.subtree_spec.specs.spec.Subtrees.{subtree_of}
-use Rattle.subtree_spec.specs.printing.SubtreePrinted.{print_subtree}
+use Rattle.subtree_spec.specs.Subtrees.{subtree_of}
+use Rattle.subtree_spec.specs.SubtreePrinted.{print_subtree}
 use Rattle.aci_item.specs.members.ItemParts.{class_subtree}
 use Rattle.aci_item.proofs.sets.SetLemmas.{set_loop, set_end}
 use Rattle.aci_item.proofs.members.subtrees_of.Goals as goal

@@ -2,9 +2,9 @@
 use Rattle.std.proofs.Common.{◌≡◌, [], drop, map}
 use Rattle.gser_tree.specs.Tree.{shape_of}
 use Rattle.gser_tree.specs.Writing.{text_of}
-use Rattle.subtree_spec.specs.spec.Subtrees.{subtree_of}
+use Rattle.subtree_spec.specs.Subtrees.{subtree_of}
 use Rattle.aci_item.specs.members.ItemParts.{class_subtree}
-use Rattle.subtree_spec.specs.printing.SubtreePrinted.{print_subtree}
+use Rattle.subtree_spec.specs.SubtreePrinted.{print_subtree}
 use Rattle.aci_item.specs.Sets.{put_member, gather_into}
 use Rattle.aci_item.specs.members.Gathering.{ArePrinted, values_of}
 use Rattle.aci_item.proofs.members.subtrees_of.Given as goal

@@ -1,5 +1,5 @@
 -- One more member is put at its place.
-use Rattle.aci_item.specs.printing.ItemPrinted.{print_user}
+use Rattle.aci_item.specs.ItemPrinted.{print_user}
 use Rattle.aci_item.specs.members.ItemParts.{user}
 use Rattle.aci_item.proofs.sets.SetLemmas.{set_loop}
 use Rattle.aci_item.proofs.members.users_of.Goals as goal

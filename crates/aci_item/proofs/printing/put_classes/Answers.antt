@@ -3,8 +3,8 @@ use Rattle.std.proofs.Common.{◌++◌, true}
 use Rattle.std.specs.Prelude.{codes, map, string_bytes}
 use Rattle.gser_tree.specs.Writing.{print_filled, print_flag, print_optional}
 use Rattle.gser_tree.proofs.Theorems.{PutsMembers-append, PutsMembers-braces}
-use Rattle.subtree_spec.specs.printing.SubtreePrinted.{print_subtree}
-use Rattle.aci_item.specs.printing.ItemPrinted.{print_class_list, print_classes, print_user}
+use Rattle.subtree_spec.specs.SubtreePrinted.{print_subtree}
+use Rattle.aci_item.specs.ItemPrinted.{print_class_list, print_classes, print_user}
 use Rattle.aci_item.specs.item.Views.{classes_of}
 use Rattle.aci_item.proofs.printing.put_classes.Goals as goal
 

@@ -3,7 +3,7 @@ use Rattle.std.proofs.Common.{◌++◌, ◌∷◌, [], true, false}
 use Rattle.std.specs.Prelude.{codes, string_bytes}
 use Rattle.gser_tree.specs.Writing.{print_component, print_number, print_string}
 use Rattle.gser_tree.proofs.Theorems.{PutsMembers-append, PutsMembers-braces}
-use Rattle.aci_item.specs.printing.ItemPrinted.{print_first, print_item, print_level}
+use Rattle.aci_item.specs.ItemPrinted.{print_first, print_item, print_level}
 use Rattle.aci_item.specs.item.Views.{item_of_code}
 use Rattle.aci_item.proofs.printing.PrintedLemmas.{put_pair}
 use Rattle.aci_item.proofs.printing.put_item.Goals as goal

@@ -3,7 +3,7 @@ use Rattle.std.proofs.Common.{true, false, [], ◌∷◌, map}
 use Rattle.std.specs.Prelude.{codes, string_bytes}
 use Rattle.gser_tree.specs.Writing.{print_braces, print_component}
 use Rattle.gser_tree.proofs.Theorems.{put_choice, PutsMembers-braces}
-use Rattle.aci_item.specs.printing.ItemPrinted.{print_items, print_item_permission}
+use Rattle.aci_item.specs.ItemPrinted.{print_items, print_item_permission}
 use Rattle.aci_item.specs.item.Views.{items_of, item_permission_of}
 use Rattle.aci_item.proofs.printing.PrintedLemmas.{put_pair}
 use Rattle.aci_item.proofs.printing.put_item_first.Goals as goal

@@ -3,7 +3,7 @@ use Rattle.std.proofs.Common.{◌++◌, ◌∷◌, [], true, false}
 use Rattle.std.specs.Prelude.{codes, string_bytes}
 use Rattle.gser_tree.specs.Writing.{print_component}
 use Rattle.gser_tree.proofs.Theorems.{PutsMembers-append, PutsMembers-braces}
-use Rattle.aci_item.specs.printing.ItemPrinted.{print_bits, print_precedence, print_classes, print_item_permission}
+use Rattle.aci_item.specs.ItemPrinted.{print_bits, print_precedence, print_classes, print_item_permission}
 use Rattle.aci_item.specs.item.Views.{item_permission_of}
 use Rattle.aci_item.proofs.printing.PrintedLemmas.{put_pair}
 use Rattle.aci_item.proofs.printing.put_item_permission.Goals as goal

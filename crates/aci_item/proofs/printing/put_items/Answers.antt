@@ -3,7 +3,7 @@ use Rattle.std.proofs.Common.{◌++◌, true}
 use Rattle.std.specs.Prelude.{codes, map, string_bytes}
 use Rattle.gser_tree.specs.Writing.{print_filled, print_flag, print_optional}
 use Rattle.gser_tree.proofs.Theorems.{PutsMembers-append, PutsMembers-braces}
-use Rattle.aci_item.specs.printing.ItemPrinted.{print_item_list, print_items, print_kind, print_value}
+use Rattle.aci_item.specs.ItemPrinted.{print_item_list, print_items, print_kind, print_value}
 use Rattle.aci_item.specs.item.Views.{items_of}
 use Rattle.aci_item.proofs.printing.put_items.Goals as goal
 

@@ -4,7 +4,7 @@ use Rattle.std.proofs.lemmas.List.{get_or_default}
 use Rattle.std.specs.Prelude.{string_bytes}
 use Rattle.dir_tree.specs.schema_tables.declared.kinds.AttrId.{AttrId}
 use Rattle.subtree_spec.proofs.Theorems.{put_next}
-use Rattle.aci_item.specs.printing.ItemPrinted.{print_kind}
+use Rattle.aci_item.specs.ItemPrinted.{print_kind}
 use Rattle.aci_item.proofs.printing.PrintedLemmas.{put_viewed}
 use Rattle.aci_item.proofs.printing.put_kind_set.Goals as goal
 

@@ -2,7 +2,7 @@
 use Rattle.std.proofs.Common.{take, true}
 use Rattle.std.specs.Prelude.{map, string_bytes}
 use Rattle.gser_tree.specs.Writing.{PutsMembers}
-use Rattle.aci_item.specs.printing.ItemPrinted.{print_kind}
+use Rattle.aci_item.specs.ItemPrinted.{print_kind}
 use Rattle.aci_item.proofs.printing.put_kind_set.Given as goal
 
 abbrev pub invariant-loop-kind : goal.invariant-loop-kind

@@ -2,8 +2,8 @@
 use Rattle.std.proofs.Common.{true}
 use Rattle.std.specs.Prelude.{string_bytes}
 use Rattle.subtree_spec.proofs.Theorems.{put_next}
-use Rattle.subtree_spec.specs.spec.Subtrees.{subtree_of}
-use Rattle.subtree_spec.specs.printing.SubtreePrinted.{print_subtree}
+use Rattle.subtree_spec.specs.Subtrees.{subtree_of}
+use Rattle.subtree_spec.specs.SubtreePrinted.{print_subtree}
 use Rattle.aci_item.proofs.printing.PrintedLemmas.{put_viewed}
 use Rattle.aci_item.proofs.printing.put_subtree_set.Goals as goal
 

@@ -2,8 +2,8 @@
 use Rattle.std.proofs.Common.{take, true}
 use Rattle.std.specs.Prelude.{map, string_bytes}
 use Rattle.gser_tree.specs.Writing.{PutsMembers}
-use Rattle.subtree_spec.specs.spec.Subtrees.{subtree_of}
-use Rattle.subtree_spec.specs.printing.SubtreePrinted.{print_subtree}
+use Rattle.subtree_spec.specs.Subtrees.{subtree_of}
+use Rattle.subtree_spec.specs.SubtreePrinted.{print_subtree}
 use Rattle.aci_item.proofs.printing.put_subtree_set.Given as goal
 
 abbrev pub invariant-loop-spec : goal.invariant-loop-spec

@@ -2,8 +2,8 @@
 use Rattle.std.proofs.Common.{ap, sym, ◌∙◌}
 use Rattle.std.proofs.lemmas.List.{length-map}
 use Rattle.std.specs.Prelude.{◌==◌, codes, map, string_bytes}
-use Rattle.subtree_spec.specs.spec.Subtrees.{subtree_of}
-use Rattle.subtree_spec.specs.printing.SubtreePrinted.{print_subtree}
+use Rattle.subtree_spec.specs.Subtrees.{subtree_of}
+use Rattle.subtree_spec.specs.SubtreePrinted.{print_subtree}
 use Rattle.aci_item.proofs.printing.PrintedLemmas.{put_nothing, put_filled}
 use Rattle.aci_item.proofs.printing.put_subtrees.Goals as goal
 

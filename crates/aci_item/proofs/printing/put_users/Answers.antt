@@ -2,7 +2,7 @@
 use Rattle.std.proofs.Common.{ap, sym, ◌∙◌}
 use Rattle.std.proofs.lemmas.List.{length-map}
 use Rattle.std.specs.Prelude.{◌==◌, map, string_bytes}
-use Rattle.aci_item.specs.printing.ItemPrinted.{print_user}
+use Rattle.aci_item.specs.ItemPrinted.{print_user}
 use Rattle.aci_item.proofs.printing.PrintedLemmas.{put_nothing, put_filled}
 use Rattle.aci_item.proofs.printing.put_users.Goals as goal
 

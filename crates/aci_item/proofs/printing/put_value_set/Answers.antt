@@ -2,7 +2,7 @@
 use Rattle.std.proofs.Common.{true}
 use Rattle.std.specs.Prelude.{string_bytes}
 use Rattle.subtree_spec.proofs.Theorems.{put_next}
-use Rattle.aci_item.specs.printing.ItemPrinted.{print_value}
+use Rattle.aci_item.specs.ItemPrinted.{print_value}
 use Rattle.aci_item.proofs.printing.PrintedLemmas.{put_members}
 use Rattle.aci_item.proofs.printing.put_value_set.Goals as goal
 

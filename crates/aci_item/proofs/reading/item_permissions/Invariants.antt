@@ -3,8 +3,8 @@ use Rattle.std.proofs.Common.{◌≡◌, [], drop, map}
 use Rattle.gser_tree.specs.Tree.{shape_of}
 use Rattle.gser_tree.specs.Writing.{text_of}
 use Rattle.aci_item.specs.item.Views.{item_permission_of}
-use Rattle.aci_item.specs.reading.AciText.{item_permission}
-use Rattle.aci_item.specs.printing.ItemPrinted.{print_item_permission}
+use Rattle.aci_item.specs.AciText.{item_permission}
+use Rattle.aci_item.specs.ItemPrinted.{print_item_permission}
 use Rattle.aci_item.specs.Sets.{put_member, gather_into}
 use Rattle.aci_item.specs.members.Gathering.{ArePrinted, values_of}
 use Rattle.aci_item.proofs.reading.item_permissions.Given as goal

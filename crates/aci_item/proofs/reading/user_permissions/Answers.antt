@@ -5,8 +5,8 @@ use Rattle.std.proofs.lemmas.Grind.{common_steps}
 use Rattle.gser_tree.specs.looking.Looking.{members_in}
 use Rattle.gser_tree.specs.Tree.{shape_of}
 use Rattle.aci_item.specs.item.Views.{user_permission_of}
-use Rattle.aci_item.specs.printing.ItemPrinted.{print_user_permission}
-use Rattle.aci_item.specs.reading.AciText.{user_permission}
+use Rattle.aci_item.specs.ItemPrinted.{print_user_permission}
+use Rattle.aci_item.specs.AciText.{user_permission}
 use Rattle.aci_item.proofs.sets.SetLemmas.{set_loop, set_end}
 use Rattle.aci_item.proofs.reading.user_permissions.Goals as goal
 

@@ -1,7 +1,7 @@
 -- One more permission is split.
 use Rattle.std.proofs.Common.{map}
 use Rattle.std.specs.Option.{unwrap_or}
-use Rattle.aci_item.specs.splitting.AciTuples.{split}
+use Rattle.aci_item.specs.AciTuples.{split}
 use Rattle.aci_item.specs.item.Views.{items_of, item_permission_of, tuple_of}
 use Rattle.aci_item.proofs.splitting.TupleLemmas.{split_loop}
 use Rattle.aci_item.proofs.splitting.item_tuples.Goals as goal

@@ -1,6 +1,6 @@
 -- What is granted, and then what is denied.
 use Rattle.std.proofs.Common.{[], ◌∷◌, ◌++◌, true, false, map, ap, ◌∙◌}
-use Rattle.aci_item.specs.splitting.AciTuples.{kept, tuple_with}
+use Rattle.aci_item.specs.AciTuples.{kept, tuple_with}
 use Rattle.aci_item.specs.item.Views.{classes_of, items_of, tuple_of}
 use Rattle.aci_item.proofs.splitting.TupleLemmas.{put_two}
 use Rattle.aci_item.proofs.splitting.put_split.Goals as goal

@@ -1,7 +1,7 @@
 -- The tuples so far, and those of the permissions that are left, are those of all.
 use Rattle.std.proofs.Common.{◌≡◌, ◌++◌, drop, map}
 use Rattle.aci_item.specs.item.Items.{UserFirst}
-use Rattle.aci_item.specs.splitting.AciTuples.{kept, split_first}
+use Rattle.aci_item.specs.AciTuples.{kept, split_first}
 use Rattle.aci_item.specs.item.Views.{classes_of, user_permission_of, tuple_of}
 use Rattle.aci_item.proofs.splitting.user_tuples.Given as goal
 

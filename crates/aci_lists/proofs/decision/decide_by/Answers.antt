@@ -3,7 +3,7 @@ use Rattle.std.proofs.Common.{List, sym, ap, ◌∙◌}
 use Rattle.std.specs.Prelude.{fold}
 use Rattle.std.proofs.lemmas.List.Sums.{fold-append}
 use Rattle.acdf_filters.specs.Standing.{initial}
-use Rattle.acdf_filters.specs.aci_item.splitting.AciTuples.{AciTuple}
+use Rattle.acdf_filters.specs.aci_item.AciTuples.{AciTuple}
 use Rattle.acdf_filters.specs.weighing.Weighing.{weighed_for, is_granted}
 use Rattle.acdf_filters.specs.declared.standing.Standing.{Standing}
 use Rattle.aci_lists.specs.kept.Lists.{lists_at, tuples_inherited}

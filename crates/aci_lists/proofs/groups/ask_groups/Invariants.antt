@@ -1,7 +1,7 @@
 -- What is known so far, of the requester, and the groups that are left.
 use Rattle.std.proofs.Common.{◌≡◌, ◌++◌, Some, drop}
 use Rattle.dir_tree.specs.tree.Numbered.{entries_of}
-use Rattle.acdf_filters.specs.question.Memberships.{groups_of}
+use Rattle.acdf_filters.specs.Memberships.{groups_of}
 use Rattle.acdf_filters.specs.weighing.Weighing.{AreMemberships}
 use Rattle.aci_lists.proofs.groups.ask_groups.Given as goal
 

@@ -1,8 +1,8 @@
 use Rattle.std.proofs.Common.{refl, ◌∙◌}
 use Rattle.command_files.specs.dir_tree.tree.Numbered.{entries_of}
-use Rattle.explain_text.specs.question_words.asked.Questions.{question_view}
+use Rattle.explain_text.specs.question_words.Questions.{question_view}
 use Rattle.explain_text.specs.Texts.{text_explained}
-use Rattle.acl_program.specs.status.Outcomes.{Explained, text_of, status_of}
+use Rattle.acl_program.specs.Outcomes.{Explained, text_of, status_of}
 use Rattle.acl_program.specs.program.Outside.{written}
 use Rattle.acl_program.proofs.troubles.EndsLemmas.{Ends-put}
 use Rattle.acl_program.proofs.explain.print_explained.Goals as goal

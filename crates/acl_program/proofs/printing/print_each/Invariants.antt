@@ -1,5 +1,5 @@
 use Rattle.std.proofs.Common.{◌≡◌, ◌≤◌, ◌-◌, length, take}
-use Rattle.command_files.specs.wire_io.sink.Putting.{appended}
+use Rattle.command_files.specs.wire_io.Putting.{appended}
 use Rattle.acl_program.specs.program.Playing.{journal_lines}
 use Rattle.acl_program.proofs.printing.print_each.Given as goal
 

@@ -1,7 +1,7 @@
 use Rattle.std.proofs.Common.{sym, ap, ◌∙◌, subst}
 use Rattle.command_files.specs.dir_tree.tree.Numbered.{entries_of}
 use Rattle.command_files.specs.aci_item.Rules.{IsGoodTree}
-use Rattle.acl_program.specs.status.Outcomes.{dump_text}
+use Rattle.acl_program.specs.Outcomes.{dump_text}
 use Rattle.acl_program.specs.program.Outside.{written}
 use Rattle.acl_program.proofs.program.RunLemmas.{Played-stopped, Played-spent, Played-nothing, no_fault}
 use Rattle.acl_program.proofs.replay.play_over.Goals as goal

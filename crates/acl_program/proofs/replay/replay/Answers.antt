@@ -1,7 +1,7 @@
 use Rattle.command_words.specs.command.Command.{Replay}
 use Rattle.std.proofs.Common.{refl}
 use Rattle.acl_program.specs.program.Outside.{outside}
-use Rattle.acl_program.specs.replay.Asked.{replay_asked}
+use Rattle.acl_program.specs.Asked.{replay_asked}
 use Rattle.acl_program.proofs.program.RunLemmas.{LoadsData-good}
 use Rattle.acl_program.proofs.program.PerformLemmas.{Performs-replayed, Performs-refused}
 use Rattle.acl_program.proofs.replay.replay.Goals as goal

@@ -1,5 +1,5 @@
 use Rattle.acl_program.specs.program.Outside.{outside}
-use Rattle.acl_program.specs.replay.Asked.{replay_asked}
+use Rattle.acl_program.specs.Asked.{replay_asked}
 use Rattle.acl_program.proofs.program.RunLemmas.{LoadsScript-fresh, Replays-played, Replays-refused}
 use Rattle.acl_program.proofs.replay.replay_over.Goals as goal
 

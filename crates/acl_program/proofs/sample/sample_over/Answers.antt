@@ -1,8 +1,8 @@
 use Rattle.std.proofs.Common.{refl, ◌∙◌}
 use Rattle.command_files.specs.dir_tree.tree.Numbered.{entries_of}
-use Rattle.acl_program.specs.status.Outcomes.{Sampled, text_of, status_of}
+use Rattle.acl_program.specs.Outcomes.{Sampled, text_of, status_of}
 use Rattle.acl_program.specs.program.Outside.{written}
-use Rattle.acl_program.specs.sample.Sampling.{sample_text}
+use Rattle.acl_program.specs.Sampling.{sample_text}
 use Rattle.acl_program.proofs.troubles.EndsLemmas.{Ends-put}
 use Rattle.acl_program.proofs.sample.sample_over.Goals as goal
 

@@ -1,5 +1,5 @@
 use Rattle.std.proofs.Common.{ap, ◌∙◌}
-use Rattle.acl_program.specs.status.Outcomes.{settled}
+use Rattle.acl_program.specs.Outcomes.{settled}
 use Rattle.acl_program.proofs.serve.ServeLemmas.{PutsAll-as}
 use Rattle.acl_program.proofs.serve.serve_events.Goals as goal
 

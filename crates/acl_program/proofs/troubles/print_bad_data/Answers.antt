@@ -1,6 +1,6 @@
 use Rattle.std.proofs.Common.{refl, ◌∙◌}
-use Rattle.command_files.specs.data_file.loading.Files.{cause_of}
-use Rattle.acl_program.specs.status.Outcomes.{BadDataLine, status_of}
+use Rattle.command_files.specs.data_file.Files.{cause_of}
+use Rattle.acl_program.specs.Outcomes.{BadDataLine, status_of}
 use Rattle.acl_program.specs.program.Outside.{written}
 use Rattle.acl_program.proofs.troubles.EndsLemmas.{Ends-put}
 use Rattle.acl_program.proofs.troubles.print_bad_data.Goals as goal

@@ -1,5 +1,5 @@
 use Rattle.std.proofs.Common.{refl}
-use Rattle.acl_program.specs.status.Outcomes.{OutOfMemory}
+use Rattle.acl_program.specs.Outcomes.{OutOfMemory}
 use Rattle.acl_program.specs.program.Outside.{written}
 use Rattle.acl_program.proofs.troubles.EndsLemmas.{Ends-no_memory}
 use Rattle.command_files.proofs.wire_io_proofs.Theorems.{appended-none}

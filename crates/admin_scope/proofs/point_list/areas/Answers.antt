@@ -2,7 +2,7 @@
 use Rattle.std.proofs.Common.{◌≡◌, Some, sym, ap, ◌∙◌}
 use Rattle.std.specs.Option.{option_map}
 use Rattle.std.proofs.lemmas.Option.{same_Some}
-use Rattle.admin_scope.specs.upwards.Walking.{walk_of}
+use Rattle.admin_scope.specs.Walking.{walk_of}
 use Rattle.admin_scope.proofs.subentries.ListLemmas.{ok_from}
 use Rattle.admin_scope.proofs.subentries.WalkLemmas.{areas-gathered, live-gathered}
 use Rattle.admin_scope.proofs.point_list.areas.Goals as goal

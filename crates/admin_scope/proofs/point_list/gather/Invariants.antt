@@ -1,6 +1,6 @@
 -- The numbers so far, and those that are left, are all.
 use Rattle.std.proofs.Common.{◌≡◌, ◌++◌, map}
-use Rattle.admin_scope.specs.upwards.Walking.{walk_of}
+use Rattle.admin_scope.specs.Walking.{walk_of}
 use Rattle.admin_scope.proofs.point_list.gather.Given as goal
 
 abbrev pub invariant-loop-number : goal.invariant-loop-number

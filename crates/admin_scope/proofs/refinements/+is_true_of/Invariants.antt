@@ -1,6 +1,6 @@
 -- The members so far decide nothing.
 use Rattle.std.proofs.Common.{◌≡◌, drop, map}
-use Rattle.subtree_spec.specs.spec.Subtrees.{choice_of, gathered}
+use Rattle.subtree_spec.specs.Subtrees.{choice_of, gathered}
 use Rattle.admin_scope.specs.Refinements.{all_true_of, some_true_of}
 use Rattle.admin_scope.proofs.refinements.+is_true_of.Given as goal
 

@@ -2,8 +2,8 @@
 use Rattle.std.proofs.Common.{◌≡◌, ◌++◌, ◌||◌, List, [], map, length, sym, ap, ◌∙◌}
 use Rattle.std.specs.Prelude.{flat_map}
 use Rattle.dir_tree.specs.declared.number.EntryNo.{EntryNo}
-use Rattle.admin_scope.specs.upwards.Walking.{points_up}
-use Rattle.admin_scope.specs.subtrees.Finding.{numbers_by}
+use Rattle.admin_scope.specs.Walking.{points_up}
+use Rattle.admin_scope.specs.Finding.{numbers_by}
 use Rattle.admin_scope.proofs.subentries.ListLemmas.{flat_map-step}
 use Rattle.admin_scope.proofs.subentries.WalkLemmas.{any_specific, specific-found, specific-step, walk-none}
 use Rattle.admin_scope.proofs.subentries.below_points.Goals as goal

@@ -1,8 +1,8 @@
 -- The subentries so far, and those of the points that are left, are all; and a specific point was met or is left.
 use Rattle.std.proofs.Common.{◌≡◌, ◌++◌, ◌||◌, map, length}
 use Rattle.std.specs.Prelude.{flat_map}
-use Rattle.admin_scope.specs.upwards.Walking.{points_up, has_specific}
-use Rattle.admin_scope.specs.subtrees.Finding.{numbers_by}
+use Rattle.admin_scope.specs.Walking.{points_up, has_specific}
+use Rattle.admin_scope.specs.Finding.{numbers_by}
 use Rattle.admin_scope.proofs.subentries.WalkLemmas.{any_specific}
 use Rattle.admin_scope.proofs.subentries.below_points.Given as goal
 

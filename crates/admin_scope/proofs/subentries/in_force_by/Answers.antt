@@ -4,7 +4,7 @@ use Rattle.std.specs.Prelude.{IsSome}
 use Rattle.std.specs.List.{AllByRecursion}
 use Rattle.dir_tree.specs.declared.number.EntryNo.{EntryNo}
 use Rattle.dir_tree.specs.tree.Numbered.{entries_at, entry_of}
-use Rattle.admin_scope.specs.upwards.Walking.{walk_of}
+use Rattle.admin_scope.specs.Walking.{walk_of}
 use Rattle.admin_scope.proofs.subentries.ListLemmas.{ok_from}
 use Rattle.admin_scope.proofs.subentries.FindLemmas.{in_force-gathered, in_force-subentry, live-found, all_numbers_by}
 use Rattle.admin_scope.proofs.subentries.in_force_by.Goals as goal

@@ -1,6 +1,6 @@
 -- The subentries so far, and those that are left, are all.
 use Rattle.std.proofs.Common.{◌≡◌, ◌++◌, map, drop}
-use Rattle.admin_scope.specs.subtrees.Finding.{applying_by}
+use Rattle.admin_scope.specs.Finding.{applying_by}
 use Rattle.admin_scope.proofs.subentries.list_below.Given as goal
 
 abbrev pub invariant-loop-subentry : goal.invariant-loop-subentry

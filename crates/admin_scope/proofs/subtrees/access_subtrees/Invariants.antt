@@ -3,8 +3,8 @@ use Rattle.std.proofs.Common.{◌≡◌, ◌++◌, map, drop}
 use Rattle.std.specs.Prelude.{option_map}
 use Rattle.std.specs.List.{AllByRecursion}
 use Rattle.dir_tree.specs.tree.Numbered.{ids_of, subentry_rows}
-use Rattle.subtree_spec.specs.spec.Subtrees.{subtree_of}
-use Rattle.admin_scope.specs.subtrees.Finding.{subtree_at}
+use Rattle.subtree_spec.specs.Subtrees.{subtree_of}
+use Rattle.admin_scope.specs.Finding.{subtree_at}
 use Rattle.admin_scope.proofs.subtrees.access_subtrees.Given as goal
 
 abbrev pub invariant-loop-number : goal.invariant-loop-number

@@ -1,6 +1,6 @@
 -- By the front.
 use Rattle.std.proofs.Common.{◌≡◌, ◌<◌, sym, ◌∙◌, ap, arith}
-use Rattle.admin_scope.specs.upwards.Walking.{has_specific}
+use Rattle.admin_scope.specs.Walking.{has_specific}
 use Rattle.admin_scope.proofs.subentries.WalkLemmas.{has_specific-here, has_specific-other, has_specific-end}
 use Rattle.admin_scope.proofs.upwards.has_specific.Goals as goal
 

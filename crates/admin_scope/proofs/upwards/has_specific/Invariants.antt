@@ -1,6 +1,6 @@
 -- The fronts that were passed over name no specific point.
 use Rattle.std.proofs.Common.{◌≡◌}
-use Rattle.admin_scope.specs.upwards.Walking.{has_specific}
+use Rattle.admin_scope.specs.Walking.{has_specific}
 use Rattle.admin_scope.proofs.upwards.has_specific.Given as goal
 
 abbrev pub invariant-loop-len : goal.invariant-loop-len

@@ -1,6 +1,6 @@
 -- The fronts that were passed over name no point.
 use Rattle.std.proofs.Common.{◌≡◌}
-use Rattle.admin_scope.specs.upwards.Walking.{points_up}
+use Rattle.admin_scope.specs.Walking.{points_up}
 use Rattle.admin_scope.proofs.upwards.next_point.Given as goal
 
 abbrev pub invariant-loop-len : goal.invariant-loop-len

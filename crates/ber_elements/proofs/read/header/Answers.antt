@@ -1,6 +1,6 @@
 -- The computed heading is the one that the octets have, and no other is.
 use Rattle.std.proofs.Common.{sym, subst, ◌∙◌}
-use Rattle.ber_elements.specs.read.Heading.{IsHeading}
+use Rattle.ber_elements.specs.Heading.{IsHeading}
 use Rattle.ber_elements.proofs.Theorems.{heading_sound, heading_complete}
 use Rattle.ber_elements.proofs.read.header.Goals as goal
 

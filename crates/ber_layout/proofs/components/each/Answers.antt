@@ -3,7 +3,7 @@ use Rattle.std.proofs.Common.{◌≡◌, ◌++◌, ◌∷◌, [], List, map, Som
 use Rattle.std.proofs.lemmas.Result.{err_from_is_err_and}
 use Rattle.std.proofs.lemmas.List.{map-append, append-nil}
 use Rattle.ber_layout.specs.components.Components.{begins, behind, required_of, each_of}
-use Rattle.ber_layout.specs.laid.Layouts.{Value, reads_into}
+use Rattle.ber_layout.specs.Layouts.{Value, reads_into}
 use Rattle.ber_layout.proofs.components.EachLemmas.{shorter_by, each_step, each_none, each_done, behind_more}
 use Rattle.ber_layout.proofs.components.FaultLemmas.{fails_so}
 use Rattle.ber_layout.proofs.components.each.Goals as goal

@@ -1,7 +1,7 @@
 -- The values so far stand before those that are left.
 use Rattle.std.proofs.Common.{◌≡◌, map, length}
 use Rattle.ber_layout.specs.components.Components.{behind, each_of}
-use Rattle.ber_layout.specs.laid.Layouts.{reads}
+use Rattle.ber_layout.specs.Layouts.{reads}
 use Rattle.ber_layout.proofs.components.each.Given as goal
 
 abbrev pub invariant-loop-alloc : goal.invariant-loop-alloc

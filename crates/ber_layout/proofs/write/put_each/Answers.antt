@@ -1,7 +1,7 @@
 -- The element of one value more was appended.
 use Rattle.std.proofs.Common.{◌∙◌, ◌++◌, List, ℕ, sym, ap, map, take, append_assoc}
-use Rattle.ber_layout.specs.laid.Layouts.{writes}
-use Rattle.ber_layout.specs.write.Spellings.{element_octets, each_octets}
+use Rattle.ber_layout.specs.Layouts.{writes}
+use Rattle.ber_layout.specs.Spellings.{element_octets, each_octets}
 use Rattle.ber_layout.proofs.write.WritingLemmas.{each_octets_at}
 use Rattle.ber_layout.proofs.write.put_each.Goals as goal
 

@@ -1,7 +1,7 @@
 -- The elements of the values so far were appended.
 use Rattle.std.proofs.Common.{◌≡◌, ◌++◌, map, take}
-use Rattle.ber_layout.specs.laid.Layouts.{writes}
-use Rattle.ber_layout.specs.write.Spellings.{each_octets}
+use Rattle.ber_layout.specs.Layouts.{writes}
+use Rattle.ber_layout.specs.Spellings.{each_octets}
 use Rattle.ber_layout.proofs.write.put_each.Given as goal
 
 abbrev pub invariant-loop-value : goal.invariant-loop-value

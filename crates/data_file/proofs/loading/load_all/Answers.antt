@@ -1,6 +1,6 @@
 use Rattle.std.proofs.Common.{◌≡◌, ◌∙◌, ap, sym, Ok}
 use Rattle.dir_tree.specs.tree.Numbered.{entries_of}
-use Rattle.data_file.specs.writing.Steps.{IsStep}
+use Rattle.data_file.specs.Steps.{IsStep}
 use Rattle.data_file.proofs.loading.LoadLemmas.{loads_after-step, loads_after-end}
 use Rattle.data_file.proofs.loading.load_all.Goals as goal
 

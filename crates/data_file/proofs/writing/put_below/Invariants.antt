@@ -1,5 +1,5 @@
 use Rattle.std.proofs.Common.{◌≡◌, ◌++◌, Ok}
-use Rattle.wire_io.specs.sink.Putting.{PutsAll, PutCause}
+use Rattle.wire_io.specs.Putting.{PutsAll, PutCause}
 use Rattle.dir_tree.specs.Scope.{scoped}
 use Rattle.dir_tree.specs.declared.scope.Scope.TheVariants.{Sub}
 use Rattle.data_file.proofs.writing.PutLemmas.{numbers_of, texts_of}

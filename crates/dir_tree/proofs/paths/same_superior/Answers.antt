@@ -1,7 +1,7 @@
 -- Path keys compare as the names do.
 use Rattle.std.proofs.Common.{ap, ◌∙◌}
 use Rattle.std.specs.Ordering.{is_eq}
-use Rattle.dn_names.specs.order.NameOrder.{is_same}
+use Rattle.dn_names.specs.NameOrder.{is_same}
 use Rattle.dir_tree.specs.tree.Trees.{superior_name}
 use Rattle.dir_tree.proofs.tree.MapLemmas.{keys_cmp}
 use Rattle.dir_tree.proofs.paths.same_superior.Goals as goal

@@ -3,7 +3,7 @@ use Rattle.std.proofs.Common.{◌≡◌, ◌∙◌, None, ap, sym}
 use Rattle.std.specs.Prelude.{Option}
 use Rattle.dir_tree.specs.tree.Numbered.{entry_of}
 use Rattle.dir_tree.specs.declared.number.EntryNo.{EntryNo}
-use Rattle.directory.specs.hiding.Nearest.{nearest_name, without_object}
+use Rattle.directory.specs.Nearest.{nearest_name, without_object}
 use Rattle.directory.proofs.hiding.SeenLemmas.{nearest-lost, result-root}
 use Rattle.directory.proofs.hiding.no_object.Goals as goal
 

@@ -1,6 +1,6 @@
 -- What is left of the front is asked of what is left of the octets.
 use Rattle.std.proofs.Common.{◌≡◌, drop}
-use Rattle.dn_names.specs.is_key.KeyReading.{strip}
+use Rattle.dn_names.specs.KeyReading.{strip}
 use Rattle.dn_names.proofs.is_key.after.Given as goal
 
 abbrev pub invariant-loop-octet : goal.invariant-loop-octet

@@ -2,7 +2,7 @@
 use Rattle.std.proofs.Common.{◌∷◌, sym, ◌∙◌, ap}
 use Rattle.schema_tables.specs.Attributes.{name_of}
 use Rattle.dn_names.specs.Printing.{print_value}
-use Rattle.dn_names.specs.is_key.KeyReading.{strip}
+use Rattle.dn_names.specs.KeyReading.{strip}
 use Rattle.dn_names.proofs.is_key.StripLemmas.{strip_some}
 use Rattle.dn_names.proofs.is_key.after_pair.Goals as goal
 

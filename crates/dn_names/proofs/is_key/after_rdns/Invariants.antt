@@ -4,7 +4,7 @@ use Rattle.std.specs.Prelude.{◌==◌}
 use Rattle.dn_names.specs.declared.printing.Shown.TheVariants.{Key}
 use Rattle.dn_names.specs.name.Names.{rdns_of}
 use Rattle.dn_names.specs.Printing.{join_from, print_rdn, shown_of}
-use Rattle.dn_names.specs.is_key.KeyReading.{strip}
+use Rattle.dn_names.specs.KeyReading.{strip}
 use Rattle.dn_names.proofs.is_key.after_rdns.Given as goal
 
 abbrev pub invariant-loop-index : goal.invariant-loop-index

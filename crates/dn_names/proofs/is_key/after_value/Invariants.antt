@@ -2,7 +2,7 @@
 use Rattle.std.proofs.Common.{◌≡◌, true, drop}
 use Rattle.std.specs.Prelude.{◌==◌}
 use Rattle.dn_names.specs.Printing.{print_from}
-use Rattle.dn_names.specs.is_key.KeyReading.{strip}
+use Rattle.dn_names.specs.KeyReading.{strip}
 use Rattle.dn_names.proofs.is_key.after_value.Given as goal
 
 abbrev pub invariant-loop-index : goal.invariant-loop-index

@@ -1,7 +1,7 @@
 -- A text without a backslash that ends in no space stands for itself.
 use Rattle.std.proofs.Common.{◌-◌, length, sym, ap, ◌∙◌, arith}
 use Rattle.dn_names.specs.declared.octets.Reading.TheVariants.{Plain}
-use Rattle.dn_names.specs.octets.Reading.{octets_from, value_octets}
+use Rattle.dn_names.specs.Reading.{octets_from, value_octets}
 use Rattle.dn_names.proofs.octets.BareLemmas.{octets_from_bare}
 use Rattle.dn_names.proofs.octets.bare_octets.Goals as goal
 

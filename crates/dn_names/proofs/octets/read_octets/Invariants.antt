@@ -1,7 +1,7 @@
 -- The octets so far and those of what is left are the value's: where nothing but spaces is left, those that are kept.
 use Rattle.std.proofs.Common.{◌≡◌, ◌≤◌, length, drop}
 use Rattle.dn_names.specs.declared.octets.Reading.TheVariants.{Plain}
-use Rattle.dn_names.specs.octets.Reading.{octets_from}
+use Rattle.dn_names.specs.Reading.{octets_from}
 use Rattle.dn_names.proofs.octets.OctetsLemmas.{ended}
 use Rattle.dn_names.proofs.octets.read_octets.Given as goal
 

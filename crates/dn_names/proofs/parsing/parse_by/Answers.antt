@@ -3,8 +3,8 @@ use Rattle.std.proofs.Common.{◌≡◌, ℕ, true, List, length, None, Err}
 use Rattle.std.specs.Prelude.{nat_lt}
 use Rattle.dn_names.specs.declared.error.BadName.TheVariants.{TooMany}
 use Rattle.dn_names.specs.Modes.{text_fault}
-use Rattle.dn_names.specs.octets.Reading.{written_of}
-use Rattle.dn_names.specs.resolve.Resolving.{resolve}
+use Rattle.dn_names.specs.Reading.{written_of}
+use Rattle.dn_names.specs.Resolving.{resolve}
 use Rattle.dn_names.specs.parsing.NameText.{read_name}
 use Rattle.dn_names.proofs.parsing.parse_by.Goals as goal
 

@@ -1,7 +1,7 @@
 -- By whether the pair goes among the others, and whether more follow.
 use Rattle.std.proofs.Common.{[], length, sym, ap, ◌∙◌, arith}
-use Rattle.dn_names.specs.octets.Reading.{pair_of, rdn_of}
-use Rattle.dn_names.specs.resolve.Resolving.{rdn_from}
+use Rattle.dn_names.specs.Reading.{pair_of, rdn_of}
+use Rattle.dn_names.specs.Resolving.{rdn_from}
 use Rattle.dn_names.proofs.resolve.ResolveLemmas.{rdn_of-last, rdn_of-more, rdn_of-first, rdn_from-add, rdn_from-cause}
 use Rattle.dn_names.proofs.parsing.read_pairs.Goals as goal
 

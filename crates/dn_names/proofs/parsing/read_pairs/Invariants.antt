@@ -1,7 +1,7 @@
 -- The pairs so far and those of what is left are the RDN's.
 use Rattle.std.proofs.Common.{◌≡◌, ◌≤◌, ◌+◌, [], length, vec_len}
-use Rattle.dn_names.specs.octets.Reading.{rdn_of}
-use Rattle.dn_names.specs.resolve.Resolving.{rdn_from}
+use Rattle.dn_names.specs.Reading.{rdn_of}
+use Rattle.dn_names.specs.Resolving.{rdn_from}
 use Rattle.dn_names.proofs.parsing.read_pairs.Given as goal
 
 abbrev pub invariant-pairs : goal.invariant-pairs

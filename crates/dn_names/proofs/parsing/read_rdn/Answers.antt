@@ -1,7 +1,7 @@
 -- An RDN of one pair is that pair among none.
 use Rattle.std.proofs.Common.{[], sym, ap}
-use Rattle.dn_names.specs.octets.Reading.{pair_of, rdn_of}
-use Rattle.dn_names.specs.resolve.Resolving.{rdn_from}
+use Rattle.dn_names.specs.Reading.{pair_of, rdn_of}
+use Rattle.dn_names.specs.Resolving.{rdn_from}
 use Rattle.dn_names.proofs.resolve.ResolveLemmas.{rdn_of-last, answers_one, length_one}
 use Rattle.dn_names.proofs.parsing.read_rdn.Goals as goal
 

@@ -1,7 +1,7 @@
 -- By whether the RDN is good, and whether others follow.
 use Rattle.std.proofs.Common.{◌≡◌, ◌+◌, ◌++◌, ◌∷◌, [], length, sym, ap, ◌∙◌, arith}
 use Rattle.dn_names.specs.name.Names.{rdns_of}
-use Rattle.dn_names.specs.octets.Reading.{rdn_of}
+use Rattle.dn_names.specs.Reading.{rdn_of}
 use Rattle.dn_names.proofs.resolve.ResolveLemmas.{after_rdns, rdns_at, rdns_at-more, length-rdn_of, rdns_of-push}
 use Rattle.dn_names.proofs.parsing.read_rdns.Goals as goal
 

@@ -1,7 +1,7 @@
 -- By whether the octet is a mark; at the end, by the count of the parts.
 use Rattle.std.proofs.Common.{false, sym, ap, ◌∙◌, arith}
 use Rattle.std.proofs.lemmas.List.{drop_all}
-use Rattle.dn_names.specs.octets.Reading.{parts_of, marks_from}
+use Rattle.dn_names.specs.Reading.{parts_of, marks_from}
 use Rattle.dn_names.proofs.parts.PartsLemmas.{marks_from-mark, marks_from-other, length-parts_from}
 use Rattle.dn_names.proofs.parts.count_marks.Goals as goal
 use Rattle.dn_names.proofs.parts.count_marks.Goals.{then-is_mark, else-is_mark}

@@ -1,6 +1,6 @@
 -- The marks so far and those that are left are all.
 use Rattle.std.proofs.Common.{◌≡◌, ◌+◌, ◌≤◌, false, drop}
-use Rattle.dn_names.specs.octets.Reading.{marks_from}
+use Rattle.dn_names.specs.Reading.{marks_from}
 use Rattle.dn_names.proofs.parts.count_marks.Given as goal
 
 abbrev pub invariant-loop-octet : goal.invariant-loop-octet

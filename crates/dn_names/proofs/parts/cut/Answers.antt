@@ -1,6 +1,6 @@
 -- By whether octets are left from the first mark on.
 use Rattle.std.proofs.Common.{sym, ◌∙◌}
-use Rattle.dn_names.specs.octets.Reading.{parts_of}
+use Rattle.dn_names.specs.Reading.{parts_of}
 use Rattle.dn_names.proofs.parts.PartsLemmas.{cut_last, cut_more}
 use Rattle.dn_names.proofs.parts.cut.Goals as goal
 

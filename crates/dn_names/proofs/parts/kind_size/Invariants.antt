@@ -1,6 +1,6 @@
 -- No = has come, so the place of the first is counted from here on.
 use Rattle.std.proofs.Common.{◌≡◌, ◌+◌, drop}
-use Rattle.dn_names.specs.octets.Reading.{kind_size}
+use Rattle.dn_names.specs.Reading.{kind_size}
 use Rattle.dn_names.proofs.parts.kind_size.Given as goal
 
 abbrev pub invariant-loop-place : goal.invariant-loop-place

@@ -1,6 +1,6 @@
 -- What is left, read from the state so far, has the fault of the whole.
 use Rattle.std.proofs.Common.{◌≡◌, drop}
-use Rattle.regular_text.specs.laws.Machine.{fault_at}
+use Rattle.regular_text.specs.Machine.{fault_at}
 use Rattle.dn_names.specs.declared.modes.Mode.TheVariants.{Start}
 use Rattle.dn_names.specs.Modes.{machine}
 use Rattle.dn_names.proofs.scan.fault_place.Given as goal

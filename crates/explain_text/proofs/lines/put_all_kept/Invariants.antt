@@ -1,7 +1,7 @@
 -- What is written so far, and the tuples that are left.
 use Rattle.std.proofs.Common.{◌≡◌, ◌++◌, map, drop}
 use Rattle.std.specs.Prelude.{flat_map, string_bytes}
-use Rattle.acdf_core.specs.explaining.Explained.{kept_at}
+use Rattle.acdf_core.specs.Explained.{kept_at}
 use Rattle.explain_text.specs.Texts.{kept_line}
 use Rattle.explain_text.proofs.lines.put_all_kept.Given as goal
 

@@ -4,7 +4,7 @@ use Rattle.std.specs.Prelude.{flat_map, string_bytes, ℕ}
 use Rattle.dir_tree.specs.tree.Numbered.{Numbered, entries_at}
 use Rattle.acdf_filters.specs.Asking.{protected_of}
 use Rattle.acdf_core.specs.declared.steps.KeptTuple.{KeptTuple}
-use Rattle.acdf_core.specs.explaining.Explained.{kept_at}
+use Rattle.acdf_core.specs.Explained.{kept_at}
 use Rattle.explain_text.specs.Texts.{subentry_line, kept_line}
 use Rattle.explain_text.proofs.texts.TextLemmas.{text-said}
 use Rattle.explain_text.proofs.texts.entry_text.Goals as goal

@@ -1,7 +1,7 @@
 -- All tests are the filter's own.
 use Rattle.std.proofs.Common.{[], sym, ap, ◌∙◌, append-nil}
 use Rattle.ldap_filter.specs.filter.Filters.{Filter}
-use Rattle.filter_match.specs.evaluating.Judging.{judged}
+use Rattle.filter_match.specs.Judging.{judged}
 use Rattle.filter_match.specs.walk.Walks.{tests_of}
 use Rattle.filter_match.proofs.evaluating.judge.Goals as goal
 

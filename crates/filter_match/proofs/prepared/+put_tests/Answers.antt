@@ -1,7 +1,7 @@
 -- The tests of one member more were appended.
 use Rattle.std.proofs.Common.{◌++◌, List, sym, ap, ◌∙◌, take, append_assoc}
 use Rattle.ldap_filter.specs.filter.Filters.{filters_of}
-use Rattle.filter_match.specs.prepared.Tests.{Test}
+use Rattle.filter_match.specs.Tests.{Test}
 use Rattle.filter_match.specs.walk.Walks.{tests_of, tests_of_all}
 use Rattle.filter_match.proofs.walk.WalkLemmas.{tests_of_all-more}
 use Rattle.filter_match.proofs.prepared.+put_tests.Goals as goal

@@ -3,7 +3,7 @@ use Rattle.std.proofs.Common.{ℕ, List, Some, ap, sym, ◌∙◌, take_all}
 use Rattle.std.proofs.lemmas.Result.{err_from_is_err_and}
 use Rattle.dir_tree.specs.match_rules.declared.parts.Part.TheVariants.{Middle}
 use Rattle.dir_tree.specs.match_rules.Parts.{part_key_of}
-use Rattle.filter_match.specs.prepared.Tests.{middle_keys}
+use Rattle.filter_match.specs.Tests.{middle_keys}
 use Rattle.filter_match.proofs.preparing.PreparingLemmas.{middle_keys-more, middle_keys-stop, fails_so}
 use Rattle.filter_match.proofs.preparing.middle.Goals as goal
 

@@ -1,6 +1,6 @@
 -- The parts so far have their keys.
 use Rattle.std.proofs.Common.{◌≡◌, Some, map, take}
-use Rattle.filter_match.specs.prepared.Tests.{middle_keys}
+use Rattle.filter_match.specs.Tests.{middle_keys}
 use Rattle.filter_match.proofs.preparing.middle.Given as goal
 
 abbrev pub invariant-loop-part : goal.invariant-loop-part

@@ -4,8 +4,8 @@ use Rattle.ldap_filter.specs.declared.filter.Node.{Node}
 use Rattle.ldap_filter.specs.filter.Nodes.{filter_of_node}
 use Rattle.ldap_filter.specs.filter.Filters.{Filter, filters_of}
 use Rattle.ldap_filter.specs.filter.Filters.Filter.{And, Or}
-use Rattle.filter_match.specs.prepared.Tests.{test_of}
-use Rattle.filter_match.specs.evaluating.Judging.{judged}
+use Rattle.filter_match.specs.Tests.{test_of}
+use Rattle.filter_match.specs.Judging.{judged}
 use Rattle.filter_match.specs.walk.Walks.{tests_of, asks_all_of_and, asks_all_of_or, Walks}
 use Rattle.filter_match.proofs.walk.WalkLemmas.{on_the_way-start, on_the_way-next, on_the_way-all, is_item, walks_item}
 use Rattle.filter_match.proofs.walk.+walk.Goals as goal

@@ -1,4 +1,4 @@
-use Rattle.ldap_filter.specs.writing.FilterSpelling.{filter_octets}
+use Rattle.ldap_filter.specs.FilterSpelling.{filter_octets}
 use Rattle.ldap_filter.proofs.Theorems.{filter_complete, filter_spells}
 use Rattle.ldap_filter.proofs.laws.filters_are_read_again.Goals as goal
 

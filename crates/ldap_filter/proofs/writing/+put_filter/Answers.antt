@@ -1,8 +1,8 @@
 -- The element of one member more was appended.
 use Rattle.std.proofs.Common.{◌∙◌, ◌++◌, List, ℕ, sym, ap, take, append_assoc}
-use Rattle.ber_layout.specs.write.Spellings.{element_octets}
+use Rattle.ber_layout.specs.Spellings.{element_octets}
 use Rattle.ldap_filter.specs.filter.Filters.{filters_of}
-use Rattle.ldap_filter.specs.writing.FilterSpelling.{filter_tag, filter_content, members_octets}
+use Rattle.ldap_filter.specs.FilterSpelling.{filter_tag, filter_content, members_octets}
 use Rattle.ldap_filter.proofs.writing.SpellingLemmas.{members_at}
 use Rattle.ldap_filter.proofs.writing.+put_filter.Goals as goal
 

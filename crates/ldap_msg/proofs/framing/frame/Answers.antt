@@ -1,6 +1,6 @@
 -- The computed frame is the one that the stream has, and no other is.
 use Rattle.std.proofs.Common.{sym, subst, ◌∙◌}
-use Rattle.ldap_msg.specs.framing.Streams.{IsFrame}
+use Rattle.ldap_msg.specs.Streams.{IsFrame}
 use Rattle.ldap_msg.proofs.framing.OuterLemmas.{frame_sound, frame_complete}
 use Rattle.ldap_msg.proofs.framing.frame.Goals as goal
 

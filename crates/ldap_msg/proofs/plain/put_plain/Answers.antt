@@ -3,7 +3,7 @@ use Rattle.std.proofs.Common.{◌≡◌, ◌∷◌, [], ℕ, List, get_or, sym, 
 use Rattle.std.specs.Prelude.{pos}
 use Rattle.ber_elements.specs.Integer.{int_octets}
 use Rattle.ber_elements.specs.write.Spelling.{length_octets}
-use Rattle.ber_layout.specs.write.Spellings.{element_octets}
+use Rattle.ber_layout.specs.Spellings.{element_octets}
 use Rattle.ldap_msg.specs.operations.Operations.{response_tag}
 use Rattle.ldap_msg.specs.Replies.{response_for}
 use Rattle.ldap_msg.proofs.plain.PlainLemmas.{one_octet, two_octets, three_octets, four_octets, plain_is, where_ok}

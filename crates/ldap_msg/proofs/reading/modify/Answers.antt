@@ -2,7 +2,7 @@
 use Rattle.std.proofs.Common.{ap, ◌∙◌, Some}
 use Rattle.std.specs.Prelude.{Option}
 use Rattle.ber_layout.specs.element.Pieces.{◌>>=◌}
-use Rattle.ber_layout.specs.laid.Layouts.{Value}
+use Rattle.ber_layout.specs.Layouts.{Value}
 use Rattle.ldap_msg.specs.declared.kinds.ModifyRequest.{ModifyRequest}
 use Rattle.ldap_msg.specs.declared.kinds.Request.TheVariants as request
 use Rattle.ldap_msg.specs.Kinds.{modify_layout, modify_from}

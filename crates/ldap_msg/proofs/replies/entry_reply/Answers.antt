@@ -2,7 +2,7 @@
 use Rattle.std.proofs.Common.{ap, ◌∙◌, Some, map}
 use Rattle.std.specs.Prelude.{Option, List}
 use Rattle.ber_layout.specs.element.Pieces.{◌>>=◌}
-use Rattle.ber_layout.specs.laid.Layouts.{Value}
+use Rattle.ber_layout.specs.Layouts.{Value}
 use Rattle.ldap_msg.specs.declared.kinds.KindValues.{KindValues}
 use Rattle.ldap_msg.specs.declared.kinds.Reply.TheVariants as reply
 use Rattle.ldap_msg.specs.Attributes.{attribute_from}

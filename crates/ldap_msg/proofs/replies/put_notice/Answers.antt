@@ -2,7 +2,7 @@
 use Rattle.std.proofs.Common.{rules}
 use Rattle.ber_elements.specs.Integer.{int_octets}
 use Rattle.ber_elements.specs.write.Spelling.{length_octets}
-use Rattle.ber_layout.specs.write.Spellings.{element_octets}
+use Rattle.ber_layout.specs.Spellings.{element_octets}
 use Rattle.ldap_msg.specs.Replies.{reply_octets, notice_octets}
 use Rattle.ldap_msg.proofs.replies.put_notice.Goals as goal
 

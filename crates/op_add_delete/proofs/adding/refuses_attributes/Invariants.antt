@@ -2,7 +2,7 @@
 use Rattle.std.proofs.Common.{◌≡◌}
 use Rattle.std.specs.List.{list_any}
 use Rattle.dir_tree.specs.tree.Numbered.{entries_of}
-use Rattle.acdf_filters.specs.laws.Granted.{granted_new}
+use Rattle.acdf_filters.specs.Granted.{granted_new}
 use Rattle.op_add_delete.specs.adding.Adding.{refuses_attribute}
 use Rattle.op_add_delete.proofs.adding.refuses_attributes.Given as goal
 

@@ -4,8 +4,8 @@ use Rattle.std.proofs.lemmas.Result.{IfOk-weaker}
 use Rattle.dir_tree.specs.tree.Numbered.{entries_of}
 use Rattle.entry_changes.specs.Change.{changed_by}
 use Rattle.op_add_delete.specs.adding.Updates.{Changed, refused}
-use Rattle.op_modify.specs.asker.Asked.{granted_at}
-use Rattle.op_modify.specs.replacing.Steps.{IsChecked}
+use Rattle.op_modify.specs.Asked.{granted_at}
+use Rattle.op_modify.specs.Steps.{IsChecked}
 use Rattle.op_modify.proofs.modifying.ChangeLemmas.{modified_as-asked}
 use Rattle.op_modify.proofs.modifying.check_changes.Goals as goal
 

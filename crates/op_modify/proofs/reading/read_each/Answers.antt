@@ -2,7 +2,7 @@
 use Rattle.std.proofs.Common.{◌∙◌, ap, sym, drop, ◌+◌}
 use Rattle.std.proofs.lemmas.List.{drop_all}
 use Rattle.dir_tree.proofs.base_laws_proofs.Theorems.{next-item}
-use Rattle.op_modify.specs.reading.ReadChanges.{read_each}
+use Rattle.op_modify.specs.ReadChanges.{read_each}
 use Rattle.op_modify.proofs.reading.ReadingLemmas.{changes-step, changes-fault, changes-done}
 use Rattle.op_modify.proofs.reading.read_each.Goals as goal
 use Rattle.op_add_delete.proofs.Theorems.{put_before}

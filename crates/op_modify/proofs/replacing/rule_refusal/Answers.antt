@@ -1,6 +1,6 @@
 -- The rules are those of the target's place.
 use Rattle.std.proofs.Common.{◌≡◌, ◌∙◌, Some, ap, sym}
-use Rattle.op_add_delete.specs.schema_rules.check.Checking.{replaced, others}
+use Rattle.op_add_delete.specs.schema_rules.Checking.{replaced, others}
 use Rattle.acdf_filters.specs.aci_item.Rules.{broken_rule}
 use Rattle.op_add_delete.specs.adding.Adding.{rule_refusal}
 use Rattle.op_modify.proofs.modifying.ChangeLemmas.{broken_rule-beside}

@@ -2,7 +2,7 @@
 use Rattle.std.proofs.Common.{◌≡◌, ℕ, take}
 use Rattle.std.specs.List.{list_any}
 use Rattle.read_model.specs.Choosing.{is_chosen_by}
-use Rattle.op_read.specs.choosing.Choices.{chooses}
+use Rattle.op_read.specs.Choices.{chooses}
 use Rattle.op_read.proofs.choosing.read_texts.Given as goal
 
 abbrev pub invariant-loop-text : goal.invariant-loop-text

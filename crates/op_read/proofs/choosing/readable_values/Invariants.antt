@@ -2,7 +2,7 @@
 use Rattle.std.proofs.Common.{◌≡◌, take, map, filter}
 use Rattle.acdf_filters.specs.Asking.{Value}
 use Rattle.acdf_filters.specs.aci_item.declared.permission.Permission.TheVariants.{Read}
-use Rattle.op_read.specs.seen.Seeing.{row_in}
+use Rattle.op_read.specs.Seeing.{row_in}
 use Rattle.op_read.proofs.choosing.readable_values.Given as goal
 
 abbrev pub invariant-loop-value : goal.invariant-loop-value

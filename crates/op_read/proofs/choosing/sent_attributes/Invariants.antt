@@ -1,8 +1,8 @@
 -- The attributes so far, and those that are left, are all.
 use Rattle.std.proofs.Common.{◌≡◌, ◌++◌}
 use Rattle.std.specs.Prelude.{flat_map}
-use Rattle.op_read.specs.seen.Seeing.{row_in}
-use Rattle.op_read.specs.choosing.Choices.{sent_of}
+use Rattle.op_read.specs.Seeing.{row_in}
+use Rattle.op_read.specs.Choices.{sent_of}
 use Rattle.op_read.proofs.choosing.sent_attributes.Given as goal
 
 abbrev pub invariant-loop-kind : goal.invariant-loop-kind

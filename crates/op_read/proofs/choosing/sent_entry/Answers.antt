@@ -1,7 +1,7 @@
 -- The name, and the attributes that are sent.
 use Rattle.std.proofs.Common.{◌∙◌, ap}
 use Rattle.dir_tree.specs.dn_names.Printing.{print_name}
-use Rattle.op_read.specs.seen.Seeing.{row_in}
+use Rattle.op_read.specs.Seeing.{row_in}
 use Rattle.op_read.proofs.choosing.ChoosingLemmas.{sent-entry}
 use Rattle.op_read.proofs.choosing.sent_entry.Goals as goal
 

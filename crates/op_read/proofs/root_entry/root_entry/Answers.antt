@@ -3,7 +3,7 @@ use Rattle.std.proofs.Common.{◌∙◌, List, [], ℕ, ap}
 use Rattle.std.specs.Prelude.{flat_map}
 use Rattle.ldap_msg.specs.declared.kinds.KindValues.{KindValues}
 use Rattle.ldap_msg.specs.declared.kinds.Reply.TheVariants as reply
-use Rattle.op_read.specs.root_entry.Rooting.{root_sent_of, roots_with}
+use Rattle.op_read.specs.Rooting.{root_sent_of, roots_with}
 use Rattle.op_read.proofs.root_entry.RootLemmas.{root-entry}
 use Rattle.op_read.proofs.root_entry.root_entry.Goals as goal
 

@@ -1,5 +1,5 @@
 -- Four attributes, one behind the other.
-use Rattle.op_read.specs.root_entry.Rooting.{root_of, root_sent_of}
+use Rattle.op_read.specs.Rooting.{root_of, root_sent_of}
 use Rattle.op_read.proofs.root_entry.RootLemmas.{sent-four}
 use Rattle.op_read.proofs.root_entry.sent_roots.Goals as goal
 

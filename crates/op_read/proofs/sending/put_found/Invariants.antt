@@ -1,7 +1,7 @@
 -- Of all that are found those so far were sent, and those of the numbers that are left are left.
 use Rattle.dir_tree.specs.Scope.{scoped}
 use Rattle.read_model.specs.Selecting.{is_shown}
-use Rattle.op_read.specs.seen.Seeing.{scope_of}
+use Rattle.op_read.specs.Seeing.{scope_of}
 use Rattle.op_read.specs.Sending.{shown_among, entry_octets, Sends}
 use Rattle.op_read.proofs.sending.put_found.Given as goal
 

@@ -1,6 +1,6 @@
 -- One more is sent: without a limit, or within it.
 use Rattle.std.proofs.Common.{refl, arith}
-use Rattle.op_read.specs.seen.Seeing.{row_in}
+use Rattle.op_read.specs.Seeing.{row_in}
 use Rattle.op_read.specs.Sending.{entry_octets}
 use Rattle.op_read.proofs.sending.SendingLemmas.{sends-free, sends-within}
 use Rattle.op_read.proofs.sending.send.Goals as goal

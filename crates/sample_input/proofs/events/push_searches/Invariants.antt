@@ -1,5 +1,5 @@
 use Rattle.std.proofs.Common.{◌≡◌}
-use Rattle.sample_input.specs.events.SampleEvents.{sample_events}
+use Rattle.sample_input.specs.SampleEvents.{sample_events}
 use Rattle.sample_input.proofs.events.push_searches.Given as goal
 
 -- the searches for so many persons are there

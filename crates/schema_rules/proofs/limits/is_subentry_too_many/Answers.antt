@@ -1,6 +1,6 @@
 -- The two tests in the other order: nearly every tree has room.
 use Rattle.std.proofs.Common.{◌≡◌, Bool, true, false, ◌&&◌, refl, sym, ◌∙◌}
-use Rattle.dir_tree.specs.subentries.Points.{is_access_subentry}
+use Rattle.dir_tree.specs.Points.{is_access_subentry}
 use Rattle.schema_rules.proofs.limits.is_subentry_too_many.Goals as goal
 
 with_true : (one other : Bool) → other ≡ true → one ≡ (one && other)

@@ -3,7 +3,7 @@ use Rattle.std.proofs.Common.{◌≡◌}
 use Rattle.std.specs.List.{list_any}
 use Rattle.dir_tree.specs.Scope.{scoped}
 use Rattle.dir_tree.specs.declared.scope.Scope.TheVariants.{One}
-use Rattle.schema_rules.specs.old.Beside.{is_wrong_below}
+use Rattle.schema_rules.specs.Beside.{is_wrong_below}
 use Rattle.schema_rules.proofs.points.finds_wrong_below.Given as goal
 
 abbrev pub invariant-loop-other : goal.invariant-loop-other

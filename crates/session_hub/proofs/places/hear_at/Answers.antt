@@ -1,8 +1,8 @@
 use Rattle.std.proofs.Common.{sym, ap, ◌∙◌, subst, refl, slice_set}
 use Rattle.std.proofs.lemmas.List.{set-get_or}
 use Rattle.dir_tree.specs.tree.Numbered.{entries_of}
-use Rattle.run_laws.specs.session_model.laws.Kept.{Kept, is_cut}
-use Rattle.session_hub.specs.requester.Parties.{Requester}
+use Rattle.run_laws.specs.session_model.Kept.{Kept, is_cut}
+use Rattle.session_hub.specs.Parties.{Requester}
 use Rattle.session_hub.specs.hub.Hubs.{HearsAt, AreDistinct}
 use Rattle.session_hub.proofs.hub.HubLemmas.{distinct_set}
 use Rattle.session_hub.specs.connection.Connections.{HearsPiece}

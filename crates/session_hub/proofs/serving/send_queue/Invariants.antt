@@ -1,8 +1,8 @@
 use Rattle.std.proofs.Common.{◌∷◌, List, ℕ, length}
-use Rattle.run_laws.specs.session_model.laws.Kept.{queue_of}
-use Rattle.session_hub.specs.requester.Parties.{DirectoryEntries}
+use Rattle.run_laws.specs.session_model.Kept.{queue_of}
+use Rattle.session_hub.specs.Parties.{DirectoryEntries}
 use Rattle.session_hub.specs.hub.Hubs.{held}
-use Rattle.session_hub.specs.serving.Adding.{Adds, OnlyServes, IsServing}
+use Rattle.session_hub.specs.Adding.{Adds, OnlyServes, IsServing}
 use Rattle.session_hub.proofs.serving.send_queue.Given as goal
 
 -- the connection is still due

@@ -1,7 +1,7 @@
 use Rattle.std.proofs.Common.{length}
-use Rattle.session_hub.specs.requester.Parties.{DirectoryEntries}
+use Rattle.session_hub.specs.Parties.{DirectoryEntries}
 use Rattle.session_hub.specs.hub.Hubs.{held}
-use Rattle.session_hub.specs.serving.Adding.{Adds, OnlyServes, IsServing}
+use Rattle.session_hub.specs.Adding.{Adds, OnlyServes, IsServing}
 use Rattle.session_hub.proofs.serving.settle_all.Given as goal
 
 -- so many are still due

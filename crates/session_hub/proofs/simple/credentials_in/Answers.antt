@@ -1,6 +1,6 @@
 -- A version, a name and a password are the parts of a bind.
 use Rattle.std.proofs.Common.{rules}
-use Rattle.run_laws.specs.ber_layout.laid.Layouts.{reads_into}
+use Rattle.run_laws.specs.ber_layout.Layouts.{reads_into}
 use Rattle.run_laws.specs.ber_layout.components.Components.{required_of}
 use Rattle.session_hub.proofs.simple.credentials_in.Goals as goal
 

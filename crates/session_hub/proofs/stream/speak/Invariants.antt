@@ -1,6 +1,6 @@
 use Rattle.std.proofs.Common.{◌-◌, length}
 use Rattle.dir_tree.specs.tree.Numbered.{entries_of}
-use Rattle.session_hub.specs.stream.Answers.{SaysSoFar}
+use Rattle.session_hub.specs.Answers.{SaysSoFar}
 use Rattle.session_hub.proofs.stream.speak.Given as goal
 
 -- what was said so far, and what is said to the rest, is what is said to the stream

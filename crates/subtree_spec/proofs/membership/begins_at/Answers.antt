@@ -1,7 +1,7 @@
 -- A front is begun by its RDNs one by one.
 use Rattle.std.proofs.Common.{◌≡◌, ◌∙◌, sym, ap, length, drop, get_or, [], arith, length-drop, ◌<◌, ◌+◌, false, true, true}
 use Rattle.std.specs.Ordering.{is_ne}
-use Rattle.dn_names.specs.order.NameOrder.{rdn_cmp}
+use Rattle.dn_names.specs.NameOrder.{rdn_cmp}
 use Rattle.subtree_spec.specs.membership.Fronts.{begins}
 use Rattle.subtree_spec.proofs.membership.FrontLemmas.{begins-prefix, prefix_short, begins_step, step_equal, step_other, begins_all}
 use Rattle.subtree_spec.proofs.membership.begins_at.Goals as goal

@@ -1,6 +1,6 @@
 -- At the end the lengths decide.
 use Rattle.std.proofs.Common.{sym, ◌∙◌, arith}
-use Rattle.dn_names.specs.order.NameOrder.{pair_cmp}
+use Rattle.dn_names.specs.NameOrder.{pair_cmp}
 use Rattle.subtree_spec.proofs.membership.PairOrderLemmas.{slice_cmp-end}
 use Rattle.subtree_spec.proofs.membership.compare_rdn.Goals as goal
 

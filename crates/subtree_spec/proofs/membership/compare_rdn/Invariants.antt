@@ -1,6 +1,6 @@
 -- The pairs so far are equal, so those that are left decide.
 use Rattle.std.proofs.Common.{◌≡◌, ◌≤◌, drop, length}
-use Rattle.dn_names.specs.order.NameOrder.{rdn_cmp}
+use Rattle.dn_names.specs.NameOrder.{rdn_cmp}
 use Rattle.subtree_spec.proofs.membership.compare_rdn.Given as goal
 
 abbrev pub invariant-loop-index : goal.invariant-loop-index

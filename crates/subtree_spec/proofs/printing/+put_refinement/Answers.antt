@@ -1,8 +1,8 @@
 -- One more refinement is written, and then the end of the set.
 use Rattle.std.proofs.Common.{true}
 use Rattle.std.specs.Prelude.{string_bytes}
-use Rattle.subtree_spec.specs.spec.Subtrees.{choice_of}
-use Rattle.subtree_spec.specs.printing.SubtreePrinted.{print_refinement}
+use Rattle.subtree_spec.specs.Subtrees.{choice_of}
+use Rattle.subtree_spec.specs.SubtreePrinted.{print_refinement}
 use Rattle.subtree_spec.specs.declared.spec.Refinement.{Refinement}
 use Rattle.subtree_spec.proofs.printing.PrintedLemmas.{put_next, put_all}
 use Rattle.subtree_spec.proofs.printing.+put_refinement.Goals as goal

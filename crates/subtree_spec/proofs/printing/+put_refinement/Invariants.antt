@@ -2,8 +2,8 @@
 use Rattle.std.proofs.Common.{take, true}
 use Rattle.std.specs.Prelude.{map, string_bytes}
 use Rattle.gser_tree.specs.Writing.{PutsMembers}
-use Rattle.subtree_spec.specs.spec.Subtrees.{choice_of}
-use Rattle.subtree_spec.specs.printing.SubtreePrinted.{print_refinement}
+use Rattle.subtree_spec.specs.Subtrees.{choice_of}
+use Rattle.subtree_spec.specs.SubtreePrinted.{print_refinement}
 use Rattle.subtree_spec.proofs.printing.+put_refinement.Given as goal
 
 abbrev pub invariant-put_refinements-loop-member : goal.invariant-put_refinements-loop-member

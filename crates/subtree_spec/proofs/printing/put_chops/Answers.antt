@@ -1,7 +1,7 @@
 -- One more exclusion is written.
 use Rattle.std.specs.Prelude.{string_bytes}
 use Rattle.gser_tree.specs.Writing.{print_choice}
-use Rattle.subtree_spec.specs.printing.SubtreePrinted.{print_dn}
+use Rattle.subtree_spec.specs.SubtreePrinted.{print_dn}
 use Rattle.subtree_spec.proofs.printing.PrintedLemmas.{put_next}
 use Rattle.subtree_spec.proofs.printing.put_chops.Goals as goal
 

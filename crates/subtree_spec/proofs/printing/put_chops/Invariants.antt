@@ -2,7 +2,7 @@
 use Rattle.std.proofs.Common.{take}
 use Rattle.std.specs.Prelude.{string_bytes}
 use Rattle.gser_tree.specs.Writing.{PutsMembers}
-use Rattle.subtree_spec.specs.printing.SubtreePrinted.{print_chops}
+use Rattle.subtree_spec.specs.SubtreePrinted.{print_chops}
 use Rattle.subtree_spec.proofs.printing.put_chops.Given as goal
 
 abbrev pub invariant-loop-name : goal.invariant-loop-name

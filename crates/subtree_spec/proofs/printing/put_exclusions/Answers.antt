@@ -2,7 +2,7 @@
 use Rattle.std.proofs.Common.{true}
 use Rattle.std.specs.Prelude.{string_bytes, codes}
 use Rattle.gser_tree.proofs.Theorems.{PutsMembers-append, PutsMembers-braces}
-use Rattle.subtree_spec.specs.printing.SubtreePrinted.{print_chops, print_exclusions}
+use Rattle.subtree_spec.specs.SubtreePrinted.{print_chops, print_exclusions}
 use Rattle.subtree_spec.proofs.printing.put_exclusions.Goals as goal
 
 pub returns : goal.returns

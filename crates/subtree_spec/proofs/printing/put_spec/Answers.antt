@@ -3,8 +3,8 @@ use Rattle.std.proofs.Common.{◌++◌, true}
 use Rattle.std.specs.Prelude.{string_bytes, codes, option_map}
 use Rattle.gser_tree.specs.Writing.{print_number, print_optional, print_filled}
 use Rattle.gser_tree.proofs.Theorems.{PutsMembers-append, PutsMembers-braces}
-use Rattle.subtree_spec.specs.spec.Subtrees.{subtree_of}
-use Rattle.subtree_spec.specs.printing.SubtreePrinted.{print_base, print_exclusions, print_minimum, print_refinement, print_components, print_subtree}
+use Rattle.subtree_spec.specs.Subtrees.{subtree_of}
+use Rattle.subtree_spec.specs.SubtreePrinted.{print_base, print_exclusions, print_minimum, print_refinement, print_components, print_subtree}
 use Rattle.subtree_spec.proofs.printing.put_spec.Goals as goal
 
 pub returns : goal.returns

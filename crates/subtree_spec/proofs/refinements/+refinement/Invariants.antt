@@ -3,8 +3,8 @@ use Rattle.std.proofs.Common.{◌≡◌, ◌+◌, ◌*◌, drop}
 use Rattle.std.specs.Prelude.{map, []}
 use Rattle.gser_tree.specs.Tree.{shape_of}
 use Rattle.gser_tree.specs.Reading.{gather}
-use Rattle.subtree_spec.specs.reading.SubtreeText.{refinement}
-use Rattle.subtree_spec.specs.spec.Subtrees.{choice_of}
+use Rattle.subtree_spec.specs.SubtreeText.{refinement}
+use Rattle.subtree_spec.specs.Subtrees.{choice_of}
 use Rattle.subtree_spec.proofs.refinements.+refinement.Given as goal
 
 abbrev pub invariant-refinements-loop-tree : goal.invariant-refinements-loop-tree

@@ -1,6 +1,6 @@
 -- The place at the index is counted down, and the others stay.
 use Rattle.std.proofs.Common.{arith, ap, ◌∙◌}
-use Rattle.value_lists.specs.ordered.Orders.{place_after}
+use Rattle.value_lists.specs.Orders.{place_after}
 use Rattle.value_lists.proofs.drops.DropLemmas.{counted-next}
 use Rattle.value_lists.proofs.drops.count_down.Goals as goal
 

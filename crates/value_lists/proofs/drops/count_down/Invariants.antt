@@ -1,6 +1,6 @@
 -- The places so far are counted down.
 use Rattle.std.proofs.Common.{◌≡◌, ◌++◌, take, drop, map}
-use Rattle.value_lists.specs.ordered.Orders.{place_after}
+use Rattle.value_lists.specs.Orders.{place_after}
 use Rattle.value_lists.proofs.drops.count_down.Given as goal
 
 abbrev pub invariant-loop-index : goal.invariant-loop-index

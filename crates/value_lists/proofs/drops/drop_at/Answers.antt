@@ -1,6 +1,6 @@
 -- The places after, without the one.
 use Rattle.std.proofs.Common.{ap, map, ◌∙◌}
-use Rattle.value_lists.specs.ordered.Orders.{place_after}
+use Rattle.value_lists.specs.Orders.{place_after}
 use Rattle.value_lists.proofs.drops.DropLemmas.{IsOrder-without}
 use Rattle.value_lists.proofs.drops.drop_at.Goals as goal
 

@@ -1,7 +1,7 @@
 -- The places are those of the values that are left, of which the same are to be taken out.
 use Rattle.std.proofs.Common.{◌≡◌, not, filter, vec_len}
 use Rattle.std.specs.Str.{bytes_eq}
-use Rattle.value_lists.specs.ordered.Orders.{IsOrder}
+use Rattle.value_lists.specs.Orders.{IsOrder}
 use Rattle.value_lists.proofs.drops.drop_in_order.Given as goal
 
 abbrev pub invariant-loop-place : goal.invariant-loop-place

@@ -1,6 +1,6 @@
 use Rattle.std.proofs.Common.{◌≡◌, drop}
-use Rattle.wire_io.specs.shelf.Files.{file_of}
-use Rattle.wire_io.specs.memory_shelf.MemoryForms.{files_view}
+use Rattle.wire_io.specs.Files.{file_of}
+use Rattle.wire_io.specs.MemoryForms.{files_view}
 use Rattle.wire_io.proofs.memory_shelf.find.Given as goal
 
 -- the files passed are not of the name

@@ -1,5 +1,5 @@
 use Rattle.std.proofs.Common.{vec_len, ◌-◌, ◌≡◌, ◌≤◌}
-use Rattle.wire_io.specs.reading.ReadWhole.{HasRead}
+use Rattle.wire_io.specs.ReadWhole.{HasRead}
 use Rattle.wire_io.proofs.reading.read_all.Given as goal
 
 abbrev pub invariant-loop-content : goal.invariant-loop-content

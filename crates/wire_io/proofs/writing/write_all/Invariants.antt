@@ -1,5 +1,5 @@
 use Rattle.std.proofs.Common.{length, take, ◌-◌, ◌≡◌, ◌≤◌}
-use Rattle.wire_io.specs.sink.Putting.{appended}
+use Rattle.wire_io.specs.Putting.{appended}
 use Rattle.wire_io.proofs.writing.write_all.Given as goal
 
 abbrev pub invariant-loop-done : goal.invariant-loop-done

@@ -1,7 +1,7 @@
 -- As the call says.
 use Rattle.std.proofs.Common.{◌≡◌, ℕ, List, [], ◌∷◌, subst}
 use Rattle.std.specs.Prelude.{MatchOption}
-use Rattle.admin_scope.specs.upwards.Walking.{points_up}
+use Rattle.admin_scope.specs.Walking.{points_up}
 use Rattle.admin_scope.proofs.upwards.PointWalkIterator.next.Goals as goal
 
 pub returns-clause-steps : goal.returns-clause-steps

@@ -1,7 +1,7 @@
 -- The test of all object identifiers is one of each class.
 use Rattle.std.proofs.Common.{sym, ◌∙◌}
 use Rattle.std.specs.Str.{bytes_eq}
-use Rattle.dir_tree.specs.classes.EntryClasses.{has_class, oids_of_listed}
+use Rattle.dir_tree.specs.EntryClasses.{has_class, oids_of_listed}
 use Rattle.dir_tree.proofs.classes.ClassLemmas.{list_any-flat_map}
 use Rattle.dir_tree.proofs.entry.Entry.has_class.Goals as goal
 

@@ -1,8 +1,8 @@
 -- The code asks for the class of its own first.
 use Rattle.std.proofs.Common.{◌&&◌, codes, sym, ap, ◌∙◌}
 use Rattle.std.proofs.Math.Bool.{and_comm}
-use Rattle.dir_tree.specs.classes.EntryClasses.{has_class}
-use Rattle.dir_tree.specs.subentries.Points.{is_subentry, is_access_subentry}
+use Rattle.dir_tree.specs.EntryClasses.{has_class}
+use Rattle.dir_tree.specs.Points.{is_subentry, is_access_subentry}
 use Rattle.dir_tree.proofs.entry.Entry.is_access_subentry.Goals as goal
 
 pub returns-then-has_class : goal.returns-then-has_class

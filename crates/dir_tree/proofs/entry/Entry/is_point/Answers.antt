@@ -1,5 +1,5 @@
 -- A role is there.
-use Rattle.dir_tree.specs.subentries.Points.{is_point}
+use Rattle.dir_tree.specs.Points.{is_point}
 use Rattle.dir_tree.proofs.subentries.AccessLemmas.{some_values}
 use Rattle.dir_tree.proofs.entry.Entry.is_point.Goals as goal
 

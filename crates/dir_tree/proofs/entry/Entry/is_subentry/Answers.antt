@@ -1,5 +1,5 @@
 -- The class of subentries.
-use Rattle.dir_tree.specs.subentries.Points.{is_subentry}
+use Rattle.dir_tree.specs.Points.{is_subentry}
 use Rattle.dir_tree.proofs.entry.Entry.is_subentry.Goals as goal
 
 pub returns : goal.returns

@@ -3,7 +3,7 @@ use Rattle.std.proofs.Common.{◌∷◌, [], ap, sym, ◌∙◌, subst, refl}
 use Rattle.std.specs.Fn.{CalledAt}
 use Rattle.std.specs.List.{items_where_true}
 use Rattle.std.specs.List.Retain.{IsFiltered}
-use Rattle.plain_values.specs.one_or_many.Items.{items_in}
+use Rattle.plain_values.specs.Items.{items_in}
 use Rattle.plain_values.proofs.one_or_many.ItemLemmas.{IsFiltered-one}
 use Rattle.plain_values.proofs.one_or_many.Kept.retain.Goals as goal
 

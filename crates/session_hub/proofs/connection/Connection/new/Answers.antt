@@ -1,5 +1,5 @@
 use Rattle.std.proofs.Common.{drop, None, refl, ap}
-use Rattle.session_hub.specs.messages.Answering.{rules}
+use Rattle.session_hub.specs.Answering.{rules}
 use Rattle.session_hub.proofs.connection.HearLemmas.{kept_is}
 use Rattle.session_hub.proofs.connection.Connection.new.Goals as goal
 

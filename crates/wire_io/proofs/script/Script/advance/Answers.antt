@@ -1,6 +1,6 @@
 use Rattle.std.proofs.Common.{◌≡◌, ◌++◌, ◌∙◌, ap, sym, drop, length, arith}
 use Rattle.script_text.specs.Recording.{first_octets, without_first}
-use Rattle.wire_io.specs.script.Playing.{front_turn}
+use Rattle.wire_io.specs.Playing.{front_turn}
 use Rattle.wire_io.proofs.script.PlayingLemmas.{front_turn-part, front_turn-whole}
 use Rattle.wire_io.proofs.script.Script.advance.Goals as goal
 

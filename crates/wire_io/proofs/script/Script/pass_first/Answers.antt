@@ -1,6 +1,6 @@
 use Rattle.std.proofs.Common.{◌<◌, ◌≤◌, ◌++◌, ◌∙◌, ap, drop, length, arith}
 use Rattle.script_text.specs.Recording.{without_first}
-use Rattle.wire_io.specs.script.Playing.{without_front}
+use Rattle.wire_io.specs.Playing.{without_front}
 use Rattle.wire_io.proofs.script.PlayingLemmas.{passed-listed, passed-recorded}
 use Rattle.wire_io.proofs.script.Script.pass_first.Goals as goal
 use Rattle.wire_io.proofs.script.Script.pass_first.Goals.{then-self-len, else-self-len}

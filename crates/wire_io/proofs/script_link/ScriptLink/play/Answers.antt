@@ -1,5 +1,5 @@
 use Rattle.std.proofs.Common.{length, Some, ap, ◌∙◌}
-use Rattle.wire_io.specs.script.Playing.{next_turn, holds_of}
+use Rattle.wire_io.specs.Playing.{next_turn, holds_of}
 use Rattle.wire_io.specs.link.Telling.{event_of}
 use Rattle.wire_io.proofs.script_link.TurnLemmas.{good_turn, IsPlayable-turned, NextTells-turned}
 use Rattle.wire_io.proofs.script_link.ScriptLink.play.Goals as goal

@@ -1,0 +1,66 @@
+-- The six filters of the access control decision function (X.501 18.8.2 to 18.8.4), each over the tuples that those
+-- before it leave, and the decision.
+use Rattle.std.specs.Prelude.{ℕ, Bool, not, ◌&&◌, ◌||◌, nat_lt, List, filter, if◌then◌else◌}
+use Rattle.std.specs.List.{list_any, list_all}
+use Rattle.aci_item.specs.declared.level.Level.{Level}
+use Rattle.aci_item.specs.declared.permission.Permission.{Permission}
+use Rattle.aci_item.specs.Level.{rank_of}
+use Rattle.aci_item.specs.Permission.{is_same}
+use Rattle.aci_item.specs.AciTuples.{AciTuple}
+use Rattle.acdf_filters.specs.Asking.{Asked}
+use Rattle.acdf_filters.specs.Tuples.{Listed}
+use Rattle.acdf_filters.specs.users.Users.{listed_ranks}
+use Rattle.acdf_filters.specs.Covering.{covers, is_explicit}
+use Rattle.acdf_filters.specs.users.Choices.{least, highest, lowest, passing_or_all, is_filled}
+
+-- a tuple, with the ranks of its classes in which the requester is
+pub record Placed : Type 0 where
+  pub listed : Listed
+  pub ranks : List ℕ
+
+-- the tuple asks for a level above the requester's
+abbrev pub asks_above : Level → AciTuple → Bool
+asks_above level tuple = nat_lt (rank_of level) (rank_of tuple.level)
+
+-- a grant stays where the requester is in one of its classes and it asks for no level above; a denial where the
+-- requester is in one of them or it does
+abbrev pub stays : Level → AciTuple → List ℕ → Bool
+stays level tuple ranks =
+    if tuple.grants then is_filled ranks && not (asks_above level tuple) else is_filled ranks || asks_above level tuple
+
+-- the rank of a tuple: that of the most specific of its classes in which the requester is. X.501 leaves open which it is
+-- for a denial that stays by its level alone: here the most specific class that it lists, or else allUsers
+abbrev pub rank : AciTuple → List ℕ → ℕ
+rank tuple ranks = least (if is_filled ranks then ranks else listed_ranks tuple.classes)
+
+-- the tuple has the permission
+abbrev pub has_permission : Permission → AciTuple → Bool
+has_permission permission tuple = list_any (is_same permission) tuple.permissions
+
+-- 1: those that stay
+abbrev pub level_1 : Asked → List Placed → List Placed
+level_1 asked xs = filter (λ x. stays asked.who.level x.listed.tuple x.ranks) xs
+
+-- 2: those that cover the item
+abbrev pub level_2 : Asked → List Placed → List Placed
+level_2 asked xs = filter (λ x. covers asked.who.name asked.item x.listed.tuple.items) (level_1 asked xs)
+
+-- 3: those that have the permission
+abbrev pub level_3 : Asked → List Placed → List Placed
+level_3 asked xs = filter (λ x. has_permission asked.permission x.listed.tuple) (level_2 asked xs)
+
+-- 4: those of the highest precedence
+abbrev pub level_4 : Asked → List Placed → List Placed
+level_4 asked xs = highest (λ x. x.listed.tuple.precedence) (level_3 asked xs)
+
+-- 5: those of the most specific user class
+abbrev pub level_5 : Asked → List Placed → List Placed
+level_5 asked xs = lowest (λ x. rank x.listed.tuple x.ranks) (level_4 asked xs)
+
+-- 6: those that name the item explicitly, if any does
+abbrev pub level_6 : Asked → List Placed → List Placed
+level_6 asked xs = passing_or_all (λ x. is_explicit asked.who.name asked.item x.listed.tuple.items) (level_5 asked xs)
+
+-- access is granted where at least one is left and all that are left grant
+unfoldable pub decided : Asked → List Placed → Bool
+decided asked xs = is_filled (level_6 asked xs) && list_all (λ x. x.listed.tuple.grants) (level_6 asked xs)

@@ -1,4 +1,0 @@
--- what public clauses cite
-pub mod Filters
-pub mod Granted
-pub mod Unseen

@@ -1,0 +1,108 @@
+-- What the program comes to: one row an outcome, with the text that it prints and how it ends.
+use Rattle.std.specs.Prelude.{ℕ, Bool, true, false, ◌++◌, nat_lt, List, [], length, codes, decimal, if◌then◌else◌, Result, Ok, Err}
+use Rattle.command_files.specs.script_text.declared.event.ScriptEvent.{ScriptEvent}
+use Rattle.command_files.specs.wire_io.declared.answers.PutFault.{PutFault}
+use Rattle.command_files.specs.wire_io.declared.answers.PutFault.TheVariants as put
+use Rattle.command_files.specs.wire_io.Pieces.{pieces}
+use Rattle.session_hub.specs.serve.Loops.{buffer_length}
+use Rattle.command_files.specs.dir_tree.Entry.{EntryInformation}
+use Rattle.command_files.specs.dir_tree.Points.{access_subentries}
+use Rattle.command_files.specs.ldif_records.declared.types.LineCause.{LineCause}
+use Rattle.command_files.specs.ldif_records.declared.types.LineCause.TheVariants.{Syntax, Changetype, Base64}
+use Rattle.command_files.specs.ldif_records.writing.WrittenFile.{written_file}
+use Rattle.command_files.specs.ldif_load.declared.fault.LoadCause.{LoadCause}
+use Rattle.command_files.specs.ldif_load.declared.fault.LoadCause.TheVariants.{Name, Kind, Value, Twice, Order, Rule, Limit}
+use Rattle.command_files.specs.ldif_load.load.DataFile.{FileCause, OfLine, OfRecord}
+use Rattle.acl_program.specs.declared.status.Status.{Status}
+use Rattle.acl_program.specs.declared.status.Status.TheVariants.{Done, Usage, BadData, ShelfFault, SinkFault, LinkFault, TurnsSpent, NoMemory, BadScript}
+use Rattle.acl_program.specs.Lines.{replay_text, entries_after}
+use Rattle.acl_program.specs.serve.Serving.{ServeAsked, ServeEnd, serve_text, serve_status}
+
+-- no command is asked for; a file wasn't read; the data file's first bad line, and why; a script's first bad line; a data
+-- file was checked, or put again; a script was replayed for so many turns, and the tree put after it if that was asked
+-- for; a data file was served over the link; a decision was explained; a sample was made and served; memory ran out before
+-- anything was printed
+pub data Outcome : Type 0 where
+  NoCommand : Outcome
+  NoFile : Outcome
+  BadDataLine : (line : ℕ) (cause : FileCause) → Outcome
+  BadLine : (line : ℕ) → Outcome
+  Checked : (entries : List EntryInformation) → Outcome
+  Dumped : (entries : List EntryInformation) → Outcome
+  Replayed : (events : List ScriptEvent) (turns : ℕ) (dump : Bool) (entries : List EntryInformation) → Outcome
+  Served : (asked : ServeAsked) (end : ServeEnd) → Outcome
+  Explained : (text : List ℕ) → Outcome
+  Sampled : (text : List ℕ) → Outcome
+  OutOfMemory : Outcome
+
+-- the words for what is wrong with a line
+abbrev pub line_cause_text : LineCause → List ℕ
+line_cause_text Syntax = codes "syntax"
+line_cause_text Changetype = codes "changetype"
+line_cause_text Base64 = codes "base64"
+
+-- the words for what is wrong with a record
+abbrev pub record_cause_text : LoadCause → List ℕ
+record_cause_text Name = codes "name"
+record_cause_text Kind = codes "type"
+record_cause_text Value = codes "value"
+record_cause_text Twice = codes "twice"
+record_cause_text Order = codes "order"
+record_cause_text (Rule code) = codes "rule " ++ decimal code
+record_cause_text Limit = codes "limit"
+
+-- what is wrong with a file
+abbrev pub cause_text : FileCause → List ℕ
+cause_text (OfLine cause) = line_cause_text cause
+cause_text (OfRecord cause) = record_cause_text cause
+
+-- the tree as a data file, where it is asked for
+abbrev pub dump_text : Bool → List EntryInformation → List ℕ
+dump_text true entries = written_file entries
+dump_text false entries = []
+
+-- what is printed
+unfoldable pub text_of : Outcome → List ℕ
+text_of NoCommand = codes "usage: aclserver (serve|replay|check|dump|explain|sample) WORDS\n"
+text_of NoFile = codes "data fault\n"
+text_of (BadDataLine line cause) = codes "bad data line " ++ (decimal line ++ (codes ": " ++ (cause_text cause ++ codes "\n")))
+text_of (BadLine line) = codes "bad script line " ++ (decimal line ++ codes "\n")
+text_of (Checked entries) = codes "ok " ++ (decimal (length entries) ++ (codes " " ++ (decimal (access_subentries entries) ++ codes "\n")))
+text_of (Dumped entries) = written_file entries
+text_of (Replayed events turns dump entries) = replay_text entries events turns ++ dump_text dump (entries_after entries events turns)
+text_of (Served asked end) = serve_text asked.address end
+text_of (Explained text) = text
+text_of (Sampled text) = text
+text_of OutOfMemory = []
+
+-- how it ends, where all is printed: a replay is done where Stop was heard, which comes after the script's pieces
+unfoldable pub status_of : Outcome → Status
+status_of NoCommand = Usage
+status_of NoFile = ShelfFault
+status_of (BadDataLine line cause) = BadData
+status_of (BadLine line) = BadScript
+status_of (Checked entries) = Done
+status_of (Dumped entries) = Done
+status_of (Replayed events turns dump entries) = if nat_lt (length (pieces buffer_length events)) turns then Done else TurnsSpent
+status_of (Served asked end) = serve_status end
+status_of (Explained text) = Done
+status_of (Sampled text) = Done
+status_of OutOfMemory = NoMemory
+
+-- the number that the program exits with
+abbrev pub number_of : Status → ℕ
+number_of Done = 0
+number_of Usage = 2
+number_of BadData = 3
+number_of ShelfFault = 4
+number_of SinkFault = 5
+number_of LinkFault = 6
+number_of TurnsSpent = 7
+number_of NoMemory = 8
+number_of BadScript = 9
+
+-- how it ends after a text was to be printed: a refusal of the sink comes before all else
+abbrev pub settled : Result (Unit {0}) PutFault → Status → Status
+settled (Ok done) wanted = wanted
+settled (Err put.Failed) wanted = SinkFault
+settled (Err put.NoMemory) wanted = NoMemory

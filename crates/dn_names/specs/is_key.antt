@@ -1,2 +1,0 @@
--- for the inside of the crate alone: the machine that reads, of which public laws say what it gives
-pub mod KeyReading

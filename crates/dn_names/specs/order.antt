@@ -1,2 +1,0 @@
--- what public clauses cite: grammar, spelling, meaning, printing and order
-pub mod NameOrder

@@ -1,2 +1,0 @@
--- what the contracts of public functions cite
-pub mod Syntaxes

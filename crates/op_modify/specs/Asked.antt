@@ -1,0 +1,13 @@
+-- What is asked of the entry of a number.
+use Rattle.std.specs.Prelude.{ℕ, Bool, false, List}
+use Rattle.std.specs.Option.{option_map_or}
+use Rattle.dir_tree.specs.tree.Numbered.{Numbered, entries_of, entry_of}
+use Rattle.acdf_filters.specs.aci_item.declared.permission.Permission.{Permission}
+use Rattle.acdf_filters.specs.declared.asking.Requester.{Requester}
+use Rattle.acdf_filters.specs.Asking.{Protected}
+use Rattle.acdf_filters.specs.Granted.{granted}
+
+-- what the requester has the permission for, of the entry of the number; nothing, where that is not in use
+abbrev pub granted_at : List Numbered → Requester → ℕ → Protected → Permission → Bool
+granted_at rows who id item permission =
+    option_map_or (λ entry. granted (entries_of rows) who entry item permission) (entry_of id rows) false

@@ -1,2 +1,0 @@
--- for the inside of the crate alone
-pub mod Asked

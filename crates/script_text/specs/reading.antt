@@ -1,2 +1,0 @@
--- For the inside of the crate alone.
-pub mod Connections

@@ -1,0 +1,93 @@
+-- What one call within a loop adds to a link's journal, for the loop's own functions alone.
+use Rattle.std.specs.Prelude.{◌≡◌, ◌≤◌, ℕ, Bool, true, false, List, [], ◌∷◌, ◌++◌, length, Option, Some, Result, Ok, Err}
+use Rattle.dir_tree.specs.plain_values.Counts.{NeverFalls}
+use Rattle.run_laws.specs.wire_io.declared.answers.Heard.{Heard as Answer}
+use Rattle.run_laws.specs.wire_io.declared.answers.Heard.TheVariants as answer
+use Rattle.run_laws.specs.wire_io.declared.journal.Event.{Event}
+use Rattle.run_laws.specs.wire_io.declared.journal.Event.TheVariants as event
+use Rattle.run_laws.specs.wire_io.declared.journal.Item.{Item}
+use Rattle.run_laws.specs.wire_io.declared.journal.Item.TheVariants as item
+use Rattle.run_laws.specs.wire_io.Journal.{heard, was_opened, was_stopped}
+use Rattle.run_laws.specs.wire_io.link.Plan.{Plan}
+use Rattle.run_laws.specs.session_model.Run.{Opened, most_held}
+use Rattle.run_laws.specs.session_model.Kept as model
+use Rattle.run_laws.specs.session_model.Kept.{Held, queue_of}
+use Rattle.run_laws.specs.session_model.Keeping.{is_listed}
+use Rattle.run_laws.specs.session_model.Journaled.{all_taken}
+use Rattle.run_laws.specs.session_model.Serving.{Leads}
+use Rattle.run_laws.specs.session_model.Working.{Works, Refused, Lost}
+use Rattle.session_hub.specs.Parties.{DirectoryEntries, Requester}
+use Rattle.session_hub.specs.declared.sent.Sent.{Sent}
+use Rattle.session_hub.specs.declared.sent.Sent.TheVariants as sent
+use Rattle.session_hub.specs.Answering.{rules}
+
+-- the items are no events and, where no calls are planned that take nothing, no refusals
+pub record IsBlock (plan_now : Option Plan) (more : List Item) : Type 0 where
+  pub events : heard more ≡ []
+  pub stops : was_stopped more ≡ false
+  pub taken : (plan : Plan) → plan_now ≡ Some plan → plan.later ≡ [] → plan.gone ≡ [] → all_taken more ≡ true
+
+-- from a journal of which a claim holds, the link goes on to one of which the next holds
+unfoldable pub Adds : Option Plan → (List Item → Type 0) → (List Item → Type 0) → Option (List Item) → Option (List Item) → Type 0
+Adds plan claim next_claim before after =
+    (begun added : List Item) → before ≡ Some (begun ++ added) →
+    (more : List Item) × (after ≡ Some (begun ++ (added ++ more))) × IsBlock plan more × (claim added → next_claim (added ++ more))
+
+-- a call that serves keeps the plan and the count of faults, and no connection that was lost comes back
+pub record OnlyServes (plan_old plan_new : Option Plan) (faults_old faults_new lost_old lost_new : ℕ) : Type 0 where
+  pub plan : plan_new ≡ plan_old
+  pub faults : faults_new ≡ faults_old
+  pub lost : NeverFalls lost_old lost_new
+
+-- these are still due, and all others stand as they have to
+abbrev pub IsServing : DirectoryEntries → List ℕ → Held DirectoryEntries Requester → List ℕ → List Item → Type 0
+IsServing entries due held on_hold added = Works rules entries due held on_hold added
+
+-- the first that is due has nothing left to be sent
+pub record IsSent (entries : DirectoryEntries) (number : ℕ) (due : List ℕ) (held : Held DirectoryEntries Requester) (on_hold : List ℕ) (added : List Item) : Type 0 where
+  pub serving : IsServing entries (number ∷ due) held on_hold added
+  pub empty : queue_of number held.kept ≡ []
+
+-- and it isn't on hold
+pub record IsFree (entries : DirectoryEntries) (number : ℕ) (due : List ℕ) (held : Held DirectoryEntries Requester) (on_hold : List ℕ) (added : List Item) : Type 0 where
+  pub sent : IsSent entries number due held on_hold added
+  pub free : is_listed number on_hold ≡ false
+
+-- the claim where a call had memory; and where it had none the journal is right so far
+abbrev pub After : {X E : Type 0} → Result X E → DirectoryEntries → DirectoryEntries → (List Item → Type 0) → List Item → Type 0
+After (Ok value) entries left claim added = claim added
+After (Err fault) entries left claim added = Leads rules entries left added
+
+-- what a queue's sending came to
+abbrev pub SentIs : Sent → DirectoryEntries → ℕ → List ℕ → Held DirectoryEntries Requester → List ℕ → List Item → Type 0
+SentIs sent.All entries number due held on_hold added = IsSent entries number due held on_hold added
+SentIs sent.Later entries number due held on_hold added = Refused rules entries number due held on_hold added
+SentIs sent.Gone entries number due held on_hold added = Lost rules entries number due held on_hold added
+
+-- the same of its answer
+abbrev pub SentAs : {E : Type 0} → Result Sent E → DirectoryEntries → ℕ → List ℕ → Held DirectoryEntries Requester → List ℕ → List Item → Type 0
+SentAs (Ok came) entries number due held on_hold added = SentIs came entries number due held on_hold added
+SentAs (Err fault) entries number due held on_hold added = Leads rules entries held.tree added
+
+-- an event was heard last, which may come, and before it nobody was due
+pub record IsHeard (entries : DirectoryEntries) (held : Held DirectoryEntries Requester) (on_hold : List ℕ) (last_event : Event) (added : List Item) : Type 0 where
+  pub before : List Item
+  pub last : added ≡ before ++ item.Heard last_event ∷ []
+  pub opens : (number : ℕ) → last_event ≡ event.Opened number → was_opened number before ≡ false
+  pub works : IsServing entries [] held on_hold before
+
+-- a connection opened for which there was no room, and the hub doesn't hold it
+pub record IsTurnedAway (entries : DirectoryEntries) (number : ℕ) (now : Held DirectoryEntries Requester) (on_hold : List ℕ) (added : List Item) : Type 0 where
+  pub old : Held DirectoryEntries Requester
+  pub heard : IsHeard entries old on_hold (event.Opened number) added
+  pub full : most_held ≤ length old.kept
+  pub same : now ≡ model.heard rules (Opened number) old
+
+-- whether an answer of a link is Stop
+abbrev pub stops_with : Answer → Bool
+stops_with answer.Stop = true
+stops_with (answer.Opened number) = false
+stops_with (answer.Bytes number count) = false
+stops_with (answer.Ended number) = false
+stops_with (answer.Ready number) = false
+stops_with answer.Idle = false

@@ -1,0 +1,162 @@
+-- How this server answers each message (RFC 4511 4.1.1, 4.2 to 4.12). The rules of sessions take this, and
+-- nothing else of them knows what is answered.
+use Rattle.std.specs.Prelude.{Bool, true, false, List, [], ◌∷◌, Option, Some, None, if◌then◌else◌}
+use Rattle.run_laws.specs.ldap_msg.declared.kinds.BindRequest.{BindRequest}
+use Rattle.run_laws.specs.ldap_msg.declared.kinds.SearchRequest.{SearchRequest}
+use Rattle.run_laws.specs.ldap_msg.declared.kinds.Request.{Request}
+use Rattle.run_laws.specs.ldap_msg.declared.kinds.Request.TheVariants as request
+use Rattle.run_laws.specs.ldap_msg.declared.kinds.Control.{Control}
+use Rattle.run_laws.specs.ldap_msg.declared.kinds.Message.{Message}
+use Rattle.run_laws.specs.ldap_msg.declared.kinds.LdapResult.{LdapResult}
+use Rattle.run_laws.specs.ldap_msg.declared.kinds.Reply.{Reply}
+use Rattle.run_laws.specs.ldap_msg.declared.kinds.Reply.TheVariants as reply
+use Rattle.run_laws.specs.ldap_msg.declared.operations.ResultCode.{ResultCode}
+use Rattle.run_laws.specs.ldap_msg.declared.operations.ResultCode.TheVariants as code
+use Rattle.run_laws.specs.ldap_msg.reading.Messages.{message_of}
+use Rattle.run_laws.specs.ldap_msg.Replies.{notice_octets}
+use Rattle.op_read.specs.read_model.Views.{View, view_of, result_of}
+use Rattle.op_read.specs.read_model.SearchReplies.{search_replies, replies_octets}
+use Rattle.op_read.specs.read_model.CompareReplies.{compare_result}
+use Rattle.op_bind.specs.Binds.{bind_answer}
+use Rattle.modify_laws.specs.op_add_delete.adding.Updates.{Changed, unless, added, deleted}
+use Rattle.modify_laws.specs.op_modify.Modifying.{modified}
+use Rattle.modify_laws.specs.op_modify.Renames.{renamed}
+use Rattle.run_laws.specs.session_model.Rules.{Rules, Answered}
+use Rattle.session_hub.specs.Parties.{DirectoryEntries, Requester, nobody}
+use Rattle.session_hub.specs.Controls.{is_refused, subentries_asked}
+
+-- a result as the response to a request; none to an unbind or an abandon
+abbrev pub response_to : Request → LdapResult → Option Reply
+response_to (request.Bind bind) result = Some (reply.Bind result)
+response_to request.Unbind result = None
+response_to (request.Search search) result = Some (reply.Done result)
+response_to (request.Modify modify) result = Some (reply.Modify result)
+response_to (request.Add add) result = Some (reply.Add result)
+response_to (request.Delete delete) result = Some (reply.Delete result)
+response_to (request.Rename rename) result = Some (reply.Rename result)
+response_to (request.Compare compare) result = Some (reply.Compare result)
+response_to (request.Abandon id) result = None
+response_to (request.Extended name value) result = Some (reply.Extended result None None)
+
+-- the replies of a response, if there is one
+abbrev pub replies_in : Option Reply → List Reply
+replies_in None = []
+replies_in (Some response) = response ∷ []
+
+-- a request that ends with this code and does nothing
+abbrev pub ended_with : ResultCode → Request → List Reply
+ended_with code asked = replies_in (response_to asked (result_of code))
+
+-- who asks: a bind makes the requester anonymous before anything else (RFC 4513 4)
+abbrev pub asking : Requester → Request → Requester
+asking who (request.Bind bind) = nobody
+asking who request.Unbind = who
+asking who (request.Search search) = who
+asking who (request.Modify modify) = who
+asking who (request.Add add) = who
+asking who (request.Delete delete) = who
+asking who (request.Rename rename) = who
+asking who (request.Compare compare) = who
+asking who (request.Abandon id) = who
+asking who (request.Extended name value) = who
+
+-- a search, by what its controls of subentries ask for: protocolError where they can't be read
+abbrev pub searched : View → SearchRequest → Option (Option Bool) → List Reply
+searched view search None = reply.Done (result_of code.ProtocolError) ∷ []
+searched view search (Some subentries) = search_replies view search subentries
+
+-- what an operation comes to: the replies, the entries that it leaves, and who the requester is from then on
+pub record Operated : Type 0 where
+  pub replies : List Reply
+  pub entries : DirectoryEntries
+  pub who : Requester
+
+-- these replies, and the entries and the requester stay
+abbrev pub replying : DirectoryEntries → Requester → List Reply → Operated
+replying entries who replies = record { replies = replies; entries = entries; who = who }
+
+-- a bind over the entries
+abbrev pub bound : DirectoryEntries → BindRequest → Operated
+bound entries bind = record {
+  replies = reply.Bind (result_of (bind_answer entries bind).code) ∷ [];
+  entries = entries;
+  who = (bind_answer entries bind).who;
+}
+
+-- the result of a change: success where nothing refuses it
+abbrev pub change_result : Option LdapResult → LdapResult
+change_result None = result_of code.Success
+change_result (Some refusal) = refusal
+
+-- a change of the entries that a request asks for
+abbrev pub changing : Requester → Request → Changed → Operated
+changing who asked changed =
+    record { replies = replies_in (response_to asked (change_result changed.refusal)); entries = changed.entries; who = who }
+
+-- the change that a request asks for; the entries stay where it asks for none
+abbrev pub change_of : DirectoryEntries → Requester → Request → Changed
+change_of entries who (request.Bind bind) = unless None entries entries
+change_of entries who request.Unbind = unless None entries entries
+change_of entries who (request.Search search) = unless None entries entries
+change_of entries who (request.Modify modify) = modified entries who modify
+change_of entries who (request.Add add) = added entries who add
+change_of entries who (request.Delete delete) = deleted entries who delete
+change_of entries who (request.Rename rename) = renamed entries who rename
+change_of entries who (request.Compare compare) = unless None entries entries
+change_of entries who (request.Abandon id) = unless None entries entries
+change_of entries who (request.Extended name value) = unless None entries entries
+
+-- an operation that no control refuses: a search and a compare read what the requester sees of the entries, a modify, an
+-- add, a delete and a rename change them, and no extended operation is known
+abbrev pub operated : DirectoryEntries → Requester → List Control → Request → Operated
+operated entries who controls (request.Bind bind) = bound entries bind
+operated entries who controls request.Unbind = replying entries who []
+operated entries who controls (request.Search search) =
+    replying entries who (searched (view_of entries who) search (subentries_asked controls))
+operated entries who controls (request.Modify modify) = changing who (request.Modify modify) (modified entries who modify)
+operated entries who controls (request.Add add) = changing who (request.Add add) (added entries who add)
+operated entries who controls (request.Delete delete) = changing who (request.Delete delete) (deleted entries who delete)
+operated entries who controls (request.Rename rename) = changing who (request.Rename rename) (renamed entries who rename)
+operated entries who controls (request.Compare compare) =
+    replying entries who (reply.Compare (compare_result (view_of entries who) compare) ∷ [])
+operated entries who controls (request.Abandon id) = replying entries who []
+operated entries who controls (request.Extended name value) =
+    replying entries who (ended_with code.ProtocolError (request.Extended name value))
+
+-- an operation that a control refuses, for this requester
+abbrev pub refused : DirectoryEntries → Requester → Request → Operated
+refused entries who asked = replying entries who (ended_with code.UnavailableCriticalExtension asked)
+
+-- a request with its controls
+abbrev pub answered : DirectoryEntries → Requester → List Control → Request → Operated
+answered entries who controls asked =
+    if is_refused asked controls then refused entries (asking who asked) asked else operated entries (asking who asked) controls asked
+
+-- an unbind closes
+abbrev pub is_unbind : Request → Bool
+is_unbind (request.Bind bind) = false
+is_unbind request.Unbind = true
+is_unbind (request.Search search) = false
+is_unbind (request.Modify modify) = false
+is_unbind (request.Add add) = false
+is_unbind (request.Delete delete) = false
+is_unbind (request.Rename rename) = false
+is_unbind (request.Compare compare) = false
+is_unbind (request.Abandon id) = false
+is_unbind (request.Extended name value) = false
+
+-- the answer to a message, or to octets that are none, which get the notice of disconnection and close
+abbrev pub answer_read : DirectoryEntries → Requester → Option Message → Answered DirectoryEntries Requester
+answer_read entries who None = record { replies = notice_octets; tree = entries; who = who; closes = true }
+answer_read entries who (Some message) =
+    let came = answered entries who message.controls message.request in
+    record {
+      replies = replies_octets message.id came.replies;
+      tree = came.entries;
+      who = came.who;
+      closes = is_unbind message.request;
+    }
+
+-- the rules of this server, over the entries of its directory
+unfoldable pub rules : Rules DirectoryEntries Requester
+rules = record { nobody = nobody; answer = λ tree who bytes. answer_read tree who (message_of bytes) }

@@ -1,0 +1,64 @@
+-- What an answered message, and an answered stream, leave.
+use Rattle.std.specs.Prelude.{◌≡◌, ◌≤◌, ◌+◌, ℕ, Bool, true, false, List, ◌++◌, length, drop, Option, Some, None}
+use Rattle.run_laws.specs.ldap_msg.Streams.{rest_of}
+use Rattle.run_laws.specs.session_model.Rules.{Answered, after_octets}
+use Rattle.run_laws.specs.session_model.Kept.{speech}
+use Rattle.session_hub.specs.Parties.{DirectoryEntries, Requester}
+use Rattle.session_hub.specs.declared.spoken.Spoken.{Spoken}
+use Rattle.session_hub.specs.declared.spoken.SpeechEnd.{SpeechEnd}
+use Rattle.session_hub.specs.declared.spoken.SpeechEnd.TheVariants.{StaysOpen, Closes, IsCut}
+use Rattle.op_read.specs.read_model.SearchReplies.{replies_octets}
+use Rattle.session_hub.specs.Answering.{rules, Operated}
+
+-- the octets sent, the entries and the requester left, and whether the connection closes are those of the answer
+pub record Gives (answered : Answered DirectoryEntries Requester) (old new : List ℕ) (entries : DirectoryEntries) (who : Requester) (closes : Bool) : Type 0 where
+  pub said : new ≡ old ++ answered.replies
+  pub left : entries ≡ answered.tree
+  pub asker : who ≡ answered.who
+  pub closed : closes ≡ answered.closes
+
+-- what was sent is the replies of an operation to the message of this number, and the entries and the requester are those
+-- that it leaves
+pub record Sends (id : ℕ) (came : Operated) (old new : List ℕ) (entries : DirectoryEntries) (who : Requester) : Type 0 where
+  pub said : new ≡ old ++ replies_octets id came.replies
+  pub left : entries ≡ came.entries
+  pub asker : who ≡ came.who
+
+-- what is said to a stream by this server, up to a cut
+abbrev pub said_to : Option ℕ → DirectoryEntries → Requester → List ℕ → Answered DirectoryEntries Requester
+said_to cut entries who stream = speech rules cut entries who stream
+
+-- whether a stream's connection closes at its end
+abbrev pub closes_at : SpeechEnd → Bool
+closes_at StaysOpen = false
+closes_at Closes = true
+closes_at IsCut = true
+
+-- where it was cut, behind so many messages
+abbrev pub cut_at : SpeechEnd → ℕ → Option ℕ
+cut_at StaysOpen answered = None
+cut_at Closes answered = None
+cut_at IsCut answered = Some answered
+
+-- a stream is answered: what was sent is what is said to it, up to where it was cut; where the connection stays open, so
+-- many octets were read, and a cut behind all of its messages would leave the same and close
+pub record Speaks (before : DirectoryEntries) (asks : Requester) (stream old new : List ℕ) (entries : DirectoryEntries) (who : Requester) (spoken : Spoken) : Type 0 where
+  pub gives : Gives (said_to (cut_at spoken.end spoken.answered) before asks stream) old new entries who (closes_at spoken.end)
+  pub within : spoken.read ≤ length stream
+  pub unread : spoken.end ≡ StaysOpen → drop spoken.read stream ≡ rest_of stream
+  pub cuts : spoken.end ≡ StaysOpen → Gives (said_to (Some spoken.answered) before asks stream) old new entries who true
+
+-- a cut so many messages later
+abbrev pub behind : ℕ → Option ℕ → Option ℕ
+behind answered None = None
+behind answered (Some count) = Some (answered + count)
+
+-- how far a stream was answered: whatever cut may follow, what was said so far and what is said to the rest is what is
+-- said to the stream
+pub record SaysSoFar (before : DirectoryEntries) (asks : Requester) (stream old now : List ℕ) (entries : DirectoryEntries) (who : Requester) (read answered : ℕ) : Type 0 where
+  pub more : List ℕ
+  pub grows : now ≡ old ++ more
+  pub within : read ≤ length stream
+  pub counts : answered ≤ read
+  pub rest : rest_of (drop read stream) ≡ rest_of stream
+  pub said : (cut : Option ℕ) → said_to (behind answered cut) before asks stream ≡ after_octets more (said_to cut entries who (drop read stream))
