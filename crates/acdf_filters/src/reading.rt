@@ -25,7 +25,7 @@ fn split(alloc: Global, item: AciItem) -> Result<TaggedTuples, NoMemory>
 }
 
 // Those of the item that the octets are; None where they are none.
-#[tactic(auto, unfolding(aci_item::specs::reading::AciText::item_of))]
+#[tactic(auto, unfolding(aci_item::specs::AciText::item_of))]
 fn read_item(alloc: Global, octets: &[u8]) -> Result<Option<TaggedTuples>, NoMemory>
     ensures ok { IfOk result (λ found. option_map tagged_of found ≡ option_map tagged (item_of octets.now)) }
 {
@@ -50,7 +50,7 @@ fn put_item(items: &mut Vec<TaggedTuples>, found: Option<TaggedTuples>) -> Resul
 
 /// The items of the entry's values of the type, in the order of the values, split into tuples: a value that is no item
 /// gives none. The error comes where memory is wanted.
-#[tactic(auto, unfolding(crate::specs::reading::Tuples::items_in))]
+#[tactic(auto, unfolding(crate::specs::Tuples::items_in))]
 pub fn read_items(alloc: Global, entry: &Entry, kind: AttrId) -> Result<Vec<TaggedTuples>, NoMemory>
     ensures ok { IfOk result (λ items. map tagged_of items.items ≡ items_in kind.0 entry.now) }
 {

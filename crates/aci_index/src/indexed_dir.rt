@@ -12,8 +12,9 @@ use crate::replacing::replace_step;
 use acdf_filters::aci_item::Permission;
 use acdf_filters::{Item, Membership, Question, Requester};
 use aci_lists::{
-    Dir, Holdings, decide_by, decide_new_by, hold, in_force_at, in_force_new_by, memberships_in,
+    Holdings, decide_by, decide_new_by, hold, in_force_at, in_force_new_by, memberships_in,
 };
+use directory::Dir;
 use dir_tree::{Entry, EntryNo, InsertRefusal, NoMemory, RemoveRefusal, ReplaceRefusal, Tree};
 use std::alloc::Global;
 use std::marker::Model;

@@ -4,6 +4,7 @@
 mod anew;
 mod indexed_dir;
 mod inserting;
+pub mod laws;
 mod points;
 mod putting;
 mod removing;
@@ -11,4 +12,5 @@ mod replacing;
 
 pub use acdf_filters;
 pub use aci_lists;
+pub use directory;
 pub use indexed_dir::IndexedDir;

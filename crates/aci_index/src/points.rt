@@ -49,7 +49,7 @@ fn are_ordinary(one: &Entry, other: &Entry) -> bool
 }
 
 // Whether the one in place of the other changes no lists but its own.
-#[tactic(auto, unfolding(crate::specs::anew::Steps::is_own_change))]
+#[tactic(auto, unfolding(crate::specs::Steps::is_own_change))]
 fn is_own_change(one: &Entry, other: &Entry) -> bool
     ensures exact { result ≡ is_own_change one.now other.now }
 {

@@ -109,7 +109,7 @@ fn put_subtrees(
 }
 
 // Writes user classes.
-#[tactic(auto, unfolding(crate::specs::printing::ItemPrinted::print_classes))]
+#[tactic(auto, unfolding(crate::specs::ItemPrinted::print_classes))]
 fn put_classes(alloc: Global, out: &mut String, classes: &UserClasses) -> Result<(), AllocError>
     ensures ok { OnOk result (string_bytes out.new ≡ string_bytes out.old ++ text_of (print_classes (classes_of classes.now))) }
 {
@@ -209,7 +209,7 @@ fn put_values(
 }
 
 // Writes protected items.
-#[tactic(auto, unfolding(crate::specs::printing::ItemPrinted::print_items))]
+#[tactic(auto, unfolding(crate::specs::ItemPrinted::print_items))]
 fn put_items(out: &mut String, items: &ProtectedItems) -> Result<(), AllocError>
     ensures ok { OnOk result (string_bytes out.new ≡ string_bytes out.old ++ text_of (print_items (items_of items.now))) }
 {
@@ -245,7 +245,7 @@ fn put_precedence(out: &mut String, precedence: Option<u8>) -> Result<bool, Allo
 }
 
 /// Writes an item permission.
-#[tactic(auto, unfolding(crate::specs::printing::ItemPrinted::print_item_permission))]
+#[tactic(auto, unfolding(crate::specs::ItemPrinted::print_item_permission))]
 pub(crate) fn put_item_permission(
     alloc: Global,
     out: &mut String,
@@ -263,7 +263,7 @@ pub(crate) fn put_item_permission(
 }
 
 /// Writes a user permission.
-#[tactic(auto, unfolding(crate::specs::printing::ItemPrinted::print_user_permission))]
+#[tactic(auto, unfolding(crate::specs::ItemPrinted::print_user_permission))]
 pub(crate) fn put_user_permission(
     out: &mut String,
     permission: &UserPermission,
@@ -353,7 +353,7 @@ fn put_user_first(
 }
 
 // Writes what an item begins with.
-#[tactic(auto, unfolding(crate::specs::printing::ItemPrinted::print_first))]
+#[tactic(auto, unfolding(crate::specs::ItemPrinted::print_first))]
 fn put_first(alloc: Global, out: &mut String, first: &First) -> Result<(), AllocError>
     ensures ok { OnOk result (string_bytes out.new ≡ string_bytes out.old ++ text_of (print_first (first_of first.now))) }
 {
@@ -376,7 +376,7 @@ fn put_level(out: &mut String, level: Level) -> Result<(), AllocError>
 }
 
 // Writes an item.
-#[tactic(auto, unfolding(crate::specs::printing::ItemPrinted::print_item))]
+#[tactic(auto, unfolding(crate::specs::ItemPrinted::print_item))]
 fn put_item(alloc: Global, out: &mut String, item: &AciItem) -> Result<(), AllocError>
     ensures ok { OnOk result (string_bytes out.new ≡ string_bytes out.old ++ text_of (print_item (item_of_code item.now))) }
 {

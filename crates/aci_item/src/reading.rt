@@ -32,7 +32,7 @@ use subtree_spec::BadText;
 const MOST: u32 = 255;
 
 // User classes.
-#[tactic(auto, using(crate::proofs::parts::PartLemmas::left_misfits), unfolding(crate::specs::reading::AciText::classes))]
+#[tactic(auto, using(crate::proofs::parts::PartLemmas::left_misfits), unfolding(crate::specs::AciText::classes))]
 fn classes(alloc: Global, tree: &Tree, bad: &mut Bad) -> Result<UserClasses, Stop>
     ensures read { Reads classes_of result bad.new.first (classes (shape_of tree.now) bad.old.first) }
 {
@@ -56,7 +56,7 @@ fn classes(alloc: Global, tree: &Tree, bad: &mut Bad) -> Result<UserClasses, Sto
 }
 
 // Protected items.
-#[tactic(auto, using(crate::proofs::parts::PartLemmas::left_misfits), unfolding(crate::specs::reading::AciText::items))]
+#[tactic(auto, using(crate::proofs::parts::PartLemmas::left_misfits), unfolding(crate::specs::AciText::items))]
 fn items(alloc: Global, tree: &Tree, bad: &mut Bad) -> Result<ProtectedItems, Stop>
     ensures read { Reads items_of result bad.new.first (items (shape_of tree.now) bad.old.first) }
 {
@@ -104,7 +104,7 @@ fn own_precedence<'a>(trees: &'a [Tree], bad: &mut Bad) -> Result<(Option<u8>, &
 }
 
 // An item permission.
-#[tactic(auto, using(crate::proofs::parts::PartLemmas::left_misfits), unfolding(crate::specs::reading::AciText::item_permission))]
+#[tactic(auto, using(crate::proofs::parts::PartLemmas::left_misfits), unfolding(crate::specs::AciText::item_permission))]
 fn item_permission(alloc: Global, tree: &Tree, bad: &mut Bad) -> Result<ItemPermission, Stop>
     ensures read { Reads item_permission_of result bad.new.first
         (item_permission (shape_of tree.now) bad.old.first) }
@@ -127,7 +127,7 @@ fn item_permission(alloc: Global, tree: &Tree, bad: &mut Bad) -> Result<ItemPerm
 }
 
 // A user permission.
-#[tactic(auto, using(crate::proofs::parts::PartLemmas::left_misfits), unfolding(crate::specs::reading::AciText::user_permission))]
+#[tactic(auto, using(crate::proofs::parts::PartLemmas::left_misfits), unfolding(crate::specs::AciText::user_permission))]
 fn user_permission(alloc: Global, tree: &Tree, bad: &mut Bad) -> Result<UserPermission, Stop>
     ensures read { Reads user_permission_of result bad.new.first
         (user_permission (shape_of tree.now) bad.old.first) }
@@ -210,7 +210,7 @@ fn user_permissions(alloc: Global, tree: &Tree, bad: &mut Bad) -> Result<Vec<Use
 }
 
 // The alternative itemFirst.
-#[tactic(auto, using(crate::proofs::parts::PartLemmas::left_misfits), unfolding(crate::specs::reading::AciText::item_first))]
+#[tactic(auto, using(crate::proofs::parts::PartLemmas::left_misfits), unfolding(crate::specs::AciText::item_first))]
 fn item_first(alloc: Global, tree: &Tree, bad: &mut Bad) -> Result<First, Stop>
     ensures read { Reads first_of result bad.new.first (item_first (shape_of tree.now) bad.old.first) }
 {
@@ -227,7 +227,7 @@ fn item_first(alloc: Global, tree: &Tree, bad: &mut Bad) -> Result<First, Stop>
 }
 
 // The alternative userFirst.
-#[tactic(auto, using(crate::proofs::parts::PartLemmas::left_misfits), unfolding(crate::specs::reading::AciText::user_first))]
+#[tactic(auto, using(crate::proofs::parts::PartLemmas::left_misfits), unfolding(crate::specs::AciText::user_first))]
 fn user_first(alloc: Global, tree: &Tree, bad: &mut Bad) -> Result<First, Stop>
     ensures read { Reads first_of result bad.new.first (user_first (shape_of tree.now) bad.old.first) }
 {
@@ -244,7 +244,7 @@ fn user_first(alloc: Global, tree: &Tree, bad: &mut Bad) -> Result<First, Stop>
 }
 
 // What an item begins with.
-#[tactic(auto, unfolding(crate::specs::reading::AciText::first))]
+#[tactic(auto, unfolding(crate::specs::AciText::first))]
 fn first(alloc: Global, tree: &Tree, bad: &mut Bad) -> Result<First, Stop>
     ensures read { Reads first_of result bad.new.first (first (shape_of tree.now) bad.old.first) }
 {
@@ -268,7 +268,7 @@ fn tag(alloc: Global, tree: &Tree, bad: &Bad) -> Result<String, Stop>
 }
 
 // The item that a value is.
-#[tactic(auto, using(crate::proofs::parts::PartLemmas::left_misfits), unfolding(crate::specs::reading::AciText::aci_item))]
+#[tactic(auto, using(crate::proofs::parts::PartLemmas::left_misfits), unfolding(crate::specs::AciText::aci_item))]
 fn item(alloc: Global, tree: &Tree, bad: &mut Bad) -> Result<AciItem, Stop>
     ensures read { Reads item_of_code result bad.new.first (aci_item (shape_of tree.now) bad.old.first) }
 {
@@ -312,7 +312,7 @@ pub fn read(alloc: Global, text: &[u8]) -> Result<AciItem, BadText>
 }
 
 // As `read`, by the function of the text.
-#[tactic(auto, unfolding(crate::specs::reading::AciText::read_item))]
+#[tactic(auto, unfolding(crate::specs::AciText::read_item))]
 fn read_all(alloc: Global, text: &[u8]) -> Result<AciItem, BadText>
     ensures exact { Answers item_of_code fault_of result (read_item text.now) }
 {

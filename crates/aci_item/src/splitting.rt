@@ -142,7 +142,7 @@ fn user_tuples(
 /// The tuples of an item: each permission, in their order, is split into what it grants and then what it denies, and
 /// those with a permission stay. A permission's own precedence stands in place of the item's. The error comes where
 /// memory is refused.
-#[tactic(auto, unfolding(crate::specs::splitting::AciTuples::tuples_of_item))]
+#[tactic(auto, unfolding(crate::specs::AciTuples::tuples_of_item))]
 pub fn tuples(alloc: Global, item: &AciItem) -> Result<Vec<AciTuple>, AllocError>
     ensures ok { IfOk result (λ tuples. map tuple_of tuples.items ≡ tuples_of_item (item_of_code item.now)) }
 {

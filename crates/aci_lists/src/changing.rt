@@ -7,17 +7,9 @@ ghost use Rattle.aci_lists.specs.kept.Lists.{lists_at, lists_of, no_lists};
 ghost use Rattle.aci_lists.specs.kept.Holdings.{IsHeld, IsForgotten, without_number, without_subentry};
 
 use crate::kept::{Holdings, Kept, no_lists};
-use crate::making::hold;
 use acdf_filters::admin_scope::AccessSubentry;
-use dir_tree::{Entry, EntryNo, InsertRefusal, Tree};
+use dir_tree::{EntryNo, Tree};
 use std::alloc::Global;
-
-/// An entry that was put in: its number, and what is kept with it.
-#[derive(Drop)]
-pub struct Inserted {
-    pub number: EntryNo,
-    pub held: Holdings,
-}
 
 /// Takes the entry of the number out again, which is not refused. Takes no memory.
 pub fn take_back(tree: &mut Tree, number: EntryNo)
@@ -27,33 +19,6 @@ pub fn take_back(tree: &mut Tree, number: EntryNo)
     match tree.remove(number) {
         Ok(_) => {}
         Err(_) => {}
-    }
-}
-
-/// Puts the entry into the tree, and makes anew what is kept; where there is no memory for that, the entry is taken out
-/// again.
-pub(crate) fn insert_into(
-    alloc: Global,
-    tree: &mut Tree,
-    entry: Entry,
-) -> Result<Inserted, InsertRefusal>
-    requires named { entry.name ≢ [] }
-    ensures ok { IfOk result (λ inserted. tree.new ≡ put_entry inserted.number.0 entry tree.old) }
-    ensures held { IfOk result (λ inserted. IsHeld inserted.held tree.new) }
-    ensures free { IfOk result (λ inserted. entry_of inserted.number.0 tree.old ≡ None) }
-    ensures exact { OnOk result (insert_refusal entry.name (entries_of tree.old) ≡ None) }
-    ensures cause { IfErr result (λ refusal. (refusal ≡ InsertRefusal.NoMemory)
-        ⊎ (insert_refusal entry.name (entries_of tree.old) ≡ Some refusal)) }
-    ensures kept { OnErr result (tree.new ≡ tree.old) }
-{
-    tree.entries_form_a_tree();
-    let number = tree.insert(entry)?;
-    match hold(alloc, tree) {
-        Ok(held) => Ok(Inserted { number, held }),
-        Err(_) => {
-            take_back(tree, number);
-            Err(InsertRefusal::NoMemory)
-        }
     }
 }
 

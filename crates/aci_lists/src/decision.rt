@@ -11,7 +11,7 @@ ghost use Rattle.aci_lists.specs.kept.Lists.{IsKept, lists_at, tuples_at, tuples
 
 use crate::kept::{Kept, below_at, in_force_at, own_at, prescriptive_at};
 use acdf_filters::{Question, Standing};
-use acdf_order::weigh_in_order;
+use crate::weigh_in_order;
 use dir_tree::EntryNo;
 
 /// The state with the tuples of the subentries of the numbers weighed.

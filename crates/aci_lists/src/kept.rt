@@ -2,12 +2,12 @@
 
 ghost use Rattle.std.specs.Prelude.{◌≡◌, map};
 ghost use Rattle.acdf_filters.specs.aci_item.item.Views.{tuple_of};
-ghost use Rattle.acdf_order.specs.Order.{IsHighestFirst};
+ghost use Rattle.aci_lists.specs.Order.{IsHighestFirst};
 ghost use Rattle.aci_lists.specs.kept.Lists.{lists_at, lists_of, no_lists};
 
 use acdf_filters::aci_item::AciTuple;
 use acdf_filters::admin_scope::AccessSubentry;
-use acdf_order::OrderedTuples;
+use crate::OrderedTuples;
 use dir_tree::EntryNo;
 use dir_tree::dn_names::Dn;
 use std::alloc::Global;
@@ -44,15 +44,6 @@ pub fn no_lists(alloc: Global) -> Kept
         prescriptive: OrderedTuples::new(alloc),
         own: OrderedTuples::new(alloc),
         below: OrderedTuples::new(alloc),
-    }
-}
-
-/// What is kept beside no tree. Takes no memory.
-pub(crate) fn no_holdings(alloc: Global) -> Holdings {
-    Holdings {
-        subtrees: Vec::new(alloc),
-        lists: Vec::new(alloc),
-        groups: Vec::new(alloc),
     }
 }
 

@@ -6,7 +6,7 @@ ghost use Rattle.dir_tree.specs.tree.Numbered.{entry_of};
 ghost use Rattle.acdf_filters.specs.admin_scope.Finding.{AreSubtrees};
 ghost use Rattle.acdf_filters.specs.aci_item.item.Views.{tuple_of};
 ghost use Rattle.acdf_filters.specs.Tuples.{items_in};
-ghost use Rattle.acdf_order.specs.Order.{highest_first};
+ghost use Rattle.aci_lists.specs.Order.{highest_first};
 ghost use Rattle.aci_lists.specs.kept.Lists.{AreOf, IsKept, IsKeptBelow, lists_of, tuples_in};
 ghost use Rattle.aci_lists.specs.kept.Holdings.{IsHeld};
 
@@ -14,7 +14,7 @@ use crate::groups::named_groups;
 use crate::kept::{Holdings, Kept, no_lists};
 use acdf_filters::admin_scope::{AccessSubentry, access_subtrees, in_force_by};
 use acdf_filters::read_items;
-use acdf_order::{OrderedTuples, order_tuples};
+use crate::{OrderedTuples, order_tuples};
 use dir_tree::schema_tables::AttrId;
 use dir_tree::{Entry, EntryNo, NoMemory, Tree};
 use std::alloc::Global;

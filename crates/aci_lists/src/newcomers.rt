@@ -8,13 +8,14 @@ ghost use Rattle.acdf_filters.specs.Asking.{protected_of};
 ghost use Rattle.acdf_filters.specs.Granted.{granted_new};
 ghost use Rattle.acdf_filters.specs.Standing.{initial};
 ghost use Rattle.acdf_filters.specs.weighing.Weighing.{KnowsGroups, weighed_for};
-ghost use Rattle.aci_lists.specs.kept.Lists.{AreInForce, IsKept, tuples_below};
+ghost use Rattle.acdf_filters.specs.admin_scope.InForce.{AreInForce};
+ghost use Rattle.aci_lists.specs.kept.Lists.{IsKept, tuples_below};
 
 use crate::decision::weigh_subentries;
 use crate::kept::{Kept, below_at};
 use acdf_filters::admin_scope::{AccessSubentry, in_force_by};
 use acdf_filters::{Question, Standing};
-use acdf_order::weigh_in_order;
+use crate::weigh_in_order;
 use dir_tree::{Entry, EntryNo, NoMemory, Tree};
 use std::alloc::Global;
 

@@ -3,9 +3,9 @@ use Rattle.std.specs.Prelude.{◌≡◌, ℕ, List, Some}
 use Rattle.command_words.specs.command.Command.{Explain, IsCommand}
 use Rattle.command_files.specs.loading.Accepting.{IsGoodData}
 use Rattle.command_files.specs.dir_tree.Entry.{EntryInformation}
-use Rattle.explain_text.specs.Texts.{text_explained}
-use Rattle.explain_text.specs.question_words.Questions.{Question}
-use Rattle.explain_text.specs.question_words.Reading.{question_of}
+use Rattle.explanation.specs.Texts.{text_explained}
+use Rattle.explanation.specs.Questions.{Question}
+use Rattle.explanation.specs.Reading.{question_of}
 
 -- the words ask for an explanation of a question over a data file, of which what is known says that it is accepted, and
 -- this is its text

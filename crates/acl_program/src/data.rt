@@ -36,7 +36,7 @@ pub(crate) fn check<H: Shelf, K: Sink>(
 }
 
 /// Prints how many entries and access control subentries the tree has.
-#[tactic(auto, unfolding(crate::specs::status::Outcomes::text_of, crate::specs::status::Outcomes::status_of))]
+#[tactic(auto, unfolding(crate::specs::Outcomes::text_of, crate::specs::Outcomes::status_of))]
 fn print_counts<K: Sink>(alloc: Global, tree: &Tree, out: &mut K) -> Status
     ensures ends { Ends (Checked (entries_of tree.now)) (written (K.put out.old) (K.faults out.old)) result
         (written (K.put out.new) (K.faults out.new)) }
@@ -48,7 +48,7 @@ fn print_counts<K: Sink>(alloc: Global, tree: &Tree, out: &mut K) -> Status
     Status::Done.after(put)
 }
 
-#[tactic(auto, unfolding(crate::specs::status::Outcomes::text_of))]
+#[tactic(auto, unfolding(crate::specs::Outcomes::text_of))]
 fn counts(alloc: Global, tree: &Tree) -> Result<String, AllocError>
     ensures { IfOk result (λ text. string_bytes text ≡ text_of (Checked (entries_of tree.now))) }
 {
@@ -83,7 +83,7 @@ pub(crate) fn dump<H: Shelf, K: Sink>(
 }
 
 /// Prints the tree as a data file.
-#[tactic(auto, unfolding(crate::specs::status::Outcomes::text_of, crate::specs::status::Outcomes::status_of))]
+#[tactic(auto, unfolding(crate::specs::Outcomes::text_of, crate::specs::Outcomes::status_of))]
 fn print_tree<K: Sink>(alloc: Global, tree: &Tree, out: &mut K) -> Status
     requires { IsGoodTree (entries_of tree.now) }
     ensures ends { Ends (Dumped (entries_of tree.now)) (written (K.put out.old) (K.faults out.old)) result

@@ -3,9 +3,9 @@
 ghost use Rattle.std.specs.Prelude.{◌≡◌, ℕ, List, Some};
 ghost use Rattle.command_words.specs.command.Command.{Explain};
 ghost use Rattle.command_files.specs.dir_tree.tree.Numbered.{entries_of};
-ghost use Rattle.explain_text.specs.question_words.Questions.{question_view};
-ghost use Rattle.explain_text.specs.question_words.Reading.{question_of};
-ghost use Rattle.explain_text.specs.Texts.{text_explained};
+ghost use Rattle.explanation.specs.Questions.{question_view};
+ghost use Rattle.explanation.specs.Reading.{question_of};
+ghost use Rattle.explanation.specs.Texts.{text_explained};
 ghost use Rattle.acl_program.specs.Outcomes.{Explained};
 ghost use Rattle.acl_program.specs.program.Outside.{Linked, outside, written};
 ghost use Rattle.acl_program.specs.program.Playing.{Ends, Performs};
@@ -16,8 +16,8 @@ use aci_index::IndexedDir;
 use command_files::dir_tree::Tree;
 use command_files::load_data;
 use command_files::wire_io::{Shelf, Sink, write_all};
-use explain_text::explain_text;
-use explain_text::question_words::{AskedDecision, read_question};
+use explanation::explain_text;
+use explanation::{AskedDecision, read_question};
 use std::alloc::Global;
 
 /// What an explanation is asked for: its data file, and the four words of its question.
@@ -84,7 +84,7 @@ fn explain_tree<K: Sink>(alloc: Global, tree: Tree, question: &AskedDecision, ou
 }
 
 /// Prints the decision over the directory.
-#[tactic(auto, unfolding(crate::specs::status::Outcomes::text_of, crate::specs::status::Outcomes::status_of))]
+#[tactic(auto, unfolding(crate::specs::Outcomes::text_of, crate::specs::Outcomes::status_of))]
 fn print_explained<K: Sink>(
     alloc: Global,
     dir: &IndexedDir,

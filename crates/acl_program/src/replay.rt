@@ -15,7 +15,7 @@ use crate::printing::print_replay;
 use crate::status::Status;
 use crate::troubles::print_trouble;
 use aci_index::IndexedDir;
-use aci_index::aci_lists::Dir;
+use aci_index::directory::Dir;
 use command_files::dir_tree::Tree;
 use command_files::wire_io::{ScriptLink, Shelf, Sink};
 use command_files::{load_data, load_script};

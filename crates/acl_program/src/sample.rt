@@ -20,7 +20,7 @@ ghost use Rattle.acl_program.specs.Sampling.{sample_text, sample_replies, summar
 use crate::status::Status;
 use crate::troubles::print_bad_data;
 use aci_index::IndexedDir;
-use aci_index::aci_lists::Dir;
+use aci_index::directory::Dir;
 use command_files::data_file::{DataFault, load};
 use command_files::dir_tree::{NoMemory, Tree};
 use command_files::wire_io::{ScriptLink, Sink, write_all};
@@ -72,7 +72,7 @@ fn sample_link(alloc: Global, count: u32) -> Result<ScriptLink, NoMemory>
 }
 
 /// The same over the tree.
-#[tactic(auto, unfolding(crate::specs::status::Outcomes::text_of, crate::specs::status::Outcomes::status_of))]
+#[tactic(auto, unfolding(crate::specs::Outcomes::text_of, crate::specs::Outcomes::status_of))]
 fn sample_over<K: Sink>(alloc: Global, tree: Tree, count: u32, out: &mut K) -> Status
     requires few { count ≤ 20000 }
     ensures ends { Ends (Sampled (sample_text (entries_of tree) count))
@@ -121,7 +121,7 @@ fn serve_sample(alloc: Global, dir: &mut IndexedDir, link: &mut ScriptLink) -> R
 }
 
 /// The summary of the replies that were sent.
-#[tactic(auto, unfolding(crate::specs::sample::Sampling::summary))]
+#[tactic(auto, unfolding(crate::specs::Sampling::summary))]
 fn summary(alloc: Global, entries: usize, replies: &[u8]) -> Result<String, AllocError>
     ensures { IfOk result (λ text. string_bytes text ≡ summary entries replies.now) }
 {

@@ -178,7 +178,7 @@ fn loop_status(ended: Ended) -> Status
 }
 
 /// Prints that the link failed.
-#[tactic(auto, unfolding(crate::specs::status::Outcomes::text_of, crate::specs::status::Outcomes::status_of))]
+#[tactic(auto, unfolding(crate::specs::Outcomes::text_of, crate::specs::Outcomes::status_of))]
 fn print_link_fault<K: Sink>(out: &mut K) -> Status
     ensures ends { (asked : ServeAsked) → Ends (Served asked NotOpened) (written (K.put out.old) (K.faults out.old)) result
         (written (K.put out.new) (K.faults out.new)) }

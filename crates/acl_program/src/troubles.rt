@@ -18,7 +18,7 @@ use std::alloc::{AllocError, Global};
 const USAGE: &[u8] = b"usage: aclserver (serve|replay|check|dump|explain|sample) WORDS\n";
 
 /// Prints that the words are no command.
-#[tactic(auto, unfolding(crate::specs::status::Outcomes::text_of, crate::specs::status::Outcomes::status_of))]
+#[tactic(auto, unfolding(crate::specs::Outcomes::text_of, crate::specs::Outcomes::status_of))]
 pub(crate) fn print_usage<K: Sink>(out: &mut K) -> Status
     ensures ends { Ends NoCommand (written (K.put out.old) (K.faults out.old)) result
         (written (K.put out.new) (K.faults out.new)) }
@@ -41,7 +41,7 @@ pub(crate) fn print_trouble<K: Sink>(alloc: Global, trouble: Trouble, out: &mut 
 }
 
 /// Prints that a file wasn't read.
-#[tactic(auto, unfolding(crate::specs::status::Outcomes::text_of, crate::specs::status::Outcomes::status_of))]
+#[tactic(auto, unfolding(crate::specs::Outcomes::text_of, crate::specs::Outcomes::status_of))]
 fn print_data_fault<K: Sink>(out: &mut K) -> Status
     ensures ends { Ends NoFile (written (K.put out.old) (K.faults out.old)) result
         (written (K.put out.new) (K.faults out.new)) }
@@ -51,7 +51,7 @@ fn print_data_fault<K: Sink>(out: &mut K) -> Status
 }
 
 /// Prints the number of a data file's bad line, and its cause.
-#[tactic(auto, unfolding(crate::specs::status::Outcomes::text_of, crate::specs::status::Outcomes::status_of))]
+#[tactic(auto, unfolding(crate::specs::Outcomes::text_of, crate::specs::Outcomes::status_of))]
 pub(crate) fn print_bad_data<K: Sink>(
     alloc: Global,
     line: u64,
@@ -68,7 +68,7 @@ pub(crate) fn print_bad_data<K: Sink>(
     Status::BadData.after(put)
 }
 
-#[tactic(auto, unfolding(crate::specs::status::Outcomes::text_of))]
+#[tactic(auto, unfolding(crate::specs::Outcomes::text_of))]
 fn bad_data(alloc: Global, line: u64, cause: DataCause) -> Result<String, AllocError>
     ensures { IfOk result (λ text. string_bytes text ≡ text_of (BadDataLine line (cause_of cause))) }
 {
@@ -111,7 +111,7 @@ fn record_cause_text(alloc: Global, cause: LoadCause) -> Result<String, AllocErr
 }
 
 /// Prints the number of a script's bad line.
-#[tactic(auto, unfolding(crate::specs::status::Outcomes::text_of, crate::specs::status::Outcomes::status_of))]
+#[tactic(auto, unfolding(crate::specs::Outcomes::text_of, crate::specs::Outcomes::status_of))]
 fn print_bad_line<K: Sink>(alloc: Global, line: u64, out: &mut K) -> Status
     ensures ends { Ends (BadLine line) (written (K.put out.old) (K.faults out.old)) result
         (written (K.put out.new) (K.faults out.new)) }
@@ -123,7 +123,7 @@ fn print_bad_line<K: Sink>(alloc: Global, line: u64, out: &mut K) -> Status
     Status::BadScript.after(put)
 }
 
-#[tactic(auto, unfolding(crate::specs::status::Outcomes::text_of))]
+#[tactic(auto, unfolding(crate::specs::Outcomes::text_of))]
 fn bad_line(alloc: Global, line: u64) -> Result<String, AllocError>
     ensures { IfOk result (λ text. string_bytes text ≡ text_of (BadLine line)) }
 {

@@ -1,10 +1,12 @@
 -- The access control subentries in force for an entry (X.501 18.3, RFC 3672 section 2).
-use Rattle.std.specs.Prelude.{ℕ, Bool, false, ◌&&◌, List, [], filter, flat_map, slice_get, Option, option_and_then, if◌then◌else◌}
+use Rattle.std.specs.Prelude.{◌≡◌, ℕ, Bool, false, ◌&&◌, List, [], filter, flat_map, slice_get, Option, option_and_then, IsSome, if◌then◌else◌}
+use Rattle.std.specs.List.{AllByRecursion}
 use Rattle.std.specs.Option.{option_map_or}
 use Rattle.std.specs.Result.{result_ok}
 use Rattle.dir_tree.specs.Entry.{EntryInformation, values_of}
 use Rattle.dir_tree.specs.Points.{is_subentry, is_access_subentry}
 use Rattle.dir_tree.specs.Scope.{is_child}
+use Rattle.dir_tree.specs.tree.Numbered.{Numbered, entry_of, entries_of, entries_at}
 use Rattle.subtree_spec.specs.Subtrees.{Subtree}
 use Rattle.subtree_spec.specs.SubtreeText.{read_subtree}
 use Rattle.admin_scope.specs.Refinements.{holds}
@@ -38,3 +40,8 @@ in_force_at entry point entries = filter (λ subentry. reaches point subentry en
 -- those in force for the entry, point by point upwards; none for a subentry
 unfoldable pub in_force : List EntryInformation → EntryInformation → List EntryInformation
 in_force entries entry = if is_subentry entry then [] else flat_map (λ point. in_force_at entry point entries) (areas entries entry)
+
+-- the numbers are those of the access control subentries in force for the entry, which need not be in the tree
+pub record AreInForce (rows : List Numbered) (entry : EntryInformation) (ids : List ℕ) : Type 0 where
+  pub exact : entries_at rows ids ≡ in_force (entries_of rows) entry
+  pub live : AllByRecursion (λ id. IsSome (entry_of id rows)) ids

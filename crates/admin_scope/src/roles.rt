@@ -19,7 +19,7 @@ fn has_role(entry: &Entry, oid: &str) -> bool
 
 /// Whether the entry is a specific point for access control: it has the role autonomousArea or
 /// accessControlSpecificArea (X.501 14.3).
-#[tactic(auto, unfolding(dir_tree::specs::subentries::Points::is_specific_point))]
+#[tactic(auto, unfolding(dir_tree::specs::Points::is_specific_point))]
 pub fn is_specific_point(entry: &Entry) -> bool
     ensures exact { result ≡ is_specific_point entry.now }
 {
@@ -27,7 +27,7 @@ pub fn is_specific_point(entry: &Entry) -> bool
 }
 
 /// Whether the entry is an inner point: it has the role accessControlInnerArea, and is no specific point (X.501 14.3).
-#[tactic(auto, unfolding(dir_tree::specs::subentries::Points::is_inner_point))]
+#[tactic(auto, unfolding(dir_tree::specs::Points::is_inner_point))]
 pub fn is_inner_point(entry: &Entry) -> bool
     ensures exact { result ≡ is_inner_point entry.now }
 {

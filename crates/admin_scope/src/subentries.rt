@@ -18,7 +18,7 @@ use std::alloc::Global;
 
 /// Whether the subentry, immediately below the point, is in force for the entry as far as they alone say: whether it is
 /// an access control subentry whose subtree holds the entry. The error comes where memory is wanted.
-#[tactic(auto, unfolding(crate::specs::subentries::InForce::subtree_holds))]
+#[tactic(auto, unfolding(crate::specs::InForce::subtree_holds))]
 pub fn applies(
     alloc: Global,
     point: &Entry,

@@ -37,7 +37,7 @@ fn read_octets(alloc: Global, octets: &[u8]) -> Result<Option<Spec>, NoMemory>
 
 /// The subtree of a subentry, from the text of its subtreeSpecification (RFC 3672 section 2.1); None where it has no
 /// value, or one that is no such text. The error comes where memory is wanted.
-#[tactic(auto, unfolding(crate::specs::subentries::InForce::subtree_of_entry))]
+#[tactic(auto, unfolding(crate::specs::InForce::subtree_of_entry))]
 pub fn subtree(alloc: Global, subentry: &Entry) -> Result<Option<Spec>, NoMemory>
     ensures exact { IfOk result (λ spec. option_map subtree_of spec ≡ subtree_of_entry subentry.now) }
 {

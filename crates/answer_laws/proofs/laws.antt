@@ -1,1 +1,4 @@
 pub mod AnswerLemmas
+pub mod FoundLemmas
+pub mod SearchLemmas
+pub mod CompareLemmas

@@ -10,7 +10,7 @@ use Rattle.ldap_msg.specs.declared.kinds.Reply.{Reply}
 use Rattle.ldap_msg.specs.declared.kinds.Reply.TheVariants as reply
 use Rattle.read_model.specs.Views.{result_of}
 use Rattle.read_model.specs.SearchReplies.{replies_octets}
-use Rattle.read_laws.specs.Complete.{EndsWith}
+use Rattle.answer_laws.specs.Complete.{EndsWith}
 use Rattle.session_hub.specs.Controls.{is_refused, subentries_asked}
 
 -- the message asks for the search: no control of it is refused, and a control of subentries, if there is one, can be read

@@ -1,2 +1,3 @@
 -- what public clauses cite
+pub mod Complete
 pub mod Asked

@@ -1,15 +1,18 @@
-//! The laws of answered messages: each function computes nothing, and what it ensures is a law.
+//! The laws of completeness: each function computes nothing, and what it ensures is a law.
 
-ghost use Rattle.std.specs.Prelude.{◌≡◌, ◌⊎◌, ◌∷◌, [], Some, List};
+ghost use Rattle.std.specs.Prelude.{◌≡◌, ◌⊎◌, ◌∷◌, [], Some, List, Bool, Option};
 ghost use Rattle.dir_tree.specs.Entry.{EntryInformation};
 ghost use Rattle.acdf_filters.specs.declared.asking.Requester.{Requester};
 ghost use Rattle.ldap_msg.specs.declared.operations.ResultCode.TheVariants as code;
 ghost use Rattle.ldap_msg.specs.declared.kinds.SearchRequest.{SearchRequest};
 ghost use Rattle.ldap_msg.specs.declared.kinds.CompareRequest.{CompareRequest};
 ghost use Rattle.ldap_msg.specs.declared.kinds.Message.{Message};
-ghost use Rattle.read_laws.specs.Complete.{HasKnownBase, IsComparable};
+ghost use Rattle.answer_laws.specs.Complete.{HasKnownBase, IsComparable, EndsWith};
 ghost use Rattle.session_hub.specs.Answering.{answer_read};
 ghost use Rattle.answer_laws.specs.Asked.{AsksSearch, AsksCompare, IsSearchedWith, IsComparedWith};
+ghost use Rattle.read_model.specs.Views.{view_of, result_of};
+ghost use Rattle.read_model.specs.SearchReplies.{search_replies};
+ghost use Rattle.read_model.specs.CompareReplies.{compare_result};
 
 /// A message with a search whose base the requester may know of is answered by the octets of entries, or of none, and of
 /// an end with success or with sizeLimitExceeded, where no control of it is refused (RFC 4511 4.1.11 and 4.5.2).
@@ -27,4 +30,23 @@ pub fn a_message_with_a_compare_that_is_granted_is_done()
         (request : CompareRequest) → AsksCompare message request → IsComparable entries who request
         → (IsComparedWith code.CompareTrue message.id (answer_read entries who (Some message)).replies)
         ⊎ (IsComparedWith code.CompareFalse message.id (answer_read entries who (Some message)).replies) }
+{}
+
+/// A search whose base is an entry that the requester may know of sends entries, or none, and ends with success or with
+/// sizeLimitExceeded, whatever its scope, its filter, its selection and its limit are, and with the control of subentries
+/// or without (RFC 4511 4.5.2, X.511 10.2).
+pub fn a_search_of_a_known_base_succeeds()
+    ensures exact { (entries : List EntryInformation) (who : Requester)
+        (request : SearchRequest) (subentries : Option Bool) → HasKnownBase entries who request
+        → (EndsWith code.Success (search_replies (view_of entries who) request subentries))
+        ⊎ (EndsWith code.SizeLimitExceeded (search_replies (view_of entries who) request subentries)) }
+{}
+
+/// A compare of an attribute that an entry has, where the entry may be read and the type compared, is answered by
+/// compareTrue or compareFalse (RFC 4511 4.10, X.511 9.2).
+pub fn a_compare_that_is_granted_is_done()
+    ensures exact { (entries : List EntryInformation) (who : Requester) (request : CompareRequest)
+        → IsComparable entries who request
+        → (compare_result (view_of entries who) request ≡ result_of code.CompareTrue)
+        ⊎ (compare_result (view_of entries who) request ≡ result_of code.CompareFalse) }
 {}

@@ -1,5 +1,5 @@
-//! The laws of completeness of sessions: a message whose search or compare is granted is answered by octets that say that
-//! it was done.
+//! The laws of completeness: a search and a compare that are granted are done, and a message with one is answered by octets
+//! that say so.
 #![tactic(auto)]
 
 pub mod laws;

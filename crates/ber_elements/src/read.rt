@@ -7,7 +7,7 @@ ghost use Rattle.ber_elements.specs.Heading.{IsHeading, length_at, header_at};
 use crate::kinds::Header;
 use crate::number::number_of;
 
-#[tactic(auto, unfolding(crate::specs::read::Heading::length_at))]
+#[tactic(auto, unfolding(crate::specs::Heading::length_at))]
 fn length(tag: u8, octets: &[u8]) -> Header
     ensures { result ≡ length_at tag octets.now }
 {
@@ -40,7 +40,7 @@ fn length(tag: u8, octets: &[u8]) -> Header
     }
 }
 
-#[tactic(auto, unfolding(crate::specs::read::Heading::header_at))]
+#[tactic(auto, unfolding(crate::specs::Heading::header_at))]
 fn heading(bytes: &[u8]) -> Header
     ensures { result ≡ header_at bytes.now }
 {

@@ -53,7 +53,7 @@ pub fn optional<T: Laid>(
 }
 
 /// A number from `low` to `high` in an element with this tag.
-#[tactic(auto, unfolding(crate::specs::components::Components::required_of, crate::specs::laid::Layouts::reads_into))]
+#[tactic(auto, unfolding(crate::specs::components::Components::required_of, crate::specs::Layouts::reads_into))]
 pub fn integer(tag: u8, low: u32, high: u32, bytes: &[u8]) -> Result<Component<'_, u32>, ReadFault>
     ensures value { Gives (λ found. record { value = found.value; rest = found.rest.now }) result (required_of tag (reads (Number low high)) bytes.now) }
     ensures range { IfOk result (λ found. (low ≤ found.value) × (found.value ≤ high)) }
@@ -75,7 +75,7 @@ pub fn any(bytes: &[u8]) -> Result<Element<'_>, ReadFault>
 }
 
 /// What follows an element with this tag, whatever its content.
-#[tactic(auto, unfolding(crate::specs::components::Components::required_of, crate::specs::laid::Layouts::reads_into))]
+#[tactic(auto, unfolding(crate::specs::components::Components::required_of, crate::specs::Layouts::reads_into))]
 pub fn ignored(tag: u8, bytes: &[u8]) -> Result<&[u8], ReadFault>
     ensures { Gives (λ rest. record { value = tt; rest = rest.now }) result (required_of tag (reads Ignored) bytes.now) }
 {
@@ -84,7 +84,7 @@ pub fn ignored(tag: u8, bytes: &[u8]) -> Result<&[u8], ReadFault>
 }
 
 /// What follows a number from `low` to `high` in an element with this tag.
-#[tactic(auto, unfolding(crate::specs::components::Components::required_of, crate::specs::laid::Layouts::reads_into))]
+#[tactic(auto, unfolding(crate::specs::components::Components::required_of, crate::specs::Layouts::reads_into))]
 pub fn skipped(tag: u8, low: u32, high: u32, bytes: &[u8]) -> Result<&[u8], ReadFault>
     ensures { Gives (λ rest. record { value = tt; rest = rest.now }) result (required_of tag (reads (Skipped low high)) bytes.now) }
 {
@@ -103,7 +103,7 @@ fn flag_in(content: &[u8]) -> Result<bool, ReadFault>
 }
 
 /// A BOOLEAN in an element with this tag.
-#[tactic(auto, unfolding(crate::specs::components::Components::required_of, crate::specs::laid::Layouts::reads_into))]
+#[tactic(auto, unfolding(crate::specs::components::Components::required_of, crate::specs::Layouts::reads_into))]
 pub fn flag(tag: u8, bytes: &[u8]) -> Result<Component<'_, bool>, ReadFault>
     ensures { Gives (λ found. record { value = found.value; rest = found.rest.now }) result (required_of tag (reads Flag) bytes.now) }
 {
@@ -164,7 +164,7 @@ pub fn each<T: Laid>(
     })
 }
 
-#[tactic(auto, unfolding(crate::specs::laid::Layouts::reads_into))]
+#[tactic(auto, unfolding(crate::specs::Layouts::reads_into))]
 fn elements<T: Laid>(alloc: Global, tag: u8, content: &[u8]) -> Result<OneOrMany<T>, ReadFault>
     ensures { Gives (λ values. (map T.parts values, tt)) result (reads (Each tag T.layout End) content.now) }
 {

@@ -34,7 +34,7 @@ impl Laid for Octets {
 
     ghost parts = { λ octets. octets };
 
-    #[tactic(auto, unfolding(crate::specs::laid::Layouts::reads_into))]
+    #[tactic(auto, unfolding(crate::specs::Layouts::reads_into))]
     fn read(alloc: Global, content: &[u8]) -> Result<Octets, ReadFault> {
         Ok(Octets::from_vec(Vec::from_slice(alloc, content)?))
     }

@@ -74,7 +74,7 @@ pub fn enclose(out: &mut Vec<u8>, tag: u8, start: usize) -> Result<(), NoMemory>
 }
 
 /// Appends an element of these octets.
-#[tactic(auto, unfolding(crate::specs::write::Spellings::element_octets))]
+#[tactic(auto, unfolding(crate::specs::Spellings::element_octets))]
 pub fn put_element(out: &mut Vec<u8>, tag: u8, content: &[u8]) -> Result<(), NoMemory>
     requires { IsTag tag }
     ensures ok { OnOk result (out.new.items ≡ out.old.items ++ element_octets tag content.now) }
@@ -100,7 +100,7 @@ pub fn put_optional(out: &mut Vec<u8>, tag: u8, value: &Option<Octets>) -> Resul
 }
 
 /// Appends a number's element, an INTEGER or ENUMERATED by its tag.
-#[tactic(auto, unfolding(crate::specs::write::Spellings::element_octets))]
+#[tactic(auto, unfolding(crate::specs::Spellings::element_octets))]
 pub fn put_number(out: &mut Vec<u8>, tag: u8, number: u32) -> Result<(), NoMemory>
     requires { IsTag tag }
     ensures ok { OnOk result (out.new.items ≡ out.old.items ++ element_octets tag (int_octets (pos number))) }

@@ -1,5 +1,6 @@
 -- what public clauses cite
 pub mod Files
+pub mod Loadable
 -- for the inside of the crate alone
 pub mod Steps
 -- the words of crates below, handed on

@@ -1,7 +1,8 @@
-//! Data files (RFC 2849): a whole file loaded as a tree, and a tree written as a file.
+//! Data files (RFC 2849): a whole file loaded as a tree, and a tree written as a file, which loads again.
 #![tactic(auto)]
 
 mod fault;
+pub mod laws;
 mod loading;
 mod writing;
 

@@ -13,7 +13,7 @@ ghost use Rattle.data_file.specs.Steps.{IsStep, of_line, of_record};
 
 use crate::fault::{DataCause, DataFault};
 use dir_tree::Tree;
-use load_laws::laws::{
+use crate::laws::{
     what_is_loaded_is_good, what_is_loaded_is_loadable, what_is_written_loads_again,
 };
 use ldif_load::ldif_records::{BadLine, LineCause, Position, Record, next_record};

@@ -10,12 +10,12 @@ ghost use Rattle.directory.specs.Asking.{Knows, knows-prop};
 
 use acdf_filters::aci_item::Permission;
 use acdf_filters::{Item, Membership, Requester};
-use aci_lists::Dir;
+use crate::dir::Dir;
 use dir_tree::dn_names::Dn;
 use dir_tree::{Entry, EntryNo, Tree};
 
 /// A requester asks a directory, with the groups in which it is known to be or not to be: what
-/// [`Dir::memberships`](aci_lists::Dir::memberships) says, once for all that one request asks.
+/// [`Dir::memberships`](crate::dir::Dir::memberships) says, once for all that one request asks.
 #[derive(Drop)]
 pub struct Asking<'a, D: Dir> {
     pub dir: &'a D,

@@ -1,17 +1,19 @@
-//! What all operations on a directory ask and answer alike, over any directory that takes decisions: a requester's
+//! Directories, and what all operations on one ask and answer alike, over any that takes decisions: a requester's
 //! permissions for the entry of a name, what is told in place of what may not be known (X.511 7.11), names as texts, and
 //! results.
 #![tactic(auto)]
 
 mod asking;
+mod dir;
 mod hiding;
+mod nearest;
 mod newcomer;
 mod results;
 mod targets;
 mod texts;
 
-pub use aci_lists;
 pub use asking::{Asking, Target, find_target};
+pub use dir::Dir;
 pub use hiding::{discloses, hidden, no_such_object};
 pub use newcomer::Newcomer;
 pub use results::{result_numbered, result_of, result_with};

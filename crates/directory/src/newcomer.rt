@@ -5,17 +5,17 @@ ghost use Rattle.std.proofs.Props.{props};
 ghost use Rattle.dir_tree.specs.tree.Numbered.{entries_of};
 ghost use Rattle.acdf_filters.specs.Asking.{protected_of};
 ghost use Rattle.acdf_filters.specs.Granted.{granted_new};
-ghost use Rattle.aci_lists.specs.kept.Lists.{AreInForce};
+ghost use Rattle.acdf_filters.specs.admin_scope.InForce.{AreInForce};
 
 use crate::asking::Asking;
 use acdf_filters::Item;
 use acdf_filters::aci_item::Permission;
-use aci_lists::Dir;
+use crate::dir::Dir;
 use dir_tree::{Entry, EntryNo, NoMemory};
 use std::alloc::Global;
 
 /// A requester asks of an entry that is to be added, with the access control subentries in force for it: what
-/// [`Dir::in_force_new`](aci_lists::Dir::in_force_new) says, once for all that one add asks.
+/// [`Dir::in_force_new`](crate::dir::Dir::in_force_new) says, once for all that one add asks.
 #[derive(Drop)]
 pub struct Newcomer<'a, 'b, D: Dir> {
     pub asking: &'b Asking<'a, D>,

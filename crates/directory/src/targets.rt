@@ -9,7 +9,7 @@ use crate::hiding::no_such_object;
 use crate::results::result_of;
 use acdf_filters::Item;
 use acdf_filters::aci_item::Permission;
-use aci_lists::Dir;
+use crate::dir::Dir;
 use dir_tree::dn_names::{Dn, same};
 use dir_tree::{NoMemory, Tree};
 use ldap_msg::{LdapResult, ResultCode};

@@ -19,7 +19,7 @@ use std::alloc::Global;
 /// are not of the type's syntax, and `NoMemory` may come in place of any answer.
 ///
 /// Of the syntaxes of subtrees and of access control items any octets are taken, and the key is the octets.
-#[tactic(auto, unfolding(crate::specs::make::NameValues::value_of))]
+#[tactic(auto, unfolding(crate::specs::NameValues::value_of))]
 pub fn make_value(alloc: Global, kind: AttrId, octets: Vec<u8>) -> Result<Value, PrepareFault>
     requires { IsAttrId kind.0 }
     ensures ok { IfOk result (λ value. value_of kind.0 octets.items ≡ Some value) }

@@ -83,7 +83,7 @@ pub(crate) fn skip_spaces(text: &[u8]) -> &[u8]
 }
 
 /// The octets that a value's text stands for, within the text, where it has no escape and ends in no space.
-#[tactic(auto, unfolding(crate::specs::octets::Reading::value_octets))]
+#[tactic(auto, unfolding(crate::specs::Reading::value_octets))]
 pub(crate) fn bare_octets(text: &[u8]) -> Option<&[u8]>
     ensures exact { IfSome result (λ octets. octets.now ≡ value_octets text.now) }
 {
@@ -99,7 +99,7 @@ pub(crate) fn bare_octets(text: &[u8]) -> Option<&[u8]>
 }
 
 /// The octets that a value's text stands for: escapes read, bare spaces at both ends skipped.
-#[tactic(auto, unfolding(crate::specs::octets::Reading::value_octets))]
+#[tactic(auto, unfolding(crate::specs::Reading::value_octets))]
 pub(crate) fn read_octets(alloc: Global, text: &[u8]) -> Result<Vec<u8>, AllocError>
     ensures ok { IfOk result (λ octets. octets.items ≡ value_octets text.now) }
 {

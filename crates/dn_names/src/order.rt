@@ -7,7 +7,7 @@ use crate::name::Dn;
 use std::cmp::Ordering;
 
 /// Whether the names are the same.
-#[tactic(auto, unfolding(crate::specs::order::NameOrder::is_same))]
+#[tactic(auto, unfolding(crate::specs::NameOrder::is_same))]
 pub fn same(one: &Dn, other: &Dn) -> bool
     ensures exact { result ≡ is_same one.now other.now }
 {
@@ -15,7 +15,7 @@ pub fn same(one: &Dn, other: &Dn) -> bool
 }
 
 /// Whether `front` is a prefix of `name`, or the same name.
-#[tactic(auto, unfolding(crate::specs::order::NameOrder::is_same, crate::specs::order::NameOrder::is_prefix_of))]
+#[tactic(auto, unfolding(crate::specs::NameOrder::is_same, crate::specs::NameOrder::is_prefix_of))]
 pub fn is_prefix(front: &Dn, name: &Dn) -> bool
     ensures exact { result ≡ is_prefix_of front.now name.now }
 {

@@ -45,7 +45,7 @@ pub fn parse_rdn(alloc: Global, octets: &[u8]) -> Result<Dn, BadName>
 }
 
 // As `parse`, by the function of the text.
-#[tactic(auto, unfolding(crate::specs::parsing::NameText::read_name, crate::specs::resolve::Resolving::resolve))]
+#[tactic(auto, unfolding(crate::specs::parsing::NameText::read_name, crate::specs::Resolving::resolve))]
 fn parse_by(alloc: Global, octets: &[u8]) -> Result<Dn, BadName>
     ensures exact { Answers (λ name. name) cause_of result (read_name octets.now) }
 {
@@ -57,7 +57,7 @@ fn parse_by(alloc: Global, octets: &[u8]) -> Result<Dn, BadName>
 }
 
 // As `parse_rdn`, by the function of the text.
-#[tactic(auto, unfolding(crate::specs::parsing::NameText::read_rdn, crate::specs::resolve::Resolving::resolve_rdn))]
+#[tactic(auto, unfolding(crate::specs::parsing::NameText::read_rdn, crate::specs::Resolving::resolve_rdn))]
 fn parse_rdn_by(alloc: Global, octets: &[u8]) -> Result<Dn, BadName>
     ensures exact { Answers (λ name. name) cause_of result (read_rdn octets.now) }
 {
@@ -156,7 +156,7 @@ fn read_rdns(alloc: Global, text: &[u8]) -> Result<Vec<Rdn>, BadName>
 }
 
 // The name of a text of the outer grammar.
-#[tactic(auto, unfolding(crate::specs::octets::Reading::written_of))]
+#[tactic(auto, unfolding(crate::specs::Reading::written_of))]
 fn read_all(alloc: Global, text: &[u8]) -> Result<Dn, BadName>
     requires { length (written_of text.now) ≤ most_rdns }
     ensures exact { Answers (λ name. name) cause_of result (from_root (rdns_from 0 (written_of text.now))) }
@@ -181,7 +181,7 @@ fn from_last(alloc: Global, rdns: Vec<Rdn>) -> Result<Dn, AllocError>
 }
 
 // Whether a text of the outer grammar has more than 64 RDNs.
-#[tactic(auto, using(crate::proofs::resolve::ResolveLemmas::few_rdns), unfolding(crate::specs::octets::Reading::written_of))]
+#[tactic(auto, using(crate::proofs::resolve::ResolveLemmas::few_rdns), unfolding(crate::specs::Reading::written_of))]
 fn has_too_many(text: &[u8]) -> bool
     ensures exact { result ≡ nat_lt most_rdns (length (written_of text.now)) }
 {
@@ -193,7 +193,7 @@ fn has_too_many(text: &[u8]) -> bool
 }
 
 // Whether a text of the outer grammar has one RDN.
-#[tactic(auto, unfolding(crate::specs::octets::Reading::written_of))]
+#[tactic(auto, unfolding(crate::specs::Reading::written_of))]
 fn has_one(text: &[u8]) -> bool
     ensures exact { result ≡ (length (written_of text.now) == 1) }
 {

@@ -26,7 +26,7 @@ fn escapes_next(escaped: bool, octet: u8) -> bool
     !escaped && octet == b'\\'
 }
 
-#[tactic(auto, unfolding(crate::specs::octets::Reading::parts_of))]
+#[tactic(auto, unfolding(crate::specs::Reading::parts_of))]
 /// How many marks stand in the text, no backslash before them: one fewer than the parts between them.
 pub(crate) fn count_marks(text: &[u8], mark: u8) -> usize
     ensures exact { suc result ≡ length (parts_of mark text.now) }
@@ -75,7 +75,7 @@ fn escaped_place(text: &[u8], mark: u8) -> usize
     text.len()
 }
 
-#[tactic(auto, unfolding(crate::specs::octets::Reading::parts_of))]
+#[tactic(auto, unfolding(crate::specs::Reading::parts_of))]
 /// The first part, and the text of the others, if there are any.
 pub(crate) fn cut(text: &[u8], mark: u8) -> (&[u8], Option<&[u8]>)
     ensures exact { MatchOption result.1 (parts_of mark text.now ≡ result.0.now ∷ [])
@@ -116,7 +116,7 @@ fn first_word(text: &[u8]) -> &[u8]
     word
 }
 
-#[tactic(auto, unfolding(crate::specs::octets::Reading::pair_of))]
+#[tactic(auto, unfolding(crate::specs::Reading::pair_of))]
 /// A pair's type, and the text of its value.
 pub(crate) fn kind_and_value(text: &[u8]) -> (&[u8], &[u8])
     ensures kind { result.0.now ≡ (pair_of text.now).kind }

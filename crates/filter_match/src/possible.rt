@@ -16,7 +16,7 @@ pub(crate) struct Possible<'a> {
 }
 
 /// Whether the test may be True of the entry.
-#[tactic(auto, unfolding(crate::specs::evaluating::Judging::has_possible))]
+#[tactic(auto, unfolding(crate::specs::Judging::has_possible))]
 fn may_be_true(test: &Test, entry: &Entry) -> bool
     ensures { result ≡ has_possible entry.now test.now }
 {

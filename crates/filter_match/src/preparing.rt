@@ -31,7 +31,7 @@ fn known(kind: &[u8]) -> Result<AttrId, PrepareFault>
 }
 
 /// The rule of a type whose values are texts.
-#[tactic(auto, unfolding(crate::specs::prepared::Tests::rule_of))]
+#[tactic(auto, unfolding(crate::specs::Tests::rule_of))]
 fn text_rule(kind: AttrId) -> Result<Rule, PrepareFault>
     ensures { Gives (λ rule. rule) result (rule_of kind.0) }
 {
@@ -88,7 +88,7 @@ fn equality(kind: AttrId, value: Value) -> Asserted
     }
 }
 
-#[tactic(auto, unfolding(crate::specs::prepared::Tests::equal_test))]
+#[tactic(auto, unfolding(crate::specs::Tests::equal_test))]
 fn equal(alloc: Global, kind: &[u8], octets: &[u8]) -> Result<Test, PrepareFault>
     ensures { Gives (λ test. test) result (equal_test kind.now octets.now) }
 {
@@ -99,7 +99,7 @@ fn equal(alloc: Global, kind: &[u8], octets: &[u8]) -> Result<Test, PrepareFault
     })
 }
 
-#[tactic(auto, unfolding(crate::specs::prepared::Tests::order_test))]
+#[tactic(auto, unfolding(crate::specs::Tests::order_test))]
 fn at_least(alloc: Global, kind: &[u8], octets: &[u8]) -> Result<Test, PrepareFault>
     ensures { Gives (λ test. test) result (order_test (λ key. tests.IsAtLeast key) kind.now octets.now) }
 {
@@ -111,7 +111,7 @@ fn at_least(alloc: Global, kind: &[u8], octets: &[u8]) -> Result<Test, PrepareFa
     })
 }
 
-#[tactic(auto, unfolding(crate::specs::prepared::Tests::order_test))]
+#[tactic(auto, unfolding(crate::specs::Tests::order_test))]
 fn at_most(alloc: Global, kind: &[u8], octets: &[u8]) -> Result<Test, PrepareFault>
     ensures { Gives (λ test. test) result (order_test (λ key. tests.IsAtMost key) kind.now octets.now) }
 {
@@ -158,7 +158,7 @@ fn put_key(keys: &mut Vec<Vec<u8>>, key: Vec<u8>) -> Result<(), AllocError>
 }
 
 /// What is asserted by parts.
-#[tactic(auto, unfolding(crate::specs::prepared::Tests::parts_asserted))]
+#[tactic(auto, unfolding(crate::specs::Tests::parts_asserted))]
 fn parts_of(
     alloc: Global,
     rule: Rule,
@@ -174,7 +174,7 @@ fn parts_of(
     Ok(Asserted::HasParts(first, middle, last))
 }
 
-#[tactic(auto, unfolding(crate::specs::prepared::Tests::parts_test))]
+#[tactic(auto, unfolding(crate::specs::Tests::parts_test))]
 fn substrings(
     alloc: Global,
     kind: &[u8],
@@ -192,7 +192,7 @@ fn substrings(
     })
 }
 
-#[tactic(auto, unfolding(crate::specs::prepared::Tests::present_test))]
+#[tactic(auto, unfolding(crate::specs::Tests::present_test))]
 fn present(kind: &[u8]) -> Result<Test, PrepareFault>
     ensures { Gives (λ test. test) result (present_test kind.now) }
 {
@@ -215,7 +215,7 @@ fn or_nothing(made: Result<Test, PrepareFault>) -> Result<Test, AllocError>
 }
 
 /// What an item asks; nothing is asked by `and`, `or` and `not`.
-#[tactic(auto, unfolding(crate::specs::prepared::Tests::test_of))]
+#[tactic(auto, unfolding(crate::specs::Tests::test_of))]
 pub(crate) fn prepare_item(alloc: Global, item: &Filter) -> Result<Test, AllocError>
     ensures { IfOk result (λ test. test ≡ test_of item.now) }
 {

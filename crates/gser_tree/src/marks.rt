@@ -32,7 +32,7 @@ pub(crate) enum Class {
 }
 
 /// The class of an octet.
-#[tactic(auto, unfolding(crate::specs::marks::Lexemes::class_of))]
+#[tactic(auto, unfolding(crate::specs::Lexemes::class_of))]
 pub(crate) fn classify(octet: u8) -> Class
     ensures exact { result ≡ class_of octet }
 {

@@ -1,6 +1,6 @@
 //! Entries and directories of texts, and what directories keep as text.
 
-use aci_lists::Dir;
+use directory::Dir;
 use dir_tree::dn_names::{make_value, parse, print};
 use dir_tree::schema_tables::attr;
 use dir_tree::{Entry, EntryNo, Scope, Tree};

@@ -3,7 +3,7 @@
 use crate::directories::{kept_at, number, put, said_at};
 use acdf_filters::aci_item::{Level, Permission};
 use acdf_filters::{Item, Membership, Requester};
-use aci_lists::Dir;
+use directory::Dir;
 use aci_index::IndexedDir;
 use dir_tree::{EntryNo, Tree};
 use std::alloc::Global;

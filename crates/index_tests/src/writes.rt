@@ -1,8 +1,8 @@
 //! Writes of every kind, one after the other, to both directories.
 
 use crate::directories::{Attributes, entry, kept, kept_at, new_at, number, said, tree};
-use aci_lists::{Dir, PlainDir};
 use aci_index::IndexedDir;
+use directory::Dir;
 use std::alloc::Global;
 use std::test::Fail;
 
@@ -50,7 +50,7 @@ fn make_write<D: Dir>(alloc: Global, dir: &mut D, what: Write) -> Result<(), Fai
 
 // The subentries in force for the entry of the name, where both directories keep for each entry what the entries say; or
 // which of the two does not.
-fn told(alloc: Global, plain: &PlainDir, indexed: &IndexedDir, name: &str) -> Result<String, Fail> {
+fn told(alloc: Global, plain: &IndexedDir, indexed: &IndexedDir, name: &str) -> Result<String, Fail> {
     let want = said(alloc, plain.tree())?;
     if kept(alloc, plain)?.as_str() != want.as_str() {
         return Ok(String::from_str(alloc, "the plain one differs")?);
@@ -220,7 +220,7 @@ fn after_each_write_both_directories_keep_what_the_entries_say(
     rt: HostRuntime,
 ) -> Result<(), Fail> {
     let alloc = rt.alloc();
-    let mut plain = PlainDir::new(alloc, tree(alloc, &ENTRIES)?)?;
+    let mut plain = IndexedDir::new(alloc, tree(alloc, &ENTRIES)?)?;
     let mut indexed = IndexedDir::new(alloc, tree(alloc, &ENTRIES)?)?;
     for (what, name, want) in &WRITES {
         make_write(alloc, &mut plain, *what)?;
@@ -248,7 +248,7 @@ static NEW: [(&str, Attributes, &str); 5] = [
 #[test]
 fn for_a_new_entry_what_stands_above_it_is_in_force(rt: HostRuntime) -> Result<(), Fail> {
     let alloc = rt.alloc();
-    let plain = PlainDir::new(alloc, tree(alloc, &ENTRIES)?)?;
+    let plain = IndexedDir::new(alloc, tree(alloc, &ENTRIES)?)?;
     let indexed = IndexedDir::new(alloc, tree(alloc, &ENTRIES)?)?;
     for (name, attributes, want) in &NEW {
         let new = entry(alloc, name, attributes)?;

@@ -24,7 +24,7 @@ impl Laid for Assertion {
 
     ghost parts = { assertion_parts };
 
-    #[tactic(auto, unfolding(ber_layout::specs::laid::Layouts::reads_into))]
+    #[tactic(auto, unfolding(ber_layout::specs::Layouts::reads_into))]
     fn read(alloc: Global, content: &[u8]) -> Result<Assertion, ReadFault> {
         let kind = required::<Octets>(alloc, 0x04, content)?;
         let value = required::<Octets>(alloc, 0x04, kind.rest)?;

@@ -71,7 +71,7 @@ impl Laid for Substrings {
 
     ghost parts = { substrings_parts };
 
-    #[tactic(auto, unfolding(ber_layout::specs::laid::Layouts::reads_into))]
+    #[tactic(auto, unfolding(ber_layout::specs::Layouts::reads_into))]
     fn read(alloc: Global, content: &[u8]) -> Result<Substrings, ReadFault> {
         let initial = optional_octets(alloc, 0x80, content)?;
         let any = each_octets(alloc, 0x81, initial.rest)?;
@@ -128,7 +128,7 @@ fn without_initial(
     }
 }
 
-#[tactic(auto, unfolding(ber_layout::specs::laid::Layouts::reads_into))]
+#[tactic(auto, unfolding(ber_layout::specs::Layouts::reads_into))]
 fn parts(alloc: Global, content: &[u8]) -> Result<Filter, ReadFault>
     ensures { Gives (λ filter. filter) result (parts_in content.now) }
 {
@@ -140,7 +140,7 @@ fn parts(alloc: Global, content: &[u8]) -> Result<Filter, ReadFault>
     with_substrings(kind.value, found.value)
 }
 
-#[tactic(auto, unfolding(ber_layout::specs::laid::Layouts::reads_into))]
+#[tactic(auto, unfolding(ber_layout::specs::Layouts::reads_into))]
 fn octets(alloc: Global, content: &[u8]) -> Result<Octets, ReadFault>
     ensures { Gives (λ octets. octets) result (Some content.now) }
 {

@@ -15,7 +15,7 @@ impl Laid for KindValues {
 
     ghost parts = { attribute_parts };
 
-    #[tactic(auto, unfolding(ber_layout::specs::laid::Layouts::reads_into))]
+    #[tactic(auto, unfolding(ber_layout::specs::Layouts::reads_into))]
     fn read(alloc: Global, content: &[u8]) -> Result<KindValues, ReadFault> {
         let kind = required::<Octets>(alloc, 0x04, content)?;
         let values = octets_list(alloc, 0x31, 0x04, kind.rest)?;
@@ -41,7 +41,7 @@ impl Laid for Change {
 
     ghost parts = { change_parts };
 
-    #[tactic(auto, unfolding(ber_layout::specs::laid::Layouts::reads_into))]
+    #[tactic(auto, unfolding(ber_layout::specs::Layouts::reads_into))]
     fn read(alloc: Global, content: &[u8]) -> Result<Change, ReadFault> {
         let operation = integer(0x0a, 0, 127, content)?;
         let body = required::<KindValues>(alloc, 0x30, operation.rest)?;

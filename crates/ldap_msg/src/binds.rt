@@ -11,7 +11,7 @@ use ber_layout::{Laid, ReadFault, any, integer, is_further, put_element, put_num
 use plain_values::Octets;
 use std::alloc::Global;
 
-#[tactic(auto, unfolding(ber_layout::specs::laid::Layouts::reads_into))]
+#[tactic(auto, unfolding(ber_layout::specs::Layouts::reads_into))]
 fn auth(alloc: Global, tag: u8, content: &[u8]) -> Result<Auth, ReadFault>
     ensures { Gives (λ value. value) result (Some (auth_from (tag, content.now))) }
 {
@@ -22,7 +22,7 @@ fn auth(alloc: Global, tag: u8, content: &[u8]) -> Result<Auth, ReadFault>
 }
 
 /// The bind request that a content says.
-#[tactic(auto, unfolding(ber_layout::specs::laid::Layouts::reads_into))]
+#[tactic(auto, unfolding(ber_layout::specs::Layouts::reads_into))]
 pub fn bind(alloc: Global, content: &[u8]) -> Result<BindRequest, ReadFault>
     ensures { Gives (λ value. value) result (bind_of content.now) }
 {

@@ -22,7 +22,7 @@ impl Laid for Control {
 
     ghost parts = { control_parts };
 
-    #[tactic(auto, unfolding(ber_layout::specs::laid::Layouts::reads_into))]
+    #[tactic(auto, unfolding(ber_layout::specs::Layouts::reads_into))]
     fn read(alloc: Global, content: &[u8]) -> Result<Control, ReadFault> {
         let kind = required::<Octets>(alloc, 0x04, content)?;
         let critical = marked(0x01, kind.rest)?;

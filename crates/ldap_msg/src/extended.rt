@@ -12,7 +12,7 @@ use plain_values::Octets;
 use std::alloc::Global;
 
 /// The name and the value that a content says.
-#[tactic(auto, unfolding(ber_layout::specs::laid::Layouts::reads_into))]
+#[tactic(auto, unfolding(ber_layout::specs::Layouts::reads_into))]
 pub fn extended(alloc: Global, content: &[u8]) -> Result<(Octets, Option<Octets>), ReadFault>
     ensures { Gives (λ found. (found.0, (found.1, tt))) result (reads extended_layout content.now) }
 {

@@ -7,7 +7,7 @@ ghost use Rattle.ldap_msg.specs.Streams.{IsFrame, framed, frame_at};
 use crate::kinds::{Frame, MAX_CONTENT};
 use ber_elements::{Header, header};
 
-#[tactic(auto, unfolding(crate::specs::framing::Streams::frame_at, crate::specs::framing::Streams::framed))]
+#[tactic(auto, unfolding(crate::specs::Streams::frame_at, crate::specs::Streams::framed))]
 fn framing(bytes: &[u8]) -> Frame
     ensures { result ≡ frame_at bytes.now }
 {

@@ -51,7 +51,7 @@ fn delete(alloc: Global, content: &[u8]) -> Result<Request, ReadFault>
     Ok(Request::Delete(DeleteRequest { name }))
 }
 
-#[tactic(auto, unfolding(ber_layout::specs::laid::Layouts::reads_into))]
+#[tactic(auto, unfolding(ber_layout::specs::Layouts::reads_into))]
 fn unbind(content: &[u8]) -> Result<Request, ReadFault>
     ensures { Gives (λ request. request) result (request_in operation_is.Unbind content.now) }
 {
@@ -61,7 +61,7 @@ fn unbind(content: &[u8]) -> Result<Request, ReadFault>
     Ok(Request::Unbind)
 }
 
-#[tactic(auto, unfolding(ber_layout::specs::laid::Layouts::reads_into))]
+#[tactic(auto, unfolding(ber_layout::specs::Layouts::reads_into))]
 fn abandon(content: &[u8]) -> Result<Request, ReadFault>
     ensures { Gives (λ request. request) result (request_in operation_is.Abandon content.now) }
 {
@@ -105,7 +105,7 @@ fn known(alloc: Global, controls: Option<OneOrMany<Control>>) -> OneOrMany<Contr
     }
 }
 
-#[tactic(auto, unfolding(ber_layout::specs::laid::Layouts::reads_into, crate::specs::reading::Messages::message_in))]
+#[tactic(auto, unfolding(ber_layout::specs::Layouts::reads_into, crate::specs::reading::Messages::message_in))]
 fn components(alloc: Global, content: &[u8]) -> Result<Message, ReadFault>
     ensures { Gives (λ message. message) result (message_in content.now) }
 {

@@ -169,7 +169,7 @@ pub fn put_notice(out: &mut Vec<u8>) -> Result<(), NoMemory>
     out.extend_from_slice(&NOTICE)
 }
 
-#[tactic(auto, unfolding(ber_layout::specs::laid::Layouts::reads_into))]
+#[tactic(auto, unfolding(ber_layout::specs::Layouts::reads_into))]
 fn entry(alloc: Global, content: &[u8]) -> Result<(Octets, OneOrMany<KindValues>), ReadFault>
     ensures { Gives (λ found. entry_parts found.0 found.1) result (reads entry_layout content.now) }
 {
@@ -188,7 +188,7 @@ fn entry_reply(alloc: Global, content: &[u8]) -> Result<Reply, ReadFault>
     Ok(Reply::Entry(name, attributes))
 }
 
-#[tactic(auto, unfolding(ber_layout::specs::laid::Layouts::reads_into))]
+#[tactic(auto, unfolding(ber_layout::specs::Layouts::reads_into))]
 fn answered(alloc: Global, content: &[u8]) -> Result<Reply, ReadFault>
     ensures { Gives (λ reply. reply) result (reply_in response_is.Extended content.now) }
 {
@@ -233,7 +233,7 @@ fn response_at(alloc: Global, tag: u8, content: &[u8]) -> Result<Reply, ReadFaul
     }
 }
 
-#[tactic(auto, unfolding(ber_layout::specs::laid::Layouts::reads_into, crate::specs::Replies::answer_in))]
+#[tactic(auto, unfolding(ber_layout::specs::Layouts::reads_into, crate::specs::Replies::answer_in))]
 fn components(alloc: Global, content: &[u8]) -> Result<(u32, Reply), ReadFault>
     ensures { Gives (λ found. (found.0, found.1)) result (answer_in content.now) }
 {

@@ -18,7 +18,7 @@ impl Laid for ModifyRequest {
 
     ghost parts = { modify_parts };
 
-    #[tactic(auto, unfolding(ber_layout::specs::laid::Layouts::reads_into))]
+    #[tactic(auto, unfolding(ber_layout::specs::Layouts::reads_into))]
     fn read(alloc: Global, content: &[u8]) -> Result<ModifyRequest, ReadFault> {
         let name = required::<Octets>(alloc, 0x04, content)?;
         let changes = list::<Change>(alloc, 0x30, 0x30, name.rest)?;
@@ -44,7 +44,7 @@ impl Laid for AddRequest {
 
     ghost parts = { add_parts };
 
-    #[tactic(auto, unfolding(ber_layout::specs::laid::Layouts::reads_into))]
+    #[tactic(auto, unfolding(ber_layout::specs::Layouts::reads_into))]
     fn read(alloc: Global, content: &[u8]) -> Result<AddRequest, ReadFault> {
         let name = required::<Octets>(alloc, 0x04, content)?;
         let attributes = list::<KindValues>(alloc, 0x30, 0x30, name.rest)?;
@@ -70,7 +70,7 @@ impl Laid for RenameRequest {
 
     ghost parts = { rename_parts };
 
-    #[tactic(auto, unfolding(ber_layout::specs::laid::Layouts::reads_into))]
+    #[tactic(auto, unfolding(ber_layout::specs::Layouts::reads_into))]
     fn read(alloc: Global, content: &[u8]) -> Result<RenameRequest, ReadFault> {
         let name = required::<Octets>(alloc, 0x04, content)?;
         let new_rdn = required::<Octets>(alloc, 0x04, name.rest)?;
@@ -102,7 +102,7 @@ impl Laid for CompareRequest {
 
     ghost parts = { compare_parts };
 
-    #[tactic(auto, unfolding(ber_layout::specs::laid::Layouts::reads_into))]
+    #[tactic(auto, unfolding(ber_layout::specs::Layouts::reads_into))]
     fn read(alloc: Global, content: &[u8]) -> Result<CompareRequest, ReadFault> {
         let name = required::<Octets>(alloc, 0x04, content)?;
         let assertion = required::<Assertion>(alloc, 0x30, name.rest)?;

@@ -12,7 +12,7 @@ impl Laid for LdapResult {
 
     ghost parts = { result_parts };
 
-    #[tactic(auto, unfolding(ber_layout::specs::laid::Layouts::reads_into))]
+    #[tactic(auto, unfolding(ber_layout::specs::Layouts::reads_into))]
     fn read(alloc: Global, content: &[u8]) -> Result<LdapResult, ReadFault> {
         let code = integer(0x0a, 0, 127, content)?;
         let matched = required::<Octets>(alloc, 0x04, code.rest)?;

@@ -17,7 +17,7 @@ use plain_values::Octets;
 use std::alloc::Global;
 
 /// The search that a content says.
-#[tactic(auto, unfolding(ber_layout::specs::laid::Layouts::reads_into))]
+#[tactic(auto, unfolding(ber_layout::specs::Layouts::reads_into))]
 pub fn search(alloc: Global, content: &[u8]) -> Result<SearchRequest, ReadFault>
     ensures { Gives (λ search. search) result (search_of content.now) }
 {

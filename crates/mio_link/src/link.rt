@@ -59,7 +59,7 @@ impl<R: Net> Link for MioLink<R> {
     }
 
     /// Waits for the next event; Stop once as many connections ended as there were to be sessions.
-    #[tactic(auto, unfolding(wire_io::specs::link::Telling::NextTells, wire_io::specs::script::Playing::NextPlays, wire_io::specs::Answers::LinkCause, wire_io::specs::Answers::IsPlanned))]
+    #[tactic(auto, unfolding(wire_io::specs::link::Telling::NextTells, wire_io::specs::Playing::NextPlays, wire_io::specs::Answers::LinkCause, wire_io::specs::Answers::IsPlanned))]
     fn next(&mut self, buf: &mut [u8]) -> Result<Heard, NextFault> {
         if self.sockets.are_done() {
             return Ok(Heard::Stop);

@@ -5,5 +5,4 @@ pub mod adding
 -- the words of crates below, handed on
 pub use Rattle.directory.specs as directory
 pub use Rattle.read_model.specs as read_model
-pub use Rattle.directory.specs.aci_lists as aci_lists
 pub use Rattle.ldif_load.specs.schema_rules as schema_rules

@@ -20,7 +20,7 @@ use dir_tree::dn_names::{Dn, Value};
 use dir_tree::schema_tables::AttrId;
 use dir_tree::{Entry, NoMemory, Tree};
 use ldap_msg::{AddRequest, KindValues, LdapResult, ResultCode};
-use directory::aci_lists::Dir;
+use directory::Dir;
 use directory::{
     Asking, Newcomer, Target, find_target, no_such_object, read_named, result_numbered, result_of,
 };

@@ -13,7 +13,7 @@ use acdf_filters::{Item, Requester};
 use dir_tree::dn_names::Dn;
 use dir_tree::{EntryNo, NoMemory};
 use ldap_msg::{DeleteRequest, LdapResult, ResultCode};
-use directory::aci_lists::Dir;
+use directory::Dir;
 use directory::{Asking, Target, find_target, hidden, is_suffix, not_leaf, read_named, result_of};
 use std::alloc::{AllocError, Global};
 

@@ -12,7 +12,6 @@ pub use adding::add;
 pub use deleting::delete;
 pub use fault::Fault;
 pub use directory;
-pub use directory::aci_lists;
 pub use ldif_load::schema_rules;
 pub use read_model;
 pub use reading::{Given, read_attribute};

@@ -8,6 +8,6 @@ pub mod Sending
 -- the words of crates below, handed on
 pub use Rattle.read_model.specs as read_model
 pub use Rattle.twin_laws.specs as twin_laws
-pub use Rattle.directory.specs.aci_lists as aci_lists
+pub use Rattle.directory.specs as directory
 pub use Rattle.acdf_filters.specs as acdf_filters
 pub use Rattle.acdf_filters.specs.aci_item as aci_item

@@ -17,7 +17,7 @@ use dir_tree::dn_names::Value;
 use dir_tree::schema_tables::{AttrId, attr_named, row};
 use ldap_msg::plain_values::{Octets, OneOrMany};
 use ldap_msg::{KindValues, Reply};
-use directory::aci_lists::Dir;
+use directory::Dir;
 use directory::{copied, printed};
 use std::alloc::Global;
 

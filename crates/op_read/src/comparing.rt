@@ -21,7 +21,7 @@ use dir_tree::match_rules::PrepareFault;
 use dir_tree::schema_tables::{AttrId, attr_named};
 use dir_tree::{EntryNo, NoMemory};
 use ldap_msg::{CompareRequest, LdapResult, ResultCode};
-use directory::aci_lists::Dir;
+use directory::Dir;
 use directory::{Asking, find_target, hidden, read_named, result_of};
 use std::alloc::{AllocError, Global};
 

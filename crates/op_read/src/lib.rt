@@ -13,7 +13,7 @@ mod sending;
 pub use acdf_filters;
 pub use acdf_filters::aci_item;
 pub use comparing::compare;
-pub use directory::aci_lists;
+pub use directory;
 pub use read_model;
 pub use searching::search;
 pub use twin_laws;

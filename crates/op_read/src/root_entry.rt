@@ -12,7 +12,7 @@ use dir_tree::NoMemory;
 use dir_tree::schema_tables::{AttrId, attr_named};
 use ldap_msg::plain_values::{Octets, OneOrMany};
 use ldap_msg::{Filter, KindValues, Node, Reply, SearchRequest};
-use directory::aci_lists::Dir;
+use directory::Dir;
 use directory::{Asking, copied, printed};
 use std::alloc::Global;
 

@@ -18,7 +18,7 @@ use acdf_filters::Requester;
 use dir_tree::dn_names::Dn;
 use dir_tree::{EntryNo, NoMemory};
 use ldap_msg::{ResultCode, SearchRequest, put_reply};
-use directory::aci_lists::Dir;
+use directory::Dir;
 use directory::{Asking, hidden, read_named, result_of};
 use read_model::filter_match::prepare_filter;
 use std::alloc::Global;

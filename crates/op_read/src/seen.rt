@@ -12,7 +12,7 @@ use acdf_filters::{Item, Membership, Requester};
 use dir_tree::dn_names::Value;
 use dir_tree::schema_tables::AttrId;
 use dir_tree::{Entry, EntryNo};
-use directory::aci_lists::Dir;
+use directory::Dir;
 use read_model::filter_match::Allow;
 
 /// An entry of the directory, as the requester sees it.

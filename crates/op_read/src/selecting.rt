@@ -8,7 +8,7 @@ use crate::seen::Seen;
 use acdf_filters::Item;
 use acdf_filters::aci_item::Permission;
 use dir_tree::{Entry, Scope};
-use directory::aci_lists::Dir;
+use directory::Dir;
 use read_model::filter_match::{Prepared, is_true};
 
 /// The scope of the number (RFC 4511 4.5.1.2).

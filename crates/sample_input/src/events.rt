@@ -85,7 +85,7 @@ fn bind_event(alloc: Global) -> Result<ScriptEvent, AllocError>
 }
 
 // The events without persons.
-#[tactic(auto, unfolding(crate::specs::events::SampleEvents::sample_events))]
+#[tactic(auto, unfolding(crate::specs::SampleEvents::sample_events))]
 fn without_persons(alloc: Global) -> Result<Vec<ScriptEvent>, AllocError>
     ensures { IfOk result (λ events. events.items ≡ sample_events 0) }
 {
@@ -119,7 +119,7 @@ fn push_search(alloc: Global, events: &mut Vec<ScriptEvent>, number: u32) -> Res
 }
 
 // Appends the events of the searches for so many persons.
-#[tactic(auto, unfolding(crate::specs::events::SampleEvents::sample_events))]
+#[tactic(auto, unfolding(crate::specs::SampleEvents::sample_events))]
 fn push_searches(alloc: Global, events: &mut Vec<ScriptEvent>, count: u32) -> Result<(), AllocError>
     requires few { count ≤ 20000 }
     requires none { events.old.items ≡ sample_events 0 }

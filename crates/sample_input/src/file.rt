@@ -34,7 +34,7 @@ fn unit_of(number: u32) -> &'static str
 }
 
 /// The name of a person.
-#[tactic(auto, unfolding(crate::specs::file::SampleFile::person_name))]
+#[tactic(auto, unfolding(crate::specs::SampleFile::person_name))]
 pub(crate) fn person_name(alloc: Global, number: u32) -> Result<String, AllocError>
     ensures { IfOk result (λ name. string_bytes name ≡ person_name number) }
 {
@@ -43,7 +43,7 @@ pub(crate) fn person_name(alloc: Global, number: u32) -> Result<String, AllocErr
 }
 
 // The record of a person.
-#[tactic(auto, unfolding(crate::specs::file::SampleFile::person_record))]
+#[tactic(auto, unfolding(crate::specs::SampleFile::person_record))]
 fn person_record(alloc: Global, number: u32) -> Result<String, AllocError>
     ensures { IfOk result (λ text. string_bytes text ≡ person_record number) }
 {
@@ -60,7 +60,7 @@ fn push_person(alloc: Global, text: &mut String, number: u32) -> Result<(), Allo
 }
 
 // The file without persons.
-#[tactic(auto, unfolding(crate::specs::file::SampleFile::sample_file))]
+#[tactic(auto, unfolding(crate::specs::SampleFile::sample_file))]
 fn without_persons(alloc: Global) -> Result<String, AllocError>
     ensures { IfOk result (λ text. string_bytes text ≡ sample_file 0) }
 {
@@ -70,7 +70,7 @@ fn without_persons(alloc: Global) -> Result<String, AllocError>
 }
 
 /// The data file of a sample of so many persons. The error comes for want of memory alone.
-#[tactic(auto, unfolding(crate::specs::file::SampleFile::sample_file))]
+#[tactic(auto, unfolding(crate::specs::SampleFile::sample_file))]
 pub fn sample_file(alloc: Global, count: u32) -> Result<String, AllocError>
     ensures exact { IfOk result (λ text. string_bytes text ≡ sample_file count) }
 {

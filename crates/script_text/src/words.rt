@@ -49,7 +49,7 @@ fn in_range(value: u64) -> Option<u32>
 }
 
 // The number of a connection.
-#[tactic(auto, unfolding(crate::specs::words::LineReading::number_of))]
+#[tactic(auto, unfolding(crate::specs::LineReading::number_of))]
 fn number(digits: &[u8]) -> Option<u32>
     ensures { result ≡ number_of digits.now }
 {
@@ -60,7 +60,7 @@ fn number(digits: &[u8]) -> Option<u32>
 }
 
 // The octets that pairs of hexadecimal digits write.
-#[tactic(auto, unfolding(crate::specs::words::LineReading::octets_of))]
+#[tactic(auto, unfolding(crate::specs::LineReading::octets_of))]
 fn octets(alloc: Global, digits: &[u8]) -> Result<Option<Octets>, AllocError>
     ensures { IfOk result (λ octets. octets ≡ octets_of digits.now) }
 {
@@ -88,7 +88,7 @@ fn cut_at_space(octets: &[u8]) -> (&[u8], &[u8])
 }
 
 // The event of `N HEX`.
-#[tactic(auto, unfolding(crate::specs::words::LineReading::sent_by))]
+#[tactic(auto, unfolding(crate::specs::LineReading::sent_by))]
 fn sent(alloc: Global, rest: &[u8]) -> Result<Option<ScriptEvent>, AllocError>
     ensures { IfOk result (λ event. event ≡ sent_by rest.now) }
 {
@@ -103,7 +103,7 @@ fn sent(alloc: Global, rest: &[u8]) -> Result<Option<ScriptEvent>, AllocError>
 }
 
 // The event that a line is the text of.
-#[tactic(auto, unfolding(crate::specs::words::LineReading::event_of))]
+#[tactic(auto, unfolding(crate::specs::LineReading::event_of))]
 pub(crate) fn event(alloc: Global, line: &[u8]) -> Result<Option<ScriptEvent>, AllocError>
     ensures { IfOk result (λ event. event ≡ event_of line.now) }
 {

@@ -1,32 +1,32 @@
 -- The definitions, computed on known messages and streams.
 use Rattle.std.proofs.Common.{◌≡◌, ℕ, true, false, List, [], ◌∷◌, codes, Option, Some, None, refl}
-use Rattle.run_laws.specs.ber_elements.Heading.{length_at, header_at}
-use Rattle.run_laws.specs.ber_elements.Integer.{int_at, int_octets}
-use Rattle.run_laws.specs.ber_elements.write.Spelling.{length_octets}
-use Rattle.run_laws.specs.ldap_msg.declared.kinds.Auth.TheVariants.{Simple, Other}
-use Rattle.run_laws.specs.ldap_msg.declared.kinds.Request.TheVariants as request
-use Rattle.run_laws.specs.ldap_msg.declared.kinds.Reply.TheVariants as reply
-use Rattle.run_laws.specs.ldap_msg.Streams.{framed, frame_at, whole_of, rest_behind, whole, rest_of, is_broken}
-use Rattle.run_laws.specs.ldap_msg.reading.Messages.{message_in, message_of}
-use Rattle.run_laws.specs.ldap_msg.declared.operations.ResultCode.TheVariants as code
-use Rattle.run_laws.specs.ber_layout.element.Pieces.{piece_of, piece_at, tagged_at, number_in, pieces_of, are_pieces}
-use Rattle.run_laws.specs.ber_layout.components.Components.{any_of, required_of, optional_of, marked_of, each_from, each_of}
-use Rattle.run_laws.specs.ber_layout.Spellings.{element_octets}
-use Rattle.run_laws.specs.ber_layout.Layouts.{reads_into}
-use Rattle.run_laws.specs.ldap_msg.Replies.{reply_octets}
+use Rattle.session_model.specs.ber_elements.Heading.{length_at, header_at}
+use Rattle.session_model.specs.ber_elements.Integer.{int_at, int_octets}
+use Rattle.session_model.specs.ber_elements.write.Spelling.{length_octets}
+use Rattle.session_model.specs.ldap_msg.declared.kinds.Auth.TheVariants.{Simple, Other}
+use Rattle.session_model.specs.ldap_msg.declared.kinds.Request.TheVariants as request
+use Rattle.session_model.specs.ldap_msg.declared.kinds.Reply.TheVariants as reply
+use Rattle.session_model.specs.ldap_msg.Streams.{framed, frame_at, whole_of, rest_behind, whole, rest_of, is_broken}
+use Rattle.session_model.specs.ldap_msg.reading.Messages.{message_in, message_of}
+use Rattle.session_model.specs.ldap_msg.declared.operations.ResultCode.TheVariants as code
+use Rattle.session_model.specs.ber_layout.element.Pieces.{piece_of, piece_at, tagged_at, number_in, pieces_of, are_pieces}
+use Rattle.session_model.specs.ber_layout.components.Components.{any_of, required_of, optional_of, marked_of, each_from, each_of}
+use Rattle.session_model.specs.ber_layout.Spellings.{element_octets}
+use Rattle.session_model.specs.ber_layout.Layouts.{reads_into}
+use Rattle.session_model.specs.ldap_msg.Replies.{reply_octets}
 use Rattle.dir_tree.specs.dn_names.parsing.NameText.{read_name}
 use Rattle.dir_tree.specs.dn_names.Modes.{text_fault}
 use Rattle.dir_tree.specs.dn_names.Resolving.{resolve}
 use Rattle.dir_tree.specs.dn_names.Reading.{written_of}
-use Rattle.run_laws.specs.ldap_msg.declared.kinds.Control.{Control}
-use Rattle.run_laws.specs.ldap_filter.filter.Filters.{Present}
-use Rattle.run_laws.specs.ldap_msg.declared.kinds.SearchRequest.{SearchRequest}
+use Rattle.session_model.specs.ldap_msg.declared.kinds.Control.{Control}
+use Rattle.session_model.specs.ldap_filter.filter.Filters.{Present}
+use Rattle.session_model.specs.ldap_msg.declared.kinds.SearchRequest.{SearchRequest}
 use Rattle.op_read.specs.aci_item.declared.level.Level.TheVariants as level
 use Rattle.op_read.specs.read_model.Views.{result_of}
 use Rattle.op_bind.specs.Binds.{bind_answer}
-use Rattle.modify_laws.specs.op_add_delete.adding.Updates.{added, deleted}
-use Rattle.run_laws.specs.session_model.Rules.{talk}
-use Rattle.run_laws.specs.session_model.Kept.{speech}
+use Rattle.change_laws.specs.op_add_delete.adding.Updates.{added, deleted}
+use Rattle.session_model.specs.Rules.{talk}
+use Rattle.session_model.specs.Kept.{speech}
 use Rattle.session_hub.specs.Parties.{Requester, nobody}
 use Rattle.session_hub.specs.Controls.{subentries_asked}
 use Rattle.session_hub.specs.Answering.{rules, answered}

@@ -1,21 +1,21 @@
 -- What one call within a loop adds to a link's journal, for the loop's own functions alone.
 use Rattle.std.specs.Prelude.{◌≡◌, ◌≤◌, ℕ, Bool, true, false, List, [], ◌∷◌, ◌++◌, length, Option, Some, Result, Ok, Err}
 use Rattle.dir_tree.specs.plain_values.Counts.{NeverFalls}
-use Rattle.run_laws.specs.wire_io.declared.answers.Heard.{Heard as Answer}
-use Rattle.run_laws.specs.wire_io.declared.answers.Heard.TheVariants as answer
-use Rattle.run_laws.specs.wire_io.declared.journal.Event.{Event}
-use Rattle.run_laws.specs.wire_io.declared.journal.Event.TheVariants as event
-use Rattle.run_laws.specs.wire_io.declared.journal.Item.{Item}
-use Rattle.run_laws.specs.wire_io.declared.journal.Item.TheVariants as item
-use Rattle.run_laws.specs.wire_io.Journal.{heard, was_opened, was_stopped}
-use Rattle.run_laws.specs.wire_io.link.Plan.{Plan}
-use Rattle.run_laws.specs.session_model.Run.{Opened, most_held}
-use Rattle.run_laws.specs.session_model.Kept as model
-use Rattle.run_laws.specs.session_model.Kept.{Held, queue_of}
-use Rattle.run_laws.specs.session_model.Keeping.{is_listed}
-use Rattle.run_laws.specs.session_model.Journaled.{all_taken}
-use Rattle.run_laws.specs.session_model.Serving.{Leads}
-use Rattle.run_laws.specs.session_model.Working.{Works, Refused, Lost}
+use Rattle.session_model.specs.wire_io.declared.answers.Heard.{Heard as Answer}
+use Rattle.session_model.specs.wire_io.declared.answers.Heard.TheVariants as answer
+use Rattle.session_model.specs.wire_io.declared.journal.Event.{Event}
+use Rattle.session_model.specs.wire_io.declared.journal.Event.TheVariants as event
+use Rattle.session_model.specs.wire_io.declared.journal.Item.{Item}
+use Rattle.session_model.specs.wire_io.declared.journal.Item.TheVariants as item
+use Rattle.session_model.specs.wire_io.Journal.{heard, was_opened, was_stopped}
+use Rattle.session_model.specs.wire_io.link.Plan.{Plan}
+use Rattle.session_model.specs.Run.{Opened, most_held}
+use Rattle.session_model.specs.Kept as model
+use Rattle.session_model.specs.Kept.{Held, queue_of}
+use Rattle.session_model.specs.Keeping.{is_listed}
+use Rattle.session_model.specs.Journaled.{all_taken}
+use Rattle.session_model.specs.Serving.{Leads}
+use Rattle.session_model.specs.Working.{Works, Refused, Lost}
 use Rattle.session_hub.specs.Parties.{DirectoryEntries, Requester}
 use Rattle.session_hub.specs.declared.sent.Sent.{Sent}
 use Rattle.session_hub.specs.declared.sent.Sent.TheVariants as sent

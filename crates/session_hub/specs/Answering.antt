@@ -1,27 +1,27 @@
 -- How this server answers each message (RFC 4511 4.1.1, 4.2 to 4.12). The rules of sessions take this, and
 -- nothing else of them knows what is answered.
 use Rattle.std.specs.Prelude.{Bool, true, false, List, [], ◌∷◌, Option, Some, None, if◌then◌else◌}
-use Rattle.run_laws.specs.ldap_msg.declared.kinds.BindRequest.{BindRequest}
-use Rattle.run_laws.specs.ldap_msg.declared.kinds.SearchRequest.{SearchRequest}
-use Rattle.run_laws.specs.ldap_msg.declared.kinds.Request.{Request}
-use Rattle.run_laws.specs.ldap_msg.declared.kinds.Request.TheVariants as request
-use Rattle.run_laws.specs.ldap_msg.declared.kinds.Control.{Control}
-use Rattle.run_laws.specs.ldap_msg.declared.kinds.Message.{Message}
-use Rattle.run_laws.specs.ldap_msg.declared.kinds.LdapResult.{LdapResult}
-use Rattle.run_laws.specs.ldap_msg.declared.kinds.Reply.{Reply}
-use Rattle.run_laws.specs.ldap_msg.declared.kinds.Reply.TheVariants as reply
-use Rattle.run_laws.specs.ldap_msg.declared.operations.ResultCode.{ResultCode}
-use Rattle.run_laws.specs.ldap_msg.declared.operations.ResultCode.TheVariants as code
-use Rattle.run_laws.specs.ldap_msg.reading.Messages.{message_of}
-use Rattle.run_laws.specs.ldap_msg.Replies.{notice_octets}
+use Rattle.session_model.specs.ldap_msg.declared.kinds.BindRequest.{BindRequest}
+use Rattle.session_model.specs.ldap_msg.declared.kinds.SearchRequest.{SearchRequest}
+use Rattle.session_model.specs.ldap_msg.declared.kinds.Request.{Request}
+use Rattle.session_model.specs.ldap_msg.declared.kinds.Request.TheVariants as request
+use Rattle.session_model.specs.ldap_msg.declared.kinds.Control.{Control}
+use Rattle.session_model.specs.ldap_msg.declared.kinds.Message.{Message}
+use Rattle.session_model.specs.ldap_msg.declared.kinds.LdapResult.{LdapResult}
+use Rattle.session_model.specs.ldap_msg.declared.kinds.Reply.{Reply}
+use Rattle.session_model.specs.ldap_msg.declared.kinds.Reply.TheVariants as reply
+use Rattle.session_model.specs.ldap_msg.declared.operations.ResultCode.{ResultCode}
+use Rattle.session_model.specs.ldap_msg.declared.operations.ResultCode.TheVariants as code
+use Rattle.session_model.specs.ldap_msg.reading.Messages.{message_of}
+use Rattle.session_model.specs.ldap_msg.Replies.{notice_octets}
 use Rattle.op_read.specs.read_model.Views.{View, view_of, result_of}
 use Rattle.op_read.specs.read_model.SearchReplies.{search_replies, replies_octets}
 use Rattle.op_read.specs.read_model.CompareReplies.{compare_result}
 use Rattle.op_bind.specs.Binds.{bind_answer}
-use Rattle.modify_laws.specs.op_add_delete.adding.Updates.{Changed, unless, added, deleted}
-use Rattle.modify_laws.specs.op_modify.Modifying.{modified}
-use Rattle.modify_laws.specs.op_modify.Renames.{renamed}
-use Rattle.run_laws.specs.session_model.Rules.{Rules, Answered}
+use Rattle.change_laws.specs.op_add_delete.adding.Updates.{Changed, unless, added, deleted}
+use Rattle.change_laws.specs.op_modify.Modifying.{modified}
+use Rattle.change_laws.specs.op_modify.Renames.{renamed}
+use Rattle.session_model.specs.Rules.{Rules, Answered}
 use Rattle.session_hub.specs.Parties.{DirectoryEntries, Requester, nobody}
 use Rattle.session_hub.specs.Controls.{is_refused, subentries_asked}
 

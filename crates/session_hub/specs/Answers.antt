@@ -1,8 +1,8 @@
 -- What an answered message, and an answered stream, leave.
 use Rattle.std.specs.Prelude.{◌≡◌, ◌≤◌, ◌+◌, ℕ, Bool, true, false, List, ◌++◌, length, drop, Option, Some, None}
-use Rattle.run_laws.specs.ldap_msg.Streams.{rest_of}
-use Rattle.run_laws.specs.session_model.Rules.{Answered, after_octets}
-use Rattle.run_laws.specs.session_model.Kept.{speech}
+use Rattle.session_model.specs.ldap_msg.Streams.{rest_of}
+use Rattle.session_model.specs.Rules.{Answered, after_octets}
+use Rattle.session_model.specs.Kept.{speech}
 use Rattle.session_hub.specs.Parties.{DirectoryEntries, Requester}
 use Rattle.session_hub.specs.declared.spoken.Spoken.{Spoken}
 use Rattle.session_hub.specs.declared.spoken.SpeechEnd.{SpeechEnd}

@@ -3,11 +3,11 @@ use Rattle.std.specs.Prelude.{ℕ, nat_lt, Bool, true, false, not, ◌&&◌, Lis
 use Rattle.std.specs.List.{list_any}
 use Rattle.std.specs.Option.{option_map}
 use Rattle.std.specs.Str.{bytes_eq}
-use Rattle.run_laws.specs.ber_layout.Layouts.{Layout, reads}
-use Rattle.run_laws.specs.ber_layout.Layouts.Layout.{Flag, End, Then}
-use Rattle.run_laws.specs.ldap_msg.declared.kinds.Control.{Control}
-use Rattle.run_laws.specs.ldap_msg.declared.kinds.Request.{Request}
-use Rattle.run_laws.specs.ldap_msg.declared.kinds.Request.TheVariants as request
+use Rattle.session_model.specs.ber_layout.Layouts.{Layout, reads}
+use Rattle.session_model.specs.ber_layout.Layouts.Layout.{Flag, End, Then}
+use Rattle.session_model.specs.ldap_msg.declared.kinds.Control.{Control}
+use Rattle.session_model.specs.ldap_msg.declared.kinds.Request.{Request}
+use Rattle.session_model.specs.ldap_msg.declared.kinds.Request.TheVariants as request
 
 -- a control of subentries
 abbrev pub is_subentries : Control → Bool

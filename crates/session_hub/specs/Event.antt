@@ -1,7 +1,7 @@
 -- The step that an event is.
 use Rattle.std.specs.Prelude.{ℕ, Option, Some, None, cond, List}
-use Rattle.run_laws.specs.session_model.Run.{Step, Opened, Bytes, Ended}
-use Rattle.run_laws.specs.session_model.Kept.{Kept, kept_of, cut_of}
+use Rattle.session_model.specs.Run.{Step, Opened, Bytes, Ended}
+use Rattle.session_model.specs.Kept.{Kept, kept_of, cut_of}
 use Rattle.session_hub.specs.Parties.{Requester}
 use Rattle.session_hub.specs.declared.event.Event.{Event}
 use Rattle.session_hub.specs.declared.event.Event.TheVariants as event

@@ -14,5 +14,4 @@ pub mod Telling
 pub mod Adding
 pub mod Waits
 -- the words of crates below, handed on
-pub use Rattle.run_laws.specs as run_laws
-pub use Rattle.run_laws.specs.session_model as session_model
+pub use Rattle.session_model.specs as session_model

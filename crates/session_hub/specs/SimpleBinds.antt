@@ -1,7 +1,7 @@
 -- The message of a simple bind of version 3 that has no controls (RFC 4511 4.2).
 use Rattle.std.specs.Prelude.{[]}
-use Rattle.run_laws.specs.ldap_msg.declared.kinds.Message.{Message}
-use Rattle.run_laws.specs.ldap_msg.declared.kinds.Request.TheVariants as request
+use Rattle.session_model.specs.ldap_msg.declared.kinds.Message.{Message}
+use Rattle.session_model.specs.ldap_msg.declared.kinds.Request.TheVariants as request
 use Rattle.op_bind.specs.Binds.{with_password}
 use Rattle.session_hub.specs.declared.simple.SimpleBind.{SimpleBind}
 

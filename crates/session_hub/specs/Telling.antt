@@ -1,7 +1,7 @@
 -- The event of a link, as its journal has it and as a hub hears it.
 use Rattle.std.specs.Prelude.{◌≡◌, ℕ}
-use Rattle.run_laws.specs.wire_io.declared.journal.Event.{Event as JournalEvent}
-use Rattle.run_laws.specs.wire_io.declared.journal.Event.TheVariants as journal_event
+use Rattle.session_model.specs.wire_io.declared.journal.Event.{Event as JournalEvent}
+use Rattle.session_model.specs.wire_io.declared.journal.Event.TheVariants as journal_event
 use Rattle.session_hub.specs.declared.event.Event.{Event}
 use Rattle.session_hub.specs.declared.event.Event.TheVariants as event
 

@@ -7,13 +7,13 @@ use Rattle.dir_tree.specs.dn_names.name.Names.{RdnSequence}
 use Rattle.dir_tree.specs.dn_names.NameOrder.{is_prefix_of}
 use Rattle.dir_tree.specs.dn_names.parsing.NameText.{read_name}
 use Rattle.dir_tree.specs.dn_names.declared.error.BadName.{BadName}
-use Rattle.run_laws.specs.ldap_msg.declared.kinds.Request.{Request}
-use Rattle.run_laws.specs.ldap_msg.declared.kinds.Request.TheVariants as request
-use Rattle.run_laws.specs.ldap_msg.reading.Messages.{message_of}
+use Rattle.session_model.specs.ldap_msg.declared.kinds.Request.{Request}
+use Rattle.session_model.specs.ldap_msg.declared.kinds.Request.TheVariants as request
+use Rattle.session_model.specs.ldap_msg.reading.Messages.{message_of}
 use Rattle.op_read.specs.twin_laws.Twins.{AreTwins}
-use Rattle.run_laws.specs.session_model.Run.{Step}
-use Rattle.run_laws.specs.session_model.Kept.{Held, heard}
-use Rattle.run_laws.specs.AnsweredMessages.{AnsweredMessage, held_over, answered_of_held}
+use Rattle.session_model.specs.Run.{Step}
+use Rattle.session_model.specs.Kept.{Held, heard}
+use Rattle.session_model.specs.AnsweredMessages.{AnsweredMessage, held_over, answered_of_held}
 use Rattle.session_hub.specs.Parties.{DirectoryEntries, Requester}
 use Rattle.session_hub.specs.Answering.{rules}
 use Rattle.session_hub.specs.hub.Following.{FollowsStep}

@@ -3,10 +3,10 @@
 ghost use Rattle.std.specs.Prelude.{◌≡◌, ◌≤◌, ℕ, true, List};
 ghost use Rattle.std.specs.List.{AllByRecursion};
 ghost use Rattle.dir_tree.specs.dn_names.name.Names.{RdnSequence};
-ghost use Rattle.run_laws.specs.session_model.Run.{Step, start, run};
-ghost use Rattle.run_laws.specs.session_model.Replaying.{replayed};
-ghost use Rattle.run_laws.specs.AnsweredMessages.{AnsweredMessage, AreOver, IsAnsweredAlike, answered_of_run, answered_of_replay};
-ghost use Rattle.run_laws.specs.Purging.{purged, openings, finds_room, answered_of_connection};
+ghost use Rattle.session_model.specs.Run.{Step, start, run};
+ghost use Rattle.session_model.specs.Replaying.{replayed};
+ghost use Rattle.session_model.specs.AnsweredMessages.{AnsweredMessage, AreOver, IsAnsweredAlike, answered_of_run, answered_of_replay};
+ghost use Rattle.session_model.specs.Purging.{purged, openings, finds_room, answered_of_connection};
 ghost use Rattle.session_hub.specs.Parties.{DirectoryEntries, Requester};
 ghost use Rattle.session_hub.specs.Answering.{rules};
 ghost use Rattle.session_hub.specs.Twins.{IsOverTwins};

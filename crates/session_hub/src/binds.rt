@@ -2,7 +2,7 @@
 
 ghost use Rattle.std.specs.Prelude.{◌≡◌, ◌++◌, [], ◌∷◌, IfOk, OnOk, OnErr, Some};
 ghost use Rattle.dir_tree.specs.tree.Numbered.{entries_of};
-ghost use Rattle.run_laws.specs.ldap_msg.declared.kinds.Reply.TheVariants as reply;
+ghost use Rattle.session_model.specs.ldap_msg.declared.kinds.Reply.TheVariants as reply;
 ghost use Rattle.op_read.specs.read_model.Views.{result_of as result_with};
 ghost use Rattle.op_read.specs.read_model.SearchReplies.{replies_octets};
 ghost use Rattle.session_hub.specs.Answering.{bound, answer_read};
@@ -13,8 +13,8 @@ use crate::results::result_of;
 use crate::simple::SimpleBind;
 use op_bind::{Bound, bind, bind_with_password};
 use op_read::acdf_filters::Requester;
-use op_read::aci_lists::Dir;
-use run_laws::ldap_msg::{BindRequest, Reply, put_reply};
+use op_read::directory::Dir;
+use session_model::ldap_msg::{BindRequest, Reply, put_reply};
 use std::alloc::{AllocError, Global};
 
 /// Appends the reply to a bind, and the requester is whom it made. After `AllocError` the requester is who it was.

@@ -2,10 +2,10 @@
 
 ghost use Rattle.std.specs.Prelude.{List, [], length};
 ghost use Rattle.dir_tree.specs.tree.Numbered.{entries_of};
-ghost use Rattle.run_laws.specs.wire_io.Answers.{HeardFits};
-ghost use Rattle.run_laws.specs.wire_io.link.Telling.{event_of};
-ghost use Rattle.run_laws.specs.wire_io.declared.journal.Event.TheVariants as event;
-ghost use Rattle.run_laws.specs.wire_io.declared.journal.Item.{Item};
+ghost use Rattle.session_model.specs.wire_io.Answers.{HeardFits};
+ghost use Rattle.session_model.specs.wire_io.link.Telling.{event_of};
+ghost use Rattle.session_model.specs.wire_io.declared.journal.Event.TheVariants as event;
+ghost use Rattle.session_model.specs.wire_io.declared.journal.Item.{Item};
 ghost use Rattle.session_hub.specs.Parties.{DirectoryEntries};
 ghost use Rattle.session_hub.specs.hub.Hubs.{held};
 ghost use Rattle.session_hub.specs.Telling.{journal_event_of, IsOf};
@@ -14,8 +14,8 @@ ghost use Rattle.session_hub.specs.Adding.{Adds, OnlyServes, IsServing, IsHeard,
 use crate::serving::settle_all;
 use crate::waiting::Waiting;
 use crate::{Event, Hub, MAX_CONNECTIONS};
-use op_read::aci_lists::Dir;
-use run_laws::wire_io::{Heard, Link};
+use op_read::directory::Dir;
+use session_model::wire_io::{Heard, Link};
 use std::alloc::AllocError;
 
 /// Begins with a connection that opens: it is held where there is room, and else hung up.

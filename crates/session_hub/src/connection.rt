@@ -2,7 +2,7 @@
 
 ghost use Rattle.std.specs.Prelude.{◌≡◌, ◌≤◌, [], length, drop, vec_len};
 ghost use Rattle.dir_tree.specs.tree.Numbered.{entries_of};
-ghost use Rattle.run_laws.specs.session_model.Kept.{closed, without_front, opened_kept};
+ghost use Rattle.session_model.specs.Kept.{closed, without_front, opened_kept};
 ghost use Rattle.session_hub.specs.Answering.{rules};
 ghost use Rattle.session_hub.specs.Answers.{closes_at, cut_at};
 ghost use Rattle.session_hub.specs.connection.Connections.{HearsPiece, KeepsRest};
@@ -12,7 +12,7 @@ use crate::requester::anonymous;
 use crate::spoken::{SpeechEnd, Spoken};
 use crate::stream::speak;
 use op_read::acdf_filters::Requester;
-use op_read::aci_lists::Dir;
+use op_read::directory::Dir;
 use std::alloc::Global;
 use std::marker::Model;
 
@@ -33,7 +33,7 @@ pub struct Connection {
 
 impl Model for Connection {
     ghost use Rattle.std.specs.Prelude.{◌≤◌, drop, length};
-    ghost use Rattle.run_laws.specs.session_model.Kept.{Kept};
+    ghost use Rattle.session_model.specs.Kept.{Kept};
     ghost use Rattle.session_hub.specs.Parties.{Requester};
 
     ghost Value = { Kept Requester };

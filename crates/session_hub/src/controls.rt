@@ -1,12 +1,12 @@
 //! The controls of a request (RFC 4511 4.1.11).
 
 ghost use Rattle.std.specs.Prelude.{◌≡◌, nat_lt, count_by, find, option_copied};
-ghost use Rattle.run_laws.specs.ber_layout.element.Reading.{Gives};
-ghost use Rattle.run_laws.specs.ber_layout.Layouts.{reads};
+ghost use Rattle.session_model.specs.ber_layout.element.Reading.{Gives};
+ghost use Rattle.session_model.specs.ber_layout.Layouts.{reads};
 ghost use Rattle.session_hub.specs.Controls.{is_subentries, is_search, is_known, is_refused, subentries_layout, flag_in, flag_of, subentries_asked};
 
-use run_laws::ber_layout::flag;
-use run_laws::ldap_msg::{Control, ReadFault, Request};
+use session_model::ber_layout::flag;
+use session_model::ldap_msg::{Control, ReadFault, Request};
 
 /// The type of the controls of subentries (RFC 3672 3).
 const SUBENTRIES: &[u8] = b"1.3.6.1.4.1.4203.1.10.1";

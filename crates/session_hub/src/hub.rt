@@ -2,8 +2,8 @@
 
 ghost use Rattle.std.specs.Prelude.{◌≡◌, ◌≤◌, length, IfOk, OnOk, OnErr};
 ghost use Rattle.dir_tree.specs.tree.Numbered.{entries_of};
-ghost use Rattle.run_laws.specs.session_model.Run as run;
-ghost use Rattle.run_laws.specs.session_model.Kept.{queue_of, closing_of, cut_of, taken_off, forgotten};
+ghost use Rattle.session_model.specs.Run as run;
+ghost use Rattle.session_model.specs.Kept.{queue_of, closing_of, cut_of, taken_off, forgotten};
 ghost use Rattle.session_hub.specs.hub.Hubs.{held, no_hub, Hears, HearsAnywhere, OpensOne, IsBounded};
 ghost use Rattle.session_hub.specs.hub.Following.{FollowsStart, FollowsStep, FollowsAnywhere, FollowsTaking, QueuesReply, ClosesWith, CountsHeld};
 ghost use Rattle.session_hub.specs.Event.{step_by};
@@ -12,7 +12,7 @@ ghost use Rattle.session_hub.specs.Twins.{HearsAlike};
 use crate::Event;
 use crate::connection::Connection;
 use crate::places::{closing_at, cut_at, end_at, forget_at, hear_at, is_at, queue_at, take_off};
-use op_read::aci_lists::Dir;
+use op_read::directory::Dir;
 use std::alloc::{AllocError, Global};
 use std::marker::Model;
 

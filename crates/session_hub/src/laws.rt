@@ -2,12 +2,12 @@
 
 ghost use Rattle.std.specs.Prelude.{List};
 ghost use Rattle.op_read.specs.aci_item.Rules.{IsGoodTree};
-ghost use Rattle.run_laws.specs.session_model.Run.{Step, run};
+ghost use Rattle.session_model.specs.Run.{Step, run};
 ghost use Rattle.session_hub.specs.Parties.{DirectoryEntries};
 ghost use Rattle.session_hub.specs.Answering.{rules};
 
-use modify_laws::laws::a_good_tree_stays_good_when_changed;
-use update_laws::laws::a_good_tree_stays_good;
+use change_laws::laws::a_good_tree_stays_good_when_changed;
+use change_laws::laws::a_good_tree_stays_good;
 
 /// What sessions leave of a good tree is a good tree, whatever is asked, by whom and in which order.
 pub fn sessions_keep_a_directory_good()

@@ -2,13 +2,13 @@
 
 ghost use Rattle.std.specs.Prelude.{◌≡◌, ◌≤◌, ◌++◌, [], ◌∷◌, length, take, vec_len, IfOk, OnOk, OnErr, Some, None};
 ghost use Rattle.dir_tree.specs.tree.Numbered.{entries_of};
-ghost use Rattle.run_laws.specs.ldap_msg.Streams.{frame_at};
-ghost use Rattle.run_laws.specs.ldap_msg.declared.operations.ResultCode.TheVariants as code;
+ghost use Rattle.session_model.specs.ldap_msg.Streams.{frame_at};
+ghost use Rattle.session_model.specs.ldap_msg.declared.operations.ResultCode.TheVariants as code;
 ghost use Rattle.op_read.specs.read_model.Views.{view_of};
 ghost use Rattle.op_read.specs.read_model.SearchReplies.{replies_octets};
 ghost use Rattle.op_read.specs.read_model.CompareReplies.{compare_result};
-ghost use Rattle.run_laws.specs.ldap_msg.declared.kinds.Reply.TheVariants as reply;
-ghost use Rattle.modify_laws.specs.op_add_delete.adding.Updates.{IsChanged};
+ghost use Rattle.session_model.specs.ldap_msg.declared.kinds.Reply.TheVariants as reply;
+ghost use Rattle.change_laws.specs.op_add_delete.adding.Updates.{IsChanged};
 ghost use Rattle.session_hub.specs.Parties.{DirectoryEntries, Requester};
 ghost use Rattle.session_hub.specs.Controls.{subentries_asked};
 ghost use Rattle.session_hub.specs.Answering.{rules, response_to as response_of, replies_in, ended_with, asking, searched, change_of, changing, operated, answered, is_unbind, answer_read};
@@ -19,18 +19,18 @@ use crate::controls::{is_refused, subentries_asked};
 use crate::requester::anonymous;
 use crate::results::result_of;
 use crate::simple::simple_bind;
-use modify_laws::laws::a_refused_change_leaves_the_entries;
-use modify_laws::op_modify::{modify, rename};
-use modify_laws::op_add_delete::{add, delete};
+use change_laws::laws::a_refused_change_leaves_the_entries;
+use change_laws::op_modify::{modify, rename};
+use change_laws::op_add_delete::{add, delete};
 use op_read::acdf_filters::Requester;
-use op_read::aci_lists::Dir;
+use op_read::directory::Dir;
 use op_read::{compare, search};
-use run_laws::ldap_msg::{
+use session_model::ldap_msg::{
     CompareRequest, Frame, LdapResult, Message, ReadFault, Reply, Request, ResultCode,
     SearchRequest, put_notice, put_reply, read_request,
 };
 use std::alloc::{AllocError, Global};
-use update_laws::laws::a_refusal_leaves_the_entries;
+use change_laws::laws::a_refusal_leaves_the_entries;
 
 fn response_to(request: &Request, ended: LdapResult) -> Option<Reply>
     ensures { result ≡ response_of request.now ended }
@@ -278,7 +278,7 @@ fn closes_after(request: &Request) -> bool
     matches!(request, Request::Unbind)
 }
 
-#[tactic(auto, unfolding(crate::specs::messages::Answering::rules))]
+#[tactic(auto, unfolding(crate::specs::Answering::rules))]
 fn answer_message<D: Dir>(
     alloc: Global,
     dir: &mut D,
@@ -297,7 +297,7 @@ fn answer_message<D: Dir>(
     Ok(closes_after(&message.request))
 }
 
-#[tactic(auto, unfolding(crate::specs::messages::Answering::rules))]
+#[tactic(auto, unfolding(crate::specs::Answering::rules))]
 fn refuse_octets(out: &mut Vec<u8>) -> Result<bool, AllocError>
     ensures ok { IfOk result (λ closes. (entries : DirectoryEntries) (who : Requester) →
         Gives (answer_read entries who None) out.old.items out.new.items entries who closes) }

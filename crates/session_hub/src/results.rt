@@ -4,7 +4,7 @@ ghost use Rattle.std.specs.Prelude.{◌≡◌};
 ghost use Rattle.op_read.specs.read_model.Views.{result_of};
 
 use dir_tree::plain_values::Octets;
-use run_laws::ldap_msg::{LdapResult, ResultCode};
+use session_model::ldap_msg::{LdapResult, ResultCode};
 use std::alloc::Global;
 
 /// The result of this code, with no matched name (RFC 4511 4.1.9). This takes no memory.

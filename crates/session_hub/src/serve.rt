@@ -11,8 +11,8 @@ ghost use Rattle.session_hub.specs.serve.Turns.{GoesOn, EndsWith};
 use crate::block::serve_event;
 use crate::waiting::Waiting;
 use crate::{Ended, Hub};
-use op_read::aci_lists::Dir;
-use run_laws::wire_io::{Heard, Link, NextFault};
+use op_read::directory::Dir;
+use session_model::wire_io::{Heard, Link, NextFault};
 use std::alloc::{AllocError, Global};
 
 /// The length of the buffer into which the link puts octets.

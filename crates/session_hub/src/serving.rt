@@ -1,10 +1,10 @@
 //! One event of a link, served.
 
 ghost use Rattle.std.specs.Prelude.{◌≡◌, false, [], ◌∷◌, List, ℕ, OnOk};
-ghost use Rattle.run_laws.specs.session_model.Keeping.{is_listed};
-ghost use Rattle.run_laws.specs.session_model.Kept.{Held};
-ghost use Rattle.run_laws.specs.session_model.Serving.{Leads};
-ghost use Rattle.run_laws.specs.session_model.Working.{Refused, Lost};
+ghost use Rattle.session_model.specs.Keeping.{is_listed};
+ghost use Rattle.session_model.specs.Kept.{Held};
+ghost use Rattle.session_model.specs.Serving.{Leads};
+ghost use Rattle.session_model.specs.Working.{Refused, Lost};
 ghost use Rattle.session_hub.specs.Parties.{DirectoryEntries, Requester};
 ghost use Rattle.session_hub.specs.Answering.{rules};
 ghost use Rattle.session_hub.specs.hub.Hubs.{held};
@@ -13,7 +13,7 @@ ghost use Rattle.session_hub.specs.Adding.{Adds, OnlyServes, IsServing, IsSent, 
 use crate::Hub;
 use crate::sent::Sent;
 use crate::waiting::Waiting;
-use run_laws::wire_io::{Link, Took};
+use session_model::wire_io::{Link, Took};
 use std::alloc::AllocError;
 
 /// Sends the connection's queue as far as the link takes it.

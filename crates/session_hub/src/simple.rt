@@ -1,14 +1,14 @@
 //! Simple binds read where they lie, so that nothing of what other requests need is cleared or copied for them.
 
 ghost use Rattle.std.specs.Prelude.{◌≡◌, IfSome, Some, true};
-ghost use Rattle.run_laws.specs.ber_layout.element.Pieces.{number_in};
-ghost use Rattle.run_laws.specs.ldap_msg.Binds.{bind_of};
-ghost use Rattle.run_laws.specs.ldap_msg.reading.Messages.{message_in, message_of};
+ghost use Rattle.session_model.specs.ber_layout.element.Pieces.{number_in};
+ghost use Rattle.session_model.specs.ldap_msg.Binds.{bind_of};
+ghost use Rattle.session_model.specs.ldap_msg.reading.Messages.{message_in, message_of};
 ghost use Rattle.op_bind.specs.Binds.{with_password};
 ghost use Rattle.session_hub.specs.SimpleBinds.{message_for};
 
-use run_laws::ber_layout::{any, integer, is_further, tagged};
-use run_laws::ldap_msg::Operation;
+use session_model::ber_layout::{any, integer, is_further, tagged};
+use session_model::ldap_msg::Operation;
 
 /// The greatest messageID (RFC 4511 4.1.1).
 const MAX_ID: u32 = 2_147_483_647;

@@ -6,8 +6,8 @@ ghost use Rattle.session_hub.specs.Answers.{Speaks};
 use crate::messages::answer;
 use crate::spoken::{SpeechEnd, Spoken};
 use op_read::acdf_filters::Requester;
-use op_read::aci_lists::Dir;
-use run_laws::ldap_msg::{Frame, frame, put_notice};
+use op_read::directory::Dir;
+use session_model::ldap_msg::{Frame, frame, put_notice};
 use std::alloc::Global;
 
 /// Answers the whole messages of a stream in their order until one closes, where they lie, and

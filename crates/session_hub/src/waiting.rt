@@ -1,8 +1,8 @@
 //! The connections that a loop has on hold, and those that are still due in a block.
 
 ghost use Rattle.std.specs.Prelude.{◌≡◌, true, false, [], ◌∷◌, IfOk, OnOk, OnErr};
-ghost use Rattle.run_laws.specs.session_model.Keeping.{is_listed};
-ghost use Rattle.run_laws.specs.session_model.Working.{Puts, Covers};
+ghost use Rattle.session_model.specs.Keeping.{is_listed};
+ghost use Rattle.session_model.specs.Working.{Puts, Covers};
 ghost use Rattle.session_hub.specs.Waits.{TakesDue};
 
 use crate::MAX_CONNECTIONS;

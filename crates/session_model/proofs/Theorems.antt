@@ -1,11 +1,4 @@
 -- What the crates above may cite.
-use Rattle.std.proofs.Common.{◌≡◌, ℕ, false, [], refl, arith}
-use Rattle.session_model.specs.Rules.{Rules}
-use Rattle.session_model.specs.Run.{Sessions, Step, Opened, Bytes, Ended, Gone, HungUp, step, start, held_numbers}
-use Rattle.session_model.specs.Kept.{Held, heard}
-use Rattle.session_model.specs.Keeping.{Keeps, IsNew}
-use Rattle.session_model.proofs.laws.KeepingLemmas.{Keeps-opened, Keeps-left}
-use Rattle.session_model.proofs.laws.BytesLemmas.{Keeps-bytes, Keeps-ended}
 -- queues and what closes, by number
 pub use Rattle.session_model.proofs.laws.KeptLemmas.{queue_in, closing_in, queue_of_is, closing_of_is, kept_of-number, kept_of-changed, number-changed, kept_of-forgotten, kept_of-append}
 -- octets taken of a queue keep what is held true to its sessions
@@ -29,19 +22,10 @@ pub use Rattle.session_model.proofs.laws.JournalLemmas.{all_taken-one, was_opene
 pub use Rattle.session_model.proofs.laws.BytesLemmas.{new_messages-are}
 pub use Rattle.session_model.proofs.laws.StepLemmas.{with_session-same}
 pub use Rattle.session_model.proofs.laws.HeldLemmas.{is_listed-append}
-
--- what is held stays true to its sessions at each step that opens no number twice
-pub Keeps-step : {T W : Type 0} (r : Rules T W) (u : Sessions T W) (taken : ℕ → ℕ) (h : Held T W) (s : Step) → IsNew u s → Keeps u taken h →
-    Keeps (step r u s) taken (heard r s h)
-unfolding heard step
-Keeps-step r u taken h (Opened c) new keeps = Keeps-opened r u taken h c keeps new
-Keeps-step r u taken h (Bytes c piece cut) new keeps = Keeps-bytes r u taken h c piece cut keeps
-Keeps-step r u taken h (Ended c) new keeps = Keeps-ended r u taken h c keeps
-Keeps-step r u taken h (Gone c) new keeps = Keeps-left r u taken h c keeps
-Keeps-step r u taken h (HungUp c) new keeps = Keeps-left r u taken h c keeps
-
--- nothing is held before any step
-pub Keeps-start : {T W : Type 0} (r : Rules T W) (t : T) (taken : ℕ → ℕ) → ((c : ℕ) → taken c ≡ 0) → Keeps (start r t) taken (record { tree = t; kept = []; was_cut = false })
-unfolding start held_numbers
-Keeps-start r t taken none =
-    record { tree = refl; numbers = refl; each = λ c. refl; within = λ c. (let zero_c : taken c ≡ 0 = none c in omega arith); unopened = λ c _. (refl, refl) }
+-- what is held stays true to its sessions, from the beginning and at each step that opens no number twice
+pub use Rattle.session_model.proofs.laws.SessionLemmas.{Keeps-step, Keeps-start}
+-- runs over two trees, and without the steps of others
+pub use Rattle.session_model.proofs.laws.AlikeLemmas.{all_append, AreAlike-over, talk-alike, said-alike}
+pub use Rattle.session_model.proofs.laws.RunLemmas.{step-alike, run-alike, replayed-alike}
+pub use Rattle.session_model.proofs.laws.AlikeHeldLemmas.{heard-alike, answered-kept}
+pub use Rattle.session_model.proofs.laws.PurgeLemmas.{run-purged}

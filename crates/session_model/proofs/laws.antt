@@ -16,3 +16,8 @@ pub mod ReplayLemmas
 pub mod SpeechLemmas
 pub mod JoinedLemmas
 pub mod ClaimLemmas
+pub mod SessionLemmas
+pub mod AlikeLemmas
+pub mod RunLemmas
+pub mod PurgeLemmas
+pub mod AlikeHeldLemmas

@@ -1,7 +1,7 @@
 //! A hub that hears events.
 
 use crate::messages::{BIND, BOUND, UNBIND};
-use aci_lists::PlainDir;
+use aci_index::IndexedDir;
 use dir_tree::Tree;
 use session_hub::{Event, Hub};
 use std::alloc::AllocError;
@@ -10,7 +10,7 @@ use std::test::Fail;
 const NOTHING: &[u8] = b"";
 
 // Hears an event. It promises nothing, so that the proof of a test goes by what the test asks of the hub.
-fn hear(hub: &mut Hub, dir: &mut PlainDir, event: Event<'_>) -> Result<(), AllocError> {
+fn hear(hub: &mut Hub, dir: &mut IndexedDir, event: Event<'_>) -> Result<(), AllocError> {
     hub.hear(dir, event)
 }
 
@@ -33,7 +33,7 @@ fn forget(hub: &mut Hub, conn: u32) {
 #[test]
 fn a_bind_is_answered_and_an_unbind_closes(rt: HostRuntime) -> Result<(), Fail> {
     let mut hub = Hub::new(rt.alloc())?;
-    let mut dir = PlainDir::new(rt.alloc(), Tree::new(rt.alloc()))?;
+    let mut dir = IndexedDir::new(rt.alloc(), Tree::new(rt.alloc()))?;
     let rest = BOUND.split_at(4).1;
     hear(&mut hub, &mut dir, Event::Opened(7))?;
     hear(&mut hub, &mut dir, Event::Bytes(7, BIND))?;
@@ -57,7 +57,7 @@ fn a_bind_is_answered_and_an_unbind_closes(rt: HostRuntime) -> Result<(), Fail> 
 #[test]
 fn a_message_that_comes_octet_by_octet_is_answered_once(rt: HostRuntime) -> Result<(), Fail> {
     let mut hub = Hub::new(rt.alloc())?;
-    let mut dir = PlainDir::new(rt.alloc(), Tree::new(rt.alloc()))?;
+    let mut dir = IndexedDir::new(rt.alloc(), Tree::new(rt.alloc()))?;
     hear(&mut hub, &mut dir, Event::Opened(1))?;
     hear(&mut hub, &mut dir, Event::Opened(2))?;
     for at in 0..BIND.len() {
@@ -86,7 +86,7 @@ fn a_message_that_comes_octet_by_octet_is_answered_once(rt: HostRuntime) -> Resu
 #[test]
 fn connections_that_left_or_never_came_hear_nothing(rt: HostRuntime) -> Result<(), Fail> {
     let mut hub = Hub::new(rt.alloc())?;
-    let mut dir = PlainDir::new(rt.alloc(), Tree::new(rt.alloc()))?;
+    let mut dir = IndexedDir::new(rt.alloc(), Tree::new(rt.alloc()))?;
     hear(&mut hub, &mut dir, Event::Bytes(9, BIND))?;
     assert_eq!(rt; held(&hub, 9), (0, false, NOTHING));
     hear(&mut hub, &mut dir, Event::Opened(9))?;
@@ -100,7 +100,7 @@ fn connections_that_left_or_never_came_hear_nothing(rt: HostRuntime) -> Result<(
 #[test]
 fn nothing_is_cut_while_there_is_memory(rt: HostRuntime) -> Result<(), Fail> {
     let mut hub = Hub::new(rt.alloc())?;
-    let mut dir = PlainDir::new(rt.alloc(), Tree::new(rt.alloc()))?;
+    let mut dir = IndexedDir::new(rt.alloc(), Tree::new(rt.alloc()))?;
     hear(&mut hub, &mut dir, Event::Opened(1))?;
     hear(&mut hub, &mut dir, Event::Bytes(1, BIND))?;
     assert_eq!(rt; hub.was_cut(), false);
@@ -112,7 +112,7 @@ fn nothing_is_cut_while_there_is_memory(rt: HostRuntime) -> Result<(), Fail> {
 #[test]
 fn no_more_than_the_most_are_held(rt: HostRuntime) -> Result<(), Fail> {
     let mut hub = Hub::new(rt.alloc())?;
-    let mut dir = PlainDir::new(rt.alloc(), Tree::new(rt.alloc()))?;
+    let mut dir = IndexedDir::new(rt.alloc(), Tree::new(rt.alloc()))?;
     for conn in 0..300u32 {
         hear(&mut hub, &mut dir, Event::Opened(conn))?;
     }

@@ -1,7 +1,7 @@
 //! The loop over the events of a script.
 
 use crate::messages::{BOUND, NOTICE};
-use aci_lists::PlainDir;
+use aci_index::IndexedDir;
 use dir_tree::Tree;
 use session_hub::{Ended, serve_loop};
 use std::alloc::Global;
@@ -14,7 +14,7 @@ const SCRIPT: &str =
 
 // A loop over a directory without entries, for at most so many turns.
 fn serve(alloc: Global, link: &mut ScriptLink, turns: u64) -> Ended {
-    let Ok(mut dir) = PlainDir::new(alloc, Tree::new(alloc)) else {
+    let Ok(mut dir) = IndexedDir::new(alloc, Tree::new(alloc)) else {
         return Ended::NoMemory;
     };
     serve_loop(alloc, &mut dir, link, turns)

@@ -4,7 +4,7 @@ ghost use Rattle.std.specs.Prelude.{◌<◌, length, IfOk};
 ghost use Rattle.wire_io.specs.script_text.script.Script.{OpensOnce, AreFilled};
 
 use crate::messages::{BIND, BOUND};
-use aci_lists::PlainDir;
+use aci_index::IndexedDir;
 use dir_tree::Tree;
 use session_hub::{Ended, serve_loop};
 use std::alloc::{AllocError, Global};
@@ -58,7 +58,7 @@ fn losing_link(alloc: Global, gone: u64) -> Result<ScriptLink, AllocError> {
 
 // Serves the link over a directory without entries.
 fn serve(alloc: Global, link: &mut ScriptLink) -> Ended {
-    let Ok(mut dir) = PlainDir::new(alloc, Tree::new(alloc)) else {
+    let Ok(mut dir) = IndexedDir::new(alloc, Tree::new(alloc)) else {
         return Ended::NoMemory;
     };
     serve_loop(alloc, &mut dir, link, 100)
@@ -133,7 +133,7 @@ impl Link for HalfSlow {
         Ok(())
     }
 
-    #[tactic(auto, unfolding(wire_io::specs::link::Telling::NextTells, wire_io::specs::script::Playing::NextPlays, wire_io::specs::Answers::LinkCause, wire_io::specs::Answers::IsPlanned))]
+    #[tactic(auto, unfolding(wire_io::specs::link::Telling::NextTells, wire_io::specs::Playing::NextPlays, wire_io::specs::Answers::LinkCause, wire_io::specs::Answers::IsPlanned))]
     fn next(&mut self, buf: &mut [u8]) -> Result<Heard, NextFault> {
         let turn = self.given;
         if turn >= 1024 {
@@ -190,7 +190,7 @@ fn each_of_256_connections_is_answered_where_half_of_them_are_slow(
         taken: 0
     }; 257]?;
     let mut link = HalfSlow { given: 0, writes };
-    let mut dir = PlainDir::new(rt.alloc(), Tree::new(rt.alloc()))?;
+    let mut dir = IndexedDir::new(rt.alloc(), Tree::new(rt.alloc()))?;
     assert_eq!(rt;
         serve_loop(rt.alloc(), &mut dir, &mut link, 2000),
         Ended::Stopped

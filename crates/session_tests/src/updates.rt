@@ -1,6 +1,7 @@
 //! Adds and deletes in sessions (RFC 4511 4.7 and 4.8): what is answered, and what the directory then has.
 
-use aci_lists::{Dir, PlainDir};
+use aci_index::IndexedDir;
+use aci_index::directory::Dir;
 use data_file::load;
 use session_hub::{Event, Hub};
 use std::alloc::{AllocError, Global};
@@ -27,14 +28,14 @@ const SITE: &str = "\
     objectClass: device\n\
     cn: d\n";
 
-fn site(alloc: Global) -> Result<PlainDir, Fail> {
+fn site(alloc: Global) -> Result<IndexedDir, Fail> {
     let tree = load(alloc, SITE.as_bytes())?;
-    let dir = PlainDir::new(alloc, tree)?;
+    let dir = IndexedDir::new(alloc, tree)?;
     Ok(dir)
 }
 
 // A hub with the connection 1, or with 1 and 2.
-fn opened(alloc: Global, dir: &mut PlainDir, last: u32) -> Result<Hub, Fail> {
+fn opened(alloc: Global, dir: &mut IndexedDir, last: u32) -> Result<Hub, Fail> {
     let mut hub = Hub::new(alloc)?;
     hear(&mut hub, dir, Event::Opened(1))?;
     if last == 2 {
@@ -44,7 +45,7 @@ fn opened(alloc: Global, dir: &mut PlainDir, last: u32) -> Result<Hub, Fail> {
 }
 
 // Hears an event. It promises nothing, so that the proof of a test goes by what the test asks of the hub.
-fn hear(hub: &mut Hub, dir: &mut PlainDir, event: Event<'_>) -> Result<(), AllocError> {
+fn hear(hub: &mut Hub, dir: &mut IndexedDir, event: Event<'_>) -> Result<(), AllocError> {
     hub.hear(dir, event)
 }
 
@@ -54,7 +55,7 @@ fn take_all(hub: &mut Hub, conn: u32) {
     hub.took(conn, count);
 }
 
-fn entries(dir: &PlainDir) -> usize {
+fn entries(dir: &IndexedDir) -> usize {
     dir.tree().len()
 }
 

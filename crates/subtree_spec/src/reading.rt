@@ -80,7 +80,7 @@ fn filter<'a>(
 }
 
 // The components of a specification, and the members behind them.
-#[tactic(auto, unfolding(crate::specs::reading::SubtreeText::components))]
+#[tactic(auto, unfolding(crate::specs::SubtreeText::components))]
 fn components<'a>(
     alloc: Global,
     trees: &'a [Tree],
@@ -106,7 +106,7 @@ fn components<'a>(
 }
 
 /// The specification that a value is.
-#[tactic(auto, unfolding(crate::specs::reading::SubtreeText::subtree))]
+#[tactic(auto, unfolding(crate::specs::SubtreeText::subtree))]
 pub fn subtree(alloc: Global, tree: &Tree, bad: &mut Bad) -> Result<Spec, Stop>
     ensures read { Reads subtree_of result bad.new.first (subtree (shape_of tree.now) bad.old.first) }
 {
@@ -135,7 +135,7 @@ pub fn read(alloc: Global, text: &[u8]) -> Result<Spec, BadText>
 }
 
 // As `read`, by the function of the text.
-#[tactic(auto, unfolding(crate::specs::reading::SubtreeText::read_subtree))]
+#[tactic(auto, unfolding(crate::specs::SubtreeText::read_subtree))]
 fn read_all(alloc: Global, text: &[u8]) -> Result<Spec, BadText>
     ensures exact { Answers subtree_of fault_of result (read_subtree text.now) }
 {

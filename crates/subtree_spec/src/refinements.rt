@@ -28,7 +28,7 @@ fn class_oid_of(text: &str) -> Option<&str>
 }
 
 // The object identifier of a class; where it has none its place is bad.
-#[tactic(auto, unfolding(crate::specs::reading::SubtreeText::item))]
+#[tactic(auto, unfolding(crate::specs::SubtreeText::item))]
 fn item(alloc: Global, tree: &Tree, bad: &mut Bad) -> Result<String, Stop>
     ensures read { Reads (λ oid. string_bytes oid) result bad.new.first (item (shape_of tree.now) bad.old.first) }
 {

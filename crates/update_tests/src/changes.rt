@@ -2,7 +2,7 @@
 
 use aci_index::IndexedDir;
 use aci_index::acdf_filters::Requester;
-use aci_index::aci_lists::Dir;
+use aci_index::directory::Dir;
 use data_file::load;
 use dir_tree::dn_names::{parse, print};
 use dir_tree::plain_values::{Octets, OneOrMany};

@@ -33,7 +33,7 @@ impl<R: Files> Shelf for FileShelf<R> {
 
     ghost faults = { λ shelf. shelf.faults };
 
-    #[tactic(auto, unfolding(crate::specs::shelf::Files::FetchGives, crate::specs::shelf::Files::FetchCause))]
+    #[tactic(auto, unfolding(crate::specs::Files::FetchGives, crate::specs::Files::FetchCause))]
     fn fetch(&mut self, name: &str, from: u64, buf: &mut [u8]) -> Result<usize, FetchFault> {
         match read_at(&self.rt, name, from, buf) {
             Ok(count) => Ok(count),

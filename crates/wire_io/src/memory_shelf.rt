@@ -51,7 +51,7 @@ impl Shelf for MemShelf {
     ghost faults = { λ shelf. shelf.faults };
 
     /// Gives as many octets as the file and the buffer have, or fails at the chosen calls.
-    #[tactic(auto, unfolding(crate::specs::shelf::Files::FetchGives, crate::specs::shelf::Files::FetchCause, crate::specs::shelf::Files::Lacks, crate::specs::shelf::Files::ReadsFile, crate::specs::shelf::Files::ReadsFrom, crate::specs::memory_shelf::MemoryForms::ShelfFetches, crate::specs::memory_shelf::MemoryForms::GivesAll))]
+    #[tactic(auto, unfolding(crate::specs::Files::FetchGives, crate::specs::Files::FetchCause, crate::specs::Files::Lacks, crate::specs::Files::ReadsFile, crate::specs::Files::ReadsFrom, crate::specs::MemoryForms::ShelfFetches, crate::specs::MemoryForms::GivesAll))]
     fn fetch(&mut self, name: &str, from: u64, buf: &mut [u8]) -> Result<usize, FetchFault>
         requires { 0 < length buf.old }
         ensures fits { IfOk result (λ count. count ≤ length buf.new) }
@@ -74,7 +74,7 @@ impl Shelf for MemShelf {
 }
 
 /// The octets of the first file of the name.
-#[tactic(auto, unfolding(crate::specs::shelf::Files::file_of))]
+#[tactic(auto, unfolding(crate::specs::Files::file_of))]
 fn find<'a>(files: &'a [(String, Vec<u8>)], name: &str) -> Option<&'a [u8]>
     ensures found { IfSome result (λ content. file_of name.now (files_view files.now) ≡ Some content.now) }
     ensures empty { IfNone result (file_of name.now (files_view files.now) ≡ None) }

@@ -58,7 +58,7 @@ impl Sink for MemSink {
     ghost faults = { λ sink. sink.faults };
 
     /// Takes the piece whole, or fails at the chosen calls.
-    #[tactic(auto, unfolding(crate::specs::sink::Putting::WriteTells, crate::specs::sink::Putting::PutCause, crate::specs::memory_shelf::MemoryForms::SinkWrites))]
+    #[tactic(auto, unfolding(crate::specs::Putting::WriteTells, crate::specs::Putting::PutCause, crate::specs::MemoryForms::SinkWrites))]
     fn write(&mut self, bytes: &[u8]) -> Result<usize, PutFault>
         requires { 0 < length bytes.now }
         ensures fits { IfOk result (λ count. (0 < count) × (count ≤ length bytes.now)) }

@@ -8,7 +8,7 @@ use std::alloc::{AllocError, Global};
 
 const PIECE: usize = 65_536;
 
-#[tactic(auto, unfolding(crate::specs::reading::ReadWhole::PieceGives, crate::specs::reading::ReadWhole::PieceCause, crate::specs::reading::ReadWhole::ReadCause))]
+#[tactic(auto, unfolding(crate::specs::ReadWhole::PieceGives, crate::specs::ReadWhole::PieceCause, crate::specs::ReadWhole::ReadCause))]
 /// Reads the file of the name, of at most `limit` octets. `Absent` comes where the shelf tells that
 /// it has no such file, `Failed` where its count of faults rose, and `TooLong` for a file of more
 /// octets, with the line of the first octet past the limit. `NoMemory` may come in place of any answer.
@@ -36,7 +36,7 @@ pub fn read_all<H: Shelf>(
     Ok(content)
 }
 
-#[tactic(auto, unfolding(crate::specs::shelf::Files::FetchGives, crate::specs::shelf::Files::FetchCause, crate::specs::reading::ReadWhole::PieceGives, crate::specs::reading::ReadWhole::PieceCause))]
+#[tactic(auto, unfolding(crate::specs::Files::FetchGives, crate::specs::Files::FetchCause, crate::specs::ReadWhole::PieceGives, crate::specs::ReadWhole::PieceCause))]
 /// Reads one more piece of the file; false where it has no more.
 fn read_piece<H: Shelf>(
     shelf: &mut H,

@@ -86,7 +86,7 @@ impl Script {
         }
     }
 
-    #[tactic(auto, unfolding(crate::specs::script::Playing::front_turn, crate::specs::script::Playing::first_turn, crate::specs::script::Playing::left_over, crate::specs::link::Telling::event_of))]
+    #[tactic(auto, unfolding(crate::specs::Playing::front_turn, crate::specs::Playing::first_turn, crate::specs::Playing::left_over, crate::specs::link::Telling::event_of))]
     /// Gives the first event, as many of its octets as the buffer has room for; Stop after the last.
     pub(crate) fn give(&self, buf: &mut [u8]) -> Heard
         requires room { 0 < length buf.old }
@@ -162,7 +162,7 @@ fn octets_of_first<'a>(listed: &'a [ScriptEvent], place: usize, recorded: &'a Re
 
 /// The next event, with octets at the front of the buffer: Ready where the first planned one is of a
 /// connection on hold.
-#[tactic(auto, unfolding(crate::specs::script::Playing::next_turn, crate::specs::script::Playing::front_turn, crate::specs::script::Playing::holds_of, crate::specs::link::Telling::event_of))]
+#[tactic(auto, unfolding(crate::specs::Playing::next_turn, crate::specs::Playing::front_turn, crate::specs::Playing::holds_of, crate::specs::link::Telling::event_of))]
 pub(crate) fn turn(script: &Script, journal: &TrackedJournal, buf: &mut [u8]) -> Heard
     requires room { 0 < length buf.old }
     requires filled { AreFilled script.now }

@@ -150,7 +150,7 @@ impl ScriptLink {
         is_listed(call, &self.failing)
     }
 
-    #[tactic(auto, unfolding(crate::specs::link::Telling::NextTells, crate::specs::script::Playing::NextPlays))]
+    #[tactic(auto, unfolding(crate::specs::link::Telling::NextTells, crate::specs::Playing::NextPlays))]
     /// Gives the next event.
     fn play(&mut self, buf: &mut [u8]) -> Result<Heard, NoMemory>
         requires { 0 < length buf.old }
@@ -178,7 +178,7 @@ impl Link for ScriptLink {
 
     ghost lost = { λ link. link.lost };
 
-    #[tactic(auto, unfolding(crate::specs::link::Telling::OpenTells, crate::specs::Answers::LinkCause, crate::specs::Answers::IsPlanned, crate::specs::script_link::Scripted::LinkOpens))]
+    #[tactic(auto, unfolding(crate::specs::link::Telling::OpenTells, crate::specs::Answers::LinkCause, crate::specs::Answers::IsPlanned, crate::specs::Scripted::LinkOpens))]
     /// Opens, or fails at the chosen calls.
     fn open(&mut self, address: &str, sessions: u64) -> Result<(), NextFault>
         ensures tells { OpenTells (Some self.old.journal) address.now sessions result (Some self.new.journal) }
@@ -200,7 +200,7 @@ impl Link for ScriptLink {
         Ok(())
     }
 
-    #[tactic(auto, unfolding(crate::specs::link::Telling::NextTells, crate::specs::script::Playing::NextPlays, crate::specs::Answers::LinkCause, crate::specs::Answers::IsPlanned, crate::specs::script_link::Scripted::LinkHears))]
+    #[tactic(auto, unfolding(crate::specs::link::Telling::NextTells, crate::specs::Playing::NextPlays, crate::specs::Answers::LinkCause, crate::specs::Answers::IsPlanned, crate::specs::Scripted::LinkHears))]
     /// Gives the next event of the script, or fails at the chosen calls.
     fn next(&mut self, buf: &mut [u8]) -> Result<Heard, NextFault>
         requires { 0 < length buf.old }
@@ -221,7 +221,7 @@ impl Link for ScriptLink {
         Ok(heard)
     }
 
-    #[tactic(auto, unfolding(crate::specs::link::Telling::TookTells, crate::specs::Answers::WriteCause, crate::specs::Answers::IsPlanned, crate::specs::script_link::Scripted::LinkWrites))]
+    #[tactic(auto, unfolding(crate::specs::link::Telling::TookTells, crate::specs::Answers::WriteCause, crate::specs::Answers::IsPlanned, crate::specs::Scripted::LinkWrites))]
     /// Takes the piece whole, or answers Later or Gone at the chosen calls.
     fn write(&mut self, conn: u32, bytes: &[u8]) -> Took
         requires { 0 < length bytes.now }

@@ -30,7 +30,7 @@ impl<R: Print> Sink for StdSink<R> {
 
     ghost faults = { λ sink. sink.faults };
 
-    #[tactic(auto, unfolding(crate::specs::sink::Putting::WriteTells, crate::specs::sink::Putting::PutCause))]
+    #[tactic(auto, unfolding(crate::specs::Putting::WriteTells, crate::specs::Putting::PutCause))]
     fn write(&mut self, bytes: &[u8]) -> Result<usize, PutFault> {
         match self.rt.write_some(bytes) {
             Ok(count) if count > 0 => Ok(count),

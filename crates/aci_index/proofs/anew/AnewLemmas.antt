@@ -8,8 +8,8 @@ use Rattle.dir_tree.specs.Entry.{EntryInformation}
 use Rattle.dir_tree.specs.tree.Numbered.{Numbered, IsNumberedTree, entry_of}
 use Rattle.acdf_filters.specs.admin_scope.Finding.{AreSubtrees}
 use Rattle.acdf_filters.specs.admin_scope.declared.subtrees.AccessSubentry.{AccessSubentry}
-use Rattle.scope_laws.specs.Aside.{IsAside, IsChangeOf}
-use Rattle.scope_laws.proofs.Theorems.{entry_of-new}
+use Rattle.aci_index.specs.Aside.{IsAside, IsChangeOf}
+use Rattle.aci_index.proofs.laws.NumberLemmas.{entry_of-new}
 use Rattle.aci_lists.specs.declared.kept.Kept.{Kept}
 use Rattle.aci_lists.specs.declared.kept.Holdings.{Holdings}
 use Rattle.aci_lists.specs.kept.Lists.{Lists, lists_of, lists_at, AreOf}

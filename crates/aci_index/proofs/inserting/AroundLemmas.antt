@@ -5,8 +5,8 @@ use Rattle.dir_tree.specs.dn_names.NameOrder.{is_prefix_of, is_same}
 use Rattle.dir_tree.specs.Entry.{EntryInformation}
 use Rattle.dir_tree.specs.tree.Trees.{superior_name}
 use Rattle.dir_tree.proofs.TreeTheorems.{same_like, child_is}
-use Rattle.scope_laws.specs.Aside.{IsAside}
-use Rattle.scope_laws.proofs.Theorems.{aside-under}
+use Rattle.aci_index.specs.Aside.{IsAside}
+use Rattle.aci_index.proofs.laws.AsideLemmas.{aside-under}
 use Rattle.aci_index.proofs.inserting.ReachLemmas.{IsApart}
 
 -- one that is put in

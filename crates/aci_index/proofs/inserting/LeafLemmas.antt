@@ -8,7 +8,9 @@ use Rattle.dir_tree.proofs.TreeTheorems.{new_removable, removed_alone, outside}
 use Rattle.aci_lists.specs.declared.kept.Holdings.{Holdings}
 use Rattle.aci_lists.specs.kept.Holdings.{IsHeld, IsForgotten}
 use Rattle.aci_lists.proofs.Theorems.{held-without}
-use Rattle.scope_laws.proofs.Theorems.{aside-beside, change-put, change-taken, entry_of-new}
+use Rattle.aci_index.proofs.laws.AsideLemmas.{aside-beside}
+use Rattle.aci_index.proofs.laws.RowLemmas.{change-put, change-taken}
+use Rattle.aci_index.proofs.laws.NumberLemmas.{entry_of-new}
 use Rattle.aci_index.specs.Steps.{IsKeptOf, OthersStay}
 use Rattle.aci_index.proofs.inserting.SubtreeLemmas.{IsOrdinary}
 use Rattle.aci_index.proofs.inserting.HeldLemmas.{held-aside}

@@ -2,7 +2,7 @@
 use Rattle.std.proofs.Common.{◌≡◌, ◌≢◌, ℕ, List, [], ap, sym, subst, ◌∙◌, Some, None}
 use Rattle.dir_tree.specs.Entry.{EntryInformation}
 use Rattle.dir_tree.specs.tree.Numbered.{Numbered, IsNumberedTree, entry_of, put_entry}
-use Rattle.scope_laws.proofs.Theorems.{change-put}
+use Rattle.aci_index.proofs.laws.RowLemmas.{change-put}
 use Rattle.aci_index.specs.Reach.{reached}
 use Rattle.aci_index.specs.declared.anew.Reach.TheVariants.{Around}
 use Rattle.aci_index.proofs.inserting.ReachLemmas.{IsApart, unreached-around}

@@ -12,8 +12,8 @@ use Rattle.acdf_filters.specs.subtree_spec.Subtrees.{subtree_of}
 use Rattle.acdf_filters.specs.admin_scope.InForce.{subtree_of_entry}
 use Rattle.acdf_filters.specs.admin_scope.Finding.{AreSubtrees, subtree_at}
 use Rattle.acdf_filters.specs.admin_scope.declared.subtrees.AccessSubentry.{AccessSubentry}
-use Rattle.scope_laws.specs.Aside.{IsChangeOf}
-use Rattle.scope_laws.proofs.Theorems.{entry_of-new}
+use Rattle.aci_index.specs.Aside.{IsChangeOf}
+use Rattle.aci_index.proofs.laws.NumberLemmas.{entry_of-new}
 
 -- the entry is no access control subentry
 abbrev pub IsOrdinary : EntryInformation → Type 0

@@ -7,8 +7,8 @@ use Rattle.dir_tree.specs.Points.{is_specific_point, is_inner_point, is_access_s
 use Rattle.dir_tree.specs.Scope.{is_within}
 use Rattle.dir_tree.proofs.TreeTheorems.{same_itself}
 use Rattle.acdf_filters.specs.admin_scope.Areas.{is_access_point}
-use Rattle.scope_laws.specs.Aside.{is_point_over, point_over, IsAside}
-use Rattle.scope_laws.proofs.Theorems.{aside-same}
+use Rattle.aci_index.specs.Aside.{is_point_over, point_over, IsAside}
+use Rattle.aci_index.proofs.laws.AsideLemmas.{aside-same}
 use Rattle.aci_index.specs.Steps.{are_alike, are_ordinary, has_same_roles, is_same_point, is_own_change}
 use Rattle.aci_index.proofs.inserting.SubtreeLemmas.{IsOrdinary}
 

@@ -2,7 +2,7 @@
 use Rattle.std.proofs.Common.{◌≡◌, ℕ, true, List, sym, subst, ◌∙◌, Some}
 use Rattle.dir_tree.specs.Entry.{EntryInformation}
 use Rattle.dir_tree.specs.tree.Numbered.{Numbered, IsNumberedTree, entry_of, put_entry, without}
-use Rattle.scope_laws.proofs.Theorems.{change-replaced}
+use Rattle.aci_index.proofs.laws.RowLemmas.{change-replaced}
 use Rattle.aci_lists.specs.declared.kept.Holdings.{Holdings}
 use Rattle.aci_lists.specs.kept.Lists.{AreOf, lists_at}
 use Rattle.aci_lists.specs.kept.Holdings.{IsHeld}

@@ -16,8 +16,10 @@ use Rattle.dir_tree.proofs.TreeTheorems.{all_known_entry}
 use Rattle.dir_tree.proofs.TreeTheorems.{IsAllowedThere, allowed_there}
 use Rattle.aci_lists.specs.declared.kept.Holdings.{Holdings}
 use Rattle.aci_lists.specs.kept.Holdings.{IsHeld}
-use Rattle.scope_laws.specs.Aside.{IsAside}
-use Rattle.scope_laws.proofs.Theorems.{aside-beside, change-taken, change-replaced, entry_of-new}
+use Rattle.aci_index.specs.Aside.{IsAside}
+use Rattle.aci_index.proofs.laws.AsideLemmas.{aside-beside}
+use Rattle.aci_index.proofs.laws.RowLemmas.{change-taken, change-replaced}
+use Rattle.aci_index.proofs.laws.NumberLemmas.{entry_of-new}
 use Rattle.aci_index.specs.declared.anew.Reach.{Reach}
 use Rattle.aci_index.specs.declared.anew.Reach.TheVariants.{Below, Around}
 use Rattle.aci_index.specs.declared.anew.Anew.{Anew}

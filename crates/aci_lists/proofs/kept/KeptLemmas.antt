@@ -21,8 +21,8 @@ use Rattle.acdf_filters.specs.Standing.{initial}
 use Rattle.acdf_filters.specs.weighing.Weighing.{weighed_for, is_granted}
 use Rattle.acdf_filters.specs.declared.standing.Standing.{Standing}
 use Rattle.acdf_filters.proofs.Theorems.{decided-fold}
-use Rattle.acdf_order.specs.Order.{highest_first}
-use Rattle.acdf_order.proofs.Theorems.{fold-highest_first}
+use Rattle.aci_lists.specs.Order.{highest_first}
+use Rattle.aci_lists.proofs.Theorems.{fold-highest_first}
 use Rattle.aci_lists.specs.declared.kept.Kept.{Kept}
 use Rattle.aci_lists.specs.kept.Lists.{lists_at, IsKept, tuples_in, tuples_at, tuples_below, tuples_inherited, tuples_kept}
 

@@ -15,7 +15,8 @@ use Rattle.acdf_filters.specs.Standing.{initial}
 use Rattle.acdf_filters.specs.weighing.Weighing.{weighed_for, is_granted}
 use Rattle.acdf_filters.proofs.Theorems.{decided-fold}
 use Rattle.aci_lists.specs.declared.kept.Kept.{Kept}
-use Rattle.aci_lists.specs.kept.Lists.{AreInForce, IsKept, tuples_at, tuples_below}
+use Rattle.acdf_filters.specs.admin_scope.InForce.{AreInForce}
+use Rattle.aci_lists.specs.kept.Lists.{IsKept, tuples_at, tuples_below}
 use Rattle.aci_lists.proofs.kept.KeptLemmas.{tuple_in, values_tuples, tuples-entries, weighed_at-entries, weighed_below-entry}
 
 -- the state decides on a subentry, by what the entry above it gives

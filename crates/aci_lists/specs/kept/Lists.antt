@@ -8,7 +8,7 @@ use Rattle.acdf_filters.specs.admin_scope.InForce.{in_force}
 use Rattle.acdf_filters.specs.aci_item.AciTuples.{AciTuple}
 use Rattle.acdf_filters.specs.Tuples.{TaggedTuples, prescriptive_aci, entry_aci, subentry_aci, items_in}
 use Rattle.acdf_filters.specs.aci_item.item.Views.{tuple_of}
-use Rattle.acdf_order.specs.Order.{highest_first}
+use Rattle.aci_lists.specs.Order.{highest_first}
 use Rattle.aci_lists.specs.declared.kept.Kept.{Kept}
 
 -- the tuples of items
@@ -46,11 +46,6 @@ pub record AreOf (rows : List Numbered) (entry : EntryInformation) (lists : List
   pub prescriptive : lists.prescriptive ≡ highest_first (tuples_in (items_in prescriptive_aci entry))
   pub own : lists.own ≡ highest_first (tuples_in (items_in entry_aci entry))
   pub below : lists.below ≡ highest_first (tuples_in (items_in subentry_aci entry))
-
--- the numbers are those of the access control subentries in force for the entry, which need not be in the tree
-pub record AreInForce (rows : List Numbered) (entry : EntryInformation) (ids : List ℕ) : Type 0 where
-  pub exact : entries_at rows ids ≡ in_force (entries_of rows) entry
-  pub live : AllByRecursion (λ id. IsSome (entry_of id rows)) ids
 
 -- of each number that is in use its entry's lists are kept
 abbrev pub IsKept : List Kept → List Numbered → Type 0

@@ -2,15 +2,15 @@
 use Rattle.std.proofs.Common.{◌≡◌, ℕ, List, Some, None, Ok, refl, ◌∙◌, subst}
 use Rattle.command_files.proofs.wire_io_proofs.Theorems.{appended-none}
 use Rattle.command_words.specs.command.Command.{CommandView, Explain}
-use Rattle.explain_text.specs.question_words.Questions.{Question}
-use Rattle.explain_text.specs.question_words.Reading.{question_of}
+use Rattle.explanation.specs.Questions.{Question}
+use Rattle.explanation.specs.Reading.{question_of}
 use Rattle.command_files.specs.dir_tree.Entry.{EntryInformation}
 use Rattle.command_files.specs.dir_tree.tree.Numbered.{Numbered, entries_of}
 use Rattle.command_files.specs.loading.Loading.{LoadsData}
 use Rattle.acl_program.specs.declared.status.Status.{Status}
 use Rattle.acl_program.specs.declared.status.Status.TheVariants.{NoMemory}
 use Rattle.acl_program.specs.program.Causes.{Comes, Links}
-use Rattle.explain_text.specs.Texts.{text_explained}
+use Rattle.explanation.specs.Texts.{text_explained}
 use Rattle.acl_program.specs.Outcomes.{NoCommand, Explained, OutOfMemory}
 use Rattle.acl_program.specs.program.Outside.{Written, Outside}
 use Rattle.acl_program.specs.program.Playing.{Ends, Performs}

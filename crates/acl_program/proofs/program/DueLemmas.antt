@@ -8,15 +8,15 @@ use Rattle.command_files.specs.wire_io.Files.{Files, file_of, Lacks}
 use Rattle.session_hub.specs.declared.ended.Ended.TheVariants as ended
 use Rattle.command_words.specs.command.Command.{CommandView, Serve, Replay, Check, Dump, Explain, Sample, IsCommand}
 use Rattle.command_words.proofs.Theorems.{IsCommand-unique}
-use Rattle.explain_text.specs.question_words.Questions.{Question}
-use Rattle.explain_text.specs.question_words.Reading.{question_of}
+use Rattle.explanation.specs.Questions.{Question}
+use Rattle.explanation.specs.Reading.{question_of}
 use Rattle.command_files.specs.dir_tree.Entry.{EntryInformation}
 use Rattle.command_files.specs.ldif_load.load.DataFile.{FileCause, loads}
 use Rattle.sample_input.specs.SampleFile.{sample_file}
 use Rattle.acl_program.specs.Outcomes.{Outcome, NoCommand, NoFile, BadDataLine, BadLine, Checked, Dumped, Replayed, Served, Explained, Sampled, OutOfMemory, status_of}
 use Rattle.acl_program.specs.declared.status.Status.TheVariants.{Done, NoMemory}
 use Rattle.acl_program.specs.program.Outside.{Linked}
-use Rattle.explain_text.specs.Texts.{text_explained}
+use Rattle.explanation.specs.Texts.{text_explained}
 use Rattle.acl_program.specs.Explaining.{Explains}
 use Rattle.acl_program.specs.Sampling.{Samples, RefusesSample, sample_text}
 use Rattle.acl_program.specs.serve.Serving.{ServeAsked, ServeEnd, LoopEnded}

@@ -8,8 +8,8 @@ use Rattle.command_files.specs.wire_io.Files.{Files}
 use Rattle.command_files.specs.wire_io.Journal.{was_stopped}
 use Rattle.session_hub.specs.declared.ended.Ended.TheVariants as ended
 use Rattle.command_words.specs.command.Command.{CommandView, Serve, Replay, Check, Dump, Explain, Sample, IsCommand}
-use Rattle.explain_text.specs.question_words.Questions.{Question}
-use Rattle.explain_text.specs.question_words.Reading.{question_of}
+use Rattle.explanation.specs.Questions.{Question}
+use Rattle.explanation.specs.Reading.{question_of}
 use Rattle.command_files.specs.dir_tree.Entry.{EntryInformation}
 use Rattle.command_files.specs.ldif_load.load.DataFile.{FileCause}
 use Rattle.command_files.specs.loading.Accepting.{IsUnread, HoldsIn, IsTold, IsGoodData, IsBadData, IsGoodScript, IsBadScript}

@@ -8,7 +8,7 @@ use Rattle.command_files.specs.wire_io.Putting.{appended}
 use Rattle.command_files.specs.dn_names.name.Names.{RdnSequence}
 use Rattle.session_hub.specs.session_model.Run.{start}
 use Rattle.session_hub.specs.session_model.Journaled.{steps_of_events}
-use Rattle.session_hub.specs.run_laws.AnsweredMessages.{AnsweredMessage, answered_of_replay}
+use Rattle.session_hub.specs.session_model.AnsweredMessages.{AnsweredMessage, answered_of_replay}
 use Rattle.session_hub.specs.Parties.{DirectoryEntries, Requester}
 use Rattle.session_hub.specs.Answering.{rules}
 use Rattle.session_hub.specs.Twins.{IsOverTwins}

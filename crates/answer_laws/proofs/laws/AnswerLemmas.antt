@@ -16,8 +16,9 @@ use Rattle.ldap_msg.specs.declared.kinds.Reply.TheVariants as reply
 use Rattle.read_model.specs.Views.{view_of, result_of}
 use Rattle.read_model.specs.SearchReplies.{search_replies, replies_octets}
 use Rattle.read_model.specs.CompareReplies.{compare_result}
-use Rattle.read_laws.specs.Complete.{HasKnownBase, IsComparable, EndsWith}
-use Rattle.read_laws.proofs.Theorems.{search_replies-succeed, compare_result-granted}
+use Rattle.answer_laws.specs.Complete.{HasKnownBase, IsComparable, EndsWith}
+use Rattle.answer_laws.proofs.laws.SearchLemmas.{search_replies-succeed}
+use Rattle.answer_laws.proofs.laws.CompareLemmas.{compare_result-granted}
 use Rattle.session_hub.specs.Controls.{is_refused, subentries_asked}
 use Rattle.session_hub.specs.Answering.{answered, answer_read, searched}
 use Rattle.answer_laws.specs.Asked.{AsksSearch, AsksCompare, IsSearchedWith, IsComparedWith}

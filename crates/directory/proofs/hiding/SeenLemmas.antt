@@ -21,7 +21,7 @@ use Rattle.acdf_filters.specs.declared.asking.Requester.{Requester}
 use Rattle.acdf_filters.specs.Asking.{Entry}
 use Rattle.acdf_filters.specs.Granted as decision
 use Rattle.acdf_filters.specs.Granted.{granted}
-use Rattle.acdf_core.specs.nearest.Nearest.{IsEntryOf}
+use Rattle.directory.specs.EntryNumbers.{IsEntryOf}
 use Rattle.ldap_msg.specs.declared.operations.ResultCode.TheVariants as code
 use Rattle.read_model.specs.Views.{Row, View, row_of, view_of, matched_name, discloses, is_disclosed, no_such_object, result_of, result_with}
 use Rattle.directory.specs.Asking.{view_in}

@@ -8,15 +8,15 @@ use Rattle.dir_tree.specs.dn_names.name.Names.{RdnSequence}
 use Rattle.dir_tree.specs.dn_names.NameOrder.{is_prefix_of}
 use Rattle.dir_tree.specs.dn_names.parsing.NameText.{read_name}
 use Rattle.dir_tree.specs.dn_names.declared.error.BadName.{BadName}
-use Rattle.run_laws.specs.ldap_msg.declared.kinds.BindRequest.{BindRequest}
-use Rattle.run_laws.specs.ldap_msg.declared.kinds.SearchRequest.{SearchRequest}
-use Rattle.run_laws.specs.ldap_msg.declared.kinds.Control.{Control}
-use Rattle.run_laws.specs.ldap_msg.declared.kinds.Message.{Message}
-use Rattle.run_laws.specs.ldap_msg.declared.kinds.Request.{Request}
-use Rattle.run_laws.specs.ldap_msg.declared.kinds.Request.TheVariants as request
-use Rattle.run_laws.specs.ldap_msg.declared.kinds.LdapResult.{LdapResult}
-use Rattle.run_laws.specs.ldap_msg.declared.kinds.Reply.TheVariants as reply
-use Rattle.run_laws.specs.ldap_msg.reading.Messages.{message_of}
+use Rattle.session_model.specs.ldap_msg.declared.kinds.BindRequest.{BindRequest}
+use Rattle.session_model.specs.ldap_msg.declared.kinds.SearchRequest.{SearchRequest}
+use Rattle.session_model.specs.ldap_msg.declared.kinds.Control.{Control}
+use Rattle.session_model.specs.ldap_msg.declared.kinds.Message.{Message}
+use Rattle.session_model.specs.ldap_msg.declared.kinds.Request.{Request}
+use Rattle.session_model.specs.ldap_msg.declared.kinds.Request.TheVariants as request
+use Rattle.session_model.specs.ldap_msg.declared.kinds.LdapResult.{LdapResult}
+use Rattle.session_model.specs.ldap_msg.declared.kinds.Reply.TheVariants as reply
+use Rattle.session_model.specs.ldap_msg.reading.Messages.{message_of}
 use Rattle.op_read.specs.read_model.Views.{view_of, result_of}
 use Rattle.op_read.specs.read_model.SearchReplies.{replies_octets}
 use Rattle.op_bind.specs.declared.binds.Bound.{Bound}
@@ -24,12 +24,12 @@ use Rattle.op_bind.specs.Binds.{bind_answer}
 use Rattle.op_bind.proofs.Theorems.{bind_answer-without}
 use Rattle.op_read.specs.twin_laws.Twins.{AreTwins}
 use Rattle.op_read.proofs.twin_laws_proofs.Theorems.{search_replies-twins, compare_result-twins}
-use Rattle.run_laws.specs.session_model.Run.{Step, start, run}
-use Rattle.run_laws.specs.session_model.Kept.{Held, heard}
-use Rattle.run_laws.specs.session_model.Replaying.{replayed}
-use Rattle.run_laws.specs.AnsweredMessages.{AnsweredMessage, AreAlike, AreOver, IsAnsweredAlike, held_over, answered_of_held, answered_of_run, answered_of_replay}
-use Rattle.run_laws.specs.Purging.{purged, openings, finds_room, answered_of_connection}
-use Rattle.run_laws.proofs.Theorems.{heard-alike, run-alike, replayed-alike, run-purged}
+use Rattle.session_model.specs.Run.{Step, start, run}
+use Rattle.session_model.specs.Kept.{Held, heard}
+use Rattle.session_model.specs.Replaying.{replayed}
+use Rattle.session_model.specs.AnsweredMessages.{AnsweredMessage, AreAlike, AreOver, IsAnsweredAlike, held_over, answered_of_held, answered_of_run, answered_of_replay}
+use Rattle.session_model.specs.Purging.{purged, openings, finds_room, answered_of_connection}
+use Rattle.session_model.proofs.Theorems.{heard-alike, run-alike, replayed-alike, run-purged}
 use Rattle.session_hub.specs.Parties.{DirectoryEntries, Requester}
 use Rattle.session_hub.specs.Controls.{is_refused, subentries_asked}
 use Rattle.session_hub.specs.Answering.{rules, searched, answer_read}

@@ -1,19 +1,19 @@
 -- An event heard, by what a hub makes of it.
 use Rattle.std.proofs.Common.{◌≡◌, ◌≤◌, ◌<◌, ℕ, nat_lt, Bool, true, false, List, [], ◌∷◌, ◌++◌, length, Option, Some, None, Result, Ok, Err, OnOk, refl, ap, sym, ◌∙◌, subst, arith, cond}
 use Rattle.std.proofs.lemmas.Bool.Decides.{nat_tests}
-use Rattle.run_laws.specs.wire_io.declared.journal.Event.{Event as JournalEvent}
-use Rattle.run_laws.specs.wire_io.declared.journal.Event.TheVariants as event
-use Rattle.run_laws.specs.wire_io.declared.journal.Item.{Item}
-use Rattle.run_laws.specs.wire_io.declared.journal.Item.TheVariants as item
-use Rattle.run_laws.specs.wire_io.Journal.{opens}
-use Rattle.run_laws.specs.wire_io.link.Plan.{Plan}
-use Rattle.run_laws.specs.wire_io.link.Telling.{NoteTells}
-use Rattle.run_laws.specs.session_model.Journaled.{step_of_event}
-use Rattle.run_laws.specs.session_model.Run.{Opened, Bytes, Ended, most_held}
-use Rattle.run_laws.specs.session_model.Kept.{Kept, Held, kept_of, heard, forgotten}
-use Rattle.run_laws.specs.session_model.Serving.{Leads}
-use Rattle.run_laws.specs.session_model.Working.{Covers, CutsOpen}
-use Rattle.run_laws.proofs.session_model_proofs.Theorems.{opened_leads, works_opened, works_turned, works_bytes, works_ended, works_idle, works_as, works_leads}
+use Rattle.session_model.specs.wire_io.declared.journal.Event.{Event as JournalEvent}
+use Rattle.session_model.specs.wire_io.declared.journal.Event.TheVariants as event
+use Rattle.session_model.specs.wire_io.declared.journal.Item.{Item}
+use Rattle.session_model.specs.wire_io.declared.journal.Item.TheVariants as item
+use Rattle.session_model.specs.wire_io.Journal.{opens}
+use Rattle.session_model.specs.wire_io.link.Plan.{Plan}
+use Rattle.session_model.specs.wire_io.link.Telling.{NoteTells}
+use Rattle.session_model.specs.Journaled.{step_of_event}
+use Rattle.session_model.specs.Run.{Opened, Bytes, Ended, most_held}
+use Rattle.session_model.specs.Kept.{Kept, Held, kept_of, heard, forgotten}
+use Rattle.session_model.specs.Serving.{Leads}
+use Rattle.session_model.specs.Working.{Covers, CutsOpen}
+use Rattle.session_model.proofs.Theorems.{opened_leads, works_opened, works_turned, works_bytes, works_ended, works_idle, works_as, works_leads}
 use Rattle.session_hub.specs.Parties.{DirectoryEntries, Requester}
 use Rattle.session_hub.specs.Answering.{rules}
 use Rattle.session_hub.specs.hub.Hubs.{HubState, held, Hears, OpensOne}

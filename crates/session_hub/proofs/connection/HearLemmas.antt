@@ -2,11 +2,11 @@
 use Rattle.std.proofs.Common.{◌≡◌, ◌≤◌, ℕ, Bool, true, false, cond, not, ◌&&◌, ◌||◌, List, [], ◌++◌, length, drop, set, get_or, Option, Some, None, is_some, refl, ap, sym, ◌∙◌, subst, inl, inr, append-nil, arith, true≢false}
 use Rattle.std.proofs.lemmas.List.{drop-append-le}
 use Rattle.std.proofs.Math.Bool.{or-false}
-use Rattle.run_laws.specs.ldap_msg.Streams.{whole, rest_of, is_broken}
-use Rattle.run_laws.proofs.ldap_msg_proofs.Theorems.{rest_bound}
-use Rattle.run_laws.specs.session_model.Rules.{Answered, talk}
-use Rattle.run_laws.specs.session_model.Kept.{Kept, Held, kept_of, cut_of, changed, speech, heard, heard_piece, is_cut}
-use Rattle.run_laws.proofs.session_model_proofs.Theorems.{speech-cut}
+use Rattle.session_model.specs.ldap_msg.Streams.{whole, rest_of, is_broken}
+use Rattle.session_model.proofs.ldap_msg_proofs.Theorems.{rest_bound}
+use Rattle.session_model.specs.Rules.{Answered, talk}
+use Rattle.session_model.specs.Kept.{Kept, Held, kept_of, cut_of, changed, speech, heard, heard_piece, is_cut}
+use Rattle.session_model.proofs.Theorems.{speech-cut}
 use Rattle.session_hub.specs.Parties.{DirectoryEntries, Requester}
 use Rattle.session_hub.specs.declared.spoken.Spoken.{Spoken}
 use Rattle.session_hub.specs.declared.spoken.SpeechEnd.{SpeechEnd}

@@ -1,10 +1,10 @@
 -- A hub follows a run of sessions, call by call.
 use Rattle.std.proofs.Common.{◌≡◌, ◌≤◌, ◌+◌, ℕ, Bool, true, false, cond, List, [], length, drop, refl, ap, sym, ◌∙◌, subst, arith, length-drop}
-use Rattle.run_laws.specs.session_model.Run.{start, Session, Sessions, State, Open, Closing, TurnedAway, Away, Unopened, Step, step, is_held, Gone, HungUp}
-use Rattle.run_laws.specs.session_model.Kept.{Held, heard, queue_of, closing_of, taken_off, forgotten}
-use Rattle.run_laws.specs.session_model.Keeping.{more_taken, shown}
-use Rattle.run_laws.specs.session_model.Replaying.{is_closing}
-use Rattle.run_laws.proofs.session_model_proofs.Theorems.{Keeps-start, Keeps-step, Keeps-taken, length-kept, queue_in, closing_in, queue_of_is, closing_of_is}
+use Rattle.session_model.specs.Run.{start, Session, Sessions, State, Open, Closing, TurnedAway, Away, Unopened, Step, step, is_held, Gone, HungUp}
+use Rattle.session_model.specs.Kept.{Held, heard, queue_of, closing_of, taken_off, forgotten}
+use Rattle.session_model.specs.Keeping.{more_taken, shown}
+use Rattle.session_model.specs.Replaying.{is_closing}
+use Rattle.session_model.proofs.Theorems.{Keeps-start, Keeps-step, Keeps-taken, length-kept, queue_in, closing_in, queue_of_is, closing_of_is}
 use Rattle.session_hub.specs.Parties.{DirectoryEntries, Requester}
 use Rattle.session_hub.specs.Answering.{rules}
 use Rattle.session_hub.specs.declared.event.Event.{Event}

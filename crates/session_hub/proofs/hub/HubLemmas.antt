@@ -2,9 +2,9 @@
 use Rattle.std.proofs.Common.{◌≡◌, ◌≤◌, ◌<◌, ℕ, ◌==◌, true, false, cond, Bool, List, [], ◌∷◌, ◌++◌, length, get_or, set, remove, zero, suc, Option, Some, None, Result, Ok, Err, OnErr, refl, ap, sym, ◌∙◌, arith, slice_get}
 use Rattle.std.proofs.lemmas.Bool.Decides.{nat_tests}
 use Rattle.std.proofs.lemmas.Option.{slice_get-get_or, get_or_from_slice_get}
-use Rattle.run_laws.proofs.session_model_proofs.Theorems.{kept_of-number}
-use Rattle.run_laws.specs.session_model.Run.{most_held}
-use Rattle.run_laws.specs.session_model.Kept.{Kept, kept_of, is_kept, changed, closed, without_front, taken_off, forgotten, heard, opened_kept}
+use Rattle.session_model.proofs.Theorems.{kept_of-number}
+use Rattle.session_model.specs.Run.{most_held}
+use Rattle.session_model.specs.Kept.{Kept, kept_of, is_kept, changed, closed, without_front, taken_off, forgotten, heard, opened_kept}
 use Rattle.session_hub.specs.Parties.{Requester}
 use Rattle.session_hub.specs.declared.event.Event.TheVariants as came
 use Rattle.session_hub.specs.Answering.{rules}

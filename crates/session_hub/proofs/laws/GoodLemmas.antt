@@ -1,20 +1,20 @@
 -- What answers, and so sessions, leave of a good tree.
 use Rattle.std.proofs.Common.{◌≡◌, ℕ, Bool, true, false, List, Option, Some, None, if◌then◌else◌}
-use Rattle.run_laws.specs.ldap_msg.declared.kinds.ModifyRequest.{ModifyRequest}
-use Rattle.run_laws.specs.ldap_msg.declared.kinds.RenameRequest.{RenameRequest}
-use Rattle.run_laws.specs.ldap_msg.declared.kinds.AddRequest.{AddRequest}
-use Rattle.run_laws.specs.ldap_msg.declared.kinds.DeleteRequest.{DeleteRequest}
-use Rattle.run_laws.specs.ldap_msg.declared.kinds.Request.{Request}
-use Rattle.run_laws.specs.ldap_msg.declared.kinds.Request.TheVariants as request
-use Rattle.run_laws.specs.ldap_msg.declared.kinds.Control.{Control}
-use Rattle.run_laws.specs.ldap_msg.declared.kinds.Message.{Message}
-use Rattle.run_laws.specs.ldap_msg.reading.Messages.{message_of}
+use Rattle.session_model.specs.ldap_msg.declared.kinds.ModifyRequest.{ModifyRequest}
+use Rattle.session_model.specs.ldap_msg.declared.kinds.RenameRequest.{RenameRequest}
+use Rattle.session_model.specs.ldap_msg.declared.kinds.AddRequest.{AddRequest}
+use Rattle.session_model.specs.ldap_msg.declared.kinds.DeleteRequest.{DeleteRequest}
+use Rattle.session_model.specs.ldap_msg.declared.kinds.Request.{Request}
+use Rattle.session_model.specs.ldap_msg.declared.kinds.Request.TheVariants as request
+use Rattle.session_model.specs.ldap_msg.declared.kinds.Control.{Control}
+use Rattle.session_model.specs.ldap_msg.declared.kinds.Message.{Message}
+use Rattle.session_model.specs.ldap_msg.reading.Messages.{message_of}
 use Rattle.op_read.specs.aci_item.Rules.{IsGoodTree}
-use Rattle.modify_laws.specs.op_add_delete.adding.Updates.{added, deleted}
-use Rattle.modify_laws.specs.op_modify.Modifying.{modified}
-use Rattle.modify_laws.specs.op_modify.Renames.{renamed}
-use Rattle.run_laws.specs.session_model.Run.{Step, run}
-use Rattle.run_laws.proofs.session_model_proofs.Theorems.{AnswersKeep, run_claim}
+use Rattle.change_laws.specs.op_add_delete.adding.Updates.{added, deleted}
+use Rattle.change_laws.specs.op_modify.Modifying.{modified}
+use Rattle.change_laws.specs.op_modify.Renames.{renamed}
+use Rattle.session_model.specs.Run.{Step, run}
+use Rattle.session_model.proofs.Theorems.{AnswersKeep, run_claim}
 use Rattle.session_hub.specs.Parties.{DirectoryEntries, Requester}
 use Rattle.session_hub.specs.Controls.{is_refused}
 use Rattle.session_hub.specs.Answering.{rules, Operated, asking, operated, refused, answered, answer_read}

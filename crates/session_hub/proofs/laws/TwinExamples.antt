@@ -6,9 +6,9 @@ use Rattle.dir_tree.specs.dn_names.parsing.NameText.{read_name}
 use Rattle.dir_tree.specs.dn_names.Modes.{text_fault}
 use Rattle.dir_tree.specs.dn_names.Resolving.{resolve}
 use Rattle.dir_tree.specs.dn_names.Reading.{written_of}
-use Rattle.run_laws.specs.ldap_msg.declared.kinds.Auth.TheVariants.{Simple}
-use Rattle.run_laws.specs.ldap_msg.declared.kinds.BindRequest.{BindRequest}
-use Rattle.run_laws.specs.ldap_msg.declared.kinds.Request.TheVariants as request
+use Rattle.session_model.specs.ldap_msg.declared.kinds.Auth.TheVariants.{Simple}
+use Rattle.session_model.specs.ldap_msg.declared.kinds.BindRequest.{BindRequest}
+use Rattle.session_model.specs.ldap_msg.declared.kinds.Request.TheVariants as request
 use Rattle.session_hub.specs.Twins.{is_read_within, reads_outside}
 
 -- a name of one RDN, and one of the same key below it

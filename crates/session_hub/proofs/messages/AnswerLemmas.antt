@@ -1,8 +1,8 @@
 -- What is answered to octets, by the message that they are read as.
 use Rattle.std.proofs.Common.{◌≡◌, ℕ, Bool, List, Option, None, Result, Ok, Err, IfOk, OnErr, sym, subst}
 use Rattle.std.proofs.lemmas.Result.{IfOk-weaker}
-use Rattle.run_laws.specs.ldap_msg.declared.kinds.Message.{Message}
-use Rattle.run_laws.specs.ldap_msg.reading.Messages.{message_of}
+use Rattle.session_model.specs.ldap_msg.declared.kinds.Message.{Message}
+use Rattle.session_model.specs.ldap_msg.reading.Messages.{message_of}
 use Rattle.session_hub.specs.Parties.{DirectoryEntries, Requester}
 use Rattle.session_hub.specs.Answers.{Gives}
 use Rattle.session_hub.specs.Answering.{answer_read, rules}

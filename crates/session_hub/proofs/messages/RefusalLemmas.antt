@@ -1,15 +1,15 @@
 -- A change that is refused leaves the entries as they were.
 use Rattle.std.proofs.Common.{◌≡◌, List, Option, Some, None, refl, sym, ◌∙◌}
-use Rattle.run_laws.specs.ldap_msg.declared.kinds.ModifyRequest.{ModifyRequest}
-use Rattle.run_laws.specs.ldap_msg.declared.kinds.AddRequest.{AddRequest}
-use Rattle.run_laws.specs.ldap_msg.declared.kinds.DeleteRequest.{DeleteRequest}
-use Rattle.run_laws.specs.ldap_msg.declared.kinds.RenameRequest.{RenameRequest}
-use Rattle.run_laws.specs.ldap_msg.declared.kinds.Request.{Request}
-use Rattle.run_laws.specs.ldap_msg.declared.kinds.Request.TheVariants as request
-use Rattle.run_laws.specs.ldap_msg.declared.kinds.LdapResult.{LdapResult}
-use Rattle.modify_laws.specs.op_add_delete.adding.Updates.{Changed, IsChanged, unless, added, deleted}
-use Rattle.modify_laws.specs.op_modify.Modifying.{modified}
-use Rattle.modify_laws.specs.op_modify.Renames.{renamed}
+use Rattle.session_model.specs.ldap_msg.declared.kinds.ModifyRequest.{ModifyRequest}
+use Rattle.session_model.specs.ldap_msg.declared.kinds.AddRequest.{AddRequest}
+use Rattle.session_model.specs.ldap_msg.declared.kinds.DeleteRequest.{DeleteRequest}
+use Rattle.session_model.specs.ldap_msg.declared.kinds.RenameRequest.{RenameRequest}
+use Rattle.session_model.specs.ldap_msg.declared.kinds.Request.{Request}
+use Rattle.session_model.specs.ldap_msg.declared.kinds.Request.TheVariants as request
+use Rattle.session_model.specs.ldap_msg.declared.kinds.LdapResult.{LdapResult}
+use Rattle.change_laws.specs.op_add_delete.adding.Updates.{Changed, IsChanged, unless, added, deleted}
+use Rattle.change_laws.specs.op_modify.Modifying.{modified}
+use Rattle.change_laws.specs.op_modify.Renames.{renamed}
 use Rattle.session_hub.specs.Parties.{DirectoryEntries, Requester}
 use Rattle.session_hub.specs.Answering.{change_of}
 

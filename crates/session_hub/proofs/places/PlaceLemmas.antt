@@ -3,8 +3,8 @@ use Rattle.std.proofs.Common.{◌≡◌, ◌<◌, ℕ, ◌==◌, cond, Bool, tru
 use Rattle.std.proofs.lemmas.Bool.Decides.{nat_tests}
 use Rattle.std.proofs.lemmas.Option.{slice_get_read}
 use Rattle.std.proofs.lemmas.List.{set_split}
-use Rattle.run_laws.specs.session_model.Kept.{Kept, kept_of, queue_of, closing_of, cut_of, changed}
-use Rattle.run_laws.proofs.session_model_proofs.Theorems.{queue_in, closing_in, queue_of_is, closing_of_is}
+use Rattle.session_model.specs.Kept.{Kept, kept_of, queue_of, closing_of, cut_of, changed}
+use Rattle.session_model.proofs.Theorems.{queue_in, closing_in, queue_of_is, closing_of_is}
 use Rattle.session_hub.specs.Parties.{Requester}
 use Rattle.session_hub.specs.hub.Hubs.{IsAt, NoneBefore, AreDistinct}
 

@@ -1,10 +1,10 @@
 -- Why a loop ended, by the link's count of faults.
 use Rattle.std.proofs.Common.{◌≡◌, ℕ, Bool, true, false, Option, Some, None, Err, sym, ◌∙◌, subst, arith}
 use Rattle.dir_tree.specs.plain_values.Counts.{Rose, NeverFalls}
-use Rattle.run_laws.specs.wire_io.declared.answers.Heard.{Heard as Answer}
-use Rattle.run_laws.specs.wire_io.declared.answers.NextFault.TheVariants as fault
-use Rattle.run_laws.specs.wire_io.Answers.{LinkCause, IsPlanned}
-use Rattle.run_laws.specs.wire_io.link.Plan.{Plan}
+use Rattle.session_model.specs.wire_io.declared.answers.Heard.{Heard as Answer}
+use Rattle.session_model.specs.wire_io.declared.answers.NextFault.TheVariants as fault
+use Rattle.session_model.specs.wire_io.Answers.{LinkCause, IsPlanned}
+use Rattle.session_model.specs.wire_io.link.Plan.{Plan}
 use Rattle.session_hub.specs.declared.ended.Ended.{Ended}
 use Rattle.session_hub.specs.declared.ended.Ended.TheVariants as ended
 use Rattle.session_hub.specs.serve.Loops.{EndsFor, MayFail, ends_with}

@@ -1,23 +1,23 @@
 -- The loop over a link, event by event.
 use Rattle.std.proofs.Common.{◌≡◌, ◌≤◌, ◌<◌, ◌+◌, ℕ, Bool, true, false, ◌||◌, List, [], ◌∷◌, ◌++◌, length, Option, Some, None, Ok, Err, refl, ap, sym, ◌∙◌, subst, append_assoc, append-nil, length-append, arith}
-use Rattle.run_laws.specs.wire_io.declared.answers.Heard.{Heard as Answer}
-use Rattle.run_laws.specs.wire_io.declared.answers.Heard.TheVariants as answer
-use Rattle.run_laws.specs.wire_io.declared.answers.NextFault.{NextFault}
-use Rattle.run_laws.specs.wire_io.declared.journal.Event.{Event}
-use Rattle.run_laws.specs.wire_io.declared.journal.Event.TheVariants as event
-use Rattle.run_laws.specs.wire_io.declared.journal.Item.{Item}
-use Rattle.run_laws.specs.wire_io.declared.journal.Item.TheVariants as item
-use Rattle.run_laws.specs.wire_io.Journal.{heard, was_stopped, stops, was_opened}
-use Rattle.run_laws.specs.wire_io.link.Telling.{event_of, NextTells, MayCome}
-use Rattle.run_laws.specs.wire_io.Playing.{NextPlays}
-use Rattle.run_laws.specs.wire_io.link.Plan.{Plan}
-use Rattle.run_laws.proofs.wire_io_proofs.Theorems.{heard-append}
-use Rattle.run_laws.specs.session_model.Run.{run}
-use Rattle.run_laws.specs.session_model.Kept.{Held}
-use Rattle.run_laws.specs.session_model.Journaled.{steps_of, all_taken}
-use Rattle.run_laws.specs.session_model.Serving.{Leads, Served}
-use Rattle.run_laws.specs.session_model.Replaying.{IsReplay}
-use Rattle.run_laws.proofs.session_model_proofs.Theorems.{was_opened-append, works_start, works_served, works_replayed, works_leads, own_steps}
+use Rattle.session_model.specs.wire_io.declared.answers.Heard.{Heard as Answer}
+use Rattle.session_model.specs.wire_io.declared.answers.Heard.TheVariants as answer
+use Rattle.session_model.specs.wire_io.declared.answers.NextFault.{NextFault}
+use Rattle.session_model.specs.wire_io.declared.journal.Event.{Event}
+use Rattle.session_model.specs.wire_io.declared.journal.Event.TheVariants as event
+use Rattle.session_model.specs.wire_io.declared.journal.Item.{Item}
+use Rattle.session_model.specs.wire_io.declared.journal.Item.TheVariants as item
+use Rattle.session_model.specs.wire_io.Journal.{heard, was_stopped, stops, was_opened}
+use Rattle.session_model.specs.wire_io.link.Telling.{event_of, NextTells, MayCome}
+use Rattle.session_model.specs.wire_io.Playing.{NextPlays}
+use Rattle.session_model.specs.wire_io.link.Plan.{Plan}
+use Rattle.session_model.proofs.wire_io_proofs.Theorems.{heard-append}
+use Rattle.session_model.specs.Run.{run}
+use Rattle.session_model.specs.Kept.{Held}
+use Rattle.session_model.specs.Journaled.{steps_of, all_taken}
+use Rattle.session_model.specs.Serving.{Leads, Served}
+use Rattle.session_model.specs.Replaying.{IsReplay}
+use Rattle.session_model.proofs.Theorems.{was_opened-append, works_start, works_served, works_replayed, works_leads, own_steps}
 use Rattle.session_hub.specs.Parties.{DirectoryEntries, Requester}
 use Rattle.session_hub.specs.declared.ended.Ended.{Ended}
 use Rattle.session_hub.specs.declared.ended.Ended.TheVariants as ended

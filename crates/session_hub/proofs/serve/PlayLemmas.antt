@@ -2,22 +2,22 @@
 use Rattle.std.proofs.Common.{◌≡◌, ◌+◌, ℕ, Bool, true, false, ◌&&◌, List, [], ◌∷◌, ◌++◌, length, Option, Some, None, Ok, Err, refl, ap, ap₂, sym, ◌∙◌, subst, append-nil, length-append, arith, true≢false}
 use Rattle.std.proofs.lemmas.List.{append_cancel_left}
 use Rattle.std.proofs.lemmas.Option.{same_Some}
-use Rattle.run_laws.specs.script_text.declared.event.ScriptEvent.{ScriptEvent}
-use Rattle.run_laws.specs.wire_io.declared.answers.Heard.{Heard as Answer}
-use Rattle.run_laws.specs.wire_io.declared.answers.NextFault.{NextFault}
-use Rattle.run_laws.specs.wire_io.declared.journal.Event.{Event}
-use Rattle.run_laws.specs.wire_io.declared.journal.Event.TheVariants as event
-use Rattle.run_laws.specs.wire_io.declared.journal.Item.{Item}
-use Rattle.run_laws.specs.wire_io.declared.journal.Item.TheVariants as item
-use Rattle.run_laws.specs.wire_io.Journal.{heard, is_held, hold_after, hold_after_all}
-use Rattle.run_laws.specs.wire_io.Pieces.{Plays, steps_of, step_of}
-use Rattle.run_laws.specs.wire_io.link.Plan.{Plan}
-use Rattle.run_laws.specs.wire_io.Playing.{NextPlays, holds_of, next_turn, front_turn}
-use Rattle.run_laws.specs.wire_io.link.Telling.{event_of, NextTells}
-use Rattle.run_laws.proofs.wire_io_proofs.Theorems.{heard-append, steps_of-append, Plays-none, Plays-trans, Plays-heard, NextPlays-ok, NextPlays-told, NextPlays-says, SaysOf}
-use Rattle.run_laws.specs.session_model.Kept.{Held}
-use Rattle.run_laws.specs.session_model.Journaled.{all_taken}
-use Rattle.run_laws.proofs.session_model_proofs.Theorems.{all_taken-one, works_free, all_taken-both}
+use Rattle.session_model.specs.script_text.declared.event.ScriptEvent.{ScriptEvent}
+use Rattle.session_model.specs.wire_io.declared.answers.Heard.{Heard as Answer}
+use Rattle.session_model.specs.wire_io.declared.answers.NextFault.{NextFault}
+use Rattle.session_model.specs.wire_io.declared.journal.Event.{Event}
+use Rattle.session_model.specs.wire_io.declared.journal.Event.TheVariants as event
+use Rattle.session_model.specs.wire_io.declared.journal.Item.{Item}
+use Rattle.session_model.specs.wire_io.declared.journal.Item.TheVariants as item
+use Rattle.session_model.specs.wire_io.Journal.{heard, is_held, hold_after, hold_after_all}
+use Rattle.session_model.specs.wire_io.Pieces.{Plays, steps_of, step_of}
+use Rattle.session_model.specs.wire_io.link.Plan.{Plan}
+use Rattle.session_model.specs.wire_io.Playing.{NextPlays, holds_of, next_turn, front_turn}
+use Rattle.session_model.specs.wire_io.link.Telling.{event_of, NextTells}
+use Rattle.session_model.proofs.wire_io_proofs.Theorems.{heard-append, steps_of-append, Plays-none, Plays-trans, Plays-heard, NextPlays-ok, NextPlays-told, NextPlays-says, SaysOf}
+use Rattle.session_model.specs.Kept.{Held}
+use Rattle.session_model.specs.Journaled.{all_taken}
+use Rattle.session_model.proofs.Theorems.{all_taken-one, works_free, all_taken-both}
 use Rattle.session_hub.specs.Parties.{DirectoryEntries, Requester}
 use Rattle.session_hub.specs.declared.ended.Ended.{Ended}
 use Rattle.session_hub.specs.declared.ended.Ended.TheVariants as ended

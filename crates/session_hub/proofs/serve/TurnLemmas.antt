@@ -1,13 +1,13 @@
 -- One turn of a loop, and what a loop is after it.
 use Rattle.std.proofs.Common.{◌≡◌, ◌<◌, ℕ, Bool, true, false, List, [], length, Option, Ok, Err, refl, ap, sym, ◌∙◌, subst, arith}
-use Rattle.run_laws.specs.wire_io.declared.answers.Heard.{Heard as Answer}
-use Rattle.run_laws.specs.wire_io.declared.answers.NextFault.{NextFault}
-use Rattle.run_laws.specs.wire_io.declared.journal.Item.{Item}
-use Rattle.run_laws.specs.wire_io.link.Plan.{Plan}
-use Rattle.run_laws.specs.wire_io.Playing.{NextPlays}
-use Rattle.run_laws.specs.wire_io.link.Telling.{event_of, NextTells}
-use Rattle.run_laws.specs.session_model.Kept.{Held}
-use Rattle.run_laws.specs.session_model.Serving.{Leads}
+use Rattle.session_model.specs.wire_io.declared.answers.Heard.{Heard as Answer}
+use Rattle.session_model.specs.wire_io.declared.answers.NextFault.{NextFault}
+use Rattle.session_model.specs.wire_io.declared.journal.Item.{Item}
+use Rattle.session_model.specs.wire_io.link.Plan.{Plan}
+use Rattle.session_model.specs.wire_io.Playing.{NextPlays}
+use Rattle.session_model.specs.wire_io.link.Telling.{event_of, NextTells}
+use Rattle.session_model.specs.Kept.{Held}
+use Rattle.session_model.specs.Serving.{Leads}
 use Rattle.session_hub.specs.Parties.{DirectoryEntries, Requester}
 use Rattle.session_hub.specs.declared.ended.Ended.{Ended}
 use Rattle.session_hub.specs.declared.ended.Ended.TheVariants as ended

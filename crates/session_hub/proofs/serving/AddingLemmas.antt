@@ -1,13 +1,13 @@
 -- Calls of a loop, one after another.
 use Rattle.std.proofs.Common.{◌≡◌, ◌&&◌, ◌||◌, ℕ, List, [], ◌∷◌, ◌++◌, Option, Some, refl, ap, ap₂, sym, ◌∙◌, subst, append_assoc, append-nil, arith}
 use Rattle.dir_tree.proofs.plain_values_proofs.Theorems.{NeverFalls-trans, NeverFalls-refl}
-use Rattle.run_laws.specs.wire_io.declared.journal.Item.{Item}
-use Rattle.run_laws.specs.wire_io.Journal.{heard, was_stopped}
-use Rattle.run_laws.specs.wire_io.link.Telling.{noted}
-use Rattle.run_laws.specs.wire_io.link.Plan.{Plan}
-use Rattle.run_laws.proofs.wire_io_proofs.Theorems.{heard-append}
-use Rattle.run_laws.specs.session_model.Journaled.{all_taken}
-use Rattle.run_laws.proofs.session_model_proofs.Theorems.{all_taken-both}
+use Rattle.session_model.specs.wire_io.declared.journal.Item.{Item}
+use Rattle.session_model.specs.wire_io.Journal.{heard, was_stopped}
+use Rattle.session_model.specs.wire_io.link.Telling.{noted}
+use Rattle.session_model.specs.wire_io.link.Plan.{Plan}
+use Rattle.session_model.proofs.wire_io_proofs.Theorems.{heard-append}
+use Rattle.session_model.specs.Journaled.{all_taken}
+use Rattle.session_model.proofs.Theorems.{all_taken-both}
 use Rattle.session_hub.specs.Adding.{Adds, IsBlock, OnlyServes}
 
 -- what is said of two lists of items in turn

@@ -1,20 +1,20 @@
 -- The calls of a link within a block.
 use Rattle.std.proofs.Common.{◌≡◌, ◌≢◌, ◌≤◌, ◌<◌, ◌==◌, ℕ, true, false, List, [], ◌∷◌, ◌++◌, length, take, drop, Option, Result, Ok, Err, refl, ap, sym, ◌∙◌, subst, arith, length-drop, drop_of_length-le}
 use Rattle.std.proofs.lemmas.Bool.Decides.{nat_tests}
-use Rattle.run_laws.specs.wire_io.declared.journal.Item.{Item}
-use Rattle.run_laws.specs.wire_io.declared.journal.Item.TheVariants as item
-use Rattle.run_laws.specs.wire_io.declared.answers.Took.TheVariants as took
-use Rattle.run_laws.specs.wire_io.Journal.{heard, was_stopped, stops}
-use Rattle.run_laws.specs.wire_io.link.Plan.{Plan}
-use Rattle.run_laws.specs.wire_io.Answers.{WriteCause}
-use Rattle.run_laws.specs.wire_io.link.Telling.{TookTells, NoteTells}
-use Rattle.run_laws.proofs.wire_io_proofs.Theorems.{WriteCause-never_later, WriteCause-never_gone}
-use Rattle.run_laws.specs.session_model.Kept.{Kept, Held, queue_of, closing_of, taken_off, forgotten}
-use Rattle.run_laws.specs.session_model.Keeping.{is_listed}
-use Rattle.run_laws.specs.session_model.Journaled.{all_taken}
-use Rattle.run_laws.specs.session_model.Serving.{Leads}
-use Rattle.run_laws.specs.session_model.Working.{Refused, Lost, Puts, Covers}
-use Rattle.run_laws.proofs.session_model_proofs.Theorems.{works_taken, works_refused, refused_stands, refused_held, works_released, works_sent, works_hung_up, works_leads, works_as, lost_leads, lost_hung_up}
+use Rattle.session_model.specs.wire_io.declared.journal.Item.{Item}
+use Rattle.session_model.specs.wire_io.declared.journal.Item.TheVariants as item
+use Rattle.session_model.specs.wire_io.declared.answers.Took.TheVariants as took
+use Rattle.session_model.specs.wire_io.Journal.{heard, was_stopped, stops}
+use Rattle.session_model.specs.wire_io.link.Plan.{Plan}
+use Rattle.session_model.specs.wire_io.Answers.{WriteCause}
+use Rattle.session_model.specs.wire_io.link.Telling.{TookTells, NoteTells}
+use Rattle.session_model.proofs.wire_io_proofs.Theorems.{WriteCause-never_later, WriteCause-never_gone}
+use Rattle.session_model.specs.Kept.{Kept, Held, queue_of, closing_of, taken_off, forgotten}
+use Rattle.session_model.specs.Keeping.{is_listed}
+use Rattle.session_model.specs.Journaled.{all_taken}
+use Rattle.session_model.specs.Serving.{Leads}
+use Rattle.session_model.specs.Working.{Refused, Lost, Puts, Covers}
+use Rattle.session_model.proofs.Theorems.{works_taken, works_refused, refused_stands, refused_held, works_released, works_sent, works_hung_up, works_leads, works_as, lost_leads, lost_hung_up}
 use Rattle.session_hub.specs.Parties.{DirectoryEntries, Requester}
 use Rattle.session_hub.specs.Answering.{rules}
 use Rattle.session_hub.specs.hub.Hubs.{HubState, held}

@@ -1,11 +1,11 @@
 -- A stream answered message by message from its front.
 use Rattle.std.proofs.Common.{◌≡◌, ◌≤◌, ◌+◌, ◌<◌, ℕ, Bool, true, false, cond, List, [], ◌++◌, length, take, drop, Option, Some, None, refl, ap, sym, ◌∙◌, subst, append_assoc, append-nil, drop-drop, length-drop, arith}
-use Rattle.run_laws.specs.ldap_msg.declared.kinds.Frame.TheVariants.{Whole, More, Bad}
-use Rattle.run_laws.specs.ldap_msg.Streams.{frame_at, rest_of}
-use Rattle.run_laws.specs.ldap_msg.Replies.{notice_octets}
-use Rattle.run_laws.proofs.ldap_msg_proofs.Theorems.{frame_bound, rest_step, rest_more}
-use Rattle.run_laws.specs.session_model.Rules.{Answered, after_octets}
-use Rattle.run_laws.proofs.session_model_proofs.Theorems.{one_later, speech-whole, speech-more, speech-bad, speech-cut}
+use Rattle.session_model.specs.ldap_msg.declared.kinds.Frame.TheVariants.{Whole, More, Bad}
+use Rattle.session_model.specs.ldap_msg.Streams.{frame_at, rest_of}
+use Rattle.session_model.specs.ldap_msg.Replies.{notice_octets}
+use Rattle.session_model.proofs.ldap_msg_proofs.Theorems.{frame_bound, rest_step, rest_more}
+use Rattle.session_model.specs.Rules.{Answered, after_octets}
+use Rattle.session_model.proofs.Theorems.{one_later, speech-whole, speech-more, speech-bad, speech-cut}
 use Rattle.session_hub.specs.Parties.{DirectoryEntries, Requester}
 use Rattle.session_hub.specs.declared.spoken.SpeechEnd.TheVariants.{StaysOpen, Closes, IsCut}
 use Rattle.session_hub.specs.Answering.{rules}

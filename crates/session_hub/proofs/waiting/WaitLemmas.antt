@@ -1,8 +1,8 @@
 -- Which connections are on hold, and which are due.
 use Rattle.std.proofs.Common.{◌≡◌, ◌≢◌, ◌==◌, ℕ, false, not, List, [], ◌∷◌, filter, refl, ap, ◌∙◌, arith}
 use Rattle.std.proofs.lemmas.Bool.Decides.{nat_tests}
-use Rattle.run_laws.specs.session_model.Keeping.{is_listed}
-use Rattle.run_laws.specs.session_model.Working.{Puts}
+use Rattle.session_model.specs.Keeping.{is_listed}
+use Rattle.session_model.specs.Working.{Puts}
 
 -- a list without a number
 others_listed : (n c : ℕ) (xs : List ℕ) → n ≢ c → is_listed n (filter (λ d. not (c == d)) xs) ≡ is_listed n xs

@@ -1,6 +1,6 @@
 -- What a connection leaves of itself and of the directory when it hears a piece.
 use Rattle.std.specs.Prelude.{◌≡◌, ◌⊎◌, ℕ, List, [], ◌++◌}
-use Rattle.run_laws.specs.session_model.Kept.{Kept, heard_piece}
+use Rattle.session_model.specs.Kept.{Kept, heard_piece}
 use Rattle.session_hub.specs.Parties.{DirectoryEntries, Requester}
 use Rattle.session_hub.specs.declared.spoken.SpeechEnd.{SpeechEnd}
 use Rattle.session_hub.specs.declared.spoken.SpeechEnd.TheVariants.{StaysOpen, Closes, IsCut}

@@ -1,10 +1,10 @@
 -- A hub follows a run of sessions: it begins with those before any step and, whatever sessions it holds, each call leaves it
 -- those of the next step.
 use Rattle.std.specs.Prelude.{◌≡◌, ℕ, Bool, List, length}
-use Rattle.run_laws.specs.session_model.Run.{Sessions, Step, start, step, held_numbers}
-use Rattle.run_laws.specs.session_model.Kept.{Held}
-use Rattle.run_laws.specs.session_model.Keeping.{Keeps, IsNew, more_taken}
-use Rattle.run_laws.specs.session_model.Replaying.{is_closing}
+use Rattle.session_model.specs.Run.{Sessions, Step, start, step, held_numbers}
+use Rattle.session_model.specs.Kept.{Held}
+use Rattle.session_model.specs.Keeping.{Keeps, IsNew, more_taken}
+use Rattle.session_model.specs.Replaying.{is_closing}
 use Rattle.session_hub.specs.Parties.{DirectoryEntries, Requester}
 use Rattle.session_hub.specs.Answering.{rules}
 use Rattle.session_hub.specs.hub.Hubs.{HubState, held, left_of}

@@ -1,8 +1,8 @@
 -- What a hub holds, and what each step leaves of it.
 use Rattle.std.specs.Prelude.{◌≡◌, ◌<◌, ◌≤◌, ℕ, Bool, false, cond, ◌||◌, List, [], ◌∷◌, ◌++◌, length, take, drop, Some, None, slice_get, slice_set}
 use Rattle.std.specs.List.{AllByRecursion}
-use Rattle.run_laws.specs.session_model.Run.{Session, Bytes, is_held, most_held}
-use Rattle.run_laws.specs.session_model.Kept.{Kept, Held, heard, kept_of, is_kept, cut_of, changed}
+use Rattle.session_model.specs.Run.{Session, Bytes, is_held, most_held}
+use Rattle.session_model.specs.Kept.{Kept, Held, heard, kept_of, is_kept, cut_of, changed}
 use Rattle.session_hub.specs.Parties.{DirectoryEntries, Requester}
 use Rattle.session_hub.specs.declared.event.Event.{Event}
 use Rattle.session_hub.specs.declared.event.Event.TheVariants as event

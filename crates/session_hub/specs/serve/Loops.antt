@@ -1,15 +1,15 @@
 -- What a loop over a link adds to the link's journal, and what it answers when it ends.
 use Rattle.std.specs.Prelude.{◌≡◌, ◌<◌, ◌≤◌, ℕ, Bool, true, false, cond, List, [], ◌++◌, length, Option, Some, None}
 use Rattle.dir_tree.specs.plain_values.Counts.{Rose, NeverFalls}
-use Rattle.run_laws.specs.wire_io.declared.journal.Item.{Item}
-use Rattle.run_laws.specs.wire_io.Journal.{heard, was_stopped, is_held}
-use Rattle.run_laws.specs.wire_io.link.Plan.{Plan}
-use Rattle.run_laws.specs.wire_io.Pieces as pieces
-use Rattle.run_laws.specs.wire_io.Pieces.{Plays}
-use Rattle.run_laws.specs.session_model.Run.{run}
-use Rattle.run_laws.specs.session_model.Journaled.{steps_of, all_taken}
-use Rattle.run_laws.specs.session_model.Serving.{Served, Leads}
-use Rattle.run_laws.specs.session_model.Replaying.{IsReplay}
+use Rattle.session_model.specs.wire_io.declared.journal.Item.{Item}
+use Rattle.session_model.specs.wire_io.Journal.{heard, was_stopped, is_held}
+use Rattle.session_model.specs.wire_io.link.Plan.{Plan}
+use Rattle.session_model.specs.wire_io.Pieces as pieces
+use Rattle.session_model.specs.wire_io.Pieces.{Plays}
+use Rattle.session_model.specs.Run.{run}
+use Rattle.session_model.specs.Journaled.{steps_of, all_taken}
+use Rattle.session_model.specs.Serving.{Served, Leads}
+use Rattle.session_model.specs.Replaying.{IsReplay}
 use Rattle.session_hub.specs.Parties.{DirectoryEntries}
 use Rattle.session_hub.specs.declared.ended.Ended.{Ended}
 use Rattle.session_hub.specs.declared.ended.Ended.TheVariants.{Stopped, TurnsSpent, LinkFault, NoMemory}

@@ -1,11 +1,11 @@
 -- What one turn of a loop leaves, whatever the loop did before it, for the loop's own functions alone.
 use Rattle.std.specs.Prelude.{◌≡◌, ◌<◌, ◌+◌, ℕ, true, false, List, [], ◌++◌, length, Option, Some, None}
-use Rattle.run_laws.specs.wire_io.declared.journal.Item.{Item}
-use Rattle.run_laws.specs.wire_io.Journal.{heard, was_stopped, is_held}
-use Rattle.run_laws.specs.wire_io.Pieces.{Plays, steps_of}
-use Rattle.run_laws.specs.wire_io.link.Plan.{Plan}
-use Rattle.run_laws.specs.session_model.Kept.{Held}
-use Rattle.run_laws.specs.session_model.Journaled.{all_taken}
+use Rattle.session_model.specs.wire_io.declared.journal.Item.{Item}
+use Rattle.session_model.specs.wire_io.Journal.{heard, was_stopped, is_held}
+use Rattle.session_model.specs.wire_io.Pieces.{Plays, steps_of}
+use Rattle.session_model.specs.wire_io.link.Plan.{Plan}
+use Rattle.session_model.specs.Kept.{Held}
+use Rattle.session_model.specs.Journaled.{all_taken}
 use Rattle.session_hub.specs.Parties.{DirectoryEntries, Requester}
 use Rattle.session_hub.specs.declared.ended.Ended.{Ended}
 use Rattle.session_hub.specs.serve.Loops.{buffer_length, Serves, PlaysOut}

@@ -4,7 +4,7 @@ use Rattle.dir_tree.specs.tree.Numbered.{Numbered, IsNumberedTree, put_entry, wi
 use Rattle.dir_tree.specs.Refusals.{remove_refusal}
 use Rattle.dir_tree.proofs.TreeTheorems.{without-put_row}
 use Rattle.acdf_filters.specs.admin_scope.Finding.{AreSubtrees}
-use Rattle.scope_laws.proofs.Theorems.{change-put}
+use Rattle.aci_index.proofs.laws.RowLemmas.{change-put}
 use Rattle.aci_lists.specs.kept.Holdings.{IsHeld}
 use Rattle.dir_tree.proofs.TreeTheorems.{new_removable}
 use Rattle.aci_index.specs.Steps.{IsKeptOf}

@@ -1,7 +1,7 @@
 use Rattle.std.proofs.Common.{refl, ◌∙◌}
 use Rattle.command_files.specs.dir_tree.tree.Numbered.{entries_of}
-use Rattle.explain_text.specs.question_words.Questions.{question_view}
-use Rattle.explain_text.specs.Texts.{text_explained}
+use Rattle.explanation.specs.Questions.{question_view}
+use Rattle.explanation.specs.Texts.{text_explained}
 use Rattle.acl_program.specs.Outcomes.{Explained, text_of, status_of}
 use Rattle.acl_program.specs.program.Outside.{written}
 use Rattle.acl_program.proofs.troubles.EndsLemmas.{Ends-put}

@@ -1,7 +1,7 @@
 use Rattle.std.proofs.Common.{refl, sym, ap, ◌∙◌}
 use Rattle.dir_tree.specs.tree.Numbered.{entries_of}
-use Rattle.run_laws.specs.wire_io.declared.journal.Event.TheVariants as event
-use Rattle.run_laws.specs.wire_io.link.Telling.{event_of}
+use Rattle.session_model.specs.wire_io.declared.journal.Event.TheVariants as event
+use Rattle.session_model.specs.wire_io.link.Telling.{event_of}
 use Rattle.session_hub.specs.hub.Hubs.{held}
 use Rattle.session_hub.proofs.serving.AddingLemmas.{adds_nothing}
 use Rattle.session_hub.proofs.block.BlockLemmas.{as_heard, idle_goes, opens_none-ready, opens_none-idle, opens_none-stop}

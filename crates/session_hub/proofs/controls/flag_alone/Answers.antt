@@ -1,6 +1,6 @@
 -- A flag is read where nothing stands behind it.
 use Rattle.std.proofs.Common.{rules}
-use Rattle.run_laws.specs.ber_layout.Layouts.{reads_into}
+use Rattle.session_model.specs.ber_layout.Layouts.{reads_into}
 use Rattle.session_hub.proofs.controls.flag_alone.Goals as goal
 
 -- no flag was read

@@ -1,5 +1,5 @@
 use Rattle.std.proofs.Common.{sym, ap, ◌∙◌, slice_set}
-use Rattle.run_laws.specs.session_model.Kept.{closed}
+use Rattle.session_model.specs.Kept.{closed}
 use Rattle.session_hub.proofs.places.PlaceLemmas.{changed_at, changed_nowhere}
 use Rattle.session_hub.proofs.places.end_at.Goals as goal
 

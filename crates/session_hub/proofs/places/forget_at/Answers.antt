@@ -1,5 +1,5 @@
 use Rattle.std.proofs.Common.{◌∙◌, ◌≡◌, subst, None}
-use Rattle.run_laws.specs.session_model.Kept.{kept_of}
+use Rattle.session_model.specs.Kept.{kept_of}
 use Rattle.session_hub.specs.hub.Hubs.{IsAt}
 use Rattle.session_hub.proofs.hub.HubLemmas.{removes_all, forgets_none}
 use Rattle.session_hub.proofs.places.forget_at.Goals as goal

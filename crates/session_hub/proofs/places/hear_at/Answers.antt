@@ -1,7 +1,7 @@
 use Rattle.std.proofs.Common.{sym, ap, ◌∙◌, subst, refl, slice_set}
 use Rattle.std.proofs.lemmas.List.{set-get_or}
 use Rattle.dir_tree.specs.tree.Numbered.{entries_of}
-use Rattle.run_laws.specs.session_model.Kept.{Kept, is_cut}
+use Rattle.session_model.specs.Kept.{Kept, is_cut}
 use Rattle.session_hub.specs.Parties.{Requester}
 use Rattle.session_hub.specs.hub.Hubs.{HearsAt, AreDistinct}
 use Rattle.session_hub.proofs.hub.HubLemmas.{distinct_set}

@@ -1,5 +1,5 @@
 use Rattle.std.proofs.Common.{◌≤◌, length, sym, ap, ◌∙◌, slice_set}
-use Rattle.run_laws.specs.session_model.Kept.{without_front}
+use Rattle.session_model.specs.Kept.{without_front}
 use Rattle.session_hub.proofs.places.PlaceLemmas.{queue_at, changed_at, changed_nowhere}
 use Rattle.session_hub.proofs.places.take_off.Goals as goal
 

@@ -1,5 +1,5 @@
 use Rattle.std.proofs.Common.{sym, ◌∙◌}
-use Rattle.run_laws.proofs.wire_io_proofs.Theorems.{LinkCause-given, LinkCause-starved}
+use Rattle.session_model.proofs.wire_io_proofs.Theorems.{LinkCause-given, LinkCause-starved}
 use Rattle.session_hub.specs.hub.Hubs.{held}
 use Rattle.session_hub.proofs.serve.CauseLemmas.{ends_failed, ends_stopped, ends_starved, ends_as}
 use Rattle.session_hub.proofs.serve.TurnLemmas.{turn_served, turn_cut, turn_stopped, turn_failed, turn_starved}

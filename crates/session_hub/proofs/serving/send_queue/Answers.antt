@@ -1,5 +1,5 @@
 use Rattle.std.proofs.Common.{◌≤◌, length, refl, sym, ◌∙◌, subst}
-use Rattle.run_laws.proofs.wire_io_proofs.Theorems.{WriteCause-never_falls}
+use Rattle.session_model.proofs.wire_io_proofs.Theorems.{WriteCause-never_falls}
 use Rattle.session_hub.specs.hub.Hubs.{held}
 use Rattle.session_hub.proofs.serving.AddingLemmas.{adds_nothing, adds_as, adds_after, serves_none, serves_then}
 use Rattle.session_hub.proofs.serving.ServingLemmas.{emptied, some_queued, queue_falls, took_goes, later_goes, gone_goes, starved_goes}

@@ -1,5 +1,5 @@
 use Rattle.std.proofs.Common.{◌∷◌, List, ℕ, length}
-use Rattle.run_laws.specs.session_model.Kept.{queue_of}
+use Rattle.session_model.specs.Kept.{queue_of}
 use Rattle.session_hub.specs.Parties.{DirectoryEntries}
 use Rattle.session_hub.specs.hub.Hubs.{held}
 use Rattle.session_hub.specs.Adding.{Adds, OnlyServes, IsServing}

@@ -1,9 +1,9 @@
 -- Behind the number and the operation nothing is left for controls.
 use Rattle.std.proofs.Common.{rules}
-use Rattle.run_laws.specs.ldap_msg.reading.Messages.{message_in}
-use Rattle.run_laws.specs.ber_layout.Layouts.{reads_into}
-use Rattle.run_laws.specs.ber_layout.components.Components.{optional_of}
-use Rattle.run_laws.specs.ber_layout.element.Pieces.{are_pieces, pieces_of}
+use Rattle.session_model.specs.ldap_msg.reading.Messages.{message_in}
+use Rattle.session_model.specs.ber_layout.Layouts.{reads_into}
+use Rattle.session_model.specs.ber_layout.components.Components.{optional_of}
+use Rattle.session_model.specs.ber_layout.element.Pieces.{are_pieces, pieces_of}
 use Rattle.session_hub.proofs.simple.bind_in.Goals as goal
 
 pub returns : goal.returns

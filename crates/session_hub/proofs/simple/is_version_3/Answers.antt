@@ -1,7 +1,7 @@
 -- An octet alone is the integer that it says.
 use Rattle.std.proofs.Common.{rules}
-use Rattle.run_laws.specs.ber_elements.Integer.{int_at}
-use Rattle.run_laws.specs.ber_layout.element.Pieces.{number_in}
+use Rattle.session_model.specs.ber_elements.Integer.{int_at}
+use Rattle.session_model.specs.ber_layout.element.Pieces.{number_in}
 use Rattle.session_hub.proofs.simple.is_version_3.Goals as goal
 
 pub returns-in-len1 : goal.returns-in-len1

@@ -1,7 +1,7 @@
 -- A message is the content of one element.
 use Rattle.std.proofs.Common.{rules}
-use Rattle.run_laws.specs.ldap_msg.reading.Messages.{message_of}
-use Rattle.run_laws.specs.ber_layout.components.Components.{required_of}
+use Rattle.session_model.specs.ldap_msg.reading.Messages.{message_of}
+use Rattle.session_model.specs.ber_layout.components.Components.{required_of}
 use Rattle.session_hub.proofs.simple.simple_bind.Goals as goal
 
 pub returns : goal.returns

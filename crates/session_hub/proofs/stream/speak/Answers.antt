@@ -1,8 +1,8 @@
 use Rattle.std.proofs.Common.{◌≡◌, length, take, drop, sym, ap, ◌∙◌, subst, false, true, refl}
 use Rattle.dir_tree.specs.tree.Numbered.{entries_of}
-use Rattle.run_laws.specs.ldap_msg.declared.kinds.Frame.TheVariants.{Whole}
-use Rattle.run_laws.specs.ldap_msg.Streams.{frame_at}
-use Rattle.run_laws.proofs.ldap_msg_proofs.Theorems.{whole_alone}
+use Rattle.session_model.specs.ldap_msg.declared.kinds.Frame.TheVariants.{Whole}
+use Rattle.session_model.specs.ldap_msg.Streams.{frame_at}
+use Rattle.session_model.proofs.ldap_msg_proofs.Theorems.{whole_alone}
 use Rattle.session_hub.specs.Answering.{rules}
 use Rattle.session_hub.specs.Answers.{Gives}
 use Rattle.session_hub.proofs.stream.StreamLemmas.{so_far_start, so_far_whole, so_far_closed, so_far_more, so_far_bad, so_far_cut}

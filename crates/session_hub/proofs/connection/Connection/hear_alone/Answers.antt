@@ -1,5 +1,5 @@
 use Rattle.std.proofs.Common.{◌≡◌, ◌++◌, [], refl, sym, ap, ◌∙◌}
-use Rattle.run_laws.specs.session_model.Kept.{Kept}
+use Rattle.session_model.specs.Kept.{Kept}
 use Rattle.session_hub.specs.Parties.{Requester}
 use Rattle.session_hub.proofs.connection.HearLemmas.{hears_as, ended_bounded}
 use Rattle.session_hub.proofs.connection.Connection.hear_alone.Goals as goal

@@ -1,5 +1,5 @@
 use Rattle.std.proofs.Common.{ap, ◌∙◌}
-use Rattle.run_laws.specs.session_model.Kept.{closing_of}
+use Rattle.session_model.specs.Kept.{closing_of}
 use Rattle.session_hub.specs.hub.Hubs.{HubState}
 use Rattle.session_hub.proofs.hub.FollowingLemmas.{closes_with}
 use Rattle.session_hub.proofs.hub.Hub.closing.Goals as goal

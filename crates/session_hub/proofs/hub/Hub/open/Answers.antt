@@ -1,5 +1,5 @@
 use Rattle.std.proofs.Common.{◌≡◌, ◌++◌, ◌∷◌, [], length, false, sym, ap, ◌∙◌, subst, arith}
-use Rattle.run_laws.specs.session_model.Kept.{is_kept, kept_of, opened_kept}
+use Rattle.session_model.specs.Kept.{is_kept, kept_of, opened_kept}
 use Rattle.session_hub.specs.Answering.{rules}
 use Rattle.session_hub.specs.hub.Hubs.{HubState, AreHeld}
 use Rattle.session_hub.proofs.hub.HubLemmas.{opens_held, opens_full, opens_new, held_opened, on_err_any}

@@ -1,5 +1,5 @@
 use Rattle.std.proofs.Common.{ap, ◌∙◌}
-use Rattle.run_laws.specs.session_model.Kept.{queue_of}
+use Rattle.session_model.specs.Kept.{queue_of}
 use Rattle.session_hub.specs.hub.Hubs.{HubState}
 use Rattle.session_hub.proofs.hub.FollowingLemmas.{queues_reply}
 use Rattle.session_hub.proofs.hub.Hub.queue.Goals as goal

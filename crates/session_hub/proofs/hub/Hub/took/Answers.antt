@@ -1,6 +1,6 @@
 use Rattle.std.proofs.Common.{◌≡◌, ◌++◌, length, take, drop, sym, ap, ◌∙◌, subst, arith}
 use Rattle.std.proofs.lemmas.Grind.{common_steps}
-use Rattle.run_laws.specs.session_model.Kept.{taken_off}
+use Rattle.session_model.specs.Kept.{taken_off}
 use Rattle.session_hub.specs.hub.Hubs.{HubState, AreHeld}
 use Rattle.session_hub.proofs.hub.FollowingLemmas.{follows_taking}
 use Rattle.session_hub.proofs.hub.HubLemmas.{held_taken}

@@ -1,7 +1,0 @@
--- `retain` keeps those that pass.
-use Rattle.std.proofs.Common.{rules}
-use Rattle.std.proofs.lemmas.Fn.{filter_same}
-use Rattle.acdf_core.proofs.filters.keep_staying.Goals as goal
-
-pub returns : goal.returns
-returns c = record { exact = filter_same _ _ _ (λ one passes after call. search rules) _ _ c.retain.ensures.filtered }

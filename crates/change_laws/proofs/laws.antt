@@ -1,0 +1,15 @@
+pub mod DeleteLemmas
+pub mod ReadingLemmas
+pub mod AddLemmas
+pub mod AllowedLemmas
+pub mod DoneLemmas
+pub mod TableLemmas
+pub mod FoundLemmas
+pub mod NameLemmas
+pub mod ReadLemmas
+pub mod ChangeLemmas
+pub mod ModifyLemmas
+pub mod ModifiedLemmas
+pub mod RenamingLemmas
+pub mod RenameLemmas
+pub mod RenamedLemmas

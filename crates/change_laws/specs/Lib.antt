@@ -1,0 +1,7 @@
+-- what public clauses cite
+pub mod Granting
+pub mod Changing
+pub mod ChangeGranting
+-- the words of crates below, handed on
+pub use Rattle.op_modify.specs as op_modify
+pub use Rattle.op_add_delete.specs as op_add_delete

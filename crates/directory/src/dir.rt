@@ -1,0 +1,125 @@
+//! Directories.
+
+ghost use Rattle.std.specs.Prelude.{◌≡◌, ◌≢◌, ◌⊎◌, [], Some, None, IfOk, IfErr, OnOk, OnErr, false, map};
+ghost use Rattle.std.specs.Option.{option_map_or};
+ghost use Rattle.dir_tree.specs.Entry.{EntryInformation};
+ghost use Rattle.dir_tree.specs.tree.Numbered.{entry_of, entries_of, entries_at, put_entry, without};
+ghost use Rattle.dir_tree.specs.Refusals.{insert_refusal, remove_refusal, replace_refusal};
+ghost use Rattle.acdf_filters.specs.admin_scope.InForce.{in_force};
+ghost use Rattle.acdf_filters.specs.Asking.{protected_of};
+ghost use Rattle.acdf_filters.specs.Granted.{granted, granted_new};
+ghost use Rattle.acdf_filters.specs.weighing.Weighing.{AreMemberships};
+ghost use Rattle.acdf_filters.specs.admin_scope.InForce.{AreInForce};
+
+use acdf_filters::aci_item::Permission;
+use acdf_filters::{Item, Membership, Requester};
+use dir_tree::{Entry, EntryNo, InsertRefusal, NoMemory, RemoveRefusal, ReplaceRefusal, Tree};
+use std::alloc::Global;
+
+/// A directory. Contracts see its numbered entries.
+pub trait Dir {
+    ghost use Rattle.std.specs.Prelude.{List};
+    ghost use Rattle.dir_tree.specs.tree.Numbered.{Numbered};
+
+    ghost rows: { Self → List Numbered };
+
+    /// The tree of the entries.
+    fn tree(&self) -> &Tree
+        ensures exact { result.now ≡ rows self.now };
+
+    /// Whether the requester has the permission for the item of the entry of the number (X.501 18.8); false where the
+    /// number is not in use. The groups that are known are not asked for. No memory is taken.
+    fn decide(
+        &self,
+        who: &Requester,
+        known: &[Membership],
+        number: EntryNo,
+        item: Item<'_>,
+        permission: Permission,
+    ) -> bool
+        requires known { AreMemberships (entries_of (rows self.now)) who.now.name known.now }
+        ensures exact { result ≡ option_map_or
+            (λ entry. granted (entries_of (rows self.now)) who.now entry (protected_of item.entry) permission)
+            (entry_of number.0 (rows self.now)) false };
+
+    /// The numbers of the access control subentries in force for an entry that is to be added (X.501 18.3): its areas
+    /// begin at its superior, and for a subentry there are none. Found once for many decisions, they hold as long as the
+    /// directory stays. The error comes where memory is wanted.
+    fn in_force_new(&self, alloc: Global, entry: &Entry) -> Result<Vec<EntryNo>, NoMemory>
+        ensures ok { IfOk result (λ found.
+            AreInForce (rows self.now) entry.now (map (λ no. no.0) found.items)) };
+
+    /// Whether the requester has the permission for the item of an entry that is to be added (X.501 18.8), by the numbers
+    /// of the subentries in force for it: its own entryACI does not count; of a subentry the superior's subentryACI alone
+    /// counts. No memory is taken.
+    fn decide_new(
+        &self,
+        who: &Requester,
+        known: &[Membership],
+        entry: &Entry,
+        in_force: &[EntryNo],
+        item: Item<'_>,
+        permission: Permission,
+    ) -> bool
+        requires known { AreMemberships (entries_of (rows self.now)) who.now.name known.now }
+        requires in_force { AreInForce (rows self.now) entry.now (map (λ no. no.0) in_force.now) }
+        ensures exact { result
+            ≡ granted_new (entries_of (rows self.now)) who.now entry.now (protected_of item.entry) permission };
+
+    /// Which of the groups that the directory's items name the requester is a member of, asked once for many decisions:
+    /// they hold as long as the directory stays. None for an anonymous requester. Which groups are among them has no
+    /// part in what is decided. The error comes where memory is wanted.
+    fn memberships(&self, alloc: Global, who: &Requester) -> Result<Vec<Membership>, NoMemory>
+        ensures ok { IfOk result (λ known.
+            AreMemberships (entries_of (rows self.now)) who.now.name known.items) };
+
+    /// The numbers of the access control subentries that are in force for the entry of the number (X.501 18.3), which the
+    /// directory keeps.
+    fn in_force(&self, number: EntryNo) -> &[EntryNo]
+        ensures exact { (entry : EntryInformation) → entry_of number.0 (rows self.now) ≡ Some entry
+            → entries_at (rows self.now) (map (λ no. no.0) result.now) ≡ in_force (entries_of (rows self.now)) entry };
+
+    /// Puts the entry in, and gives the number by which it is known: one that is not in use.
+    ///
+    /// Each refusal comes in exactly one case, and of several the first: `NameTaken` where the name is that of an
+    /// entry, `NoSuperior` where there are entries and none of them is the superior, `Full` where there are 200,000.
+    /// `NoMemory`, where memory is refused, may come before these, and then nothing has changed. The name may not be
+    /// empty; the first entry, of any such name, is the suffix.
+    fn insert(&mut self, alloc: Global, entry: Entry) -> Result<EntryNo, InsertRefusal>
+        requires named { entry.name ≢ [] }
+        ensures ok { IfOk result (λ no. rows self.new ≡ put_entry no.0 entry (rows self.old)) }
+        ensures free { IfOk result (λ no. entry_of no.0 (rows self.old) ≡ None) }
+        ensures exact { OnOk result (insert_refusal entry.name (entries_of (rows self.old)) ≡ None) }
+        // Want of memory may come before the other causes.
+        ensures cause { IfErr result (λ refusal. (refusal ≡ InsertRefusal.NoMemory)
+            ⊎ (insert_refusal entry.name (entries_of (rows self.old)) ≡ Some refusal)) }
+        ensures kept { OnErr result (rows self.new ≡ rows self.old) };
+
+    /// Takes the entry of the number out, which then is not in use.
+    ///
+    /// Each refusal comes in exactly one case: `Absent` for a number that is not in use, and `HasBelow` for an entry
+    /// that has entries below it. `NoMemory`, where memory is refused, may come before these, and then nothing has
+    /// changed.
+    fn remove(&mut self, alloc: Global, no: EntryNo) -> Result<Entry, RemoveRefusal>
+        ensures found { IfOk result (λ entry. entry_of no.0 (rows self.old) ≡ Some entry) }
+        ensures ok { OnOk result (rows self.new ≡ without no.0 (rows self.old)) }
+        ensures exact { OnOk result (remove_refusal no.0 (rows self.old) ≡ None) }
+        ensures cause { IfErr result (λ refusal. (refusal ≡ RemoveRefusal.NoMemory)
+            ⊎ (remove_refusal no.0 (rows self.old) ≡ Some refusal)) }
+        ensures kept { OnErr result (rows self.new ≡ rows self.old) };
+
+    /// Gives the entry's place to another, which is known by the same number. The memory that the attributes of the
+    /// other do not need is given back.
+    ///
+    /// Each refusal comes in exactly one case, and of several the first: `Absent` for a number that is not in use,
+    /// `NameTaken` where the new name is that of another entry, `Elsewhere` for the empty name and for one below
+    /// another superior, and `HasBelow` where the new name is not the same as the old one and entries stand below.
+    /// `NoMemory`, where memory is refused, may come before these, and then nothing has changed.
+    fn replace(&mut self, alloc: Global, no: EntryNo, entry: Entry) -> Result<Entry, ReplaceRefusal>
+        ensures found { IfOk result (λ old. entry_of no.0 (rows self.old) ≡ Some old) }
+        ensures ok { OnOk result (rows self.new ≡ put_entry no.0 entry (without no.0 (rows self.old))) }
+        ensures exact { OnOk result (replace_refusal no.0 entry.name (rows self.old) ≡ None) }
+        ensures cause { IfErr result (λ refusal. (refusal ≡ ReplaceRefusal.NoMemory)
+            ⊎ (replace_refusal no.0 entry.name (rows self.old) ≡ Some refusal)) }
+        ensures kept { OnErr result (rows self.new ≡ rows self.old) };
+}

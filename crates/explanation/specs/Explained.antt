@@ -1,0 +1,55 @@
+-- How a decision came about (X.501 18.8): how many tuples count for the entry, how many are left by each of the six
+-- filters, which those of the last one are, and what is decided.
+use Rattle.std.specs.Prelude.{◌≡◌, ℕ, Bool, false, List, [], length, map, string_bytes}
+use Rattle.std.specs.Option.{option_map_or}
+use Rattle.dir_tree.specs.dn_names.name.Names.{RdnSequence}
+use Rattle.dir_tree.specs.Entry.{EntryInformation}
+use Rattle.dir_tree.specs.tree.Numbered.{Numbered, entries_of, entry_of}
+use Rattle.acdf_filters.specs.aci_item.declared.permission.Permission.{Permission}
+use Rattle.acdf_filters.specs.declared.asking.Requester.{Requester}
+use Rattle.acdf_filters.specs.Asking.{Protected, Asked}
+use Rattle.acdf_filters.specs.Filters.{Placed, level_1, level_2, level_3, level_4, level_5, level_6}
+use Rattle.acdf_filters.specs.Granted.{placed_of, granted}
+use Rattle.explanation.specs.declared.steps.Counts.{Counts}
+use Rattle.explanation.specs.declared.steps.KeptTuple.{KeptTuple}
+use Rattle.explanation.specs.declared.steps.Steps.{Steps}
+
+-- how many count, and how many each filter leaves
+pub record AreCounts (asked : Asked) (xs : List Placed) (counts : Counts) : Type 0 where
+  pub listed : counts.listed ≡ length xs
+  pub users : counts.users ≡ length (level_1 asked xs)
+  pub item : counts.item ≡ length (level_2 asked xs)
+  pub permission : counts.permission ≡ length (level_3 asked xs)
+  pub precedence : counts.precedence ≡ length (level_4 asked xs)
+  pub class : counts.class ≡ length (level_5 asked xs)
+  pub explicit : counts.explicit ≡ length (level_6 asked xs)
+
+-- what is said of a tuple that is left: the name of the entry that holds its item, the item's tag, and whether it grants
+pub record Kept : Type 0 where
+  pub source : RdnSequence
+  pub tag : List ℕ
+  pub grants : Bool
+
+-- the name of the entry of the number
+abbrev pub name_at : List Numbered → ℕ → RdnSequence
+name_at rows id = option_map_or (λ entry. entry.name) (entry_of id rows) []
+
+-- what is said of it by a number in place of the name
+abbrev pub kept_at : List Numbered → KeptTuple → Kept
+kept_at rows kept = record { source = name_at rows kept.source.0; tag = string_bytes kept.tag; grants = kept.grants }
+
+-- what is said of a tuple
+abbrev pub kept_of : Placed → Kept
+kept_of x = record { source = x.listed.source; tag = x.listed.tag; grants = x.listed.tuple.grants }
+
+-- the decision on the item of the entry came about so
+pub record IsExplained (rows : List Numbered) (entry : EntryInformation) (asked : Asked) (steps : Steps) : Type 0 where
+  pub counts : AreCounts asked (placed_of (entries_of rows) asked.who entry) steps.counts
+  pub kept : map (kept_at rows) steps.kept.items ≡ map kept_of (level_6 asked (placed_of (entries_of rows) asked.who entry))
+  pub granted : steps.granted ≡ granted (entries_of rows) asked.who entry asked.item asked.permission
+
+-- nothing counts, nothing is left, and access is refused
+pub record IsNothing (steps : Steps) : Type 0 where
+  pub counts : steps.counts ≡ record { listed = 0; users = 0; item = 0; permission = 0; precedence = 0; class = 0; explicit = 0 }
+  pub kept : steps.kept.items ≡ []
+  pub refused : steps.granted ≡ false

@@ -1,0 +1,23 @@
+//! How an access control decision (X.501 18.8) came about: the question that four words ask, what each filter leaves, and
+//! the text of both.
+#![tactic(auto)]
+
+mod asked;
+mod candidates;
+mod cutting;
+mod explaining;
+mod facts;
+mod filters;
+mod item;
+mod lines;
+mod names;
+mod permission;
+mod reading;
+mod steps;
+mod texts;
+
+pub use asked::{AskedDecision, AskedItem, NoMemory};
+pub use explaining::explain;
+pub use reading::read_question;
+pub use steps::{Counts, KeptTuple, Steps};
+pub use texts::explain_text;

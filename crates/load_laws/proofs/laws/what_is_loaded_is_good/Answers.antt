@@ -1,6 +1,0 @@
--- Record by record, a good entry joins good ones.
-use Rattle.load_laws.proofs.laws.GoodLemmas.{good-loads}
-use Rattle.load_laws.proofs.laws.what_is_loaded_is_good.Goals as goal
-
-pub returns : goal.returns
-returns c = record { exact = good-loads }

@@ -1,6 +1,0 @@
--- Line by line, each value is of the octets of the file.
-use Rattle.load_laws.proofs.laws.JoinLemmas.{loadable-loads}
-use Rattle.load_laws.proofs.laws.what_is_loaded_is_loadable.Goals as goal
-
-pub returns : goal.returns
-returns c = record { exact = loadable-loads }

@@ -1,6 +1,0 @@
--- what public clauses cite
-pub mod Changing
-pub mod Granting
--- the words of crates below, handed on
-pub use Rattle.op_modify.specs as op_modify
-pub use Rattle.op_add_delete.specs as op_add_delete

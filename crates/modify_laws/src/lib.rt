@@ -1,8 +1,0 @@
-//! The laws of modifies and renames: a good tree stays good, a refused change leaves the entries, and a change that nothing
-//! refuses is made.
-#![tactic(auto)]
-
-pub mod laws;
-
-pub use op_modify;
-pub use op_add_delete;

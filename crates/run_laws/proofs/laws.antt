@@ -1,4 +1,0 @@
-pub mod AlikeLemmas
-pub mod RunLemmas
-pub mod HeldLemmas
-pub mod PurgeLemmas

@@ -1,5 +1,0 @@
-use Rattle.run_laws.proofs.Theorems.{heard-alike}
-use Rattle.run_laws.proofs.laws.held_alike_leaves_the_same.Goals as goal
-
-pub returns : goal.returns
-returns g c = record { exact = λ r other h s all. heard-alike r other h s all }

@@ -1,8 +1,0 @@
-use Rattle.run_laws.proofs.Theorems.{talk-alike, said-alike}
-use Rattle.run_laws.proofs.laws.messages_are_answered_alike.Goals as goal
-
-pub returns : goal.returns
-returns g c = record {
-  talk = λ r one other w ms all. talk-alike r one other w ms all;
-  said = λ r one other w cut ms broken all. said-alike r one other w cut ms broken all;
-}

@@ -1,6 +1,0 @@
--- By the lemmas.
-use Rattle.scope_laws.proofs.laws.RowLemmas.{change-put, change-taken, change-replaced}
-use Rattle.scope_laws.proofs.laws.a_change_is_of_one_number.Goals as goal
-
-pub returns : goal.returns
-returns c = record { put = change-put; taken = change-taken; replaced = change-replaced }

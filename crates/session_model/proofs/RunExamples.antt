@@ -1,0 +1,69 @@
+-- The definitions, computed over trees that are numbers: an empty message counts one more, a message of one octet is said
+-- back, and one of two octets is told the number.
+use Rattle.std.proofs.Common.{◌≡◌, ℕ, ◌+◌, ◌==◌, Bool, true, false, cond, List, [], ◌∷◌, Some, None, length, refl}
+use Rattle.ldap_msg.specs.ber_elements.Heading.{length_at, header_at}
+use Rattle.ldap_msg.specs.Streams.{framed, frame_at, whole_of, rest_behind, whole, rest_of, is_broken}
+use Rattle.session_model.specs.Rules.{Rules, Answered, talk}
+use Rattle.session_model.specs.Run.{Step, Opened, Bytes, Ended, HungUp, start, step, run, run_from, held_numbers}
+use Rattle.session_model.specs.AnsweredMessages.{AnsweredMessage, answered_messages, answered_of_step, answered_of_run, answered_of_replay}
+use Rattle.session_model.specs.Replaying.{replayed_from}
+use Rattle.session_model.specs.Purging.{purged, openings, finds_room, answered_of_connection}
+
+answer_of : ℕ → ℕ → List ℕ → Answered ℕ ℕ
+answer_of count who message =
+    cond (length message == 2) (record { replies = []; tree = count + 1; who = who; closes = false })
+    (record { replies = cond (length message == 3) message (count ∷ []); tree = count; who = who; closes = false })
+
+counting : Rules ℕ ℕ
+counting = record { nobody = 0; answer = answer_of }
+
+-- one more is counted; 5 is said back; the number is told
+abbrev counts : List ℕ
+counts = 0x30 ∷ 0 ∷ []
+
+abbrev echoes : List ℕ
+echoes = 0x30 ∷ 1 ∷ 5 ∷ []
+
+abbrev tells : List ℕ
+tells = 0x30 ∷ 2 ∷ 0 ∷ 0 ∷ []
+
+-- the first connection counts, and the second asks for an echo and then for the number
+abbrev steps : List Step
+steps = Opened 1 ∷ Opened 2 ∷ Bytes 1 counts None ∷ Bytes 2 echoes None ∷ Bytes 2 tells None ∷ Ended 1 ∷ []
+
+-- the steps of the second alone
+second : purged 2 steps ≡ Opened 2 ∷ Bytes 2 echoes None ∷ Bytes 2 tells None ∷ []
+second = refl
+
+opens_once : openings 2 steps ≡ 1
+opens_once = refl
+
+has_room : finds_room counting 2 (start counting 7) steps ≡ true
+unfolding finds_room start step held_numbers counting
+has_room = refl
+
+-- its messages among all are answered over the number that was counted meanwhile
+asked : answered_of_connection counting 2 (start counting 7) steps
+    ≡ record { tree = 8; who = 0; message = echoes } ∷ record { tree = 8; who = 0; message = tells } ∷ []
+unfolding answered_of_connection answered_of_step answered_messages start step counting answer_of talk whole whole_of frame_at framed header_at length_at is_broken rest_of rest_behind held_numbers
+asked = refl
+
+-- it is shown the count of the first where it is told the number, and is not where it gets an echo
+told_among_all : ((run counting 7 steps).of 2).reply ≡ 0x30 ∷ 1 ∷ 5 ∷ 8 ∷ []
+unfolding run_from start step counting answer_of talk whole whole_of frame_at framed header_at length_at is_broken rest_of rest_behind held_numbers
+told_among_all = refl
+
+told_alone : ((run counting 7 (purged 2 steps)).of 2).reply ≡ 0x30 ∷ 1 ∷ 5 ∷ 7 ∷ []
+unfolding run_from start step counting answer_of talk whole whole_of frame_at framed header_at length_at is_broken rest_of rest_behind held_numbers
+told_alone = refl
+
+-- a message behind a cut isn't answered
+cut_behind : answered_of_run counting (start counting 7) (Opened 1 ∷ Bytes 1 (0x30 ∷ 1 ∷ 5 ∷ 0x30 ∷ 0 ∷ []) (Some 1) ∷ [])
+    ≡ record { tree = 7; who = 0; message = echoes } ∷ []
+unfolding answered_of_run answered_of_step answered_messages start step counting answer_of talk whole whole_of frame_at framed header_at length_at is_broken rest_of rest_behind held_numbers
+cut_behind = refl
+
+-- nor is one of a connection that was hung up
+hung_up_before : answered_of_replay counting (start counting 7) (Opened 1 ∷ Ended 1 ∷ Bytes 1 echoes None ∷ []) ≡ []
+unfolding answered_of_replay answered_of_step answered_messages start step counting whole whole_of frame_at framed header_at length_at is_broken rest_of rest_behind held_numbers
+hung_up_before = refl

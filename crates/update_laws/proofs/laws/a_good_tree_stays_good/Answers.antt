@@ -1,7 +1,0 @@
--- By the theorems.
-use Rattle.update_laws.proofs.laws.DeleteLemmas.{good-deleted}
-use Rattle.update_laws.proofs.laws.AddLemmas.{good-added}
-use Rattle.update_laws.proofs.laws.a_good_tree_stays_good.Goals as goal
-
-pub returns : goal.returns
-returns c = record { deleted = good-deleted; added = good-added }

@@ -1,5 +1,0 @@
-//! The laws of changes: a good tree stays good, a refused change leaves the entries, and a change that nothing refuses is
-//! done.
-#![tactic(auto)]
-
-pub mod laws;
