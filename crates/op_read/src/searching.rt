@@ -17,9 +17,8 @@ use crate::sending::{Search, ended_by, put_done, put_found};
 use acdf_filters::Requester;
 use dir_tree::dn_names::Dn;
 use dir_tree::{EntryNo, NoMemory};
+use directory::{Asking, Dir, hidden, read_named, result_of};
 use ldap_msg::{ResultCode, SearchRequest, put_reply};
-use directory::Dir;
-use directory::{Asking, hidden, read_named, result_of};
 use read_model::filter_match::prepare_filter;
 use std::alloc::Global;
 
