@@ -180,7 +180,7 @@ def faults_of_layers(named):
 
 def faults_of_word(cells):
     """What a row of the glossary names that is not there."""
-    here, files = cells[-2:]
+    _word, _section, here, files = cells
     texts, folder = [], CRATES
     for name in quoted(files):
         path = CRATES / name if "/" in name else folder / name
@@ -297,8 +297,7 @@ def main():
     faults = ["PROMISES: " + fault for fault in faults]
     faults += ["README: " + fault for fault in faults_of_front(names)]
     faults += ["ARCHITECTURE: " + fault for fault in faults_of_layers(below)]
-    glossary = (TOP / "docs" / "GLOSSARY.md").read_text()
-    for number, cells in sorted([*rows_of(glossary, 4), *rows_of(glossary, 3)]):
+    for number, cells in rows_of((TOP / "docs" / "GLOSSARY.md").read_text(), 4):
         rows += 1
         faults += [f"GLOSSARY line {number}: {fault}" for fault in faults_of_word(cells)]
     faults += ["rooms: " + fault for fault in faults_of_rooms(below)]
