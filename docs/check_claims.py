@@ -1,21 +1,27 @@
 #!/usr/bin/env python3
 """Looks up the names that the documents use of the sources.
 
-These are the names in the tables of docs/PROMISES.md, the line counts of the definitions that it lists, the clauses
-that docs/ARCHITECTURE.md names for each arrow, the words and files of docs/GLOSSARY.md, and README's calls and clauses
-with their files. Each that is not found
-is printed, and the status is then 1. It looks too whether the crates keep to the rules of their map: few that each
-names, one stem a module, one module of laws, and no lemma cited past a crate's theorems. It reads the sources as text:
-that a clause says what the sentence beside it says is for a reader.
+usage: docs/check_claims.py [--counts]
+
+These are the names in the tables of docs/PROMISES.md, the layers and the sentences of docs/ARCHITECTURE.md, the words
+and files of docs/GLOSSARY.md, and README's calls and clauses with their files. Each that is not found is printed, and
+the status is then 1. It looks too whether the crates keep to the rules of their map: few that each names, each of them
+relied on, nothing imported past them, one stem a module of code, one module of laws, few wrong bodies, and no lemma
+cited past a crate's theorems. It reads the sources as text: that a clause says what the sentence beside it says is for
+a reader.
+
+With --counts it prints the files of definitions that a sceptic reads, with their lines: those that the tables of
+docs/PROMISES.md name, and those whose words they are said in.
 """
 
 import pathlib
 import re
 import sys
 
-TOP = pathlib.Path(__file__).resolve().parent.parent
-CRATES = TOP / "crates"
+from print_arrows import CRATES, TOP, handed_on, imports, named_below, paths_of_words, split_path
+
 COLUMNS = 6
+MOST_EDITS = 3
 MOST_NAMED = 6
 MOST_OF_A_GROUP = 8
 MOST_OCTETS = 8192
@@ -90,14 +96,14 @@ def faults_of_definitions(names, cell):
                 yield f"{crate} has no file of definitions {module}"
 
 
-def faults_of_calls(names, cell, is_word=lambda word: False):
+def faults_of_calls(names, cell):
     """Calls that are not there, and labels that no clause of the calls beside them has."""
     words = [word for name in quoted(cell) for word in name.split("::")]
     labels = set().union(*(names.labels.get(word, set()) for word in words))
     if "Link" in words:
         labels |= names.labels_of_link
     for word in words:
-        if word not in names.items | labels and not word.endswith(".antt") and not is_word(word):
+        if word not in names.items | labels and not word.endswith(".antt"):
             yield "no call here has a clause, and no call is named, " + word
 
 
@@ -124,27 +130,52 @@ def rows_of(text, columns):
             yield number, cells
 
 
-def faults_of_counts(names, text):
-    """Definition files whose number of lines is not the one that is listed."""
-    section = text.split("## What a sceptic reads")[1].split("\n## ")[0]
-    for crate, list_of_files in re.findall(r"`(\w+)` ([A-Z]\w+ \d+(?:, [A-Z]\w+ \d+)*)", section):
-        for module, count in re.findall(r"([A-Z]\w+) (\d+)", list_of_files):
-            definitions = names.definitions.get(crate, {}).get(module)
-            if definitions is None:
-                yield f"{crate} has no file of definitions {module}"
-            elif len(definitions.splitlines()) != int(count):
-                yield f"{crate} {module} has {len(definitions.splitlines())} lines, not {count}"
+def files_of_definitions(names, text):
+    """The files of definitions that the tables name, with those whose words they are said in, by crate and module."""
+    found, due = set(), [(crate, module) for _number, cells in rows_of(text, COLUMNS)
+                         for crate, rest in re.findall(r"`(\w+)` ([^;]*)", cells[1])
+                         for module in re.findall(r"\b[A-Z]\w+", re.sub(r"\([^)]*\)", "", rest))]
+    while due:
+        crate, module = due.pop()
+        if (crate, module) in found or module not in names.definitions.get(crate, {}):
+            continue
+        found.add((crate, module))
+        for parts, _words in paths_of_words(names.definitions[crate][module]):
+            chain, rest = split_path(parts, names.crates)
+            due += [(chain[-1], part) for part in rest[:2] if chain and part[0].isupper()]
+    return found
 
 
-def faults_of_arrow(names, cells, stands_on):
-    """What a row of the table of arrows names that is not there."""
-    above, below, relied_on = cells
-    for crate in quoted(above):
-        for other in quoted(below):
-            if other not in stands_on.get(crate, ()):
-                yield f"{crate} does not stand on {other}"
-    yield from faults_of_calls(names, relied_on, lambda word: any(
-        word in files or names.defines(crate, word) for crate, files in names.definitions.items()))
+def print_counts(names):
+    """Prints the files that a sceptic reads, with their lines."""
+    found = files_of_definitions(names, (TOP / "docs" / "PROMISES.md").read_text())
+    lines = {(crate, module): len(names.definitions[crate][module].splitlines()) for crate, module in found}
+    for crate in (crate for crate in named_below() if any(crate == other for other, _ in found)):
+        own = {module: count for (other, module), count in sorted(lines.items()) if other == crate}
+        print(f"{crate} {sum(own.values())}: " + ", ".join(f"{module} {count}" for module, count in own.items()))
+    print(f"{sum(lines.values())} lines in {len(lines)} files")
+
+
+def levels(named):
+    """How long the longest chain of crates below each one is."""
+    height = {}
+    for crate, below in named.items():
+        height[crate] = 1 + max((height.get(other, 0) for other in below), default=0)
+    return height
+
+
+def faults_of_layers(named):
+    """Where the picture of layers or the table of sentences in ARCHITECTURE is not that of crates.txt."""
+    text = (TOP / "docs" / "ARCHITECTURE.md").read_text()
+    due = {crate: height for crate, height in levels(named).items() if not crate.endswith("_tests")}
+    drawn = {crate: int(height) for height, row in re.findall(r"^ {4}( ?\d+)  +(\w.*)$", text, re.M)
+             for crate in row.split()}
+    for crate in sorted({*due, *drawn}):
+        if due.get(crate) != drawn.get(crate):
+            yield f"{crate} is drawn on layer {drawn.get(crate)}, and is of layer {due.get(crate)}"
+    told = [quoted(cells[0])[0] for _number, cells in rows_of(text, 2)]
+    yield from (f"{crate} has {told.count(crate)} sentences" for crate in due if told.count(crate) != 1)
+    yield from (f"a sentence of {crate}, which crates.txt does not name" for crate in told if crate not in due)
 
 
 def faults_of_word(cells):
@@ -163,44 +194,26 @@ def faults_of_word(cells):
             yield f"{word} stands in none of its files"
 
 
-def named_below():
-    """The crates that each crate names in crates.txt."""
-    lines = (TOP / "crates.txt").read_text().splitlines()
-    pairs = [line.split(":", 1) for line in lines if ":" in line and not line.startswith("#")]
-    return {name.strip(): below.split() for name, below in pairs}
-
-
-def handed_on(crate):
-    """The crates below that a crate hands on to those above it, as code, words or theorems."""
-    files = ("src/lib.rt", "specs/Lib.antt", "proofs/Lib.antt")
-    lines = [(CRATES / crate / name).read_text() for name in files if (CRATES / crate / name).exists()]
-    return {name for text in lines for name in re.findall(r"^pub use (?:\w+::)*([a-z]\w*);", text, re.M)
-            + re.findall(r"^pub use Rattle\..* as (\w+?)(?:_proofs)?$", text, re.M)}
-
-
-def stands_on(named):
-    """The crates that each crate may cite: those that it names, and those that they hand on."""
-    return {crate: set(below).union(*(handed_on(other) for other in below if other in named))
-            for crate, below in named.items()}
-
-
 def stem(module):
     """A module of definitions or lemmas as a module of code would be named."""
     return re.sub(r"(?<!^)([A-Z])", r"_\1", module).lower()
 
 
 def faults_of_modules(crate):
-    """Modules of definitions and lemmas that stand under no module of code, though code is written in them."""
+    """Folders and files of definitions and lemmas that do not stand where their names say."""
     folder = CRATES / crate
-    code = {path.stem: path.read_text() for path in (folder / "src").glob("*.rt")}
+    code = {path.stem for path in (folder / "src").glob("*.rt")}
     for path in sorted(folder.glob("specs/*")) + sorted(folder.glob("proofs/*")):
         if path.stem.islower() and path.stem not in code:
             yield f"{path.relative_to(CRATES)}: no module of code has that stem"
+    for path in sorted(path for path in folder.glob("specs/*") if path.is_dir()):
+        if path.name == "laws" or len(list(path.rglob("*.antt"))) < 2:
+            yield f"{path.relative_to(CRATES)}: a folder of definitions is of a module of code, and holds two files or more"
+    for path in sorted(folder.glob("specs/*.antt")):
+        if not path.stem.islower() and not re.fullmatch(r"[A-Z][A-Za-z]*", path.stem):
+            yield f"{path.relative_to(CRATES)}: no name of a concept"
     concepts = {path.stem for path in folder.glob("specs/[A-Z]*.antt")} - {"Lib"}
     alone = {module for module in concepts if stem(module) not in code}
-    for module in sorted(alone):
-        if any(re.search(rf"\bRattle\.{crate}\.specs\.{module}\b", text) for text in code.values()):
-            yield f"{crate} has code in the words of {module}, and no module of code of that stem"
     for path in sorted(folder.glob("proofs/[A-Z]*.antt")):
         if not re.fullmatch(r"Lib|\w*(Theorems|Examples)", path.stem) and not alone:
             yield f"{crate} has lemmas of no module of code, {path.stem}"
@@ -217,22 +230,35 @@ def faults_of_laws(crate):
 
 def faults_of_citations(crate, crates):
     """Lemmas of other crates that are cited past their theorems."""
-    folders = [CRATES / crate / name for name in ("specs", "proofs")]
-    for path in sorted(path for folder in folders for path in folder.rglob("*.antt") if path.stem != "Lib"):
-        cited = re.findall(r"\bRattle\.(?:\w+\.proofs\.)?(\w+?)(?:\.proofs|_proofs)\.(\w+)", path.read_text())
-        for other, module in cited:
-            if other in crates and other != crate and not module.endswith("Theorems"):
-                yield f"{path.relative_to(CRATES)} cites {module} of {other}"
+    for path, kind, chain, rest, _words in imports(crate, crates):
+        if kind == "theorems" and chain[-1] != crate and rest and not rest[0].endswith("Theorems"):
+            yield f"{path.relative_to(CRATES)} cites {rest[0]} of {chain[-1]}"
+
+
+def faults_of_imports(crate, named):
+    """Crates that are named and not relied on, and imports of crates that are neither named nor handed on."""
+    below, firsts = named[crate], set()
+    for path, _kind, chain, _rest, _words in imports(crate, named):
+        firsts.add(chain[0])
+        for before, other in zip([crate, *chain], chain):
+            passes = other in below if before == crate else other in handed_on(before) or other in below
+            if other not in (before, crate) and not passes:
+                yield f"{path.relative_to(CRATES)} takes {other} through {before}, which does not hand it on"
+    yield from (f"{crate} names {other}, of which it imports nothing" for other in below if other not in firsts)
 
 
 def faults_of_rooms(named):
-    """What is against the rules of rooms: few crates to stand on, one stem a module, one module of laws."""
+    """What is against the rules of rooms: few crates to stand on, one stem a module, one module of laws, few edits."""
     for crate, below in named.items():
         if len(below) > MOST_NAMED:
             yield f"{crate} names {len(below)} crates"
+        edits = len(list((CRATES / crate / "must-fail").glob("*.edit")))
+        if edits > MOST_EDITS:
+            yield f"{crate} has {edits} must-fail edits"
         yield from faults_of_modules(crate)
         yield from faults_of_laws(crate)
         yield from faults_of_citations(crate, named)
+        yield from sorted(set(faults_of_imports(crate, named)))
     for group in (TOP / "crates.txt").read_text().split("\n\n"):
         count = sum(":" in line for line in group.splitlines() if not line.startswith("#"))
         if count > MOST_OF_A_GROUP:
@@ -252,32 +278,25 @@ def faults_of_front(names):
 
 
 def faults_of_promises(names):
-    """The faults of the tables of promises and of the list, with the number of rows that were looked up."""
+    """The faults of the tables of promises, with the number of rows that were looked up."""
     text = (TOP / "docs" / "PROMISES.md").read_text()
     faults, named, rows = [], set(), 0
     for number, cells in rows_of(text, COLUMNS):
         rows += 1
         named.update(quoted(cells[3]))
         faults += [f"line {number}: {fault}" for fault in faults_of_row(names, cells)]
-    faults += ["no row names the edit " + edit for edit in sorted(names.edits - named)]
-    return faults + list(faults_of_counts(names, text)), rows
+    return faults + ["no row names the edit " + edit for edit in sorted(names.edits - named)], rows
 
 
 def main():
     names, below = Names(), named_below()
-    reached = stands_on(below)
+    if sys.argv[1:] == ["--counts"]:
+        print_counts(names)
+        return 0
     faults, rows = faults_of_promises(names)
     faults = ["PROMISES: " + fault for fault in faults]
     faults += ["README: " + fault for fault in faults_of_front(names)]
-    arrows = (TOP / "docs" / "ARCHITECTURE.md").read_text()
-    drawn = set()
-    for number, cells in rows_of(arrows, 3):
-        if cells[1].startswith("`"):
-            rows += 1
-            drawn.update((crate, other) for crate in quoted(cells[0]) for other in quoted(cells[1]))
-            faults += [f"ARCHITECTURE line {number}: {fault}" for fault in faults_of_arrow(names, cells, reached)]
-    faults += [f"ARCHITECTURE: no arrow from {crate} to {other}" for crate, others in below.items()
-               if not crate.endswith("_tests") for other in others if other in below and (crate, other) not in drawn]
+    faults += ["ARCHITECTURE: " + fault for fault in faults_of_layers(below)]
     for number, cells in rows_of((TOP / "docs" / "GLOSSARY.md").read_text(), 4):
         rows += 1
         faults += [f"GLOSSARY line {number}: {fault}" for fault in faults_of_word(cells)]
@@ -288,4 +307,5 @@ def main():
     return 1 if faults else 0
 
 
-sys.exit(main())
+if __name__ == "__main__":
+    sys.exit(main())
