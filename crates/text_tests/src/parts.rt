@@ -1,5 +1,5 @@
 //! The parts of texts: numbers, object identifiers, and strings written and read.
-use aci_item::gser_tree::{Bad, Tree, number, put_string, read_tree};
+use aci_item::gser_tree::{Bad, number, put_string, read_tree};
 use aci_item::subtree_spec::is_oid;
 use std::alloc::Global;
 use std::process::Abort;
@@ -81,11 +81,14 @@ fn a_string_has_each_quotation_mark_twice(rt: HostRuntime) -> Result<(), Fail> {
     Ok(())
 }
 
-// Appends the text of a string.
+// Appends the text of a string, or that it is none.
 fn put_text(alloc: Global, string: &str, out: &mut String) -> Result<(), Fail> {
     match read_tree(alloc, string.as_bytes())? {
-        Some(Tree::Quoted(part)) => Ok(out.push_str(part.text.as_str())?),
-        _ => Ok(out.push_str("no string")?),
+        Some(tree) => match tree.string() {
+            Some(part) => Ok(out.push_str(part.text.as_str())?),
+            None => Ok(out.push_str("no string")?),
+        },
+        None => Ok(out.push_str("no value")?),
     }
 }
 

@@ -6,16 +6,16 @@ use Rattle.gser_tree.specs.Lexemes.{Lexeme, class_of, is_word}
 use Rattle.gser_tree.specs.looking.Shapes.{Shape, Braces, gathered}
 use Rattle.gser_tree.specs.Writing.{print_filled, print_flag}
 use Rattle.gser_tree.proofs.Theorems.{listed_gathered, AreWritten, FlagRead, IsRead, OptionalRead, Prints, Skips, braces_are_written, flag_is_written, none_are_written, optional_is_written, skips_end}
-use Rattle.aci_item.proofs.laws.FlagPrints.{flag_reads}
-use Rattle.aci_item.proofs.laws.SetPrints.{optional_set_prints}
+use Rattle.aci_laws.proofs.laws.FlagPrints.{flag_reads}
+use Rattle.aci_laws.proofs.laws.SetPrints.{optional_set_prints}
 use Rattle.dir_tree.specs.dn_names.name.GoodNames.{IsGoodName}
 use Rattle.subtree_spec.specs.SubtreePrinted.{print_subtree}
 use Rattle.aci_item.specs.AciText.{classes, sorted_set}
-use Rattle.aci_item.specs.GoodItems.{IsGoodClasses, IsGoodClassSubtree}
+use Rattle.aci_laws.specs.GoodItems.{IsGoodClasses, IsGoodClassSubtree}
 use Rattle.aci_item.specs.members.ItemParts.{class_subtree, user}
 use Rattle.aci_item.specs.ItemPrinted.{print_class_list, print_classes, print_set, print_user}
 use Rattle.aci_item.specs.item.Items.{UserClasses}
-use Rattle.aci_item.proofs.laws.PartPrints.{class_subtree_prints, user_prints}
+use Rattle.aci_laws.proofs.laws.PartPrints.{class_subtree_prints, user_prints}
 
 all_word : is_word (codes "allUsers") ≡ true
 unfolding class_of

@@ -5,13 +5,13 @@ use Rattle.gser_tree.specs.Writing.{text_of}
 use Rattle.gser_tree.proofs.Theorems.{IsRead, IsTextOf-written}
 use Rattle.subtree_spec.specs.SubtreeText.{judged}
 use Rattle.aci_item.specs.AciText.{AciText, aci_item, read_item}
-use Rattle.aci_item.specs.GoodItems.{IsGoodItem}
+use Rattle.aci_laws.specs.GoodItems.{IsGoodItem}
 use Rattle.aci_item.specs.ItemPrinted.{print_item}
 use Rattle.aci_item.specs.item.Items.{Item}
-use Rattle.aci_item.proofs.laws.ItemOnly.{item_is_good}
-use Rattle.aci_item.proofs.laws.ItemPrints.{item_prints}
-use Rattle.aci_item.proofs.reading.ReadLemmas.{reads_shape}
-use Rattle.aci_item.proofs.laws.WrittenTexts.{HasTexts-from_IsTextOf}
+use Rattle.aci_laws.proofs.laws.ItemOnly.{item_is_good}
+use Rattle.aci_laws.proofs.laws.ItemPrints.{item_prints}
+use Rattle.aci_item.proofs.Theorems.{reads_shape}
+use Rattle.aci_laws.proofs.laws.WrittenTexts.{HasTexts-from_IsTextOf}
 
 pub AciText-print_item : (item : Item) → IsGoodItem item → AciText item (text_of (print_item item))
 AciText-print_item item good =

@@ -8,16 +8,16 @@ use Rattle.gser_tree.specs.Writing.{print_braces, print_component, print_number,
 use Rattle.gser_tree.proofs.Theorems.{listed_gathered, AreWritten, IsRead, OptionalRead, Prints, RequiredRead, braces_are_written, choice_is_written, none_are_written, optional_is_written, required_is_written, string_is_written, written_within}
 use Rattle.subtree_spec.specs.SubtreeText.{there}
 use Rattle.aci_item.specs.AciText.{aci_item, classes, first, item_first, item_permission, items, precedence, sorted_set, tag, user_first, user_permission}
-use Rattle.aci_item.specs.GoodItems.{IsGoodClasses, IsGoodFirst, IsGoodItem, IsGoodItemPermission, IsGoodItems, IsGoodUserPermission, IsSetOf}
+use Rattle.aci_laws.specs.GoodItems.{IsGoodClasses, IsGoodFirst, IsGoodItem, IsGoodItemPermission, IsGoodItems, IsGoodUserPermission, IsSetOf}
 use Rattle.aci_item.specs.members.ItemParts.{bits, level}
 use Rattle.aci_item.specs.ItemPrinted.{print_bits, print_classes, print_first, print_item, print_item_first, print_item_permission, print_items, print_level, print_precedence, print_user_first, print_user_permission}
 use Rattle.aci_item.specs.item.Items.{UserClasses, ProtectedItems, ItemPermission, UserPermission, First, ItemFirst, UserFirst, Item}
 use Rattle.aci_item.specs.Permission.{Bit}
-use Rattle.aci_item.proofs.laws.BitPrints.{bits_print}
-use Rattle.aci_item.proofs.laws.ClassPrints.{classes_print}
-use Rattle.aci_item.proofs.laws.PartPrints.{level_prints, own_prints, precedence_prints}
-use Rattle.aci_item.proofs.laws.ProtectedPrints.{items_print}
-use Rattle.aci_item.proofs.laws.SetPrints.{set_prints}
+use Rattle.aci_laws.proofs.laws.BitPrints.{bits_print}
+use Rattle.aci_laws.proofs.laws.ClassPrints.{classes_print}
+use Rattle.aci_laws.proofs.laws.PartPrints.{level_prints, own_prints, precedence_prints}
+use Rattle.aci_laws.proofs.laws.ProtectedPrints.{items_print}
+use Rattle.aci_laws.proofs.laws.SetPrints.{set_prints}
 
 -- ---- words
 

@@ -3,8 +3,8 @@ use Rattle.subtree_spec.specs.SubtreePrinted.{print_subtree}
 use Rattle.aci_item.specs.members.ItemParts.{user, kind, kind_and_value, class_subtree}
 use Rattle.aci_item.specs.ItemPrinted.{print_user, print_kind, print_value, print_item_permission, print_user_permission}
 use Rattle.aci_item.specs.AciText.{item_permission, user_permission}
-use Rattle.aci_item.proofs.laws.SortedLemmas.{set_is_sorted}
-use Rattle.aci_item.proofs.laws.sets_are_in_order.Goals as goal
+use Rattle.aci_laws.proofs.laws.SortedLemmas.{set_is_sorted}
+use Rattle.aci_laws.proofs.laws.sets_are_in_order.Goals as goal
 
 pub returns-clause-users : goal.returns-clause-users
 returns-clause-users c = λ shape bad next values h. set_is_sorted print_user user shape values bad next h

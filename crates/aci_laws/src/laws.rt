@@ -10,8 +10,9 @@ ghost use Rattle.subtree_spec.specs.SubtreePrinted.{print_subtree};
 ghost use Rattle.aci_item.specs.item.Items.{Item, ItemPermission, UserPermission};
 ghost use Rattle.aci_item.specs.members.ItemParts.{user, kind, kind_and_value, class_subtree};
 ghost use Rattle.aci_item.specs.ItemPrinted.{print_user, print_kind, print_value, print_item, print_item_permission, print_user_permission};
-ghost use Rattle.aci_item.specs.AciText.{AciText, read_item, sorted_set, members_sorted, item_permission, user_permission};
-ghost use Rattle.aci_item.specs.GoodItems.{IsGoodItem};
+ghost use Rattle.aci_item.specs.AciText.{AciText, read_item, sorted_set, item_permission, user_permission};
+ghost use Rattle.aci_laws.specs.GoodItems.{IsGoodItem};
+ghost use Rattle.aci_laws.specs.MembersSorted.{members_sorted};
 ghost use Rattle.aci_item.specs.Sets.{by_text};
 
 /// A set that is read stands in the order of its members' printed texts, and no two texts are equal.

@@ -13,7 +13,7 @@ use Rattle.gser_tree.specs.looking.Shapes.{Shape}
 use Rattle.gser_tree.specs.Writing.{text_of, print_braces, print_filled}
 use Rattle.gser_tree.proofs.Theorems.{listed_gathered, AreWritten, IsRead, Prints, PrintsOptional, none_are_written, more_are_written, braces_are_written}
 use Rattle.aci_item.specs.AciText.{sorted_set}
-use Rattle.aci_item.specs.GoodItems.{IsSetOf}
+use Rattle.aci_laws.specs.GoodItems.{IsSetOf}
 use Rattle.aci_item.specs.Sets.{by_text, gather_into, put_member}
 
 module _ {A : Type 0} (text : A → List ℕ) where

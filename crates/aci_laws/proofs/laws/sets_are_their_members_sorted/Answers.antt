@@ -2,8 +2,8 @@
 use Rattle.aci_item.specs.members.ItemParts.{user}
 use Rattle.aci_item.specs.ItemPrinted.{print_user, print_item_permission, print_user_permission}
 use Rattle.aci_item.specs.AciText.{item_permission, user_permission}
-use Rattle.aci_item.proofs.sets.SetLemmas.{sorted_set-sorted}
-use Rattle.aci_item.proofs.laws.sets_are_their_members_sorted.Goals as goal
+use Rattle.aci_laws.proofs.laws.MembersLemmas.{sorted_set-sorted}
+use Rattle.aci_laws.proofs.laws.sets_are_their_members_sorted.Goals as goal
 
 pub returns-clause-users : goal.returns-clause-users
 returns-clause-users c = λ shape bad. sorted_set-sorted print_user user shape bad

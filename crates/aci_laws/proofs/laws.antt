@@ -1,4 +1,5 @@
 pub mod SortedLemmas
+pub mod MembersLemmas
 pub mod SetPrints
 pub mod BitPrints
 pub mod PartPrints

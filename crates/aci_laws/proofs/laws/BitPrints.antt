@@ -11,12 +11,12 @@ use Rattle.gser_tree.specs.Writing.{print_word}
 use Rattle.gser_tree.proofs.Theorems.{listed_gathered, AreWritten, IsRead, Prints, none_are_written, more_are_written, braces_are_written, word_is_written}
 use Rattle.aci_item.specs.declared.permission.Permission.{Permission}
 use Rattle.aci_item.specs.declared.permission.Permission.TheVariants.{Add, DiscloseOnError, Read, Remove, Browse, Export, Import, Modify, Rename, ReturnDn, Compare, FilterMatch, Invoke}
-use Rattle.aci_item.specs.GoodItems.{AreGoodBits}
+use Rattle.aci_laws.specs.GoodItems.{AreGoodBits}
 use Rattle.aci_item.specs.members.ItemParts.{bit, bits}
 use Rattle.aci_item.specs.ItemPrinted.{bit_name, print_bits}
 use Rattle.aci_item.specs.Permission.{Bit, all_bits, bit_place, in_order, is_among, is_bit, put_bit}
 use Rattle.aci_item.specs.Sets.{gather_into}
-use Rattle.aci_item.proofs.bits.BitLemmas.{among_filtered, filtered}
+use Rattle.aci_item.proofs.Theorems.{among_filtered, filtered}
 
 bit_word : (permission : Permission) (grants : Bool) → is_word (bit_name (record { permission = permission; grants = grants })) ≡ true
 unfolding class_of

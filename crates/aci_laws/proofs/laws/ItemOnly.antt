@@ -16,14 +16,14 @@ use Rattle.subtree_spec.specs.SubtreeText.{there}
 use Rattle.subtree_spec.specs.Subtrees.{Subtree}
 use Rattle.aci_item.specs.declared.level.Level.{Level}
 use Rattle.aci_item.specs.AciText.{aci_item, classes, first, item_first, item_permission, items, kinds, precedence, sorted_set, tag, user_first, user_permission}
-use Rattle.aci_item.specs.GoodItems.{AreGoodBits, IsGoodClasses, IsGoodClassSubtree, IsGoodFirst, IsGoodItem, IsGoodItemPermission, IsGoodItems, IsGoodUserPermission, IsGoodValue, IsSetOf}
+use Rattle.aci_laws.specs.GoodItems.{AreGoodBits, IsGoodClasses, IsGoodClassSubtree, IsGoodFirst, IsGoodItem, IsGoodItemPermission, IsGoodItems, IsGoodUserPermission, IsGoodValue, IsSetOf}
 use Rattle.aci_item.specs.members.ItemParts.{bits, class_subtree, kind, kind_and_value, level, user}
 use Rattle.aci_item.specs.ItemPrinted.{print_item_permission, print_kind, print_user, print_user_permission, print_value}
 use Rattle.aci_item.specs.item.Items.{ItemPermission, UserPermission, ItemFirst, UserFirst}
-use Rattle.aci_item.proofs.laws.OnlyLemmas.{OnlyTexts, gives_flagged, gives_members, gives_next, gives_optional_texts, gives_required_texts, no_members, set_is_good}
-use Rattle.aci_item.proofs.laws.PartOnly.{bits_are_good, kind_is_good, level_is_good, own_is_good, precedence_is_good, user_is_good, value_is_good}
-use Rattle.aci_item.proofs.laws.SubtreeOnly.{class_subtree_is_good}
-use Rattle.aci_item.proofs.laws.StringLemmas.{HasTexts, chosen_texts, string_text}
+use Rattle.aci_laws.proofs.laws.OnlyLemmas.{OnlyTexts, gives_flagged, gives_members, gives_next, gives_optional_texts, gives_required_texts, no_members, set_is_good}
+use Rattle.aci_laws.proofs.laws.PartOnly.{bits_are_good, kind_is_good, level_is_good, own_is_good, precedence_is_good, user_is_good, value_is_good}
+use Rattle.aci_laws.proofs.laws.SubtreeOnly.{class_subtree_is_good}
+use Rattle.aci_laws.proofs.laws.StringLemmas.{HasTexts, chosen_texts, string_text}
 
 abbrev IsFlag : Bool → Type 0
 IsFlag value = Unit {0}

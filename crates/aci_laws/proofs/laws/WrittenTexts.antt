@@ -7,7 +7,7 @@ use Rattle.gser_tree.specs.Lexemes as lexemes
 use Rattle.gser_tree.specs.Lexemes.{Lexeme, AreLexemes, show}
 use Rattle.gser_tree.specs.looking.Shapes.{Shape, Shapes, Word, Quoted, Braces, Named, Chosen, None, Some, tokens_of, tokens_in, tokens_behind}
 use Rattle.gser_tree.specs.TextOf.{IsTextOf, part_at, tokens_at}
-use Rattle.aci_item.proofs.laws.StringLemmas.{HasTexts, HaveTextsIn}
+use Rattle.aci_laws.proofs.laws.StringLemmas.{HasTexts, HaveTextsIn}
 
 abbrev tail : {A : Type 0} → List A → List A
 tail [] = []

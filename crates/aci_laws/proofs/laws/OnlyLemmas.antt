@@ -8,11 +8,11 @@ use Rattle.gser_tree.specs.looking.Shapes.{Shape}
 use Rattle.gser_tree.specs.Writing.{text_of}
 use Rattle.gser_tree.proofs.Theorems.{Gives, gives_both, gives_expected, gives_value, gives_weaker}
 use Rattle.aci_item.specs.AciText.{sorted_set}
-use Rattle.aci_item.specs.GoodItems.{IsSetOf}
+use Rattle.aci_laws.specs.GoodItems.{IsSetOf}
 use Rattle.aci_item.specs.members.ItemParts.{flag_by, flagged}
 use Rattle.aci_item.specs.Sets.{gather_into, put_member}
-use Rattle.aci_item.proofs.laws.SortedLemmas.{put_member-sorted, none_sorted, put_member-all}
-use Rattle.aci_item.proofs.laws.StringLemmas.{HasTexts, HaveTexts, component_texts, flag_texts, members_texts}
+use Rattle.aci_laws.proofs.laws.SortedLemmas.{put_member-sorted, none_sorted, put_member-all}
+use Rattle.aci_laws.proofs.laws.StringLemmas.{HasTexts, HaveTexts, component_texts, flag_texts, members_texts}
 
 -- a reader gives what has the property, where the strings of the value are texts
 abbrev pub OnlyTexts : {A : Type 0} → (A → Type 0) → (Shape → Read A) → Type 0

@@ -6,15 +6,15 @@ use Rattle.gser_tree.specs.Lexemes.{Lexeme, class_of, is_word}
 use Rattle.gser_tree.specs.looking.Shapes.{Shape, Braces, gathered}
 use Rattle.gser_tree.specs.Writing.{print_filled, print_flag}
 use Rattle.gser_tree.proofs.Theorems.{listed_gathered, AreWritten, FlagRead, IsRead, OptionalRead, Prints, Skips, braces_are_written, flag_is_written, none_are_written, optional_is_written, skips_end}
-use Rattle.aci_item.proofs.laws.FlagPrints.{flag_reads}
-use Rattle.aci_item.proofs.laws.SetPrints.{optional_set_prints}
+use Rattle.aci_laws.proofs.laws.FlagPrints.{flag_reads}
+use Rattle.aci_laws.proofs.laws.SetPrints.{optional_set_prints}
 use Rattle.dir_tree.specs.schema_tables.Attributes.{IsAttrId}
 use Rattle.aci_item.specs.AciText.{items, kinds, sorted_set}
-use Rattle.aci_item.specs.GoodItems.{IsGoodItems, IsGoodValue}
+use Rattle.aci_laws.specs.GoodItems.{IsGoodItems, IsGoodValue}
 use Rattle.aci_item.specs.members.ItemParts.{kind, kind_and_value}
 use Rattle.aci_item.specs.ItemPrinted.{print_item_list, print_items, print_kind, print_set, print_value}
 use Rattle.aci_item.specs.item.Items.{ProtectedItems}
-use Rattle.aci_item.proofs.laws.PartPrints.{kind_prints, value_prints}
+use Rattle.aci_laws.proofs.laws.PartPrints.{kind_prints, value_prints}
 
 entry_word : is_word (codes "entry") ≡ true
 unfolding class_of

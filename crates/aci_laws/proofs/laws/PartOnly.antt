@@ -19,15 +19,15 @@ use Rattle.subtree_spec.specs.SubtreeText.{there}
 use Rattle.subtree_spec.proofs.Theorems.{name_is_good}
 use Rattle.aci_item.specs.declared.level.Level.{Level}
 use Rattle.aci_item.specs.AciText.{precedence}
-use Rattle.aci_item.specs.GoodItems.{AreGoodBits, IsGoodValue}
+use Rattle.aci_laws.specs.GoodItems.{AreGoodBits, IsGoodValue}
 use Rattle.aci_item.specs.members.ItemParts.{assertion, basic_levels, bit, bits, kind, kind_and_value, level, level_by, level_word, named_user, no_octets, user, user_by}
 use Rattle.aci_item.specs.Permission.{Bit, all_bits, bit_place, in_order, is_among, put_bit}
 use Rattle.aci_item.specs.Sets.{gather_into}
 use Rattle.std.specs.Prelude.{◌==◌}
 use Rattle.std.specs.List.{list_any}
-use Rattle.aci_item.proofs.bits.BitLemmas.{among_filtered, filtered}
-use Rattle.aci_item.proofs.laws.OnlyLemmas.{OnlyTexts, gives_members, gives_next, gives_required_texts}
-use Rattle.aci_item.proofs.laws.StringLemmas.{HasTexts, HaveTexts, string_text}
+use Rattle.aci_item.proofs.Theorems.{among_filtered, filtered}
+use Rattle.aci_laws.proofs.laws.OnlyLemmas.{OnlyTexts, gives_members, gives_next, gives_required_texts}
+use Rattle.aci_laws.proofs.laws.StringLemmas.{HasTexts, HaveTexts, string_text}
 
 -- ---- bits
 

@@ -13,9 +13,9 @@ use Rattle.subtree_spec.specs.Parts.{name}
 use Rattle.subtree_spec.specs.SubtreeText.{components, distance, exclusions, no_chops, refinement, subtree, there}
 use Rattle.subtree_spec.specs.Subtrees.{Choice, Subtree}
 use Rattle.subtree_spec.proofs.Theorems.{subtree_is_good}
-use Rattle.aci_item.specs.GoodItems.{IsGoodClassSubtree}
+use Rattle.aci_laws.specs.GoodItems.{IsGoodClassSubtree}
 use Rattle.aci_item.specs.members.ItemParts.{class_subtree, filter_place, last_of, least, unrefined}
-use Rattle.aci_item.proofs.laws.OnlyLemmas.{OnlyTexts}
+use Rattle.aci_laws.proofs.laws.OnlyLemmas.{OnlyTexts}
 
 -- ---- the last of members
 

@@ -26,7 +26,7 @@ use Rattle.subtree_spec.proofs.Theorems.{subtree_prints}
 use Rattle.aci_item.specs.declared.level.Level.{Level}
 use Rattle.aci_item.specs.declared.level.Level.TheVariants.{Anyone, Simple, Strong}
 use Rattle.aci_item.specs.AciText.{precedence}
-use Rattle.aci_item.specs.GoodItems.{IsGoodClassSubtree, IsGoodValue}
+use Rattle.aci_laws.specs.GoodItems.{IsGoodClassSubtree, IsGoodValue}
 use Rattle.aci_item.specs.members.ItemParts.{assertion, basic_levels, class_subtree, kind, kind_and_value, level, level_word, named_user, unrefined, user}
 use Rattle.aci_item.specs.ItemPrinted.{level_name, print_kind, print_level, print_user, print_value}
 use Rattle.aci_item.specs.Level.{levels}
