@@ -20,7 +20,7 @@ use Rattle.op_add_delete.proofs.Theorems.{not_broken, unless-made}
 use Rattle.entry_changes.specs.Change.{Modification, changed_by}
 use Rattle.op_modify.specs.ReadChanges.{read_changes}
 use Rattle.op_modify.specs.Modifying.{modified_as, modified_target, modified_by, modified_named, modified}
-use Rattle.change_laws.specs.Granting.{MayModify}
+use Rattle.change_laws.specs.ChangeGranting.{MayModify}
 use Rattle.change_laws.proofs.laws.ChangeLemmas.{may-changed_by, changed_by-may}
 
 -- what nothing refuses is made

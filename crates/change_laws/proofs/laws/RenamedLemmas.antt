@@ -13,7 +13,7 @@ use Rattle.op_add_delete.specs.adding.Updates.{refused, unless, IsChanged}
 use Rattle.op_add_delete.proofs.Theorems.{unless-made}
 use Rattle.entry_changes.specs.Renaming.{renamed_entry}
 use Rattle.op_modify.specs.Renames.{read_superior, moves, new_name, rename_refusal, renamed}
-use Rattle.change_laws.specs.Granting.{MayRename}
+use Rattle.change_laws.specs.ChangeGranting.{MayRename}
 use Rattle.change_laws.proofs.laws.RenamingLemmas.{renamed_found, renamed_read, by_reading, renamed-read, some_rdns, no_empty, stays-read, superior_of, read-superior_of, moves-superior_of}
 use Rattle.change_laws.proofs.laws.RenameLemmas.{IsRenamable, IsRenamable-unrefused, unrefused-IsRenamable}
 

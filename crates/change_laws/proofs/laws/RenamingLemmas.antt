@@ -14,7 +14,7 @@ use Rattle.ldap_msg.specs.declared.kinds.RenameRequest.{RenameRequest}
 use Rattle.op_add_delete.specs.read_model.Views.{result_of}
 use Rattle.op_add_delete.specs.adding.Updates.{Changed, refused}
 use Rattle.op_modify.specs.Renames.{read_superior, read_renaming, moves, renamed_target, renamed_by, renamed}
-use Rattle.change_laws.specs.Granting.{IsSuperiorText, StaysBelow}
+use Rattle.change_laws.specs.ChangeGranting.{IsSuperiorText, StaysBelow}
 
 -- a rename of the entry that was found, and one that was read, by their parts
 abbrev pub renamed_found : List EntryInformation → Requester → RdnSequence → RdnSequence → Bool → Option RdnSequence → Option EntryInformation → Changed
