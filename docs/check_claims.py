@@ -271,9 +271,12 @@ def faults_of_front(names):
     if len(text.encode()) > MOST_OCTETS:
         yield f"{len(text.encode())} octets"
     for line in text.split("## What it promises")[1].split("\n## ")[0].splitlines():
-        for words in re.findall(r"\(([^()]*`[^()]*)\)", line):
+        for words in "; ".join(re.findall(r"\(([^()]*`[^()]*)\)", line)).split("; "):
             files = [word for word in quoted(words) if "/" in word]
-            yield from ("no file " + word for word in files if not (CRATES / word).exists())
+            code = "".join((CRATES / word).read_text() for word in files if (CRATES / word).is_file())
+            yield from ("no file " + word for word in files if not (CRATES / word).is_file())
+            yield from (f"{word} stands in none of its files" for name in quoted(words) if name not in files
+                        for word in name.split("::") if not re.search(rf"\b{word}\b", code))
             yield from faults_of_calls(names, " ".join(f"`{word}`" for word in quoted(words) if word not in files))
 
 
