@@ -208,7 +208,7 @@ def faults_of_modules(crate):
             yield f"{path.relative_to(CRATES)}: no module of code has that stem"
     for path in sorted(path for path in folder.glob("specs/*") if path.is_dir()):
         if path.name == "laws" or len(list(path.rglob("*.antt"))) < 2:
-            yield f"{path.relative_to(CRATES)}: a folder of definitions is of a module of code, and holds two files or more"
+            yield f"{path.relative_to(CRATES)}: a folder of definitions is of a module of code, and holds two or more"
     for path in sorted(folder.glob("specs/*.antt")):
         if not path.stem.islower() and not re.fullmatch(r"[A-Z][A-Za-z]*", path.stem):
             yield f"{path.relative_to(CRATES)}: no name of a concept"
@@ -241,9 +241,12 @@ def faults_of_imports(crate, named):
     for path, _kind, chain, _rest, _words in imports(crate, named):
         firsts.add(chain[0])
         for before, other in zip([crate, *chain], chain):
-            passes = other in below if before == crate else other in handed_on(before) or other in below
-            if other not in (before, crate) and not passes:
-                yield f"{path.relative_to(CRATES)} takes {other} through {before}, which does not hand it on"
+            if other in (before, crate) or other in below:
+                continue
+            if before == crate:
+                yield f"{path.relative_to(CRATES)} takes {other}, which {crate} does not name"
+            elif other not in handed_on(before):
+                yield f"{path.relative_to(CRATES)} takes {other} of {before}, which does not hand it on"
     yield from (f"{crate} names {other}, of which it imports nothing" for other in below if other not in firsts)
 
 
