@@ -210,7 +210,7 @@ def faults_of_modules(crate):
         if path.name == "laws" or len(list(path.rglob("*.antt"))) < 2:
             yield f"{path.relative_to(CRATES)}: a folder of definitions is of a module of code, and holds two or more"
     for path in sorted(folder.glob("specs/*.antt")):
-        if not path.stem.islower() and not re.fullmatch(r"[A-Z][A-Za-z]*", path.stem):
+        if not path.with_suffix("").is_dir() and not re.fullmatch(r"[A-Z][A-Za-z]*", path.stem):
             yield f"{path.relative_to(CRATES)}: no name of a concept"
     concepts = {path.stem for path in folder.glob("specs/[A-Z]*.antt")} - {"Lib"}
     alone = {module for module in concepts if stem(module) not in code}
