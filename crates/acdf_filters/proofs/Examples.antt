@@ -15,7 +15,7 @@ use Rattle.aci_item.specs.AciTuples.{AciTuple}
 use Rattle.acdf_filters.specs.Asking.{Entry, Kind, Value, Asked}
 use Rattle.acdf_filters.specs.users.Users.{is_in_group, ranks_of, listed_ranks}
 use Rattle.acdf_filters.specs.Covering.{covers, is_explicit, has_names}
-use Rattle.acdf_filters.specs.Filters.{Placed, stays, rank, level_1, level_2, level_3, level_4, level_5, level_6, decided}
+use Rattle.acdf_filters.specs.Filters.{Placed, stays, rank, left_by_users, left_by_item, left_by_permission, left_by_precedence, left_by_class, left_by_explicit, decided}
 
 -- a name of one RDN for each letter
 abbrev rdn : String → List TypeAndValue
@@ -191,8 +191,8 @@ other_values_are_not = refl
 -- how many each filter leaves
 abbrev counts : Asked → List Placed → List ℕ
 counts asked xs =
-    length xs ∷ length (level_1 asked xs) ∷ length (level_2 asked xs) ∷ length (level_3 asked xs) ∷ length (level_4 asked xs)
-    ∷ length (level_5 asked xs) ∷ length (level_6 asked xs) ∷ []
+    length xs ∷ length (left_by_users asked xs) ∷ length (left_by_item asked xs) ∷ length (left_by_permission asked xs) ∷ length (left_by_precedence asked xs)
+    ∷ length (left_by_class asked xs) ∷ length (left_by_explicit asked xs) ∷ []
 
 abbrev many : List Placed
 many =

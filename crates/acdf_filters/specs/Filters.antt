@@ -38,29 +38,29 @@ abbrev pub has_permission : Permission → AciTuple → Bool
 has_permission permission tuple = list_any (is_same permission) tuple.permissions
 
 -- 1: those that stay
-abbrev pub level_1 : Asked → List Placed → List Placed
-level_1 asked xs = filter (λ x. stays asked.who.level x.listed.tuple x.ranks) xs
+abbrev pub left_by_users : Asked → List Placed → List Placed
+left_by_users asked xs = filter (λ x. stays asked.who.level x.listed.tuple x.ranks) xs
 
 -- 2: those that cover the item
-abbrev pub level_2 : Asked → List Placed → List Placed
-level_2 asked xs = filter (λ x. covers asked.who.name asked.item x.listed.tuple.items) (level_1 asked xs)
+abbrev pub left_by_item : Asked → List Placed → List Placed
+left_by_item asked xs = filter (λ x. covers asked.who.name asked.item x.listed.tuple.items) (left_by_users asked xs)
 
 -- 3: those that have the permission
-abbrev pub level_3 : Asked → List Placed → List Placed
-level_3 asked xs = filter (λ x. has_permission asked.permission x.listed.tuple) (level_2 asked xs)
+abbrev pub left_by_permission : Asked → List Placed → List Placed
+left_by_permission asked xs = filter (λ x. has_permission asked.permission x.listed.tuple) (left_by_item asked xs)
 
 -- 4: those of the highest precedence
-abbrev pub level_4 : Asked → List Placed → List Placed
-level_4 asked xs = highest (λ x. x.listed.tuple.precedence) (level_3 asked xs)
+abbrev pub left_by_precedence : Asked → List Placed → List Placed
+left_by_precedence asked xs = highest (λ x. x.listed.tuple.precedence) (left_by_permission asked xs)
 
 -- 5: those of the most specific user class
-abbrev pub level_5 : Asked → List Placed → List Placed
-level_5 asked xs = lowest (λ x. rank x.listed.tuple x.ranks) (level_4 asked xs)
+abbrev pub left_by_class : Asked → List Placed → List Placed
+left_by_class asked xs = lowest (λ x. rank x.listed.tuple x.ranks) (left_by_precedence asked xs)
 
 -- 6: those that name the item explicitly, if any does
-abbrev pub level_6 : Asked → List Placed → List Placed
-level_6 asked xs = passing_or_all (λ x. is_explicit asked.who.name asked.item x.listed.tuple.items) (level_5 asked xs)
+abbrev pub left_by_explicit : Asked → List Placed → List Placed
+left_by_explicit asked xs = passing_or_all (λ x. is_explicit asked.who.name asked.item x.listed.tuple.items) (left_by_class asked xs)
 
 -- access is granted where at least one is left and all that are left grant
 unfoldable pub decided : Asked → List Placed → Bool
-decided asked xs = is_filled (level_6 asked xs) && list_all (λ x. x.listed.tuple.grants) (level_6 asked xs)
+decided asked xs = is_filled (left_by_explicit asked xs) && list_all (λ x. x.listed.tuple.grants) (left_by_explicit asked xs)

@@ -1,11 +1,8 @@
--- The access control decision function (X.501 18.8), and what is said of entries that a requester may not know of
--- (X.511 7.11.3).
-use Rattle.std.specs.Prelude.{ℕ, Bool, ◌&&◌, List, [], map, reverse, find, Option, if◌then◌else◌}
-use Rattle.std.specs.List.{list_any}
-use Rattle.std.specs.Option.{option_map_or}
+-- The access control decision function (X.501 18.8), and of which entries a requester may know (X.511 7.11.3).
+use Rattle.std.specs.Prelude.{Bool, ◌&&◌, List, map, reverse, find, Option}
 use Rattle.dir_tree.specs.dn_names.name.Names.{RdnSequence}
 use Rattle.dir_tree.specs.Entry.{EntryInformation}
-use Rattle.dir_tree.specs.tree.Trees.{is_named, is_below}
+use Rattle.dir_tree.specs.tree.Trees.{is_below}
 use Rattle.aci_item.specs.declared.permission.Permission.{Permission}
 use Rattle.aci_item.specs.declared.permission.Permission.TheVariants.{DiscloseOnError}
 use Rattle.acdf_filters.specs.declared.asking.Requester.{Requester}
@@ -41,16 +38,3 @@ is_disclosed entries who entry = granted entries who entry Entry DiscloseOnError
 -- the nearest entry above the name of which the requester may know: the last, since superiors come first
 unfoldable pub matched : List EntryInformation → Requester → RdnSequence → Option EntryInformation
 matched entries who name = find (λ entry. is_below entry.name name && is_disclosed entries who entry) (reverse entries)
-
--- a result code (RFC 4511 4.1.9), and the name that goes with it
-pub record Hidden : Type 0 where
-  pub code : ℕ
-  pub matched_name : RdnSequence
-
--- what is answered in place of what a requester may not do with the name: insufficientAccessRights where it may know of
--- an entry of the name, and otherwise noSuchObject, as where there is none
-unfoldable pub hidden : List EntryInformation → Requester → RdnSequence → Hidden
-hidden entries who name =
-    if list_any (λ entry. is_named name entry && is_disclosed entries who entry) entries
-    then record { code = 50; matched_name = [] }
-    else record { code = 32; matched_name = option_map_or (λ entry. entry.name) (matched entries who name) [] }

@@ -48,7 +48,7 @@ abbrev pub listed_in : ℕ → EntryInformation → List Listed
 listed_in kind entry = flat_map (listed_by entry.name) (items_in kind entry)
 
 -- those that an entry has from others: an ordinary entry from the subentries in force, in their order; a subentry from
--- the entry immediately above it, which X.501 leaves open in its detail
+-- the entry immediately above alone, where by X.501 18.5 prescriptiveACI of other points of the area counts for it too
 unfoldable pub inherited : List EntryInformation → EntryInformation → List Listed
 inherited entries entry =
     if is_subentry entry then option_map_or (listed_in subentry_aci) (named_in (superior_name entry.name) entries) []

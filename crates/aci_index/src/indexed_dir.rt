@@ -14,8 +14,8 @@ use acdf_filters::{Item, Membership, Question, Requester};
 use aci_lists::{
     Holdings, decide_by, decide_new_by, hold, in_force_at, in_force_new_by, memberships_in,
 };
-use directory::Dir;
 use dir_tree::{Entry, EntryNo, InsertRefusal, NoMemory, RemoveRefusal, ReplaceRefusal, Tree};
+use directory::Dir;
 use std::alloc::Global;
 use std::marker::Model;
 

@@ -9,7 +9,6 @@ use Rattle.aci_item.specs.Permission.{Bit, bits_of, in_order}
 use Rattle.aci_item.specs.item.Items.{UserClasses, ProtectedItems, First, Item, ItemFirst}
 use Rattle.aci_item.specs.AciTuples.{tuples_of_item}
 use Rattle.aci_item.specs.ItemPrinted.{bit_name, print_classes, print_items, print_item_permission, print_first}
-use Rattle.aci_item.specs.Sets.{sorted}
 
 granted : Permission → Bit
 granted permission = record { permission = permission; grants = true }
@@ -30,10 +29,6 @@ ordered_bits = refl
 a_bit_name : bit_name (denied permission.ReturnDn) ≡ codes "denyReturnDN"
 unfolding denied
 a_bit_name = refl
-
--- of equal texts the first stays
-a_set : sorted (λ text. text) (codes "b" ∷ codes "a" ∷ codes "ab" ∷ codes "b" ∷ []) ≡ codes "a" ∷ codes "ab" ∷ codes "b" ∷ []
-a_set = refl
 
 everyone : UserClasses
 everyone = record { all = true; this_entry = false; names = []; groups = []; subtrees = [] }

@@ -11,21 +11,16 @@ use Rattle.gser_tree.specs.looking.Looking.{members_in, string_in, chosen_in}
 use Rattle.gser_tree.specs.Reading.{Read, give, ◌>>=◌, expect, optional, required, nothing_left, number}
 use Rattle.gser_tree.specs.Writing.{text_of}
 use Rattle.subtree_spec.specs.declared.error.BadText.{BadText}
-use Rattle.subtree_spec.specs.Parts.{set_of}
 use Rattle.subtree_spec.specs.SubtreePrinted.{print_subtree}
 use Rattle.subtree_spec.specs.SubtreeText.{there, judged}
 use Rattle.aci_item.specs.item.Items.{UserClasses, ProtectedItems, ItemPermission, UserPermission, First, ItemFirst, UserFirst, Item}
 use Rattle.aci_item.specs.members.ItemParts.{level, bits, user, kind, kind_and_value, class_subtree, flagged}
 use Rattle.aci_item.specs.ItemPrinted.{print_user, print_kind, print_value, print_item_permission, print_user_permission}
-use Rattle.aci_item.specs.Sets.{put_member, sorted, gather_into}
+use Rattle.aci_item.specs.Sets.{put_member, gather_into}
 
 -- SET OF: the members in the order of their printed texts, of equal ones the first
 abbrev pub sorted_set : {A : Type 0} → (A → List Lexeme) → (Shape → Read A) → Shape → Read (List A)
 sorted_set print reader shape = expect (members_in shape) >>= gather_into (put_member (λ value. text_of (print value))) reader []
-
--- the members in the order of the text, and then sorted
-abbrev pub members_sorted : {A : Type 0} → (A → List Lexeme) → (Shape → Read A) → Shape → Read (List A)
-members_sorted print reader shape = set_of reader shape >>= λ values. give (sorted (λ value. text_of (print value)) values)
 
 -- UserClasses
 unfoldable pub classes : Shape → Read UserClasses

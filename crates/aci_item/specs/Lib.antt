@@ -7,7 +7,6 @@ pub mod ItemPrinted
 pub mod Sets
 pub mod members
 pub mod AciText
-pub mod GoodItems
 -- what the rules of entries are said in: they and a decision share them
 pub mod Listed
 pub mod Rules

@@ -4,7 +4,6 @@
 mod bits;
 mod classes;
 mod item;
-pub mod laws;
 mod level;
 mod members;
 mod parts;

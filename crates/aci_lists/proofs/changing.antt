@@ -1,1 +1,2 @@
 pub mod DropLemmas
+pub mod RemovalLemmas

@@ -10,8 +10,8 @@ ghost use Rattle.acdf_filters.specs.weighing.Weighing.{KnowsGroups, weighed_for,
 ghost use Rattle.aci_lists.specs.kept.Lists.{IsKept, lists_at, tuples_at, tuples_below, tuples_inherited, tuples_kept};
 
 use crate::kept::{Kept, below_at, in_force_at, own_at, prescriptive_at};
-use acdf_filters::{Question, Standing};
 use crate::weigh_in_order;
+use acdf_filters::{Question, Standing};
 use dir_tree::EntryNo;
 
 /// The state with the tuples of the subentries of the numbers weighed.

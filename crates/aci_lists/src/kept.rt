@@ -5,9 +5,9 @@ ghost use Rattle.acdf_filters.specs.aci_item.item.Views.{tuple_of};
 ghost use Rattle.aci_lists.specs.Order.{IsHighestFirst};
 ghost use Rattle.aci_lists.specs.kept.Lists.{lists_at, lists_of, no_lists};
 
+use crate::OrderedTuples;
 use acdf_filters::aci_item::AciTuple;
 use acdf_filters::admin_scope::AccessSubentry;
-use crate::OrderedTuples;
 use dir_tree::EntryNo;
 use dir_tree::dn_names::Dn;
 use std::alloc::Global;

@@ -12,9 +12,9 @@ ghost use Rattle.aci_lists.specs.kept.Holdings.{IsHeld};
 
 use crate::groups::named_groups;
 use crate::kept::{Holdings, Kept, no_lists};
+use crate::{OrderedTuples, order_tuples};
 use acdf_filters::admin_scope::{AccessSubentry, access_subtrees, in_force_by};
 use acdf_filters::read_items;
-use crate::{OrderedTuples, order_tuples};
 use dir_tree::schema_tables::AttrId;
 use dir_tree::{Entry, EntryNo, NoMemory, Tree};
 use std::alloc::Global;

@@ -13,9 +13,9 @@ ghost use Rattle.aci_lists.specs.kept.Lists.{IsKept, tuples_below};
 
 use crate::decision::weigh_subentries;
 use crate::kept::{Kept, below_at};
+use crate::weigh_in_order;
 use acdf_filters::admin_scope::{AccessSubentry, in_force_by};
 use acdf_filters::{Question, Standing};
-use crate::weigh_in_order;
 use dir_tree::{Entry, EntryNo, NoMemory, Tree};
 use std::alloc::Global;
 

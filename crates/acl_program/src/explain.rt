@@ -16,8 +16,7 @@ use aci_index::IndexedDir;
 use command_files::dir_tree::Tree;
 use command_files::load_data;
 use command_files::wire_io::{Shelf, Sink, write_all};
-use explanation::explain_text;
-use explanation::{AskedDecision, read_question};
+use explanation::{AskedDecision, explain_text, read_question};
 use std::alloc::Global;
 
 /// What an explanation is asked for: its data file, and the four words of its question.

@@ -10,8 +10,8 @@ ghost use Rattle.acl_program.specs.Troubles.{outcome_of};
 use crate::status::Status;
 use command_files::Trouble;
 use command_files::data_file::DataCause;
-use command_files::ldif_records::LineCause;
 use command_files::ldif_load::LoadCause;
+use command_files::ldif_records::LineCause;
 use command_files::wire_io::{Sink, write_all};
 use std::alloc::{AllocError, Global};
 

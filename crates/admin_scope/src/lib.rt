@@ -13,5 +13,5 @@ mod upwards;
 pub use membership::holds;
 pub use point_list::areas;
 pub use roles::{is_inner_point, is_specific_point};
-pub use subentries::{applies, in_force, in_force_by, in_force_for};
+pub use subentries::{in_force, in_force_by, in_force_for};
 pub use subtrees::{AccessSubentry, access_subtrees, subtree};

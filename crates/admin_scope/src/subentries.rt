@@ -5,36 +5,15 @@ ghost use Rattle.std.specs.List.{AllByRecursion};
 ghost use Rattle.std.specs.Option.{option_map_or};
 ghost use Rattle.dir_tree.specs.Entry.{EntryInformation};
 ghost use Rattle.dir_tree.specs.tree.Numbered.{entry_of, entries_of, entries_at};
-ghost use Rattle.admin_scope.specs.InForce.{applies, in_force};
+ghost use Rattle.admin_scope.specs.InForce.{in_force};
 ghost use Rattle.admin_scope.specs.Walking.{walk_of};
 ghost use Rattle.admin_scope.specs.Finding.{AreSubtrees, numbers_by};
 
-use crate::membership::holds;
 use crate::roles::is_specific;
-use crate::subtrees::{AccessSubentry, access_subtrees, holds_under, subtree};
+use crate::subtrees::{AccessSubentry, access_subtrees, holds_under};
 use crate::upwards::walk_up;
 use dir_tree::{Entry, EntryNo, NoMemory, Tree};
 use std::alloc::Global;
-
-/// Whether the subentry, immediately below the point, is in force for the entry as far as they alone say: whether it is
-/// an access control subentry whose subtree holds the entry. The error comes where memory is wanted.
-#[tactic(auto, unfolding(crate::specs::InForce::subtree_holds))]
-pub fn applies(
-    alloc: Global,
-    point: &Entry,
-    subentry: &Entry,
-    entry: &Entry,
-) -> Result<bool, NoMemory>
-    ensures exact { IfOk result (λ found. found ≡ applies point.now subentry.now entry.now) }
-{
-    if !subentry.is_access_subentry() {
-        return Ok(false);
-    }
-    match subtree(alloc, subentry)? {
-        Some(spec) => Ok(holds(&spec, point.name(), entry)),
-        None => Ok(false),
-    }
-}
 
 // Lists those immediately below the point of the number.
 fn list_below(

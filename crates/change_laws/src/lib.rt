@@ -4,5 +4,5 @@
 
 pub mod laws;
 
-pub use op_modify;
 pub use op_add_delete;
+pub use op_modify;

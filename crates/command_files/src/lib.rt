@@ -5,7 +5,7 @@ mod loading;
 
 pub use aci_item;
 pub use data_file;
-pub use data_file::{ldif_records, ldif_load};
+pub use data_file::{ldif_load, ldif_records};
 pub use dir_tree;
 pub use dir_tree::dn_names;
 pub use loading::{Trouble, load_data, load_script};

@@ -7,7 +7,7 @@ mod loading;
 mod writing;
 
 pub use fault::{DataCause, DataFault, NoMemory};
-pub use loading::load;
 pub use ldif_load;
 pub use ldif_load::ldif_records;
+pub use loading::load;
 pub use writing::put_tree;

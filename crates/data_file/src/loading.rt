@@ -12,10 +12,10 @@ ghost use Rattle.data_file.specs.Files.{fault_of};
 ghost use Rattle.data_file.specs.Steps.{IsStep, of_line, of_record};
 
 use crate::fault::{DataCause, DataFault};
-use dir_tree::Tree;
 use crate::laws::{
     what_is_loaded_is_good, what_is_loaded_is_loadable, what_is_written_loads_again,
 };
+use dir_tree::Tree;
 use ldif_load::ldif_records::{BadLine, LineCause, Position, Record, next_record};
 use ldif_load::{LoadFault, load_record};
 use std::alloc::Global;

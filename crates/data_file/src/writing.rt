@@ -11,8 +11,8 @@ ghost use Rattle.aci_item.specs.Rules.{IsGoodTree};
 ghost use Rattle.data_file.specs.Steps.{AreOfTable, text_at};
 
 use crate::fault::NoMemory;
-use dir_tree::{Entry, EntryNo, Scope, Tree};
 use crate::laws::the_types_of_good_entries_are_in_the_table;
+use dir_tree::{Entry, EntryNo, Scope, Tree};
 use ldif_load::ldif_records::put_entry;
 use std::alloc::Global;
 use wire_io::{PutFault, Sink, write_all};

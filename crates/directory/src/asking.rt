@@ -8,9 +8,9 @@ ghost use Rattle.acdf_filters.specs.Asking.{protected_of};
 ghost use Rattle.acdf_filters.specs.Granted.{granted};
 ghost use Rattle.directory.specs.Asking.{Knows, knows-prop};
 
+use crate::dir::Dir;
 use acdf_filters::aci_item::Permission;
 use acdf_filters::{Item, Membership, Requester};
-use crate::dir::Dir;
 use dir_tree::dn_names::Dn;
 use dir_tree::{Entry, EntryNo, Tree};
 

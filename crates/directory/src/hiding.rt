@@ -6,11 +6,11 @@ ghost use Rattle.directory.specs.Asking.{view_in};
 ghost use Rattle.directory.specs.Nearest.{without_object, nearest_name};
 
 use crate::asking::{Asking, find_target};
-use crate::results::{result_of, result_with};
+use crate::dir::Dir;
 use crate::nearest::matched;
+use crate::results::{result_of, result_with};
 use acdf_filters::Item;
 use acdf_filters::aci_item::Permission;
-use crate::dir::Dir;
 use dir_tree::dn_names::Dn;
 use dir_tree::{EntryNo, NoMemory};
 use ldap_msg::{LdapResult, ResultCode};

@@ -8,9 +8,9 @@ ghost use Rattle.acdf_filters.specs.weighing.Weighing.{AreMemberships};
 ghost use Rattle.directory.specs.EntryNumbers.{IsEntryOf};
 ghost use Rattle.directory.specs.Fronts.{where_passes};
 
+use crate::dir::Dir;
 use acdf_filters::aci_item::Permission;
 use acdf_filters::{Item, Membership, Requester};
-use crate::dir::Dir;
 use dir_tree::EntryNo;
 use dir_tree::dn_names::Dn;
 

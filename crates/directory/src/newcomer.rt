@@ -8,9 +8,9 @@ ghost use Rattle.acdf_filters.specs.Granted.{granted_new};
 ghost use Rattle.acdf_filters.specs.admin_scope.InForce.{AreInForce};
 
 use crate::asking::Asking;
+use crate::dir::Dir;
 use acdf_filters::Item;
 use acdf_filters::aci_item::Permission;
-use crate::dir::Dir;
 use dir_tree::{Entry, EntryNo, NoMemory};
 use std::alloc::Global;
 

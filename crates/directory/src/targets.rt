@@ -5,11 +5,11 @@ ghost use Rattle.dir_tree.specs.tree.Numbered.{entry_of, entries_of};
 ghost use Rattle.directory.specs.Targets.{is_suffix, not_leaf};
 
 use crate::asking::{Asking, Target};
+use crate::dir::Dir;
 use crate::hiding::no_such_object;
 use crate::results::result_of;
 use acdf_filters::Item;
 use acdf_filters::aci_item::Permission;
-use crate::dir::Dir;
 use dir_tree::dn_names::{Dn, same};
 use dir_tree::{NoMemory, Tree};
 use ldap_msg::{LdapResult, ResultCode};

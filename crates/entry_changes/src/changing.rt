@@ -13,20 +13,15 @@ use dir_tree::Entry;
 use std::alloc::Global;
 
 // Makes the change, unless it is refused.
-fn apply<A: Ask>(
-    alloc: Global,
-    asker: &A,
-    entry: &mut Entry,
-    change: EntryChange,
-) -> Result<(), ChangeFault>
+fn apply<A: Ask>(asker: &A, entry: &mut Entry, change: EntryChange) -> Result<(), ChangeFault>
     ensures ok { OnOk result (changed (A.asks asker.now) entry.old change ≡ Ok entry.new) }
     ensures refused { IfErr result (λ fault.
         IsFaultOf (cause_of fault) (changed (A.asks asker.now) entry.old change)) }
 {
-    if let Some(code) = change_refusal(asker, &change, entry.values(change.kind())) {
+    if let Some(code) = change_refusal(asker, &change, entry) {
         return Err(ChangeFault::Refused(code));
     }
-    match make_change(alloc, entry, change) {
+    match make_change(entry, change) {
         Ok(()) => Ok(()),
         Err(_) => Err(ChangeFault::NoMemory),
     }
@@ -47,7 +42,7 @@ pub fn change_entry<A: Ask>(
 {
     let mut left = entry.copy(alloc)?;
     for change in changes {
-        match apply(alloc, asker, &mut left, change) {
+        match apply(asker, &mut left, change) {
             Ok(()) => {}
             Err(fault) => return Err(fault),
         }

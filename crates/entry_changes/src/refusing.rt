@@ -1,7 +1,7 @@
 //! Why a change isn't made. No memory is taken.
 
 ghost use Rattle.std.specs.Prelude.{◌≡◌, ◌++◌, [], map};
-ghost use Rattle.dir_tree.specs.Entry.{has_key};
+ghost use Rattle.dir_tree.specs.Entry.{values_of};
 ghost use Rattle.acdf_filters.specs.Asking.{protected_of};
 ghost use Rattle.ldap_msg.specs.plain_values.Refusals.{first_some};
 ghost use Rattle.entry_changes.specs.Change.{are_none, withheld, exists_already, add_value_refusal, add_refusal, delete_value_refusal, delete_refusal, has_octets, goes_refusal, comes_refusal, replace_refusal, change_refusal};
@@ -11,6 +11,7 @@ use crate::change::EntryChange;
 use crate::kind::ChangeKind;
 use acdf_filters::Item;
 use acdf_filters::aci_item::Permission;
+use dir_tree::Entry;
 use dir_tree::dn_names::Value;
 use dir_tree::schema_tables::AttrId;
 use ldap_msg::ResultCode;
@@ -20,13 +21,6 @@ pub(crate) fn are_none(values: &[Value]) -> bool
     ensures exact { result ≡ are_none values.now }
 {
     values.is_empty()
-}
-
-// Whether one of the values has the key.
-fn has_key(key: &[u8], values: &[Value]) -> bool
-    ensures exact { result ≡ has_key key.now values.now }
-{
-    values.iter().any(|value| key == value.key())
 }
 
 // Whether one of the values has the value's octets.
@@ -64,12 +58,13 @@ fn exists_already<A: Ask>(asker: &A, kind: AttrId, value: &Value) -> ResultCode
 fn add_value_refusal<A: Ask>(
     asker: &A,
     kind: AttrId,
-    old: &[Value],
+    entry: &Entry,
     value: &Value,
 ) -> Option<ResultCode>
-    ensures exact { result ≡ add_value_refusal (A.asks asker.now) kind.0 old.now value.now }
+    ensures exact { result
+        ≡ add_value_refusal (A.asks asker.now) kind.0 (values_of kind.0 entry.now.attributes) value.now }
 {
-    if has_key(value.key(), old) {
+    if entry.has_value(kind, value.key()) {
         Some(exists_already(asker, kind, value))
     } else if !asker.asks(Item::Value(kind, value), Permission::Add) {
         Some(ResultCode::InsufficientAccessRights)
@@ -82,14 +77,15 @@ fn add_value_refusal<A: Ask>(
 fn add_values_refusal<A: Ask>(
     asker: &A,
     kind: AttrId,
-    old: &[Value],
+    entry: &Entry,
     values: &[Value],
 ) -> Option<ResultCode>
     ensures exact { result
-        ≡ first_some (map (add_value_refusal (A.asks asker.now) kind.0 old.now) values.now) }
+        ≡ first_some (map (add_value_refusal (A.asks asker.now) kind.0
+        (values_of kind.0 entry.now.attributes)) values.now) }
 {
     for value in values {
-        if let Some(code) = add_value_refusal(asker, kind, old, value) {
+        if let Some(code) = add_value_refusal(asker, kind, entry, value) {
             return Some(code);
         }
     }
@@ -101,29 +97,31 @@ fn add_values_refusal<A: Ask>(
 fn add_refusal<A: Ask>(
     asker: &A,
     kind: AttrId,
-    old: &[Value],
+    entry: &Entry,
     values: &[Value],
 ) -> Option<ResultCode>
-    ensures exact { result ≡ add_refusal (A.asks asker.now) kind.0 old.now values.now }
+    ensures exact { result
+        ≡ add_refusal (A.asks asker.now) kind.0 (values_of kind.0 entry.now.attributes) values.now }
 {
-    if are_none(old) && !asker.asks(Item::Kind(kind), Permission::Add) {
+    if are_none(entry.values(kind)) && !asker.asks(Item::Kind(kind), Permission::Add) {
         return Some(ResultCode::InsufficientAccessRights);
     }
-    add_values_refusal(asker, kind, old, values)
+    add_values_refusal(asker, kind, entry, values)
 }
 
 // Why the value is not deleted.
 fn delete_value_refusal<A: Ask>(
     asker: &A,
     kind: AttrId,
-    old: &[Value],
+    entry: &Entry,
     value: &Value,
 ) -> Option<ResultCode>
-    ensures exact { result ≡ delete_value_refusal (A.asks asker.now) kind.0 old.now value.now }
+    ensures exact { result
+        ≡ delete_value_refusal (A.asks asker.now) kind.0 (values_of kind.0 entry.now.attributes) value.now }
 {
     if !asker.asks(Item::Value(kind, value), Permission::Remove) {
         Some(withheld(asker, Item::Value(kind, value)))
-    } else if !has_key(value.key(), old) {
+    } else if !entry.has_value(kind, value.key()) {
         Some(ResultCode::NoSuchAttribute)
     } else {
         None
@@ -134,14 +132,15 @@ fn delete_value_refusal<A: Ask>(
 fn delete_values_refusal<A: Ask>(
     asker: &A,
     kind: AttrId,
-    old: &[Value],
+    entry: &Entry,
     values: &[Value],
 ) -> Option<ResultCode>
     ensures exact { result
-        ≡ first_some (map (delete_value_refusal (A.asks asker.now) kind.0 old.now) values.now) }
+        ≡ first_some (map (delete_value_refusal (A.asks asker.now) kind.0
+        (values_of kind.0 entry.now.attributes)) values.now) }
 {
     for value in values {
-        if let Some(code) = delete_value_refusal(asker, kind, old, value) {
+        if let Some(code) = delete_value_refusal(asker, kind, entry, value) {
             return Some(code);
         }
     }
@@ -166,15 +165,16 @@ fn delete_kind_refusal<A: Ask>(asker: &A, kind: AttrId, old: &[Value]) -> Option
 fn delete_refusal<A: Ask>(
     asker: &A,
     kind: AttrId,
-    old: &[Value],
+    entry: &Entry,
     values: &[Value],
 ) -> Option<ResultCode>
-    ensures exact { result ≡ delete_refusal (A.asks asker.now) kind.0 old.now values.now }
+    ensures exact { result
+        ≡ delete_refusal (A.asks asker.now) kind.0 (values_of kind.0 entry.now.attributes) values.now }
 {
     if are_none(values) {
-        delete_kind_refusal(asker, kind, old)
+        delete_kind_refusal(asker, kind, entry.values(kind))
     } else {
-        delete_values_refusal(asker, kind, old, values)
+        delete_values_refusal(asker, kind, entry, values)
     }
 }
 
@@ -281,18 +281,19 @@ fn replace_refusal<A: Ask>(
     }
 }
 
-/// Why the change is not made, by the values of its type that are there.
+/// Why the change is not made, by the values of its type that the entry has. A value is looked up by its key.
 pub(crate) fn change_refusal<A: Ask>(
     asker: &A,
     change: &EntryChange,
-    old: &[Value],
+    entry: &Entry,
 ) -> Option<ResultCode>
-    ensures exact { result ≡ change_refusal (A.asks asker.now) change.now old.now }
+    ensures exact { result
+        ≡ change_refusal (A.asks asker.now) change.now (values_of change.now.kind entry.now.attributes) }
 {
     let kind = change.kind();
     match change.change() {
-        ChangeKind::Add => add_refusal(asker, kind, old, change.values()),
-        ChangeKind::Delete => delete_refusal(asker, kind, old, change.values()),
-        ChangeKind::Replace => replace_refusal(asker, kind, old, change.values()),
+        ChangeKind::Add => add_refusal(asker, kind, entry, change.values()),
+        ChangeKind::Delete => delete_refusal(asker, kind, entry, change.values()),
+        ChangeKind::Replace => replace_refusal(asker, kind, entry.values(kind), change.values()),
     }
 }

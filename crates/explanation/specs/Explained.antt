@@ -8,7 +8,7 @@ use Rattle.dir_tree.specs.tree.Numbered.{Numbered, entries_of, entry_of}
 use Rattle.acdf_filters.specs.aci_item.declared.permission.Permission.{Permission}
 use Rattle.acdf_filters.specs.declared.asking.Requester.{Requester}
 use Rattle.acdf_filters.specs.Asking.{Protected, Asked}
-use Rattle.acdf_filters.specs.Filters.{Placed, level_1, level_2, level_3, level_4, level_5, level_6}
+use Rattle.acdf_filters.specs.Filters.{Placed, left_by_users, left_by_item, left_by_permission, left_by_precedence, left_by_class, left_by_explicit}
 use Rattle.acdf_filters.specs.Granted.{placed_of, granted}
 use Rattle.explanation.specs.declared.steps.Counts.{Counts}
 use Rattle.explanation.specs.declared.steps.KeptTuple.{KeptTuple}
@@ -17,12 +17,12 @@ use Rattle.explanation.specs.declared.steps.Steps.{Steps}
 -- how many count, and how many each filter leaves
 pub record AreCounts (asked : Asked) (xs : List Placed) (counts : Counts) : Type 0 where
   pub listed : counts.listed ≡ length xs
-  pub users : counts.users ≡ length (level_1 asked xs)
-  pub item : counts.item ≡ length (level_2 asked xs)
-  pub permission : counts.permission ≡ length (level_3 asked xs)
-  pub precedence : counts.precedence ≡ length (level_4 asked xs)
-  pub class : counts.class ≡ length (level_5 asked xs)
-  pub explicit : counts.explicit ≡ length (level_6 asked xs)
+  pub users : counts.users ≡ length (left_by_users asked xs)
+  pub item : counts.item ≡ length (left_by_item asked xs)
+  pub permission : counts.permission ≡ length (left_by_permission asked xs)
+  pub precedence : counts.precedence ≡ length (left_by_precedence asked xs)
+  pub class : counts.class ≡ length (left_by_class asked xs)
+  pub explicit : counts.explicit ≡ length (left_by_explicit asked xs)
 
 -- what is said of a tuple that is left: the name of the entry that holds its item, the item's tag, and whether it grants
 pub record Kept : Type 0 where
@@ -45,7 +45,7 @@ kept_of x = record { source = x.listed.source; tag = x.listed.tag; grants = x.li
 -- the decision on the item of the entry came about so
 pub record IsExplained (rows : List Numbered) (entry : EntryInformation) (asked : Asked) (steps : Steps) : Type 0 where
   pub counts : AreCounts asked (placed_of (entries_of rows) asked.who entry) steps.counts
-  pub kept : map (kept_at rows) steps.kept.items ≡ map kept_of (level_6 asked (placed_of (entries_of rows) asked.who entry))
+  pub kept : map (kept_at rows) steps.kept.items ≡ map kept_of (left_by_explicit asked (placed_of (entries_of rows) asked.who entry))
   pub granted : steps.granted ≡ granted (entries_of rows) asked.who entry asked.item asked.permission
 
 -- nothing counts, nothing is left, and access is refused

@@ -12,7 +12,7 @@ use Rattle.acdf_filters.specs.admin_scope.InForce.{in_force}
 use Rattle.acdf_filters.specs.aci_item.declared.permission.Permission.{Permission}
 use Rattle.acdf_filters.specs.declared.asking.Requester.{Requester}
 use Rattle.acdf_filters.specs.Asking.{Protected, Asked}
-use Rattle.acdf_filters.specs.Filters.{Placed, level_1, level_2, level_3, level_4, level_5, level_6}
+use Rattle.acdf_filters.specs.Filters.{Placed, left_by_users, left_by_item, left_by_permission, left_by_precedence, left_by_class, left_by_explicit}
 use Rattle.acdf_filters.specs.Granted.{placed_of, granted}
 use Rattle.explanation.specs.Questions.{Question}
 use Rattle.explanation.specs.Explained.{Kept, kept_of}
@@ -29,12 +29,12 @@ count_line word count = word ++ (codes " " ++ (decimal count ++ codes "\n"))
 abbrev pub count_lines : Asked → List Placed → List ℕ
 count_lines asked xs =
     count_line (codes "listed") (length xs)
-    ++ (count_line (codes "users") (length (level_1 asked xs))
-    ++ (count_line (codes "item") (length (level_2 asked xs))
-    ++ (count_line (codes "permission") (length (level_3 asked xs))
-    ++ (count_line (codes "precedence") (length (level_4 asked xs))
-    ++ (count_line (codes "class") (length (level_5 asked xs))
-    ++ count_line (codes "explicit") (length (level_6 asked xs)))))))
+    ++ (count_line (codes "users") (length (left_by_users asked xs))
+    ++ (count_line (codes "item") (length (left_by_item asked xs))
+    ++ (count_line (codes "permission") (length (left_by_permission asked xs))
+    ++ (count_line (codes "precedence") (length (left_by_precedence asked xs))
+    ++ (count_line (codes "class") (length (left_by_class asked xs))
+    ++ count_line (codes "explicit") (length (left_by_explicit asked xs)))))))
 
 -- whether a tuple grants
 abbrev pub effect : Bool → List ℕ
@@ -56,7 +56,7 @@ abbrev pub entry_text : List EntryInformation → EntryInformation → Asked →
 entry_text entries entry asked =
     flat_map subentry_line (in_force entries entry)
     ++ (count_lines asked (placed_of entries asked.who entry)
-    ++ (flat_map kept_line (map kept_of (level_6 asked (placed_of entries asked.who entry)))
+    ++ (flat_map kept_line (map kept_of (left_by_explicit asked (placed_of entries asked.who entry)))
     ++ outcome_line (granted entries asked.who entry asked.item asked.permission)))
 
 -- the text of a decision on the entry of the name

@@ -15,8 +15,8 @@ use crate::filters::keep_deciding;
 use crate::steps::{Counts, KeptTuple, Steps};
 use acdf_filters::aci_item::Permission;
 use acdf_filters::{Item, Question, Requester};
-use directory::Dir;
 use dir_tree::{Entry, EntryNo, NoMemory};
+use directory::Dir;
 use std::alloc::Global;
 
 // What is said of those that are left.

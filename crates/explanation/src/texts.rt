@@ -8,13 +8,12 @@ ghost use Rattle.explanation.specs.Questions.{question_view};
 ghost use Rattle.explanation.specs.Texts.{entry_text, explained_text, text_explained};
 
 use crate::lines::{outcome_line, put_all_kept, put_counts, put_subentries};
-use crate::explain;
+use crate::{AskedDecision, explain};
 use acdf_filters::aci_item::Permission;
 use acdf_filters::{Item, Requester};
-use directory::Dir;
 use dir_tree::dn_names::Dn;
 use dir_tree::{EntryNo, NoMemory};
-use crate::AskedDecision;
+use directory::Dir;
 use std::alloc::Global;
 
 // The text of the decision on the entry of the number.

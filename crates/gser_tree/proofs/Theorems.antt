@@ -12,5 +12,3 @@ pub use Rattle.gser_tree.proofs.looking.LookingLemmas.{listed_gathered}
 pub use Rattle.gser_tree.proofs.writing.DecimalLemmas.{is_letter-digit, is_letter-alphanumeric, is_letter-hyphen, is_letter-dot, is_number-decimal, is_word-decimal, number_prints, number_is_at_most}
 -- how deep what is read is
 pub use Rattle.gser_tree.proofs.reading.NestedLemmas.{Shallow, both_read, was_there, word_nest, string_nest, chosen_nest, members_nest, optional_nest, gather_nest, left_nothing, number_is_shallow}
--- what a cursor takes whole
-pub use Rattle.gser_tree.proofs.reading.CursorLemmas.{taken_to_the_end, not_taken}

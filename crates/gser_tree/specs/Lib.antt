@@ -1,4 +1,5 @@
 -- what public clauses cite
+pub mod Strings
 pub mod Lexemes
 pub mod looking
 pub mod Tree

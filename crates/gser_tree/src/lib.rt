@@ -8,12 +8,14 @@ mod looking;
 mod marks;
 mod part;
 mod reading;
+mod strings;
 mod token;
 mod tree;
 mod writing;
 
 pub use looking::{component, flag, read_tree};
 pub use part::Part;
-pub use reading::{Bad, Stop, ends, number};
+pub use reading::{Bad, Stop, number};
+pub use strings::put_string;
 pub use tree::Tree;
-pub use writing::{put_end, put_kind, put_name, put_number, put_separator, put_string};
+pub use writing::{put_end, put_kind, put_name, put_number, put_separator};

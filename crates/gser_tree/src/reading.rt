@@ -1,12 +1,13 @@
 //! Reading values: they misfit, or they are read, and the first bad part is noted.
 
-ghost use Rattle.std.specs.Prelude.{◌≡◌, IsTrue, None, Some, option_map, length, nat_le};
+ghost use Rattle.std.specs.Prelude.{◌≡◌, IsTrue, None, Some, option_map};
+ghost use Rattle.std.specs.Char.{is_ascii_digit};
+ghost use Rattle.std.specs.List.{list_all};
 ghost use Rattle.gser_tree.specs.declared.reading.Stop.TheVariants.{NoMemory};
 ghost use Rattle.gser_tree.specs.Reading.{noted, is_number, at_most, number, Reads};
 ghost use Rattle.gser_tree.specs.Tree.{shape_of};
 
 use crate::tree::Tree;
-use gser_core::Cursor;
 use std::alloc::{AllocError, AllocFailed};
 
 /// Why a value is not read.
@@ -58,24 +59,22 @@ impl Bad {
     }
 }
 
-/// Whether the text ends at the cursor.
-pub fn ends(cursor: &Cursor<'_>) -> bool
-    ensures exact { result ≡ nat_le (length cursor.now.text) cursor.now.place }
+// Whether octets are digits alone.
+fn are_digits(octets: &[u8]) -> bool
+    ensures exact { result ≡ list_all is_ascii_digit octets.now }
 {
-    match cursor.end() {
-        Ok(()) => true,
-        Err(_) => false,
-    }
+    octets.iter().all(|octet| octet.is_ascii_digit())
 }
 
-// Whether a word is a number (RFC 3641 section 3.2): the cursor takes it whole as one.
+// Whether a word is a number (RFC 3641 section 3.2): `0`, or digits of which the first is not 0.
 fn is_number(text: &str) -> bool
     ensures exact { result ≡ is_number text.now }
 {
-    let mut cursor = Cursor::new(text);
-    match cursor.number() {
-        Ok(_) => ends(&cursor),
-        Err(_) => false,
+    match text.as_bytes().split_first() {
+        Some((first, rest)) => {
+            first.is_ascii_digit() && are_digits(rest) && (*first != b'0' || rest.is_empty())
+        }
+        None => false,
     }
 }
 

@@ -1,16 +1,9 @@
 //! Values as text.
 
 ghost use Rattle.std.specs.Prelude.{◌≡◌, ◌++◌, [], OnOk, string_bytes};
-ghost use Rattle.gser_tree.specs.Writing.{text_of, print_choice, print_component, print_number, print_string, separator, ending};
+ghost use Rattle.gser_tree.specs.Writing.{text_of, print_choice, print_component, print_number, separator, ending};
 
 use std::alloc::AllocError;
-
-/// Writes a string in quotation marks, each quotation mark in it twice.
-pub fn put_string(out: &mut String, text: &str) -> Result<(), AllocError>
-    ensures ok { OnOk result (string_bytes out.new ≡ string_bytes out.old ++ text_of (print_string text.now)) }
-{
-    gser_core::put_string(out, text)
-}
 
 /// Writes a number in decimal.
 pub fn put_number(out: &mut String, value: u32) -> Result<(), AllocError>

@@ -1,9 +1,9 @@
 //! Entries and directories of texts, and what directories keep as text.
 
-use directory::Dir;
 use dir_tree::dn_names::{make_value, parse, print};
 use dir_tree::schema_tables::attr;
 use dir_tree::{Entry, EntryNo, Scope, Tree};
+use directory::Dir;
 use std::alloc::Global;
 use std::test::Fail;
 

@@ -1,5 +1,4 @@
-//! Tests of what a directory keeps: after each write of every kind it is what a directory keeps that makes all anew, and
-//! what the entries say; and many decisions and many writes are made in a moment.
+//! Tests of what a directory keeps: after each write of every kind it is what the entries say; and many decisions and many writes are made in a moment.
 #![tactic(auto)]
 
 #[cfg(test)]

@@ -3,9 +3,9 @@
 use crate::directories::{kept_at, number, put, said_at};
 use acdf_filters::aci_item::{Level, Permission};
 use acdf_filters::{Item, Membership, Requester};
-use directory::Dir;
 use aci_index::IndexedDir;
 use dir_tree::{EntryNo, Tree};
+use directory::Dir;
 use std::alloc::Global;
 use std::test::Fail;
 

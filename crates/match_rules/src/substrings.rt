@@ -41,10 +41,14 @@ fn stand_in_order(parts: &[Vec<u8>], text: &[u8]) -> bool
     true
 }
 
-/// What stands behind the first place of a part in a text.
+/// What stands behind the first place of a part in a text. A part that is longer than the text isn't sought in it, since a
+/// search takes time for each octet of the part.
 fn text_behind<'a>(part: &[u8], text: &'a [u8]) -> Option<&'a [u8]>
     ensures { IsTextBehind part.now text.now (option_copied result) }
 {
+    if part.len() > text.len() {
+        return None;
+    }
     let place = memmem::find(text, part)?;
     Some(&text[place + part.len()..])
 }

@@ -19,11 +19,11 @@ use acdf_filters::{Item, Requester};
 use dir_tree::dn_names::{Dn, Value};
 use dir_tree::schema_tables::AttrId;
 use dir_tree::{Entry, NoMemory, Tree};
-use ldap_msg::{AddRequest, KindValues, LdapResult, ResultCode};
-use directory::Dir;
 use directory::{
-    Asking, Newcomer, Target, find_target, no_such_object, read_named, result_numbered, result_of,
+    Asking, Dir, Newcomer, Target, find_target, no_such_object, read_named, result_numbered,
+    result_of,
 };
+use ldap_msg::{AddRequest, KindValues, LdapResult, ResultCode};
 use ldif_load::schema_rules::{Broken, check_entry};
 use std::alloc::{AllocError, Global};
 

@@ -12,9 +12,10 @@ use acdf_filters::aci_item::Permission;
 use acdf_filters::{Item, Requester};
 use dir_tree::dn_names::Dn;
 use dir_tree::{EntryNo, NoMemory};
+use directory::{
+    Asking, Dir, Target, find_target, hidden, is_suffix, not_leaf, read_named, result_of,
+};
 use ldap_msg::{DeleteRequest, LdapResult, ResultCode};
-use directory::Dir;
-use directory::{Asking, Target, find_target, hidden, is_suffix, not_leaf, read_named, result_of};
 use std::alloc::{AllocError, Global};
 
 /// What came of a delete's table.

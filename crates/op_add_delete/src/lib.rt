@@ -10,8 +10,8 @@ mod twice;
 
 pub use adding::add;
 pub use deleting::delete;
-pub use fault::Fault;
 pub use directory;
+pub use fault::Fault;
 pub use ldif_load::schema_rules;
 pub use read_model;
 pub use reading::{Given, read_attribute};

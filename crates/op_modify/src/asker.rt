@@ -6,8 +6,7 @@ use acdf_filters::Item;
 use acdf_filters::aci_item::Permission;
 use dir_tree::EntryNo;
 use entry_changes::Ask;
-use op_add_delete::directory::Dir;
-use op_add_delete::directory::Asking;
+use op_add_delete::directory::{Asking, Dir};
 
 /// A requester asks of the entry of a number.
 #[derive(Drop)]

@@ -20,8 +20,7 @@ use dir_tree::{Entry, NoMemory};
 use entry_changes::{ChangeFault, EntryChange, change_entry};
 use ldap_msg::{Change, LdapResult, ModifyRequest, ResultCode};
 use op_add_delete::Fault;
-use op_add_delete::directory::Dir;
-use op_add_delete::directory::{Asking, Target, find_target, hidden, read_named, result_of};
+use op_add_delete::directory::{Asking, Dir, Target, find_target, hidden, read_named, result_of};
 use std::alloc::{AllocError, Global};
 
 // What comes of the entry that the changes leave.

@@ -18,8 +18,9 @@ use dir_tree::dn_names::{Dn, join, same};
 use dir_tree::{Entry, NoMemory, Tree};
 use entry_changes::rename_entry;
 use ldap_msg::{LdapResult, RenameRequest, ResultCode};
-use op_add_delete::directory::Dir;
-use op_add_delete::directory::{Asking, Target, find_target, hidden, is_suffix, not_leaf, result_of};
+use op_add_delete::directory::{
+    Asking, Dir, Target, find_target, hidden, is_suffix, not_leaf, result_of,
+};
 use std::alloc::{AllocError, Global};
 
 // Why the target, which has the name, is not renamed, whatever the new name is.

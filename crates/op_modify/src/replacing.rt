@@ -11,8 +11,7 @@ ghost use Rattle.op_modify.specs.Steps.{IsChecked};
 
 use dir_tree::{Entry, EntryNo, NoMemory, Tree};
 use ldap_msg::LdapResult;
-use op_add_delete::directory::Dir;
-use op_add_delete::directory::{Target, result_numbered};
+use op_add_delete::directory::{Dir, Target, result_numbered};
 use op_add_delete::schema_rules::{Broken, check_entry};
 use std::alloc::{AllocError, Global};
 

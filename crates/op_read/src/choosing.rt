@@ -15,10 +15,9 @@ use acdf_filters::aci_item::Permission;
 use dir_tree::NoMemory;
 use dir_tree::dn_names::Value;
 use dir_tree::schema_tables::{AttrId, attr_named, row};
+use directory::{Dir, copied, printed};
 use ldap_msg::plain_values::{Octets, OneOrMany};
 use ldap_msg::{KindValues, Reply};
-use directory::Dir;
-use directory::{copied, printed};
 use std::alloc::Global;
 
 /// What a text of a selection chooses (RFC 4511 4.5.1.8).

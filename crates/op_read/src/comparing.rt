@@ -20,9 +20,8 @@ use dir_tree::dn_names::{Dn, Value, make_value};
 use dir_tree::match_rules::PrepareFault;
 use dir_tree::schema_tables::{AttrId, attr_named};
 use dir_tree::{EntryNo, NoMemory};
+use directory::{Asking, Dir, find_target, hidden, read_named, result_of};
 use ldap_msg::{CompareRequest, LdapResult, ResultCode};
-use directory::Dir;
-use directory::{Asking, find_target, hidden, read_named, result_of};
 use std::alloc::{AllocError, Global};
 
 // Whether the value is the one asserted, and may be compared; the decision is taken last.

@@ -10,10 +10,9 @@ ghost use Rattle.op_read.specs.Rooting.{root_of, root_sent_of, roots_with};
 
 use dir_tree::NoMemory;
 use dir_tree::schema_tables::{AttrId, attr_named};
+use directory::{Asking, Dir, copied, printed};
 use ldap_msg::plain_values::{Octets, OneOrMany};
 use ldap_msg::{Filter, KindValues, Node, Reply, SearchRequest};
-use directory::Dir;
-use directory::{Asking, copied, printed};
 use std::alloc::Global;
 
 /// An attribute of the root DSE, which has one value.

@@ -17,9 +17,8 @@ use crate::sending::{Search, ended_by, put_done, put_found};
 use acdf_filters::Requester;
 use dir_tree::dn_names::Dn;
 use dir_tree::{EntryNo, NoMemory};
+use directory::{Asking, Dir, hidden, read_named, result_of};
 use ldap_msg::{ResultCode, SearchRequest, put_reply};
-use directory::Dir;
-use directory::{Asking, hidden, read_named, result_of};
 use read_model::filter_match::prepare_filter;
 use std::alloc::Global;
 
@@ -54,22 +53,54 @@ fn put_selected<D: Dir>(
     put_done(search.id, ended, out)
 }
 
-// The same with what is made of the request.
-fn put_from<D: Dir>(
+// Appends that the base is hidden.
+fn put_hidden<D: Dir>(
+    alloc: Global,
+    asking: &Asking<'_, D>,
+    id: u32,
+    base: &Dn,
+    out: &mut Vec<u8>,
+) -> Result<(), NoMemory>
+    ensures ok { OnOk result (out.new.items ≡ out.old.items ++ replies_octets id
+        (reply.Done (hidden (view_in (D.rows asking.now.dir.now) asking.now.who.now) base.now) ∷ [])) }
+    ensures kept { Extends out.old.items out.new.items }
+{
+    let ended = hidden(alloc, asking, base)?;
+    put_done(id, ended, out)
+}
+
+// Appends the replies to a search of a name.
+fn put_at<D: Dir>(
+    alloc: Global,
+    asking: &Asking<'_, D>,
+    search: &Search<'_>,
+    base: &Dn,
+    out: &mut Vec<u8>,
+) -> Result<(), NoMemory>
+    ensures ok { OnOk result (out.new.items ≡ out.old.items ++ replies_octets search.now.id
+        (replies_at (view_in (D.rows asking.now.dir.now) asking.now.who.now) search.now.request.now
+        search.now.subentries base.now)) }
+    ensures kept { Extends out.old.items out.new.items }
+{
+    let tree = asking.dir.tree();
+    tree.entries_form_a_tree();
+    match tree.find(base) {
+        Some(number) => put_selected(alloc, asking, search, base, number, out),
+        None => put_hidden(alloc, asking, search.id, base, out),
+    }
+}
+
+// The same with what is made of the request: before the base is looked for, so that this takes as long where there is none.
+fn put_prepared<D: Dir>(
     alloc: Global,
     asking: &Asking<'_, D>,
     asked: Asked<'_>,
     base: &Dn,
-    number: EntryNo,
     out: &mut Vec<u8>,
 ) -> Result<(), NoMemory>
-    requires tree { IsNumberedTree (D.rows asking.now.dir.now) }
-    requires found { find_name base.now (D.rows asking.now.dir.now) ≡ Some number.0 }
     ensures ok { OnOk result (out.new.items ≡ out.old.items ++ replies_octets asked.entry.id
-        (found_replies (view_in (D.rows asking.now.dir.now) asking.now.who.now)
-        asked.entry.request.now base.now
-        (selected (view_in (D.rows asking.now.dir.now) asking.now.who.now) asked.entry.request.now
-        asked.entry.subentries base.now))) }
+        (replies_at (view_in (D.rows asking.now.dir.now) asking.now.who.now) asked.entry.request.now
+        asked.entry.subentries base.now)) }
     ensures kept { Extends out.old.items out.new.items }
 {
     let filter = prepare_filter(alloc, &asked.request.filter)?;
@@ -85,44 +116,7 @@ fn put_from<D: Dir>(
         filter: &filter,
         selection,
     };
-    put_selected(alloc, asking, &search, base, number, out)
-}
-
-// Appends that the base is hidden.
-fn put_hidden<D: Dir>(
-    alloc: Global,
-    asking: &Asking<'_, D>,
-    asked: Asked<'_>,
-    base: &Dn,
-    out: &mut Vec<u8>,
-) -> Result<(), NoMemory>
-    ensures ok { OnOk result (out.new.items ≡ out.old.items ++ replies_octets asked.entry.id
-        (reply.Done (hidden (view_in (D.rows asking.now.dir.now) asking.now.who.now) base.now) ∷ [])) }
-    ensures kept { Extends out.old.items out.new.items }
-{
-    let ended = hidden(alloc, asking, base)?;
-    put_done(asked.id, ended, out)
-}
-
-// Appends the replies to a search of a name.
-fn put_at<D: Dir>(
-    alloc: Global,
-    asking: &Asking<'_, D>,
-    asked: Asked<'_>,
-    base: &Dn,
-    out: &mut Vec<u8>,
-) -> Result<(), NoMemory>
-    ensures ok { OnOk result (out.new.items ≡ out.old.items ++ replies_octets asked.entry.id
-        (replies_at (view_in (D.rows asking.now.dir.now) asking.now.who.now) asked.entry.request.now
-        asked.entry.subentries base.now)) }
-    ensures kept { Extends out.old.items out.new.items }
-{
-    let tree = asking.dir.tree();
-    tree.entries_form_a_tree();
-    match tree.find(base) {
-        Some(number) => put_from(alloc, asking, asked, base, number, out),
-        None => put_hidden(alloc, asking, asked, base, out),
-    }
+    put_at(alloc, asking, &search, base, out)
 }
 
 // Appends the root DSE, if the search finds it.
@@ -180,7 +174,7 @@ fn put_named<D: Dir>(
     if base.len() == 0 {
         return put_root_replies(alloc, asking, asked, out);
     }
-    put_at(alloc, asking, asked, base, out)
+    put_prepared(alloc, asking, asked, base, out)
 }
 
 // Appends the replies to a search, the groups of whose requester are known.

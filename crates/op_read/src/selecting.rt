@@ -35,13 +35,13 @@ pub(crate) fn is_seen(scope: u8, subentries: Option<bool>, entry: &Entry) -> boo
     }
 }
 
-/// Whether the entry matches the filter, may be browsed, and its name may be returned. What asks for the fewest
-/// decisions is asked first: of most entries the filter says at once that they don't match.
+/// Whether the entry may be browsed, matches the filter, and its name may be returned. The filter works on no entry that may
+/// not be browsed, so that such an entry takes as long as its decision, whatever the filter.
 pub(crate) fn is_found<D: Dir>(filter: &Prepared<'_>, seen: &Seen<'_, D>) -> bool
     ensures exact { result ≡ is_found filter.now
         (row_in (D.rows seen.now.dir.now) seen.now.who.now seen.now.entry.now) }
 {
-    is_true(filter, seen.entry, seen)
-        && seen.allows(Item::Entry, Permission::Browse)
+    seen.allows(Item::Entry, Permission::Browse)
+        && is_true(filter, seen.entry, seen)
         && seen.allows(Item::Entry, Permission::ReturnDn)
 }

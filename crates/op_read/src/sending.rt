@@ -18,9 +18,8 @@ use crate::seen::Seen;
 use crate::selecting::{is_found, is_seen, scope_of};
 use dir_tree::dn_names::Dn;
 use dir_tree::{EntryNo, NoMemory};
+use directory::{Asking, Dir, discloses, no_such_object, result_of};
 use ldap_msg::{LdapResult, Reply, ResultCode, SearchRequest, put_reply};
-use directory::Dir;
-use directory::{Asking, discloses, no_such_object, result_of};
 use read_model::filter_match::Prepared;
 use std::alloc::Global;
 

@@ -6,8 +6,7 @@ ghost use Rattle.session_model.specs.Run.{Step, run};
 ghost use Rattle.session_hub.specs.Parties.{DirectoryEntries};
 ghost use Rattle.session_hub.specs.Answering.{rules};
 
-use change_laws::laws::a_good_tree_stays_good_when_changed;
-use change_laws::laws::a_good_tree_stays_good;
+use change_laws::laws::{a_good_tree_stays_good, a_good_tree_stays_good_when_changed};
 
 /// What sessions leave of a good tree is a good tree, whatever is asked, by whom and in which order.
 pub fn sessions_keep_a_directory_good()

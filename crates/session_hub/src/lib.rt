@@ -26,5 +26,5 @@ pub use alike::{other_sessions_do_not_show, runs_over_twins_are_alike, twins_are
 pub use ended::Ended;
 pub use event::Event;
 pub use hub::{Hub, MAX_CONNECTIONS};
-pub use session_model;
 pub use serve::{BUFFER_LENGTH, serve_loop};
+pub use session_model;

@@ -19,9 +19,9 @@ use crate::controls::{is_refused, subentries_asked};
 use crate::requester::anonymous;
 use crate::results::result_of;
 use crate::simple::simple_bind;
-use change_laws::laws::a_refused_change_leaves_the_entries;
-use change_laws::op_modify::{modify, rename};
+use change_laws::laws::{a_refusal_leaves_the_entries, a_refused_change_leaves_the_entries};
 use change_laws::op_add_delete::{add, delete};
+use change_laws::op_modify::{modify, rename};
 use op_read::acdf_filters::Requester;
 use op_read::directory::Dir;
 use op_read::{compare, search};
@@ -30,7 +30,6 @@ use session_model::ldap_msg::{
     SearchRequest, put_notice, put_reply, read_request,
 };
 use std::alloc::{AllocError, Global};
-use change_laws::laws::a_refusal_leaves_the_entries;
 
 fn response_to(request: &Request, ended: LdapResult) -> Option<Reply>
     ensures { result ≡ response_of request.now ended }

@@ -6,8 +6,8 @@ ghost use Rattle.gser_tree.specs.Reading.{Reads};
 ghost use Rattle.subtree_spec.specs.Parts.{name, name_of, is_oid, oid};
 
 use dn_names::{BadName, Dn, parse};
-use gser_core::Cursor;
-use gser_tree::{Bad, Part, Stop, Tree, ends};
+use gser_tree::{Bad, Part, Stop, Tree};
+use schema_tables::{is_dotted_oid, is_keystring};
 use std::alloc::{AllocError, Global};
 
 /// The name of no RDN.
@@ -49,15 +49,11 @@ pub fn name(alloc: Global, tree: &Tree, bad: &mut Bad) -> Result<Dn, Stop>
     }
 }
 
-/// Whether a text is a descriptor or a dotted object identifier (RFC 3641 section 3.5): the cursor takes it whole as one.
+/// Whether a text is a dotted object identifier or a descriptor (RFC 3641 section 3.5).
 pub fn is_oid(text: &str) -> bool
     ensures exact { result ≡ is_oid text.now }
 {
-    let mut cursor = Cursor::new(text);
-    match cursor.oid() {
-        Ok(_) => ends(&cursor),
-        Err(_) => false,
-    }
+    is_dotted_oid(text.as_bytes()) || is_keystring(text.as_bytes())
 }
 
 /// A word that is a descriptor or a dotted object identifier.

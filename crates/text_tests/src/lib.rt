@@ -3,8 +3,8 @@
 #![tactic(auto)]
 
 #[cfg(test)]
-mod cursors;
-#[cfg(test)]
 mod items;
+#[cfg(test)]
+mod parts;
 #[cfg(test)]
 mod subtrees;

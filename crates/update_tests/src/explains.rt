@@ -3,8 +3,7 @@
 use crate::changes::{Changes, ask_modify, directory};
 use crate::shop::{ANN, BEN, SHOP};
 use aci_index::IndexedDir;
-use explanation::explain_text;
-use explanation::read_question;
+use explanation::{explain_text, read_question};
 use std::alloc::Global;
 use std::process::Abort;
 use std::test::Fail;

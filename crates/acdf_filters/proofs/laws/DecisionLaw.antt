@@ -8,7 +8,7 @@ use Rattle.acdf_filters.specs.declared.standing.Standing.{Standing}
 use Rattle.acdf_filters.specs.Asking.{Asked}
 use Rattle.acdf_filters.specs.users.Choices.{least, is_filled}
 use Rattle.acdf_filters.specs.Covering.{covers}
-use Rattle.acdf_filters.specs.Filters.{Placed, stays, has_permission, level_3, decided}
+use Rattle.acdf_filters.specs.Filters.{Placed, stays, has_permission, left_by_permission, decided}
 use Rattle.acdf_filters.specs.Granted.{placed}
 use Rattle.acdf_filters.specs.Standing as generic
 use Rattle.acdf_filters.specs.Standing.{initial, standing}
@@ -27,8 +27,8 @@ abbrev passes_all : Asked → Placed → Bool
 passes_all asked x = passes asked x.listed.tuple x.ranks
 
 -- the first three filters are one test
-level_3-passes : (asked : Asked) (xs : List Placed) → filter (passes_all asked) xs ≡ level_3 asked xs
-level_3-passes asked xs =
+left_by_permission-passes : (asked : Asked) (xs : List Placed) → filter (passes_all asked) xs ≡ left_by_permission asked xs
+left_by_permission-passes asked xs =
     sym (filter-filter (λ x. has_permission asked.permission x.listed.tuple) (λ x. stays asked.who.level x.listed.tuple x.ranks && covers asked.who.name asked.item x.listed.tuple.items) xs)
     ∙ ap (filter (λ x. has_permission asked.permission x.listed.tuple))
     (sym (filter-filter (λ x. covers asked.who.name asked.item x.listed.tuple.items) (λ x. stays asked.who.level x.listed.tuple x.ranks) xs))
@@ -42,7 +42,7 @@ fold-same : {A B : Type 0} (f g : B → A → B) → ((b : B) (x : A) → f b x 
 fold-same f g h b [] = refl
 fold-same f g h b (x ∷ xs) = fold-same f g h (f b x) xs ∙ ap (λ c. fold g c xs) (h b x)
 
-granted_state : (asked : Asked) (xs : List Placed) → is_granted (standing (keys_of asked) (level_3 asked xs)) ≡ decided asked xs
+granted_state : (asked : Asked) (xs : List Placed) → is_granted (standing (keys_of asked) (left_by_permission asked xs)) ≡ decided asked xs
 unfolding decided
 granted_state asked xs = refl
 
@@ -50,7 +50,7 @@ decided-placed : (asked : Asked) (xs : List Placed) → is_granted (fold (λ (se
 decided-placed asked xs =
     ap is_granted (fold-same (λ (seen : Standing) (x : Placed). weighed asked seen x.listed.tuple x.ranks) (generic.weighed (keys_of asked) (passes_all asked)) (by_keys asked) initial xs
     ∙ fold-weighed (keys_of asked) (passes_all asked) (λ x. least-within (if is_filled x.ranks then x.ranks else listed_ranks x.listed.tuple.classes)) xs
-    ∙ ap (standing (keys_of asked)) (level_3-passes asked xs))
+    ∙ ap (standing (keys_of asked)) (left_by_permission-passes asked xs))
     ∙ granted_state asked xs
 
 -- the tuples alone, of which the place says the ranks

@@ -1,8 +1,6 @@
--- The last three filters of the decision (X.501 18.8.4), and what is decided of the tuples that they leave. The filters
--- ask of a tuple what its keys say.
-use Rattle.std.specs.Prelude.{ℕ, Bool, ◌&&◌, List}
-use Rattle.std.specs.List.{list_all}
-use Rattle.acdf_filters.specs.users.Choices.{highest, lowest, passing_or_all, is_filled}
+-- The last three filters of the decision (X.501 18.8.4), which ask of a tuple what its keys say.
+use Rattle.std.specs.Prelude.{ℕ, Bool, List}
+use Rattle.acdf_filters.specs.users.Choices.{highest, lowest, passing_or_all}
 
 -- what is asked of a tuple: its precedence, how specific the class is by which it stays, whether it names the item
 -- explicitly, and whether it grants
@@ -23,7 +21,3 @@ of_most_specific_class keys xs = lowest keys.rank (of_highest_precedence keys xs
 -- those that name the item explicitly, if any does
 abbrev pub of_most_specific_item : {A : Type 0} → Keys A → List A → List A
 of_most_specific_item keys xs = passing_or_all keys.explicit (of_most_specific_class keys xs)
-
--- access is granted where at least one is left and all that are left grant
-abbrev pub is_granted_by : {A : Type 0} → Keys A → List A → Bool
-is_granted_by keys xs = is_filled xs && list_all keys.grants xs

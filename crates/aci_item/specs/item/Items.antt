@@ -14,7 +14,7 @@ pub record UserClasses : Type 0 where
   pub subtrees : List Subtree
 
 -- ProtectedItems ::= SEQUENCE { entry, allUserAttributeTypes, attributeType, allAttributeValues,
--- allUserAttributeTypesAndValues, attributeValue, selfValue }, of X.501's twelve
+-- allUserAttributeTypesAndValues, attributeValue, selfValue }, of X.501's thirteen
 pub record ProtectedItems : Type 0 where
   pub entry : Bool
   pub all_kinds : Bool

@@ -1,22 +1,14 @@
--- Tables of refusals: what the first part of one says of the whole, and what is known where no row applies.
-use Rattle.std.proofs.Common.{◌≡◌, ℕ, false, not, ◌&&◌, map, List, [], ◌∷◌, ◌++◌, Option, Some, None, Result, Ok, refl, sym, ap, ◌∙◌}
-use Rattle.std.proofs.lemmas.Bool.{or_from}
+-- Tables of refusals: what the first part of one says of the whole.
+use Rattle.std.proofs.Common.{◌≡◌, ℕ, false, map, List, [], ◌∷◌, ◌++◌, Option, Some, None, Result, Ok, refl, ap, ◌∙◌}
 use Rattle.ldap_msg.specs.plain_values.Answers.{IsFaultOf}
 use Rattle.ldap_msg.specs.plain_values.Results.{◌>>=◌}
 use Rattle.dir_tree.specs.dn_names.name.Names.{Keyed}
-use Rattle.dir_tree.specs.Entry.{EntryInformation, has_key}
-use Rattle.acdf_filters.specs.Asking.{Kind, Value}
-use Rattle.acdf_filters.specs.aci_item.declared.permission.Permission.TheVariants.{Add}
+use Rattle.dir_tree.specs.Entry.{EntryInformation}
 use Rattle.ldap_msg.specs.declared.operations.ResultCode.{ResultCode}
-use Rattle.ldap_msg.specs.declared.operations.ResultCode.TheVariants as code
-use Rattle.entry_changes.specs.declared.kind.ChangeKind.{ChangeKind}
-use Rattle.entry_changes.specs.declared.kind.ChangeKind.TheVariants as change_kind
 use Rattle.entry_changes.specs.declared.fault.ChangeFault.{ChangeFault}
 use Rattle.entry_changes.specs.declared.fault.ChangeFault.TheVariants as fault
-use Rattle.ldap_msg.specs.plain_values.Refusals.{when, first_some}
-use Rattle.ldap_msg.proofs.plain_values_proofs.Theorems.{not_when}
-use Rattle.entry_changes.specs.Change.{Asks, Modification, are_none, exists_already, add_value_refusal, add_refusal, delete_value_refusal, delete_refusal, refusal_by, change_refusal, changed, changed_by, cause_of}
-use Rattle.entry_changes.specs.Effects.{has_any_key, IsAdmitted}
+use Rattle.ldap_msg.specs.plain_values.Refusals.{first_some}
+use Rattle.entry_changes.specs.Change.{Asks, Modification, are_none, delete_value_refusal, delete_refusal, changed, changed_by, cause_of}
 
 -- ---- two tables, one behind the other
 
@@ -29,45 +21,6 @@ pub first_some-open : {A : Type 0} (rows more : List (Option A)) → None ≡ fi
 first_some-open [] more e = refl
 first_some-open (None ∷ rows) more e = first_some-open rows more e
 first_some-open (Some other ∷ rows) more e = absurd cc
-
--- no row behind the first applies, where none does
-none-later : {A : Type 0} (row : Option A) (rows : List (Option A)) → first_some (row ∷ rows) ≡ None → first_some rows ≡ None
-none-later None rows e = e
-none-later (Some refusal) rows e = absurd cc
-
-none-first : {A : Type 0} (row : Option A) (rows : List (Option A)) → first_some (row ∷ rows) ≡ None → row ≡ None
-none-first None rows e = refl
-none-first (Some refusal) rows e = absurd cc
-
--- ---- adds
-
--- a value that is added is not there
-new-value : (asks : Asks) (kind : ℕ) (old : List Keyed) (value : Keyed) → add_value_refusal asks kind old value ≡ None → has_key value.key old ≡ false
-new-value asks kind old value e =
-    not_when (has_key value.key old) (exists_already asks kind value)
-    (none-first (when (has_key value.key old) (exists_already asks kind value)) (when (not (asks (Value kind value) Add)) code.InsufficientAccessRights ∷ []) e)
-
-new-values : (asks : Asks) (kind : ℕ) (old values : List Keyed) → first_some (map (add_value_refusal asks kind old) values) ≡ None → has_any_key values old ≡ false
-new-values asks kind old [] e = refl
-new-values asks kind old (value ∷ rest) e =
-    or_from (has_key value.key old) (has_any_key rest old)
-    (new-value asks kind old value (none-first (add_value_refusal asks kind old value) (map (add_value_refusal asks kind old) rest) e))
-    (new-values asks kind old rest (none-later (add_value_refusal asks kind old value) (map (add_value_refusal asks kind old) rest) e))
-
-new-added : (asks : Asks) (kind : ℕ) (old values : List Keyed) → add_refusal asks kind old values ≡ None → has_any_key values old ≡ false
-unfolding add_refusal
-new-added asks kind old values e =
-    new-values asks kind old values
-    (none-later (when (are_none old && not (asks (Kind kind) Add)) code.InsufficientAccessRights) (map (add_value_refusal asks kind old) values) e)
-
--- what is made was not refused
-pub admitted : (asks : Asks) (change : Modification) (old : List Keyed) → None ≡ change_refusal asks change old → IsAdmitted change.change old change.values
-admitted asks change old e = by change.change (sym e)
-  where
-    by : (kind : ChangeKind) → refusal_by kind asks change.kind old change.values ≡ None → IsAdmitted kind old change.values
-    by change_kind.Add none = new-added asks change.kind old change.values none
-    by change_kind.Delete none = tt
-    by change_kind.Replace none = tt
 
 -- ---- deletes
 

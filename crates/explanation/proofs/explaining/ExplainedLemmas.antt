@@ -5,7 +5,7 @@ use Rattle.dir_tree.specs.Entry.{EntryInformation}
 use Rattle.dir_tree.specs.tree.Numbered.{Numbered, entries_of}
 use Rattle.acdf_filters.specs.Asking.{Asked, protected_of}
 use Rattle.acdf_filters.specs.users.Choices.{is_filled}
-use Rattle.acdf_filters.specs.Filters.{Placed, level_1, level_2, level_3, level_4, level_5, level_6, decided}
+use Rattle.acdf_filters.specs.Filters.{Placed, left_by_users, left_by_item, left_by_permission, left_by_precedence, left_by_class, left_by_explicit, decided}
 use Rattle.acdf_filters.specs.Tuples.{Listed, tuples_of}
 use Rattle.acdf_filters.specs.Granted.{placed_of, granted}
 use Rattle.acdf_filters.specs.weighing.Weighing.{asked_of, asked_ranks}
@@ -25,7 +25,7 @@ facts_in x = x.facts
 
 -- what the last filter leaves
 same_deciding : (rows : List Numbered) (asked : Asked) (cs : List Candidate) (xs : List Placed) → described_all rows cs ≡ map (described asked) xs
-    → described_all rows (deciding (λ one. one.facts) cs) ≡ map (described asked) (level_6 asked xs)
+    → described_all rows (deciding (λ one. one.facts) cs) ≡ map (described asked) (left_by_explicit asked xs)
 same_deciding rows asked cs xs e =
     deciding-mapped (described_at rows) facts_in cs ∙ ap (deciding facts_in) e ∙ sym (deciding-mapped (described asked) facts_in xs)
 
@@ -37,17 +37,17 @@ counts-counted rows asked cs xs counts e h =
     let of = described asked in
     record {
       listed = h.listed ∙ same_length at of cs xs e;
-      users = h.users ∙ same_length at of (staying (λ one. one.facts) cs) (level_1 asked xs)
+      users = h.users ∙ same_length at of (staying (λ one. one.facts) cs) (left_by_users asked xs)
           (staying-mapped at facts_in cs ∙ ap (staying facts_in) e ∙ sym (staying-mapped of facts_in xs));
-      item = h.item ∙ same_length at of (covering (λ one. one.facts) cs) (level_2 asked xs)
+      item = h.item ∙ same_length at of (covering (λ one. one.facts) cs) (left_by_item asked xs)
           (covering-mapped at facts_in cs ∙ ap (covering facts_in) e ∙ sym (covering-mapped of facts_in xs));
-      permission = h.permission ∙ same_length at of (permitted (λ one. one.facts) cs) (level_3 asked xs)
+      permission = h.permission ∙ same_length at of (permitted (λ one. one.facts) cs) (left_by_permission asked xs)
           (permitted-mapped at facts_in cs ∙ ap (permitted facts_in) e ∙ sym (permitted-mapped of facts_in xs));
-      precedence = h.precedence ∙ same_length at of (foremost (λ one. one.facts) cs) (level_4 asked xs)
+      precedence = h.precedence ∙ same_length at of (foremost (λ one. one.facts) cs) (left_by_precedence asked xs)
           (foremost-mapped at facts_in cs ∙ ap (foremost facts_in) e ∙ sym (foremost-mapped of facts_in xs));
-      class = h.class ∙ same_length at of (most_specific (λ one. one.facts) cs) (level_5 asked xs)
+      class = h.class ∙ same_length at of (most_specific (λ one. one.facts) cs) (left_by_class asked xs)
           (most_specific-mapped at facts_in cs ∙ ap (most_specific facts_in) e ∙ sym (most_specific-mapped of facts_in xs));
-      explicit = h.explicit ∙ same_length at of (deciding (λ one. one.facts) cs) (level_6 asked xs) (same_deciding rows asked cs xs e);
+      explicit = h.explicit ∙ same_length at of (deciding (λ one. one.facts) cs) (left_by_explicit asked xs) (same_deciding rows asked cs xs e);
     }
 
 -- what is said of those that are left
@@ -90,6 +90,6 @@ explained question cs steps listed counted kept allowed =
     let left = deciding (λ (one : Candidate). one.facts) cs in
     record {
       counts = counts-counted rows asked cs xs steps.counts same counted;
-      kept = ap (map (kept_at rows)) kept ∙ kept-said rows asked left (level_6 asked xs) last;
-      granted = allowed ∙ ap all_grant kept ∙ granted-said rows asked left (level_6 asked xs) last;
+      kept = ap (map (kept_at rows)) kept ∙ kept-said rows asked left (left_by_explicit asked xs) last;
+      granted = allowed ∙ ap all_grant kept ∙ granted-said rows asked left (left_by_explicit asked xs) last;
     }

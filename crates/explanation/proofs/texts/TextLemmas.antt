@@ -13,7 +13,7 @@ use Rattle.acdf_filters.specs.admin_scope.InForce.{in_force}
 use Rattle.acdf_filters.specs.aci_item.declared.permission.Permission.{Permission}
 use Rattle.acdf_filters.specs.declared.asking.Requester.{Requester}
 use Rattle.acdf_filters.specs.Asking.{Protected, Asked}
-use Rattle.acdf_filters.specs.Filters.{level_6}
+use Rattle.acdf_filters.specs.Filters.{left_by_explicit}
 use Rattle.acdf_filters.specs.Granted.{placed_of}
 use Rattle.explanation.specs.declared.steps.Counts.{Counts}
 use Rattle.explanation.specs.declared.steps.Steps.{Steps}
@@ -57,7 +57,7 @@ text-said rows entry asked steps subentries text with_subentries with_counts wit
     ∙ append_assoc (a ++ b) c d
     ∙ append_assoc a b (c ++ d)
     ∙ ap (λ xs. a ++ (b ++ (flat_map kept_line xs ++ d))) is.kept
-    ∙ ap (λ g. a ++ (b ++ (flat_map kept_line (map kept_of (level_6 asked (placed_of (entries_of rows) asked.who entry))) ++ outcome_line g))) is.granted
+    ∙ ap (λ g. a ++ (b ++ (flat_map kept_line (map kept_of (left_by_explicit asked (placed_of (entries_of rows) asked.who entry))) ++ outcome_line g))) is.granted
 
 -- nothing is written of the name of an entry that is not there
 pub print_name-none : (rows : List Numbered) (id : ℕ) → entry_of id rows ≡ None → print_name (name_at rows id) ≡ []

@@ -2,7 +2,7 @@
 use Rattle.std.proofs.Common.{◌≡◌, ℕ, ◌+◌, suc, List, [], ◌∷◌, ◌++◌, length, true, refl, sym, ap, ◌∙◌, arith}
 use Rattle.std.specs.Prelude.{Option, Some, None, option_map, option_and_then, flat_map}
 use Rattle.std.proofs.lemmas.Bool.{and_from}
-use Rattle.gser_core.specs.cursor.Productions.{doubled}
+use Rattle.gser_tree.specs.Strings.{doubled}
 use Rattle.gser_tree.specs.declared.marks.Mark.{Mark}
 use Rattle.gser_tree.specs.declared.marks.Mark.TheVariants.{Open, Close, Comma, Colon}
 use Rattle.gser_tree.specs.declared.marks.Class.{Class}

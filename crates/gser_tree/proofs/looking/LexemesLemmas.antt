@@ -2,7 +2,7 @@
 use Rattle.std.proofs.Common.{◌≡◌, ℕ, ◌+◌, suc, List, [], ◌∷◌, ◌++◌, length, Bool, true, false, refl, sym, ap, ◌∙◌, append_assoc, length-append, arith}
 use Rattle.std.specs.Prelude.{Option, Some, None, option_map, option_and_then, flat_map, if◌then◌else◌}
 use Rattle.std.specs.Str.{is_utf8}
-use Rattle.gser_core.specs.cursor.Productions.{doubled}
+use Rattle.gser_tree.specs.Strings.{doubled}
 use Rattle.gser_tree.specs.declared.marks.Class.{Class}
 use Rattle.gser_tree.specs.declared.marks.Class.TheVariants.{Blank, Letter, Quote, Sign, Other}
 use Rattle.gser_tree.specs.declared.part.Part.{Part}

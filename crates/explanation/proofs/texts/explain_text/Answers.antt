@@ -2,7 +2,7 @@
 use Rattle.std.proofs.Common.{◌≡◌, List, ℕ, subst}
 use Rattle.std.specs.Prelude.{string_bytes, IfOk}
 use Rattle.explanation.proofs.texts.TextLemmas.{same_item}
-use Rattle.explanation.proofs.texts.explanation.Goals as goal
+use Rattle.explanation.proofs.texts.explain_text.Goals as goal
 
 pub returns : goal.returns
 returns g c = record {

@@ -11,12 +11,12 @@ pub returns-in-Some-clause-ok : goal.returns-in-Some-clause-ok
 returns-in-Some-clause-ok g c =
     let rows = g.D.Dir.rows c.args.asking.now.dir.now in
     let found = name-found c.tree-tree.result.now rows c.tree-tree.ensures.exact c.args.base.now c.find.result c.in-Some.number c.find.ensures.exact c.in-Some.is in
-    on_ok_weaker c.put_from.result
+    on_ok_weaker c.put_selected.result
     (λ put.
     put
-    ∙ ap (λ (replies : List Reply). c.args.out.now.items ++ replies_octets c.args.asked.id replies)
-    (replies-found rows c.args.asking.now.who.now c.args.asked.request.now c.args.asked.subentries c.args.base.now c.in-Some.number.0 found))
-    c.put_from.ensures.ok
+    ∙ ap (λ (replies : List Reply). c.args.out.now.items ++ replies_octets c.args.search.now.id replies)
+    (replies-found rows c.args.asking.now.who.now c.args.search.now.request.now c.args.search.now.subentries c.args.base.now c.in-Some.number.0 found))
+    c.put_selected.ensures.ok
 
 pub returns-in-None-clause-ok : goal.returns-in-None-clause-ok
 returns-in-None-clause-ok g c =
@@ -25,6 +25,6 @@ returns-in-None-clause-ok g c =
     on_ok_weaker c.put_hidden.result
     (λ put.
     put
-    ∙ ap (λ (replies : List Reply). c.args.out.now.items ++ replies_octets c.args.asked.id replies)
-    (replies-none rows c.args.asking.now.who.now c.args.asked.request.now c.args.asked.subentries c.args.base.now none))
+    ∙ ap (λ (replies : List Reply). c.args.out.now.items ++ replies_octets c.args.search.now.id replies)
+    (replies-none rows c.args.asking.now.who.now c.args.search.now.request.now c.args.search.now.subentries c.args.base.now none))
     c.put_hidden.ensures.ok

@@ -1,0 +1,16 @@
+pub mod SortedLemmas
+pub mod MembersLemmas
+pub mod SetPrints
+pub mod BitPrints
+pub mod PartPrints
+pub mod FlagPrints
+pub mod ClassPrints
+pub mod ProtectedPrints
+pub mod ItemPrints
+pub mod StringLemmas
+pub mod WrittenTexts
+pub mod OnlyLemmas
+pub mod PartOnly
+pub mod SubtreeOnly
+pub mod ItemOnly
+pub mod RoundTrip

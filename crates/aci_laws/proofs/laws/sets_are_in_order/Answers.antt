@@ -1,0 +1,25 @@
+-- Each set that is read is in order.
+use Rattle.subtree_spec.specs.SubtreePrinted.{print_subtree}
+use Rattle.aci_item.specs.members.ItemParts.{user, kind, kind_and_value, class_subtree}
+use Rattle.aci_item.specs.ItemPrinted.{print_user, print_kind, print_value, print_item_permission, print_user_permission}
+use Rattle.aci_item.specs.AciText.{item_permission, user_permission}
+use Rattle.aci_laws.proofs.laws.SortedLemmas.{set_is_sorted}
+use Rattle.aci_laws.proofs.laws.sets_are_in_order.Goals as goal
+
+pub returns-clause-users : goal.returns-clause-users
+returns-clause-users c = λ shape bad next values h. set_is_sorted print_user user shape values bad next h
+
+pub returns-clause-kinds : goal.returns-clause-kinds
+returns-clause-kinds c = λ shape bad next values h. set_is_sorted print_kind kind shape values bad next h
+
+pub returns-clause-values : goal.returns-clause-values
+returns-clause-values c = λ shape bad next values h. set_is_sorted print_value kind_and_value shape values bad next h
+
+pub returns-clause-subtrees : goal.returns-clause-subtrees
+returns-clause-subtrees c = λ shape bad next values h. set_is_sorted print_subtree class_subtree shape values bad next h
+
+pub returns-clause-item_permissions : goal.returns-clause-item_permissions
+returns-clause-item_permissions c = λ shape bad next values h. set_is_sorted print_item_permission item_permission shape values bad next h
+
+pub returns-clause-user_permissions : goal.returns-clause-user_permissions
+returns-clause-user_permissions c = λ shape bad next values h. set_is_sorted print_user_permission user_permission shape values bad next h
