@@ -208,9 +208,9 @@ def faults_of_modules(crate):
             yield f"{path.relative_to(CRATES)}: no module of code has that stem"
     for path in sorted(path for path in folder.glob("specs/*") if path.is_dir()):
         if path.name == "laws" or len(list(path.rglob("*.antt"))) < 2:
-            yield f"{path.relative_to(CRATES)}: a folder of definitions is of a module of code, and holds two files or more"
+            yield f"{path.relative_to(CRATES)}: a folder of definitions is of a module of code, and holds two or more"
     for path in sorted(folder.glob("specs/*.antt")):
-        if not path.stem.islower() and not re.fullmatch(r"[A-Z][A-Za-z]*", path.stem):
+        if not path.with_suffix("").is_dir() and not re.fullmatch(r"[A-Z][A-Za-z]*", path.stem):
             yield f"{path.relative_to(CRATES)}: no name of a concept"
     concepts = {path.stem for path in folder.glob("specs/[A-Z]*.antt")} - {"Lib"}
     alone = {module for module in concepts if stem(module) not in code}
@@ -241,9 +241,12 @@ def faults_of_imports(crate, named):
     for path, _kind, chain, _rest, _words in imports(crate, named):
         firsts.add(chain[0])
         for before, other in zip([crate, *chain], chain):
-            passes = other in below if before == crate else other in handed_on(before) or other in below
-            if other not in (before, crate) and not passes:
-                yield f"{path.relative_to(CRATES)} takes {other} through {before}, which does not hand it on"
+            if other in (before, crate) or other in below:
+                continue
+            if before == crate:
+                yield f"{path.relative_to(CRATES)} takes {other}, which {crate} does not name"
+            elif other not in handed_on(before):
+                yield f"{path.relative_to(CRATES)} takes {other} of {before}, which does not hand it on"
     yield from (f"{crate} names {other}, of which it imports nothing" for other in below if other not in firsts)
 
 
@@ -271,9 +274,12 @@ def faults_of_front(names):
     if len(text.encode()) > MOST_OCTETS:
         yield f"{len(text.encode())} octets"
     for line in text.split("## What it promises")[1].split("\n## ")[0].splitlines():
-        for words in re.findall(r"\(([^()]*`[^()]*)\)", line):
+        for words in "; ".join(re.findall(r"\(([^()]*`[^()]*)\)", line)).split("; "):
             files = [word for word in quoted(words) if "/" in word]
-            yield from ("no file " + word for word in files if not (CRATES / word).exists())
+            code = "".join((CRATES / word).read_text() for word in files if (CRATES / word).is_file())
+            yield from ("no file " + word for word in files if not (CRATES / word).is_file())
+            yield from (f"{word} stands in none of its files" for name in quoted(words) if name not in files
+                        for word in name.split("::") if not re.search(rf"\b{word}\b", code))
             yield from faults_of_calls(names, " ".join(f"`{word}`" for word in quoted(words) if word not in files))
 
 

@@ -73,7 +73,7 @@ def paths_of_words(text):
 
 
 def imports(crate, crates):
-    """Each import of a crate's sources: its file, its kind, the crates that its path goes through, the rest, and the words."""
+    """Each import of a crate: its file, its kind, the crates that its path goes through, the rest, and the words."""
     for path in sorted((CRATES / crate).rglob("*.rt")) + sorted((CRATES / crate).rglob("*.antt")):
         if path.relative_to(CRATES / crate).parts[0] not in ("src", "specs", "proofs"):
             continue
