@@ -18,4 +18,4 @@ pub use kinds::{AttrId, ClassId, ClassKind, Row, Syntax};
 pub use naming::is_keystring;
 pub use numbers::constants_are_rows;
 pub use oids::{is_dotted_oid, oid_of};
-pub use superclasses::{Superclasses, is_or_above, with_superclasses};
+pub use superclasses::is_or_above;

@@ -54,13 +54,6 @@ with_superclasses-first (suc number) =
     (same_above (suc number) number (superior_of (suc number)) (classes_up number) with_superclasses refl
     (omega arith) (λ superior fits below. classes_up-enough number superior superior fits (omega arith)))
 
--- the walk from a superior on, as a call answers it
-pub above_is :
-    (found : Option ClassId) (number : Option ℕ) → option_map (λ class. class.0) found ≡ number
-    → option_map_or (λ class. with_superclasses class.0) found [] ≡ option_map_or with_superclasses number []
-above_is None number is = ap (λ above. option_map_or with_superclasses above []) is
-above_is (Some class) number is = ap (λ above. option_map_or with_superclasses above []) is
-
 -- where a test fails at the class, the superclasses decide
 pub list_any-above :
     (test : ℕ → Bool) (number : ℕ) (found : Option ℕ) → test number ≡ false → found ≡ superior_of number
