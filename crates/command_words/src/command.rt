@@ -1,7 +1,7 @@
 //! The commands, and the words that ask for them.
 
 ghost use Rattle.std.specs.Prelude.{◌≡◌, ◌∷◌, map, option_map, string_bytes, Some, IfOk, IfSome};
-ghost use Rattle.command_words.specs.command.Command.{CommandView, IsCommand, view};
+ghost use Rattle.command_words.specs.command.Command.{CommandView, IsCommand, view, limit_range};
 ghost use Rattle.command_words.specs.Number.{number_said};
 ghost use Rattle.command_words.specs.parser.Parser.{kept_in, kept_text};
 ghost use Rattle.command_words.specs.parser.Asked.{IsRead, IsReading, kept_said, said_by};
@@ -64,7 +64,7 @@ pub struct Serving<'a> {
     /// After how many seconds of silence a connection ends, at most 4,294,967,295; 0: never.
     pub idle: u64,
     /// How many entries one search is given at most, at most 2,147,483,647; 0: all.
-    pub limit: u64,
+    pub limit: u32,
 }
 
 /// What the words of the program ask for. Its texts are parts of the words.
@@ -191,6 +191,14 @@ fn read_number(matches: &ArgMatches<'_>, name: OptionName, range: NumberRange) -
     number_said(range, kept_text(matches, Sought::Arguments(name), 0))
 }
 
+/// The number that `--limit` says.
+fn read_limit(matches: &ArgMatches<'_>) -> Option<u32>
+    ensures { result ≡ number_said limit_range (kept_text (kept_in matches.now (Sought.Arguments OptionName.Limit)) 0) }
+{
+    let limit = read_number(matches, OptionName::Limit, LIMIT)?;
+    Some(limit as u32)
+}
+
 #[tactic(auto, unfolding(crate::specs::parser::Asked::command_said))]
 fn read_serve<'a>(matches: &ArgMatches<'a>) -> Option<Command<'a>>
     ensures { option_map view result ≡ kept_said CommandName.Serve (kept_in matches.now) }
@@ -205,7 +213,7 @@ fn read_serve<'a>(matches: &ArgMatches<'a>) -> Option<Command<'a>>
         turns: read_number(matches, OptionName::Turns, TURNS)?,
         queues: read_number(matches, OptionName::Queues, QUEUES)?,
         idle: read_number(matches, OptionName::Idle, IDLE)?,
-        limit: read_number(matches, OptionName::Limit, LIMIT)?,
+        limit: read_limit(matches)?,
     }))
 }
 

@@ -93,3 +93,8 @@ pub number_said-complete : (range : NumberRange) (texts : List (List ℕ)) (valu
 number_said-complete range [] value says = rw says refl
 number_said-complete range (text ∷ []) value says = number_within-complete 20 range.least range.greatest text value says
 number_said-complete range (text ∷ again ∷ more) value says = absurd says
+
+-- a number that is said is within the range
+pub number_said-within : (range : NumberRange) (text : Option (List ℕ)) (value : ℕ) → range.absent ≤ range.greatest → number_said range text ≡ Some value → value ≤ range.greatest
+number_said-within range None value within given = subst (λ number. number ≤ range.greatest) (same_Some range.absent value given) within
+number_said-within range (Some text) value within given = (number_within-sound 20 range.least range.greatest text value given).stays_below
