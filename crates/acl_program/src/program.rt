@@ -35,8 +35,8 @@ use std::alloc::Global;
 ///
 /// `serve DATA ADDRESS [--sessions N] [--turns N] [--queues MIB] [--idle SECONDS] [--limit N]` loads the data file, tells
 /// the link after how many seconds of silence a connection ends, opens it at the address, puts `listening ADDRESS`, and
-/// serves the link's connections until it gives Stop, at most as many events as turns; their queues are cut where they
-/// would have more than so many MiB together, and no search is given more than so many entries. Where the link fails it
+/// serves the link's connections until it gives Stop, at most as many events as turns. No search is given more than so many
+/// entries, and a connection is closed that leaves untaken more than is left of so many MiB for all. Where the link fails it
 /// puts `link fault`, and where the turns are spent `turns spent`. Other words put a line on how to call the program.
 ///
 /// The data file is read before the script. A file that isn't there, or that the shelf can't read, puts `data fault`; a
