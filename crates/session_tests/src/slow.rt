@@ -6,7 +6,7 @@ ghost use Rattle.wire_io.specs.script_text.script.Script.{OpensOnce, AreFilled};
 use crate::messages::{BIND, BOUND};
 use aci_index::IndexedDir;
 use dir_tree::Tree;
-use session_hub::{Ended, serve_loop};
+use session_hub::{Bounds, Ended, serve_loop};
 use std::alloc::{AllocError, Global};
 use std::test::Fail;
 use wire_io::plain_values::Octets;
@@ -61,7 +61,7 @@ fn serve(alloc: Global, link: &mut ScriptLink) -> Ended {
     let Ok(mut dir) = IndexedDir::new(alloc, Tree::new(alloc)) else {
         return Ended::NoMemory;
     };
-    serve_loop(alloc, &mut dir, link, 100)
+    serve_loop(alloc, &mut dir, link, 100, Bounds::NONE)
 }
 
 #[test]
@@ -192,7 +192,7 @@ fn each_of_256_connections_is_answered_where_half_of_them_are_slow(
     let mut link = HalfSlow { given: 0, writes };
     let mut dir = IndexedDir::new(rt.alloc(), Tree::new(rt.alloc()))?;
     assert_eq!(rt;
-        serve_loop(rt.alloc(), &mut dir, &mut link, 2000),
+        serve_loop(rt.alloc(), &mut dir, &mut link, 2000, Bounds::NONE),
         Ended::Stopped
     );
     for (conn, writes) in link.writes.iter().enumerate() {

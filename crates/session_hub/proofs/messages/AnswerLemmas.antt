@@ -8,20 +8,20 @@ use Rattle.session_hub.specs.Answers.{Gives}
 use Rattle.session_hub.specs.Answering.{answer_read, rules}
 
 -- a message, or octets that are none, answered by the rules
-pub answered_as : {E : Type 0} (r : Result Bool E) (o : Option Message) (entries left : DirectoryEntries) (who after : Requester) (bytes old new : List ℕ) → message_of bytes ≡ o →
+pub answered_as : {E : Type 0} (limit : ℕ) (r : Result Bool E) (o : Option Message) (entries left : DirectoryEntries) (who after : Requester) (bytes old new : List ℕ) → message_of bytes ≡ o →
     IfOk r (λ closes. Gives (answer_read entries who o) old new left after closes) →
-    IfOk r (λ closes. Gives (rules.answer entries who bytes) old new left after closes)
+    IfOk r (λ closes. Gives ((rules limit).answer entries who bytes) old new left after closes)
 unfolding rules
-answered_as r o entries left who after bytes old new is h =
-    IfOk-weaker r (λ closes. Gives (answer_read entries who o) old new left after closes) (λ closes. Gives (rules.answer entries who bytes) old new left after closes)
+answered_as limit r o entries left who after bytes old new is h =
+    IfOk-weaker r (λ closes. Gives (answer_read entries who o) old new left after closes) (λ closes. Gives ((rules limit).answer entries who bytes) old new left after closes)
     (λ closes gives. subst (λ m. Gives (answer_read entries who m) old new left after closes) (sym is) gives) h
 
-pub refused_as : {E : Type 0} (r : Result Bool E) (entries : DirectoryEntries) (who : Requester) (bytes old new : List ℕ) → message_of bytes ≡ None →
+pub refused_as : {E : Type 0} (limit : ℕ) (r : Result Bool E) (entries : DirectoryEntries) (who : Requester) (bytes old new : List ℕ) → message_of bytes ≡ None →
     IfOk r (λ closes. (others : DirectoryEntries) (asks : Requester) → Gives (answer_read others asks None) old new others asks closes) →
-    IfOk r (λ closes. Gives (rules.answer entries who bytes) old new entries who closes)
+    IfOk r (λ closes. Gives ((rules limit).answer entries who bytes) old new entries who closes)
 unfolding rules
-refused_as r entries who bytes old new is h =
-    IfOk-weaker r (λ closes. (others : DirectoryEntries) (asks : Requester) → Gives (answer_read others asks None) old new others asks closes) (λ closes. Gives (rules.answer entries who bytes) old new entries who closes)
+refused_as limit r entries who bytes old new is h =
+    IfOk-weaker r (λ closes. (others : DirectoryEntries) (asks : Requester) → Gives (answer_read others asks None) old new others asks closes) (λ closes. Gives ((rules limit).answer entries who bytes) old new entries who closes)
     (λ closes gives. subst (λ m. Gives (answer_read entries who m) old new entries who closes) (sym is) (gives entries who)) h
 
 -- what holds anyway holds where there is a refusal

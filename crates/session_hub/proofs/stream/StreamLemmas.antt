@@ -38,15 +38,15 @@ said_closed : (a b : Answered DirectoryEntries Requester) → a.closes ≡ true 
 said_closed a b h = rw h refl
 
 -- nothing was answered yet
-pub so_far_start : (t : DirectoryEntries) (w : Requester) (stream old : List ℕ) → SaysSoFar t w stream old old t w 0 0
-so_far_start t w stream old =
+pub so_far_start : (limit : ℕ) (t : DirectoryEntries) (w : Requester) (stream old : List ℕ) → SaysSoFar limit t w stream old old t w 0 0
+so_far_start limit t w stream old =
     record {
       more = [];
       grows = sym (append-nil old);
       within = omega arith;
       counts = omega arith;
       rest = refl;
-      said = λ cut. ap (λ x. said_to x t w stream) (same cut);
+      said = λ cut. ap (λ x. said_to limit x t w stream) (same cut);
     }
   where
     same : (cut : Option ℕ) → behind 0 cut ≡ cut
@@ -54,12 +54,12 @@ so_far_start t w stream old =
     same (Some count) = ap (λ n. Some n) (omega arith)
 
 -- a message is answered, and the connection stays open
-pub so_far_whole : (t : DirectoryEntries) (w : Requester) (stream old now new : List ℕ) (u v : DirectoryEntries) (x y : Requester) (read answered n : ℕ) →
-    SaysSoFar t w stream old now u x read answered → frame_at (drop read stream) ≡ Whole n → Gives (rules.answer u x (take n (drop read stream))) now new v y false →
-    SaysSoFar t w stream old new v y (read + n) (answered + 1)
-so_far_whole t w stream old now new u v x y read answered n so is gives =
+pub so_far_whole : (limit : ℕ) (t : DirectoryEntries) (w : Requester) (stream old now new : List ℕ) (u v : DirectoryEntries) (x y : Requester) (read answered n : ℕ) →
+    SaysSoFar limit t w stream old now u x read answered → frame_at (drop read stream) ≡ Whole n → Gives ((rules limit).answer u x (take n (drop read stream))) now new v y false →
+    SaysSoFar limit t w stream old new v y (read + n) (answered + 1)
+so_far_whole limit t w stream old now new u v x y read answered n so is gives =
     let rest = drop read stream in
-    let a = rules.answer u x (take n rest) in
+    let a = (rules limit).answer u x (take n rest) in
     let some : 0 < n = message_some rest n is in
     record {
       more = so.more ++ a.replies;
@@ -68,11 +68,11 @@ so_far_whole t w stream old now new u v x y read answered n so is gives =
       counts = (let counts : answered ≤ read = so.counts in omega arith);
       rest = rest_fits stream read n so.rest is;
       said = λ cut. (
-          let b = said_to cut a.tree a.who (drop n rest) in
-          let c = said_to cut v y (drop (read + n) stream) in
-          let same : b ≡ c = ap (λ z. said_to cut z a.who (drop n rest)) (sym gives.left) ∙ ap (λ z. said_to cut v z (drop n rest)) (sym gives.asker) ∙ ap (said_to cut v y) (drop-drop n read stream) in
-          ap (λ z. said_to z t w stream) (behind_one answered cut) ∙ so.said (one_later cut)
-          ∙ ap (after_octets so.more) (speech-whole rules cut u x rest n is ∙ said_open a b (sym gives.closed))
+          let b = said_to limit cut a.tree a.who (drop n rest) in
+          let c = said_to limit cut v y (drop (read + n) stream) in
+          let same : b ≡ c = ap (λ z. said_to limit cut z a.who (drop n rest)) (sym gives.left) ∙ ap (λ z. said_to limit cut v z (drop n rest)) (sym gives.asker) ∙ ap (said_to limit cut v y) (drop-drop n read stream) in
+          ap (λ z. said_to limit z t w stream) (behind_one answered cut) ∙ so.said (one_later cut)
+          ∙ ap (after_octets so.more) (speech-whole (rules limit) cut u x rest n is ∙ said_open a b (sym gives.closed))
           ∙ ap (λ z. record { replies = z; tree = b.tree; who = b.who; closes = b.closes }) (sym (append_assoc so.more a.replies b.replies))
           ∙ ap (after_octets (so.more ++ a.replies)) same);
     }
@@ -85,15 +85,15 @@ given b all old now new more v y closes grows is gives =
     (record { said = gives.said ∙ ap (λ octets. octets ++ b.replies) grows ∙ append_assoc old more b.replies; left = gives.left; asker = gives.asker; closed = gives.closed })
 
 -- a message is answered, and the connection closes
-pub so_far_closed : (t : DirectoryEntries) (w : Requester) (stream old now new : List ℕ) (u v : DirectoryEntries) (x y : Requester) (read answered n : ℕ) →
-    SaysSoFar t w stream old now u x read answered → frame_at (drop read stream) ≡ Whole n → Gives (rules.answer u x (take n (drop read stream))) now new v y true →
+pub so_far_closed : (limit : ℕ) (t : DirectoryEntries) (w : Requester) (stream old now new : List ℕ) (u v : DirectoryEntries) (x y : Requester) (read answered n : ℕ) →
+    SaysSoFar limit t w stream old now u x read answered → frame_at (drop read stream) ≡ Whole n → Gives ((rules limit).answer u x (take n (drop read stream))) now new v y true →
     Speaks t w stream old new v y (record { read = read; answered = answered; end = Closes })
-so_far_closed t w stream old now new u v x y read answered n so is gives =
+so_far_closed limit t w stream old now new u v x y read answered n so is gives =
     let rest = drop read stream in
-    let a = rules.answer u x (take n rest) in
+    let a = (rules limit).answer u x (take n rest) in
     record {
       gives = given a _ old now new so.more v y true so.grows
-          (so.said None ∙ ap (after_octets so.more) (speech-whole rules None u x rest n is ∙ said_closed a (said_to None a.tree a.who (drop n rest)) (sym gives.closed))) gives;
+          (so.said None ∙ ap (after_octets so.more) (speech-whole (rules limit) None u x rest n is ∙ said_closed a (said_to limit None a.tree a.who (drop n rest)) (sym gives.closed))) gives;
       within = so.within;
       unread = λ h. absurd (cc);
       cuts = λ h. absurd (cc);
@@ -103,31 +103,31 @@ so_far_closed t w stream old now new u v x y read answered n so is gives =
 gives_none : (u : DirectoryEntries) (x : Requester) (closes : Bool) (now : List ℕ) → Gives (record { replies = []; tree = u; who = x; closes = closes }) now now u x closes
 gives_none u x closes now = record { said = sym (append-nil now); left = refl; asker = refl; closed = refl }
 
-cut_here : (t : DirectoryEntries) (w : Requester) (stream old now : List ℕ) (u : DirectoryEntries) (x : Requester) (read answered : ℕ) →
-    SaysSoFar t w stream old now u x read answered → Gives (said_to (Some answered) t w stream) old now u x true
-cut_here t w stream old now u x read answered so =
+cut_here : (limit : ℕ) (t : DirectoryEntries) (w : Requester) (stream old now : List ℕ) (u : DirectoryEntries) (x : Requester) (read answered : ℕ) →
+    SaysSoFar limit t w stream old now u x read answered → Gives (said_to limit (Some answered) t w stream) old now u x true
+cut_here limit t w stream old now u x read answered so =
     given _ _ old now now so.more u x true so.grows
-    (ap (λ z. said_to z t w stream) (sym (behind_none answered)) ∙ so.said (Some 0) ∙ ap (after_octets so.more) (speech-cut rules u x (drop read stream)))
+    (ap (λ z. said_to limit z t w stream) (sym (behind_none answered)) ∙ so.said (Some 0) ∙ ap (after_octets so.more) (speech-cut (rules limit) u x (drop read stream)))
     (gives_none u x true now)
 
 -- less than a message is left
-pub so_far_more : (t : DirectoryEntries) (w : Requester) (stream old now : List ℕ) (u : DirectoryEntries) (x : Requester) (read answered : ℕ) →
-    SaysSoFar t w stream old now u x read answered → frame_at (drop read stream) ≡ More → Speaks t w stream old now u x (record { read = read; answered = answered; end = StaysOpen })
-so_far_more t w stream old now u x read answered so is =
+pub so_far_more : (limit : ℕ) (t : DirectoryEntries) (w : Requester) (stream old now : List ℕ) (u : DirectoryEntries) (x : Requester) (read answered : ℕ) →
+    SaysSoFar limit t w stream old now u x read answered → frame_at (drop read stream) ≡ More → Speaks t w stream old now u x (record { read = read; answered = answered; end = StaysOpen })
+so_far_more limit t w stream old now u x read answered so is =
     record {
-      gives = given _ _ old now now so.more u x false so.grows (so.said None ∙ ap (after_octets so.more) (speech-more rules u x (drop read stream) is)) (gives_none u x false now);
+      gives = given _ _ old now now so.more u x false so.grows (so.said None ∙ ap (after_octets so.more) (speech-more (rules limit) u x (drop read stream) is)) (gives_none u x false now);
       within = so.within;
       unread = λ _. sym (rest_more (drop read stream) is) ∙ so.rest;
-      cuts = λ _. cut_here t w stream old now u x read answered so;
+      cuts = λ _. cut_here limit t w stream old now u x read answered so;
     }
 
 -- what is left is no message, and gets the notice
-pub so_far_bad : (t : DirectoryEntries) (w : Requester) (stream old now new : List ℕ) (u : DirectoryEntries) (x : Requester) (read answered : ℕ) →
-    SaysSoFar t w stream old now u x read answered → frame_at (drop read stream) ≡ Bad → new ≡ now ++ notice_octets →
+pub so_far_bad : (limit : ℕ) (t : DirectoryEntries) (w : Requester) (stream old now new : List ℕ) (u : DirectoryEntries) (x : Requester) (read answered : ℕ) →
+    SaysSoFar limit t w stream old now u x read answered → frame_at (drop read stream) ≡ Bad → new ≡ now ++ notice_octets →
     Speaks t w stream old new u x (record { read = read; answered = answered; end = Closes })
-so_far_bad t w stream old now new u x read answered so is notice =
+so_far_bad limit t w stream old now new u x read answered so is notice =
     record {
-      gives = given _ _ old now new so.more u x true so.grows (so.said None ∙ ap (after_octets so.more) (speech-bad rules u x (drop read stream) is))
+      gives = given _ _ old now new so.more u x true so.grows (so.said None ∙ ap (after_octets so.more) (speech-bad (rules limit) u x (drop read stream) is))
           (record { said = notice; left = refl; asker = refl; closed = refl });
       within = so.within;
       unread = λ h. absurd (cc);
@@ -135,10 +135,10 @@ so_far_bad t w stream old now new u x read answered so is notice =
     }
 
 -- there was no memory for what is to be said next
-pub so_far_cut : (t : DirectoryEntries) (w : Requester) (stream old now new : List ℕ) (u v : DirectoryEntries) (x y : Requester) (read answered : ℕ) →
-    SaysSoFar t w stream old now u x read answered → new ≡ now → v ≡ u → y ≡ x → Speaks t w stream old new v y (record { read = read; answered = answered; end = IsCut })
-so_far_cut t w stream old now new u v x y read answered so same left asker =
+pub so_far_cut : (limit : ℕ) (t : DirectoryEntries) (w : Requester) (stream old now new : List ℕ) (u v : DirectoryEntries) (x y : Requester) (read answered : ℕ) →
+    SaysSoFar limit t w stream old now u x read answered → new ≡ now → v ≡ u → y ≡ x → Speaks t w stream old new v y (record { read = read; answered = answered; end = IsCut })
+so_far_cut limit t w stream old now new u v x y read answered so same left asker =
     subst (λ z. Speaks t w stream old z v y (record { read = read; answered = answered; end = IsCut })) (sym same)
     (subst (λ z. Speaks t w stream old now z y (record { read = read; answered = answered; end = IsCut })) (sym left)
     (subst (λ z. Speaks t w stream old now u z (record { read = read; answered = answered; end = IsCut })) (sym asker)
-    (record { gives = cut_here t w stream old now u x read answered so; within = so.within; unread = λ h. absurd (cc); cuts = λ h. absurd (cc) })))
+    (record { gives = cut_here limit t w stream old now u x read answered so; within = so.within; unread = λ h. absurd (cc); cuts = λ h. absurd (cc) })))

@@ -4,7 +4,7 @@ use Rattle.session_hub.proofs.block.hear_on.Goals as goal
 -- its block begins
 pub returns-in-Ok : goal.returns-in-Ok
 returns-in-Ok g c =
-    record { leads = λ start added h. heard_on c.begin_with.result start c.args.conn c.args.heard _ _ _ _ _ added c.requires c.in-Ok.ensures.exact c.begin_with.ensures.on_hold c.begin_with.ensures.ok h }
+    record { leads = λ start added h. heard_on c.args.hub.now.bounds.limit c.begin_with.result start c.args.conn c.args.heard _ _ _ _ _ added c.requires c.in-Ok.ensures.exact c.begin_with.ensures.on_hold c.begin_with.ensures.ok h }
 
 -- no connection was opened
 pub returns-in-Err : goal.returns-in-Err

@@ -11,15 +11,15 @@ use Rattle.session_hub.proofs.places.hear_at.Goals as goal
 
 -- the connection isn't held
 pub returns-in-None-clause-exact : goal.returns-in-None-clause-exact
-returns-in-None-clause-exact g c = hears_nowhere c.args.number c.args.piece.now (entries_of (g.D.Dir.rows c.args.dir.now)) c.args.connections.now c.in-None.ensures
+returns-in-None-clause-exact g c = hears_nowhere c.args.allowed.limit c.args.number c.args.piece.now (entries_of (g.D.Dir.rows c.args.dir.now)) c.args.connections.now c.in-None.ensures
 
 -- it is closing
 pub returns-then-is_closing-clause-exact : goal.returns-then-is_closing-clause-exact
 returns-then-is_closing-clause-exact g c =
     let at = c.in-Some.at in
     let k = c.index-connections-at.result in
-    subst (λ ks. HearsAt c.args.number c.args.piece.now (entries_of (g.D.Dir.rows c.args.dir.now)) c.args.connections.now (entries_of (g.D.Dir.rows c.args.dir.now)) ks _) (sym (set-get_or c.args.connections.now at k))
-    (hears_closing c.args.number at c.args.piece.now (entries_of (g.D.Dir.rows c.args.dir.now)) c.args.connections.now k c.in-Some.ensures c.index-connections-at.is
+    subst (λ ks. HearsAt c.args.allowed.limit c.args.number c.args.piece.now (entries_of (g.D.Dir.rows c.args.dir.now)) c.args.connections.now (entries_of (g.D.Dir.rows c.args.dir.now)) ks _) (sym (set-get_or c.args.connections.now at k))
+    (hears_closing c.args.allowed.limit c.args.number at c.args.piece.now (entries_of (g.D.Dir.rows c.args.dir.now)) c.args.connections.now k c.in-Some.ensures c.index-connections-at.is
     (ap (λ (x : Kept Requester). x.closing) c.index-connections-at.is ∙ sym c.is_closing.ensures ∙ c.if-is_closing.true))
 
 -- it is open
@@ -27,9 +27,9 @@ pub returns-else-is_closing-clause-exact : goal.returns-else-is_closing-clause-e
 returns-else-is_closing-clause-exact g c =
     let at = c.in-Some.at in
     let k = c.index-connections-at.result in
-    hears_open c.args.number at c.args.piece.now (entries_of (g.D.Dir.rows c.args.dir.now)) _ c.args.connections.now k c.hear.new.self _ c.in-Some.ensures c.index-connections-at.is
+    hears_open c.args.allowed.limit c.args.number at c.args.piece.now (entries_of (g.D.Dir.rows c.args.dir.now)) _ c.args.connections.now k c.hear.new.self _ c.in-Some.ensures c.index-connections-at.is
     (ap (λ (x : Kept Requester). x.closing) c.index-connections-at.is ∙ sym c.is_closing.ensures ∙ c.if-is_closing.false)
-    (subst (λ x. HearsPiece c.args.piece.now (entries_of (g.D.Dir.rows c.args.dir.now)) x (entries_of (g.D.Dir.rows c.hear.new.dir)) c.hear.new.self) (sym c.index-connections-at.is) c.hear.ensures.exact)
+    (subst (λ x. HearsPiece c.args.allowed.limit c.args.piece.now (entries_of (g.D.Dir.rows c.args.dir.now)) x (entries_of (g.D.Dir.rows c.hear.new.dir)) c.hear.new.self) (sym c.index-connections-at.is) c.hear.ensures.exact)
     (c.is_some.ensures ∙ is_some_cut c.cut.result ∙ ap is_cut c.cut.ensures)
 
 -- the connection that was looked at is as it was

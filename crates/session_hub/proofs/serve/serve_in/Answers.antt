@@ -6,7 +6,7 @@ use Rattle.session_hub.proofs.serve.serve_in.Goals as goal
 
 -- nothing was heard yet
 pub loop-turn-init : goal.loop-turn-init
-loop-turn-init g c = record { under_way = under_way_start _ _ _ _ _ c.requires.empty c.requires.free; faults = refl; lost = NeverFalls-refl _ }
+loop-turn-init g c = record { under_way = under_way_start c.args.hub.now.bounds.limit _ _ _ _ _ c.requires.empty c.requires.free; faults = refl; lost = NeverFalls-refl _ }
 
 -- a turn was taken, and the loop goes on
 pub loop-turn-preserved : goal.loop-turn-preserved
@@ -29,10 +29,10 @@ returns-in-Some-clause-cause g c = EndsFor-came _ _ _ _ _ _ c.loop-turn.invarian
 
 -- the turns are spent
 pub returns-clause-served : goal.returns-clause-served
-returns-clause-served g c = (under_way_spent _ _ c.loop-turn._turn c.args.turns _ _ _ _ _ _ _ (let all : c.loop-turn._turn ≡ c.args.turns = omega arith in all) c.loop-turn.invariant.under_way c.end_of.ensures).0
+returns-clause-served g c = (under_way_spent c.args.hub.now.bounds.limit _ _ c.loop-turn._turn c.args.turns _ _ _ _ _ _ _ (let all : c.loop-turn._turn ≡ c.args.turns = omega arith in all) c.loop-turn.invariant.under_way c.end_of.ensures).0
 
 pub returns-clause-plays : goal.returns-clause-plays
-returns-clause-plays g c = (under_way_spent _ _ c.loop-turn._turn c.args.turns _ _ _ _ _ _ _ (let all : c.loop-turn._turn ≡ c.args.turns = omega arith in all) c.loop-turn.invariant.under_way c.end_of.ensures).1
+returns-clause-plays g c = (under_way_spent c.args.hub.now.bounds.limit _ _ c.loop-turn._turn c.args.turns _ _ _ _ _ _ _ (let all : c.loop-turn._turn ≡ c.args.turns = omega arith in all) c.loop-turn.invariant.under_way c.end_of.ensures).1
 
 pub returns-clause-cause : goal.returns-clause-cause
 returns-clause-cause g c = ends_as _ _ _ _ _ c.end_of.ensures (ends_spent _ _ _ c.loop-turn.hub.was_cut c.loop-turn.invariant.faults)

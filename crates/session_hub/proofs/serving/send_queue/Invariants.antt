@@ -11,7 +11,7 @@ invariant-sending g l =
     let journal = g.L.Link.journal in
     let plan = g.L.Link.plan in
     record {
-      adds : (start tree : DirectoryEntries) (due on_hold : List ℕ) → Adds (plan l.fn.link) (IsServing start (l.conn ∷ due) (held tree l.fn.hub) on_hold) (IsServing start (l.conn ∷ due) (held tree l.hub) on_hold) (journal l.fn.link) (journal l.link);
+      adds : (start tree : DirectoryEntries) (due on_hold : List ℕ) → Adds (plan l.fn.link) (IsServing limit start (l.conn ∷ due) (held tree l.fn.hub) on_hold) (IsServing limit start (l.conn ∷ due) (held tree l.hub) on_hold) (journal l.fn.link) (journal l.link);
       serves : OnlyServes (plan l.fn.link) (plan l.link) (g.L.Link.faults l.fn.link) (g.L.Link.faults l.link) (g.L.Link.lost l.fn.link) (g.L.Link.lost l.link);
     }
 

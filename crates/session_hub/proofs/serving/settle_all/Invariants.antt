@@ -11,7 +11,7 @@ invariant-settling g l =
     let plan = g.L.Link.plan in
     record {
       adds : (start tree : DirectoryEntries) →
-          Adds (plan l.fn.link) (IsServing start l.fn.waiting.due.items (held tree l.fn.hub) l.fn.waiting.on_hold.items) (IsServing start l.waiting.due.items (held tree l.hub) l.waiting.on_hold.items) (journal l.fn.link) (journal l.link);
+          Adds (plan l.fn.link) (IsServing limit start l.fn.waiting.due.items (held tree l.fn.hub) l.fn.waiting.on_hold.items) (IsServing limit start l.waiting.due.items (held tree l.hub) l.waiting.on_hold.items) (journal l.fn.link) (journal l.link);
       serves : OnlyServes (plan l.fn.link) (plan l.link) (g.L.Link.faults l.fn.link) (g.L.Link.faults l.link) (g.L.Link.lost l.fn.link) (g.L.Link.lost l.link);
     }
 
