@@ -81,7 +81,7 @@ fn hear_on<D: Dir>(
 ) -> Result<(), AllocError>
     requires { IsOf conn heard }
     ensures leads { (start : DirectoryEntries) (added : List Item) →
-        IsHeard start (held (entries_of (D.rows dir.old)) hub.old) waiting.old.on_hold.items
+        IsHeard hub.old.bounds.limit start (held (entries_of (D.rows dir.old)) hub.old) waiting.old.on_hold.items
         (journal_event_of heard.entry) added →
         After hub.old.bounds.limit result start (entries_of (D.rows dir.new)) (IsServing hub.old.bounds.limit start waiting.new.due.items
         (held (entries_of (D.rows dir.new)) hub.new) waiting.new.on_hold.items) added }

@@ -114,7 +114,10 @@ impl Connection {
             (entries_of (D.rows dir.old)) self.old (entries_of (D.rows dir.new)) self.new }
         ensures bounded { length self.new.rest ≤ most_unread }
     {
-        let allowed = behind_taken(allowed, self.taken);
+        let allowed = Allowance {
+            limit: allowed.limit,
+            room: allowed.room.saturating_add(self.taken),
+        };
         if self.rest.is_empty() {
             self.hear_alone(alloc, dir, piece, allowed);
         } else {
@@ -161,17 +164,6 @@ impl Connection {
                 self.cut = cut_behind(end, spoken.answered);
             }
         }
-    }
-}
-
-/// The same room, for a buffer of which so many octets were taken already.
-fn behind_taken(allowed: Allowance, taken: usize) -> Allowance
-    ensures limit { result.limit ≡ allowed.limit }
-    ensures within { result.room ≤ allowed.room + taken }
-{
-    Allowance {
-        limit: allowed.limit,
-        room: allowed.room.saturating_add(taken),
     }
 }
 

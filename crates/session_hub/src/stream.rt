@@ -1,5 +1,6 @@
 //! The answers to the messages of a stream.
 
+ghost use Rattle.std.specs.Prelude.{◌≡◌, ◌<◌, ◌≤◌, length, true, false};
 ghost use Rattle.dir_tree.specs.tree.Numbered.{entries_of};
 ghost use Rattle.session_hub.specs.Answers.{Speaks};
 
@@ -10,6 +11,14 @@ use op_read::acdf_filters::Requester;
 use op_read::directory::Dir;
 use session_model::ldap_msg::{Frame, frame, put_notice};
 use std::alloc::Global;
+
+/// Whether more is queued than there is room for, behind the first message.
+fn is_full(answered: u64, out: &Vec<u8>, room: usize) -> bool
+    ensures full { result ≡ true → room < length out.now.items }
+    ensures spare { result ≡ false → 0 < answered → length out.now.items ≤ room }
+{
+    answered > 0 && out.len() > room
+}
 
 /// Answers the whole messages of a stream in their order until one closes, where they lie, and
 /// sends the notice where none of them does and the stream can't go on (RFC 4511 4.4.1, 5). Where
@@ -50,7 +59,7 @@ pub fn speak<D: Dir>(
                 };
             }
             Frame::Whole(length) => {
-                if answered > 0 && out.len() > allowed.room {
+                if is_full(answered, out, allowed.room) {
                     return Spoken {
                         read,
                         answered,

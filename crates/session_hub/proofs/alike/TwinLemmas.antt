@@ -32,6 +32,7 @@ use Rattle.session_model.specs.Purging.{purged, openings, finds_room, answered_o
 use Rattle.session_model.proofs.Theorems.{heard-alike, run-alike, replayed-alike, run-purged}
 use Rattle.session_hub.specs.Parties.{DirectoryEntries, Requester}
 use Rattle.session_hub.specs.Controls.{is_refused, subentries_asked}
+use Rattle.session_hub.specs.Limiting.{limited_request, limited_read}
 use Rattle.session_hub.specs.Answering.{rules, searched, answer_read}
 use Rattle.session_hub.specs.declared.event.Event.{Event}
 use Rattle.session_hub.specs.Event.{step_by}
@@ -115,11 +116,29 @@ module _ (who : Requester) (one other : DirectoryEntries) (top : RdnSequence) (t
   read-alike None h = record { replies = refl; who = refl; closes = refl; one_stays = refl; other_stays = refl }
   read-alike (Some message) h = request-alike message.id message.controls message.request h
 
+-- what the limit leaves of a request asks for what the request does
+limited-outside : (limit : ℕ) (top : RdnSequence) (asked : Request) → reads_outside top (limited_request limit asked) ≡ reads_outside top asked
+limited-outside limit top (request.Bind bind) = refl
+limited-outside limit top request.Unbind = refl
+limited-outside limit top (request.Search search) = refl
+limited-outside limit top (request.Modify modify) = refl
+limited-outside limit top (request.Add add) = refl
+limited-outside limit top (request.Delete delete) = refl
+limited-outside limit top (request.Rename rename) = refl
+limited-outside limit top (request.Compare compare) = refl
+limited-outside limit top (request.Abandon id) = refl
+limited-outside limit top (request.Extended name value) = refl
+
+still_outside : (limit : ℕ) (top : RdnSequence) (read : Option Message) → option_map_or (λ message. reads_outside top message.request) read true ≡ true →
+    option_map_or (λ message. reads_outside top message.request) (limited_read limit read) true ≡ true
+still_outside limit top None outside = refl
+still_outside limit top (Some message) outside = limited-outside limit top message.request ∙ outside
+
 -- a message over twins is answered alike
 pub answer-twins : (limit : ℕ) (other : DirectoryEntries) (top : RdnSequence) (asked : AnsweredMessage DirectoryEntries Requester) → IsOverTwins other top asked
     → IsAnsweredAlike (rules limit) other asked
 unfolding rules
-answer-twins limit other top asked over = read-alike asked.who asked.tree other top over.twins (message_of asked.message) over.outside
+answer-twins limit other top asked over = read-alike asked.who asked.tree other top over.twins (limited_read limit (message_of asked.message)) (still_outside limit top (message_of asked.message) over.outside)
 
 -- so are all of them
 pub all_answered : (limit : ℕ) (other : DirectoryEntries) (top : RdnSequence) (xs : List (AnsweredMessage DirectoryEntries Requester)) → AllByRecursion (IsOverTwins other top) xs

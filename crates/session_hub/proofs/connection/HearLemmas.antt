@@ -10,7 +10,7 @@ use Rattle.session_model.proofs.Theorems.{speech-cut}
 use Rattle.session_hub.specs.Parties.{DirectoryEntries, Requester}
 use Rattle.session_hub.specs.declared.spoken.Spoken.{Spoken}
 use Rattle.session_hub.specs.declared.spoken.SpeechEnd.{SpeechEnd}
-use Rattle.session_hub.specs.declared.spoken.SpeechEnd.TheVariants.{StaysOpen, Closes, IsCut}
+use Rattle.session_hub.specs.declared.spoken.SpeechEnd.TheVariants.{StaysOpen, Closes, IsCut, IsFull}
 use Rattle.session_hub.specs.Answering.{rules}
 use Rattle.session_hub.specs.Answers.{Gives, Speaks, said_to, closes_at, cut_at}
 use Rattle.session_hub.specs.connection.Connections.{HearsPiece, KeepsRest}
@@ -33,13 +33,15 @@ pub record HasEnded (limit : ℕ) (t : DirectoryEntries) (w : Requester) (stream
   pub gives : Gives (said_to limit (cut_at end answered) t w stream) old new u y (closes_at end)
   pub unread : rest ≡ cond (closes_at end) [] (rest_of stream)
 
-has_ended : (limit : ℕ) (t : DirectoryEntries) (w : Requester) (stream old new : List ℕ) (u : DirectoryEntries) (y : Requester) (spoken : Spoken) (rest : List ℕ) (end : SpeechEnd) →
-    Speaks t w stream old new u y spoken → KeepsRest spoken.end (drop spoken.read stream) rest end → HasEnded limit t w stream old new u y spoken.answered rest end
-has_ended limit t w stream old new u y spoken rest StaysOpen speaks keeps =
+has_ended : (limit room : ℕ) (t : DirectoryEntries) (w : Requester) (stream old new : List ℕ) (u : DirectoryEntries) (y : Requester) (spoken : Spoken) (rest : List ℕ) (end : SpeechEnd) →
+    Speaks limit room t w stream old new u y spoken → KeepsRest spoken.end (drop spoken.read stream) rest end → HasEnded limit t w stream old new u y spoken.answered rest end
+has_ended limit room t w stream old new u y spoken rest StaysOpen speaks keeps =
     record { gives = subst (λ e. Gives (said_to limit (cut_at e spoken.answered) t w stream) old new u y (closes_at e)) keeps.0 speaks.gives; unread = keeps.1 ∙ speaks.unread keeps.0 }
-has_ended limit t w stream old new u y spoken rest Closes speaks keeps =
+has_ended limit room t w stream old new u y spoken rest Closes speaks keeps =
     record { gives = subst (λ e. Gives (said_to limit (cut_at e spoken.answered) t w stream) old new u y (closes_at e)) keeps.0 speaks.gives; unread = keeps.1 }
-has_ended limit t w stream old new u y spoken rest IsCut speaks keeps =
+has_ended limit room t w stream old new u y spoken rest IsFull speaks keeps =
+    record { gives = subst (λ e. Gives (said_to limit (cut_at e spoken.answered) t w stream) old new u y (closes_at e)) keeps.0 speaks.gives; unread = keeps.1 }
+has_ended limit room t w stream old new u y spoken rest IsCut speaks keeps =
     elim keeps.0 [
       | inl open_ ↦ record { gives = speaks.cuts open_; unread = keeps.1 }
       | inr cut ↦ record { gives = subst (λ e. Gives (said_to limit (cut_at e spoken.answered) t w stream) old new u y (closes_at e)) cut speaks.gives; unread = keeps.1 }
@@ -51,11 +53,11 @@ pub kept_is : (c : ℕ) (r r' : List ℕ) (w w' : Requester) (q q' : List ℕ) (
 kept_is c r r' w w' q q' b b' o e f g h = rw (e, f, g, h) refl
 
 -- what a connection keeps and leaves where a piece was answered
-pub hears_end : (limit : ℕ) (piece stream : List ℕ) (t u : DirectoryEntries) (k : Kept Requester) (old new rest : List ℕ) (taken : ℕ) (y : Requester) (spoken : Spoken) (end : SpeechEnd) →
-    stream ≡ k.rest ++ piece → Speaks t k.who stream old new u y spoken → KeepsRest spoken.end (drop spoken.read stream) rest end → k.queue ≡ drop taken old → taken ≤ length old →
+pub hears_end : (limit room : ℕ) (piece stream : List ℕ) (t u : DirectoryEntries) (k : Kept Requester) (old new rest : List ℕ) (taken : ℕ) (y : Requester) (spoken : Spoken) (end : SpeechEnd) →
+    stream ≡ k.rest ++ piece → Speaks limit room t k.who stream old new u y spoken → KeepsRest spoken.end (drop spoken.read stream) rest end → k.queue ≡ drop taken old → taken ≤ length old →
     HearsPiece limit piece t k u (record { number = k.number; rest = rest; who = y; queue = drop taken new; closing = closes_at end; cut = cut_at end spoken.answered })
-hears_end limit piece stream t u k old new rest taken y spoken end is speaks keeps queued fits =
-    let has = subst (λ s. HasEnded limit t k.who s old new u y spoken.answered rest end) is (has_ended limit t k.who stream old new u y spoken rest end speaks keeps) in
+hears_end limit room piece stream t u k old new rest taken y spoken end is speaks keeps queued fits =
+    let has = subst (λ s. HasEnded limit t k.who s old new u y spoken.answered rest end) is (has_ended limit room t k.who stream old new u y spoken rest end speaks keeps) in
     let a = said_to limit (cut_at end spoken.answered) t k.who (k.rest ++ piece) in
     record {
       kept = kept_is k.number rest (cond a.closes [] (rest_of (k.rest ++ piece))) y a.who (drop taken new) (k.queue ++ a.replies) (closes_at end) a.closes (cut_at end spoken.answered)
@@ -65,15 +67,15 @@ hears_end limit piece stream t u k old new rest taken y spoken end is speaks kee
     }
 
 -- the same, given by other names
-pub hears_as : (limit : ℕ) (piece stream : List ℕ) (t u : DirectoryEntries) (k now : Kept Requester) (old new rest : List ℕ) (taken : ℕ) (y : Requester) (spoken : Spoken) (end : SpeechEnd) (closing : Bool) (cut : Option ℕ) →
-    k ≡ now → stream ≡ k.rest ++ piece → Speaks t k.who stream old new u y spoken → KeepsRest spoken.end (drop spoken.read stream) rest end → k.queue ≡ drop taken old → taken ≤ length old →
+pub hears_as : (limit room : ℕ) (piece stream : List ℕ) (t u : DirectoryEntries) (k now : Kept Requester) (old new rest : List ℕ) (taken : ℕ) (y : Requester) (spoken : Spoken) (end : SpeechEnd) (closing : Bool) (cut : Option ℕ) →
+    k ≡ now → stream ≡ k.rest ++ piece → Speaks limit room t k.who stream old new u y spoken → KeepsRest spoken.end (drop spoken.read stream) rest end → k.queue ≡ drop taken old → taken ≤ length old →
     closing ≡ closes_at end → cut ≡ cut_at end spoken.answered →
     HearsPiece limit piece t now u (record { number = k.number; rest = rest; who = y; queue = drop taken new; closing = closing; cut = cut })
-hears_as limit piece stream t u k now old new rest taken y spoken end closing cut same is speaks keeps queued fits shuts cuts =
+hears_as limit room piece stream t u k now old new rest taken y spoken end closing cut same is speaks keeps queued fits shuts cuts =
     subst (λ x. HearsPiece limit piece t x u (record { number = k.number; rest = rest; who = y; queue = drop taken new; closing = closing; cut = cut })) same
     (subst (λ b. HearsPiece limit piece t k u (record { number = k.number; rest = rest; who = y; queue = drop taken new; closing = b; cut = cut })) (sym shuts)
     (subst (λ o. HearsPiece limit piece t k u (record { number = k.number; rest = rest; who = y; queue = drop taken new; closing = closes_at end; cut = o })) (sym cuts)
-    (hears_end limit piece stream t u k old new rest taken y spoken end is speaks keeps queued fits)))
+    (hears_end limit room piece stream t u k old new rest taken y spoken end is speaks keeps queued fits)))
 
 -- and where there was no memory for the piece
 pub hears_cut : (limit : ℕ) (piece : List ℕ) (t : DirectoryEntries) (k : Kept Requester) → HearsPiece limit piece t k t (record k { rest = []; closing = true; cut = Some 0 })
@@ -93,13 +95,14 @@ hears_starved limit piece t k now rest same none =
     (subst (λ xs. HearsPiece limit piece t k t (record k { rest = xs; closing = true; cut = Some 0 })) (sym none) (hears_cut limit piece t k))
 
 -- what is unread then is bounded
-pub ended_bounded : (limit : ℕ) (t : DirectoryEntries) (w : Requester) (stream old new : List ℕ) (u : DirectoryEntries) (y : Requester) (spoken : Spoken) (rest : List ℕ) (end : SpeechEnd) →
-    Speaks t w stream old new u y spoken → KeepsRest spoken.end (drop spoken.read stream) rest end → length rest ≤ most_unread
-ended_bounded limit t w stream old new u y spoken rest end speaks keeps = by_end end (has_ended limit t w stream old new u y spoken rest end speaks keeps)
+pub ended_bounded : (limit room : ℕ) (t : DirectoryEntries) (w : Requester) (stream old new : List ℕ) (u : DirectoryEntries) (y : Requester) (spoken : Spoken) (rest : List ℕ) (end : SpeechEnd) →
+    Speaks limit room t w stream old new u y spoken → KeepsRest spoken.end (drop spoken.read stream) rest end → length rest ≤ most_unread
+ended_bounded limit room t w stream old new u y spoken rest end speaks keeps = by_end end (has_ended limit room t w stream old new u y spoken rest end speaks keeps)
   where
     by_end : (end : SpeechEnd) → HasEnded limit t w stream old new u y spoken.answered rest end → length rest ≤ most_unread
     by_end StaysOpen has = subst (λ xs. length xs ≤ most_unread) (sym has.unread) (rest_bounded limit t w stream (sym has.gives.closed))
     by_end Closes has = subst (λ xs. length xs ≤ most_unread) (sym has.unread) (omega arith)
+    by_end IsFull has = subst (λ xs. length xs ≤ most_unread) (sym has.unread) (omega arith)
     by_end IsCut has = subst (λ xs. length xs ≤ most_unread) (sym has.unread) (omega arith)
 
 -- a piece for a connection that isn't held, for one that is closing, and for one that is open

@@ -19,6 +19,7 @@ use Rattle.session_model.specs.Serving.{Leads, Served}
 use Rattle.session_model.specs.Replaying.{IsReplay}
 use Rattle.session_model.proofs.Theorems.{was_opened-append, works_start, works_served, works_replayed, works_leads, own_steps}
 use Rattle.session_hub.specs.Parties.{DirectoryEntries, Requester}
+use Rattle.session_hub.specs.declared.bounds.Bounds.{Bounds}
 use Rattle.session_hub.specs.declared.ended.Ended.{Ended}
 use Rattle.session_hub.specs.declared.ended.Ended.TheVariants as ended
 use Rattle.session_hub.specs.Answering.{rules}
@@ -116,9 +117,9 @@ serve_on limit entries n stop plan before a b after hub on_hold Q buf given runn
     )
 
 -- nothing is heard yet
-pub running_start : (limit : ℕ) (entries : DirectoryEntries) (journal : Option (List Item)) → Running limit entries 0 journal journal (held entries no_hub) []
+pub running_start : (limit : ℕ) (bounds : Bounds) (entries : DirectoryEntries) (journal : Option (List Item)) → Running limit entries 0 journal journal (held entries (no_hub bounds)) []
 unfolding Running was_stopped heard
-running_start limit entries journal begun is = ([], is ∙ ap (λ x. Some x) (sym (append-nil begun)), record { goes_on = refl; counts = refl; works = works_start (rules limit) entries })
+running_start limit bounds entries journal begun is = ([], is ∙ ap (λ x. Some x) (sym (append-nil begun)), record { goes_on = refl; counts = refl; works = works_start (rules limit) entries })
 
 -- an event that isn't Stop is heard and served
 pub running_on : (limit : ℕ) (entries : DirectoryEntries) (n : ℕ) (plan : Option Plan) (before a b after : Option (List Item)) (hub now : Held DirectoryEntries Requester) (on_hold held_now : List ℕ) (buf : List ℕ) (given : Answer) →

@@ -9,6 +9,7 @@ use Rattle.session_model.specs.wire_io.link.Telling.{event_of, NextTells}
 use Rattle.session_model.specs.Kept.{Held}
 use Rattle.session_model.specs.Serving.{Leads}
 use Rattle.session_hub.specs.Parties.{DirectoryEntries, Requester}
+use Rattle.session_hub.specs.declared.bounds.Bounds.{Bounds}
 use Rattle.session_hub.specs.declared.ended.Ended.{Ended}
 use Rattle.session_hub.specs.declared.ended.Ended.TheVariants as ended
 use Rattle.session_hub.specs.Answering.{rules}
@@ -118,12 +119,12 @@ turn_starved limit now after plan_now plan_after hub on_hold buf f tells plays e
     )
 
 -- a loop that begins
-pub under_way_start : (limit : ℕ) (entries : DirectoryEntries) (journal : Option (List Item)) (plan : Option Plan) (hub : HubState) (on_hold : List ℕ) → hub ≡ no_hub → on_hold ≡ [] →
+pub under_way_start : (limit : ℕ) (bounds : Bounds) (entries : DirectoryEntries) (journal : Option (List Item)) (plan : Option Plan) (hub : HubState) (on_hold : List ℕ) → hub ≡ no_hub bounds → on_hold ≡ [] →
     IsUnderWay limit entries 0 journal journal plan plan (held entries hub) on_hold
-under_way_start limit entries journal plan hub on_hold none free =
+under_way_start limit bounds entries journal plan hub on_hold none free =
     subst (λ h. IsUnderWay limit entries 0 journal journal plan plan (held entries h) on_hold) (sym none)
-    (subst (λ xs. IsUnderWay limit entries 0 journal journal plan plan (held entries no_hub) xs) (sym free)
-    (record { running = running_start limit entries journal; playing = playing_start journal plan; failing = refl }))
+    (subst (λ xs. IsUnderWay limit entries 0 journal journal plan plan (held entries (no_hub bounds)) xs) (sym free)
+    (record { running = running_start limit bounds entries journal; playing = playing_start journal plan; failing = refl }))
 
 -- a loop whose turns are spent
 pub under_way_spent : (limit : ℕ) (entries tree : DirectoryEntries) (n turns : ℕ) (before now : Option (List Item)) (plan_before plan_now : Option Plan) (hub : HubState) (on_hold : List ℕ) (end : Ended) → n ≡ turns →
@@ -135,3 +136,12 @@ under_way_spent limit entries tree n turns before now plan_before plan_now hub o
       running_spent limit entries turns before now (held tree hub) on_hold spent.running,
       plays_spent limit entries turns before now plan_before plan_now (held tree hub) on_hold (ends_with hub.was_cut ended.TurnsSpent) (ends_not_stopped hub.was_cut ended.TurnsSpent spent_stopped) spent.playing spent.running,
     )
+
+-- a turn of a hub whose limit is given by another name
+pub goes_on_at : (limit same : ℕ) (now after : Option (List Item)) (plan_now plan_after : Option Plan) (hub hub_after : Held DirectoryEntries Requester) (on_hold on_hold_after : List ℕ) → limit ≡ same →
+    GoesOn limit now plan_now hub on_hold after plan_after hub_after on_hold_after → GoesOn same now plan_now hub on_hold after plan_after hub_after on_hold_after
+goes_on_at limit same now after plan_now plan_after hub hub_after on_hold on_hold_after is goes = subst (λ n. GoesOn n now plan_now hub on_hold after plan_after hub_after on_hold_after) is goes
+
+pub ends_with_at : (limit same : ℕ) (now after : Option (List Item)) (plan_now plan_after : Option Plan) (hub : Held DirectoryEntries Requester) (on_hold : List ℕ) (end : Ended) (left : DirectoryEntries) → limit ≡ same →
+    EndsWith limit now plan_now hub on_hold end left after plan_after → EndsWith same now plan_now hub on_hold end left after plan_after
+ends_with_at limit same now after plan_now plan_after hub on_hold end left is ends = subst (λ n. EndsWith n now plan_now hub on_hold end left after plan_after) is ends

@@ -22,4 +22,4 @@ returns-else-has_room-clause-adds g c = λ start.
     adds_after _ _ _ _ _ _ _ _ refl
     (adds_nothing _ _ _ _ _ refl (λ added h. turns_away c.args.hub.now.bounds.limit start c.args.conn (held (entries_of (g.D.Dir.rows c.args.dir.now)) c.args.hub.now) _ _ added c.in-Ok.ensures.exact
     (let all : c.count-has_room.result ≡ length c.args.hub.now.kept = c.count-has_room.ensures.exact in omega arith) h))
-    (c.turn_away.ensures.adds start (entries_of (g.D.Dir.rows c.hear.new.dir)))
+    (c.turn_away.ensures.adds c.args.hub.now.bounds.limit start (entries_of (g.D.Dir.rows c.hear.new.dir)))

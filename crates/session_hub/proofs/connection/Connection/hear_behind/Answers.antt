@@ -10,12 +10,12 @@ returns-in-Err-clause-exact g c = hears_starved c.args.allowed.limit c.args.piec
 -- what is said to what is unread and the piece is queued and done
 pub returns-in-Ok-clause-exact : goal.returns-in-Ok-clause-exact
 returns-in-Ok-clause-exact g c =
-    hears_as c.args.allowed.limit c.args.piece.now c.deref.result.now _ _ _ c.args.self.now c.self.inside.out.items c.speak-spoken.new.out.items c.leave_unread-end.new.rest.items c.self.inside.taken _ c.speak-spoken.result c.leave_unread-end.result _ _
+    hears_as c.args.allowed.limit c.args.allowed.room c.args.piece.now c.deref.result.now _ _ _ c.args.self.now c.self.inside.out.items c.speak-spoken.new.out.items c.leave_unread-end.new.rest.items c.self.inside.taken _ c.speak-spoken.result c.leave_unread-end.result _ _
     c.self.view_is (c.deref.ensures.value ∙ c.in-Ok.ensures.items) c.speak-spoken.ensures
     (subst (λ xs. KeepsRest c.speak-spoken.result.end (drop c.speak-spoken.result.read xs) c.leave_unread-end.new.rest.items c.leave_unread-end.result) (sym c.deref.ensures.value) c.leave_unread-end.ensures)
     refl c.self.invariant c.closes-self-inside.ensures c.cut_behind-self-inside.ensures
 
 pub returns-in-Ok-clause-bounded : goal.returns-in-Ok-clause-bounded
 returns-in-Ok-clause-bounded g c =
-    ended_bounded c.args.allowed.limit _ _ c.deref.result.now _ _ _ _ c.speak-spoken.result _ c.leave_unread-end.result c.speak-spoken.ensures
+    ended_bounded c.args.allowed.limit c.args.allowed.room _ _ c.deref.result.now _ _ _ _ c.speak-spoken.result _ c.leave_unread-end.result c.speak-spoken.ensures
     (subst (λ xs. KeepsRest c.speak-spoken.result.end (drop c.speak-spoken.result.read xs) c.leave_unread-end.new.rest.items c.leave_unread-end.result) (sym c.deref.ensures.value) c.leave_unread-end.ensures)

@@ -7,4 +7,4 @@ use Rattle.session_hub.proofs.hub.Hub.count.Goals as goal
 pub returns-clause-run : goal.returns-clause-run
 returns-clause-run c =
     let all : c.len.result ≡ length c.self.inside.connections.items = grind (arith, common_steps) in
-    counts_held c.args.self.now.bounds.limit c.args.self.now c.len.result (all ∙ ap (λ (h : HubState). length h.kept) c.self.view_is)
+    counts_held c.args.self.now c.len.result (all ∙ ap (λ (h : HubState). length h.kept) c.self.view_is)
