@@ -1,6 +1,6 @@
 //! What is kept of a peer's octets behind a cut.
 
-ghost use Rattle.std.specs.Prelude.{◌≡◌, ◌≤◌, [], length, take, drop, min, IfOk, OnErr};
+ghost use Rattle.std.specs.Prelude.{◌≡◌, ◌≤◌, ◌==◌, [], length, take, drop, min, IfOk, OnErr};
 ghost use Rattle.fair_pieces.specs.Cuts.{cut_at};
 ghost use Rattle.fair_pieces.specs.Keeping.{seen_cut, behind_cut};
 
@@ -47,6 +47,18 @@ impl Kept {
         ensures { result.now ≡ self.now.octets }
     {
         self.octets.split_at(self.from).1
+    }
+
+    /// Whether nothing of the kept octets can be given before others come: there are none, or they are
+    /// the front of a header, at most five.
+    pub fn is_waiting(&self) -> bool
+        ensures { result ≡ ((cut_at self.now.left self.now.octets).given == 0) }
+    {
+        let octets = self.octets();
+        if octets.len() > 5 {
+            return false;
+        }
+        cut_at(self.left, octets).given == 0
     }
 
     /// Copies as many of the kept octets as the buffer has room for to its front, and says how many. They

@@ -128,6 +128,8 @@ impl Link for HalfSlow {
 
     ghost lost = { λ _. 0 };
 
+    fn end_idle_after(&mut self, _seconds: u64) {}
+
     #[tactic(auto, unfolding(wire_io::specs::link::Telling::OpenTells, wire_io::specs::Answers::LinkCause, wire_io::specs::Answers::IsPlanned))]
     fn open(&mut self, _address: &str, _sessions: u64) -> Result<(), NextFault> {
         Ok(())

@@ -1,6 +1,7 @@
 -- Where nothing is given, the front of a header stands there.
-use Rattle.std.proofs.Common.{◌≡◌, ℕ, ◌+◌, ◌<◌, ◌≤◌, List, ◌++◌, length, take, drop, refl, sym, ap, subst, ◌∙◌, inl, inr, arith}
-use Rattle.std.proofs.lemmas.Bool.{cases_lt, cases_Bool}
+use Rattle.std.proofs.Common.{◌≡◌, ℕ, ◌+◌, ◌<◌, ◌≤◌, false, List, ◌++◌, length, take, drop, refl, sym, ap, subst, ◌∙◌, inl, inr, arith}
+use Rattle.std.specs.Prelude.{◌==◌}
+use Rattle.std.proofs.lemmas.Bool.{cases_lt, cases_Bool, cases_eq, ne_eqb}
 use Rattle.std.proofs.lemmas.List.{length-append}
 use Rattle.ber_elements.specs.declared.kinds.Header.{Header}
 use Rattle.ber_elements.specs.declared.kinds.Header.TheVariants as header
@@ -54,4 +55,12 @@ advances left s e some =
           let none : (fresh_cut s (frame_at s)).given ≡ 0 = sym (ap (λ (c : Cut). c.given) (cut_fresh s)) ∙ at_zero in
           let front = fresh_advances s (frame_at s) refl none some in
           record { fresh = zero_left; heading = front.0; few = front.1 }
+    ]
+
+-- of more octets than a short header has, something is given
+pub few_given : (left : ℕ) (s : List ℕ) → 5 < length s → ((cut_at left s).given == 0) ≡ false
+few_given left s many =
+    elim (cases_eq (cut_at left s).given 0) [
+      | inl none ↦ let front = advances left s none (omega (arith, many)) in absurd (omega (arith, front.few, many))
+      | inr some ↦ ne_eqb (cut_at left s).given 0 some
     ]
