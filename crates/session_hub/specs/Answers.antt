@@ -1,6 +1,7 @@
 -- What an answered message, and an answered stream, leave.
-use Rattle.std.specs.Prelude.{◌≡◌, ◌≤◌, ◌<◌, ◌+◌, ℕ, Bool, true, false, List, ◌++◌, length, drop, Option, Some, None}
+use Rattle.std.specs.Prelude.{◌≡◌, ◌≤◌, ◌<◌, ◌+◌, ◌⊎◌, ℕ, Bool, true, false, List, [], ◌++◌, length, drop, Option, Some, None}
 use Rattle.session_model.specs.ldap_msg.Streams.{rest_of}
+use Rattle.session_model.specs.ldap_msg.Replies.{notice_octets}
 use Rattle.session_model.specs.Rules.{Answered, after_octets}
 use Rattle.session_model.specs.Kept.{speech}
 use Rattle.session_hub.specs.Parties.{DirectoryEntries, Requester}
@@ -9,6 +10,7 @@ use Rattle.session_hub.specs.declared.spoken.SpeechEnd.{SpeechEnd}
 use Rattle.session_hub.specs.declared.spoken.SpeechEnd.TheVariants.{StaysOpen, Closes, IsCut, IsFull}
 use Rattle.op_read.specs.read_model.SearchReplies.{replies_octets}
 use Rattle.session_hub.specs.Answering.{rules, Operated}
+use Rattle.session_hub.specs.Rooms.{HasRoom, queued_after}
 
 -- the octets sent, the entries and the requester left, and whether the connection closes are those of the answer
 pub record Gives (answered : Answered DirectoryEntries Requester) (old new : List ℕ) (entries : DirectoryEntries) (who : Requester) (closes : Bool) : Type 0 where
@@ -42,14 +44,10 @@ cut_at Closes answered = None
 cut_at IsCut answered = Some answered
 cut_at IsFull answered = Some answered
 
--- before each of so many messages but the first, what was queued and said so far was no longer than the room
-abbrev pub HasRoom : ℕ → ℕ → DirectoryEntries → Requester → List ℕ → List ℕ → ℕ → Type 0
-HasRoom limit room before asks stream queue answered =
-    (count : ℕ) → 0 < count → count < answered → length (queue ++ (said_to limit (Some count) before asks stream).replies) ≤ room
-
 -- a stream is answered: what was sent is what is said to it, up to where it was cut; where the connection stays open, so
 -- many octets were read, and a cut behind all of its messages would leave the same and close; where it ends since the queue
--- is full, the queue is longer than the room, and it never was before a message that was answered, but for the first
+-- is full, the queue is longer than the room, and it never was before a message that was answered, but for the first; behind
+-- the answers to so many messages there is nothing but, it may be, a notice
 pub record Speaks (limit room : ℕ) (before : DirectoryEntries) (asks : Requester) (stream old new : List ℕ) (entries : DirectoryEntries) (who : Requester) (spoken : Spoken) : Type 0 where
   pub gives : Gives (said_to limit (cut_at spoken.end spoken.answered) before asks stream) old new entries who (closes_at spoken.end)
   pub within : spoken.read ≤ length stream
@@ -57,6 +55,9 @@ pub record Speaks (limit room : ℕ) (before : DirectoryEntries) (asks : Request
   pub cuts : spoken.end ≡ StaysOpen → Gives (said_to limit (Some spoken.answered) before asks stream) old new entries who true
   pub full : spoken.end ≡ IsFull → room < length new
   pub spare : HasRoom limit room before asks stream old spoken.answered
+  pub ending : List ℕ
+  pub queued : new ≡ queued_after limit before asks stream old spoken.answered ++ ending
+  pub notice : (ending ≡ []) ⊎ (ending ≡ notice_octets)
 
 -- a cut so many messages later
 abbrev pub behind : ℕ → Option ℕ → Option ℕ

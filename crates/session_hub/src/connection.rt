@@ -5,6 +5,7 @@ ghost use Rattle.dir_tree.specs.tree.Numbered.{entries_of};
 ghost use Rattle.session_model.specs.Kept.{closed, without_front, opened_kept};
 ghost use Rattle.session_hub.specs.Answering.{rules};
 ghost use Rattle.session_hub.specs.Answers.{closes_at, cut_at};
+ghost use Rattle.session_hub.specs.Rooms.{StaysWithin};
 ghost use Rattle.session_hub.specs.connection.Connections.{HearsPiece, KeepsRest};
 ghost use Rattle.session_hub.specs.connection.Limits.{most_unread};
 
@@ -113,11 +114,8 @@ impl Connection {
         ensures exact { HearsPiece allowed.limit piece.now
             (entries_of (D.rows dir.old)) self.old (entries_of (D.rows dir.new)) self.new }
         ensures bounded { length self.new.rest ≤ most_unread }
+        ensures room { StaysWithin allowed.limit allowed.room piece.now (entries_of (D.rows dir.old)) self.old self.new }
     {
-        let allowed = Allowance {
-            limit: allowed.limit,
-            room: allowed.room.saturating_add(self.taken),
-        };
         if self.rest.is_empty() {
             self.hear_alone(alloc, dir, piece, allowed);
         } else {
@@ -131,8 +129,13 @@ impl Connection {
         ensures exact { HearsPiece allowed.limit piece.now
             (entries_of (D.rows dir.old)) self.old (entries_of (D.rows dir.new)) self.new }
         ensures bounded { length self.new.rest ≤ most_unread }
+        ensures room { StaysWithin allowed.limit allowed.room piece.now (entries_of (D.rows dir.old)) self.old self.new }
     {
-        let spoken = speak(alloc, dir, &mut self.who, piece, allowed, &mut self.out);
+        let inside = Allowance {
+            limit: allowed.limit,
+            room: room_behind(allowed.room, self.taken),
+        };
+        let spoken = speak(alloc, dir, &mut self.who, piece, inside, &mut self.out);
         let end = keep_unread(&mut self.rest, piece, spoken);
         self.closing = closes(end);
         self.cut = cut_behind(end, spoken.answered);
@@ -143,6 +146,7 @@ impl Connection {
         ensures exact { HearsPiece allowed.limit piece.now
             (entries_of (D.rows dir.old)) self.old (entries_of (D.rows dir.new)) self.new }
         ensures bounded { length self.new.rest ≤ most_unread }
+        ensures room { StaysWithin allowed.limit allowed.room piece.now (entries_of (D.rows dir.old)) self.old self.new }
     {
         match self.rest.extend_from_slice(piece) {
             Err(_) => {
@@ -151,20 +155,24 @@ impl Connection {
                 self.cut = Some(0);
             }
             Ok(()) => {
-                let spoken = speak(
-                    alloc,
-                    dir,
-                    &mut self.who,
-                    &self.rest,
-                    allowed,
-                    &mut self.out,
-                );
+                let inside = Allowance {
+                    limit: allowed.limit,
+                    room: room_behind(allowed.room, self.taken),
+                };
+                let spoken = speak(alloc, dir, &mut self.who, &self.rest, inside, &mut self.out);
                 let end = leave_unread(&mut self.rest, spoken);
                 self.closing = closes(end);
                 self.cut = cut_behind(end, spoken.answered);
             }
         }
     }
+}
+
+/// The room of a buffer of which so many octets were taken already.
+fn room_behind(room: usize, taken: usize) -> usize
+    ensures { result ≤ room + taken }
+{
+    room.saturating_add(taken)
 }
 
 /// Whether a buffer of this length, of which so many octets were taken, gives their room back: where all were, or at least

@@ -4,7 +4,7 @@ ghost use Rattle.std.specs.Prelude.{◌≡◌, ◌≤◌, length, IfOk, OnOk, On
 ghost use Rattle.dir_tree.specs.tree.Numbered.{entries_of};
 ghost use Rattle.session_model.specs.Run as run;
 ghost use Rattle.session_model.specs.Kept.{queue_of, closing_of, cut_of, taken_off, forgotten};
-ghost use Rattle.session_hub.specs.Rooms.{room_of, queued_beside};
+ghost use Rattle.session_hub.specs.Rooms.{room_of, queued_beside, HearsWithin};
 ghost use Rattle.session_hub.specs.hub.Hubs.{held, no_hub, Hears, HearsAnywhere, OpensOne, IsBounded};
 ghost use Rattle.session_hub.specs.hub.Following.{FollowsStart, FollowsStep, FollowsAnywhere, FollowsTaking, QueuesReply, ClosesWith, CountsHeld};
 ghost use Rattle.session_hub.specs.Event.{step_by};
@@ -129,6 +129,7 @@ impl Hub {
         ensures kept { OnErr result
             (held (entries_of (D.rows dir.new)) self.new ≡ held (entries_of (D.rows dir.old)) self.old) }
         ensures bounded { IsBounded self.new.kept }
+        ensures room { HearsWithin event.entry self.old.bounds (entries_of (D.rows dir.old)) self.old.kept self.new.kept }
         ensures bounds { self.new.bounds ≡ self.old.bounds }
     {
         let heard = self.hear_event(dir, event);
@@ -158,6 +159,7 @@ impl Hub {
         ensures cause { OnErr result (OpensOne event.entry self.old.kept) }
         ensures kept { OnErr result
             (held (entries_of (D.rows dir.new)) self.new ≡ held (entries_of (D.rows dir.old)) self.old) }
+        ensures room { HearsWithin event.entry self.old.bounds (entries_of (D.rows dir.old)) self.old.kept self.new.kept }
         ensures bounds { self.new.bounds ≡ self.old.bounds }
     {
         match event {
@@ -200,6 +202,8 @@ impl Hub {
     fn hear_piece<D: Dir>(&mut self, dir: &mut D, conn: u32, piece: &[u8])
         ensures heard { Hears self.old.bounds.limit (Event.Bytes conn piece.entry)
             (held (entries_of (D.rows dir.old)) self.old) (held (entries_of (D.rows dir.new)) self.new) }
+        ensures room { HearsWithin (Event.Bytes conn piece.entry) self.old.bounds
+            (entries_of (D.rows dir.old)) self.old.kept self.new.kept }
         ensures bounds { self.new.bounds ≡ self.old.bounds }
     {
         let allowed = self.allowance(conn);

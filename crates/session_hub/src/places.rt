@@ -3,7 +3,7 @@
 ghost use Rattle.std.specs.Prelude.{◌≡◌, ◌≤◌, ◌-◌, ◌^◌, min, length, MatchOption, None, true};
 ghost use Rattle.dir_tree.specs.tree.Numbered.{entries_of};
 ghost use Rattle.session_model.specs.Kept.{kept_of, is_kept, queue_of, closing_of, cut_of, forgotten, taken_off, changed, closed};
-ghost use Rattle.session_hub.specs.Rooms.{queued_beside};
+ghost use Rattle.session_hub.specs.Rooms.{queued_beside, AnswersWithin};
 ghost use Rattle.session_hub.specs.hub.Hubs.{IsAt, IsBounded, AreDistinct, HearsAt};
 
 use crate::allowance::Allowance;
@@ -123,6 +123,8 @@ pub fn hear_at<D: Dir>(
         (entries_of (D.rows dir.old)) connections.old (entries_of (D.rows dir.new)) connections.new result }
     ensures bounded { IsBounded connections.old → IsBounded connections.new }
     ensures distinct { AreDistinct connections.new }
+    ensures room { AnswersWithin allowed.limit allowed.room number piece.now
+        (entries_of (D.rows dir.old)) connections.old connections.new }
 {
     match place_of(connections, *place, number) {
         None => false,

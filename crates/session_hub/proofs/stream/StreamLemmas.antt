@@ -1,5 +1,5 @@
 -- A stream answered message by message from its front.
-use Rattle.std.proofs.Common.{◌≡◌, ◌≤◌, ◌+◌, ◌<◌, ℕ, Bool, true, false, cond, List, [], ◌++◌, length, take, drop, Option, Some, None, refl, ap, sym, ◌∙◌, subst, append_assoc, append-nil, drop-drop, length-drop, arith}
+use Rattle.std.proofs.Common.{◌≡◌, ◌≤◌, ◌+◌, ◌<◌, ℕ, Bool, true, false, cond, List, [], ◌++◌, length, take, drop, Option, Some, None, refl, inl, inr, ap, sym, ◌∙◌, subst, append_assoc, append-nil, drop-drop, length-drop, arith}
 use borrow.Author.Count.{below_more}
 use Rattle.session_model.specs.ldap_msg.declared.kinds.Frame.TheVariants.{Whole, More, Bad}
 use Rattle.session_model.specs.ldap_msg.Streams.{frame_at, rest_of}
@@ -10,7 +10,9 @@ use Rattle.session_model.proofs.Theorems.{one_later, speech-whole, speech-more, 
 use Rattle.session_hub.specs.Parties.{DirectoryEntries, Requester}
 use Rattle.session_hub.specs.declared.spoken.SpeechEnd.TheVariants.{StaysOpen, Closes, IsCut, IsFull}
 use Rattle.session_hub.specs.Answering.{rules}
-use Rattle.session_hub.specs.Answers.{Gives, Speaks, SaysSoFar, HasRoom, said_to, behind}
+use Rattle.session_hub.specs.Rooms.{HasRoom, queued_after}
+use Rattle.session_hub.specs.Answers.{Gives, Speaks, SaysSoFar, said_to, behind}
+use Rattle.session_hub.proofs.messages.AnswerLemmas.{closes_says}
 
 -- a message at the front of the rest is one there of the stream
 message_fits : (stream : List ℕ) (read n : ℕ) → read ≤ length stream → frame_at (drop read stream) ≡ Whole n → read + n ≤ length stream
@@ -122,6 +124,9 @@ so_far_closed limit room t w stream old now new u v x y read answered n so is gi
       cuts = λ h. absurd (cc);
       full = λ h. absurd (cc);
       spare = so.spare;
+      ending = a.replies;
+      queued = gives.said ∙ ap (λ octets. octets ++ a.replies) (cut_here limit room t w stream old now u x read answered so).said;
+      notice = closes_says limit u x (take n rest) (sym gives.closed);
     }
 
 -- less than a message is left
@@ -135,6 +140,9 @@ so_far_more limit room t w stream old now u x read answered so is =
       cuts = λ _. cut_here limit room t w stream old now u x read answered so;
       full = λ h. absurd (cc);
       spare = so.spare;
+      ending = [];
+      queued = (cut_here limit room t w stream old now u x read answered so).said ∙ sym (append-nil (queued_after limit t w stream old answered));
+      notice = inl refl;
     }
 
 -- what is left is no message, and gets the notice
@@ -150,6 +158,9 @@ so_far_bad limit room t w stream old now new u x read answered so is notice =
       cuts = λ h. absurd (cc);
       full = λ h. absurd (cc);
       spare = so.spare;
+      ending = notice_octets;
+      queued = notice ∙ ap (λ octets. octets ++ notice_octets) (cut_here limit room t w stream old now u x read answered so).said;
+      notice = inr refl;
     }
 
 -- there was no memory for what is to be said next
@@ -159,10 +170,10 @@ so_far_cut limit room t w stream old now new u v x y read answered so same left 
     subst (λ z. Speaks limit room t w stream old z v y (record { read = read; answered = answered; end = IsCut })) (sym same)
     (subst (λ z. Speaks limit room t w stream old now z y (record { read = read; answered = answered; end = IsCut })) (sym left)
     (subst (λ z. Speaks limit room t w stream old now u z (record { read = read; answered = answered; end = IsCut })) (sym asker)
-    (record { gives = cut_here limit room t w stream old now u x read answered so; within = so.within; unread = λ h. absurd (cc); cuts = λ h. absurd (cc); full = λ h. absurd (cc); spare = so.spare })))
+    (record { gives = cut_here limit room t w stream old now u x read answered so; within = so.within; unread = λ h. absurd (cc); cuts = λ h. absurd (cc); full = λ h. absurd (cc); spare = so.spare; ending = []; queued = (cut_here limit room t w stream old now u x read answered so).said ∙ sym (append-nil (queued_after limit t w stream old answered)); notice = inl refl })))
 
 -- more is queued than there is room for
 pub so_far_full : (limit room : ℕ) (t : DirectoryEntries) (w : Requester) (stream old now : List ℕ) (u : DirectoryEntries) (x : Requester) (read answered : ℕ) →
     SaysSoFar limit room t w stream old now u x read answered → room < length now → Speaks limit room t w stream old now u x (record { read = read; answered = answered; end = IsFull })
 so_far_full limit room t w stream old now u x read answered so full =
-    record { gives = cut_here limit room t w stream old now u x read answered so; within = so.within; unread = λ h. absurd (cc); cuts = λ h. absurd (cc); full = λ _. full; spare = so.spare }
+    record { gives = cut_here limit room t w stream old now u x read answered so; within = so.within; unread = λ h. absurd (cc); cuts = λ h. absurd (cc); full = λ _. full; spare = so.spare; ending = []; queued = (cut_here limit room t w stream old now u x read answered so).said ∙ sym (append-nil (queued_after limit t w stream old answered)); notice = inl refl }

@@ -6,6 +6,8 @@ use Rattle.session_hub.specs.Parties.{Requester}
 use Rattle.session_hub.specs.hub.Hubs.{HearsAt, AreDistinct}
 use Rattle.session_hub.proofs.hub.HubLemmas.{distinct_set}
 use Rattle.session_hub.specs.connection.Connections.{HearsPiece}
+use Rattle.session_hub.specs.Rooms.{StaysWithin, AnswersWithin}
+use Rattle.session_hub.proofs.connection.RoomLemmas.{answers_nowhere, answers_closing, answers_open}
 use Rattle.session_hub.proofs.connection.HearLemmas.{hears_nowhere, hears_closing, hears_open, is_some_cut}
 use Rattle.session_hub.proofs.places.hear_at.Goals as goal
 
@@ -45,3 +47,18 @@ returns-else-is_closing-clause-distinct g c =
     let k = c.index-connections-at.result in
     distinct_set c.in-Some.at c.args.connections.now k c.hear.new.self c.requires c.in-Some.ensures.within c.index-connections-at.is
     (ap (λ (x : Kept Requester). x.number) c.hear.ensures.exact.kept ∙ ap (λ (x : Kept Requester). x.number) (sym c.index-connections-at.is))
+
+-- the piece is answered within the room, if the connection is held and open
+pub returns-in-None-clause-room : goal.returns-in-None-clause-room
+returns-in-None-clause-room g c = answers_nowhere c.args.allowed.limit c.args.allowed.room c.args.number c.args.piece.now (entries_of (g.D.Dir.rows c.args.dir.now)) c.args.connections.now c.args.connections.now c.in-None.ensures
+
+pub returns-then-is_closing-clause-room : goal.returns-then-is_closing-clause-room
+returns-then-is_closing-clause-room g c =
+    answers_closing c.args.allowed.limit c.args.allowed.room c.args.number c.in-Some.at c.args.piece.now (entries_of (g.D.Dir.rows c.args.dir.now)) c.args.connections.now _ c.index-connections-at.result c.in-Some.ensures c.index-connections-at.is
+    (ap (λ (x : Kept Requester). x.closing) c.index-connections-at.is ∙ sym c.is_closing.ensures ∙ c.if-is_closing.true)
+
+pub returns-else-is_closing-clause-room : goal.returns-else-is_closing-clause-room
+returns-else-is_closing-clause-room g c =
+    answers_open c.args.allowed.limit c.args.allowed.room c.args.number c.in-Some.at c.args.piece.now (entries_of (g.D.Dir.rows c.args.dir.now)) c.args.connections.now c.index-connections-at.result c.hear.new.self c.in-Some.ensures c.index-connections-at.is
+    (ap (λ (x : Kept Requester). x.number) c.hear.ensures.exact.kept ∙ ap (λ (x : Kept Requester). x.number) (sym c.index-connections-at.is))
+    (subst (λ x. StaysWithin c.args.allowed.limit c.args.allowed.room c.args.piece.now (entries_of (g.D.Dir.rows c.args.dir.now)) x c.hear.new.self) (sym c.index-connections-at.is) c.hear.ensures.room)
