@@ -19,6 +19,7 @@ import pathlib
 import random
 import shlex
 import shutil
+import signal
 import socket
 import statistics
 import subprocess
@@ -477,6 +478,8 @@ def main():
     words.add_argument("--serve-words", type=shlex.split, default=[])
     words.add_argument("--alone", action="store_true")
     asked = words.parse_args()
+    # So that the servers are stopped and the files go.
+    signal.signal(signal.SIGTERM, lambda number, _: sys.exit(128 + number))
     with tempfile.TemporaryDirectory() as folder:
         asked.data, asked.clients = os.path.join(folder, "people.ldif"), os.path.join(folder, "hostile")
         pathlib.Path(asked.data).write_text(records(asked.people), encoding="ascii")
