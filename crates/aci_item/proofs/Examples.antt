@@ -34,7 +34,7 @@ everyone : UserClasses
 everyone = record { all = true; this_entry = false; names = []; groups = []; subtrees = [] }
 
 entries : ProtectedItems
-entries = record { entry = true; all_kinds = false; kinds = []; all_values = []; all_kinds_and_values = false; values = []; self_values = [] }
+entries = record { entry = true; all_kinds = false; kinds = []; all_values = []; all_kinds_and_values = false; values = []; self_values = []; max_counts = []; restricted = [] }
 
 -- reading is granted and adding denied, above the item's own precedence
 an_item : Item

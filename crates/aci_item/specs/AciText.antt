@@ -62,6 +62,8 @@ items shape = do
     all_kinds_and_values = all_kinds_and_values.value;
     values = values.value;
     self_values = self_values.value;
+    max_counts = [];
+    restricted = [];
   })
 
 -- Precedence ::= INTEGER (0..255)

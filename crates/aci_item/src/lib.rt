@@ -21,7 +21,7 @@ pub use item::{AciItem, First, ItemPermission, UserPermission};
 pub use level::Level;
 pub use permission::Permission;
 pub use printing::print;
-pub use protected::{AttributeTypeAndValue, ProtectedItems};
+pub use protected::{AttributeTypeAndValue, MaxValueCount, ProtectedItems, RestrictedValue};
 pub use reading::read;
 pub use splitting::{AciTuple, tuples};
 pub use subtree_spec;

@@ -76,6 +76,8 @@ fn items(alloc: Global, tree: &Tree, bad: &mut Bad) -> Result<ProtectedItems, St
         all_kinds_and_values,
         values,
         self_values,
+        max_counts: Vec::new(alloc),
+        restricted: Vec::new(alloc),
     };
     if !is_end(trees) {
         return Err(Stop::Misfit);

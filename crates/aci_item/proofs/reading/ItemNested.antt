@@ -161,6 +161,8 @@ items_are_shallow shape =
       all_kinds_and_values = both.value;
       values = values.value;
       self_values = selves.value;
+      max_counts = [];
+      restricted = [];
     })))))))))
 
 -- ---- permissions

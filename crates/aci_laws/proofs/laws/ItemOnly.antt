@@ -119,6 +119,8 @@ items_are_good shape =
       all_kinds_and_values = both.value;
       values = values.value;
       self_values = selves.value;
+      max_counts = [];
+      restricted = [];
     })
     (λ texts selves_good values_good both_good whole_good some_good all_good entry_good. record { kinds = some_good; all_values = whole_good; values = values_good; self_values = selves_good })))))))))
 
