@@ -41,14 +41,16 @@ fn count_left(question: &Question<'_>, kind: AttrId, value: &Value) -> usize
 
 // Whether the entry has an equal value of the other type, once it has the value.
 fn has_with(entry: &Entry, kind: AttrId, value: &Value, other: AttrId) -> bool
-    ensures exact { result ≡ has_key value.now.key (values_of other.0 (with_value kind.0 value.now entry.now).attributes) }
+    ensures exact { result
+        ≡ has_key value.now.key (values_of other.0 (with_value kind.0 value.now entry.now).attributes) }
 {
     kind.0 == other.0 || entry.has_value(other, value.key())
 }
 
 // The same of the entry that the change would leave.
 fn has_left(question: &Question<'_>, kind: AttrId, value: &Value, other: AttrId) -> bool
-    ensures exact { result ≡ has_key value.now.key (values_of other.0 (left_with question.now kind.0 value.now).attributes) }
+    ensures exact { result
+        ≡ has_key value.now.key (values_of other.0 (left_with question.now kind.0 value.now).attributes) }
 {
     match question.after {
         Some(after) => after.has_value(other, value.key()),
@@ -65,7 +67,12 @@ fn is_past(question: &Question<'_>, kind: AttrId, value: &Value, limit: &MaxValu
 }
 
 // Whether it would be so by one of the limits.
-fn is_any_past(question: &Question<'_>, kind: AttrId, value: &Value, limits: &[MaxValueCount]) -> bool
+fn is_any_past(
+    question: &Question<'_>,
+    kind: AttrId,
+    value: &Value,
+    limits: &[MaxValueCount],
+) -> bool
     ensures exact { result ≡ list_any (is_past kind.0 (left_with question.now kind.0 value.now))
         (map max_value_count_of limits.now) }
 {
@@ -86,7 +93,12 @@ fn is_outside(question: &Question<'_>, kind: AttrId, value: &Value, limit: &Rest
 }
 
 // Whether it is so by one of the restrictions.
-fn is_any_outside(question: &Question<'_>, kind: AttrId, value: &Value, limits: &[RestrictedValue]) -> bool
+fn is_any_outside(
+    question: &Question<'_>,
+    kind: AttrId,
+    value: &Value,
+    limits: &[RestrictedValue],
+) -> bool
     ensures exact { result ≡ list_any (is_outside kind.0 value.now (left_with question.now kind.0 value.now))
         (map restricted_value_of limits.now) }
 {

@@ -93,8 +93,8 @@ impl IndexedDir {
     ) -> bool
         requires known { AreMemberships (entries_of self.now) who.now.name known.now }
         requires entry { entry_of number.0 self.now ≡ Some entry.now }
-        ensures exact { result
-            ≡ granted_after (entries_of self.now) who.now entry.now addition.after.now addition.kind.0 addition.value.now }
+        ensures exact { result ≡ granted_after (entries_of self.now) who.now entry.now
+            addition.after.now addition.kind.0 addition.value.now }
     {
         let question = Question {
             who,
