@@ -11,6 +11,9 @@ const SITE: &str = "\
     dn: dc=m\n\
     objectClass: domain\n\
     administrativeRole: autonomousArea\n\
+    subentryACI: { identificationTag \"rules\", precedence 10, authenticationLevel simple, itemOrUserFirst \
+    userFirst: { userClasses { name { \"cn=ann,ou=a,dc=m\" } }, userPermissions { { protectedItems { entry }, \
+    grantsAndDenials { grantDiscloseOnError, grantRename, grantExport, grantImport } } } } }\n\
     \n\
     dn: cn=all,dc=m\n\
     objectClass: subentry\n\
@@ -138,9 +141,10 @@ static REFUSED: [Row; 20] = [
     (BOB, Z, "cn=z", B, "50"),
     // it may not come
     (BOB, X, "cn=x", C, "50"),
+    // of a subentry that is decided by what its new superior says of subentries
+    (ANN, "cn=out,dc=m", "cn=out", B, "50"),
     // the rules
     (ANN, X, "cn=x", Some("cn=all,dc=m"), "64"),
-    (ANN, "cn=out,dc=m", "cn=out", B, "64"),
 ];
 
 #[test]
@@ -158,7 +162,7 @@ static DONE: [Row; 7] = [
     (CID, X, "cn=w", A, "ou=a,dc=m;cn=w,ou=a,dc=m;cn=z,ou=a,dc=m;ou=b,dc=m;cn=z,ou=b,dc=m;ou=c,dc=m;"),
     (ANN, X, "cn=w", B, "ou=a,dc=m;cn=z,ou=a,dc=m;ou=b,dc=m;cn=w,ou=b,dc=m;cn=z,ou=b,dc=m;ou=c,dc=m;"),
     (ANN, X, "cn=x", Some("dc=m"), "cn=x,dc=m;ou=a,dc=m;cn=z,ou=a,dc=m;ou=b,dc=m;cn=z,ou=b,dc=m;ou=c,dc=m;"),
-    (ANN, "ou=c,dc=m", "ou=d", Some("ou=b,dc=m"), "ou=a,dc=m;cn=x,ou=a,dc=m;cn=z,ou=a,dc=m;ou=b,dc=m;ou=d,ou=b,dc=m;cn=z,ou=b,dc=m;"),
+    (ANN, "ou=c,dc=m", "ou=d", Some("ou=b,dc=m"), "ou=a,dc=m;cn=x,ou=a,dc=m;cn=z,ou=a,dc=m;ou=b,dc=m;cn=z,ou=b,dc=m;ou=d,ou=b,dc=m;"),
 ];
 
 #[test]
@@ -176,7 +180,10 @@ fn an_entry_that_may_leave_and_come_stands_below_its_new_superior(
         )?;
         assert_eq!(rt; found.as_str(), "0", "{name} to {rdn} by {who}");
         let left = names(alloc, &dir)?;
-        assert!(rt; left.as_str().ends_with(want), "{name} to {rdn} by {who}: {left}");
+        assert!(rt;
+            left.as_str().ends_with(want),
+            "{name} to {rdn} by {who}: {left}"
+        );
     }
     Ok(())
 }
@@ -185,22 +192,14 @@ fn an_entry_that_may_leave_and_come_stands_below_its_new_superior(
 static STEPS: [(&str, Change, &str); 9] = [
     (BOB, Change::Rename(X, "cn=x", true, B), "0"),
     // it may not be taken from there
-    (
-        BOB,
-        Change::Rename("cn=x,ou=b,dc=m", "cn=x", true, A),
-        "32",
-    ),
+    (BOB, Change::Rename("cn=x,ou=b,dc=m", "cn=x", true, A), "32"),
     (
         CID,
         Change::Rename("cn=x,ou=b,dc=m", "cn=w", true, None),
         "32",
     ),
     (BOB, Change::Rename(X, "cn=x", true, B), "32"),
-    (
-        ANN,
-        Change::Rename("cn=x,ou=b,dc=m", "cn=x", true, A),
-        "0",
-    ),
+    (ANN, Change::Rename("cn=x,ou=b,dc=m", "cn=x", true, A), "0"),
     (CID, Change::Rename(X, "cn=w", true, None), "0"),
     (
         ANN,
