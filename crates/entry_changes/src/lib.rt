@@ -17,4 +17,4 @@ pub use change::EntryChange;
 pub use changing::change_entry;
 pub use fault::{ChangeFault, NoMemory};
 pub use kind::ChangeKind;
-pub use renaming::rename_entry;
+pub use renaming::{is_same_rdn, rename_entry};
