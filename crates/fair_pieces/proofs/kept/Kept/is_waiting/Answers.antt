@@ -1,4 +1,4 @@
-use Rattle.std.proofs.Common.{◌<◌, List, length, subst, sym}
+use Rattle.std.proofs.Common.{◌<◌, length, subst, sym}
 use Rattle.fair_pieces.proofs.laws.AdvanceLemmas.{few_given}
 use Rattle.fair_pieces.proofs.kept.Kept.is_waiting.Goals as goal
 
