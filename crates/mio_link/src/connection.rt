@@ -87,12 +87,9 @@ impl Connection {
         is_open && !self.is_on_hold && !self.may_read && self.kept.is_waiting()
     }
 
-    /// Ends it, and says so.
-    pub(crate) fn end(&mut self) -> Heard
-        ensures fits { (len : ℕ) → HeardFits len result }
-    {
+    /// Ends it: it is read no more.
+    pub(crate) fn set_ended(&mut self) {
         self.is_ended = true;
-        Heard::Ended(self.number)
     }
 
     /// Notes that for so many seconds nothing of it was heard, and says whether there is something to be
@@ -156,7 +153,8 @@ impl Connection {
         } else if self.may_read {
             self.read(now, buf)
         } else if self.is_idle {
-            Some(self.end())
+            self.is_ended = true;
+            Some(Heard::Ended(self.number))
         } else {
             None
         }
@@ -171,18 +169,38 @@ impl Connection {
     {
         let had = self.kept.copy(buf);
         match self.stream.read(&mut buf[had..]) {
-            Ok(count) if count > 0 => {
+            Ok(0) => Some(self.finish(&buf[..had])),
+            Ok(count) => {
                 let all = had + count;
                 self.may_read = all == buf.len() || self.is_read_closed;
                 Some(self.take(now, &buf[..all]))
             }
-            Ok(_) if had > 0 => {
-                self.kept.forget();
-                Some(Heard::Bytes(self.number, had))
-            }
-            Ok(_) => Some(self.end()),
-            Err(error) => self.unread(error.kind()),
+            Err(error) => match error.kind() {
+                ErrorKind::WouldBlock => {
+                    self.may_read = false;
+                    None
+                }
+                ErrorKind::Interrupted | ErrorKind::OutOfMemory => Some(Heard::Idle),
+                _ => {
+                    self.is_lost = true;
+                    self.is_ended = true;
+                    Some(Heard::Ended(self.number))
+                }
+            },
         }
+    }
+
+    /// What is heard where no octet comes any more: these first, which are all that is kept, and then the
+    /// end.
+    fn finish(&mut self, octets: &[u8]) -> Heard
+        ensures fits { (len : ℕ) → length octets.now ≤ len → HeardFits len result }
+    {
+        if octets.len() > 0 {
+            self.kept.forget();
+            return Heard::Bytes(self.number, octets.len());
+        }
+        self.is_ended = true;
+        Heard::Ended(self.number)
     }
 
     /// What is heard of octets that were read, with those that were kept at their front: as many as the
@@ -198,23 +216,9 @@ impl Connection {
         match self.kept.keep(octets) {
             Ok(0) => Heard::Idle,
             Ok(given) => Heard::Bytes(self.number, given),
-            Err(_) => self.end(),
-        }
-    }
-
-    /// What is heard where nothing could be read.
-    fn unread(&mut self, kind: ErrorKind) -> Option<Heard>
-        ensures fits { (len : ℕ) → IfSome result (HeardFits len) }
-    {
-        match kind {
-            ErrorKind::WouldBlock => {
-                self.may_read = false;
-                None
-            }
-            ErrorKind::Interrupted | ErrorKind::OutOfMemory => Some(Heard::Idle),
-            _ => {
-                self.is_lost = true;
-                Some(self.end())
+            Err(_) => {
+                self.is_ended = true;
+                Heard::Ended(self.number)
             }
         }
     }

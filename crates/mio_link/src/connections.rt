@@ -140,7 +140,10 @@ impl Connections {
     {
         let place = self.most_silent()?;
         match self.at(place) {
-            Some(connection) => Some(connection.end()),
+            Some(connection) => {
+                connection.set_ended();
+                Some(Heard::Ended(connection.number()))
+            }
             None => None,
         }
     }
