@@ -1,5 +1,5 @@
 -- What stands neither at nor below the superior that an entry leaves is apart from the entry as it was.
-use Rattle.std.proofs.Common.{◌≡◌, ◌≢◌, inl, inr, ℕ, true, false, List, [], ◌∷◌, Option, Some, None, refl, sym, ap, subst, ◌∙◌}
+use Rattle.std.proofs.Common.{◌≡◌, ◌≢◌, inl, inr, ℕ, true, false, List, [], ◌∷◌, Option, Some, None, refl, sym, ap, subst, ◌∙◌, arith}
 use Rattle.std.specs.Prelude.{is_some, unwrap_or}
 use Rattle.std.specs.List.{AllByRecursion}
 use Rattle.std.specs.Option.{option_and_then}
@@ -10,7 +10,7 @@ use Rattle.dir_tree.specs.tree.Trees.{has_below, named_in, superior_name}
 use Rattle.dir_tree.specs.tree.Numbered.{Numbered, IsNumberedTree, entries_of, entry_of, find_name, suffix_of, superior_of, without}
 use Rattle.dir_tree.specs.Scope.{is_within, scoped}
 use Rattle.dir_tree.specs.declared.scope.Scope.TheVariants.{Sub}
-use Rattle.dir_tree.proofs.TreeTheorems.{all_known_entry, all_under_suffix, before_not_same, entry_of-found, found_both, found_row, found_same, outside, superior_before, superior_of-others}
+use Rattle.dir_tree.proofs.TreeTheorems.{all_known_entry, all_under_suffix, entry_of-found, filled as name_filled, found_both, found_row, found_same, length-same, length-superior, outside, superior_of-others}
 use Rattle.aci_index.proofs.laws.NumberLemmas.{entry_of-new}
 use Rattle.aci_index.proofs.laws.RowLemmas.{change-taken}
 use Rattle.aci_index.proofs.inserting.ReachLemmas.{IsApart, unreached-Sub}
@@ -33,8 +33,10 @@ module _ (id : ℕ) (old : EntryInformation) (rows new : List Numbered) (tree : 
       let is : base ≡ old = cc in
       let itself : is_same (superior_name old.name) old.name ≡ true = ap (λ (x : EntryInformation). is_same (superior_name old.name) x.name) (sym is) ∙ same in
       let filled = all_known_entry (λ other. other.name ≢ []) id old rows tree.tree.named known in
-      let clash : true ≡ false = sym itself ∙ before_not_same (superior_name old.name) old.name (superior_before old.name filled) in
-      absurd cc
+      let alike = length-same (superior_name old.name) old.name itself in
+      let less = length-superior old.name in
+      let some = name_filled old.name filled in
+      omega arith
 
   module _ (number : ℕ) (entry : EntryInformation) (there : entry_of number new ≡ Some entry) (differs : number ≢ id) (alone : has_below old.name (entries_of rows) ≡ false) (h : AllByRecursion (λ other. other ≢ number) (scoped Sub (unwrap_or (superior_of id rows) id) new)) where
     was : entry_of number rows ≡ Some entry
