@@ -1,8 +1,7 @@
 -- What an entry has with a value put into it.
-use Rattle.std.proofs.Common.{◌≡◌, ◌⊎◌, inl, inr, ℕ, ◌+◌, ◌==◌, Bool, true, false, ◌||◌, length, List, [], ◌∷◌, ◌++◌, refl, sym, ap, ◌∙◌, if◌then◌else◌}
-use Rattle.std.specs.List.{list_any}
+use Rattle.std.proofs.Common.{◌≡◌, ◌⊎◌, inl, inr, ℕ, ◌+◌, ◌==◌, Bool, true, false, ◌||◌, length, List, [], ◌∷◌, refl, sym, ap, ◌∙◌}
 use Rattle.std.specs.Str.{bytes_eq}
-use Rattle.std.proofs.lemmas.Bool.{cases_Bool, eqb-true, eqb-false, or_right}
+use Rattle.std.proofs.lemmas.Bool.{cases_Bool, eqb-true, eqb-false}
 use Rattle.std.proofs.lemmas.List.{length-append}
 use Rattle.std.proofs.lemmas.List.Folds.{list_any-append}
 use Rattle.std.proofs.lemmas.Slice.Eq.{bytes_eq-Decides}
@@ -11,14 +10,11 @@ use Rattle.dir_tree.specs.Entry.{EntryInformation, values_of, has_key}
 use Rattle.dir_tree.specs.attributes.Changes.{with_value, put_value}
 use Rattle.dir_tree.proofs.Theorems.{values_of-put_value, values_of-put_other}
 
--- one value of the type more, where it was not there
-pub length-with_value : (kind : ℕ) (value : Keyed) (entry : EntryInformation)
-    → length (values_of kind (with_value kind value entry).attributes)
-    ≡ (if has_key value.key (values_of kind entry.attributes) then length (values_of kind entry.attributes) else length (values_of kind entry.attributes) + 1)
-length-with_value kind value entry = elim (cases_Bool (has_key value.key (values_of kind entry.attributes))) [
-  | inl e ↦ rw e refl
-  | inr e ↦ rw e (ap length (values_of-put_value kind value entry.attributes) ∙ length-append (values_of kind entry.attributes) (value ∷ []))
-]
+-- one value of the type more, where no equal one was there
+pub length-with_new : (kind : ℕ) (value : Keyed) (entry : EntryInformation) → has_key value.key (values_of kind entry.attributes) ≡ false
+    → length (values_of kind (with_value kind value entry).attributes) ≡ length (values_of kind entry.attributes) + 1
+length-with_new kind value entry e =
+    rw e (ap length (values_of-put_value kind value entry.attributes) ∙ length-append (values_of kind entry.attributes) (value ∷ []))
 
 -- a value has its own key
 same_key : (key : List ℕ) → bytes_eq key key ≡ true
