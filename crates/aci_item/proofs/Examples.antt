@@ -2,6 +2,7 @@
 use Rattle.std.proofs.Common.{◌≡◌, ℕ, [], ◌∷◌, true, false, refl}
 use Rattle.std.specs.Prelude.{codes, Some, None}
 use Rattle.dir_tree.specs.schema_tables.Attributes.{attributes}
+use Rattle.dir_tree.specs.schema_tables.Oids.{is_dotted_oid}
 use Rattle.gser_tree.specs.looking.Shapes.{Word}
 use Rattle.gser_tree.specs.Writing.{text_of}
 use Rattle.subtree_spec.specs.Parts.{oid}
@@ -77,11 +78,11 @@ other_syntax = refl
 
 -- values are among those of a type of the same syntax, else the second name is the bad part
 a_restriction : (places : ℕ) → kind_alike 1 (Word (record { text = codes "sn"; place = places })) None ≡ Some (record { value = 2; bad = None })
-unfolding attributes kind_alike oid
+unfolding attributes kind_alike oid is_dotted_oid
 a_restriction places = refl
 
 a_bad_restriction : (places : ℕ) → kind_alike 1 (Word (record { text = codes "telephoneNumber"; place = places })) None ≡ Some (record { value = 0; bad = Some places })
-unfolding attributes kind_alike oid
+unfolding attributes kind_alike oid is_dotted_oid
 a_bad_restriction places = refl
 
 limited : ProtectedItems

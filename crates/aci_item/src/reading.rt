@@ -302,8 +302,9 @@ fn item(alloc: Global, tree: &Tree, bad: &mut Bad) -> Result<AciItem, Stop>
 /// value of their own alone, a level by its word, a user by a string.
 ///
 /// `Text` comes for octets that are not in the grammar, else `Part` for the first part that breaks its rule: a
-/// precedence above 255, an attribute type that is not in the table, a value that is not of its type's syntax, a
-/// subtree of users with a refinement, a name that is none. `NoMemory` may come in place of any answer.
+/// precedence above 255, a number of values above 2147483647, an attribute type that is not in the table, in `valuesIn`
+/// one of another syntax, a value that is not of its type's syntax, a subtree of users with a refinement, a name that
+/// is none. `NoMemory` may come in place of any answer.
 pub fn read(alloc: Global, text: &[u8]) -> Result<AciItem, BadText>
     ensures ok { IfOk result (λ item. AciText (item_of_code item) text.now) }
     ensures given { (item : Item) → AciText item text.now → Answers item_of_code fault_of result (Ok item) }
