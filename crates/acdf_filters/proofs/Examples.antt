@@ -43,6 +43,8 @@ nothing = record {
   all_kinds_and_values = false;
   values = [];
   self_values = [];
+  max_counts = [];
+  restricted = [];
 }
 
 -- a tuple for reading, of these classes, items and precedence
