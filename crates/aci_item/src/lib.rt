@@ -4,7 +4,9 @@
 mod bits;
 mod classes;
 mod item;
+mod kind_printing;
 mod level;
+mod limits;
 mod members;
 mod parts;
 mod permission;
