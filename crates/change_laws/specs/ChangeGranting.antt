@@ -17,6 +17,7 @@ use Rattle.op_add_delete.specs.directory.Targets.{is_suffix}
 use Rattle.entry_changes.specs.Change.{Modification}
 use Rattle.entry_changes.specs.Renaming.{renamed_entry}
 use Rattle.op_modify.specs.ReadChanges.{read_changes}
+use Rattle.op_modify.specs.Modifying.{asker_of}
 use Rattle.op_modify.specs.Renames.{new_name}
 use Rattle.change_laws.specs.Changing.{MayChangeEach}
 
@@ -30,7 +31,7 @@ pub record MayModify (entries : List EntryInformation) (who : Requester) (reques
   pub changes_read : read_changes request.changes ≡ Ok changes
   pub found : named_in name entries ≡ Some target
   pub allowed : granted entries who target Entry Modify ≡ true
-  pub changed : MayChangeEach (granted entries who target) target changes left
+  pub changed : MayChangeEach (asker_of entries who target) target changes left
   pub unbroken : broken_rule (Some target) (taken_out target.name entries) left ≡ None
 
 -- the text is the name of the entry's superior
