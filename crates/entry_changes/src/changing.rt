@@ -1,7 +1,9 @@
 //! Changes of an entry.
 
-ghost use Rattle.ldap_msg.specs.plain_values.Answers.{Answers};
+ghost use Rattle.std.specs.Prelude.{◌≡◌, Ok, IfErr, OnOk};
+ghost use Rattle.ldap_msg.specs.plain_values.Answers.{Answers, IsFaultOf};
 ghost use Rattle.entry_changes.specs.Change.{changed_by, cause_of};
+ghost use Rattle.entry_changes.specs.Steps.{left_in};
 
 use crate::ask::EntryAsker;
 use crate::change::EntryChange;
@@ -9,6 +11,26 @@ use crate::fault::ChangeFault;
 use crate::pending::Pending;
 use dir_tree::Entry;
 use std::alloc::Global;
+
+// Makes the changes, in their order, unless one is refused.
+fn apply_each<A: EntryAsker>(
+    asker: &A,
+    left: &mut Pending,
+    changes: &[EntryChange],
+) -> Result<(), ChangeFault>
+    ensures ok { OnOk result (changed_by (A.asker asker.now) (left_in left.old) changes.now
+        ≡ Ok (left_in left.new)) }
+    ensures refused { IfErr result (λ fault. IsFaultOf (cause_of fault)
+        (changed_by (A.asker asker.now) (left_in left.old) changes.now)) }
+{
+    for change in changes {
+        match left.apply(asker, change) {
+            Ok(()) => {}
+            Err(fault) => return Err(fault),
+        }
+    }
+    Ok(())
+}
 
 /// The entry with the changes, in their order (RFC 4511 4.6, X.511 11.3). Each is judged by the values that the earlier
 /// ones left, and by the permissions of the requester, which the asker knows: those of the entry as it was before the
@@ -25,11 +47,8 @@ pub fn change_entry<A: EntryAsker>(
         (changed_by (A.asker asker.now) entry.now changes.items) }
 {
     let mut left = Pending::new(alloc, entry.copy(alloc)?)?;
-    for change in &changes {
-        match left.apply(asker, change) {
-            Ok(()) => {}
-            Err(fault) => return Err(fault),
-        }
+    match apply_each(asker, &mut left, &changes) {
+        Ok(()) => Ok(left.into_entry()?),
+        Err(fault) => Err(fault),
     }
-    Ok(left.into_entry()?)
 }

@@ -1,6 +1,6 @@
 //! What a change that is not refused leaves of the entry.
 
-ghost use Rattle.std.specs.Prelude.{◌≡◌, IfOk, OnOk};
+ghost use Rattle.std.specs.Prelude.{◌≡◌, ◌++◌, [], ◌∷◌, IfOk, OnOk};
 ghost use Rattle.std.specs.List.{IsDistinct};
 ghost use Rattle.dir_tree.specs.Entry.{is_match};
 ghost use Rattle.entry_changes.specs.declared.kind.ChangeKind.TheVariants as change_kind;
@@ -53,15 +53,29 @@ fn drop_values(entry: &mut Entry, kind: AttrId, values: &[Value])
     }
 }
 
+// Puts the value behind the others, unless it matches one of those that go.
+fn put_staying(
+    alloc: Global,
+    left: &mut Vec<Value>,
+    gone: &Values,
+    value: &Value,
+) -> Result<(), NoMemory>
+    ensures ok { OnOk result (left.new.items ≡ left.old.items ++ staying gone.now (value.now ∷ [])) }
+{
+    if gone.has_key(value.key()) {
+        return Ok(());
+    }
+    left.push(value.copy(alloc)?)?;
+    Ok(())
+}
+
 // The values that match none of those that go.
 fn staying(alloc: Global, values: &[Value], gone: &Values) -> Result<Vec<Value>, NoMemory>
     ensures ok { IfOk result (λ left. left.items ≡ staying gone.now values.now) }
 {
     let mut left = Vec::new(alloc);
     for value in values {
-        if !gone.has_key(value.key()) {
-            left.push(value.copy(alloc)?)?;
-        }
+        put_staying(alloc, &mut left, gone, value)?;
     }
     Ok(left)
 }

@@ -156,7 +156,11 @@ pub(crate) fn delete_values_refusal<A: Ask>(
 
 /// Why the attribute is not deleted.
 #[tactic(auto, unfolding(crate::specs::Change::delete_refusal))]
-pub(crate) fn delete_kind_refusal<A: Ask>(asker: &A, kind: AttrId, old: &[Value]) -> Option<ResultCode>
+pub(crate) fn delete_kind_refusal<A: Ask>(
+    asker: &A,
+    kind: AttrId,
+    old: &[Value],
+) -> Option<ResultCode>
     ensures exact { result ≡ delete_refusal (A.asks asker.now) kind.0 old.now [] }
 {
     if !asker.asks(Item::Kind(kind), Permission::Remove) {

@@ -1,5 +1,5 @@
 -- Tables of refusals: what the first part of one says of the whole.
-use Rattle.std.proofs.Common.{◌≡◌, ℕ, false, map, List, [], ◌∷◌, ◌++◌, Option, Some, None, Result, Ok, refl, ap, ◌∙◌}
+use Rattle.std.proofs.Common.{◌≡◌, List, [], ◌∷◌, ◌++◌, Option, Some, None, Result, Ok, refl, ap, ◌∙◌}
 use Rattle.ldap_msg.specs.plain_values.Answers.{IsFaultOf}
 use Rattle.ldap_msg.specs.plain_values.Results.{◌>>=◌}
 use Rattle.dir_tree.specs.Entry.{EntryInformation}

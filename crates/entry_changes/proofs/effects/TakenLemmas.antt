@@ -1,6 +1,5 @@
 -- Values that are taken out one by one leave what those that stay, put in their place, leave.
-use Rattle.std.proofs.Common.{◌≡◌, ◌≢◌, inl, inr, ℕ, ◌==◌, nat_lt, length, Bool, true, false, not, ◌&&◌, ◌||◌, cond, List, [], ◌∷◌, ◌++◌, filter, refl, sym, ap, ◌∙◌, subst, arith}
-use Rattle.std.specs.Prelude.{if◌then◌else◌}
+use Rattle.std.proofs.Common.{◌≡◌, ◌≢◌, inl, inr, ℕ, ◌==◌, nat_lt, length, Bool, true, false, not, ◌&&◌, ◌||◌, cond, List, [], ◌∷◌, ◌++◌, filter, append_assoc, refl, sym, ap, ◌∙◌, subst, arith}
 use Rattle.std.specs.List.{AllByRecursion, IsDistinct}
 use Rattle.std.specs.Str.{bytes_eq}
 use Rattle.std.proofs.lemmas.Bool.{cases_Bool, eqb-true}
@@ -12,7 +11,7 @@ use Rattle.dir_tree.specs.attributes.Changes.{set_in, without_key, cut_attribute
 use Rattle.dir_tree.proofs.Theorems.{values_of-cut, good-without_value}
 use Rattle.dir_tree.proofs.base_laws_proofs.Theorems.{text_apart, all_filter}
 use Rattle.entry_changes.specs.declared.kind.ChangeKind.TheVariants.{Replace}
-use Rattle.entry_changes.specs.Change.{are_none, without_each, left_by}
+use Rattle.entry_changes.specs.Change.{without_each, left_by}
 use Rattle.entry_changes.specs.Steps.{staying}
 
 -- ---- the values that stay
@@ -30,6 +29,21 @@ staying-more value gone (first ∷ old) = rw (same_test value.key first.key) (el
   | inl e ↦ rw e (staying-more value gone old)
   | inr e ↦ rw (e, staying-more value gone old) refl
 ])
+
+-- one more of the values
+staying-cons : (gone : List Keyed) (value : Keyed) (more : List Keyed) → staying gone (value ∷ more) ≡ staying gone (value ∷ []) ++ staying gone more
+staying-cons gone value more = elim (cases_Bool (has_key value.key gone)) [
+  | inl e ↦ rw e refl
+  | inr e ↦ rw e refl
+]
+
+pub staying-next : (gone left next rest : List Keyed) (value : Keyed) (more : List Keyed) → rest ≡ value ∷ more → next ≡ left ++ staying gone (value ∷ [])
+    → left ++ staying gone rest ≡ next ++ staying gone more
+staying-next gone left next rest value more is put =
+    ap (λ rest. left ++ staying gone rest) is
+    ∙ ap (λ stays. left ++ stays) (staying-cons gone value more)
+    ∙ sym (append_assoc left (staying gone (value ∷ [])) (staying gone more))
+    ∙ ap (λ front. front ++ staying gone more) (sym put)
 
 staying-none : (old : List Keyed) → staying [] old ≡ old
 staying-none [] = refl

@@ -1,5 +1,5 @@
 -- Changes of an entry from which values are still to be taken out.
-use Rattle.std.proofs.Common.{◌≡◌, ℕ, Bool, true, false, map, List, [], ◌∷◌, ◌++◌, Option, Some, None, Result, Ok, refl, sym, ap, ◌∙◌, subst}
+use Rattle.std.proofs.Common.{◌≡◌, ℕ, true, false, map, List, [], ◌∷◌, ◌++◌, Option, Ok, refl, sym, ap, ◌∙◌, subst}
 use Rattle.ldap_msg.specs.plain_values.Answers.{IsFaultOf}
 use Rattle.ldap_msg.specs.plain_values.Refusals.{first_some}
 use Rattle.dir_tree.specs.dn_names.name.Names.{Keyed}
