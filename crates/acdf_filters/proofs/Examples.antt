@@ -9,12 +9,13 @@ use Rattle.dir_tree.specs.dn_names.Classes.{class_of}
 use Rattle.dir_tree.specs.dn_names.Printing.{name_key, print_by, print_value}
 use Rattle.dir_tree.specs.Entry.{EntryInformation}
 use Rattle.aci_item.specs.declared.level.Level.TheVariants.{Anyone, Simple, Strong}
-use Rattle.aci_item.specs.declared.permission.Permission.TheVariants.{Read, Browse}
+use Rattle.aci_item.specs.declared.permission.Permission.TheVariants.{Add, Read, Browse}
 use Rattle.aci_item.specs.item.Items.{UserClasses, ProtectedItems}
 use Rattle.aci_item.specs.AciTuples.{AciTuple}
-use Rattle.acdf_filters.specs.Asking.{Entry, Kind, Value, Asked}
+use Rattle.acdf_filters.specs.Asking.{Entry, Kind, Value, Asked, asked_on}
 use Rattle.acdf_filters.specs.users.Users.{is_in_group, ranks_of, listed_ranks}
 use Rattle.acdf_filters.specs.Covering.{covers, is_explicit, has_names}
+use Rattle.acdf_filters.specs.Limits.{exceeds, is_barred}
 use Rattle.acdf_filters.specs.Filters.{Placed, stays, rank, left_by_users, left_by_item, left_by_permission, left_by_precedence, left_by_class, left_by_explicit, decided}
 
 -- a name of one RDN for each letter
@@ -43,6 +44,8 @@ nothing = record {
   all_kinds_and_values = false;
   values = [];
   self_values = [];
+  max_counts = [];
+  restricted = [];
 }
 
 -- a tuple for reading, of these classes, items and precedence
@@ -65,7 +68,7 @@ whole = record nothing { entry = true }
 
 -- Ada asks to read the entry as a whole
 abbrev ada_reads : Asked
-ada_reads = record { who = record { name = Some ada; level = Simple }; item = Entry; permission = Read }
+ada_reads = asked_on (record { name = Some ada; level = Simple }) (record { name = []; attributes = [] }) Entry Read
 
 -- a group of which Ada is a member, and one of which that group is a member
 abbrev group : RdnSequence → RdnSequence → EntryInformation
@@ -203,3 +206,79 @@ many =
 each_filter_takes_one : counts ada_reads many ≡ 6 ∷ 5 ∷ 4 ∷ 3 ∷ 2 ∷ 1 ∷ 1 ∷ []
 unfolding covers is_explicit
 each_filter_takes_one = refl
+
+-- limits: a group of one member, and one of two
+abbrev group_of_one : EntryInformation
+group_of_one = group (rdn "g" ∷ []) ada
+
+abbrev bob : Keyed
+bob = named (rdn "b" ∷ [])
+
+abbrev cleo : Keyed
+cleo = named (rdn "c" ∷ [])
+
+abbrev group_of_two : EntryInformation
+group_of_two = record { name = rdn "g" ∷ []; attributes = record { kind = 14; values = named ada ∷ bob ∷ [] } ∷ [] }
+
+-- Ada adds a member
+abbrev ada_adds : EntryInformation → Keyed → Asked
+ada_adds entry value = asked_on (record { name = Some ada; level = Simple }) entry (Value 14 value) Add
+
+-- of at most two, or of a type whose values are all among those of uniqueMember
+abbrev at_most_two : ProtectedItems
+at_most_two = record nothing { all_values = 14 ∷ []; max_counts = record { kind = 14; max_count = 2 } ∷ [] }
+
+abbrev among_others : ProtectedItems
+among_others = record nothing { all_values = 14 ∷ []; restricted = record { kind = 14; values_in = 21 } ∷ [] }
+
+abbrev adding : ProtectedItems → Bool → ℕ → AciTuple
+adding items grants precedence = record (tuple everyone items grants precedence) { permissions = Add ∷ Read ∷ [] }
+
+a_second_member_is_within_the_limit : is_barred (ada_adds group_of_one bob) (adding at_most_two true 10) ≡ false
+unfolding exceeds name_key print_by print_value class_of attributes
+a_second_member_is_within_the_limit = refl
+
+a_third_is_not : is_barred (ada_adds group_of_two cleo) (adding at_most_two true 10) ≡ true
+unfolding exceeds name_key print_by print_value class_of attributes
+a_third_is_not = refl
+
+-- a value that is there is not counted again
+a_member_that_is_there_counts_once : is_barred (ada_adds group_of_two bob) (adding at_most_two true 10) ≡ false
+unfolding exceeds name_key print_by print_value class_of attributes
+a_member_that_is_there_counts_once = refl
+
+-- what the whole change leaves is what counts
+others_that_are_added_count : is_barred (record (ada_adds group_of_one cleo) { after = record group_of_two { attributes = record { kind = 14; values = named ada ∷ bob ∷ cleo ∷ [] } ∷ [] } }) (adding at_most_two true 10) ≡ true
+unfolding exceeds name_key print_by print_value class_of attributes
+others_that_are_added_count = refl
+
+-- denials have no limits, nor has another permission, nor the type
+a_denial_stays_as_it_is : is_barred (ada_adds group_of_two cleo) (adding at_most_two false 10) ≡ false
+a_denial_stays_as_it_is = refl
+
+reading_has_no_limit : is_barred (record (ada_adds group_of_two cleo) { permission = Read }) (adding at_most_two true 10) ≡ false
+reading_has_no_limit = refl
+
+the_type_has_no_limit : is_barred (record (ada_adds group_of_two cleo) { item = Kind 14 }) (adding at_most_two true 10) ≡ false
+the_type_has_no_limit = refl
+
+-- a value that is none of the other type's
+a_value_of_no_other_is_outside : is_barred (ada_adds group_of_one bob) (adding among_others true 10) ≡ true
+unfolding exceeds name_key print_by print_value class_of attributes
+a_value_of_no_other_is_outside = refl
+
+a_value_of_another_is_not : is_barred (record (ada_adds group_of_one bob) { after = record group_of_one { attributes = record { kind = 21; values = bob ∷ [] } ∷ [] } }) (adding among_others true 10) ≡ false
+unfolding exceeds name_key print_by print_value class_of attributes
+a_value_of_another_is_not = refl
+
+-- a grant that does not extend to the value does not count by its precedence: the one below decides
+abbrev limited_above : List Placed
+limited_above = at (adding at_most_two true 20) (3 ∷ []) ∷ at (adding (record nothing { all_values = 14 ∷ [] }) true 10) (3 ∷ []) ∷ []
+
+the_unlimited_grant_decides : decided (ada_adds group_of_two cleo) limited_above ≡ true
+unfolding decided covers is_explicit exceeds name_key print_by print_value class_of attributes
+the_unlimited_grant_decides = refl
+
+it_goes_at_the_third_filter : counts (ada_adds group_of_two cleo) limited_above ≡ 2 ∷ 2 ∷ 2 ∷ 1 ∷ 1 ∷ 1 ∷ 1 ∷ []
+unfolding covers is_explicit exceeds name_key print_by print_value class_of attributes
+it_goes_at_the_third_filter = refl

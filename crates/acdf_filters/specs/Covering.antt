@@ -5,7 +5,7 @@ use Rattle.std.specs.Option.{option_map_or}
 use Rattle.std.specs.Str.{bytes_eq}
 use Rattle.dir_tree.specs.schema_tables.declared.kinds.Syntax.{Syntax}
 use Rattle.dir_tree.specs.schema_tables.declared.kinds.Syntax.TheVariants.{Name}
-use Rattle.dir_tree.specs.schema_tables.Attributes.{syntax_of, is_operational}
+use Rattle.dir_tree.specs.schema_tables.Attributes.{attribute_at, syntax_of}
 use Rattle.dir_tree.specs.dn_names.name.Names.{Keyed, TypeAndValue, RdnSequence}
 use Rattle.dir_tree.specs.dn_names.Printing.{name_key}
 use Rattle.aci_item.specs.item.Items.{ProtectedItems}
@@ -15,9 +15,9 @@ use Rattle.acdf_filters.specs.Asking.{Protected, Entry, Kind, Value}
 abbrev pub has_type : ℕ → List ℕ → Bool
 has_type kind kinds = list_any (λ other. kind == other) kinds
 
--- a user attribute: one that is not operational
+-- a user attribute: one of the table that is not operational; a number past the table is none
 abbrev pub is_user_attribute : ℕ → Bool
-is_user_attribute kind = not (is_operational kind)
+is_user_attribute kind = option_map_or (λ row. not row.operational) (attribute_at kind) false
 
 -- the pair has the type, and an equal value
 abbrev pub is_equal : ℕ → Keyed → TypeAndValue → Bool

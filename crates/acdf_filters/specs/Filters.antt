@@ -11,6 +11,7 @@ use Rattle.acdf_filters.specs.Asking.{Asked}
 use Rattle.acdf_filters.specs.Tuples.{Listed}
 use Rattle.acdf_filters.specs.users.Users.{listed_ranks}
 use Rattle.acdf_filters.specs.Covering.{covers, is_explicit}
+use Rattle.acdf_filters.specs.Limits.{is_barred}
 use Rattle.acdf_filters.specs.users.Choices.{least, highest, lowest, passing_or_all, is_filled}
 
 -- a tuple, with the ranks of its classes in which the requester is
@@ -37,6 +38,10 @@ rank tuple ranks = least (if is_filled ranks then ranks else listed_ranks tuple.
 abbrev pub has_permission : Permission → AciTuple → Bool
 has_permission permission tuple = list_any (is_same permission) tuple.permissions
 
+-- the tuple has the permission that is asked for, and extends to what is added
+abbrev pub permits : Asked → AciTuple → Bool
+permits asked tuple = has_permission asked.permission tuple && not (is_barred asked tuple)
+
 -- 1: those that stay
 abbrev pub left_by_users : Asked → List Placed → List Placed
 left_by_users asked xs = filter (λ x. stays asked.who.level x.listed.tuple x.ranks) xs
@@ -45,9 +50,9 @@ left_by_users asked xs = filter (λ x. stays asked.who.level x.listed.tuple x.ra
 abbrev pub left_by_item : Asked → List Placed → List Placed
 left_by_item asked xs = filter (λ x. covers asked.who.name asked.item x.listed.tuple.items) (left_by_users asked xs)
 
--- 3: those that have the permission
+-- 3: those that have the permission, and extend to what is added
 abbrev pub left_by_permission : Asked → List Placed → List Placed
-left_by_permission asked xs = filter (λ x. has_permission asked.permission x.listed.tuple) (left_by_item asked xs)
+left_by_permission asked xs = filter (λ x. permits asked x.listed.tuple) (left_by_item asked xs)
 
 -- 4: those of the highest precedence
 abbrev pub left_by_precedence : Asked → List Placed → List Placed

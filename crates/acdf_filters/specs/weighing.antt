@@ -1,4 +1,3 @@
 -- what public clauses cite
 pub mod Weighing
--- for the inside of the crate alone
 pub mod LastFilters

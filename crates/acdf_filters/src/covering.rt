@@ -30,7 +30,7 @@ fn is_user_attribute(kind: AttrId) -> bool
 {
     match row(kind) {
         Some(row) => !row.operational,
-        None => true,
+        None => false,
     }
 }
 

@@ -19,6 +19,8 @@ pub struct Question<'a> {
     pub entry: &'a Entry,
     pub item: Item<'a>,
     pub permission: Permission,
+    /// The entry that the whole change would leave, where it is more than the entry with the item.
+    pub after: Option<&'a Entry>,
     /// The tree, of which the groups are entries.
     pub tree: &'a Tree,
     /// Groups of which the memberships are known: of any other group the tree is asked.

@@ -3,9 +3,10 @@
 ghost use Rattle.std.specs.Prelude.{◌≡◌};
 ghost use Rattle.aci_item.specs.item.Views.{tuple_of};
 ghost use Rattle.acdf_filters.specs.Standing.{with_one};
-ghost use Rattle.acdf_filters.specs.weighing.Weighing.{KnowsGroups, asked_of, asked_ranks, alone_at, by_class, with_class_of, with_item_of, with_permission_of, weighed_for};
+ghost use Rattle.acdf_filters.specs.weighing.Weighing.{KnowsGroups, asked_of, asked_ranks, alone_at, by_class, with_class_of, with_limits_of, with_item_of, with_permission_of, weighed_for};
 
 use crate::covering::{covers, is_explicit};
+use crate::limits::is_barred;
 use crate::question::Question;
 use crate::standing::Standing;
 use crate::users::{class_of, listed_class};
@@ -38,7 +39,7 @@ fn with_tuple(question: &Question<'_>, tuple: &AciTuple, rank: u8, seen: Standin
     seen.with_one(alone(question, tuple, rank))
 }
 
-// The state with a tuple that covers the item and has the permission, by the class in which the requester is.
+// The state with a tuple that passes the second and third filter, by the class in which the requester is.
 fn with_class(
     question: &Question<'_>,
     tuple: &AciTuple,
@@ -75,6 +76,19 @@ fn weigh_class(question: &Question<'_>, tuple: &AciTuple, seen: Standing) -> Sta
     with_class(question, tuple, class_of(question, &tuple.classes), seen)
 }
 
+// The state with a tuple that covers the item and has the permission.
+fn weigh_limits(question: &Question<'_>, tuple: &AciTuple, seen: Standing) -> Standing
+    requires { KnowsGroups question.now }
+    ensures exact { result ≡ with_limits_of (asked_of question.now) seen (tuple_of tuple.now)
+        (asked_ranks question.now (tuple_of tuple.now)) }
+{
+    if is_barred(question, tuple) {
+        seen
+    } else {
+        weigh_class(question, tuple, seen)
+    }
+}
+
 // The state with a tuple that has the permission.
 fn weigh_item(question: &Question<'_>, tuple: &AciTuple, seen: Standing) -> Standing
     requires { KnowsGroups question.now }
@@ -82,7 +96,7 @@ fn weigh_item(question: &Question<'_>, tuple: &AciTuple, seen: Standing) -> Stan
         (asked_ranks question.now (tuple_of tuple.now)) }
 {
     if covers(&question.who.name, &question.item, &tuple.items) {
-        weigh_class(question, tuple, seen)
+        weigh_limits(question, tuple, seen)
     } else {
         seen
     }
@@ -102,7 +116,8 @@ fn weigh_permission(question: &Question<'_>, tuple: &AciTuple, seen: Standing) -
 }
 
 /// The state with a tuple weighed. What costs least is asked first: a tuple of a lower precedence than those seen, or
-/// without the permission, is not looked at further, and members of groups come last. No memory is taken.
+/// without the permission, is not looked at further, limits of values are looked at only where a value is added, and
+/// members of groups come last. No memory is taken.
 pub fn weigh(question: &Question<'_>, tuple: &AciTuple, seen: Standing) -> Standing
     requires { KnowsGroups question.now }
     ensures exact { result ≡ weighed_for question.now seen (tuple_of tuple.now) }

@@ -3,7 +3,7 @@
 ghost use Rattle.std.specs.Prelude.{◌≡◌, Some, IfOk, map};
 ghost use Rattle.dir_tree.specs.tree.Numbered.{entry_of, entries_of, ids_of, subentry_rows};
 ghost use Rattle.acdf_filters.specs.Asking.{protected_of};
-ghost use Rattle.acdf_filters.specs.Granted.{granted};
+ghost use Rattle.acdf_filters.specs.Granted.{granted, granted_after};
 ghost use Rattle.acdf_filters.specs.weighing.Weighing.{AreMemberships};
 
 use crate::inserting::insert_step;
@@ -15,7 +15,7 @@ use aci_lists::{
     Holdings, decide_by, decide_new_by, hold, in_force_at, in_force_new_by, memberships_in,
 };
 use dir_tree::{Entry, EntryNo, InsertRefusal, NoMemory, RemoveRefusal, ReplaceRefusal, Tree};
-use directory::Dir;
+use directory::{Addition, Dir};
 use std::alloc::Global;
 use std::marker::Model;
 
@@ -55,6 +55,7 @@ impl IndexedDir {
     }
 
     // Whether the requester has the permission for the item of an entry, which has the number.
+    #[tactic(auto, unfolding(acdf_filters::specs::Granted::granted))]
     fn decide_entry(
         &self,
         who: &Requester,
@@ -73,6 +74,34 @@ impl IndexedDir {
             entry,
             item,
             permission,
+            after: None,
+            tree: &self.tree,
+            known,
+        };
+        decide_by(&question, &self.held.lists, number)
+    }
+
+    // Whether the requester may add the value to an entry, which has the number.
+    #[tactic(auto, unfolding(acdf_filters::specs::Granted::granted_after))]
+    fn decide_addition(
+        &self,
+        who: &Requester,
+        known: &[Membership],
+        number: EntryNo,
+        entry: &Entry,
+        addition: Addition<'_>,
+    ) -> bool
+        requires known { AreMemberships (entries_of self.now) who.now.name known.now }
+        requires entry { entry_of number.0 self.now ≡ Some entry.now }
+        ensures exact { result ≡ granted_after (entries_of self.now) who.now entry.now
+            addition.after.now addition.kind.0 addition.value.now }
+    {
+        let question = Question {
+            who,
+            entry,
+            item: Item::Value(addition.kind, addition.value),
+            permission: Permission::Add,
+            after: Some(addition.after),
             tree: &self.tree,
             known,
         };
@@ -101,10 +130,24 @@ impl Dir for IndexedDir {
         }
     }
 
+    fn decide_after(
+        &self,
+        who: &Requester,
+        known: &[Membership],
+        number: EntryNo,
+        addition: Addition<'_>,
+    ) -> bool {
+        match self.tree.at(number) {
+            Some(entry) => self.decide_addition(who, known, number, entry, addition),
+            None => false,
+        }
+    }
+
     fn in_force_new(&self, alloc: Global, entry: &Entry) -> Result<Vec<EntryNo>, NoMemory> {
         in_force_new_by(alloc, &self.tree, &self.held.subtrees, entry)
     }
 
+    #[tactic(auto, unfolding(acdf_filters::specs::Granted::granted_new))]
     fn decide_new(
         &self,
         who: &Requester,
@@ -119,6 +162,7 @@ impl Dir for IndexedDir {
             entry,
             item,
             permission,
+            after: Some(entry),
             tree: &self.tree,
             known,
         };

@@ -1,3 +1,4 @@
 pub mod ReadLemmas
 pub mod NestedLemmas
+pub mod LimitNested
 pub mod ItemNested

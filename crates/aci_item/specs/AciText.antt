@@ -1,5 +1,5 @@
 -- Access control items as text (X.501 18.4.2, RFC 3641), a production a definition. Of X.501's protected items and user
--- classes six are left out: rangeOfValues, maxValueCount, maxImmSub, restrictedBy, contexts and classes.
+-- classes four are left out: rangeOfValues, maxImmSub, contexts and classes.
 use Rattle.std.specs.Prelude.{◌≡◌, ℕ, List, [], Option, Some, None, option_and_then, Result, codes, if◌then◌else◌}
 use Rattle.std.specs.Result.{result_ok}
 use Rattle.std.specs.Str.{bytes_eq}
@@ -15,7 +15,8 @@ use Rattle.subtree_spec.specs.SubtreePrinted.{print_subtree}
 use Rattle.subtree_spec.specs.SubtreeText.{there, judged}
 use Rattle.aci_item.specs.item.Items.{UserClasses, ProtectedItems, ItemPermission, UserPermission, First, ItemFirst, UserFirst, Item}
 use Rattle.aci_item.specs.members.ItemParts.{level, bits, user, kind, kind_and_value, class_subtree, flagged}
-use Rattle.aci_item.specs.ItemPrinted.{print_user, print_kind, print_value, print_item_permission, print_user_permission}
+use Rattle.aci_item.specs.members.Limits.{max_value_count, restricted_value}
+use Rattle.aci_item.specs.ItemPrinted.{print_user, print_kind, print_value, print_max_value_count, print_restricted_value, print_item_permission, print_user_permission}
 use Rattle.aci_item.specs.Sets.{put_member, gather_into}
 
 -- SET OF: the members in the order of their printed texts, of equal ones the first
@@ -54,7 +55,9 @@ items shape = do
   all_kinds_and_values ← flagged (codes "allUserAttributeTypesAndValues") all_values.rest
   values ← optional (codes "attributeValue") [] (sorted_set print_value kind_and_value) all_kinds_and_values.rest
   self_values ← optional (codes "selfValue") [] kinds values.rest
-  nothing_left self_values.rest (record {
+  max_counts ← optional (codes "maxValueCount") [] (sorted_set print_max_value_count max_value_count) self_values.rest
+  restricted ← optional (codes "restrictedBy") [] (sorted_set print_restricted_value restricted_value) max_counts.rest
+  nothing_left restricted.rest (record {
     entry = entry.value;
     all_kinds = all_kinds.value;
     kinds = some_kinds.value;
@@ -62,6 +65,8 @@ items shape = do
     all_kinds_and_values = all_kinds_and_values.value;
     values = values.value;
     self_values = self_values.value;
+    max_counts = max_counts.value;
+    restricted = restricted.value;
   })
 
 -- Precedence ::= INTEGER (0..255)

@@ -11,7 +11,7 @@ use Rattle.aci_item.specs.declared.level.Level.TheVariants.{Anyone, Simple, Stro
 use Rattle.aci_item.specs.declared.permission.Permission.{Permission}
 use Rattle.aci_item.specs.declared.permission.Permission.TheVariants.{Add, DiscloseOnError, Read, Remove, Browse, Export, Import, Modify, Rename, ReturnDn, Compare, FilterMatch, Invoke}
 use Rattle.aci_item.specs.Permission.{Bit}
-use Rattle.aci_item.specs.item.Items.{UserClasses, ProtectedItems, ItemPermission, UserPermission, First, ItemFirst, UserFirst, Item}
+use Rattle.aci_item.specs.item.Items.{UserClasses, MaxValueCount, RestrictedValue, ProtectedItems, ItemPermission, UserPermission, First, ItemFirst, UserFirst, Item}
 
 -- the name of a level
 abbrev pub level_name : Level → List ℕ
@@ -61,6 +61,16 @@ abbrev pub print_value : TypeAndValue → List Lexeme
 print_value pair =
     print_braces (print_component (codes "type") (print_kind pair.kind) ∷ print_component (codes "value") (print_string pair.value.octets) ∷ [])
 
+-- MaxValueCount
+abbrev pub print_max_value_count : MaxValueCount → List Lexeme
+print_max_value_count limit =
+    print_braces (print_component (codes "type") (print_kind limit.kind) ∷ print_component (codes "maxCount") (print_number limit.max_count) ∷ [])
+
+-- RestrictedValue
+abbrev pub print_restricted_value : RestrictedValue → List Lexeme
+print_restricted_value limit =
+    print_braces (print_component (codes "type") (print_kind limit.kind) ∷ print_component (codes "valuesIn") (print_kind limit.values_in) ∷ [])
+
 -- a set that is left out where it is empty
 abbrev pub print_set : {A : Type 0} → List ℕ → (A → List Lexeme) → List A → List (List Lexeme)
 print_set name print values = print_optional name (print_filled (map print values))
@@ -87,7 +97,9 @@ print_item_list items =
     ++ (print_set (codes "allAttributeValues") print_kind items.all_values
     ++ (print_flag (codes "allUserAttributeTypesAndValues") items.all_kinds_and_values
     ++ (print_set (codes "attributeValue") print_value items.values
-    ++ print_set (codes "selfValue") print_kind items.self_values)))))
+    ++ (print_set (codes "selfValue") print_kind items.self_values
+    ++ (print_set (codes "maxValueCount") print_max_value_count items.max_counts
+    ++ print_set (codes "restrictedBy") print_restricted_value items.restricted)))))))
 
 -- ProtectedItems
 unfoldable pub print_items : ProtectedItems → List Lexeme

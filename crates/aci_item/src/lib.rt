@@ -4,7 +4,9 @@
 mod bits;
 mod classes;
 mod item;
+mod kind_printing;
 mod level;
+mod limits;
 mod members;
 mod parts;
 mod permission;
@@ -21,7 +23,7 @@ pub use item::{AciItem, First, ItemPermission, UserPermission};
 pub use level::Level;
 pub use permission::Permission;
 pub use printing::print;
-pub use protected::{AttributeTypeAndValue, ProtectedItems};
+pub use protected::{AttributeTypeAndValue, MaxValueCount, ProtectedItems, RestrictedValue};
 pub use reading::read;
 pub use splitting::{AciTuple, tuples};
 pub use subtree_spec;

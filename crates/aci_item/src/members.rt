@@ -11,8 +11,9 @@ ghost use Rattle.aci_item.specs.ItemPrinted.{print_user, print_kind, print_value
 ghost use Rattle.aci_item.specs.AciText.{sorted_set, kinds};
 ghost use Rattle.aci_item.specs.members.Gathering.{behind};
 
+use crate::kind_printing::put_attribute;
 use crate::parts::{class_subtree, kind, kind_and_value, user};
-use crate::printing::{put_attribute, put_user, put_value};
+use crate::printing::{put_user, put_value};
 use crate::protected::AttributeTypeAndValue;
 use crate::sets::{Printed, into_values, put};
 use dir_tree::dn_names::Dn;

@@ -1,20 +1,19 @@
 //! Items as text.
 
 ghost use Rattle.std.specs.Prelude.{◌≡◌, [], ◌∷◌, ◌++◌, IfOk, OnOk, OnErr, true, codes, map, option_map, string_bytes};
-ghost use Rattle.dir_tree.specs.schema_tables.Attributes.{name_of};
 ghost use Rattle.gser_tree.specs.Writing.{text_of, print_braces, print_word, print_component, print_filled, print_flag, print_number, print_optional, PutsMembers};
 ghost use Rattle.subtree_spec.specs.Subtrees.{subtree_of};
 ghost use Rattle.subtree_spec.specs.SubtreePrinted.{print_subtree};
-ghost use Rattle.aci_item.specs.ItemPrinted.{print_bits, print_classes, print_first, print_item, print_item_first, print_item_permission, print_items, print_kind, print_level, print_precedence, print_set, print_user, print_user_first, print_user_permission, print_value};
+ghost use Rattle.aci_item.specs.ItemPrinted.{print_bits, print_classes, print_first, print_item, print_item_first, print_item_permission, print_items, print_level, print_precedence, print_set, print_user, print_user_first, print_user_permission, print_value};
 ghost use Rattle.aci_item.specs.item.Views.{classes_of, first_of, item_of_code, item_permission_of, items_of, user_permission_of};
 
 use crate::bits::{Bits, put_bits};
 use crate::classes::UserClasses;
 use crate::item::{AciItem, First, ItemPermission, UserPermission};
+use crate::kind_printing::{put_attribute, put_kinds, put_max_value_counts, put_restricted_values};
 use crate::level::{Level, level_name};
 use crate::protected::{AttributeTypeAndValue, ProtectedItems};
 use dir_tree::dn_names::Dn;
-use dir_tree::schema_tables::{AttrId, row};
 use gser_tree::{put_end, put_kind, put_name, put_number, put_separator, put_string};
 use std::alloc::{AllocError, Global};
 use subtree_spec::Spec;
@@ -122,49 +121,6 @@ fn put_classes(alloc: Global, out: &mut String, classes: &UserClasses) -> Result
     Ok(())
 }
 
-/// Writes the name of an attribute type.
-pub(crate) fn put_attribute(out: &mut String, kind: AttrId) -> Result<(), AllocError>
-    ensures ok { OnOk result (string_bytes out.new ≡ string_bytes out.old ++ text_of (print_kind kind.0)) }
-{
-    match row(kind) {
-        Some(row) => out.push_str(row.name)?,
-        None => {}
-    }
-    Ok(())
-}
-
-// Writes attribute types in braces.
-fn put_kind_set(out: &mut String, kinds: &[AttrId]) -> Result<(), AllocError>
-    ensures ok { OnOk result (string_bytes out.new ≡ string_bytes out.old ++ text_of (print_braces (map print_kind (map (λ kind. kind.0) kinds.now)))) }
-{
-    let mut first = true;
-    for kind in kinds {
-        put_separator(out, first)?;
-        put_attribute(out, *kind)?;
-        first = false;
-    }
-    put_end(out, first)?;
-    Ok(())
-}
-
-// Writes a component of attribute types, where there are some.
-fn put_kinds(
-    out: &mut String,
-    first: bool,
-    name: &str,
-    kinds: &[AttrId],
-) -> Result<bool, AllocError>
-    ensures ok { IfOk result (λ next. PutsMembers (string_bytes out.old) (string_bytes out.new) first next
-        (print_optional name.now (print_filled (map print_kind (map (λ kind. kind.0) kinds.now))))) }
-{
-    if kinds.is_empty() {
-        return Ok(first);
-    }
-    put_name(out, first, name)?;
-    put_kind_set(out, kinds)?;
-    Ok(false)
-}
-
 /// Writes a type with a value.
 pub(crate) fn put_value(out: &mut String, pair: &AttributeTypeAndValue) -> Result<(), AllocError>
     ensures ok { OnOk result (string_bytes out.new ≡ string_bytes out.old ++ text_of (print_value pair.now)) }
@@ -225,6 +181,8 @@ fn put_items(out: &mut String, items: &ProtectedItems) -> Result<(), AllocError>
     )?;
     let first = put_values(out, first, &items.values)?;
     let first = put_kinds(out, first, "selfValue", &items.self_values)?;
+    let first = put_max_value_counts(out, first, &items.max_counts)?;
+    let first = put_restricted_values(out, first, &items.restricted)?;
     put_end(out, first)?;
     Ok(())
 }

@@ -66,6 +66,21 @@ fn as_text(octets: &[u8]) -> &str
     str::from_utf8(octets).unwrap()
 }
 
+/// At most so many values of the type (X.501 18.4.2.4, maxValueCount).
+#[derive(Clone, Copy, PartialEq, Eq, Debug)]
+pub struct MaxValueCount {
+    pub kind: AttrId,
+    /// At most 2147483647.
+    pub max_count: u32,
+}
+
+/// Values of the type are among those of the other (X.501 18.4.2.4, restrictedBy). The two have the same syntax.
+#[derive(Clone, Copy, PartialEq, Eq, Debug)]
+pub struct RestrictedValue {
+    pub kind: AttrId,
+    pub values_in: AttrId,
+}
+
 /// Protected items (X.501 18.4.2.4). Each set stands in the order of its members' printed texts, and no two texts are
 /// equal.
 #[derive(Drop)]
@@ -84,4 +99,8 @@ pub struct ProtectedItems {
     pub values: Vec<AttributeTypeAndValue>,
     /// selfValue.
     pub self_values: Vec<AttrId>,
+    /// maxValueCount.
+    pub max_counts: Vec<MaxValueCount>,
+    /// restrictedBy.
+    pub restricted: Vec<RestrictedValue>,
 }

@@ -18,6 +18,7 @@ ghost use Rattle.aci_item.specs.members.Gathering.{behind};
 use crate::bits::Bits;
 use crate::classes::UserClasses;
 use crate::item::{AciItem, First, ItemPermission, UserPermission};
+use crate::limits::{max_value_counts, restricted_values};
 use crate::members::{kinds, subtrees, users, values};
 use crate::parts::{bits, flagged, is_end, level};
 use crate::printing::{put_item_permission, put_user_permission};
@@ -68,6 +69,8 @@ fn items(alloc: Global, tree: &Tree, bad: &mut Bad) -> Result<ProtectedItems, St
     let (all_kinds_and_values, trees) = flagged("allUserAttributeTypesAndValues", trees);
     let (values, trees) = values(alloc, trees, bad)?;
     let (self_values, trees) = kinds(alloc, "selfValue", trees, bad)?;
+    let (max_counts, trees) = max_value_counts(alloc, trees, bad)?;
+    let (restricted, trees) = restricted_values(alloc, trees, bad)?;
     let items = ProtectedItems {
         entry,
         all_kinds,
@@ -76,6 +79,8 @@ fn items(alloc: Global, tree: &Tree, bad: &mut Bad) -> Result<ProtectedItems, St
         all_kinds_and_values,
         values,
         self_values,
+        max_counts,
+        restricted,
     };
     if !is_end(trees) {
         return Err(Stop::Misfit);
@@ -297,8 +302,9 @@ fn item(alloc: Global, tree: &Tree, bad: &mut Bad) -> Result<AciItem, Stop>
 /// value of their own alone, a level by its word, a user by a string.
 ///
 /// `Text` comes for octets that are not in the grammar, else `Part` for the first part that breaks its rule: a
-/// precedence above 255, an attribute type that is not in the table, a value that is not of its type's syntax, a
-/// subtree of users with a refinement, a name that is none. `NoMemory` may come in place of any answer.
+/// precedence above 255, a number of values above 2147483647, an attribute type that is not in the table, in `valuesIn`
+/// one of another syntax, a value that is not of its type's syntax, a subtree of users with a refinement, a name that
+/// is none. `NoMemory` may come in place of any answer.
 pub fn read(alloc: Global, text: &[u8]) -> Result<AciItem, BadText>
     ensures ok { IfOk result (λ item. AciText (item_of_code item) text.now) }
     ensures given { (item : Item) → AciText item text.now → Answers item_of_code fault_of result (Ok item) }

@@ -3,6 +3,7 @@ pub mod MembersLemmas
 pub mod SetPrints
 pub mod BitPrints
 pub mod PartPrints
+pub mod LimitPrints
 pub mod FlagPrints
 pub mod ClassPrints
 pub mod ProtectedPrints
@@ -11,6 +12,7 @@ pub mod StringLemmas
 pub mod WrittenTexts
 pub mod OnlyLemmas
 pub mod PartOnly
+pub mod LimitOnly
 pub mod SubtreeOnly
 pub mod ItemOnly
 pub mod RoundTrip

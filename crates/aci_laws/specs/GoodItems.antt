@@ -13,8 +13,9 @@ use Rattle.subtree_spec.specs.GoodSubtrees.{IfThere, IsGoodSubtree}
 use Rattle.subtree_spec.specs.SubtreePrinted.{print_subtree}
 use Rattle.subtree_spec.specs.Subtrees.{Subtree}
 use Rattle.aci_item.specs.Permission.{Bit, in_order}
-use Rattle.aci_item.specs.item.Items.{UserClasses, ProtectedItems, ItemPermission, UserPermission, First, ItemFirst, UserFirst, Item}
-use Rattle.aci_item.specs.ItemPrinted.{print_user, print_kind, print_value, print_item_permission, print_user_permission}
+use Rattle.aci_item.specs.item.Items.{UserClasses, MaxValueCount, RestrictedValue, ProtectedItems, ItemPermission, UserPermission, First, ItemFirst, UserFirst, Item}
+use Rattle.aci_item.specs.members.Limits.{have_same_syntax}
+use Rattle.aci_item.specs.ItemPrinted.{print_user, print_kind, print_value, print_max_value_count, print_restricted_value, print_item_permission, print_user_permission}
 use Rattle.aci_item.specs.Sets.{by_text}
 
 -- members that have a property, in the order of their printed texts, no two of which are equal
@@ -27,6 +28,17 @@ pub record IsGoodValue (pair : TypeAndValue) : Type 0 where
   pub kind : IsAttrId pair.kind
   pub value : value_of pair.kind pair.value.octets ≡ Some pair.value
   pub text : is_utf8 pair.value.octets ≡ true
+
+-- a number of values, of an attribute type of the table
+pub record IsGoodMaxValueCount (limit : MaxValueCount) : Type 0 where
+  pub kind : IsAttrId limit.kind
+  pub max_count : limit.max_count ≤ 2147483647
+
+-- two attribute types of the table, of the same syntax
+pub record IsGoodRestrictedValue (limit : RestrictedValue) : Type 0 where
+  pub kind : IsAttrId limit.kind
+  pub values_in : IsAttrId limit.values_in
+  pub same_syntax : have_same_syntax limit.kind limit.values_in ≡ true
 
 -- a subtree without a refinement
 pub record IsGoodClassSubtree (spec : Subtree) : Type 0 where
@@ -43,6 +55,8 @@ pub record IsGoodItems (items : ProtectedItems) : Type 0 where
   pub all_values : IsSetOf print_kind IsAttrId items.all_values
   pub values : IsSetOf print_value IsGoodValue items.values
   pub self_values : IsSetOf print_kind IsAttrId items.self_values
+  pub max_counts : IsSetOf print_max_value_count IsGoodMaxValueCount items.max_counts
+  pub restricted : IsSetOf print_restricted_value IsGoodRestrictedValue items.restricted
 
 -- bits in rising order, each once
 abbrev pub AreGoodBits : List Bit → Type 0

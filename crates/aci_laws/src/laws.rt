@@ -7,9 +7,10 @@ ghost use Rattle.gser_tree.specs.Writing.{text_of};
 ghost use Rattle.dir_tree.specs.dn_names.name.Names.{RdnSequence, TypeAndValue};
 ghost use Rattle.subtree_spec.specs.Subtrees.{Subtree};
 ghost use Rattle.subtree_spec.specs.SubtreePrinted.{print_subtree};
-ghost use Rattle.aci_item.specs.item.Items.{Item, ItemPermission, UserPermission};
+ghost use Rattle.aci_item.specs.item.Items.{Item, ItemPermission, MaxValueCount, RestrictedValue, UserPermission};
 ghost use Rattle.aci_item.specs.members.ItemParts.{user, kind, kind_and_value, class_subtree};
-ghost use Rattle.aci_item.specs.ItemPrinted.{print_user, print_kind, print_value, print_item, print_item_permission, print_user_permission};
+ghost use Rattle.aci_item.specs.members.Limits.{max_value_count, restricted_value};
+ghost use Rattle.aci_item.specs.ItemPrinted.{print_user, print_kind, print_value, print_max_value_count, print_restricted_value, print_item, print_item_permission, print_user_permission};
 ghost use Rattle.aci_item.specs.AciText.{AciText, read_item, sorted_set, item_permission, user_permission};
 ghost use Rattle.aci_laws.specs.GoodItems.{IsGoodItem};
 ghost use Rattle.aci_laws.specs.MembersSorted.{members_sorted};
@@ -26,6 +27,12 @@ pub fn sets_are_in_order()
     ensures values { (shape : Shape) (bad next : Option ℕ) (values : List TypeAndValue)
         → sorted_set print_value kind_and_value shape bad ≡ Some (record { value = values; bad = next })
         → IsStrictlySortedBy (by_text (λ value. text_of (print_value value))) values }
+    ensures max_counts { (shape : Shape) (bad next : Option ℕ) (limits : List MaxValueCount)
+        → sorted_set print_max_value_count max_value_count shape bad ≡ Some (record { value = limits; bad = next })
+        → IsStrictlySortedBy (by_text (λ limit. text_of (print_max_value_count limit))) limits }
+    ensures restricted { (shape : Shape) (bad next : Option ℕ) (limits : List RestrictedValue)
+        → sorted_set print_restricted_value restricted_value shape bad ≡ Some (record { value = limits; bad = next })
+        → IsStrictlySortedBy (by_text (λ limit. text_of (print_restricted_value limit))) limits }
     ensures subtrees { (shape : Shape) (bad next : Option ℕ) (subtrees : List Subtree)
         → sorted_set print_subtree class_subtree shape bad ≡ Some (record { value = subtrees; bad = next })
         → IsStrictlySortedBy (by_text (λ spec. text_of (print_subtree spec))) subtrees }

@@ -3,10 +3,10 @@
 ghost use Rattle.std.specs.Prelude.{◌≡◌, Some, map, fold};
 ghost use Rattle.dir_tree.specs.Entry.{EntryInformation};
 ghost use Rattle.dir_tree.specs.tree.Numbered.{entry_of, entries_of, superior_of};
-ghost use Rattle.acdf_filters.specs.Asking.{protected_of};
-ghost use Rattle.acdf_filters.specs.Granted.{granted};
+ghost use Rattle.acdf_filters.specs.Filters.{decided};
+ghost use Rattle.acdf_filters.specs.Granted.{placed_of};
 ghost use Rattle.acdf_filters.specs.Standing.{initial};
-ghost use Rattle.acdf_filters.specs.weighing.Weighing.{KnowsGroups, weighed_for, is_granted};
+ghost use Rattle.acdf_filters.specs.weighing.Weighing.{KnowsGroups, asked_of, weighed_for, is_granted};
 ghost use Rattle.aci_lists.specs.kept.Lists.{IsKept, lists_at, tuples_at, tuples_below, tuples_inherited, tuples_kept};
 
 use crate::kept::{Kept, below_at, in_force_at, own_at, prescriptive_at};
@@ -62,8 +62,8 @@ pub fn decide_by(question: &Question<'_>, kept: &[Kept], number: EntryNo) -> boo
     requires known { KnowsGroups question.now }
     requires kept { IsKept kept.now question.now.tree.now }
     requires entry { entry_of number.0 question.now.tree.now ≡ Some question.now.entry.now }
-    ensures exact { result ≡ granted (entries_of question.now.tree.now) question.now.who.now question.now.entry.now
-        (protected_of question.now.item) question.now.permission }
+    ensures exact { result ≡ decided (asked_of question.now)
+        (placed_of (entries_of question.now.tree.now) question.now.who.now question.now.entry.now) }
 {
     question.tree.entries_form_a_tree();
     let seen = weigh_inherited(question, kept, number);

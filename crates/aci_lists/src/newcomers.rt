@@ -4,10 +4,10 @@ ghost use Rattle.std.specs.Prelude.{◌≡◌, IfOk, fold, map, option_map};
 ghost use Rattle.dir_tree.specs.tree.Numbered.{entries_of, find_name};
 ghost use Rattle.dir_tree.specs.tree.Trees.{superior_name};
 ghost use Rattle.acdf_filters.specs.admin_scope.Finding.{AreSubtrees};
-ghost use Rattle.acdf_filters.specs.Asking.{protected_of};
-ghost use Rattle.acdf_filters.specs.Granted.{granted_new};
+ghost use Rattle.acdf_filters.specs.Filters.{decided};
+ghost use Rattle.acdf_filters.specs.Granted.{placed_new};
 ghost use Rattle.acdf_filters.specs.Standing.{initial};
-ghost use Rattle.acdf_filters.specs.weighing.Weighing.{KnowsGroups, weighed_for};
+ghost use Rattle.acdf_filters.specs.weighing.Weighing.{KnowsGroups, asked_of, weighed_for};
 ghost use Rattle.acdf_filters.specs.admin_scope.InForce.{AreInForce};
 ghost use Rattle.aci_lists.specs.kept.Lists.{IsKept, tuples_below};
 
@@ -62,8 +62,8 @@ pub fn decide_new_by(question: &Question<'_>, kept: &[Kept], in_force: &[EntryNo
     requires known { KnowsGroups question.now }
     requires kept { IsKept kept.now question.now.tree.now }
     requires in_force { AreInForce question.now.tree.now question.now.entry.now (map (λ no. no.0) in_force.now) }
-    ensures exact { result ≡ granted_new (entries_of question.now.tree.now) question.now.who.now question.now.entry.now
-        (protected_of question.now.item) question.now.permission }
+    ensures exact { result ≡ decided (asked_of question.now)
+        (placed_new (entries_of question.now.tree.now) question.now.who.now question.now.entry.now) }
 {
     question.tree.entries_form_a_tree();
     if question.entry.is_subentry() {

@@ -67,6 +67,8 @@ granting = record {
           all_kinds_and_values = false;
           values = [];
           self_values = [];
+          max_counts = [];
+          restricted = [];
         };
         bits = grants;
       } ∷ []);

@@ -115,13 +115,26 @@ another's_name : replace_refusal 1 b rows ≡ Some replacing.NameTaken
 unfolding name_cmp is_same
 another's_name = refl
 
-elsewhere : replace_refusal 1 (rdn 97 97 ∷ rdn 98 98 ∷ rdn 99 99 ∷ []) rows ≡ Some replacing.Elsewhere
-unfolding name_cmp is_same
-elsewhere = refl
+-- below another superior, below none, below itself, and nowhere
+moved : replace_refusal 1 (rdn 97 97 ∷ rdn 98 98 ∷ rdn 99 99 ∷ []) rows ≡ None
+unfolding name_cmp is_same is_prefix_of
+moved = refl
 
-empty_elsewhere : replace_refusal 3 [] rows ≡ Some replacing.Elsewhere
+below_nothing : replace_refusal 1 (rdn 97 97 ∷ rdn 101 101 ∷ rdn 99 99 ∷ []) rows ≡ Some replacing.NoSuperior
 unfolding name_cmp is_same
-empty_elsewhere = refl
+below_nothing = refl
+
+below_itself : replace_refusal 1 (rdn 97 97 ∷ rdn 99 99 ∷ rdn 99 99 ∷ []) rows ≡ Some replacing.NoSuperior
+unfolding name_cmp is_same
+below_itself = refl
+
+beside_the_suffix : replace_refusal 1 (rdn 99 99 ∷ []) rows ≡ Some replacing.NoSuperior
+unfolding name_cmp is_same
+beside_the_suffix = refl
+
+empty_name : replace_refusal 3 [] rows ≡ Some replacing.NoSuperior
+unfolding name_cmp is_same
+empty_name = refl
 
 moves_others : replace_refusal 0 (rdn 97 97 ∷ rdn 101 101 ∷ []) rows ≡ Some replacing.HasBelow
 unfolding name_cmp is_same is_prefix_of
@@ -130,6 +143,18 @@ moves_others = refl
 renamed : replace_refusal 1 (rdn 97 97 ∷ rdn 101 101 ∷ []) rows ≡ None
 unfolding name_cmp is_same is_prefix_of
 renamed = refl
+
+moved_with_others : replace_refusal 0 (rdn 97 97 ∷ rdn 99 99 ∷ rdn 98 98 ∷ []) rows ≡ Some replacing.HasBelow
+unfolding name_cmp is_same is_prefix_of
+moved_with_others = refl
+
+suffix_of_others : replace_refusal 3 (rdn 101 101 ∷ []) rows ≡ Some replacing.HasBelow
+unfolding name_cmp is_same is_prefix_of
+suffix_of_others = refl
+
+suffix_respelled : replace_refusal 3 (rdn 65 97 ∷ []) rows ≡ None
+unfolding name_cmp is_same is_prefix_of
+suffix_respelled = refl
 
 suffix_renamed : replace_refusal 3 (rdn 101 101 ∷ []) (row 3 a ∷ []) ≡ None
 unfolding name_cmp is_same is_prefix_of

@@ -4,7 +4,8 @@ use Rattle.dn_names.specs.name.Names.{RdnSequence}
 use Rattle.dn_names.specs.NameOrder.{is_same}
 use Rattle.dir_tree.specs.Entry.{EntryInformation}
 use Rattle.dir_tree.specs.tree.Trees.{most_entries, has_name, lacks_superior, has_below, superior_name}
-use Rattle.dir_tree.specs.tree.Numbered.{Numbered, entries_of, entry_of, without}
+use Rattle.dir_tree.specs.tree.Numbered.{Numbered, entries_of, entry_of, suffix_of, without}
+use Rattle.dir_tree.specs.Scope.{is_number}
 use Rattle.dir_tree.specs.declared.refusals.InsertRefusal.{InsertRefusal}
 use Rattle.dir_tree.specs.declared.refusals.InsertRefusal.TheVariants as inserting
 use Rattle.dir_tree.specs.declared.refusals.RemoveRefusal.{RemoveRefusal}
@@ -29,17 +30,18 @@ refusal_below (Some entry) entries = if has_below entry.name entries then Some r
 abbrev pub remove_refusal : ℕ → List Numbered → Option RemoveRefusal
 remove_refusal id rows = refusal_below (entry_of id rows) (entries_of rows)
 
--- the name is the empty one, or its superior is not that of the old name
-abbrev pub is_elsewhere : RdnSequence → RdnSequence → Bool
-is_elsewhere [] old = true
-is_elsewhere (rdn ∷ rdns) old = not (is_same (superior_name (rdn ∷ rdns)) (superior_name old))
+-- no place for the entry of the number: the name is the empty one, or the entry is not the suffix and no other is the name's superior
+abbrev pub lacks_place : ℕ → RdnSequence → List Numbered → Bool
+lacks_place id [] rows = true
+lacks_place id (rdn ∷ rdns) rows =
+    not (is_number id (suffix_of rows)) && not (has_name (superior_name (rdn ∷ rdns)) (entries_of (without id rows)))
 
 -- why an entry of the name does not take the place of the entry of the number, if there is one
 abbrev pub refusal_in_place : ℕ → RdnSequence → Option EntryInformation → List Numbered → Option ReplaceRefusal
 refusal_in_place id name None rows = Some replacing.Absent
 refusal_in_place id name (Some old) rows =
     if has_name name (entries_of (without id rows)) then Some replacing.NameTaken
-    else if is_elsewhere name old.name then Some replacing.Elsewhere
+    else if lacks_place id name rows then Some replacing.NoSuperior
     else if not (is_same name old.name) && has_below old.name (entries_of rows) then Some replacing.HasBelow
     else None
 

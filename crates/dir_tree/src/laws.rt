@@ -9,7 +9,7 @@ ghost use Rattle.dir_tree.specs.Entry.{Attribute, EntryInformation, values_of, i
 ghost use Rattle.dir_tree.specs.attributes.Changes.{put_value, set_in, without_key, cut_attributes, other_attributes, with_value, with_values, without_value, without_kind};
 ghost use Rattle.dir_tree.specs.EntryClasses.{own_oid, oids_of};
 ghost use Rattle.dn_names.specs.NameOrder.{is_same};
-ghost use Rattle.dir_tree.specs.tree.Trees.{most_entries, has_name, named_in, superior_name, lacks_superior, has_below, put_in, taken_out, IsInOrder, IsTree};
+ghost use Rattle.dir_tree.specs.tree.Trees.{most_entries, has_name, named_in, lacks_superior, has_below, put_in, taken_out, IsInOrder, IsTree};
 ghost use Rattle.dir_tree.specs.tree.Numbered.{Numbered, IsNumberedTree, AreDistinct, ids_of, entries_of, entries_at, entry_of, find_name, suffix_of, superior_of, put_entry, without};
 ghost use Rattle.dir_tree.specs.Scope.{scoped, is_superior, is_within, is_child};
 ghost use Rattle.dir_tree.specs.declared.scope.Scope.TheVariants.{One, Sub};
@@ -122,7 +122,7 @@ pub fn putting_in_undoes_taking_out()
 {}
 
 /// A change that is not refused leaves a tree: an entry put in, one taken out that has none below, and one in the place
-/// of another, under a name that is the same or, where none stands below, a free one below the same superior.
+/// of another, under a name that is the same or, where none stands below, a free one whose superior is among the others.
 pub fn a_change_leaves_a_tree()
     ensures put { (entry : EntryInformation) (entries : List EntryInformation) → IsTree entries
         → entry.name ≢ [] → has_name entry.name entries ≡ false → lacks_superior entry.name entries ≡ false
@@ -133,9 +133,9 @@ pub fn a_change_leaves_a_tree()
     ensures same { (old : EntryInformation) (entries : List EntryInformation) → IsTree entries
         → named_in old.name entries ≡ Some old → (new : EntryInformation) → is_same new.name old.name ≡ true
         → new.name ≢ [] → IsTree (put_in new (taken_out old.name entries)) }
-    ensures renamed { (old : EntryInformation) (entries : List EntryInformation) → IsTree entries
+    ensures moved { (old : EntryInformation) (entries : List EntryInformation) → IsTree entries
         → named_in old.name entries ≡ Some old → (new : EntryInformation) → has_below old.name entries ≡ false
         → new.name ≢ [] → has_name new.name (taken_out old.name entries) ≡ false
-        → is_same (superior_name new.name) (superior_name old.name) ≡ true
+        → lacks_superior new.name (taken_out old.name entries) ≡ false
         → IsTree (put_in new (taken_out old.name entries)) }
 {}

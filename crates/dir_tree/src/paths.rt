@@ -3,7 +3,6 @@
 ghost use Rattle.std.specs.Prelude.{◌≡◌, IfOk};
 ghost use Rattle.std.specs.Option.{option_map};
 ghost use Rattle.dn_names.specs.name.Names.{RdnSequence};
-ghost use Rattle.dn_names.specs.NameOrder.{is_same};
 ghost use Rattle.dn_names.specs.path.PathKeys.{path_key};
 ghost use Rattle.dir_tree.specs.tree.Trees.{superior_name};
 ghost use Rattle.dir_tree.specs.Maps.{HasSamePlaces};
@@ -44,13 +43,6 @@ pub(crate) fn superior_path(name: &Dn) -> &[u8]
         Some(path) => path,
         None => unreachable!(),
     }
-}
-
-/// Whether the names have the same superior: whether they are the same without the last RDN.
-pub(crate) fn same_superior(one: &Dn, other: &Dn) -> bool
-    ensures exact { result ≡ is_same (superior_name one.now) (superior_name other.now) }
-{
-    superior_path(one).cmp(superior_path(other)).is_eq()
 }
 
 /// The path key of the name, in memory of its own.

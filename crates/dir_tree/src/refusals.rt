@@ -42,9 +42,9 @@ pub enum ReplaceRefusal {
     /// Another entry has the new name.
     #[error("the name is taken")]
     NameTaken,
-    /// The entry would stand below another superior, or have the empty name.
-    #[error("the superior is another")]
-    Elsewhere,
+    /// The new name is empty, or the entry is not the suffix and the new superior is no other entry.
+    #[error("the superior is not an entry")]
+    NoSuperior,
     /// Entries stand below, and the new name is not the same.
     #[error("an entry stands below")]
     HasBelow,

@@ -4,11 +4,10 @@ ghost use Rattle.std.specs.Prelude.{◌≡◌, ◌⊎◌, ◌&&◌, not, true, f
 ghost use Rattle.std.specs.Option.{option_map_or};
 ghost use Rattle.dn_names.specs.NameOrder.{is_same};
 ghost use Rattle.dir_tree.specs.Removals.{IsReplaceable};
-ghost use Rattle.dir_tree.specs.Refusals.{is_elsewhere};
 
 use crate::entry::Entry;
 use crate::number::EntryNo;
-use crate::paths::{copy_path, copy_places, same_superior};
+use crate::paths::{copy_path, copy_places};
 use crate::reader::{TreeReader, Unread};
 use crate::refusals::ReplaceRefusal;
 use crate::slots::replace_entry;
@@ -19,17 +18,18 @@ use std::alloc::AllocError;
 use std::mem::replace;
 
 impl Tree {
-    ghost use Rattle.dir_tree.specs.tree.Trees.{has_name, has_below};
-    ghost use Rattle.dir_tree.specs.tree.Numbered.{entries_of, entry_of, without, put_entry};
-    ghost use Rattle.dir_tree.specs.Refusals.{refusal_in_place, replace_refusal};
+    ghost use Rattle.dir_tree.specs.tree.Trees.{has_name, has_below, superior_name};
+    ghost use Rattle.dir_tree.specs.tree.Numbered.{entries_of, entry_of, suffix_of, without, put_entry};
+    ghost use Rattle.dir_tree.specs.Scope.{is_number};
+    ghost use Rattle.dir_tree.specs.Refusals.{lacks_place, refusal_in_place, replace_refusal};
 
-    /// Gives the entry's place to another, which is known by the same number. The memory that the attributes of the
-    /// other do not need is given back.
+    /// Gives the entry's place to another, which is known by the same number and may stand below another superior. The
+    /// memory that the attributes of the other do not need is given back.
     ///
     /// Each refusal comes in exactly one case, and of several the first: `Absent` for a number that is not in use,
-    /// `NameTaken` where the new name is that of another entry, `Elsewhere` for the empty name and for one below
-    /// another superior, and `HasBelow` where the new name is not the same as the old one and entries stand below.
-    /// `NoMemory` may come where none of these does.
+    /// `NameTaken` where the new name is that of another entry, `NoSuperior` for the empty name and, unless the entry is
+    /// the suffix, for one whose superior is not the name of another entry, and `HasBelow` where the new name is not the
+    /// same as the old one and entries stand below. `NoMemory` may come where none of these does.
     pub fn replace(&mut self, no: EntryNo, entry: Entry) -> Result<Entry, ReplaceRefusal>
         ensures found { IfOk result (λ old. entry_of no.0 self.old ≡ Some old) }
         ensures ok { OnOk result (self.new ≡ put_entry no.0 entry (without no.0 self.old)) }
@@ -107,8 +107,8 @@ impl Tree {
     {
         if self.is_taken(no, name) {
             Some(ReplaceRefusal::NameTaken)
-        } else if is_elsewhere(name, old.name()) {
-            Some(ReplaceRefusal::Elsewhere)
+        } else if self.lacks_place(no, name) {
+            Some(ReplaceRefusal::NoSuperior)
         } else if self.takes_along(name, old.name()) {
             Some(ReplaceRefusal::HasBelow)
         } else {
@@ -123,6 +123,39 @@ impl Tree {
         self.entries_form_a_tree();
         match self.find(name) {
             Some(other) => other.0 != no.0,
+            None => false,
+        }
+    }
+
+    // Whether the name is the empty one, or the entry of the number is not the suffix and no other entry is the superior
+    // of the name.
+    fn lacks_place(&self, no: EntryNo, name: &Dn) -> bool
+        ensures exact { result ≡ lacks_place no.0 name.now self.now }
+    {
+        if name.len() == 0 {
+            true
+        } else {
+            !self.is_suffix(no) && !self.has_other_above(no, name)
+        }
+    }
+
+    // Whether the number is that of the suffix.
+    fn is_suffix(&self, no: EntryNo) -> bool
+        ensures exact { result ≡ is_number no.0 (suffix_of self.now) }
+    {
+        match self.suffix() {
+            Some(first) => first.0 == no.0,
+            None => false,
+        }
+    }
+
+    // Whether an entry other than that of the number is the superior of the name.
+    fn has_other_above(&self, no: EntryNo, name: &Dn) -> bool
+        ensures exact { result ≡ has_name (superior_name name.now) (entries_of (without no.0 self.now)) }
+    {
+        self.entries_form_a_tree();
+        match self.number_above(name) {
+            Some(above) => above.0 != no.0,
             None => false,
         }
     }
@@ -255,16 +288,5 @@ impl Tree {
                 Err(error)
             }
         }
-    }
-}
-
-// Whether the name is the empty one, or its superior is not that of the old name.
-fn is_elsewhere(name: &Dn, old: &Dn) -> bool
-    ensures exact { result ≡ is_elsewhere name.now old.now }
-{
-    if name.len() == 0 {
-        true
-    } else {
-        !same_superior(name, old)
     }
 }

@@ -1,6 +1,6 @@
 //! A walk over the entries of a scope.
 
-ghost use Rattle.std.specs.Prelude.{◌≡◌, ◌≤◌, ◌&&◌, ◌∷◌, ℕ, [], length, filter, IfSome, None};
+ghost use Rattle.std.specs.Prelude.{◌≡◌, ◌≤◌, ◌&&◌, ◌∷◌, ℕ, [], false, length, filter, IfSome, Some, None};
 ghost use Rattle.dir_tree.specs.Walk.{walked, is_one_below, is_at_depth};
 
 use crate::entry::Entry;
@@ -8,7 +8,7 @@ use crate::number::EntryNo;
 use crate::scope::Scope;
 use crate::slots::entry_at;
 use crate::tree::Tree;
-use dn_names::Dn;
+use dn_names::{Dn, compare_names};
 use std::collections::btree_map::Range;
 use std::marker::Model;
 use std::ops::Bound;
@@ -99,9 +99,9 @@ fn is_one_below(name: &Dn, depth: Option<usize>) -> bool
 }
 
 impl Tree {
-    ghost use Rattle.dir_tree.specs.tree.Trees.{most_entries, is_named};
+    ghost use Rattle.dir_tree.specs.tree.Trees.{most_entries, is_before, is_named};
     ghost use Rattle.dir_tree.specs.tree.Numbered.{ids_of, entry_of};
-    ghost use Rattle.dir_tree.specs.Scope.{is_within, scoped};
+    ghost use Rattle.dir_tree.specs.Scope.{is_within, scoped, scoped_after};
 
     /// The numbers of the entries that the scope takes in, from the entry of the number on, in the order of the
     /// names; none where the number is not in use.
@@ -112,6 +112,59 @@ impl Tree {
         match self.at(no) {
             Some(entry) => self.walk_from(no, entry, scope),
             None => self.walk_nowhere(),
+        }
+    }
+
+    /// The numbers of those entries that the scope takes in, from the entry of the number on, whose names come after the
+    /// name, in the order of the names; none where the number is not in use. No entry need have the name, and what comes
+    /// before it is not walked over.
+    pub fn below_after<'a>(&'a self, no: EntryNo, scope: Scope, after: &Dn) -> Walk<'a>
+        ensures exact { result ≡ scoped_after scope no.0 after.now self.now }
+        ensures fits { length result ≤ most_entries }
+    {
+        match self.at(no) {
+            Some(entry) => self.walk_from_after(no, entry, scope, after),
+            None => self.walk_nowhere(),
+        }
+    }
+
+    // The walk from the entry of the number, behind the name.
+    fn walk_from_after<'a>(
+        &'a self,
+        no: EntryNo,
+        entry: &'a Entry,
+        scope: Scope,
+        after: &Dn,
+    ) -> Walk<'a>
+        requires { entry_of no.0 self.now ≡ Some entry.now }
+        ensures exact { result ≡ scoped_after scope no.0 after.now self.now }
+        ensures fits { length result ≤ most_entries }
+    {
+        if compare_names(after, entry.name()).is_lt() {
+            self.walk_from(no, entry, scope)
+        } else {
+            self.walk_behind(no, entry, scope, after)
+        }
+    }
+
+    // The walk from the entry of the number, behind a name that does not come before the entry's.
+    fn walk_behind<'a>(
+        &'a self,
+        no: EntryNo,
+        entry: &'a Entry,
+        scope: Scope,
+        after: &Dn,
+    ) -> Walk<'a>
+        requires known { entry_of no.0 self.now ≡ Some entry.now }
+        requires behind { is_before after.now entry.now.name ≡ false }
+        ensures exact { result ≡ scoped_after scope no.0 after.now self.now }
+        ensures fits { length result ≤ most_entries }
+    {
+        self.entries_form_a_tree();
+        match scope {
+            Scope::Base => self.walk_nowhere(),
+            Scope::One => self.walk_after(entry.name(), Some(entry.name().len()), after),
+            Scope::Sub => self.walk_after(entry.name(), None, after),
         }
     }
 
@@ -168,6 +221,24 @@ impl Tree {
         Walk {
             slots: &self.slots,
             range: self.places.range((Bound::Included(path), Bound::Unbounded)),
+            base: path,
+            depth,
+            ended: false,
+        }
+    }
+    // The walk over the entries at or below the name, all or those one RDN below the depth, behind a name that does not
+    // come before it.
+    fn walk_after<'a>(&'a self, name: &'a Dn, depth: Option<usize>, after: &Dn) -> Walk<'a>
+        requires { is_before after.now name.now ≡ false }
+        ensures exact { result ≡ ids_of (filter
+            (λ row. (is_within name.now row.entry && is_one_below depth row.entry.name)
+            && is_before after.now row.entry.name) self.now) }
+    {
+        let path = name.path();
+        let last = after.path();
+        Walk {
+            slots: &self.slots,
+            range: self.places.range((Bound::Excluded(last), Bound::Unbounded)),
             base: path,
             depth,
             ended: false,

@@ -7,14 +7,24 @@ ghost use Rattle.dir_tree.specs.tree.Numbered.{entry_of, entries_of, entries_at,
 ghost use Rattle.dir_tree.specs.Refusals.{insert_refusal, remove_refusal, replace_refusal};
 ghost use Rattle.acdf_filters.specs.admin_scope.InForce.{in_force};
 ghost use Rattle.acdf_filters.specs.Asking.{protected_of};
-ghost use Rattle.acdf_filters.specs.Granted.{granted, granted_new};
+ghost use Rattle.acdf_filters.specs.Granted.{granted, granted_after, granted_new};
 ghost use Rattle.acdf_filters.specs.weighing.Weighing.{AreMemberships};
 ghost use Rattle.acdf_filters.specs.admin_scope.InForce.{AreInForce};
 
 use acdf_filters::aci_item::Permission;
 use acdf_filters::{Item, Membership, Requester};
+use dir_tree::dn_names::Value;
+use dir_tree::schema_tables::AttrId;
 use dir_tree::{Entry, EntryNo, InsertRefusal, NoMemory, RemoveRefusal, ReplaceRefusal, Tree};
 use std::alloc::Global;
+
+/// What a value is added to: its type, the value, and the entry that the change would leave.
+#[derive(Clone, Copy)]
+pub struct Addition<'a> {
+    pub kind: AttrId,
+    pub value: &'a Value,
+    pub after: &'a Entry,
+}
 
 /// A directory. Contracts see its numbered entries.
 pub trait Dir {
@@ -28,7 +38,8 @@ pub trait Dir {
         ensures exact { result.now ≡ rows self.now };
 
     /// Whether the requester has the permission for the item of the entry of the number (X.501 18.8); false where the
-    /// number is not in use. The groups that are known are not asked for. No memory is taken.
+    /// number is not in use. A value that is added is added alone. The groups that are known are not asked for. No memory is
+    /// taken.
     fn decide(
         &self,
         who: &Requester,
@@ -40,6 +51,22 @@ pub trait Dir {
         requires known { AreMemberships (entries_of (rows self.now)) who.now.name known.now }
         ensures exact { result ≡ option_map_or
             (λ entry. granted (entries_of (rows self.now)) who.now entry (protected_of item.entry) permission)
+            (entry_of number.0 (rows self.now)) false };
+
+    /// Whether the requester may add the value to the entry of the number (X.501 18.8), as part of a change that would leave
+    /// another entry in its place: in that one maxValueCount and restrictedBy count values. False where the number is not
+    /// in use. The groups that are known are not asked for. No memory is taken.
+    fn decide_after(
+        &self,
+        who: &Requester,
+        known: &[Membership],
+        number: EntryNo,
+        addition: Addition<'_>,
+    ) -> bool
+        requires known { AreMemberships (entries_of (rows self.now)) who.now.name known.now }
+        ensures exact { result ≡ option_map_or
+            (λ entry. granted_after (entries_of (rows self.now)) who.now entry
+            addition.after.now addition.kind.0 addition.value.now)
             (entry_of number.0 (rows self.now)) false };
 
     /// The numbers of the access control subentries in force for an entry that is to be added (X.501 18.3): its areas

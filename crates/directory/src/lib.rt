@@ -13,7 +13,7 @@ mod targets;
 mod texts;
 
 pub use asking::{Asking, Target, find_target};
-pub use dir::Dir;
+pub use dir::{Addition, Dir};
 pub use hiding::{discloses, hidden, no_such_object};
 pub use newcomer::Newcomer;
 pub use results::{result_numbered, result_of, result_with};

@@ -15,6 +15,8 @@ enum Call {
     At,
     // The names of the entries in the scope of the number.
     Below(Scope),
+    // Those of them behind a name.
+    BelowAfter(Scope, &'static str),
     Superior,
     Suffix,
     Find,
@@ -73,6 +75,13 @@ fn put_answer(
         Call::At => put_name(alloc, tree.at(no), out),
         Call::Below(scope) => {
             for no in tree.below(no, scope) {
+                put_found(alloc, tree, Some(no), out)?;
+            }
+            Ok(())
+        }
+        Call::BelowAfter(scope, after) => {
+            let after = crate::fixtures::name(alloc, after)?;
+            for no in tree.below_after(no, scope, &after) {
                 put_found(alloc, tree, Some(no), out)?;
             }
             Ok(())
@@ -218,6 +227,35 @@ fn a_scope_takes_in_what_is_in_it_in_the_order_of_names(rt: HostRuntime) -> Resu
     check(&rt, rt.alloc(), &NAMES, &SCOPES)
 }
 
+#[rattlefmt::skip]
+static BEHIND: [Row; 8] = [
+    ("the scope Sub behind a name", "ou=people,dc=example,dc=com",
+        &[Call::BelowAfter(Scope::Sub, "UID=Ada,ou=people,dc=example,dc=com")],
+        "cn=key,uid=ada,ou=people,dc=example,dc=com\nuid=bob,ou=people,dc=example,dc=com\n"),
+    ("the scope One behind a name", "ou=people,dc=example,dc=com",
+        &[Call::BelowAfter(Scope::One, "cn=key,uid=ada,ou=people,dc=example,dc=com")],
+        "uid=bob,ou=people,dc=example,dc=com\n"),
+    ("the scope One behind a name that is no entry's", "dc=example,dc=com",
+        &[Call::BelowAfter(Scope::One, "ou=ham,dc=example,dc=com")],
+        "ou=lab,dc=example,dc=com\nou=people,dc=example,dc=com\n"),
+    ("the scope Sub behind its own name", "ou=groups,dc=example,dc=com",
+        &[Call::BelowAfter(Scope::Sub, "ou=groups,dc=example,dc=com")], "cn=staff,ou=groups,dc=example,dc=com\n"),
+    ("the scope Sub behind a name before it", "ou=groups,dc=example,dc=com",
+        &[Call::BelowAfter(Scope::Sub, "dc=example,dc=com")],
+        "ou=groups,dc=example,dc=com\ncn=staff,ou=groups,dc=example,dc=com\n"),
+    ("the scope Sub behind a name past it", "ou=groups,dc=example,dc=com",
+        &[Call::BelowAfter(Scope::Sub, "ou=lab,dc=example,dc=com")], ""),
+    ("the scope Base behind a name before it", "ou=lab,dc=example,dc=com",
+        &[Call::BelowAfter(Scope::Base, "")], "ou=lab,dc=example,dc=com\n"),
+    ("the scope Base behind its own name", "ou=lab,dc=example,dc=com",
+        &[Call::BelowAfter(Scope::Base, "ou=lab,dc=example,dc=com")], ""),
+];
+
+#[test]
+fn a_scope_is_gone_over_from_behind_a_name(rt: HostRuntime) -> Result<(), Fail> {
+    check(&rt, rt.alloc(), &NAMES, &BEHIND)
+}
+
 static UNUSED: [Row; 6] = [
     ("the scope Base", "dc=none", &[Call::Below(Scope::Base)], ""),
     ("the scope One", "dc=none", &[Call::Below(Scope::One)], ""),
@@ -354,7 +392,11 @@ fn access_control_subentries_are_counted_as_they_come_and_go(rt: HostRuntime) ->
 }
 
 #[rattlefmt::skip]
-static REPLACED: [Row; 4] = [
+static REPLACED: [Row; 6] = [
+    ("ou=lab,ou=people,dc=example,dc=com in place", "ou=lab,dc=example,dc=com",
+        &[Call::Replace("ou=lab,ou=people,dc=example,dc=com", &[]), Call::HasBelow], "ou=lab,dc=example,dc=com\ntrue\nfalse\n"),
+    ("uid=bob,ou=lab,dc=example,dc=com in place", "uid=bob,ou=people,dc=example,dc=com",
+        &[Call::Replace("uid=bob,ou=lab,dc=example,dc=com", &[])], "uid=bob,ou=people,dc=example,dc=com\ntrue\n"),
     ("OU=Lab,dc=example,dc=com in place", "ou=lab,dc=example,dc=com",
         &[Call::Replace("OU=Lab,dc=example,dc=com", &[])], "ou=lab,dc=example,dc=com\ntrue\n"),
     ("ou=zoo,dc=example,dc=com in place", "ou=lab,dc=example,dc=com",
@@ -380,18 +422,23 @@ fn an_entry_takes_the_place_of_another_under_its_number(rt: HostRuntime) -> Resu
 }
 
 #[rattlefmt::skip]
-static REFUSED: [Row; 8] = [
+static REFUSED: [Row; 11] = [
     ("ou=lab,dc=example,dc=com in place", "ou=none,dc=example,dc=com",
         &[Call::Replace("ou=lab,dc=example,dc=com", &[])], "Absent\nfalse\n"),
     ("ou=people,dc=example,dc=com in place", "ou=lab,dc=example,dc=com",
         &[Call::Replace("ou=people,dc=example,dc=com", &[])], "NameTaken\nfalse\n"),
     ("ou=lab,dc=example,dc=com in place", "ou=people,dc=example,dc=com",
         &[Call::Replace("ou=lab,dc=example,dc=com", &[])], "NameTaken\nfalse\n"),
-    (" in place", "ou=lab,dc=example,dc=com", &[Call::Replace("", &[])], "Elsewhere\nfalse\n"),
-    ("ou=lab,ou=people,dc=example,dc=com in place", "ou=lab,dc=example,dc=com",
-        &[Call::Replace("ou=lab,ou=people,dc=example,dc=com", &[])], "Elsewhere\nfalse\n"),
+    (" in place", "ou=lab,dc=example,dc=com", &[Call::Replace("", &[])], "NoSuperior\nfalse\n"),
+    ("ou=lab,ou=none,dc=example,dc=com in place", "ou=lab,dc=example,dc=com",
+        &[Call::Replace("ou=lab,ou=none,dc=example,dc=com", &[])], "NoSuperior\nfalse\n"),
+    ("ou=lab,ou=lab,dc=example,dc=com in place", "ou=lab,dc=example,dc=com",
+        &[Call::Replace("ou=lab,ou=lab,dc=example,dc=com", &[])], "NoSuperior\nfalse\n"),
+    ("ou=lab in place", "ou=lab,dc=example,dc=com", &[Call::Replace("ou=lab", &[])], "NoSuperior\nfalse\n"),
     ("dc=example,dc=org in place", "dc=example,dc=com", &[Call::Replace("dc=example,dc=org", &[])],
-        "Elsewhere\nfalse\n"),
+        "HasBelow\nfalse\n"),
+    ("ou=people,ou=lab,dc=example,dc=com in place", "ou=people,dc=example,dc=com",
+        &[Call::Replace("ou=people,ou=lab,dc=example,dc=com", &[])], "HasBelow\nfalse\n"),
     ("ou=folk,dc=example,dc=com in place", "ou=people,dc=example,dc=com",
         &[Call::Replace("ou=folk,dc=example,dc=com", &[])], "HasBelow\nfalse\n"),
     ("dc=other,dc=com in place", "dc=example,dc=com", &[Call::Replace("dc=other,dc=com", &[])], "HasBelow\nfalse\n"),

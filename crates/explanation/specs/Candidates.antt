@@ -8,7 +8,7 @@ use Rattle.acdf_filters.specs.aci_item.AciTuples.{AciTuple}
 use Rattle.acdf_filters.specs.Asking.{Asked}
 use Rattle.acdf_filters.specs.users.Choices.{highest, lowest, passing_or_all, is_filled}
 use Rattle.acdf_filters.specs.Covering.{covers, is_explicit}
-use Rattle.acdf_filters.specs.Filters.{Placed, stays, rank, has_permission}
+use Rattle.acdf_filters.specs.Filters.{Placed, stays, rank, permits}
 use Rattle.acdf_filters.specs.Tuples.{Listed, listed_in}
 use Rattle.acdf_filters.specs.weighing.Weighing.{asked_of, asked_ranks}
 use Rattle.acdf_filters.specs.declared.question.Question.{Question}
@@ -23,7 +23,7 @@ abbrev pub facts_of : Asked → AciTuple → List ℕ → Facts
 facts_of asked tuple ranks = record {
   stays = stays asked.who.level tuple ranks;
   covers = covers asked.who.name asked.item tuple.items;
-  permitted = has_permission asked.permission tuple;
+  permitted = permits asked tuple;
   precedence = tuple.precedence;
   rank = rank tuple ranks;
   explicit = is_explicit asked.who.name asked.item tuple.items;

@@ -8,8 +8,8 @@ use Rattle.dir_tree.specs.tree.Numbered.{Numbered, entries_of, entry_of}
 use Rattle.acdf_filters.specs.aci_item.declared.permission.Permission.{Permission}
 use Rattle.acdf_filters.specs.declared.asking.Requester.{Requester}
 use Rattle.acdf_filters.specs.Asking.{Protected, Asked}
-use Rattle.acdf_filters.specs.Filters.{Placed, left_by_users, left_by_item, left_by_permission, left_by_precedence, left_by_class, left_by_explicit}
-use Rattle.acdf_filters.specs.Granted.{placed_of, granted}
+use Rattle.acdf_filters.specs.Filters.{Placed, left_by_users, left_by_item, left_by_permission, left_by_precedence, left_by_class, left_by_explicit, decided}
+use Rattle.acdf_filters.specs.Granted.{placed_of}
 use Rattle.explanation.specs.declared.steps.Counts.{Counts}
 use Rattle.explanation.specs.declared.steps.KeptTuple.{KeptTuple}
 use Rattle.explanation.specs.declared.steps.Steps.{Steps}
@@ -46,7 +46,7 @@ kept_of x = record { source = x.listed.source; tag = x.listed.tag; grants = x.li
 pub record IsExplained (rows : List Numbered) (entry : EntryInformation) (asked : Asked) (steps : Steps) : Type 0 where
   pub counts : AreCounts asked (placed_of (entries_of rows) asked.who entry) steps.counts
   pub kept : map (kept_at rows) steps.kept.items ≡ map kept_of (left_by_explicit asked (placed_of (entries_of rows) asked.who entry))
-  pub granted : steps.granted ≡ granted (entries_of rows) asked.who entry asked.item asked.permission
+  pub granted : steps.granted ≡ decided asked (placed_of (entries_of rows) asked.who entry)
 
 -- nothing counts, nothing is left, and access is refused
 pub record IsNothing (steps : Steps) : Type 0 where

@@ -11,9 +11,9 @@ use Rattle.dir_tree.specs.tree.Trees.{named_in}
 use Rattle.acdf_filters.specs.admin_scope.InForce.{in_force}
 use Rattle.acdf_filters.specs.aci_item.declared.permission.Permission.{Permission}
 use Rattle.acdf_filters.specs.declared.asking.Requester.{Requester}
-use Rattle.acdf_filters.specs.Asking.{Protected, Asked}
-use Rattle.acdf_filters.specs.Filters.{Placed, left_by_users, left_by_item, left_by_permission, left_by_precedence, left_by_class, left_by_explicit}
-use Rattle.acdf_filters.specs.Granted.{placed_of, granted}
+use Rattle.acdf_filters.specs.Asking.{Protected, Asked, asked_on}
+use Rattle.acdf_filters.specs.Filters.{Placed, left_by_users, left_by_item, left_by_permission, left_by_precedence, left_by_class, left_by_explicit, decided}
+use Rattle.acdf_filters.specs.Granted.{placed_of}
 use Rattle.explanation.specs.Questions.{Question}
 use Rattle.explanation.specs.Explained.{Kept, kept_of}
 
@@ -57,12 +57,12 @@ entry_text entries entry asked =
     flat_map subentry_line (in_force entries entry)
     ++ (count_lines asked (placed_of entries asked.who entry)
     ++ (flat_map kept_line (map kept_of (left_by_explicit asked (placed_of entries asked.who entry)))
-    ++ outcome_line (granted entries asked.who entry asked.item asked.permission)))
+    ++ outcome_line (decided asked (placed_of entries asked.who entry))))
 
 -- the text of a decision on the entry of the name
 unfoldable pub explained_text : List EntryInformation → Requester → RdnSequence → Protected → Permission → List ℕ
 explained_text entries who target item permission =
-    option_map_or (λ entry. entry_text entries entry (record { who = who; item = item; permission = permission })) (named_in target entries) (codes "absent\n")
+    option_map_or (λ entry. entry_text entries entry (asked_on who entry item permission)) (named_in target entries) (codes "absent\n")
 
 -- the text of the decision that a question asks for
 abbrev pub text_explained : List EntryInformation → Question → List ℕ

@@ -5,7 +5,7 @@ ghost use Rattle.std.specs.List.{list_all};
 ghost use Rattle.dir_tree.specs.Entry.{EntryInformation};
 ghost use Rattle.dir_tree.specs.tree.Numbered.{Numbered, entry_of, entries_of, entries_at};
 ghost use Rattle.acdf_filters.specs.admin_scope.InForce.{in_force};
-ghost use Rattle.acdf_filters.specs.Asking.{protected_of};
+ghost use Rattle.acdf_filters.specs.Asking.{protected_of, asked_on};
 ghost use Rattle.acdf_filters.specs.weighing.Weighing.{KnowsGroups, asked_of};
 ghost use Rattle.explanation.specs.Explained.{IsExplained, IsNothing, kept_at};
 ghost use Rattle.explanation.specs.Candidates.{kept_from, all_grant};
@@ -87,7 +87,7 @@ fn explain_entry<D: Dir>(
 ) -> Result<Steps, NoMemory>
     requires entry { entry_of number.0 (D.rows dir.now) ≡ Some entry.now }
     ensures ok { IfOk result (IsExplained (D.rows dir.now) entry.now
-        (record { who = who.now; item = protected_of item.entry; permission = permission })) }
+        (asked_on who.now entry.now (protected_of item.entry) permission)) }
 {
     let known = dir.memberships(alloc, who)?;
     let question = Question {
@@ -95,6 +95,7 @@ fn explain_entry<D: Dir>(
         entry,
         item,
         permission,
+        after: None,
         tree: dir.tree(),
         known: &known,
     };
@@ -122,7 +123,7 @@ fn no_steps(alloc: Global) -> Steps
 
 /// The access control decision on the item of the entry of the number (X.501 18.8), filter by filter: how many tuples
 /// count for the entry, how many each filter leaves, which those of the last one are, and whether access is granted. The
-/// items are read again from the values. Nothing counts, and access is refused, where the number is not in use. The error comes where memory is
+/// items are read again from the values. A value that is added is added alone. Nothing counts, and access is refused, where the number is not in use. The error comes where memory is
 /// wanted.
 pub fn explain<D: Dir>(
     alloc: Global,
@@ -134,7 +135,7 @@ pub fn explain<D: Dir>(
 ) -> Result<Steps, NoMemory>
     ensures ok { (entry : EntryInformation) → entry_of number.0 (D.rows dir.now) ≡ Some entry
         → IfOk result (IsExplained (D.rows dir.now) entry
-        (record { who = who.now; item = protected_of item.entry; permission = permission })) }
+        (asked_on who.now entry (protected_of item.entry) permission)) }
     ensures absent { entry_of number.0 (D.rows dir.now) ≡ None → IfOk result (λ steps. IsNothing steps) }
 {
     match dir.tree().at(number) {

@@ -2,12 +2,11 @@
 
 ghost use Rattle.std.specs.Prelude.{◌≡◌};
 ghost use Rattle.acdf_filters.specs.aci_item.item.Views.{tuple_of};
-ghost use Rattle.acdf_filters.specs.Filters.{stays, rank};
 ghost use Rattle.acdf_filters.specs.weighing.Weighing.{KnowsGroups, asked_of, asked_ranks};
 ghost use Rattle.explanation.specs.Candidates.{facts_of};
 
 use acdf_filters::aci_item::AciTuple;
-use acdf_filters::{Question, class_of, covers, is_explicit, listed_class};
+use acdf_filters::{Question, covers, is_barred, is_explicit, rank, stays};
 
 /// What the filters ask of a tuple, answered.
 #[derive(Clone, Copy)]
@@ -16,7 +15,7 @@ pub(crate) struct Facts {
     pub stays: bool,
     /// It covers the item.
     pub covers: bool,
-    /// It has the permission.
+    /// It has the permission, and extends to what is added.
     pub permitted: bool,
     pub precedence: u8,
     /// How specific the class is by which it stays.
@@ -24,30 +23,6 @@ pub(crate) struct Facts {
     /// It names the item explicitly.
     pub explicit: bool,
     pub grants: bool,
-}
-
-// Whether the tuple stays for the requester.
-fn stays(question: &Question<'_>, tuple: &AciTuple) -> bool
-    requires { KnowsGroups question.now }
-    ensures exact { result ≡ stays question.now.who.now.level (tuple_of tuple.now)
-        (asked_ranks question.now (tuple_of tuple.now)) }
-{
-    let above = tuple.level.is_above(question.who.level);
-    match class_of(question, &tuple.classes) {
-        Some(_) => !tuple.grants || !above,
-        None => !tuple.grants && above,
-    }
-}
-
-// The rank of the class by which it does.
-fn rank(question: &Question<'_>, tuple: &AciTuple) -> u8
-    requires { KnowsGroups question.now }
-    ensures exact { result ≡ rank (tuple_of tuple.now) (asked_ranks question.now (tuple_of tuple.now)) }
-{
-    match class_of(question, &tuple.classes) {
-        Some(rank) => rank,
-        None => listed_class(&tuple.classes),
-    }
 }
 
 /// The answers for a tuple.
@@ -59,7 +34,7 @@ pub(crate) fn facts_for(question: &Question<'_>, tuple: &AciTuple) -> Facts
     Facts {
         stays: stays(question, tuple),
         covers: covers(&question.who.name, &question.item, &tuple.items),
-        permitted: tuple.has(question.permission),
+        permitted: tuple.has(question.permission) && !is_barred(question, tuple),
         precedence: tuple.precedence,
         rank: rank(question, tuple),
         explicit: is_explicit(&question.who.name, &question.item, &tuple.items),

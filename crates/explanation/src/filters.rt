@@ -22,7 +22,7 @@ fn keep_covering(candidates: &mut Vec<Candidate>)
     candidates.retain(|one| one.facts.covers);
 }
 
-// Leaves those with the permission.
+// Leaves those with the permission that extend to what is added.
 fn keep_permitted(candidates: &mut Vec<Candidate>)
     ensures exact { candidates.new.items ≡ filter (λ one. one.facts.permitted) candidates.old.items }
 {

@@ -11,7 +11,7 @@ pub struct Counts {
     pub users: usize,
     /// Of these, those that cover the item.
     pub item: usize,
-    /// Of these, those with the permission.
+    /// Of these, those with the permission that extend to what is added.
     pub permission: usize,
     /// Of these, those of the highest precedence.
     pub precedence: usize,

@@ -3,7 +3,7 @@
 ghost use Rattle.std.specs.Prelude.{◌≡◌, Some, IfOk, string_bytes};
 ghost use Rattle.dir_tree.specs.Entry.{EntryInformation};
 ghost use Rattle.dir_tree.specs.tree.Numbered.{entry_of, entries_of};
-ghost use Rattle.acdf_filters.specs.Asking.{protected_of};
+ghost use Rattle.acdf_filters.specs.Asking.{protected_of, asked_on};
 ghost use Rattle.explanation.specs.Questions.{question_view};
 ghost use Rattle.explanation.specs.Texts.{entry_text, explained_text, text_explained};
 
@@ -27,7 +27,7 @@ fn entry_text<D: Dir>(
 ) -> Result<String, NoMemory>
     ensures ok { (entry : EntryInformation) → entry_of number.0 (D.rows dir.now) ≡ Some entry
         → IfOk result (λ text. string_bytes text ≡ entry_text (entries_of (D.rows dir.now)) entry
-        (record { who = who.now; item = protected_of item.entry; permission = permission })) }
+        (asked_on who.now entry (protected_of item.entry) permission)) }
 {
     let steps = explain(alloc, dir, who, number, item, permission)?;
     let mut text = String::new(alloc);

@@ -145,7 +145,7 @@ fn the_full_spelling_is_read_as_itself(rt: HostRuntime) -> Result<(), Fail> {
 }
 
 // A text that is refused, and why: the place is that of the first octet of the part that breaks its rule.
-static REFUSALS: [(&str, &str); 53] = [
+static REFUSALS: [(&str, &str); 51] = [
     (
         "{identificationTag \"t\",precedence 10,authenticationLevel none,itemOrUserFirst userFirst:{userClasses{allUsers},userPermissions{}}}",
         "Text",
@@ -271,14 +271,6 @@ static REFUSALS: [(&str, &str); 53] = [
     (
         "{ identificationTag \"t\", precedence 10, authenticationLevel basicLevels:{ level none }, itemOrUserFirst userFirst:{ userClasses { subtree { { base \"zz=a\", specificationFilter item:person } } }, userPermissions { } } }",
         "Part 147",
-    ),
-    (
-        "{ identificationTag \"t\", precedence 10, authenticationLevel basicLevels:{ level none }, itemOrUserFirst userFirst:{ userClasses { allUsers NULL }, userPermissions { { protectedItems { maxValueCount { { type cn, maxCount 1 } } }, grantsAndDenials { } } } } }",
-        "Text",
-    ),
-    (
-        "{ identificationTag \"t\", precedence 10, authenticationLevel basicLevels:{ level none }, itemOrUserFirst userFirst:{ userClasses { allUsers NULL }, userPermissions { { protectedItems { restrictedBy { { type cn, valuesIn sn } } }, grantsAndDenials { } } } } }",
-        "Text",
     ),
     (
         "{ identificationTag \"t\", precedence 10, authenticationLevel basicLevels:{ level none }, itemOrUserFirst userFirst:{ userClasses { allUsers NULL }, userPermissions { { protectedItems { contexts { { contextType 2.5.31.0, contextValues { \"en\" } } } }, grantsAndDenials { } } } } }",

@@ -86,6 +86,8 @@ whole = record {
   all_kinds_and_values = false;
   values = [];
   self_values = [];
+  max_counts = [];
+  restricted = [];
 }
 
 users_first : groups_of (UserFirst of_group []) ≡ secret ∷ []

@@ -8,7 +8,7 @@ use Rattle.acdf_filters.specs.declared.standing.Standing.{Standing}
 use Rattle.acdf_filters.specs.Asking.{Asked}
 use Rattle.acdf_filters.specs.users.Choices.{least, is_filled}
 use Rattle.acdf_filters.specs.Covering.{covers}
-use Rattle.acdf_filters.specs.Filters.{Placed, stays, has_permission, left_by_permission, decided}
+use Rattle.acdf_filters.specs.Filters.{Placed, stays, permits, left_by_permission, decided}
 use Rattle.acdf_filters.specs.Granted.{placed}
 use Rattle.acdf_filters.specs.Standing as generic
 use Rattle.acdf_filters.specs.Standing.{initial, standing}
@@ -29,8 +29,8 @@ passes_all asked x = passes asked x.listed.tuple x.ranks
 -- the first three filters are one test
 left_by_permission-passes : (asked : Asked) (xs : List Placed) → filter (passes_all asked) xs ≡ left_by_permission asked xs
 left_by_permission-passes asked xs =
-    sym (filter-filter (λ x. has_permission asked.permission x.listed.tuple) (λ x. stays asked.who.level x.listed.tuple x.ranks && covers asked.who.name asked.item x.listed.tuple.items) xs)
-    ∙ ap (filter (λ x. has_permission asked.permission x.listed.tuple))
+    sym (filter-filter (λ x. permits asked x.listed.tuple) (λ x. stays asked.who.level x.listed.tuple x.ranks && covers asked.who.name asked.item x.listed.tuple.items) xs)
+    ∙ ap (filter (λ x. permits asked x.listed.tuple))
     (sym (filter-filter (λ x. covers asked.who.name asked.item x.listed.tuple.items) (λ x. stays asked.who.level x.listed.tuple x.ranks) xs))
 
 -- a tuple is weighed as its keys say
@@ -46,12 +46,12 @@ granted_state : (asked : Asked) (xs : List Placed) → is_granted (standing (key
 unfolding decided
 granted_state asked xs = refl
 
-decided-placed : (asked : Asked) (xs : List Placed) → is_granted (fold (λ (seen : Standing) (x : Placed). weighed asked seen x.listed.tuple x.ranks) initial xs) ≡ decided asked xs
-decided-placed asked xs =
-    ap is_granted (fold-same (λ (seen : Standing) (x : Placed). weighed asked seen x.listed.tuple x.ranks) (generic.weighed (keys_of asked) (passes_all asked)) (by_keys asked) initial xs
+standing-placed : (asked : Asked) (xs : List Placed)
+    → fold (λ (seen : Standing) (x : Placed). weighed asked seen x.listed.tuple x.ranks) initial xs ≡ standing (keys_of asked) (left_by_permission asked xs)
+standing-placed asked xs =
+    fold-same (λ (seen : Standing) (x : Placed). weighed asked seen x.listed.tuple x.ranks) (generic.weighed (keys_of asked) (passes_all asked)) (by_keys asked) initial xs
     ∙ fold-weighed (keys_of asked) (passes_all asked) (λ x. least-within (if is_filled x.ranks then x.ranks else listed_ranks x.listed.tuple.classes)) xs
-    ∙ ap (standing (keys_of asked)) (left_by_permission-passes asked xs))
-    ∙ granted_state asked xs
+    ∙ ap (standing (keys_of asked)) (left_by_permission-passes asked xs)
 
 -- the tuples alone, of which the place says the ranks
 fold-placed : (question : Question) (seen : Standing) (xs : List Listed)
@@ -60,9 +60,18 @@ fold-placed : (question : Question) (seen : Standing) (xs : List Listed)
 fold-placed question seen [] = refl
 fold-placed question seen (x ∷ xs) = fold-placed question (weighed_for question seen x.tuple) xs
 
+-- the state that tuples leave is that of those that the first three filters leave
+pub standing-fold : (question : Question) (xs : List Listed)
+    → fold (weighed_for question) initial (map (λ x. x.tuple) xs)
+    ≡ standing (keys_of (asked_of question)) (left_by_permission (asked_of question) (placed (entries_of question.tree.now) question.entry.now question.who.now.name xs))
+standing-fold question xs =
+    fold-placed question initial xs
+    ∙ standing-placed (asked_of question) (placed (entries_of question.tree.now) question.entry.now question.who.now.name xs)
+
+-- so it decides
 pub decided-fold : (question : Question) (xs : List Listed)
     → is_granted (fold (weighed_for question) initial (map (λ x. x.tuple) xs))
     ≡ decided (asked_of question) (placed (entries_of question.tree.now) question.entry.now question.who.now.name xs)
 decided-fold question xs =
-    ap is_granted (fold-placed question initial xs)
-    ∙ decided-placed (asked_of question) (placed (entries_of question.tree.now) question.entry.now question.who.now.name xs)
+    ap is_granted (standing-fold question xs)
+    ∙ granted_state (asked_of question) (placed (entries_of question.tree.now) question.entry.now question.who.now.name xs)

@@ -6,7 +6,7 @@ use Rattle.std.specs.Option.{option_map_or}
 use Rattle.std.proofs.lemmas.Bool.{cases_Bool, both_ways, or_parts, false_from_ne_true, not-false}
 use Rattle.std.proofs.lemmas.List.{take-append-drop, map-append}
 use Rattle.dir_tree.proofs.base_laws_proofs.Theorems.{all_map, all_append, all_filter, none_passes, map-agree, find-filter}
-use Rattle.dir_tree.specs.dn_names.name.Names.{RdnSequence}
+use Rattle.dir_tree.specs.dn_names.name.Names.{Keyed, RdnSequence}
 use Rattle.dir_tree.specs.dn_names.NameOrder.{is_same, is_prefix_of, types_and_keys, type_and_key}
 use Rattle.dir_tree.proofs.dn_names_proofs.Theorems.{is_prefix_of-types_and_keys}
 use Rattle.dir_tree.specs.Entry.{EntryInformation}
@@ -19,12 +19,13 @@ use Rattle.admin_scope.specs.InForce.{reaches, in_force_at, in_force}
 use Rattle.admin_scope.proofs.Theorems.{prefix_chain, in_force-without}
 use Rattle.aci_item.specs.item.Items.{UserClasses}
 use Rattle.aci_item.specs.declared.permission.Permission.{Permission}
+use Rattle.aci_item.specs.declared.permission.Permission.TheVariants.{Add}
 use Rattle.acdf_filters.specs.declared.asking.Requester.{Requester}
-use Rattle.acdf_filters.specs.Asking.{Protected, Asked}
+use Rattle.acdf_filters.specs.Asking.{Protected, Value, asked_on}
 use Rattle.acdf_filters.specs.Tuples.{Listed, prescriptive_aci, entry_aci, subentry_aci, listed_in, inherited, tuples_of, tuples_new}
 use Rattle.acdf_filters.specs.users.Users.{has_member, is_in_group, is_in_groups, ranks_of, rank_where, is_held}
 use Rattle.acdf_filters.specs.Filters.{Placed, decided}
-use Rattle.acdf_filters.specs.Granted.{placed, granted, granted_new}
+use Rattle.acdf_filters.specs.Granted.{placed, placed_of, placed_new, granted, granted_after, granted_new}
 use Rattle.acdf_filters.specs.Unseen.{names_group, names_group_in, has_group, IsApart}
 use Rattle.acdf_filters.proofs.laws.ListLemmas.{all_flat_map, all_flat_map_of, list_any-agree}
 
@@ -153,19 +154,36 @@ inherited_apart top entries entry h outside =
     subst (NamesNone top) (inherited-without top entries entry h.subentries outside)
     (inherited_none top (without_subtree top entries) entry (all_outside (λ e. not (is_within top e)) (has_group top) entries h.groups))
 
+-- so the tuples that count for it stay, with the ranks of their classes
+placed_of-without : (top : RdnSequence) (entries : List EntryInformation) (entry : EntryInformation) → IsApart top entries → is_within top entry ≡ false → has_group top entry ≡ false
+    → (who : Requester) → placed_of (without_subtree top entries) who entry ≡ placed_of entries who entry
+unfolding tuples_of
+placed_of-without top entries entry h outside own who =
+    ap (λ (xs : List Listed). placed (without_subtree top entries) entry who.name (xs ++ listed_in entry_aci entry)) (inherited-without top entries entry h.subentries outside)
+    ∙ placed-without top entries entry who.name (inherited entries entry ++ listed_in entry_aci entry)
+    (all_append (λ x. names_group top x ≡ false) (inherited entries entry) (listed_in entry_aci entry) (inherited_apart top entries entry h outside) (own_none top entry own))
+
+placed_new-without : (top : RdnSequence) (entries : List EntryInformation) (entry : EntryInformation) → IsApart top entries → is_within top entry ≡ false
+    → (who : Requester) → placed_new (without_subtree top entries) who entry ≡ placed_new entries who entry
+unfolding tuples_new
+placed_new-without top entries entry h outside who =
+    ap (λ (xs : List Listed). placed (without_subtree top entries) entry who.name xs) (inherited-without top entries entry h.subentries outside)
+    ∙ placed-without top entries entry who.name (inherited entries entry) (inherited_apart top entries entry h outside)
+
 pub granted-without : (top : RdnSequence) (entries : List EntryInformation) (entry : EntryInformation) → IsApart top entries → is_within top entry ≡ false → has_group top entry ≡ false
     → (who : Requester) (item : Protected) (permission : Permission) → granted (without_subtree top entries) who entry item permission ≡ granted entries who entry item permission
-unfolding granted tuples_of
+unfolding granted
 granted-without top entries entry h outside own who item permission =
-    let asked : Asked = record { who = who; item = item; permission = permission } in
-    ap (λ (xs : List Listed). decided asked (placed (without_subtree top entries) entry who.name (xs ++ listed_in entry_aci entry))) (inherited-without top entries entry h.subentries outside)
-    ∙ ap (decided asked) (placed-without top entries entry who.name (inherited entries entry ++ listed_in entry_aci entry)
-    (all_append (λ x. names_group top x ≡ false) (inherited entries entry) (listed_in entry_aci entry) (inherited_apart top entries entry h outside) (own_none top entry own)))
+    ap (decided (asked_on who entry item permission)) (placed_of-without top entries entry h outside own who)
+
+pub granted_after-without : (top : RdnSequence) (entries : List EntryInformation) (entry : EntryInformation) → IsApart top entries → is_within top entry ≡ false → has_group top entry ≡ false
+    → (who : Requester) (after : EntryInformation) (kind : ℕ) (value : Keyed) → granted_after (without_subtree top entries) who entry after kind value ≡ granted_after entries who entry after kind value
+unfolding granted_after
+granted_after-without top entries entry h outside own who after kind value =
+    ap (decided (record { who = who; item = Value kind value; permission = Add; after = after })) (placed_of-without top entries entry h outside own who)
 
 pub granted_new-without : (top : RdnSequence) (entries : List EntryInformation) (entry : EntryInformation) → IsApart top entries → is_within top entry ≡ false
     → (who : Requester) (item : Protected) (permission : Permission) → granted_new (without_subtree top entries) who entry item permission ≡ granted_new entries who entry item permission
-unfolding granted_new tuples_new
+unfolding granted_new
 granted_new-without top entries entry h outside who item permission =
-    let asked : Asked = record { who = who; item = item; permission = permission } in
-    ap (λ (xs : List Listed). decided asked (placed (without_subtree top entries) entry who.name xs)) (inherited-without top entries entry h.subentries outside)
-    ∙ ap (decided asked) (placed-without top entries entry who.name (inherited entries entry) (inherited_apart top entries entry h outside))
+    ap (decided (record { who = who; item = item; permission = permission; after = entry })) (placed_new-without top entries entry h outside who)

@@ -6,6 +6,7 @@ use Rattle.aci_item.specs.AciTuples.{AciTuple}
 use Rattle.acdf_filters.specs.Asking.{Asked}
 use Rattle.acdf_filters.specs.users.Choices.{least}
 use Rattle.acdf_filters.specs.Covering.{covers}
+use Rattle.acdf_filters.specs.Limits.{is_barred}
 use Rattle.acdf_filters.specs.Filters.{stays, asks_above, has_permission}
 use Rattle.acdf_filters.specs.Standing.{with_one, with_class}
 use Rattle.acdf_filters.specs.users.Users.{listed_ranks}
@@ -18,16 +19,24 @@ below_seen one seen h =
     cond-false (nat_lt seen.precedence one.precedence) one (cond (nat_lt one.precedence seen.precedence) seen (with_class one seen)) (le-ltb seen.precedence one.precedence (omega arith))
     ∙ cond-true (nat_lt one.precedence seen.precedence) seen (with_class one seen) (lt-ltb one.precedence seen.precedence h)
 
--- the three tests in any order
-in_order : (s c h : Bool) (new seen : Standing) → cond ((s && c) && h) new seen ≡ cond h (cond c (cond s new seen) seen) seen
-in_order true true true new seen = refl
-in_order true true false new seen = refl
-in_order true false true new seen = refl
-in_order true false false new seen = refl
-in_order false true true new seen = refl
-in_order false true false new seen = refl
-in_order false false true new seen = refl
-in_order false false false new seen = refl
+-- the four tests in any order
+in_order : (s c h b : Bool) (new seen : Standing) → cond ((s && c) && (h && not b)) new seen ≡ cond h (cond c (cond b seen (cond s new seen)) seen) seen
+in_order true true true true new seen = refl
+in_order true true true false new seen = refl
+in_order true true false true new seen = refl
+in_order true true false false new seen = refl
+in_order true false true true new seen = refl
+in_order true false true false new seen = refl
+in_order true false false true new seen = refl
+in_order true false false false new seen = refl
+in_order false true true true new seen = refl
+in_order false true true false new seen = refl
+in_order false true false true new seen = refl
+in_order false true false false new seen = refl
+in_order false false true true new seen = refl
+in_order false false true false new seen = refl
+in_order false false false true new seen = refl
+in_order false false false false new seen = refl
 
 same_both : (b : Bool) (seen : Standing) → cond b seen seen ≡ seen
 same_both true seen = refl
@@ -42,7 +51,7 @@ weighed-below asked seen tuple ranks h =
 pub weighed-tests : (asked : Asked) (seen : Standing) (tuple : AciTuple) (ranks : List ℕ) → weighed asked seen tuple ranks ≡ with_permission_of asked seen tuple ranks
 unfolding weighed
 weighed-tests asked seen tuple ranks =
-    in_order (stays asked.who.level tuple ranks) (covers asked.who.name asked.item tuple.items) (has_permission asked.permission tuple)
+    in_order (stays asked.who.level tuple ranks) (covers asked.who.name asked.item tuple.items) (has_permission asked.permission tuple) (is_barred asked tuple)
     (with_one (alone asked tuple ranks) seen) seen
 
 -- what the class in which the requester is, if there is one, makes of a tuple

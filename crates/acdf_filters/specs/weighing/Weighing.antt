@@ -1,17 +1,19 @@
 -- A tuple weighed for a question: the keys that the last three filters ask, and the first three filters as one test.
 use Rattle.std.specs.Prelude.{◌≡◌, ℕ, Bool, true, false, not, ◌&&◌, ◌||◌, List, [], ◌∷◌, string_bytes, find, map, Option, Some, None, if◌then◌else◌}
 use Rattle.std.specs.List.{AllByRecursion}
-use Rattle.std.specs.Option.{option_map}
-use Rattle.dir_tree.specs.dn_names.name.Names.{RdnSequence}
+use Rattle.std.specs.Option.{option_map, option_map_or}
+use Rattle.dir_tree.specs.dn_names.name.Names.{Keyed, RdnSequence}
 use Rattle.dir_tree.specs.dn_names.NameOrder.{is_same}
 use Rattle.dir_tree.specs.Entry.{EntryInformation}
+use Rattle.dir_tree.specs.attributes.Changes.{with_value}
 use Rattle.dir_tree.specs.tree.Numbered.{entries_of}
 use Rattle.aci_item.specs.AciTuples.{AciTuple}
-use Rattle.acdf_filters.specs.Asking.{Asked, protected_of}
+use Rattle.acdf_filters.specs.Asking.{Asked, protected_of, with_item}
 use Rattle.acdf_filters.specs.users.Choices.{least, is_filled}
 use Rattle.acdf_filters.specs.users.Users.{is_in_group, ranks_of, listed_ranks}
 use Rattle.acdf_filters.specs.Covering.{covers, is_explicit}
-use Rattle.acdf_filters.specs.Filters.{Placed, asks_above, stays, rank, has_permission}
+use Rattle.acdf_filters.specs.Limits.{is_barred}
+use Rattle.acdf_filters.specs.Filters.{Placed, asks_above, stays, rank, has_permission, permits}
 use Rattle.acdf_filters.specs.weighing.LastFilters.{Keys}
 use Rattle.acdf_filters.specs.Standing.{with_one}
 use Rattle.acdf_filters.specs.declared.question.Membership.{Membership}
@@ -24,7 +26,7 @@ use Rattle.acdf_filters.specs.declared.standing.Standing.{Standing}
 -- the tuple passes the first three filters
 abbrev pub passes : Asked → AciTuple → List ℕ → Bool
 passes asked tuple ranks =
-    stays asked.who.level tuple ranks && covers asked.who.name asked.item tuple.items && has_permission asked.permission tuple
+    stays asked.who.level tuple ranks && covers asked.who.name asked.item tuple.items && permits asked tuple
 
 -- the state of the tuple alone, whose class has this rank
 abbrev pub alone_at : Asked → AciTuple → ℕ → Standing
@@ -78,12 +80,21 @@ class_of_all all = if all then Some 3 else None
 abbrev pub first_rank : Bool → Bool → Bool → ℕ
 first_rank users groups subtrees = if users then 0 else if groups then 1 else if subtrees then 2 else 3
 
+-- the entry that a change would leave: the one that a program gives, or else the entry with the item
+abbrev pub after_of : Question → EntryInformation
+after_of question = option_map_or (λ after. after.now) question.after (with_item (protected_of question.item) question.entry.now)
+
+-- the same where a value of the type is added
+abbrev pub left_with : Question → ℕ → Keyed → EntryInformation
+left_with question kind value = option_map_or (λ after. after.now) question.after (with_value kind value question.entry.now)
+
 -- what a program asks
 abbrev pub asked_of : Question → Asked
 asked_of question = record {
   who = question.who.now;
   item = protected_of question.item;
   permission = question.permission;
+  after = after_of question;
 }
 
 -- the memberships that go with a question are those of its tree
@@ -98,19 +109,23 @@ asked_ranks question tuple = ranks_of (entries_of question.tree.now) question.en
 abbrev pub weighed_for : Question → Standing → AciTuple → Standing
 weighed_for question seen tuple = weighed (asked_of question) seen tuple (asked_ranks question tuple)
 
--- the state with a tuple weighed that covers the item and has the permission
+-- the state with a tuple weighed that covers the item, has the permission and extends to what is added
 abbrev pub with_class_of : Asked → Standing → AciTuple → List ℕ → Standing
 with_class_of asked seen tuple ranks = if stays asked.who.level tuple ranks then with_one (alone asked tuple ranks) seen else seen
 
+-- the same of one that covers the item and has the permission
+abbrev pub with_limits_of : Asked → Standing → AciTuple → List ℕ → Standing
+with_limits_of asked seen tuple ranks = if is_barred asked tuple then seen else with_class_of asked seen tuple ranks
+
 -- the same of one that has the permission
 abbrev pub with_item_of : Asked → Standing → AciTuple → List ℕ → Standing
-with_item_of asked seen tuple ranks = if covers asked.who.name asked.item tuple.items then with_class_of asked seen tuple ranks else seen
+with_item_of asked seen tuple ranks = if covers asked.who.name asked.item tuple.items then with_limits_of asked seen tuple ranks else seen
 
 -- the same of any
 abbrev pub with_permission_of : Asked → Standing → AciTuple → List ℕ → Standing
 with_permission_of asked seen tuple ranks = if has_permission asked.permission tuple then with_item_of asked seen tuple ranks else seen
 
--- the state with a tuple that covers the item and has the permission, by the most specific class in which the requester is, if there is one
+-- the state with a tuple that passes the second and third filter, by the most specific class in which the requester is, if there is one
 abbrev pub by_class : Asked → Standing → AciTuple → Option ℕ → Standing
 by_class asked seen tuple (Some rank) =
     if tuple.grants && asks_above asked.who.level tuple then seen else with_one (alone_at asked tuple rank) seen

@@ -2,14 +2,13 @@
 use Rattle.std.proofs.Common.{◌≡◌, ℕ, ◌≤◌, ◌==◌, Bool, true, false, List, [], ◌∷◌, length, map, refl, ap, ◌∙◌, arith}
 use Rattle.std.proofs.lemmas.Str.{IsUtf8-nil, is_utf8-from_IsUtf8}
 use Rattle.std.specs.Str.{IsUtf8, is_utf8}
-use Rattle.std.specs.Option.{option_map}
-use Rattle.std.specs.Prelude.{Option, Some, None, option_and_then, nat_le, if◌then◌else◌}
+use Rattle.std.specs.Prelude.{Option, Some, None, nat_le, if◌then◌else◌}
 use Rattle.std.specs.Str.Parse.{digits_value}
 use Rattle.dir_tree.specs.match_rules.Keys.{key_of}
 use Rattle.dir_tree.specs.match_rules.Syntaxes.{is_of}
-use Rattle.dir_tree.specs.schema_tables.Attributes.{attributes, IsAttrId, syntax_of}
+use Rattle.dir_tree.specs.schema_tables.Attributes.{attributes, IsAttrId}
 use Rattle.dir_tree.specs.dn_names.name.Names.{Keyed}
-use Rattle.dir_tree.specs.dn_names.NameValues.{value_of, value_key}
+use Rattle.dir_tree.specs.dn_names.NameValues.{value_of}
 use Rattle.dir_tree.proofs.dn_names_proofs.Theorems.{value_of-octets}
 use Rattle.gser_tree.specs.declared.part.Part.{Part}
 use Rattle.gser_tree.specs.looking.Looking.{word_in}

@@ -53,6 +53,15 @@ put_pair old one two three new first name other value last begun here next rest 
     PutsMembers-append old two new first false false (print_component name value ∷ []) (print_component other last ∷ [])
     (PutsMembers-component old one two first name value begun here) (PutsMembers-component two three new false other last next rest)
 
+-- the same in braces
+pub put_braced_pair : (old one two three four new name other : List ℕ) (value last : List Lexeme)
+    → one ≡ old ++ text_of (separator true ++ print_component name []) → two ≡ one ++ text_of value
+    → three ≡ two ++ text_of (separator false ++ print_component other []) → four ≡ three ++ text_of last → new ≡ four ++ text_of (ending false)
+    → new ≡ old ++ text_of (print_braces (print_component name value ∷ print_component other last ∷ []))
+put_braced_pair old one two three four new name other value last begun here next rest end =
+    PutsMembers-braces old four new false (print_component name value ∷ print_component other last ∷ [])
+    (put_pair old one two three four true name other value last begun here next rest) end
+
 -- the members that pass a test, with one more that is written where it passes
 pub put_tested : {A : Type 0} (test : A → Bool) (print : A → List Lexeme) (old before new : List ℕ) (first second third : Bool) (values : List A) (index : ℕ)
     (value : A) (here : Bool) → index < length values → value ≡ get_or values index value → here ≡ test value

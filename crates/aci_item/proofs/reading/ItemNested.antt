@@ -9,23 +9,24 @@ use Rattle.gser_tree.specs.looking.Looking.{members_in, chosen_in}
 use Rattle.gser_tree.specs.Reading.{give, expect, part}
 use Rattle.gser_tree.proofs.Theorems.{Shallow, both_read, was_there, chosen_nest, members_nest, number_is_shallow}
 use Rattle.dir_tree.specs.dn_names.NameValues.{value_of}
-use Rattle.dir_tree.specs.schema_tables.Attributes.{attr_of}
 use Rattle.subtree_spec.specs.declared.error.BadText.{BadText}
-use Rattle.subtree_spec.specs.Parts.{name, oid}
+use Rattle.subtree_spec.specs.Parts.{name}
 use Rattle.subtree_spec.specs.SubtreePrinted.{print_subtree}
 use Rattle.subtree_spec.specs.SubtreeText.{subtree, there, judged, fault_of}
 use Rattle.subtree_spec.proofs.Theorems.{subtree_is_shallow}
 use Rattle.aci_item.specs.declared.item.AciItem.{AciItem}
 use Rattle.aci_item.specs.AciText.{sorted_set, classes, kinds, items, precedence, item_permission, user_permission, item_first, user_first, first, tag, aci_item, AciText, read_item}
 use Rattle.aci_item.specs.members.ItemParts.{level_word, basic_levels, level_by, level, bit, bits, named_user, user_by, user, kind, no_octets, assertion, kind_and_value, unrefined, class_subtree}
-use Rattle.aci_item.specs.ItemPrinted.{level_name, bit_name, print_user, print_kind, print_value, print_item_permission, print_user_permission}
+use Rattle.aci_item.specs.members.Limits.{max_value_count, restricted_value}
+use Rattle.aci_item.specs.ItemPrinted.{level_name, bit_name, print_user, print_kind, print_value, print_max_value_count, print_restricted_value, print_item_permission, print_user_permission}
 use Rattle.aci_item.specs.item.Items.{Item, ItemFirst, UserFirst}
 use Rattle.aci_item.specs.Level.{levels}
 use Rattle.aci_item.specs.Permission.{all_bits, put_bit}
 use Rattle.aci_item.specs.Sets.{gather_into}
 use Rattle.aci_item.specs.item.Views.{item_of_code}
 use Rattle.aci_item.proofs.reading.ReadLemmas.{reads_shape}
-use Rattle.aci_item.proofs.reading.NestedLemmas.{Bounds, in_braces, next_bounds, end_bounds, optional_leaves, required_leaves, flagged_leaves, gathered_bounds, set_is_shallow, word_is_shallow, string_is_shallow, name_is_shallow, oid_is_shallow}
+use Rattle.aci_item.proofs.reading.NestedLemmas.{Bounds, in_braces, next_bounds, end_bounds, optional_leaves, required_leaves, flagged_leaves, gathered_bounds, set_is_shallow, word_is_shallow, string_is_shallow, name_is_shallow, kind_is_shallow}
+use Rattle.aci_item.proofs.reading.LimitNested.{max_value_counts_are_shallow, restricted_values_are_shallow}
 
 -- ---- words and strings
 
@@ -35,11 +36,6 @@ tag_is_shallow shape = string_is_shallow (λ string. give string.text) shape
 assertion_is_shallow : (kind : ℕ) → Shallow 0 (assertion kind)
 unfolding assertion
 assertion_is_shallow kind shape = string_is_shallow (λ string. part string.place no_octets (value_of kind string.text)) shape
-
-kind_is_shallow : Shallow 0 kind
-unfolding kind
-kind_is_shallow shape bad found h =
-    let read = both_read (oid shape) (λ word. part word.place 0 (attr_of word.text)) bad found h in oid_is_shallow shape bad read.0 read.1
 
 level_word_is_shallow : Shallow 0 level_word
 unfolding level_word
@@ -152,7 +148,11 @@ items_are_shallow shape =
     (λ both. next_bounds 2 both.rest _ _
     (optional_leaves 2 2 (codes "attributeValue") [] (sorted_set print_value kind_and_value) both.rest values_are_shallow (omega arith))
     (λ values. next_bounds 2 values.rest _ _ (optional_leaves 1 2 (codes "selfValue") [] kinds values.rest kinds_are_shallow (omega arith))
-    (λ selves. end_bounds 2 selves.rest
+    (λ selves. next_bounds 2 selves.rest _ _
+    (optional_leaves 2 2 (codes "maxValueCount") [] (sorted_set print_max_value_count max_value_count) selves.rest max_value_counts_are_shallow (omega arith))
+    (λ counts. next_bounds 2 counts.rest _ _
+    (optional_leaves 2 2 (codes "restrictedBy") [] (sorted_set print_restricted_value restricted_value) counts.rest restricted_values_are_shallow (omega arith))
+    (λ restricted. end_bounds 2 restricted.rest
     (record {
       entry = entry.value;
       all_kinds = all.value;
@@ -161,7 +161,9 @@ items_are_shallow shape =
       all_kinds_and_values = both.value;
       values = values.value;
       self_values = selves.value;
-    })))))))))
+      max_counts = counts.value;
+      restricted = restricted.value;
+    })))))))))))
 
 -- ---- permissions
 

@@ -3,6 +3,7 @@ use Rattle.std.proofs.Common.{◌≡◌, ℕ, ◌≤◌, suc, Bool, true, false,
 use Rattle.std.specs.Prelude.{Option, Some, None, ◌&&◌, if◌then◌else◌}
 use Rattle.std.specs.Str.{bytes_eq}
 use Rattle.std.proofs.lemmas.Option.{same_Some}
+use Rattle.dir_tree.specs.schema_tables.Attributes.{attr_of}
 use Rattle.gser_tree.specs.declared.part.Part.{Part}
 use Rattle.gser_tree.specs.Lexemes.{Lexeme}
 use Rattle.gser_tree.specs.looking.Shapes as shapes
@@ -13,7 +14,7 @@ use Rattle.gser_tree.specs.Writing.{text_of}
 use Rattle.gser_tree.proofs.Theorems.{Shallow, both_read, was_there, word_nest, string_nest, members_nest, optional_nest}
 use Rattle.subtree_spec.specs.Parts.{name, name_of, is_oid, oid}
 use Rattle.aci_item.specs.AciText.{sorted_set}
-use Rattle.aci_item.specs.members.ItemParts.{flag_by, flagged}
+use Rattle.aci_item.specs.members.ItemParts.{flag_by, flagged, kind}
 use Rattle.aci_item.specs.Sets.{put_member, gather_into}
 
 -- where a reading of members goes on, they are at most so deep
@@ -147,3 +148,9 @@ name_is_shallow shape = string_is_shallow (λ string. part string.place [] (name
 pub oid_is_shallow : Shallow 0 oid
 unfolding oid
 oid_is_shallow shape = word_is_shallow (λ word. if is_oid word.text then give word else λ bad. None) shape
+
+-- an attribute type
+pub kind_is_shallow : Shallow 0 kind
+unfolding kind
+kind_is_shallow shape bad found h =
+    let read = both_read (oid shape) (λ word. part word.place 0 (attr_of word.text)) bad found h in oid_is_shallow shape bad read.0 read.1

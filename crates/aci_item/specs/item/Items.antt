@@ -13,8 +13,18 @@ pub record UserClasses : Type 0 where
   pub groups : List RdnSequence
   pub subtrees : List Subtree
 
+-- MaxValueCount ::= SEQUENCE { type, maxCount }: at most so many values of the type
+pub record MaxValueCount : Type 0 where
+  pub kind : ℕ
+  pub max_count : ℕ
+
+-- RestrictedValue ::= SEQUENCE { type, valuesIn }: values of the type are among those of the other
+pub record RestrictedValue : Type 0 where
+  pub kind : ℕ
+  pub values_in : ℕ
+
 -- ProtectedItems ::= SEQUENCE { entry, allUserAttributeTypes, attributeType, allAttributeValues,
--- allUserAttributeTypesAndValues, attributeValue, selfValue }, of X.501's thirteen
+-- allUserAttributeTypesAndValues, attributeValue, selfValue, maxValueCount, restrictedBy }, of X.501's thirteen
 pub record ProtectedItems : Type 0 where
   pub entry : Bool
   pub all_kinds : Bool
@@ -23,6 +33,8 @@ pub record ProtectedItems : Type 0 where
   pub all_kinds_and_values : Bool
   pub values : List TypeAndValue
   pub self_values : List ℕ
+  pub max_counts : List MaxValueCount
+  pub restricted : List RestrictedValue
 
 -- ItemPermission ::= SEQUENCE { precedence OPTIONAL, userClasses, grantsAndDenials }: the bits in rising order
 pub record ItemPermission : Type 0 where

@@ -2,6 +2,8 @@
 use Rattle.std.specs.Prelude.{map, string_bytes}
 use Rattle.subtree_spec.specs.Subtrees.{subtree_of}
 use Rattle.aci_item.specs.declared.classes.UserClasses as classes
+use Rattle.aci_item.specs.declared.protected.MaxValueCount as max_value_count
+use Rattle.aci_item.specs.declared.protected.RestrictedValue as restricted_value
 use Rattle.aci_item.specs.declared.protected.ProtectedItems as protected
 use Rattle.aci_item.specs.declared.item.ItemPermission as item_permission
 use Rattle.aci_item.specs.declared.item.UserPermission as user_permission
@@ -11,7 +13,7 @@ use Rattle.aci_item.specs.declared.item.AciItem.{AciItem}
 use Rattle.aci_item.specs.declared.splitting.AciTuple as tuples
 use Rattle.aci_item.specs.Permission.{permissions_of}
 use Rattle.aci_item.specs.AciTuples.{AciTuple}
-use Rattle.aci_item.specs.item.Items.{UserClasses, ProtectedItems, ItemPermission, UserPermission, First, ItemFirst, UserFirst, Item}
+use Rattle.aci_item.specs.item.Items.{UserClasses, MaxValueCount, RestrictedValue, ProtectedItems, ItemPermission, UserPermission, First, ItemFirst, UserFirst, Item}
 
 -- user classes
 abbrev pub classes_of : classes.UserClasses → UserClasses
@@ -23,6 +25,14 @@ classes_of classes = record {
   subtrees = map subtree_of classes.subtrees.items;
 }
 
+-- how many values a type may have
+abbrev pub max_value_count_of : max_value_count.MaxValueCount → MaxValueCount
+max_value_count_of limit = record { kind = limit.kind.0; max_count = limit.max_count }
+
+-- the type whose values those of a type are among
+abbrev pub restricted_value_of : restricted_value.RestrictedValue → RestrictedValue
+restricted_value_of limit = record { kind = limit.kind.0; values_in = limit.values_in.0 }
+
 -- protected items
 abbrev pub items_of : protected.ProtectedItems → ProtectedItems
 items_of items = record {
@@ -33,6 +43,8 @@ items_of items = record {
   all_kinds_and_values = items.all_kinds_and_values;
   values = items.values.items;
   self_values = map (λ kind. kind.0) items.self_values.items;
+  max_counts = map max_value_count_of items.max_counts.items;
+  restricted = map restricted_value_of items.restricted.items;
 }
 
 -- an item permission

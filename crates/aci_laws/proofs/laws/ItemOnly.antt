@@ -16,12 +16,14 @@ use Rattle.subtree_spec.specs.SubtreeText.{there}
 use Rattle.subtree_spec.specs.Subtrees.{Subtree}
 use Rattle.aci_item.specs.declared.level.Level.{Level}
 use Rattle.aci_item.specs.AciText.{aci_item, classes, first, item_first, item_permission, items, kinds, precedence, sorted_set, tag, user_first, user_permission}
-use Rattle.aci_laws.specs.GoodItems.{AreGoodBits, IsGoodClasses, IsGoodClassSubtree, IsGoodFirst, IsGoodItem, IsGoodItemPermission, IsGoodItems, IsGoodUserPermission, IsGoodValue, IsSetOf}
+use Rattle.aci_laws.specs.GoodItems.{AreGoodBits, IsGoodClasses, IsGoodClassSubtree, IsGoodFirst, IsGoodItem, IsGoodItemPermission, IsGoodItems, IsGoodMaxValueCount, IsGoodRestrictedValue, IsGoodUserPermission, IsGoodValue, IsSetOf}
 use Rattle.aci_item.specs.members.ItemParts.{bits, class_subtree, kind, kind_and_value, level, user}
-use Rattle.aci_item.specs.ItemPrinted.{print_item_permission, print_kind, print_user, print_user_permission, print_value}
+use Rattle.aci_item.specs.members.Limits.{max_value_count, restricted_value}
+use Rattle.aci_item.specs.ItemPrinted.{print_item_permission, print_kind, print_max_value_count, print_restricted_value, print_user, print_user_permission, print_value}
 use Rattle.aci_item.specs.item.Items.{ItemPermission, UserPermission, ItemFirst, UserFirst}
 use Rattle.aci_laws.proofs.laws.OnlyLemmas.{OnlyTexts, gives_flagged, gives_members, gives_next, gives_optional_texts, gives_required_texts, no_members, set_is_good}
 use Rattle.aci_laws.proofs.laws.PartOnly.{bits_are_good, kind_is_good, level_is_good, own_is_good, precedence_is_good, user_is_good, value_is_good}
+use Rattle.aci_laws.proofs.laws.LimitOnly.{AreMaxValueCounts, AreRestrictedValues, max_value_counts_are_good, restricted_values_are_good}
 use Rattle.aci_laws.proofs.laws.SubtreeOnly.{class_subtree_is_good}
 use Rattle.aci_laws.proofs.laws.StringLemmas.{HasTexts, chosen_texts, string_text}
 
@@ -110,7 +112,13 @@ items_are_good shape =
     (gives_optional_texts AreValues (codes "attributeValue") [] (sorted_set print_value kind_and_value) both.rest (no_members print_value IsGoodValue) values_are_good)
     (λ values. gives_next AreKinds _ values.rest _ _
     (gives_optional_texts AreKinds (codes "selfValue") [] kinds values.rest no_kinds kinds_are_good)
-    (λ selves. gives_end _ selves.rest
+    (λ selves. gives_next AreMaxValueCounts _ selves.rest _ _
+    (gives_optional_texts AreMaxValueCounts (codes "maxValueCount") [] (sorted_set print_max_value_count max_value_count) selves.rest
+    (no_members print_max_value_count IsGoodMaxValueCount) max_value_counts_are_good)
+    (λ counts. gives_next AreRestrictedValues _ counts.rest _ _
+    (gives_optional_texts AreRestrictedValues (codes "restrictedBy") [] (sorted_set print_restricted_value restricted_value) counts.rest
+    (no_members print_restricted_value IsGoodRestrictedValue) restricted_values_are_good)
+    (λ restricted. gives_end _ restricted.rest
     (record {
       entry = entry.value;
       all_kinds = all.value;
@@ -119,8 +127,17 @@ items_are_good shape =
       all_kinds_and_values = both.value;
       values = values.value;
       self_values = selves.value;
+      max_counts = counts.value;
+      restricted = restricted.value;
     })
-    (λ texts selves_good values_good both_good whole_good some_good all_good entry_good. record { kinds = some_good; all_values = whole_good; values = values_good; self_values = selves_good })))))))))
+    (λ texts restricted_good counts_good selves_good values_good both_good whole_good some_good all_good entry_good. record {
+      kinds = some_good;
+      all_values = whole_good;
+      values = values_good;
+      self_values = selves_good;
+      max_counts = counts_good;
+      restricted = restricted_good;
+    })))))))))))
 
 -- ---- permissions
 

@@ -75,19 +75,20 @@ user_is_good shape = gives_weaker IsGoodName (λ value. HasTexts shape → IsGoo
 
 -- ---- attribute types and values
 
+pub oid_is_some : Only (λ _. Unit {0}) oid
+unfolding oid
+oid_is_some shape =
+    gives_both (λ _. Unit {0}) (λ (_ : Part). Unit {0}) (expect (word_in shape)) (λ word. if is_oid word.text then give word else λ bad. None)
+    (gives_expected (λ _. Unit {0}) (word_in shape) (λ value is. tt))
+    (λ word. gives_choice (λ _. Unit {0} → Unit {0}) (is_oid word.text) (give word) (λ bad. None)
+    (λ _. gives_value (λ _. Unit {0} → Unit {0}) word (λ _. tt)) (λ _. gives_nothing (λ _. Unit {0} → Unit {0})))
+
 pub kind_is_good : OnlyTexts IsAttrId kind
-unfolding kind oid
+unfolding kind
 kind_is_good shape =
-    gives_both (λ _. Unit {0}) (λ value. HasTexts shape → IsAttrId value) (oid shape) (λ word. part word.place 0 (attr_of word.text)) word_only
+    gives_both (λ _. Unit {0}) (λ value. HasTexts shape → IsAttrId value) (oid shape) (λ word. part word.place 0 (attr_of word.text)) (oid_is_some shape)
     (λ word. gives_part (λ value. Unit {0} → HasTexts shape → IsAttrId value) word.place 0 (attr_of word.text)
     (λ value is _ _. IsAttrId-from_attr_of word.text value is))
-  where
-    word_only : Gives (λ (_ : Part). Unit {0}) (oid shape)
-    word_only =
-        gives_both (λ _. Unit {0}) (λ (_ : Part). Unit {0}) (expect (word_in shape)) (λ word. if is_oid word.text then give word else λ bad. None)
-        (gives_expected (λ _. Unit {0}) (word_in shape) (λ value is. tt))
-        (λ word. gives_choice (λ _. Unit {0} → Unit {0}) (is_oid word.text) (give word) (λ bad. None)
-        (λ _. gives_value (λ _. Unit {0} → Unit {0}) word (λ _. tt)) (λ _. gives_nothing (λ _. Unit {0} → Unit {0})))
 
 abbrev IsValueOf : ℕ → Keyed → Type 0
 IsValueOf number value = (value_of number value.octets ≡ Some value) × (is_utf8 value.octets ≡ true)

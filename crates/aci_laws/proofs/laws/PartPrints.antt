@@ -108,12 +108,12 @@ names_are_words : list_all (λ row. is_word row.name) attributes ≡ true
 unfolding attributes class_of
 names_are_words = refl
 
-is_word-name_of : (number : ℕ) → IsAttrId number → is_word (name_of number) ≡ true
+pub is_word-name_of : (number : ℕ) → IsAttrId number → is_word (name_of number) ≡ true
 is_word-name_of number within =
     let row = attribute_at-Some number within in
     ap (λ found. is_word (option_map_or (λ row. row.name) found [])) row.1 ∙ passes_at (λ row. is_word row.name) attributes number row.0 names_are_words row.1
 
-is_oid-name_of : (number : ℕ) → IsAttrId number → is_oid (name_of number) ≡ true
+pub is_oid-name_of : (number : ℕ) → IsAttrId number → is_oid (name_of number) ≡ true
 is_oid-name_of number within = or_right (is_dotted_oid (name_of number)) (is_keystring (name_of number)) (is_keystring-name_of number within)
 
 pub kind_prints : (most : ℕ) (number : ℕ) → IsAttrId number → Prints most kind (print_kind number) number

@@ -15,10 +15,10 @@ use Rattle.acdf_filters.specs.admin_scope.InForce.{in_force}
 use Rattle.acdf_filters.specs.aci_item.AciTuples.{AciTuple}
 use Rattle.acdf_filters.specs.Tuples.{TaggedTuples, Listed, prescriptive_aci, entry_aci, subentry_aci, items_in, listed_by, listed_in, inherited, tuples_of}
 use Rattle.acdf_filters.specs.declared.question.Question.{Question}
-use Rattle.acdf_filters.specs.Asking.{protected_of}
-use Rattle.acdf_filters.specs.Granted.{granted}
+use Rattle.acdf_filters.specs.Filters.{decided}
+use Rattle.acdf_filters.specs.Granted.{placed_of}
 use Rattle.acdf_filters.specs.Standing.{initial}
-use Rattle.acdf_filters.specs.weighing.Weighing.{weighed_for, is_granted}
+use Rattle.acdf_filters.specs.weighing.Weighing.{asked_of, weighed_for, is_granted}
 use Rattle.acdf_filters.specs.declared.standing.Standing.{Standing}
 use Rattle.acdf_filters.proofs.Theorems.{decided-fold}
 use Rattle.aci_lists.specs.Order.{highest_first}
@@ -130,10 +130,9 @@ weighed-kept question kept rows is tree id entry known =
     both false xs ys us vs e f = f
 
 -- so the state of what is kept decides
-pub granted-kept : (question : Question) (kept : List Kept) (id : ℕ) → IsKept kept question.tree.now → IsNumberedTree question.tree.now → entry_of id question.tree.now ≡ Some question.entry.now
+pub decided-kept : (question : Question) (kept : List Kept) (id : ℕ) → IsKept kept question.tree.now → IsNumberedTree question.tree.now → entry_of id question.tree.now ≡ Some question.entry.now
     → is_granted (fold (weighed_for question) initial (tuples_kept kept id question.entry.now question.tree.now))
-    ≡ granted (entries_of question.tree.now) question.who.now question.entry.now (protected_of question.item) question.permission
-unfolding granted
-granted-kept question kept id is tree known =
+    ≡ decided (asked_of question) (placed_of (entries_of question.tree.now) question.who.now question.entry.now)
+decided-kept question kept id is tree known =
     ap is_granted (weighed-kept question kept question.tree.now is tree id question.entry.now known)
     ∙ decided-fold question (tuples_of (entries_of question.tree.now) question.entry.now)

@@ -9,10 +9,10 @@ use Rattle.dir_tree.specs.tree.Numbered.{IsNumberedTree, entries_of, find_name}
 use Rattle.acdf_filters.specs.admin_scope.InForce.{in_force}
 use Rattle.acdf_filters.specs.Tuples.{prescriptive_aci, subentry_aci, listed_in, inherited, tuples_new}
 use Rattle.acdf_filters.specs.declared.question.Question.{Question}
-use Rattle.acdf_filters.specs.Asking.{protected_of}
-use Rattle.acdf_filters.specs.Granted.{granted_new}
+use Rattle.acdf_filters.specs.Filters.{decided}
+use Rattle.acdf_filters.specs.Granted.{placed_new}
 use Rattle.acdf_filters.specs.Standing.{initial}
-use Rattle.acdf_filters.specs.weighing.Weighing.{weighed_for, is_granted}
+use Rattle.acdf_filters.specs.weighing.Weighing.{asked_of, weighed_for, is_granted}
 use Rattle.acdf_filters.proofs.Theorems.{decided-fold}
 use Rattle.aci_lists.specs.declared.kept.Kept.{Kept}
 use Rattle.acdf_filters.specs.admin_scope.InForce.{AreInForce}
@@ -20,11 +20,11 @@ use Rattle.aci_lists.specs.kept.Lists.{IsKept, tuples_at, tuples_below}
 use Rattle.aci_lists.proofs.kept.KeptLemmas.{tuple_in, values_tuples, tuples-entries, weighed_at-entries, weighed_below-entry}
 
 -- the state decides on a subentry, by what the entry above it gives
-pub granted_new-above : (question : Question) (kept : List Kept) → IsKept kept question.tree.now → IsNumberedTree question.tree.now → is_subentry question.entry.now ≡ true
+pub decided-above : (question : Question) (kept : List Kept) → IsKept kept question.tree.now → IsNumberedTree question.tree.now → is_subentry question.entry.now ≡ true
     → is_granted (fold (weighed_for question) initial (tuples_below kept (find_name (superior_name question.entry.now.name) question.tree.now)))
-    ≡ granted_new (entries_of question.tree.now) question.who.now question.entry.now (protected_of question.item) question.permission
-unfolding granted_new tuples_new inherited
-granted_new-above question kept is tree subentry =
+    ≡ decided (asked_of question) (placed_new (entries_of question.tree.now) question.who.now question.entry.now)
+unfolding tuples_new inherited
+decided-above question kept is tree subentry =
     let rows = question.tree.now in
     let entry = question.entry.now in
     let above = option_map_or (listed_in subentry_aci) (named_in (superior_name entry.name) (entries_of rows)) [] in
@@ -34,12 +34,12 @@ granted_new-above question kept is tree subentry =
     ∙ decided-fold question (tuples_new (entries_of rows) entry)
 
 -- and on another entry, by the subentries in force for it
-pub granted_new-found : (question : Question) (kept : List Kept) (ids : List ℕ) → IsKept kept question.tree.now → is_subentry question.entry.now ≡ false
+pub decided-found : (question : Question) (kept : List Kept) (ids : List ℕ) → IsKept kept question.tree.now → is_subentry question.entry.now ≡ false
     → AreInForce question.tree.now question.entry.now ids
     → is_granted (fold (weighed_for question) initial (tuples_at kept ids))
-    ≡ granted_new (entries_of question.tree.now) question.who.now question.entry.now (protected_of question.item) question.permission
-unfolding granted_new tuples_new inherited
-granted_new-found question kept ids is ordinary found =
+    ≡ decided (asked_of question) (placed_new (entries_of question.tree.now) question.who.now question.entry.now)
+unfolding tuples_new inherited
+decided-found question kept ids is ordinary found =
     let rows = question.tree.now in
     let entry = question.entry.now in
     let above = option_map_or (listed_in subentry_aci) (named_in (superior_name entry.name) (entries_of rows)) [] in

@@ -8,8 +8,8 @@ use Rattle.dn_names.specs.NameOrder.{is_same}
 use Rattle.dir_tree.specs.Entry.{EntryInformation}
 use Rattle.dir_tree.specs.tree.Trees.{is_before, is_below, is_named, has_name, has_below, superior_name, put_in, IsInOrder}
 use Rattle.dir_tree.specs.slots.Slots.{has_before, HasSuperiors, IsOrderedTree}
-use Rattle.dir_tree.proofs.tree.NameLemmas.{before_not_same, same_itself, same_back, superior_before, below_superior}
-use Rattle.dir_tree.proofs.tree.OrderLemmas.{all_put, all_put_back, all_left, comes_before}
+use Rattle.dir_tree.proofs.tree.NameLemmas.{same_itself, same_back, below_superior}
+use Rattle.dir_tree.proofs.tree.OrderLemmas.{all_put, all_left, comes_before}
 use Rattle.dir_tree.proofs.tree.RootLemmas.{any_put, has_name_like, has_before-named, has_below-named, named_filled, sorted_put, sorted_left, absent_from_sorted, rooted_put, rooted_rest, rooted_same}
 
 -- where the first has none below, there is no other
@@ -96,24 +96,10 @@ module _ (old : EntryInformation) (others : List EntryInformation) (ordered : Is
     rooted = rooted_same old new others e ordered.rooted;
   }
 
-  pub under_others : has_below old.name (put_in old others) ≡ false → (others ≡ []) ⊎ (has_name (superior_name old.name) others ≡ true)
-  under_others none = elim (cases_Bool (has_before old.name (put_in old others))) [
-    | inl e ↦ (
-        let named = all_put_back (λ other. other.name ≢ []) old others ordered.named in
-        let here : has_name old.name (put_in old others) ≡ true = any_put (is_named old.name) old others ∙ or_left (is_same old.name old.name) (has_name old.name others) (same_itself old.name) in
-        let under : has_name (superior_name old.name) (put_in old others) ≡ true = ordered.rooted old.name here e in
-        elim (or_cases (is_same (superior_name old.name) old.name) (has_name (superior_name old.name) others) (sym (any_put (is_named (superior_name old.name)) old others) ∙ under)) [
-          | inl f ↦ (let other = before_not_same (superior_name old.name) old.name (superior_before old.name named) in absurd cc)
-          | inr f ↦ inr f
-        ])
-    | inr e ↦ inl (no_other old others named_others absent_others ordered.rooted (none_others none) e)
-  ]
+  -- where nothing comes before it, it is alone
+  pub others_none : has_below old.name (put_in old others) ≡ false → has_before old.name (put_in old others) ≡ false → others ≡ []
+  others_none none first = no_other old others named_others absent_others ordered.rooted (none_others none) first
 
-  -- another in its place under a new name with the same superior
-  pub ordered_renamed : (new : EntryInformation) → has_below old.name (put_in old others) ≡ false → new.name ≢ [] → has_name new.name others ≡ false → is_same (superior_name new.name) (superior_name old.name) ≡ true → IsOrderedTree (put_in new others)
-  ordered_renamed new none filled absent e =
-      ordered_put new others filled (ordered_without none) absent
-      (elim (under_others none) [
-        | inl f ↦ inl f
-        | inr f ↦ inr (has_name_like (superior_name new.name) (superior_name old.name) others e ∙ f)
-      ])
+  -- another in its place under a free name whose superior is among the others
+  pub ordered_moved : (new : EntryInformation) → has_below old.name (put_in old others) ≡ false → new.name ≢ [] → has_name new.name others ≡ false → (others ≡ []) ⊎ (has_name (superior_name new.name) others ≡ true) → IsOrderedTree (put_in new others)
+  ordered_moved new none filled absent under = ordered_put new others filled (ordered_without none) absent under

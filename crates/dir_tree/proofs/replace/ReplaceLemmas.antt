@@ -4,24 +4,25 @@ use Rattle.std.specs.Prelude.{is_some}
 use Rattle.std.specs.List.{AllByRecursion, list_any}
 use Rattle.std.specs.Ordering.{is_lt}
 use Rattle.std.specs.declared.cmp.Ordering.TheVariants.{Less}
-use Rattle.std.proofs.lemmas.Bool.{cases_Bool, cases_lt, cond-true, cond-false, not-false, eqb-true, or_parts, lt-ltb, le-ltb}
+use Rattle.std.proofs.lemmas.Bool.{cases_Bool, cases_lt, cond-true, cond-false, eqb-true, or_parts, lt-ltb, le-ltb}
 use Rattle.std.proofs.lemmas.List.{length-map, length-set, get_or-map}
 use Rattle.std.proofs.lemmas.List.Edits.{length-insert, length-remove}
 use Rattle.dn_names.specs.name.Names.{RdnSequence}
 use Rattle.dn_names.specs.NameOrder.{name_cmp, is_same}
 use Rattle.dir_tree.specs.Entry.{EntryInformation}
 use Rattle.dir_tree.specs.tree.Trees.{is_named, is_before, has_name, has_below, superior_name, IsInOrder, put_in}
-use Rattle.dir_tree.specs.tree.Numbered.{Numbered, find_name, entry_of, put_row, without, AreDistinct, entries_of}
-use Rattle.dir_tree.specs.Refusals.{is_elsewhere, refusal_in_place}
+use Rattle.dir_tree.specs.tree.Numbered.{Numbered, find_name, entry_of, suffix_of, put_row, without, AreDistinct, entries_of}
+use Rattle.dir_tree.specs.Scope.{is_number}
+use Rattle.dir_tree.specs.Refusals.{lacks_place, refusal_in_place}
 use Rattle.dir_tree.specs.slots.Places.{front_count, stands_before, place_of, place_without, no_row}
-use Rattle.dir_tree.specs.slots.Slots.{slot_of, entry_in, row_at, rows_of, has_id, IsOrderedTree, IsKept}
-use Rattle.dir_tree.proofs.tree.NameLemmas.{before_not_itself}
+use Rattle.dir_tree.specs.slots.Slots.{slot_of, entry_in, row_at, rows_of, has_id, has_before, IsOrderedTree, IsKept}
+use Rattle.dir_tree.proofs.tree.NameLemmas.{before_not_itself, same_itself}
 use Rattle.dir_tree.proofs.replace.PlaceLemmas.{stands_before_down, fails_after, front_none, place_of-le}
 use Rattle.dir_tree.proofs.tree.NumberedLemmas.{stands_at, found_row, found_later, all_known_entry, keep_all, put_row-insert, any_put_row, entries_of-put_row, entries_of-others}
 use Rattle.dir_tree.proofs.slots.CountLemmas.{count_full-change, full_within}
 use Rattle.dir_tree.proofs.tree.OrderLemmas.{none_after}
-use Rattle.dir_tree.proofs.tree.RootLemmas.{has_name_like}
-use Rattle.dir_tree.proofs.replace.OrderedLemmas.{ordered_same, ordered_renamed}
+use Rattle.dir_tree.proofs.tree.RootLemmas.{has_name_like, none_before_first}
+use Rattle.dir_tree.proofs.replace.OrderedLemmas.{ordered_same, ordered_moved, others_none}
 use Rattle.dir_tree.proofs.slots.SlotLemmas.{distinct_rows, has_id-rows_of, slot_of-set, slot_of-set_other, rows_of-insert}
 use Rattle.dir_tree.proofs.tree.KeptLemmas.{full, place_within, rows_left, shown_set, others_without}
 
@@ -94,25 +95,39 @@ place_of-without name id entry (x ∷ rows) o d f = elim (cases_Bool (x.id == id
 -- what an entry that takes a place meets
 pub record IsAllowedThere (id : ℕ) (old : EntryInformation) (name : RdnSequence) (rows : List Numbered) : Type 0 where
   pub absent : has_name name (entries_of (without id rows)) ≡ false
-  pub here : is_elsewhere name old.name ≡ false
+  pub here : lacks_place id name rows ≡ false
   pub alone : (not (is_same name old.name) && has_below old.name (entries_of rows)) ≡ false
 
 pub allowed_there : (id : ℕ) (old : EntryInformation) (name : RdnSequence) (rows : List Numbered) → refusal_in_place id name (Some old) rows ≡ None → IsAllowedThere id old name rows
-allowed_there id old name rows e = by (cases_Bool (has_name name (entries_of (without id rows)))) (cases_Bool (is_elsewhere name old.name)) (cases_Bool (not (is_same name old.name) && has_below old.name (entries_of rows)))
+allowed_there id old name rows e = by (cases_Bool (has_name name (entries_of (without id rows)))) (cases_Bool (lacks_place id name rows)) (cases_Bool (not (is_same name old.name) && has_below old.name (entries_of rows)))
   where
-    by : ((has_name name (entries_of (without id rows)) ≡ true) ⊎ (has_name name (entries_of (without id rows)) ≡ false)) → ((is_elsewhere name old.name ≡ true) ⊎ (is_elsewhere name old.name ≡ false)) → (((not (is_same name old.name) && has_below old.name (entries_of rows)) ≡ true) ⊎ ((not (is_same name old.name) && has_below old.name (entries_of rows)) ≡ false)) → IsAllowedThere id old name rows
+    by : ((has_name name (entries_of (without id rows)) ≡ true) ⊎ (has_name name (entries_of (without id rows)) ≡ false)) → ((lacks_place id name rows ≡ true) ⊎ (lacks_place id name rows ≡ false)) → (((not (is_same name old.name) && has_below old.name (entries_of rows)) ≡ true) ⊎ ((not (is_same name old.name) && has_below old.name (entries_of rows)) ≡ false)) → IsAllowedThere id old name rows
     by (inl f) g h = (let is = rw f at e in absurd cc)
     by (inr f) (inl g) h = (let is = rw (f, g) at e in absurd cc)
     by (inr f) (inr g) (inl h) = (let is = rw (f, g, h) at e in absurd cc)
     by (inr f) (inr g) (inr h) = record { absent = f; here = g; alone = h }
 
-pub elsewhere_filled : (name old : RdnSequence) → is_elsewhere name old ≡ false → name ≢ []
-elsewhere_filled [] old e = absurd cc
-elsewhere_filled (rdn ∷ rdns) old e = λ f. cc
+-- a place has a name, and is the suffix's or has its superior among the others
+pub place_filled : (id : ℕ) (name : RdnSequence) (rows : List Numbered) → lacks_place id name rows ≡ false → name ≢ []
+place_filled id [] rows e = absurd cc
+place_filled id (rdn ∷ rdns) rows e = λ f. cc
 
-pub elsewhere_under : (name old : RdnSequence) → is_elsewhere name old ≡ false → is_same (superior_name name) (superior_name old) ≡ true
-elsewhere_under [] old e = absurd cc
-elsewhere_under (rdn ∷ rdns) old e = not-false (is_same (superior_name (rdn ∷ rdns)) (superior_name old)) e
+pub place_under : (id : ℕ) (name : RdnSequence) (rows : List Numbered) → lacks_place id name rows ≡ false → (is_number id (suffix_of rows) ≡ true) ⊎ (has_name (superior_name name) (entries_of (without id rows)) ≡ true)
+place_under id [] rows e = absurd cc
+place_under id (rdn ∷ rdns) rows e = by (cases_Bool (is_number id (suffix_of rows))) (cases_Bool (has_name (superior_name (rdn ∷ rdns)) (entries_of (without id rows))))
+  where
+    by : ((is_number id (suffix_of rows) ≡ true) ⊎ (is_number id (suffix_of rows) ≡ false)) → ((has_name (superior_name (rdn ∷ rdns)) (entries_of (without id rows)) ≡ true) ⊎ (has_name (superior_name (rdn ∷ rdns)) (entries_of (without id rows)) ≡ false)) → (is_number id (suffix_of rows) ≡ true) ⊎ (has_name (superior_name (rdn ∷ rdns)) (entries_of (without id rows)) ≡ true)
+    by (inl f) g = inl f
+    by (inr f) (inl g) = inr g
+    by (inr f) (inr g) = (let is = rw (f, g) at e in absurd cc)
+
+-- nothing comes before the suffix
+suffix_first : (id : ℕ) (old : EntryInformation) (rows : List Numbered) → IsInOrder (entries_of rows) → entry_of id rows ≡ Some old → is_number id (suffix_of rows) ≡ true → has_before old.name (entries_of rows) ≡ false
+suffix_first id old [] sorted known is = absurd cc
+suffix_first id old (first ∷ rows) sorted known is =
+    let same : first.entry ≡ old = ap (λ (row : Numbered). row.entry) (found_row id old first rows is known) in
+    subst (λ (entry : EntryInformation). has_before entry.name (first.entry ∷ entries_of rows) ≡ false) same
+    (none_before_first first.entry.name first.entry (entries_of rows) (same_itself first.entry.name) sorted)
 
 ordered_changed : (id : ℕ) (old new : EntryInformation) (rows : List Numbered) → IsOrderedTree (entries_of rows) → AreDistinct rows → entry_of id rows ≡ Some old → IsAllowedThere id old new.name rows → IsOrderedTree (entries_of (put_row (record { id = id; entry = new }) (without id rows)))
 ordered_changed id old new rows ordered distinct known may =
@@ -121,11 +136,14 @@ ordered_changed id old new rows ordered distinct known may =
     let whole : IsOrderedTree (put_in old (entries_of (without id rows))) = rw back ordered in
     let shown = entries_of-put_row (record { id = id; entry = new }) (without id rows) in
     rw shown (elim (cases_Bool (is_same new.name old.name)) [
-      | inl e ↦ ordered_same old others whole new e (elsewhere_filled new.name old.name may.here)
+      | inl e ↦ ordered_same old others whole new e (place_filled id new.name rows may.here)
       | inr e ↦ (
           let alone : has_below old.name (entries_of rows) ≡ false = rw e at may.alone in
           let none : has_below old.name (put_in old (entries_of (without id rows))) ≡ false = rw back alone in
-          ordered_renamed old others whole new none (elsewhere_filled new.name old.name may.here) may.absent (elsewhere_under new.name old.name may.here))
+          ordered_moved old others whole new none (place_filled id new.name rows may.here) may.absent (elim (place_under id new.name rows may.here) [
+            | inl first ↦ inl (others_none old others whole none (rw back (suffix_first id old rows ordered.sorted known first)))
+            | inr under ↦ inr under
+          ]))
     ])
 
 -- the entry changed in its slot, and its number moved to its place

@@ -2,7 +2,7 @@
 use Rattle.std.proofs.Common.{◌≡◌, ◌≢◌, ◌⊎◌, inl, inr, Bool, true, false, cond, ◌||◌, List, [], ◌∷◌, length, take, refl, sym, ap, ◌∙◌, arith}
 use Rattle.std.specs.List.{AllByRecursion, list_any}
 use Rattle.std.specs.Ordering.{is_lt}
-use Rattle.std.proofs.lemmas.Bool.{cond_both, false_from_ne_true, or_parts, or_left, or_right, or_cases, or_from}
+use Rattle.std.proofs.lemmas.Bool.{cases_Bool, true≢false, cond_both, false_from_ne_true, or_parts, or_left, or_right, or_cases, or_from}
 use Rattle.std.specs.declared.cmp.Ordering.TheVariants.{Less}
 use Rattle.base_laws.proofs.Theorems.{all_map}
 use Rattle.dn_names.specs.name.Names.{RdnSequence}
@@ -10,7 +10,7 @@ use Rattle.dn_names.specs.NameOrder.{name_cmp, is_same, is_prefix_of}
 use Rattle.dir_tree.specs.Entry.{EntryInformation}
 use Rattle.dir_tree.specs.tree.Trees.{is_before, is_below, is_named, has_name, has_below, superior_name, put_in, IsInOrder}
 use Rattle.dir_tree.specs.slots.Slots.{has_before, HasSuperiors}
-use Rattle.dir_tree.proofs.tree.NameLemmas.{Less-from_before, before_chain, before_not_same, before_like, same_back, same_like, like_same, same-superior, length-same, same-take, superior_before, below_superior}
+use Rattle.dir_tree.proofs.tree.NameLemmas.{Less-from_before, before_chain, before_not_back, before_not_itself, before_not_same, before_like, same_back, same_like, like_same, same-superior, length-same, same-take, superior_before, below_superior}
 use Rattle.dir_tree.proofs.tree.OrderLemmas.{all_put, all_put_back, all_left, comes_before, none_after}
 
 -- a test of the entries with one put in
@@ -164,3 +164,22 @@ rooted_same entry other entries e rooted name here before =
         any_put (is_named n) other entries
         ∙ ap (λ (b : Bool). b || has_name n entries) (like_same other.name entry.name n e)
         ∙ sym (any_put (is_named n) entry entries)
+
+-- nothing comes before the first
+none_later : (name : RdnSequence) (first : EntryInformation) (rest : List EntryInformation) → is_same name first.name ≡ true → AllByRecursion (λ later. name_cmp first.name later.name ≡ Less) rest → has_before name rest ≡ false
+none_later name first [] e h = refl
+none_later name first (x ∷ rest) e h =
+    let not_before : is_before x.name name ≡ false = by (cases_Bool (is_before x.name name)) in
+    rw not_before (none_later name first rest e h.1)
+  where
+    by : ((is_before x.name name ≡ true) ⊎ (is_before x.name name ≡ false)) → is_before x.name name ≡ false
+    by (inr f) = f
+    by (inl f) =
+        let after : is_before first.name x.name ≡ true = ap is_lt h.0 in
+        let turned : is_before name x.name ≡ true = before_like name first.name x.name e ∙ after in
+        absurd (true≢false (sym f ∙ before_not_back name x.name turned))
+
+pub none_before_first : (name : RdnSequence) (first : EntryInformation) (rest : List EntryInformation) → is_same name first.name ≡ true → IsInOrder (first ∷ rest) → has_before name (first ∷ rest) ≡ false
+none_before_first name first rest e sorted =
+    let not_first : is_before first.name name ≡ false = before_like first.name name name (same_back name first.name e) ∙ before_not_itself name in
+    rw not_first (none_later name first rest e sorted.0)

@@ -1,21 +1,19 @@
 -- Laws of trees over their entries: all stand at or below the suffix, and a change that is not refused leaves a tree.
-use Rattle.std.proofs.Common.{◌≡◌, ◌≢◌, ◌⊎◌, inl, inr, ℕ, ◌-◌, ◌<◌, ◌≤◌, zero, suc, Bool, true, false, ◌||◌, List, [], ◌∷◌, length, take, Some, refl, sym, ap, ◌∙◌, arith, length-take}
+use Rattle.std.proofs.Common.{◌≡◌, ◌≢◌, inl, inr, ℕ, ◌-◌, ◌<◌, ◌≤◌, zero, suc, Bool, true, false, ◌||◌, List, [], ◌∷◌, length, take, Some, refl, sym, ap, ◌∙◌, arith, length-take}
 use Rattle.std.specs.List.{AllByRecursion}
-use Rattle.std.specs.Ordering.{is_lt}
-use Rattle.std.proofs.lemmas.Bool.{cases_Bool, cond_both, or_left, or_cases, true≢false}
+use Rattle.std.proofs.lemmas.Bool.{cond_both, or_left, or_cases, true≢false}
 use Rattle.std.proofs.lemmas.List.{take_all, take-take, length-take-le}
-use Rattle.std.specs.declared.cmp.Ordering.TheVariants.{Less}
 use Rattle.dn_names.specs.name.Names.{RdnSequence}
-use Rattle.dn_names.specs.NameOrder.{name_cmp, is_same, is_prefix_of}
+use Rattle.dn_names.specs.NameOrder.{is_same, is_prefix_of}
 use Rattle.dir_tree.specs.Entry.{EntryInformation}
 use Rattle.dir_tree.specs.tree.Trees.{is_named, is_before, has_name, named_in, superior_name, lacks_superior, has_below, put_in, taken_out, IsTree}
 use Rattle.dir_tree.specs.Scope.{is_within}
-use Rattle.dir_tree.specs.slots.Slots.{has_before, HasSuperiors, IsOrderedTree}
-use Rattle.dir_tree.proofs.tree.NameLemmas.{same_itself, same_back, same-superior, length-same, before_like, before_not_back, before_not_itself}
+use Rattle.dir_tree.specs.slots.Slots.{HasSuperiors, IsOrderedTree}
+use Rattle.dir_tree.proofs.tree.NameLemmas.{same_itself, same-superior, length-same}
 use Rattle.dir_tree.proofs.tree.OrderLemmas.{put_in-taken_out}
-use Rattle.dir_tree.proofs.tree.RootLemmas.{has_name_like, named_filled}
+use Rattle.dir_tree.proofs.tree.RootLemmas.{has_name_like, named_filled, none_before_first}
 use Rattle.dir_tree.proofs.tree.NamedLemmas.{none_or_under}
-use Rattle.dir_tree.proofs.replace.OrderedLemmas.{ordered_put, ordered_without, ordered_same, ordered_renamed, under_others}
+use Rattle.dir_tree.proofs.replace.OrderedLemmas.{ordered_put, ordered_without, ordered_same}
 use Rattle.dir_tree.proofs.tree.TreeLemmas.{IsRooted-ordered}
 
 -- what holds of some entry of a name
@@ -74,20 +72,6 @@ module _ (first : EntryInformation) (rest : List EntryInformation) (tree : IsTre
   pub all_under_suffix : AllByRecursion (λ entry. is_within first.name entry ≡ true) (first ∷ rest)
   all_under_suffix = all_here (first ∷ rest) (λ entry h. h)
 
--- nothing comes before the first
-none_first : (name : RdnSequence) (first : EntryInformation) (rest : List EntryInformation) → is_same name first.name ≡ true → AllByRecursion (λ later. name_cmp first.name later.name ≡ Less) rest → has_before name rest ≡ false
-none_first name first [] e h = refl
-none_first name first (x ∷ rest) e h =
-    let not_before : is_before x.name name ≡ false = by (cases_Bool (is_before x.name name)) in
-    rw not_before (none_first name first rest e h.1)
-  where
-    by : ((is_before x.name name ≡ true) ⊎ (is_before x.name name ≡ false)) → is_before x.name name ≡ false
-    by (inr f) = f
-    by (inl f) =
-        let after : is_before first.name x.name ≡ true = ap is_lt h.0 in
-        let turned : is_before name x.name ≡ true = before_like name first.name x.name e ∙ after in
-        absurd (true≢false (sym f ∙ before_not_back name x.name turned))
-
 -- a tree's entries have their superiors, and entries that have them are a tree's
 pub ordered-from_tree : (entries : List EntryInformation) → IsTree entries → IsOrderedTree entries
 ordered-from_tree entries tree = record { sorted = tree.sorted; named = tree.named; rooted = superiors entries tree }
@@ -96,8 +80,7 @@ ordered-from_tree entries tree = record { sorted = tree.sorted; named = tree.nam
     superiors [] t name here before = absurd cc
     superiors (first ∷ rest) t name here before = elim (or_cases (is_named name first) (has_name name rest) here) [
       | inl e ↦ (
-          let not_first : is_before first.name name ≡ false = before_like first.name name name (same_back name first.name e) ∙ before_not_itself name in
-          let none : has_before name (first ∷ rest) ≡ false = rw not_first (none_first name first rest e t.sorted.0) in
+          let none = none_before_first name first rest e t.sorted in
           absurd (true≢false (sym before ∙ none)))
       | inr e ↦ later_superior first rest t.rooted name e
     ]
@@ -127,10 +110,6 @@ module _ (old : EntryInformation) (entries : List EntryInformation) (tree : IsTr
   fewer : suc (length (taken_out old.name entries)) ≤ 200000
   fewer = omega (arith, tree.fits, sym (length-put_in old (taken_out old.name entries)) ∙ ap length back)
 
-  -- its superior is left, or none is
-  pub superior_left : has_below old.name entries ≡ false → (taken_out old.name entries ≡ []) ⊎ (has_name (superior_name old.name) (taken_out old.name entries) ≡ true)
-  superior_left none = under_others old (taken_out old.name entries) whole (rw back none)
-
   pub tree-taken_out : has_below old.name entries ≡ false → IsTree (taken_out old.name entries)
   tree-taken_out none =
       tree-from_ordered (taken_out old.name entries) (ordered_without old (taken_out old.name entries) whole (rw back none)) (omega (arith, fewer))
@@ -139,6 +118,6 @@ module _ (old : EntryInformation) (entries : List EntryInformation) (tree : IsTr
   tree-same_name new e filled =
       tree-from_ordered (put_in new (taken_out old.name entries)) (ordered_same old (taken_out old.name entries) whole new e filled) (omega (arith, fewer, length-put_in new (taken_out old.name entries)))
 
-  pub tree-renamed : (new : EntryInformation) → has_below old.name entries ≡ false → new.name ≢ [] → has_name new.name (taken_out old.name entries) ≡ false → is_same (superior_name new.name) (superior_name old.name) ≡ true → IsTree (put_in new (taken_out old.name entries))
-  tree-renamed new none filled absent e =
-      tree-from_ordered (put_in new (taken_out old.name entries)) (ordered_renamed old (taken_out old.name entries) whole new (rw back none) filled absent e) (omega (arith, fewer, length-put_in new (taken_out old.name entries)))
+  pub tree-moved : (new : EntryInformation) → has_below old.name entries ≡ false → new.name ≢ [] → has_name new.name (taken_out old.name entries) ≡ false → lacks_superior new.name (taken_out old.name entries) ≡ false → IsTree (put_in new (taken_out old.name entries))
+  tree-moved new none filled absent has =
+      tree-put_in new (taken_out old.name entries) (tree-taken_out none) filled absent has (omega (arith, fewer))

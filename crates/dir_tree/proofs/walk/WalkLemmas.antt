@@ -101,19 +101,19 @@ module _ {K : Type 0} (octets : K → List ℕ) (slots : List (Option EntryInfor
 
   module _ (path : List ℕ) (name : RdnSequence) (is : path ≡ path_key name) where
     -- the tests of a key, as those of its name
-    starts : (place : K × ℕ) → octets place.0 ≡ path_key (name_of place) → starts_with nat_eq (octets place.0) path ≡ is_prefix_of name (name_of place)
+    pub starts : (place : K × ℕ) → octets place.0 ≡ path_key (name_of place) → starts_with nat_eq (octets place.0) path ≡ is_prefix_of name (name_of place)
     starts place e = rw (is, e) (starts-prefix name (name_of place))
 
-    compares : (place : K × ℕ) → octets place.0 ≡ path_key (name_of place) → slice_cmp nat_cmp path (octets place.0) ≡ name_cmp name (name_of place)
+    pub compares : (place : K × ℕ) → octets place.0 ≡ path_key (name_of place) → slice_cmp nat_cmp path (octets place.0) ≡ name_cmp name (name_of place)
     compares place e = keys_cmp path (octets place.0) name (name_of place) is e
 
     -- none after one that is not before the name and does not begin with it
-    not_within : (x : K × ℕ) (places : List (K × ℕ)) → is_before (name_of x) name ≡ false → is_prefix_of name (name_of x) ≡ false → AllByRecursion (λ later. name_cmp (name_of x) later.name ≡ Less) (entries_of (rows places)) → AllByRecursion (λ row. stands_within name row ≡ false) (rows places)
+    pub not_within : (x : K × ℕ) (places : List (K × ℕ)) → is_before (name_of x) name ≡ false → is_prefix_of name (name_of x) ≡ false → AllByRecursion (λ later. name_cmp (name_of x) later.name ≡ Less) (entries_of (rows places)) → AllByRecursion (λ row. stands_within name row ≡ false) (rows places)
     not_within x places e f h =
         let fails : stands_within name (row_at slots x.1) ≡ false = rw e at (sym (prefix_between name (name_of x)) ∙ f) in
         fails_after (stands_within name) (stands_within_down name) (row_at slots x.1) (rows places) fails h
 
-    none_begin : (places : List (K × ℕ)) → AreKeyed octets slots places → AllByRecursion (λ row. stands_within name row ≡ false) (rows places) → AllByRecursion (λ place. starts_with nat_eq (octets place.0) path ≡ false) places
+    pub none_begin : (places : List (K × ℕ)) → AreKeyed octets slots places → AllByRecursion (λ row. stands_within name row ≡ false) (rows places) → AllByRecursion (λ place. starts_with nat_eq (octets place.0) path ≡ false) places
     none_begin [] keyed h = tt
     none_begin (x ∷ places) keyed h = (
       starts x keyed.0 ∙ prefix_between name (name_of x) ∙ and_right (not (is_before (name_of x) name)) (stands_within name (row_at slots x.1)) h.0,
@@ -222,7 +222,7 @@ filter_and_true test (x ∷ rows) = by (test x) (filter_and_true test rows)
     by false later = later
 
 -- no scope takes in more than all, and one
-filter_fits : (test : Numbered → Bool) (rows : List Numbered) → length (ids_of (filter test rows)) ≤ length rows
+pub filter_fits : (test : Numbered → Bool) (rows : List Numbered) → length (ids_of (filter test rows)) ≤ length rows
 filter_fits test [] = omega arith
 filter_fits test (x ∷ rows) =
     let less = filter_fits test rows in

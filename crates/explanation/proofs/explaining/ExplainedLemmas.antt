@@ -7,7 +7,7 @@ use Rattle.acdf_filters.specs.Asking.{Asked, protected_of}
 use Rattle.acdf_filters.specs.users.Choices.{is_filled}
 use Rattle.acdf_filters.specs.Filters.{Placed, left_by_users, left_by_item, left_by_permission, left_by_precedence, left_by_class, left_by_explicit, decided}
 use Rattle.acdf_filters.specs.Tuples.{Listed, tuples_of}
-use Rattle.acdf_filters.specs.Granted.{placed_of, granted}
+use Rattle.acdf_filters.specs.Granted.{placed_of}
 use Rattle.acdf_filters.specs.weighing.Weighing.{asked_of, asked_ranks}
 use Rattle.acdf_filters.specs.declared.question.Question.{Question}
 use Rattle.explanation.specs.declared.candidates.Candidate.{Candidate}
@@ -80,7 +80,7 @@ pub explained : (question : Question) (cs : List Candidate) (steps : Steps)
     → described_all question.tree.now cs ≡ map (described_for question) (tuples_of (entries_of question.tree.now) question.entry.now)
     → AreCounted cs steps.counts → steps.kept.items ≡ map kept_from (deciding (λ one. one.facts) cs) → steps.granted ≡ all_grant steps.kept.items
     → IsExplained question.tree.now question.entry.now (asked_of question) steps
-unfolding granted decided
+unfolding decided
 explained question cs steps listed counted kept allowed =
     let rows = question.tree.now in
     let asked = asked_of question in

@@ -12,7 +12,7 @@ use Rattle.dir_tree.proofs.TreeTheorems.{entry_of-found, found_both}
 use Rattle.acdf_filters.specs.admin_scope.InForce.{in_force}
 use Rattle.acdf_filters.specs.aci_item.declared.permission.Permission.{Permission}
 use Rattle.acdf_filters.specs.declared.asking.Requester.{Requester}
-use Rattle.acdf_filters.specs.Asking.{Protected, Asked}
+use Rattle.acdf_filters.specs.Asking.{Protected, Asked, asked_on}
 use Rattle.acdf_filters.specs.Filters.{left_by_explicit}
 use Rattle.acdf_filters.specs.Granted.{placed_of}
 use Rattle.explanation.specs.declared.steps.Counts.{Counts}
@@ -67,7 +67,7 @@ print_name-none rows id e = ap (λ (o : Option EntryInformation). print_name (op
 -- so the text is that of the entry that is found
 pub text-found : {T E : Type 0} (bytes : T → List ℕ) (r : Result T E) (rows tree : List Numbered) (who : Requester) (target : RdnSequence) (item : Protected) (permission : Permission) (id : ℕ)
     → tree ≡ rows → IsNumberedTree tree → Some id ≡ find_name target tree
-    → ((entry : EntryInformation) → entry_of id rows ≡ Some entry → IfOk r (λ t. bytes t ≡ entry_text (entries_of rows) entry (record { who = who; item = item; permission = permission })))
+    → ((entry : EntryInformation) → entry_of id rows ≡ Some entry → IfOk r (λ t. bytes t ≡ entry_text (entries_of rows) entry (asked_on who entry item permission)))
     → IfOk r (λ t. bytes t ≡ explained_text (entries_of rows) who target item permission)
 unfolding explained_text
 text-found {T = T} {E = E} bytes r rows tree who target item permission id same good e h =
@@ -78,15 +78,15 @@ text-found {T = T} {E = E} bytes r rows tree who target item permission id same 
     ap (λ (o : Option ℕ). option_and_then (λ n. entry_of n rows) o) found ∙ entry_of-found target rows distinct in
     by (named_in target (entries_of rows)) refl there known
   where
-    asked : Asked
-    asked = record { who = who; item = item; permission = permission }
+    asked : EntryInformation → Asked
+    asked entry = asked_on who entry item permission
 
     by : (o : Option EntryInformation) → named_in target (entries_of rows) ≡ o → is_some o ≡ true → entry_of id rows ≡ o
-        → IfOk r (λ t. bytes t ≡ option_map_or (λ entry. entry_text (entries_of rows) entry asked) (named_in target (entries_of rows)) (codes "absent\n"))
+        → IfOk r (λ t. bytes t ≡ option_map_or (λ entry. entry_text (entries_of rows) entry (asked entry)) (named_in target (entries_of rows)) (codes "absent\n"))
     by None f some known = absurd cc
     by (Some entry) f some known =
         subst (λ (whole : List ℕ). IfOk r (λ t. bytes t ≡ whole))
-        (sym (ap (λ (o : Option EntryInformation). option_map_or (λ entry. entry_text (entries_of rows) entry asked) o (codes "absent\n")) f)) (h entry known)
+        (sym (ap (λ (o : Option EntryInformation). option_map_or (λ entry. entry_text (entries_of rows) entry (asked entry)) o (codes "absent\n")) f)) (h entry known)
 
 pub text-absent : (rows tree : List Numbered) (who : Requester) (target : RdnSequence) (item : Protected) (permission : Permission) → tree ≡ rows → IsNumberedTree tree → None ≡ find_name target tree
     → codes "absent\n" ≡ explained_text (entries_of rows) who target item permission
@@ -96,7 +96,7 @@ text-absent rows tree who target item permission same good e =
     let missing : None ≡ find_name target rows = subst (λ (t : List Numbered). None ≡ find_name target t) same e in
     let none : None ≡ named_in target (entries_of rows) =
     ap (λ (o : Option ℕ). option_and_then (λ n. entry_of n rows) o) missing ∙ entry_of-found target rows distinct in
-    ap (λ (o : Option EntryInformation). option_map_or (λ entry. entry_text (entries_of rows) entry (record { who = who; item = item; permission = permission })) o (codes "absent\n")) none
+    ap (λ (o : Option EntryInformation). option_map_or (λ entry. entry_text (entries_of rows) entry (asked_on who entry item permission)) o (codes "absent\n")) none
 
 -- the item that is asked for, as the decision takes it
 pub same_item : (entries : List EntryInformation) (who : Requester) (target : RdnSequence) (taken asked : Protected) (permission : Permission)

@@ -1,6 +1,6 @@
 -- The first row of the name is that of the bit.
-use Rattle.std.proofs.Common.{◌≡◌, ap, sym, ◌∙◌}
-use Rattle.std.specs.Prelude.{Option, option_map}
+use Rattle.std.proofs.Common.{ap, sym, ◌∙◌}
+use Rattle.std.specs.Prelude.{option_map}
 use Rattle.std.specs.Option.{option_copied}
 use Rattle.aci_item.specs.Rows.{row_of}
 use Rattle.aci_item.proofs.bits.BitLemmas.{row_named}

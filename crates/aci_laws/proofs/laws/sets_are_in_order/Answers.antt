@@ -1,7 +1,8 @@
 -- Each set that is read is in order.
 use Rattle.subtree_spec.specs.SubtreePrinted.{print_subtree}
 use Rattle.aci_item.specs.members.ItemParts.{user, kind, kind_and_value, class_subtree}
-use Rattle.aci_item.specs.ItemPrinted.{print_user, print_kind, print_value, print_item_permission, print_user_permission}
+use Rattle.aci_item.specs.members.Limits.{max_value_count, restricted_value}
+use Rattle.aci_item.specs.ItemPrinted.{print_user, print_kind, print_value, print_max_value_count, print_restricted_value, print_item_permission, print_user_permission}
 use Rattle.aci_item.specs.AciText.{item_permission, user_permission}
 use Rattle.aci_laws.proofs.laws.SortedLemmas.{set_is_sorted}
 use Rattle.aci_laws.proofs.laws.sets_are_in_order.Goals as goal
@@ -14,6 +15,12 @@ returns-clause-kinds c = λ shape bad next values h. set_is_sorted print_kind ki
 
 pub returns-clause-values : goal.returns-clause-values
 returns-clause-values c = λ shape bad next values h. set_is_sorted print_value kind_and_value shape values bad next h
+
+pub returns-clause-max_counts : goal.returns-clause-max_counts
+returns-clause-max_counts c = λ shape bad next values h. set_is_sorted print_max_value_count max_value_count shape values bad next h
+
+pub returns-clause-restricted : goal.returns-clause-restricted
+returns-clause-restricted c = λ shape bad next values h. set_is_sorted print_restricted_value restricted_value shape values bad next h
 
 pub returns-clause-subtrees : goal.returns-clause-subtrees
 returns-clause-subtrees c = λ shape bad next values h. set_is_sorted print_subtree class_subtree shape values bad next h

@@ -7,7 +7,7 @@ use Rattle.acdf_filters.specs.aci_item.AciTuples.{AciTuple}
 use Rattle.acdf_filters.specs.weighing.Weighing.{weighed_for, is_granted}
 use Rattle.acdf_filters.specs.declared.standing.Standing.{Standing}
 use Rattle.aci_lists.specs.kept.Lists.{lists_at, tuples_inherited}
-use Rattle.aci_lists.proofs.kept.KeptLemmas.{granted-kept}
+use Rattle.aci_lists.proofs.kept.KeptLemmas.{decided-kept}
 use Rattle.aci_lists.proofs.decision.decide_by.Goals as goal
 
 pub returns : goal.returns
@@ -21,5 +21,5 @@ returns c = record {
       ∙ ap (λ (tuples : List AciTuple). fold (weighed_for question) c.weigh_inherited-seen.result tuples) c.own_at.ensures.exact
       ∙ ap (λ (seen : Standing). fold (weighed_for question) seen (lists_at kept c.args.number.0).own) c.weigh_inherited-seen.ensures.exact
       ∙ sym (fold-append (weighed_for question) initial others (lists_at kept c.args.number.0).own))
-      ∙ granted-kept question kept c.args.number.0 c.requires.kept c.entries_form_a_tree.ensures.exact c.requires.entry;
+      ∙ decided-kept question kept c.args.number.0 c.requires.kept c.entries_form_a_tree.ensures.exact c.requires.entry;
 }

@@ -4,7 +4,7 @@ use Rattle.std.specs.Prelude.{fold}
 use Rattle.acdf_filters.specs.weighing.Weighing.{weighed_for, is_granted}
 use Rattle.acdf_filters.specs.declared.standing.Standing.{Standing}
 use Rattle.aci_lists.specs.kept.Lists.{tuples_at}
-use Rattle.aci_lists.proofs.newcomers.NewcomerLemmas.{granted_new-above, granted_new-found}
+use Rattle.aci_lists.proofs.newcomers.NewcomerLemmas.{decided-above, decided-found}
 use Rattle.aci_lists.proofs.newcomers.decide_new_by.Goals as goal
 
 pub returns-then-is_subentry : goal.returns-then-is_subentry
@@ -13,7 +13,7 @@ returns-then-is_subentry c = record {
       let question = c.args.question.now in
       c.is_granted.ensures.exact
       ∙ ap is_granted c.weigh_above.ensures.exact
-      ∙ granted_new-above question c.args.kept.now c.requires.kept c.entries_form_a_tree.ensures.exact
+      ∙ decided-above question c.args.kept.now c.requires.kept c.entries_form_a_tree.ensures.exact
       (sym c.is_subentry.ensures.exact ∙ c.if-is_subentry.true);
 }
 
@@ -26,5 +26,5 @@ returns-else-is_subentry c = record {
       c.is_granted-else-is_subentry.ensures.exact
       ∙ ap is_granted (c.weigh_subentries.ensures.exact
       ∙ ap (λ (seen : Standing). fold (weighed_for question) seen (tuples_at kept ids)) c.new.ensures.exact)
-      ∙ granted_new-found question kept ids c.requires.kept (sym c.is_subentry.ensures.exact ∙ c.if-is_subentry.false) c.requires.in_force;
+      ∙ decided-found question kept ids c.requires.kept (sym c.is_subentry.ensures.exact ∙ c.if-is_subentry.false) c.requires.in_force;
 }

@@ -2,7 +2,7 @@
 use Rattle.std.proofs.Common.{◌++◌, List, map, ap, ◌∙◌}
 use Rattle.std.specs.Prelude.{flat_map, string_bytes, ℕ}
 use Rattle.dir_tree.specs.tree.Numbered.{Numbered, entries_at}
-use Rattle.acdf_filters.specs.Asking.{protected_of}
+use Rattle.acdf_filters.specs.Asking.{protected_of, asked_on}
 use Rattle.explanation.specs.declared.steps.KeptTuple.{KeptTuple}
 use Rattle.explanation.specs.Explained.{kept_at}
 use Rattle.explanation.specs.Texts.{subentry_line, kept_line}
@@ -14,7 +14,7 @@ returns g c = record {
   ok = λ entry known.
       let rows = g.D.Dir.rows c.args.dir.now in
       let numbers = map (λ no. no.0) c.in_force.result.now in
-      text-said rows entry (record { who = c.args.who.now; item = protected_of c.args.item; permission = c.args.permission }) c.in_ok-steps.steps (entries_at rows numbers)
+      text-said rows entry (asked_on c.args.who.now entry (protected_of c.args.item) c.args.permission) c.in_ok-steps.steps (entries_at rows numbers)
       (string_bytes c.new-text.result) (string_bytes c.put_subentries.new.out) (string_bytes c.put_counts.new.out) (string_bytes c.put_all_kept.new.out) (string_bytes c.push_str.new.self)
       (c.in_ok-steps.ensures.ok entry known) (c.in_force.ensures.exact entry known)
       c.new-text.ensures.bytes

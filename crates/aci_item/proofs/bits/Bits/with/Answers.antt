@@ -1,5 +1,5 @@
 -- One more bit of the number is one more bit of the set.
-use Rattle.std.proofs.Common.{◌≡◌, ℕ, ◌<◌, ◌*◌, ◌%◌, ◌^◌, ap, ◌∙◌, subst, arith}
+use Rattle.std.proofs.Common.{ℕ, ◌<◌, ◌*◌, ◌%◌, ◌^◌, ap, ◌∙◌, subst, arith}
 use Rattle.std.specs.Prelude.{bit_or}
 use Rattle.aci_item.specs.Permission.{Bit, bits_of, put_bit}
 use Rattle.aci_item.proofs.bits.BitLemmas.{mask_set}

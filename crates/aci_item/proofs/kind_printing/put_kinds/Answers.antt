@@ -4,7 +4,7 @@ use Rattle.std.proofs.lemmas.List.{length-map}
 use Rattle.std.specs.Prelude.{◌==◌, map, string_bytes}
 use Rattle.aci_item.specs.ItemPrinted.{print_kind}
 use Rattle.aci_item.proofs.printing.PrintedLemmas.{put_nothing, put_filled}
-use Rattle.aci_item.proofs.printing.put_kinds.Goals as goal
+use Rattle.aci_item.proofs.kind_printing.put_kinds.Goals as goal
 
 pub returns-then-is_empty : goal.returns-then-is_empty
 returns-then-is_empty c =

@@ -6,7 +6,7 @@ use Rattle.dir_tree.specs.schema_tables.declared.kinds.AttrId.{AttrId}
 use Rattle.subtree_spec.proofs.Theorems.{put_next}
 use Rattle.aci_item.specs.ItemPrinted.{print_kind}
 use Rattle.aci_item.proofs.printing.PrintedLemmas.{put_viewed}
-use Rattle.aci_item.proofs.printing.put_kind_set.Goals as goal
+use Rattle.aci_item.proofs.kind_printing.put_kind_set.Goals as goal
 
 pub loop-kind-preserved : goal.loop-kind-preserved
 loop-kind-preserved c =
