@@ -1,17 +1,16 @@
 -- What stands aside from an entry: what may come, go or change without changing the access control subentries in force
 -- for that entry (X.501 14.3 and 18.3).
-use Rattle.std.specs.Prelude.{◌≡◌, ℕ, Bool, true, false, ◌&&◌, if◌then◌else◌, List, length, Option, Some, None, IfSome, IsSome}
-use Rattle.std.specs.List.{AllByRecursion}
+use Rattle.std.specs.Prelude.{◌≡◌, ℕ, Bool, true, false, ◌&&◌, if◌then◌else◌, List, length, Option, Some, None, IfSome}
 use Rattle.std.specs.Option.{option_and_then}
 use Rattle.dir_tree.specs.dn_names.name.Names.{RdnSequence}
 use Rattle.dir_tree.specs.dn_names.NameOrder.{is_same}
 use Rattle.dir_tree.specs.Entry.{EntryInformation}
 use Rattle.dir_tree.specs.tree.Trees.{put_in}
-use Rattle.dir_tree.specs.tree.Numbered.{Numbered, entries_of, entry_of, entries_at, without}
+use Rattle.dir_tree.specs.tree.Numbered.{Numbered, entry_of, without}
 use Rattle.dir_tree.specs.Points.{is_specific_point, is_inner_point, is_access_subentry}
 use Rattle.dir_tree.specs.Scope.{is_within, is_child}
 use Rattle.acdf_filters.specs.admin_scope.Areas.{is_access_point}
-use Rattle.acdf_filters.specs.admin_scope.InForce.{reaches, in_force}
+use Rattle.acdf_filters.specs.admin_scope.InForce.{reaches}
 
 -- the entries with the one put in, if there is one
 abbrev pub put_some : Option EntryInformation → List EntryInformation → List EntryInformation
@@ -50,9 +49,11 @@ pub record IsSamePoint (one other : EntryInformation) : Type 0 where
   pub first : is_access_subentry one ≡ false
   pub second : is_access_subentry other ≡ false
 
--- the one is immediately below the name
-abbrev pub IsUnder : RdnSequence → EntryInformation → Type 0
-IsUnder top one = is_child top one ≡ true
+-- the one is immediately below a name, and the entry is neither at nor below that name
+pub record IsUnderOther (entry one : EntryInformation) : Type 0 where
+  pub top : RdnSequence
+  pub outside : is_within top entry ≡ false
+  pub under : is_child top one ≡ true
 
 -- the trees are equal but for the number, whose entry was the one and is the other
 pub record IsChangeOf (id : ℕ) (rows new : List Numbered) (one other : Option EntryInformation) : Type 0 where

@@ -1,5 +1,5 @@
 -- Whose lists are made anew where a write may change those of other entries (X.501 14.3 and 18.3).
-use Rattle.std.specs.Prelude.{◌≡◌, ◌<◌, ℕ, List, map, fold, Some, unwrap_or, slice_set, if◌then◌else◌}
+use Rattle.std.specs.Prelude.{◌≡◌, ◌<◌, ◌==◌, ◌++◌, ℕ, List, [], map, fold, Some, unwrap_or, slice_set, if◌then◌else◌}
 use Rattle.std.specs.List.{AllByRecursion}
 use Rattle.dir_tree.specs.Entry.{EntryInformation}
 use Rattle.dir_tree.specs.tree.Numbered.{Numbered, entry_of, superior_of}
@@ -24,9 +24,13 @@ abbrev pub top_of : Reach → ℕ → List Numbered → ℕ
 top_of Below id rows = id
 top_of Around id rows = unwrap_or (superior_of id rows) id
 
--- the numbers of the entries that are reached: at and below the top
-abbrev pub reached : Reach → ℕ → List Numbered → List ℕ
-reached reach id rows = scoped Sub (top_of reach id rows) rows
+-- the numbers of the entries at and below a top that is the top no more
+abbrev pub left_behind : ℕ → ℕ → List Numbered → List ℕ
+left_behind from to rows = if from == to then [] else scoped Sub from rows
+
+-- the numbers of the entries that are reached: at and below the top before the write, and at and below the one after it
+abbrev pub reached : ℕ → ℕ → List Numbered → List ℕ
+reached from to rows = left_behind from to rows ++ scoped Sub to rows
 
 -- all numbers of the entries have one of so many places
 abbrev pub AreBelow : ℕ → List Numbered → Type 0
@@ -42,9 +46,9 @@ abbrev pub numbers_of : List Remade → List ℕ
 numbers_of list = map (λ one. one.number.0) list
 
 -- the subtrees are those of the entries, and the lists those of the entries that are reached
-pub record IsAnew (reach : Reach) (id : ℕ) (anew : Anew) (rows : List Numbered) : Type 0 where
+pub record IsAnew (from to : ℕ) (anew : Anew) (rows : List Numbered) : Type 0 where
   pub subtrees : AreSubtrees anew.subtrees.items rows
-  pub numbers : numbers_of anew.lists.items ≡ reached reach id rows
+  pub numbers : numbers_of anew.lists.items ≡ reached from to rows
   pub lists : AllByRecursion (IsRemade rows) anew.lists.items
 
 -- each number has one of so many places

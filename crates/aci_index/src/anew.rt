@@ -1,13 +1,13 @@
 //! The lists of the entries that a write reaches, made of the tree and put.
 
-ghost use Rattle.std.specs.Prelude.{◌≡◌, IfOk, length, fold, unwrap_or};
+ghost use Rattle.std.specs.Prelude.{◌≡◌, ◌++◌, IfOk, OnOk, length, fold, unwrap_or};
 ghost use Rattle.std.specs.List.{AllByRecursion};
 ghost use Rattle.dir_tree.specs.tree.Numbered.{superior_of};
 ghost use Rattle.dir_tree.specs.Scope.{scoped};
 ghost use Rattle.dir_tree.specs.declared.scope.Scope.TheVariants.{Sub};
 ghost use Rattle.acdf_filters.specs.admin_scope.Finding.{AreSubtrees};
 ghost use Rattle.aci_index.specs.Steps.{AllStay};
-ghost use Rattle.aci_index.specs.Reach.{HaveRoom, IsAnew, IsPut, IsRemade, numbers_of, put_one, top_of};
+ghost use Rattle.aci_index.specs.Reach.{HaveRoom, IsAnew, IsPut, IsRemade, left_behind, numbers_of, put_one, reached, top_of};
 
 use crate::putting::make_room;
 use acdf_filters::admin_scope::{AccessSubentry, access_subtrees};
@@ -56,8 +56,8 @@ fn superior_or_itself(tree: &Tree, number: EntryNo) -> EntryNo
     }
 }
 
-// The number at and below which the lists are that a write of the number may change.
-fn top(tree: &Tree, number: EntryNo, reach: Reach) -> EntryNo
+/// The number at and below which the lists are that a write of the number may change.
+pub(crate) fn top(tree: &Tree, number: EntryNo, reach: Reach) -> EntryNo
     ensures exact { result.0 ≡ top_of reach number.0 tree.now }
 {
     match reach {
@@ -81,51 +81,90 @@ fn remake(
     Ok(Remade { number, lists })
 }
 
-// The lists of the entries at and below the top.
+// Puts the lists of the entries at and below the top behind those that were made.
 fn remake_below(
     alloc: Global,
     tree: &Tree,
     subtrees: &[AccessSubentry],
     top: EntryNo,
-) -> Result<Vec<Remade>, NoMemory>
+    list: &mut Vec<Remade>,
+) -> Result<(), NoMemory>
     requires subtrees { AreSubtrees subtrees.now tree.now }
-    ensures numbers { IfOk result (λ list. numbers_of list.items ≡ scoped Sub top.0 tree.now) }
-    ensures lists { IfOk result (λ list. AllByRecursion (IsRemade tree.now) list.items) }
+    requires made { AllByRecursion (IsRemade tree.now) list.old.items }
+    ensures numbers { OnOk result
+        (numbers_of list.new.items ≡ numbers_of list.old.items ++ scoped Sub top.0 tree.now) }
+    ensures lists { OnOk result (AllByRecursion (IsRemade tree.now) list.new.items) }
 {
-    let mut list = Vec::new(alloc);
     for number in tree.below(top, Scope::Sub) {
         list.push(remake(alloc, tree, subtrees, number)?)?;
     }
+    Ok(())
+}
+
+// The lists of the entries at and below a top that is the top no more.
+fn remake_left(
+    alloc: Global,
+    tree: &Tree,
+    subtrees: &[AccessSubentry],
+    from: EntryNo,
+    to: EntryNo,
+) -> Result<Vec<Remade>, NoMemory>
+    requires subtrees { AreSubtrees subtrees.now tree.now }
+    ensures numbers { IfOk result (λ list. numbers_of list.items ≡ left_behind from.0 to.0 tree.now) }
+    ensures lists { IfOk result (λ list. AllByRecursion (IsRemade tree.now) list.items) }
+{
+    let mut list = Vec::new(alloc);
+    if from.0 == to.0 {
+        return Ok(list);
+    }
+    remake_below(alloc, tree, subtrees, from, &mut list)?;
     Ok(list)
 }
 
-/// The subtrees, and the lists that a write of the number may change. The error comes where memory is wanted.
+// The lists of the entries at and below the two tops.
+fn remake_reached(
+    alloc: Global,
+    tree: &Tree,
+    subtrees: &[AccessSubentry],
+    from: EntryNo,
+    to: EntryNo,
+) -> Result<Vec<Remade>, NoMemory>
+    requires subtrees { AreSubtrees subtrees.now tree.now }
+    ensures numbers { IfOk result (λ list. numbers_of list.items ≡ reached from.0 to.0 tree.now) }
+    ensures lists { IfOk result (λ list. AllByRecursion (IsRemade tree.now) list.items) }
+{
+    let mut list = remake_left(alloc, tree, subtrees, from, to)?;
+    remake_below(alloc, tree, subtrees, to, &mut list)?;
+    Ok(list)
+}
+
+/// The subtrees, and the lists that a write may change: those at and below the top before it, and at and below the one
+/// after it. The error comes where memory is wanted.
 pub(crate) fn make_anew(
     alloc: Global,
     tree: &Tree,
-    number: EntryNo,
-    reach: Reach,
+    from: EntryNo,
+    to: EntryNo,
 ) -> Result<Anew, NoMemory>
-    ensures ok { IfOk result (λ anew. IsAnew reach number.0 anew tree.now) }
+    ensures ok { IfOk result (λ anew. IsAnew from.0 to.0 anew tree.now) }
 {
     let subtrees = access_subtrees(alloc, tree)?;
-    let lists = remake_below(alloc, tree, &subtrees, top(tree, number, reach))?;
+    let lists = remake_reached(alloc, tree, &subtrees, from, to)?;
     Ok(Anew { subtrees, lists })
 }
 
-/// Makes the same, with room for the lists of all numbers of the tree.
+/// Makes the same where one top is all, with room for the lists of all numbers of the tree.
 pub(crate) fn make_anew_with_room(
     alloc: Global,
     tree: &Tree,
     held: &mut Holdings,
-    number: EntryNo,
-    reach: Reach,
+    top: EntryNo,
 ) -> Result<Anew, NoMemory>
-    ensures ok { IfOk result (λ anew. IsAnew reach number.0 anew tree.now) }
+    ensures ok { IfOk result (λ anew. IsAnew top.0 top.0 anew tree.now) }
     ensures room { IfOk result (λ anew. HaveRoom anew.lists.items (length held.new.lists.items)) }
     ensures stay { AllStay held.old held.new }
 {
-    let anew = make_anew(alloc, tree, number, reach)?;
+    let anew = make_anew(alloc, tree, top, top)?;
     make_room(alloc, &mut held.lists, tree.bound())?;
     Ok(anew)
 }

@@ -6,7 +6,7 @@ ghost use Rattle.dir_tree.specs.Points.{is_access_subentry};
 ghost use Rattle.dir_tree.specs.Refusals.{insert_refusal};
 ghost use Rattle.aci_lists.specs.kept.Holdings.{IsHeld};
 
-use crate::anew::{Reach, make_anew_with_room, put_anew};
+use crate::anew::{Reach, make_anew_with_room, put_anew, top};
 use crate::putting::{keep_anew, make_lists};
 use aci_lists::{Holdings, take_back};
 use dir_tree::{Entry, EntryNo, InsertRefusal, Tree};
@@ -63,7 +63,8 @@ fn insert_around(
     tree.entries_form_a_tree();
     let number = tree.insert(entry)?;
     tree.entries_form_a_tree();
-    match make_anew_with_room(alloc, tree, held, number, Reach::Around) {
+    let above = top(tree, number, Reach::Around);
+    match make_anew_with_room(alloc, tree, held, above) {
         Ok(anew) => {
             put_anew(held, anew);
             Ok(number)

@@ -1,12 +1,10 @@
 //! The laws of scope: each function computes nothing, and what it ensures is a law.
 
-ghost use Rattle.std.specs.Prelude.{◌≡◌, ℕ, false, List, Option, Some, None, IfSome};
-ghost use Rattle.dir_tree.specs.dn_names.name.Names.{RdnSequence};
+ghost use Rattle.std.specs.Prelude.{◌≡◌, ℕ, List, Option, Some, None, IfSome};
 ghost use Rattle.dir_tree.specs.Entry.{EntryInformation};
 ghost use Rattle.dir_tree.specs.tree.Numbered.{Numbered, entries_of, entry_of, put_entry, without, IsNumberedTree};
-ghost use Rattle.dir_tree.specs.Scope.{is_within};
 ghost use Rattle.acdf_filters.specs.admin_scope.InForce.{AreInForce, in_force};
-ghost use Rattle.aci_index.specs.Aside.{put_some, IsAside, IsBeside, IsSamePoint, IsUnder, IsChangeOf};
+ghost use Rattle.aci_index.specs.Aside.{put_some, IsAside, IsBeside, IsSamePoint, IsUnderOther, IsChangeOf};
 
 /// What stands aside from an entry changes nothing in force for it: of entries of which one is put in, or another
 /// in its place, or none; and of two trees that are equal but for one number, which both, one or none may have.
@@ -30,16 +28,15 @@ pub fn the_numbers_in_force_stay()
 {}
 
 /// Three ways to stand aside from an entry: ordinary entries that it is neither at nor below; one ordinary entry
-/// that keeps its name and its roles; and entries of any kind immediately below a name, where the entry is neither
-/// at nor below that name.
+/// that keeps its name and its roles; and entries of any kind, each immediately below a name that the entry is
+/// neither at nor below.
 pub fn what_stands_aside()
     ensures beside { (entry : EntryInformation) (one other : Option EntryInformation)
         → IfSome one (IsBeside entry) → IfSome other (IsBeside entry) → IsAside entry one other }
     ensures same { (entry one other : EntryInformation)
         → IsSamePoint one other → IsAside entry (Some one) (Some other) }
-    ensures under { (entry : EntryInformation) (top : RdnSequence) (one other : Option EntryInformation)
-        → is_within top entry ≡ false → IfSome one (IsUnder top) → IfSome other (IsUnder top)
-        → IsAside entry one other }
+    ensures under { (entry : EntryInformation) (one other : Option EntryInformation)
+        → IfSome one (IsUnderOther entry) → IfSome other (IsUnderOther entry) → IsAside entry one other }
 {}
 
 /// The three changes of a tree are each of one number, whose entry is put in, taken out or replaced.

@@ -10,7 +10,7 @@ ghost use Rattle.aci_lists.specs.kept.Holdings.{IsHeld};
 ghost use Rattle.aci_index.specs.Reach.{AreBelow};
 ghost use Rattle.aci_index.specs.Steps.{AllStay, is_own_change};
 
-use crate::anew::{Anew, Reach, make_anew, no_anew, put_anew};
+use crate::anew::{Anew, Reach, make_anew, no_anew, put_anew, top};
 use crate::points::{changes_own, reach_at};
 use crate::putting::{make_lists, make_ready, make_room, put_own};
 use aci_lists::{Holdings, Kept};
@@ -69,22 +69,26 @@ fn replace_own(
     }
 }
 
-// Makes the lists that the number's new entry changes, of the tree that it reads.
+// Makes the lists that the number's new entry changes, of the tree that it reads: at and below the top before, and at and
+// below the one that it finds.
 #[derive(Drop)]
 struct Remaker {
     alloc: Global,
     number: EntryNo,
     reach: Reach,
+    from: EntryNo,
     anew: Anew,
 }
 
 impl TreeReader for Remaker {
-    ghost use Rattle.aci_index.specs.Reach.{IsAnew};
+    ghost use Rattle.aci_index.specs.Reach.{IsAnew, top_of};
 
-    ghost has_read = { λ before remaker rows. IsAnew before.reach before.number.0 remaker.anew rows };
+    ghost has_read = { λ before remaker rows.
+        IsAnew before.from.0 (top_of before.reach before.number.0 rows) remaker.anew rows };
 
     fn read(&mut self, tree: &Tree) -> Result<(), NoMemory> {
-        self.anew = make_anew(self.alloc, tree, self.number, self.reach)?;
+        let to = top(tree, self.number, self.reach);
+        self.anew = make_anew(self.alloc, tree, self.from, to)?;
         Ok(())
     }
 }
@@ -124,10 +128,12 @@ fn replace_reached(
     ensures kept { OnErr result (tree.new ≡ tree.old) }
     ensures held { IsHeld held.new tree.new }
 {
+    let reach = reach_at(tree, number, &entry);
     let mut remaker = Remaker {
         alloc,
         number,
-        reach: reach_at(tree, number, &entry),
+        reach,
+        from: top(tree, number, reach),
         anew: no_anew(alloc),
     };
     tree.entries_form_a_tree();

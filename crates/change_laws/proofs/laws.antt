@@ -5,11 +5,11 @@ pub mod AllowedLemmas
 pub mod DoneLemmas
 pub mod TableLemmas
 pub mod FoundLemmas
+pub mod RenamingLemmas
 pub mod NameLemmas
 pub mod ReadLemmas
 pub mod ChangeLemmas
 pub mod ModifyLemmas
 pub mod ModifiedLemmas
-pub mod RenamingLemmas
 pub mod RenameLemmas
 pub mod RenamedLemmas

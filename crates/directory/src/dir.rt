@@ -135,13 +135,14 @@ pub trait Dir {
             ⊎ (remove_refusal no.0 (rows self.old) ≡ Some refusal)) }
         ensures kept { OnErr result (rows self.new ≡ rows self.old) };
 
-    /// Gives the entry's place to another, which is known by the same number. The memory that the attributes of the
-    /// other do not need is given back.
+    /// Gives the entry's place to another, which is known by the same number and may stand below another superior. The
+    /// memory that the attributes of the other do not need is given back.
     ///
     /// Each refusal comes in exactly one case, and of several the first: `Absent` for a number that is not in use,
-    /// `NameTaken` where the new name is that of another entry, `Elsewhere` for the empty name and for one below
-    /// another superior, and `HasBelow` where the new name is not the same as the old one and entries stand below.
-    /// `NoMemory`, where memory is refused, may come before these, and then nothing has changed.
+    /// `NameTaken` where the new name is that of another entry, `NoSuperior` for the empty name and, unless the entry is
+    /// the suffix, for one whose superior is not the name of another entry, and `HasBelow` where the new name is not the
+    /// same as the old one and entries stand below. `NoMemory`, where memory is refused, may come before these, and then
+    /// nothing has changed.
     fn replace(&mut self, alloc: Global, no: EntryNo, entry: Entry) -> Result<Entry, ReplaceRefusal>
         ensures found { IfOk result (λ old. entry_of no.0 (rows self.old) ≡ Some old) }
         ensures ok { OnOk result (rows self.new ≡ put_entry no.0 entry (without no.0 (rows self.old))) }

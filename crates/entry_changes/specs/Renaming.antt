@@ -1,7 +1,7 @@
 -- How an entry gets another name (RFC 4511 4.9, X.511 11.4): the values of the new RDN come, and where the old ones are to
 -- go, those go that the new RDN does not name too.
 use Rattle.std.specs.Prelude.{◌==◌, Bool, not, ◌&&◌, List, [], ◌∷◌, filter, if◌then◌else◌}
-use Rattle.std.specs.List.{list_any}
+use Rattle.std.specs.List.{list_all, list_any}
 use Rattle.std.specs.Str.{bytes_eq}
 use Rattle.dir_tree.specs.dn_names.name.Names.{TypeAndValue, RdnSequence, last_rdn}
 use Rattle.dir_tree.specs.Entry.{EntryInformation}
@@ -15,6 +15,14 @@ is_same_pair one other = (one.kind == other.kind) && bytes_eq one.value.key othe
 -- one of the pairs is the same
 abbrev pub has_pair : TypeAndValue → List TypeAndValue → Bool
 has_pair pair pairs = list_any (is_same_pair pair) pairs
+
+-- each of the pairs is among the others
+abbrev pub are_among : List TypeAndValue → List TypeAndValue → Bool
+are_among pairs others = list_all (λ pair. has_pair pair others) pairs
+
+-- the two RDNs are the same: the pairs of each are among the other's
+abbrev pub is_same_rdn : List TypeAndValue → List TypeAndValue → Bool
+is_same_rdn one other = are_among one other && are_among other one
 
 -- the pairs of the first list of which the second has none
 abbrev pub gone_among : List TypeAndValue → List TypeAndValue → List TypeAndValue

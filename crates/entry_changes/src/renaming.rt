@@ -2,7 +2,7 @@
 
 ghost use Rattle.std.specs.Prelude.{◌≡◌, IfOk, if◌then◌else◌};
 ghost use Rattle.dir_tree.specs.attributes.Changes.{without_value};
-ghost use Rattle.entry_changes.specs.Renaming.{is_same_pair, has_pair, gone_among, without_pairs, renamed_entry};
+ghost use Rattle.entry_changes.specs.Renaming.{is_same_pair, has_pair, are_among, is_same_rdn, gone_among, without_pairs, renamed_entry};
 
 use crate::fault::NoMemory;
 use dir_tree::Entry;
@@ -22,6 +22,21 @@ fn has_pair(pair: &Pair, pairs: &[Pair]) -> bool
     ensures exact { result ≡ has_pair pair.now pairs.now }
 {
     pairs.iter().any(|other| is_same_pair(pair, other))
+}
+
+// Whether each of the pairs is among the others.
+fn are_among(pairs: &[Pair], others: &[Pair]) -> bool
+    ensures exact { result ≡ are_among pairs.now others.now }
+{
+    pairs.iter().all(|pair| has_pair(pair, others))
+}
+
+/// Whether the RDNs of these pairs are the same (X.501 9.3): the pairs of each are among the other's, in any order and
+/// spelling.
+pub fn is_same_rdn(one: &[Pair], other: &[Pair]) -> bool
+    ensures exact { result ≡ is_same_rdn one.now other.now }
+{
+    are_among(one, other) && are_among(other, one)
 }
 
 // Takes out the value of the pair, unless that is among the new ones.

@@ -222,6 +222,57 @@ fn after_each_write_a_directory_keeps_what_the_entries_say(rt: HostRuntime) -> R
     Ok(())
 }
 
+const H: &str = "ou=h,ou=u";
+
+const SIDE: &str = "cn=more,ou=h,ou=u";
+
+const UP: &str = "cn=more,ou=u";
+
+// Entries that move, and what is in force then.
+#[rattlefmt::skip]
+static MOVES: [(Write, &str, &str); 21] = [
+    (Write::Insert(MORE, ALL), LEAF, "cn=top,ou=u "),
+    (Write::Replace(A, A, INNER), LEAF, "cn=more,ou=a,ou=u cn=top,ou=u "),
+    // a leaf goes up, down and to where it was
+    (Write::Replace(LEAF, "cn=d,ou=u", DEVICE), "cn=d,ou=u", "cn=top,ou=u "),
+    (Write::Replace("cn=d,ou=u", "cn=d,ou=a,ou=u", DEVICE_WITH_UID), "cn=d,ou=a,ou=u",
+        "cn=more,ou=a,ou=u cn=top,ou=u cn=uid,ou=u "),
+    (Write::Replace("cn=d,ou=a,ou=u", LEAF, DEVICE), LEAF, "cn=more,ou=a,ou=u cn=top,ou=u "),
+    // so does a point, and as it moves it gets another role, loses it, and has it again
+    (Write::Insert(H, SPECIFIC), H, ""),
+    (Write::Replace(H, "ou=h,ou=a,ou=u", SPECIFIC), "ou=h,ou=a,ou=u", ""),
+    (Write::Replace("ou=h,ou=a,ou=u", "ou=h,ou=b,ou=a,ou=u", INNER), "ou=h,ou=b,ou=a,ou=u",
+        "cn=more,ou=a,ou=u cn=top,ou=u "),
+    (Write::Replace("ou=h,ou=b,ou=a,ou=u", "ou=h,ou=a,ou=u", UNIT), "ou=h,ou=a,ou=u", "cn=more,ou=a,ou=u cn=top,ou=u "),
+    (Write::Replace("ou=h,ou=a,ou=u", H, SPECIFIC), H, ""),
+    // a subentry goes beside, up and down: it is in force where it stands, and no more where it stood
+    (Write::Replace(MORE, SIDE, ALL), LEAF, "cn=top,ou=u "),
+    (Write::Replace(LEAF, LEAF, DEVICE), H, "cn=more,ou=h,ou=u "),
+    (Write::Replace(SIDE, UP, ALL), LEAF, "cn=more,ou=u cn=top,ou=u "),
+    (Write::Replace(LEAF, LEAF, DEVICE), H, ""),
+    (Write::Replace(UP, MORE, BELOW), LEAF, "cn=more,ou=a,ou=u cn=top,ou=u "),
+    (Write::Replace(LEAF, LEAF, DEVICE), "cn=e,ou=u", "cn=top,ou=u "),
+    // one that becomes none as it moves, and one that becomes one
+    (Write::Replace(MORE, SIDE, DEVICE), LEAF, "cn=top,ou=u "),
+    (Write::Replace(SIDE, MORE, ALL), LEAF, "cn=more,ou=a,ou=u cn=top,ou=u "),
+    (Write::Replace(MORE, UP, OTHER), LEAF, "cn=top,ou=u "),
+    // below an entry that is no point, where it is in force for none, and back
+    (Write::Replace(UP, "cn=more,cn=e,ou=u", ALL), "cn=e,ou=u", "cn=top,ou=u "),
+    (Write::Replace("cn=more,cn=e,ou=u", MORE, ALL), LEAF, "cn=more,ou=a,ou=u cn=top,ou=u "),
+];
+
+#[test]
+fn after_each_move_a_directory_keeps_what_the_entries_say(rt: HostRuntime) -> Result<(), Fail> {
+    let alloc = rt.alloc();
+    let mut dir = IndexedDir::new(alloc, tree(alloc, &ENTRIES)?)?;
+    for (what, name, want) in &MOVES {
+        make_write(alloc, &mut dir, *what)?;
+        let found = told(alloc, &dir, name)?;
+        assert_eq!(rt; found.as_str(), *want, "in force for {name}");
+    }
+    Ok(())
+}
+
 // An entry that is to be added, and the subentries in force for it: a point is not yet one for itself, and for a subentry
 // none are.
 static NEW: [(&str, Attributes, &str); 5] = [

@@ -1,5 +1,5 @@
 -- The definitions on small cases.
-use Rattle.std.proofs.Common.{◌≡◌, ℕ, true, false, [], ◌∷◌, List, Some, None, Ok, Err, refl}
+use Rattle.std.proofs.Common.{◌≡◌, ℕ, true, false, [], ◌∷◌, List, Option, Some, None, Ok, Err, refl}
 use Rattle.std.specs.Prelude.{codes}
 use Rattle.std.specs.Str.{is_utf8, chars}
 use lib.Utf8.{encode}
@@ -20,7 +20,9 @@ use Rattle.op_add_delete.specs.reading.NewEntries.{read_values, repeats}
 use Rattle.op_add_delete.specs.adding.Updates.{refused}
 use Rattle.op_modify.specs.ReadChanges.{is_no_change, change_of, read_each, read_changes}
 use Rattle.op_modify.specs.Modifying.{modified_as, modified_named}
-use Rattle.op_modify.specs.Renames.{moves, is_unwilling, new_name, taken_refusal, other_named, renamed_by}
+use Rattle.op_modify.specs.ReadRenames.{new_superior, asks_rename}
+use Rattle.op_modify.specs.Renames.{new_name, taken_refusal, other_named, renamed_by}
+use Rattle.op_modify.specs.declared.renaming.Renaming.{Renaming}
 
 -- a value whose key is its octets, and one spelled in capitals
 plain_value : List ℕ → Keyed
@@ -102,23 +104,35 @@ a_refused_change entries target = refl
 no_rename : (entries : List EntryInformation) (who : Requester) → renamed_by entries who None ≡ refused entries (result_of code.InvalidDnSyntax)
 no_rename entries who = refl
 
-the_root : is_unwilling (record { name = []; rdn = root; delete_old = true; superior = None }) ≡ true
-the_root = refl
+the_root : (entries : List EntryInformation) (who : Requester) → renamed_by entries who (Some (record { name = []; rdn = root; delete_old = true; superior = None })) ≡ refused entries (result_of code.UnwillingToPerform)
+the_root entries who = refl
 
--- the present superior may be given, in any spelling; another one moves the entry
-no_superior : moves (below (codes "b")) None ≡ false
+-- the present superior may be given, in any spelling, and is as if none were; another one moves the entry
+no_superior : new_superior (below (codes "b")) None ≡ None
 no_superior = refl
 
-the_same_superior : moves (below (codes "b")) (Some root) ≡ false
+the_same_superior : new_superior (below (codes "b")) (Some root) ≡ None
 unfolding root below plain_value spelled_value name_cmp is_same
 the_same_superior = refl
 
-another_superior : moves (below (codes "b")) (Some (below (codes "c"))) ≡ true
+another_superior : new_superior (below (codes "b")) (Some (below (codes "c"))) ≡ Some (below (codes "c"))
 unfolding below plain_value name_cmp is_same
 another_superior = refl
 
+-- an RDN is the same in another spelling, and so asks for no rename where the entry moves
+renaming_of : List ℕ → Option RdnSequence → Renaming
+renaming_of octets superior = record { name = below (codes "b"); rdn = (record { kind = 9; value = spelled_value octets (codes "b") } ∷ []) ∷ []; delete_old = true; superior = superior }
+
+a_move_alone : asks_rename (renaming_of (codes "B") (Some root)) ≡ false
+unfolding renaming_of root below plain_value spelled_value
+a_move_alone = refl
+
+a_spelling_alone : asks_rename (renaming_of (codes "B") None) ≡ true
+unfolding renaming_of root below plain_value spelled_value
+a_spelling_alone = refl
+
 -- the superior's part of the new name is spelled as the superior's own
-the_spelling : new_name (bare root ∷ bare (below (codes "b")) ∷ []) (bare (below (codes "b"))) ((record { kind = 9; value = plain_value (codes "c") } ∷ []) ∷ [])
+the_spelling : new_name (bare root ∷ bare (below (codes "b")) ∷ []) (record { name = below (codes "b"); rdn = (record { kind = 9; value = plain_value (codes "c") } ∷ []) ∷ []; delete_old = true; superior = None })
     ≡ (record { kind = 25; value = spelled_value (codes "A") (codes "a") } ∷ []) ∷ (record { kind = 9; value = plain_value (codes "c") } ∷ []) ∷ []
 unfolding root below bare plain_value spelled_value name_cmp is_same
 the_spelling = refl

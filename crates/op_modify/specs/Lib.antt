@@ -1,6 +1,7 @@
 -- what public clauses cite
 pub mod ReadChanges
 pub mod Modifying
+pub mod ReadRenames
 pub mod Renames
 -- for the inside of the crate alone
 pub mod Asked

@@ -3,6 +3,8 @@
 #![tactic(auto)]
 
 mod asker;
+mod coming;
+mod leaving;
 mod modifying;
 mod reading;
 mod renames;

@@ -3,101 +3,26 @@
 ghost use Rattle.std.specs.Prelude.{◌≡◌, ◌++◌, Some, None, IfOk, OnErr};
 ghost use Rattle.dir_tree.specs.tree.Trees.{named_in};
 ghost use Rattle.dir_tree.specs.tree.Numbered.{entry_of, entries_of};
-ghost use Rattle.read_model.specs.Views.{result_of};
 ghost use Rattle.ldap_msg.specs.plain_values.Refusals.{first_some};
 ghost use Rattle.entry_changes.specs.Renaming.{renamed_entry};
 ghost use Rattle.op_add_delete.specs.adding.Updates.{IsChanged};
-ghost use Rattle.op_modify.specs.Renames.{new_name, other_named, taken_refusal, renamed_as, renamed_target, renamed_by, renamed};
-ghost use Rattle.op_modify.specs.Steps.{IsChecked, target_rows, place_rows};
+ghost use Rattle.op_modify.specs.Renames.{new_name, renamed_as, renamed_target, renamed_by, renamed};
+ghost use Rattle.op_modify.specs.Steps.{IsChecked, leaving_rows};
 
-use crate::renaming::{Renaming, is_unwilling, read_renaming};
-use crate::replacing::{Checked, make, rule_refusal};
-use acdf_filters::aci_item::Permission;
-use acdf_filters::{Item, Requester};
-use dir_tree::dn_names::{Dn, join, same};
+use crate::coming::coming_refusal;
+use crate::leaving::{find_above, leaving_refusal};
+use crate::renaming::{Renaming, read_renaming};
+use crate::replacing::{Checked, make};
+use acdf_filters::Requester;
+use dir_tree::dn_names::{Dn, join};
 use dir_tree::{Entry, NoMemory, Tree};
 use entry_changes::rename_entry;
 use ldap_msg::{LdapResult, RenameRequest, ResultCode};
-use op_add_delete::directory::{
-    Asking, Dir, Target, find_target, hidden, is_suffix, not_leaf, result_of,
-};
+use op_add_delete::directory::{Asking, Dir, Target, find_target, hidden, result_of};
 use std::alloc::{AllocError, Global};
 
-// Why the target, which has the name, is not renamed, whatever the new name is.
-fn target_refusal<D: Dir>(
-    alloc: Global,
-    asking: &Asking<'_, D>,
-    name: &Dn,
-    target: Target<'_>,
-) -> Result<Option<LdapResult>, NoMemory>
-    requires found { entry_of target.number.0 (D.rows asking.now.dir.now) ≡ Some target.entry.now }
-    ensures ok { IfOk result (λ refusal. refusal ≡ first_some
-        (target_rows (entries_of (D.rows asking.now.dir.now)) asking.now.who.now name.now target.entry.entry.now)) }
-{
-    let tree = asking.dir.tree();
-    if !asking.allows(target, Item::Entry, Permission::Rename) {
-        return Ok(Some(hidden(alloc, asking, name)?));
-    }
-    if is_suffix(tree, target.entry.name()) {
-        return Ok(Some(result_of(alloc, ResultCode::UnwillingToPerform)));
-    }
-    if tree.has_below(target.number) {
-        return Ok(Some(not_leaf(alloc, asking, name, target)?));
-    }
-    Ok(None)
-}
-
-// The refusal where an entry other than the target has the name.
-fn taken_refusal<D: Dir>(
-    alloc: Global,
-    asking: &Asking<'_, D>,
-    target: Target<'_>,
-    name: &Dn,
-) -> Option<LdapResult>
-    ensures exact { result ≡ taken_refusal (entries_of (D.rows asking.now.dir.now)) asking.now.who.now
-        (other_named (entries_of (D.rows asking.now.dir.now)) target.entry.entry.now name.now) }
-{
-    if same(name, target.entry.name()) {
-        return None;
-    }
-    match find_target(asking.dir.tree(), name) {
-        Some(other) => Some(result_of(alloc, taken_code(asking, other))),
-        None => None,
-    }
-}
-
-// What is told of the entry that has the new name.
-fn taken_code<D: Dir>(asking: &Asking<'_, D>, other: Target<'_>) -> ResultCode
-    requires found { entry_of other.number.0 (D.rows asking.now.dir.now) ≡ Some other.entry.now }
-    ensures exact { Some (result_of result) ≡ taken_refusal (entries_of (D.rows asking.now.dir.now)) asking.now.who.now
-        (Some other.entry.entry.now) }
-{
-    if asking.allows(other, Item::Entry, Permission::DiscloseOnError) {
-        ResultCode::EntryAlreadyExists
-    } else {
-        ResultCode::InsufficientAccessRights
-    }
-}
-
-// Why the renamed entry does not take the target's place.
-fn place_refusal<D: Dir>(
-    alloc: Global,
-    asking: &Asking<'_, D>,
-    target: Target<'_>,
-    entry: &Entry,
-) -> Result<Option<LdapResult>, NoMemory>
-    requires found { entry_of target.number.0 (D.rows asking.now.dir.now) ≡ Some target.entry.now }
-    ensures ok { IfOk result (λ refusal. refusal ≡ first_some
-        (place_rows (entries_of (D.rows asking.now.dir.now)) asking.now.who.now target.entry.entry.now entry.now)) }
-{
-    if let Some(refusal) = taken_refusal(alloc, asking, target, entry.name()) {
-        return Ok(Some(refusal));
-    }
-    rule_refusal(alloc, asking.dir.tree(), target, entry)
-}
-
-// The RDNs of the superior, and then the new one. As a name of the target's length is no longer than one may be, the
-// error is always want of memory.
+// The RDNs of the superior, and then the new one. As another name may stand below the
+// superior's, the error is always want of memory.
 fn joined(alloc: Global, superior: &Dn, rdn: &Dn) -> Result<Dn, NoMemory>
     ensures ok { IfOk result (λ name. name ≡ superior.now ++ rdn.now) }
 {
@@ -107,17 +32,12 @@ fn joined(alloc: Global, superior: &Dn, rdn: &Dn) -> Result<Dn, NoMemory>
     }
 }
 
-// The target's new name. A target that isn't the suffix has a superior.
-fn new_name(alloc: Global, tree: &Tree, target: Target<'_>, rdn: &Dn) -> Result<Dn, NoMemory>
-    requires found { entry_of target.number.0 tree.now ≡ Some target.entry.now }
-    ensures ok { IfOk result (λ name. name ≡ new_name (entries_of tree.now) target.entry.entry.now rdn.now) }
+// The new name. The superior is an entry.
+fn new_name(alloc: Global, tree: &Tree, renaming: &Renaming) -> Result<Dn, NoMemory>
+    ensures ok { IfOk result (λ name. name ≡ new_name (entries_of tree.now) renaming.now) }
 {
-    tree.entries_form_a_tree();
-    let Some(number) = tree.superior(target.number) else {
-        return Err(AllocError);
-    };
-    match tree.at(number) {
-        Some(superior) => joined(alloc, superior.name(), rdn),
+    match find_above(tree, renaming) {
+        Some(superior) => joined(alloc, superior.name(), &renaming.rdn),
         None => Err(AllocError),
     }
 }
@@ -126,34 +46,33 @@ fn new_name(alloc: Global, tree: &Tree, target: Target<'_>, rdn: &Dn) -> Result<
 fn renamed_entry(
     alloc: Global,
     tree: &Tree,
-    target: Target<'_>,
+    target: &Entry,
     renaming: &Renaming,
 ) -> Result<Entry, NoMemory>
-    requires found { entry_of target.number.0 tree.now ≡ Some target.entry.now }
-    ensures ok { IfOk result (λ entry. entry ≡ renamed_entry
-        (new_name (entries_of tree.now) target.entry.entry.now renaming.now.rdn) renaming.now.delete_old
-        target.entry.entry.now) }
+    ensures ok { IfOk result (λ entry. entry
+        ≡ renamed_entry (new_name (entries_of tree.now) renaming.now) renaming.now.delete_old target.now) }
 {
-    let name = new_name(alloc, tree, target, &renaming.rdn)?;
-    rename_entry(alloc, target.entry, name, renaming.delete_old)
+    let name = new_name(alloc, tree, renaming)?;
+    rename_entry(alloc, target, name, renaming.delete_old)
 }
 
 // What comes of the renamed entry's rows.
 fn check_place<D: Dir>(
     alloc: Global,
     asking: &Asking<'_, D>,
+    renaming: &Renaming,
     target: Target<'_>,
-    name: &Dn,
     entry: Entry,
 ) -> Result<Checked, NoMemory>
     requires found { entry_of target.number.0 (D.rows asking.now.dir.now) ≡ Some target.entry.now }
-    requires free { first_some (target_rows (entries_of (D.rows asking.now.dir.now)) asking.now.who.now name.now
+    requires free { first_some (leaving_rows (entries_of (D.rows asking.now.dir.now)) asking.now.who.now renaming.now
         target.entry.now) ≡ None }
     ensures ok { IfOk result (λ checked. IsChecked
-        (renamed_as (entries_of (D.rows asking.now.dir.now)) asking.now.who.now name.now target.entry.entry.now entry)
+        (renamed_as (entries_of (D.rows asking.now.dir.now)) asking.now.who.now renaming.now target.entry.entry.now
+        entry)
         (D.rows asking.now.dir.now) checked) }
 {
-    match place_refusal(alloc, asking, target, &entry)? {
+    match coming_refusal(alloc, asking, renaming, target, &entry)? {
         Some(refusal) => Ok(Checked::Refused(refusal)),
         None => Ok(Checked::Allowed(target.number, entry)),
     }
@@ -163,8 +82,8 @@ fn check_place<D: Dir>(
 fn check_table<D: Dir>(
     alloc: Global,
     asking: &Asking<'_, D>,
-    target: Target<'_>,
     renaming: &Renaming,
+    target: Target<'_>,
 ) -> Result<Checked, NoMemory>
     requires found { entry_of target.number.0 (D.rows asking.now.dir.now) ≡ Some target.entry.now }
     ensures ok { IfOk result (λ checked. IsChecked
@@ -172,11 +91,11 @@ fn check_table<D: Dir>(
         (Some target.entry.entry.now))
         (D.rows asking.now.dir.now) checked) }
 {
-    match target_refusal(alloc, asking, &renaming.name, target)? {
+    match leaving_refusal(alloc, asking, renaming, target)? {
         Some(refusal) => Ok(Checked::Refused(refusal)),
         None => {
-            let entry = renamed_entry(alloc, asking.dir.tree(), target, renaming)?;
-            check_place(alloc, asking, target, &renaming.name, entry)
+            let entry = renamed_entry(alloc, asking.dir.tree(), target.entry, renaming)?;
+            check_place(alloc, asking, renaming, target, entry)
         }
     }
 }
@@ -193,7 +112,7 @@ fn check_target<D: Dir>(
         (D.rows asking.now.dir.now) checked) }
 {
     match find_target(asking.dir.tree(), &renaming.name) {
-        Some(target) => check_table(alloc, asking, target, renaming),
+        Some(target) => check_table(alloc, asking, renaming, target),
         None => Ok(Checked::Refused(hidden(alloc, asking, &renaming.name)?)),
     }
 }
@@ -231,20 +150,21 @@ fn rename_by<D: Dir>(
         refusal (entries_of (D.rows dir.new))) }
     ensures kept { OnErr result (D.rows dir.new ≡ D.rows dir.old) }
 {
-    if is_unwilling(renaming) {
+    if renaming.name.len() == 0 {
         return Ok(Some(result_of(alloc, ResultCode::UnwillingToPerform)));
     }
     let checked = check_rename(alloc, dir, who, renaming)?;
     make(alloc, dir, checked)
 }
 
-/// Renames the entry of the name (RFC 4511 4.9, X.511 11.4), below the same superior: one that the requester may rename,
-/// that isn't the suffix, and below which none stands. The values of the new RDN come, and where the old ones are to go
-/// those go that the new RDN has not; the new name must not be that of another entry, and the entry must keep the rules
-/// of the directory under it. None where it was done, and otherwise the result that refuses it, with the directory as it
-/// was: unwillingToPerform where another superior is asked for, and entryAlreadyExists where another entry has the new
-/// name, or insufficientAccessRights if the requester may not know of that. The error comes where memory is wanted, and
-/// all is then as it was.
+/// Renames the entry of the name, or moves it below another superior, or both (RFC 4511 4.9, X.511 11.4): one that isn't
+/// the suffix, and below which none stands. The requester must be allowed to rename it, where it gets another RDN or stays
+/// where it is, and, where it moves, to export it and to import what it becomes. The values of the new RDN come, and where
+/// the old ones are to go those go that the new RDN has not; the new name must not be that of another entry, and the entry
+/// must keep the rules of the directory under it. None where it was done, and otherwise the result that refuses it, with
+/// the directory as it was: noSuchObject where the new superior is no entry, and entryAlreadyExists where another entry has
+/// the new name, or insufficientAccessRights if the requester may not know of that. The error comes where memory is wanted,
+/// and all is then as it was.
 #[tactic(auto, unfolding(crate::specs::Renames::renamed))]
 pub fn rename<D: Dir>(
     alloc: Global,

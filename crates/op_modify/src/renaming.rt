@@ -2,11 +2,14 @@
 
 ghost use Rattle.std.specs.Prelude.{◌≡◌, Some, IfOk};
 ghost use Rattle.std.specs.Result.{result_ok};
+ghost use Rattle.dir_tree.specs.dn_names.NameOrder.{is_same};
 ghost use Rattle.dir_tree.specs.dn_names.parsing.NameText.{read_rdn};
-ghost use Rattle.op_modify.specs.Renames.{read_superior, read_renaming, moves, is_unwilling};
+ghost use Rattle.dir_tree.specs.tree.Trees.{superior_name};
+ghost use Rattle.op_modify.specs.ReadRenames.{with_room, read_superior, new_superior, read_renaming, moves, changes_rdn, asks_rename};
 
 use dir_tree::NoMemory;
-use dir_tree::dn_names::{BadName, Dn, compare_front, parse_rdn};
+use dir_tree::dn_names::{BadName, Dn, MOST_RDNS, compare_front, parse_rdn};
+use entry_changes::is_same_rdn;
 use ldap_msg::RenameRequest;
 use ldap_msg::plain_values::Octets;
 use op_add_delete::directory::read_named;
@@ -21,7 +24,7 @@ pub(crate) struct Renaming {
     pub(crate) rdn: Dn,
     /// Whether values of the old RDN go.
     pub(crate) delete_old: bool,
-    /// The superior's name, if one is given.
+    /// The new superior's name, if one is given that is not the present one.
     pub(crate) superior: Option<Dn>,
 }
 
@@ -38,21 +41,56 @@ fn read_rdn(alloc: Global, octets: &[u8]) -> Result<Option<Dn>, NoMemory>
     }
 }
 
-// The superior that is given, if one is; None where it is no name.
+// The name, if another may stand below it.
+fn with_room(name: Dn) -> Option<Dn>
+    ensures exact { result ≡ with_room name }
+{
+    if name.len() < MOST_RDNS {
+        Some(name)
+    } else {
+        None
+    }
+}
+
+// The superior that is given, if one is; None where it is no name, or none below which another may stand.
 fn read_superior(alloc: Global, given: &Option<Octets>) -> Result<Option<Option<Dn>>, NoMemory>
     ensures ok { IfOk result (λ superior. superior ≡ read_superior given.now) }
 {
     let Some(octets) = given else {
         return Ok(Some(None));
     };
-    match read_named(alloc, octets.as_slice())? {
+    let Some(name) = read_named(alloc, octets.as_slice())? else {
+        return Ok(None);
+    };
+    match with_room(name) {
         Some(superior) => Ok(Some(Some(superior))),
         None => Ok(None),
     }
 }
 
+// Whether the superior is the name's own.
+fn is_present(name: &Dn, superior: &Dn) -> bool
+    ensures exact { result ≡ is_same (superior_name name.now) superior.now }
+{
+    compare_front(name, name.len().saturating_sub(1), superior).is_eq()
+}
+
+// The superior that is given, unless it is the name's own.
+fn new_superior(name: &Dn, given: Option<Dn>) -> Option<Dn>
+    ensures exact { result ≡ new_superior name.now given }
+{
+    let Some(superior) = given else {
+        return None;
+    };
+    if is_present(name, &superior) {
+        None
+    } else {
+        Some(superior)
+    }
+}
+
 /// The request, read; None where a name or the new RDN is none. The error comes where memory is wanted.
-#[tactic(auto, unfolding(crate::specs::Renames::read_renaming))]
+#[tactic(auto, unfolding(crate::specs::ReadRenames::read_renaming))]
 pub(crate) fn read_renaming(
     alloc: Global,
     request: &RenameRequest,
@@ -65,9 +103,10 @@ pub(crate) fn read_renaming(
     let Some(rdn) = read_rdn(alloc, request.new_rdn.as_slice())? else {
         return Ok(None);
     };
-    let Some(superior) = read_superior(alloc, &request.superior)? else {
+    let Some(given) = read_superior(alloc, &request.superior)? else {
         return Ok(None);
     };
+    let superior = new_superior(&name, given);
     Ok(Some(Renaming {
         name,
         rdn,
@@ -76,26 +115,23 @@ pub(crate) fn read_renaming(
     }))
 }
 
-// Whether the superior is another than that of the name.
-fn is_elsewhere(name: &Dn, superior: &Dn) -> bool
-    ensures exact { result ≡ moves name.now (Some superior.now) }
+/// Whether another superior than the present one is asked for.
+pub(crate) fn moves(renaming: &Renaming) -> bool
+    ensures exact { result ≡ moves renaming.now }
 {
-    !compare_front(name, name.len().saturating_sub(1), superior).is_eq()
+    renaming.superior.is_some()
 }
 
-// Whether another superior than the present one is asked for.
-fn moves(renaming: &Renaming) -> bool
-    ensures exact { result ≡ moves renaming.now.name renaming.now.superior }
+// Whether the entry gets another RDN.
+fn changes_rdn(renaming: &Renaming) -> bool
+    ensures exact { result ≡ changes_rdn renaming.now }
 {
-    match &renaming.superior {
-        Some(superior) => is_elsewhere(&renaming.name, superior),
-        None => false,
-    }
+    !is_same_rdn(renaming.name.last_rdn(), renaming.rdn.last_rdn())
 }
 
-/// Whether it isn't done here: the root is renamed, or the entry is moved below another superior.
-pub(crate) fn is_unwilling(renaming: &Renaming) -> bool
-    ensures exact { result ≡ is_unwilling renaming.now }
+/// Whether the entry must be allowed to be renamed: it gets another RDN, or stays where it is.
+pub(crate) fn asks_rename(renaming: &Renaming) -> bool
+    ensures exact { result ≡ asks_rename renaming.now }
 {
-    renaming.name.len() == 0 || moves(renaming)
+    changes_rdn(renaming) || !moves(renaming)
 }

@@ -3,4 +3,4 @@ pub mod StayLemmas
 pub mod ListTakenLemmas
 pub mod TakenLemmas
 pub mod InPlaceLemmas
-pub mod RenamedLemmas
+pub mod MovedLemmas

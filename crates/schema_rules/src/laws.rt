@@ -4,7 +4,7 @@ ghost use Rattle.std.specs.Prelude.{◌≡◌, ◌≢◌, ◌↔◌, List, [], O
 ghost use Rattle.dir_tree.specs.dn_names.NameOrder.{is_same};
 ghost use Rattle.dir_tree.specs.dn_names.name.GoodNames.{IsGoodName};
 ghost use Rattle.dir_tree.specs.Entry.{EntryInformation, IsGoodAttributes};
-ghost use Rattle.dir_tree.specs.tree.Trees.{has_name, named_in, superior_name, lacks_superior, has_below, put_in, taken_out};
+ghost use Rattle.dir_tree.specs.tree.Trees.{has_name, named_in, lacks_superior, has_below, put_in, taken_out};
 ghost use Rattle.aci_item.specs.Rules.{broken_rule, Meets, AreGood};
 
 /// No rule is broken exactly where each one is met.
@@ -24,17 +24,17 @@ pub fn a_tree_stays_good()
 {}
 
 /// Good entries stay so where one takes another's place and breaks no rule there: under the same name, or, where none
-/// stands below, under a free name below the same superior.
+/// stands below, under a free name whose superior is left.
 pub fn a_tree_stays_good_in_place()
     ensures same { (entries : List EntryInformation) (old new : EntryInformation) → AreGood entries
         → named_in old.name entries ≡ Some old → is_same new.name old.name ≡ true
         → new.name ≢ [] → IsGoodName new.name → IsGoodAttributes new.attributes
         → broken_rule (Some old) (taken_out old.name entries) new ≡ None
         → AreGood (put_in new (taken_out old.name entries)) }
-    ensures renamed { (entries : List EntryInformation) (old new : EntryInformation) → AreGood entries
+    ensures moved { (entries : List EntryInformation) (old new : EntryInformation) → AreGood entries
         → named_in old.name entries ≡ Some old → has_below old.name entries ≡ false
         → new.name ≢ [] → has_name new.name (taken_out old.name entries) ≡ false
-        → is_same (superior_name new.name) (superior_name old.name) ≡ true
+        → lacks_superior new.name (taken_out old.name entries) ≡ false
         → IsGoodName new.name → IsGoodAttributes new.attributes
         → broken_rule (Some old) (taken_out old.name entries) new ≡ None
         → AreGood (put_in new (taken_out old.name entries)) }

@@ -15,6 +15,8 @@ mod limits;
 #[cfg(test)]
 mod modifies;
 #[cfg(test)]
+mod moves;
+#[cfg(test)]
 mod renames;
 #[cfg(test)]
 mod series;

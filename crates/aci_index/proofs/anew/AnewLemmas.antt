@@ -17,10 +17,9 @@ use Rattle.aci_lists.specs.kept.Holdings.{IsHeld}
 use Rattle.aci_lists.proofs.Theorems.{lists_at-set_other, lists_at-set_same}
 use Rattle.aci_index.specs.declared.anew.Remade.{Remade}
 use Rattle.aci_index.specs.declared.anew.Anew.{Anew}
-use Rattle.aci_index.specs.declared.anew.Reach.{Reach}
 use Rattle.aci_index.specs.Reach.{AreBelow, HaveRoom, IsAnew, IsPut, IsRemade, numbers_of, put_one, reached}
 use Rattle.aci_index.proofs.inserting.HeldLemmas.{lists-aside}
-use Rattle.aci_index.proofs.anew.NumberLemmas.{below-scoped}
+use Rattle.aci_index.proofs.anew.ReachedLemmas.{below-reached}
 
 -- what holds of the lists of a number, or of those that were made of it, holds of them when these are put
 put-all : (P : Lists → Type 0) (id : ℕ) (list : List Remade) (kept : List Kept) → HaveRoom list (length kept)
@@ -54,10 +53,10 @@ StandAside id ids new one other =
     (number : ℕ) (entry : EntryInformation) → entry_of number new ≡ Some entry → AllByRecursion (λ reached. reached ≢ number) ids
     → (number ≢ id) × IsAside entry one other
 
-pub held-anew : (reach : Reach) (id : ℕ) (rows new : List Numbered) (one other : Option EntryInformation) (held made : Holdings) (anew : Anew)
-    → IsNumberedTree rows → IsNumberedTree new → IsChangeOf id rows new one other → StandAside id (reached reach id new) new one other
-    → IsHeld held rows → IsAnew reach id anew new → HaveRoom anew.lists.items (length held.lists.items) → IsPut anew held made → IsHeld made new
-held-anew reach id rows new one other held made anew tree also change aside is are room put = record {
+pub held-anew : (from to id : ℕ) (rows new : List Numbered) (one other : Option EntryInformation) (held made : Holdings) (anew : Anew)
+    → IsNumberedTree rows → IsNumberedTree new → IsChangeOf id rows new one other → StandAside id (reached from to new) new one other
+    → IsHeld held rows → IsAnew from to anew new → HaveRoom anew.lists.items (length held.lists.items) → IsPut anew held made → IsHeld made new
+held-anew from to id rows new one other held made anew tree also change aside is are room put = record {
   subtrees = subst (λ (list : List AccessSubentry). AreSubtrees list new) (sym put.subtrees) are.subtrees;
   lists = λ number entry there.
       subst (λ (kept : List Kept). AreOf new entry (lists_at kept number)) (sym put.lists)
@@ -74,7 +73,7 @@ rooms : (bound : ℕ) (list : List Remade) → AllByRecursion (λ id. id < bound
 rooms bound [] h = tt
 rooms bound (one ∷ list) h = (h.0, rooms bound list h.1)
 
-pub room-anew : (reach : Reach) (id bound : ℕ) (anew : Anew) (rows : List Numbered) → AreBelow bound rows → IsAnew reach id anew rows → HaveRoom anew.lists.items bound
-room-anew reach id bound anew rows below are =
+pub room-anew : (from to bound : ℕ) (anew : Anew) (rows : List Numbered) → AreBelow bound rows → IsAnew from to anew rows → HaveRoom anew.lists.items bound
+room-anew from to bound anew rows below are =
     rooms bound anew.lists.items
-    (subst (λ (ids : List ℕ). AllByRecursion (λ number. number < bound) ids) (sym are.numbers) (below-scoped bound _ rows below))
+    (subst (λ (ids : List ℕ). AllByRecursion (λ number. number < bound) ids) (sym are.numbers) (below-reached bound from to rows below))

@@ -13,7 +13,7 @@ use Rattle.dir_tree.proofs.TreeTheorems.{length-same, prefix_same}
 use Rattle.acdf_filters.specs.admin_scope.Areas.{is_access_point}
 use Rattle.acdf_filters.specs.admin_scope.InForce.{subtree_holds, applies, reaches}
 use Rattle.acdf_filters.proofs.admin_scope_proofs.Theorems.{prefix_chain, same_fronts}
-use Rattle.aci_index.specs.Aside.{is_point_over, point_over, IsNeverInForce, IsAside, IsBeside, IsSamePoint, IsUnder}
+use Rattle.aci_index.specs.Aside.{is_point_over, point_over, IsNeverInForce, IsAside, IsBeside, IsSamePoint, IsUnderOther}
 
 -- no access control subentry is in force
 never_ordinary : (entry one : EntryInformation) → is_access_subentry one ≡ false → IsNeverInForce entry one
@@ -71,12 +71,11 @@ aside-same entry one other h =
     }
 
 -- an entry immediately below a name is below it
-outside_under : (entry : EntryInformation) (top : RdnSequence) → is_within top entry ≡ false → (one : EntryInformation)
-    → IsUnder top one → is_within one.name entry ≡ false
-outside_under entry top outside one under =
-    let parts = and_parts (is_prefix_of top one.name) (length one.name == length top + 1) under in
+outside_under : (entry one : EntryInformation) → IsUnderOther entry one → is_within one.name entry ≡ false
+outside_under entry one h =
+    let parts = and_parts (is_prefix_of h.top one.name) (length one.name == length h.top + 1) h.under in
     false_from_ne_true (is_within one.name entry)
-    (λ e. let clash = sym outside ∙ prefix_chain top one.name entry.name parts.0 e in absurd cc)
+    (λ e. let clash = sym h.outside ∙ prefix_chain h.top one.name entry.name parts.0 e in absurd cc)
 
 -- and the names that it is immediately below are the same
 same_superior : (x y name : RdnSequence) → is_prefix_of x name ≡ true → (length name == length x + 1) ≡ true
@@ -86,19 +85,17 @@ same_superior x y name e f g h =
     let other = eqb-true (length name) (length y + 1) h in
     same_fronts x y name e g (omega (arith, one, other))
 
-never_under : (entry : EntryInformation) (top : RdnSequence) → is_within top entry ≡ false → (one : EntryInformation)
-    → IsUnder top one → IsNeverInForce entry one
-never_under entry top outside one under = λ point within.
+never_under : (entry one : EntryInformation) → IsUnderOther entry one → IsNeverInForce entry one
+never_under entry one h = λ point within.
     false_from_ne_true (reaches point one entry) (λ e.
     let child = and_parts (is_child point.name one) (applies point one entry) e in
     let parts = and_parts (is_prefix_of point.name one.name) (length one.name == length point.name + 1) child.0 in
-    let own = and_parts (is_prefix_of top one.name) (length one.name == length top + 1) under in
-    let same = same_superior top point.name one.name own.0 own.1 parts.0 parts.1 in
-    let clash : false ≡ true = sym outside ∙ prefix_same top point.name entry.name same ∙ within in
+    let own = and_parts (is_prefix_of h.top one.name) (length one.name == length h.top + 1) h.under in
+    let same = same_superior h.top point.name one.name own.0 own.1 parts.0 parts.1 in
+    let clash : false ≡ true = sym h.outside ∙ prefix_same h.top point.name entry.name same ∙ within in
     absurd cc)
 
--- entries immediately below a name that the entry is neither at nor below
-pub aside-under : (entry : EntryInformation) (top : RdnSequence) (one other : Option EntryInformation)
-    → is_within top entry ≡ false → IfSome one (IsUnder top) → IfSome other (IsUnder top) → IsAside entry one other
-aside-under entry top one other outside h k =
-    aside_apart (IsUnder top) entry (outside_under entry top outside) (never_under entry top outside) one other h k
+-- entries immediately below names that the entry is neither at nor below
+pub aside-under : (entry : EntryInformation) (one other : Option EntryInformation) → IfSome one (IsUnderOther entry)
+    → IfSome other (IsUnderOther entry) → IsAside entry one other
+aside-under entry = aside_apart (IsUnderOther entry) entry (outside_under entry) (never_under entry)

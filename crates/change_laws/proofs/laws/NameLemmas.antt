@@ -1,22 +1,28 @@
 -- The new name of a rename: its superior's as the superior's entry spells it, and the new RDN.
-use Rattle.std.proofs.Common.{◌≡◌, ◌≢◌, ℕ, ◌+◌, ◌-◌, ◌==◌, ◌≤◌, zero, suc, true, false, List, [], ◌∷◌, ◌++◌, length, take, reverse, if◌then◌else◌, Option, Some, None, Result, Ok, Err, refl, sym, ap, subst, ◌∙◌, length-append, arith}
+use Rattle.std.proofs.Common.{◌≡◌, ◌≢◌, inl, inr, ℕ, ◌+◌, ◌-◌, ◌==◌, ◌<◌, ◌≤◌, suc, true, false, not, List, [], ◌∷◌, ◌++◌, length, take, reverse, if◌then◌else◌, Option, Some, None, Result, Ok, Err, refl, sym, ap, subst, ◌∙◌, length-append, arith}
+use Rattle.std.specs.Prelude.{unwrap_or}
 use Rattle.std.specs.List.{AllByRecursion}
 use Rattle.std.specs.Option.{option_map_or}
+use Rattle.std.proofs.lemmas.Bool.{cond_both, not-false, or_cases, or_left, or_right, true≢false}
 use Rattle.std.proofs.lemmas.Bool.Decides.{nat_tests}
 use Rattle.std.proofs.lemmas.List.{length-reverse, take_at}
 use Rattle.dir_tree.specs.dn_names.declared.error.BadName.{BadName}
 use Rattle.dir_tree.specs.dn_names.declared.error.BadName.TheVariants.{TooMany}
 use Rattle.dir_tree.specs.dn_names.name.Names.{RdnSequence}
 use Rattle.dir_tree.specs.dn_names.NameOrder.{is_same}
-use Rattle.dir_tree.specs.dn_names.parsing.NameText.{RdnText, read_rdn}
-use Rattle.dir_tree.specs.dn_names.name.GoodNames.{IsGoodRdn, IsGoodName}
+use Rattle.dir_tree.specs.dn_names.parsing.NameText.{RdnText}
+use Rattle.dir_tree.specs.dn_names.name.GoodNames.{IsGoodName}
 use Rattle.dir_tree.specs.dn_names.Spelling.{WrittenPair}
 use Rattle.dir_tree.specs.dn_names.Resolving.{and_then, rdn_from, rdns_from, from_root, resolve_rdn}
 use Rattle.dir_tree.proofs.dn_names_proofs.Theorems.{IsGoodName-from_RdnText, RdnText-read_rdn, IsGoodName-append}
 use Rattle.dir_tree.specs.Entry.{EntryInformation}
-use Rattle.dir_tree.specs.tree.Trees.{named_in, superior_name}
-use Rattle.dir_tree.proofs.TreeTheorems.{length-same, length-superior as length-superior_name, filled, same_itself, same_back, all_named as found_all, found_same}
-use Rattle.op_modify.specs.Renames.{above_in}
+use Rattle.dir_tree.specs.tree.Trees.{is_named, named_in, has_name, superior_name, lacks_superior, taken_out}
+use Rattle.dir_tree.proofs.TreeTheorems.{length-same, length-superior as length-superior_name, filled, same_itself, same_back, same_like, same_over, has_name_like, has_superior, none_named, all_named as found_all, found_same}
+use Rattle.ldap_msg.specs.declared.kinds.RenameRequest.{RenameRequest}
+use Rattle.op_modify.specs.declared.renaming.Renaming.{Renaming}
+use Rattle.op_modify.specs.ReadRenames.{above}
+use Rattle.op_modify.specs.Renames.{spelled_in, new_name}
+use Rattle.change_laws.proofs.laws.RenamingLemmas.{IsRead}
 
 -- what reads two parts reads each
 both_read :
@@ -55,33 +61,20 @@ one_rdn_of name text (written, spells, is) =
       | false ↦ λ one is. absurd cc
     ]) refl is
 
--- what holds of each RDN holds of those in front
-all_take : {X : Type 0} (P : X → Type 0) (count : ℕ) (xs : List X) → AllByRecursion P xs → AllByRecursion P (take count xs)
-all_take P zero xs all = tt
-all_take P (suc count) [] all = tt
-all_take P (suc count) (x ∷ xs) all = (all.0, all_take P count xs all.1)
+-- the superior's part is the superior's name as its entry spells it, and good
+same-spelled :
+    (name : RdnSequence) (entries : List EntryInformation) (found : Option EntryInformation) → named_in name entries ≡ found
+    → is_same (option_map_or (λ entry. entry.name) found name) name ≡ true
+same-spelled name entries None is = same_itself name
+same-spelled name entries (Some superior) is = same_back name superior.name (found_same name superior entries is)
 
-good-superior_name : (name : RdnSequence) → IsGoodName name → IsGoodName (superior_name name)
-good-superior_name name good = record {
-  fits = omega (arith, good.fits, length-superior_name name);
-  good = all_take IsGoodRdn (length name - 1) name good.good;
-}
-
--- the superior's part is the superior's name, and good
-same-above :
-    (name : RdnSequence) (entries : List EntryInformation) (found : Option EntryInformation) → named_in (superior_name name) entries ≡ found
-    → is_same (option_map_or (λ entry. entry.name) found (superior_name name)) (superior_name name) ≡ true
-same-above name entries None is = same_itself (superior_name name)
-same-above name entries (Some above) is =
-    same_back (superior_name name) above.name (found_same (superior_name name) above entries is)
-
-good-above :
-    (name : RdnSequence) (entries : List EntryInformation) (found : Option EntryInformation) → named_in (superior_name name) entries ≡ found
-    → AllByRecursion (λ entry. IsGoodName entry.name) entries → IsGoodName name
-    → IsGoodName (option_map_or (λ entry. entry.name) found (superior_name name))
-good-above name entries None is all good = good-superior_name name good
-good-above name entries (Some above) is all good =
-    found_all (λ entry. IsGoodName entry.name) (superior_name name) above entries all is
+good-spelled :
+    (name : RdnSequence) (entries : List EntryInformation) (found : Option EntryInformation) → named_in name entries ≡ found
+    → has_name name entries ≡ true → AllByRecursion (λ entry. IsGoodName entry.name) entries
+    → IsGoodName (option_map_or (λ entry. entry.name) found name)
+good-spelled name entries None is has all = absurd (true≢false (sym has ∙ none_named (is_named name) entries is))
+good-spelled name entries (Some superior) is has all =
+    found_all (λ entry. IsGoodName entry.name) name superior entries all is
 
 -- the last of one RDN is cut off
 superior_name-join : (above rdn : RdnSequence) → length rdn ≡ 1 → superior_name (above ++ rdn) ≡ above
@@ -89,24 +82,60 @@ superior_name-join above rdn one =
     let long : length (above ++ rdn) - 1 ≡ length above = omega (arith, one, length-append above rdn) in
     ap (λ count. take count (above ++ rdn)) long ∙ take_at above rdn (length above) refl
 
+-- another may stand below the superior
+above-room :
+    (name : RdnSequence) (superior : Option RdnSequence) → ((new : RdnSequence) → superior ≡ Some new → length new < 64)
+    → length name ≤ 64 → name ≢ [] → length (unwrap_or superior (superior_name name)) < 64
+above-room name None room fits some = omega (arith, fits, length-superior_name name, filled name some)
+above-room name (Some new) room fits some = room new refl
+
+-- a name that is there and isn't the one that is taken out is left
+left_there :
+    (name gone : RdnSequence) (entries : List EntryInformation) → is_same name gone ≡ false → has_name name entries ≡ true
+    → has_name name (taken_out gone entries) ≡ true
+left_there name gone [] other here = absurd cc
+left_there name gone (first ∷ rest) other here = elim (or_cases (is_named name first) (has_name name rest) here) [
+  | inl is ↦ cond_both (not (is_named gone first)) (first ∷ taken_out gone rest) (taken_out gone rest) (λ left. has_name name left ≡ true)
+      (λ _. or_left (is_named name first) (has_name name (taken_out gone rest)) is)
+      (λ out. absurd (true≢false (sym (same_over name first.name gone is (same_back gone first.name (not-false (is_named gone first) out))) ∙ other)))
+  | inr later ↦ cond_both (not (is_named gone first)) (first ∷ taken_out gone rest) (taken_out gone rest) (λ left. has_name name left ≡ true)
+      (λ _. or_right (is_named name first) (has_name name (taken_out gone rest)) (left_there name gone rest other later))
+      (λ _. left_there name gone rest other later)
+]
+
 -- what the new name is
-pub record IsNewName (old new : RdnSequence) : Type 0 where
+pub record IsNewName (entries : List EntryInformation) (old new : RdnSequence) : Type 0 where
   pub some : new ≢ []
   pub good : IsGoodName new
-  pub under : is_same (superior_name new) (superior_name old) ≡ true
+  pub under : lacks_superior new (taken_out old entries) ≡ false
 
-pub IsNewName-read :
-    (entries : List EntryInformation) (name rdn : RdnSequence) (text : List ℕ) → AllByRecursion (λ entry. IsGoodName entry.name) entries
-    → name ≢ [] → IsGoodName name → read_rdn text ≡ Ok rdn → IsNewName name (above_in entries name ++ rdn)
-IsNewName-read entries name rdn text all named good read =
-    let above = above_in entries name in
-    let spelled = RdnText-read_rdn rdn text read in
-    let one = one_rdn_of rdn text spelled in
-    let same = same-above name entries (named_in (superior_name name) entries) refl in
-    let long = length-same above (superior_name name) same ∙ length-superior_name name in
-    record {
-      some = λ none. omega (arith, ap length none, length-append above rdn, one);
-      good = IsGoodName-append above rdn (good-above name entries (named_in (superior_name name) entries) refl all good)
-          (IsGoodName-from_RdnText rdn text spelled) (omega (arith, long, one, good.fits, filled name named));
-      under = subst (λ superior. is_same superior (superior_name name) ≡ true) (sym (superior_name-join above rdn one)) same;
-    }
+module _ (entries : List EntryInformation) (request : RenameRequest) (renaming : Renaming) (target : EntryInformation)
+    (all : AllByRecursion (λ entry. IsGoodName entry.name) entries) (named : renaming.name ≢ []) (found : named_in renaming.name entries ≡ Some target)
+    (read : IsRead request renaming) (apart : is_same (above renaming) target.name ≡ false) (has : has_name (above renaming) entries ≡ true) where
+  same : is_same (spelled_in entries (above renaming)) (above renaming) ≡ true
+  same = same-spelled (above renaming) entries (named_in (above renaming) entries) refl
+
+  fits : length renaming.name ≤ 64
+  fits =
+      let long = length-same renaming.name target.name (found_same renaming.name target entries found) in
+      let good = found_all (λ entry. IsGoodName entry.name) renaming.name target entries all found in
+      omega (arith, long, good.fits)
+
+  pub IsNewName-read : IsNewName entries target.name (new_name entries renaming)
+  IsNewName-read =
+      let superior = spelled_in entries (above renaming) in
+      let text = RdnText-read_rdn renaming.rdn request.new_rdn read.rdn_read in
+      let one = one_rdn_of renaming.rdn request.new_rdn text in
+      let long = length-same superior (above renaming) same in
+      let room = above-room renaming.name renaming.superior read.room fits named in
+      let other : is_same superior target.name ≡ false = same_like superior (above renaming) target.name same ∙ apart in
+      let there : has_name superior entries ≡ true = has_name_like superior (above renaming) entries same ∙ has in
+      record {
+        some = λ none. omega (arith, ap length none, length-append superior renaming.rdn, one);
+        good = IsGoodName-append superior renaming.rdn (good-spelled (above renaming) entries (named_in (above renaming) entries) refl has all)
+            (IsGoodName-from_RdnText renaming.rdn request.new_rdn text) (omega (arith, long, room, one));
+        under =
+            has_superior (superior ++ renaming.rdn) (taken_out target.name entries)
+            (subst (λ name. has_name name (taken_out target.name entries) ≡ true) (sym (superior_name-join superior renaming.rdn one))
+            (left_there superior target.name entries other there));
+      }

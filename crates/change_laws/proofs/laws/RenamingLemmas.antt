@@ -1,74 +1,45 @@
--- What is read of a rename request: names, of which the new superior's is the present one's where one is given.
-use Rattle.std.proofs.Common.{◌≡◌, ◌≢◌, ℕ, ◌==◌, Bool, false, List, [], ◌∷◌, length, Option, Some, None, Result, Ok, Err, refl, sym, ap, subst, arith}
+-- What is read of a rename request: an RDN, and a new superior below which another may stand.
+use Rattle.std.proofs.Common.{◌≡◌, ◌≢◌, ◌⊎◌, inl, inr, ℕ, ◌<◌, ◌==◌, true, false, List, [], ◌∷◌, length, Option, Some, None, Result, Ok, Err, if◌then◌else◌, refl, sym, ap, subst, ◌∙◌, arith}
+use Rattle.std.specs.Prelude.{nat_lt}
 use Rattle.std.specs.Option.{option_map, option_and_then}
 use Rattle.std.specs.Result.{result_ok}
-use Rattle.std.proofs.lemmas.Bool.{not-false, not_from_true}
+use Rattle.std.proofs.lemmas.Bool.{cases_Bool, cond-true, cond-false, ltb-true}
 use Rattle.std.proofs.lemmas.Bool.Decides.{nat_tests}
+use Rattle.std.proofs.lemmas.Option.{same_Some}
 use Rattle.dir_tree.specs.dn_names.name.Names.{RdnSequence}
+use Rattle.dir_tree.specs.dn_names.NameOrder.{is_same}
 use Rattle.dir_tree.specs.dn_names.parsing.NameText.{read_name, read_rdn}
 use Rattle.dir_tree.specs.dn_names.declared.error.BadName.{BadName}
 use Rattle.dir_tree.specs.Entry.{EntryInformation}
+use Rattle.dir_tree.specs.tree.Trees.{superior_name}
 use Rattle.acdf_filters.specs.declared.asking.Requester.{Requester}
 use Rattle.ldap_msg.specs.declared.operations.ResultCode.TheVariants as code
 use Rattle.ldap_msg.specs.declared.kinds.RenameRequest.{RenameRequest}
 use Rattle.op_add_delete.specs.read_model.Views.{result_of}
 use Rattle.op_add_delete.specs.adding.Updates.{Changed, refused}
-use Rattle.op_modify.specs.Renames.{read_superior, read_renaming, moves, renamed_target, renamed_by, renamed}
-use Rattle.change_laws.specs.ChangeGranting.{IsSuperiorText, StaysBelow}
-
--- a rename of the entry that was found, and one that was read, by their parts
-abbrev pub renamed_found : List EntryInformation → Requester → RdnSequence → RdnSequence → Bool → Option RdnSequence → Option EntryInformation → Changed
-renamed_found entries who name rdn delete_old superior found =
-    renamed_target entries who (record { name = name; rdn = rdn; delete_old = delete_old; superior = superior }) found
-
-abbrev pub renamed_read : List EntryInformation → Requester → RdnSequence → RdnSequence → Bool → Option RdnSequence → Changed
-renamed_read entries who name rdn delete_old superior =
-    renamed_by entries who (Some (record { name = name; rdn = rdn; delete_old = delete_old; superior = superior }))
+use Rattle.op_modify.specs.declared.renaming.Renaming.{Renaming}
+use Rattle.op_modify.specs.ReadRenames.{with_room, read_superior, new_superior, read_renaming}
+use Rattle.op_modify.specs.Renames.{renamed_by, renamed}
 
 -- what holds of the refusal of a request that isn't read, and of each that is, holds of all
-module _ (P : Changed → Type 0) (entries : List EntryInformation) (who : Requester) (request : RenameRequest)
-    (bad : P (refused entries (result_of code.InvalidDnSyntax))) where
-  by_superior :
-      (name rdn : RdnSequence) (found : Option (Option RdnSequence))
-      → ((superior : Option RdnSequence) → found ≡ Some superior → P (renamed_read entries who name rdn request.delete_old superior))
-      → P (renamed_by entries who (option_map (λ superior. record { name = name; rdn = rdn; delete_old = request.delete_old; superior = superior }) found))
-  by_superior name rdn None go = bad
-  by_superior name rdn (Some superior) go = go superior refl
-
-  by_rdn :
-      (name : RdnSequence) (found : Result RdnSequence BadName)
-      → ((rdn : RdnSequence) (superior : Option RdnSequence) → found ≡ Ok rdn → read_superior request.superior ≡ Some superior
-      → P (renamed_read entries who name rdn request.delete_old superior))
-      → P (renamed_by entries who (option_and_then (λ rdn. option_map
-      (λ superior. record { name = name; rdn = rdn; delete_old = request.delete_old; superior = superior })
-      (read_superior request.superior)) (result_ok found)))
-  by_rdn name (Err fault) go = bad
-  by_rdn name (Ok rdn) go = by_superior name rdn (read_superior request.superior) (λ superior. go rdn superior refl)
-
-  by_name :
-      (found : Result RdnSequence BadName)
-      → ((name rdn : RdnSequence) (superior : Option RdnSequence) → found ≡ Ok name → read_rdn request.new_rdn ≡ Ok rdn
-      → read_superior request.superior ≡ Some superior → P (renamed_read entries who name rdn request.delete_old superior))
-      → P (renamed_by entries who (option_and_then (λ name. option_and_then (λ rdn. option_map
-      (λ superior. record { name = name; rdn = rdn; delete_old = request.delete_old; superior = superior })
-      (read_superior request.superior)) (result_ok (read_rdn request.new_rdn))) (result_ok found)))
-  by_name (Err fault) go = bad
-  by_name (Ok name) go = by_rdn name (read_rdn request.new_rdn) (λ rdn superior. go name rdn superior refl)
-
-  pub by_reading :
-      ((name rdn : RdnSequence) (superior : Option RdnSequence) → read_name request.name ≡ Ok name → read_rdn request.new_rdn ≡ Ok rdn
-      → read_superior request.superior ≡ Some superior → P (renamed_read entries who name rdn request.delete_old superior))
-      → P (renamed entries who request)
-  unfolding renamed read_renaming
-  by_reading go = by_name (read_name request.name) go
+pub by_reading :
+    (P : Changed → Type 0) (entries : List EntryInformation) (who : Requester) (request : RenameRequest)
+    → P (refused entries (result_of code.InvalidDnSyntax))
+    → ((renaming : Renaming) → read_renaming request ≡ Some renaming → P (renamed_by entries who (Some renaming)))
+    → P (renamed entries who request)
+unfolding renamed
+by_reading P entries who request bad go = by (read_renaming request) refl
+  where
+    by : (found : Option Renaming) → read_renaming request ≡ found → P (renamed_by entries who found)
+    by None is = bad
+    by (Some renaming) is = go renaming is
 
 -- a request that is read is renamed so
 pub renamed-read :
-    (entries : List EntryInformation) (who : Requester) (request : RenameRequest) (name rdn : RdnSequence) (superior : Option RdnSequence)
-    → read_name request.name ≡ Ok name → read_rdn request.new_rdn ≡ Ok rdn → read_superior request.superior ≡ Some superior
-    → renamed entries who request ≡ renamed_read entries who name rdn request.delete_old superior
-unfolding renamed read_renaming
-renamed-read entries who request name rdn superior name_is rdn_is superior_is = rw (name_is, rdn_is, superior_is) refl
+    (entries : List EntryInformation) (who : Requester) (request : RenameRequest) (renaming : Renaming)
+    → read_renaming request ≡ Some renaming → renamed entries who request ≡ renamed_by entries who (Some renaming)
+unfolding renamed
+renamed-read entries who request renaming is = ap (renamed_by entries who) is
 
 -- the name is not empty
 pub some_rdns : (name : RdnSequence) → (length name == 0) ≡ false → name ≢ []
@@ -79,36 +50,76 @@ pub no_empty : (name : RdnSequence) → name ≢ [] → (length name == 0) ≡ f
 no_empty [] some = absurd (some refl)
 no_empty (rdn ∷ rdns) some = grind (arith, nat_tests)
 
--- the superior stays
-pub stays-read :
-    (name : RdnSequence) (given : Option (List ℕ)) (superior : Option RdnSequence) → read_superior given ≡ Some superior
-    → moves name superior ≡ false → StaysBelow name given
-stays-read name None superior read stays = tt
-stays-read name (Some text) superior read stays = superior_read (read_name text) refl read
+-- a superior that is new was given
+given_superior :
+    (name : RdnSequence) (given : Option RdnSequence) (superior : RdnSequence) → new_superior name given ≡ Some superior
+    → given ≡ Some superior
+given_superior name None superior is = absurd cc
+given_superior name (Some given) superior is =
+    (elim (is_same (superior_name name) given) as (λ same. (if same then None else Some given) ≡ Some superior → Some given ≡ Some superior) [
+      | true ↦ λ (is : None ≡ Some superior). absurd cc
+      | false ↦ λ is. is
+    ]) is
+
+-- below one that is given another may stand
+room_found :
+    (found : Option RdnSequence) (superior : RdnSequence)
+    → option_map (λ name. Some name) (option_and_then with_room found) ≡ Some (Some superior) → length superior < 64
+room_found None superior is = absurd cc
+room_found (Some name) superior is = by (cases_Bool (nat_lt (length name) 64))
   where
-    superior_read :
-        (found : Result RdnSequence BadName) → read_name text ≡ found
-        → option_map (λ name. Some name) (result_ok found) ≡ Some superior → IsSuperiorText name text
-    superior_read (Err fault) is read = absurd cc
-    superior_read (Ok above) is read = record {
-      superior = above;
-      superior_read = is;
-      same = (let one : Some above ≡ superior = cc in not-false _ (subst (λ superior. moves name superior ≡ false) (sym one) stays));
-    }
+    by : ((nat_lt (length name) 64 ≡ true) ⊎ (nat_lt (length name) 64 ≡ false)) → length superior < 64
+    by (inl e) =
+        let kept = ap (option_map (λ (name : RdnSequence). Some name)) (cond-true (nat_lt (length name) 64) (Some name) None e) in
+        let both : Some (Some name) ≡ Some (Some superior) = sym kept ∙ is in
+        let same : name ≡ superior = same_Some name superior (same_Some (Some name) (Some superior) both) in
+        subst (λ (name : RdnSequence). length name < 64) same (ltb-true (length name) 64 e)
+    by (inr e) =
+        let none = ap (option_map (λ (name : RdnSequence). Some name)) (cond-false (nat_lt (length name) 64) (Some name) None e) in
+        let clash : None ≡ Some (Some superior) = sym none ∙ is in
+        absurd cc
 
--- the one that a request gives
-abbrev pub superior_of : (name : RdnSequence) (given : Option (List ℕ)) → StaysBelow name given → Option RdnSequence
-superior_of name None stays = None
-superior_of name (Some text) stays = Some stays.superior
+room_given :
+    (given : Option (List ℕ)) (superior : RdnSequence) → read_superior given ≡ Some (Some superior) → length superior < 64
+room_given None superior is = absurd cc
+room_given (Some text) superior is = room_found (result_ok (read_name text)) superior is
 
-pub read-superior_of :
-    (name : RdnSequence) (given : Option (List ℕ)) (stays : StaysBelow name given)
-    → read_superior given ≡ Some (superior_of name given stays)
-read-superior_of name None stays = refl
-read-superior_of name (Some text) stays = ap (λ found. option_map (λ (name : RdnSequence). Some name) (result_ok found)) stays.superior_read
+-- what is read is an RDN, and below a new superior another may stand
+pub record IsRead (request : RenameRequest) (renaming : Renaming) : Type 0 where
+  pub rdn_read : read_rdn request.new_rdn ≡ Ok renaming.rdn
+  pub room : (superior : RdnSequence) → renaming.superior ≡ Some superior → length superior < 64
 
-pub moves-superior_of :
-    (name : RdnSequence) (given : Option (List ℕ)) (stays : StaysBelow name given)
-    → moves name (superior_of name given stays) ≡ false
-moves-superior_of name None stays = refl
-moves-superior_of name (Some text) stays = not_from_true _ stays.same
+module _ (request : RenameRequest) (renaming : Renaming) where
+  by_superior :
+      (name rdn : RdnSequence) (found : Option (Option RdnSequence)) → read_rdn request.new_rdn ≡ Ok rdn → read_superior request.superior ≡ found
+      → option_map (λ given. record { name = name; rdn = rdn; delete_old = request.delete_old; superior = new_superior name given }) found ≡ Some renaming
+      → IsRead request renaming
+  by_superior name rdn None rdn_is given_is is = absurd cc
+  by_superior name rdn (Some given) rdn_is given_is is =
+      let one : Renaming = record { name = name; rdn = rdn; delete_old = request.delete_old; superior = new_superior name given } in
+      subst (IsRead request) (same_Some one renaming is) (record {
+        rdn_read = rdn_is;
+        room = λ superior new. room_given request.superior superior (given_is ∙ ap (λ given. Some given) (given_superior name given superior new));
+      })
+
+  by_rdn :
+      (name : RdnSequence) (found : Result RdnSequence BadName) → read_rdn request.new_rdn ≡ found
+      → option_and_then (λ rdn. option_map
+      (λ given. record { name = name; rdn = rdn; delete_old = request.delete_old; superior = new_superior name given })
+      (read_superior request.superior)) (result_ok found) ≡ Some renaming
+      → IsRead request renaming
+  by_rdn name (Err fault) rdn_is is = absurd cc
+  by_rdn name (Ok rdn) rdn_is is = by_superior name rdn (read_superior request.superior) rdn_is refl is
+
+  by_name :
+      (found : Result RdnSequence BadName)
+      → option_and_then (λ name. option_and_then (λ rdn. option_map
+      (λ given. record { name = name; rdn = rdn; delete_old = request.delete_old; superior = new_superior name given })
+      (read_superior request.superior)) (result_ok (read_rdn request.new_rdn))) (result_ok found) ≡ Some renaming
+      → IsRead request renaming
+  by_name (Err fault) is = absurd cc
+  by_name (Ok name) is = by_rdn name (read_rdn request.new_rdn) refl is
+
+  pub IsRead-read : read_renaming request ≡ Some renaming → IsRead request renaming
+  unfolding read_renaming
+  IsRead-read is = by_name (read_name request.name) is

@@ -8,6 +8,6 @@ use Rattle.aci_index.proofs.anew.remake_below.Given as goal
 
 abbrev pub invariant-loop-number : goal.invariant-loop-number
 invariant-loop-number l = record {
-  numbers : numbers_of l.list.items ++ l.number-iterator ≡ scoped Sub l.fn.top.0 l.tree;
+  numbers : numbers_of l.list.items ++ l.number-iterator ≡ numbers_of l.fn.list.items ++ scoped Sub l.fn.top.0 l.tree;
   lists : AllByRecursion (IsRemade l.tree) l.list.items;
 }

@@ -6,7 +6,7 @@ use Rattle.dir_tree.proofs.TreeTheorems.{without-put_row}
 use Rattle.aci_index.proofs.laws.RowLemmas.{change-put}
 use Rattle.aci_lists.specs.kept.Holdings.{IsHeld}
 use Rattle.dir_tree.proofs.TreeTheorems.{new_removable}
-use Rattle.aci_index.specs.Reach.{IsAnew}
+use Rattle.aci_index.specs.Reach.{IsAnew, top_of}
 use Rattle.aci_index.specs.declared.anew.Reach.TheVariants.{Around}
 use Rattle.aci_index.proofs.inserting.HeldLemmas.{held-same}
 use Rattle.aci_index.proofs.anew.AnewLemmas.{held-anew}
@@ -27,12 +27,15 @@ returns-in-Ok-clause-held c =
     let entry = c.args.entry in
     let done = c.in_ok-number.ensures in
     let anew = c.in-Ok.anew in
+    let above = c.top-above.result.0 in
+    let new = put_entry number entry rows in
+    let top : c.top-above.result.0 ≡ top_of Around number (put_entry number entry rows) = c.top-above.ensures.exact ∙ ap (top_of Around number) done.ok in
     let also = subst IsNumberedTree done.ok c.entries_form_a_tree-2.ensures.exact in
     let before = held-same rows c.args.held.now c.make_anew_with_room.new.held c.requires.held c.in-Ok.ensures.stay in
     subst (λ (new : List Numbered). IsHeld c.put_anew.new.held new) (sym done.ok)
-    (held-anew Around number rows (put_entry number entry rows) None (Some entry) c.make_anew_with_room.new.held c.put_anew.new.held anew
-    c.entries_form_a_tree.ensures.exact also (change-put number entry rows done.free) (stand-put number entry rows also done.free c.requires.named)
-    before (subst (IsAnew Around number anew) done.ok c.in-Ok.ensures.ok) c.in-Ok.ensures.room c.put_anew.ensures.exact)
+    (held-anew above above number rows new None (Some entry) c.make_anew_with_room.new.held c.put_anew.new.held anew
+    c.entries_form_a_tree.ensures.exact also (change-put number entry rows done.free) (stand-put number above entry rows also done.free c.requires.named top)
+    before (subst (IsAnew above above anew) done.ok c.in-Ok.ensures.ok) c.in-Ok.ensures.room c.put_anew.ensures.exact)
 
 pub returns-in-Err-clause-kept : goal.returns-in-Err-clause-kept
 returns-in-Err-clause-kept c =

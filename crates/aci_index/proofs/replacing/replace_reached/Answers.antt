@@ -1,7 +1,7 @@
 use Rattle.std.proofs.Common.{List, sym, subst}
-use Rattle.dir_tree.specs.tree.Numbered.{Numbered, IsNumberedTree}
+use Rattle.dir_tree.specs.tree.Numbered.{Numbered, IsNumberedTree, put_entry, without}
 use Rattle.aci_lists.specs.kept.Holdings.{IsHeld}
-use Rattle.aci_index.specs.Reach.{IsAnew}
+use Rattle.aci_index.specs.Reach.{IsAnew, top_of}
 use Rattle.aci_index.proofs.replacing.ReplacedLemmas.{room-replaced, held-replaced}
 use Rattle.aci_index.proofs.replacing.replace_reached.Goals as goal
 
@@ -11,12 +11,14 @@ put_anew-requires c =
     let number = c.args.number.0 in
     let rows = c.args.tree.now in
     let done = c.in_ok-old.ensures in
-    let reach = c.reach_at.result in
+    let reach = c.reach_at-reach.result in
+    let from = c.top.result.0 in
+    let new = put_entry number c.args.entry (without number rows) in
     let anew = c.replace_read.new.reader.anew in
     record {
       room =
           room-replaced number c.in_ok-old.old c.args.entry rows c.entries_form_a_tree.ensures.exact done.found done.exact
-          reach _ anew c.requires.room (subst (IsAnew reach number anew) done.ok done.read);
+          from (top_of reach number new) _ anew c.requires.room (subst (λ (rows : List Numbered). IsAnew from (top_of reach number rows) anew rows) done.ok done.read);
     }
 
 -- what was made is of the tree as it is now, and all that is not reached stands aside
@@ -25,11 +27,12 @@ returns-clause-held c =
     let number = c.args.number.0 in
     let rows = c.args.tree.now in
     let done = c.in_ok-old.ensures in
-    let reach = c.reach_at.result in
+    let reach = c.reach_at-reach.result in
+    let from = c.top.result.0 in
     let anew = c.replace_read.new.reader.anew in
     let made = c.put_anew.new.held in
     let also = subst IsNumberedTree done.ok c.entries_form_a_tree-2.ensures.exact in
     subst (λ (new : List Numbered). IsHeld made new) (sym done.ok)
     (held-replaced number c.in_ok-old.old c.args.entry rows c.entries_form_a_tree.ensures.exact done.found done.exact
-    reach c.args.held.now made anew also c.reach_at.ensures.exact c.requires.held c.requires.room
-    (subst (IsAnew reach number anew) done.ok done.read) c.put_anew.ensures.exact)
+    reach from c.args.held.now made anew also c.reach_at-reach.ensures.exact c.top.ensures.exact c.requires.held c.requires.room
+    (subst (λ (rows : List Numbered). IsAnew from (top_of reach number rows) anew rows) done.ok done.read) c.put_anew.ensures.exact)

@@ -9,5 +9,5 @@ returns c =
     let keeps = c.changes_keep_attributes_good.ensures in
     record {
       modified = good-modified stays.same keeps.changed keeps.name;
-      renamed = good-renamed stays.renamed keeps.renamed keeps.called;
+      renamed = good-renamed stays.moved keeps.renamed keeps.called;
     }
