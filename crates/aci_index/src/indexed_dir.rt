@@ -94,7 +94,7 @@ impl IndexedDir {
         requires known { AreMemberships (entries_of self.now) who.now.name known.now }
         requires entry { entry_of number.0 self.now ≡ Some entry.now }
         ensures exact { result ≡ granted_after (entries_of self.now) who.now entry.now
-            addition.after.now addition.kind.0 addition.value.now }
+            addition.entry.after.now addition.entry.kind.0 addition.entry.value.now }
     {
         let question = Question {
             who,

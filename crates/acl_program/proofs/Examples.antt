@@ -58,7 +58,7 @@ three_turns = refl
 
 -- serving whose turns are spent, and one whose link doesn't open
 local : ServeAsked
-local = serve_asked (codes "127.0.0.1:3890") 2 10 []
+local = serve_asked (record { data_file = codes "d"; address = codes "127.0.0.1:3890"; sessions = 2; turns = 10; queues = 256; idle = 0; limit = 0 }) []
 
 spent_serving : text_of (Served local (LoopEnded ended.TurnsSpent)) ≡ codes "listening 127.0.0.1:3890\nturns spent\n"
 unfolding local text_of

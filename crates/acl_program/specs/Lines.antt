@@ -35,9 +35,10 @@ lines_of u = flat_map (λ conn. line_of conn (u.of conn).reply (is_away (u.of co
 abbrev pub heard_of : List ScriptEvent → ℕ → List Event
 heard_of events turns = take turns (pieces buffer_length events)
 
--- the sessions after those events over these entries, where each connection that closes is hung up at once
+-- the sessions after those events over these entries, where each connection that closes is hung up at once, and searches
+-- have no limit but their own
 abbrev pub replay_of : DirectoryEntries → List ScriptEvent → ℕ → Sessions DirectoryEntries Requester
-replay_of entries events turns = replayed rules entries (steps_of_events (heard_of events turns))
+replay_of entries events turns = replayed (rules 0) entries (steps_of_events (heard_of events turns))
 
 -- the text of a replay: the lines after them
 unfoldable pub replay_text : DirectoryEntries → List ScriptEvent → ℕ → List ℕ

@@ -42,7 +42,7 @@ pub record RefusesSample (words : List (List ℕ)) (line : ℕ) (cause : FileCau
 
 -- a sample has no more persons than words may ask for
 abbrev pub IsFew : CommandView → Type 0
-IsFew (Serve data_file address sessions turns) = Unit {0}
+IsFew (Serve serving) = Unit {0}
 IsFew (Replay data_file script turns dump) = Unit {0}
 IsFew (Check data_file) = Unit {0}
 IsFew (Dump data_file) = Unit {0}

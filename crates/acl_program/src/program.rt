@@ -15,7 +15,7 @@ use crate::data::{check, dump};
 use crate::explain::{Explaining, explain};
 use crate::replay::{Asked, replay};
 use crate::sample::sample;
-use crate::serve::{Serving, serve};
+use crate::serve::serve;
 use crate::status::Status;
 use crate::troubles::print_usage;
 use command_files::wire_io::{Link, Shelf, Sink};
@@ -33,9 +33,11 @@ use std::alloc::Global;
 /// searches for each of them, and puts how many entries there are, how many were sent, and how many replies say that there
 /// is no such object. These leave the link as it is.
 ///
-/// `serve DATA ADDRESS [--sessions N] [--turns N]` loads the data file, opens the link at the address, puts `listening
-/// ADDRESS`, and serves the link's connections until it gives Stop, at most N events. Where the link fails it puts `link
-/// fault`, and where the turns are spent `turns spent`. Other words put a line on how to call the program.
+/// `serve DATA ADDRESS [--sessions N] [--turns N] [--queues MIB] [--idle SECONDS] [--limit N]` loads the data file, tells
+/// the link after how many seconds of silence a connection ends, opens it at the address, puts `listening ADDRESS`, and
+/// serves the link's connections until it gives Stop, at most as many events as turns. No search is given more than so many
+/// entries, and a connection is closed that leaves untaken more than is left of so many MiB for all. Where the link fails it
+/// puts `link fault`, and where the turns are spent `turns spent`. Other words put a line on how to call the program.
 ///
 /// The data file is read before the script. A file that isn't there, or that the shelf can't read, puts `data fault`; a
 /// file that isn't accepted puts its first bad line.
@@ -125,23 +127,7 @@ fn perform<H: Shelf, K: Sink, L: Link>(
     ensures kept { H.files shelf.new ≡ H.files shelf.old }
 {
     match command {
-        Command::Serve {
-            data,
-            address,
-            sessions,
-            turns,
-        } => serve(
-            alloc,
-            &Serving {
-                data,
-                address,
-                sessions,
-                turns,
-            },
-            shelf,
-            out,
-            link,
-        ),
+        Command::Serve(serving) => serve(alloc, &serving, shelf, out, link),
         Command::Replay {
             data,
             script,

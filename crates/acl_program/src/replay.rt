@@ -20,7 +20,7 @@ use command_files::dir_tree::Tree;
 use command_files::wire_io::{ScriptLink, Shelf, Sink};
 use command_files::{load_data, load_script};
 use session_hub::laws::sessions_keep_a_directory_good;
-use session_hub::{Ended, serve_loop};
+use session_hub::{Bounds, Ended, serve_loop};
 use std::alloc::Global;
 
 /// What a replay is asked for: its two files, how many events are heard at most, and whether the tree is put.
@@ -143,7 +143,7 @@ fn serve(alloc: Global, dir: &mut IndexedDir, link: &mut ScriptLink, turns: u64)
     ensures good { IsGoodTree (entries_of dir.new) }
 {
     sessions_keep_a_directory_good();
-    serve_loop(alloc, dir, link, turns)
+    serve_loop(alloc, dir, link, turns, Bounds::NONE)
 }
 
 /// Prints the lines of all connections and the tree, and then ends so.

@@ -25,7 +25,7 @@ use command_files::data_file::{DataFault, load};
 use command_files::dir_tree::{NoMemory, Tree};
 use command_files::wire_io::{ScriptLink, Sink, write_all};
 use sample_input::{count_found, sample_events, sample_file};
-use session_hub::{Ended, serve_loop};
+use session_hub::{Bounds, Ended, serve_loop};
 use std::alloc::{AllocError, Global};
 
 /// How many events are heard at most.
@@ -112,7 +112,7 @@ fn serve_sample(alloc: Global, dir: &mut IndexedDir, link: &mut ScriptLink) -> R
     ensures sends { (count : ℕ) → link.old ≡ fresh_link (sample_events count) [] [] [] → OnOk result
         (taken_of 1 link.new.journal ≡ sample_replies (entries_of dir.old) count) }
 {
-    match serve_loop(alloc, dir, link, TURNS) {
+    match serve_loop(alloc, dir, link, TURNS, Bounds::NONE) {
         Ended::Stopped => Ok(()),
         Ended::TurnsSpent => Ok(()),
         Ended::LinkFault => Err(AllocError),

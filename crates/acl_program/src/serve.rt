@@ -1,14 +1,15 @@
 //! The command `serve`: a data file's tree served over the link's connections.
 
-ghost use Rattle.std.specs.Prelude.{◌≡◌, ℕ, List, IfOk, string_bytes};
-ghost use Rattle.command_words.specs.command.Command.{Serve};
+ghost use Rattle.std.specs.Prelude.{◌≡◌, List, IfOk, string_bytes};
+ghost use Rattle.command_words.specs.command.Command.{Serve, serving_view};
+ghost use Rattle.command_files.specs.dir_tree.Entry.{EntryInformation};
 ghost use Rattle.command_files.specs.dir_tree.tree.Numbered.{entries_of};
 ghost use Rattle.command_files.specs.wire_io.Putting.{PutsAll, PutCause};
 ghost use Rattle.acl_program.specs.serve.Listening.{Listens, ListensOn, ServesOpened};
 ghost use Rattle.acl_program.specs.Outcomes.{Served};
 ghost use Rattle.acl_program.specs.program.Outside.{Shelved, beside, linked, outside, written};
 ghost use Rattle.acl_program.specs.program.Playing.{Ends, Performs};
-ghost use Rattle.acl_program.specs.serve.Serving.{NotOpened, ServeAsked, ended_text, listening_text, loop_status, serve_asked};
+ghost use Rattle.acl_program.specs.serve.Serving.{NotOpened, Opens, ServeAsked, ended_text, listening_text, loop_status, serve_asked};
 
 use crate::status::Status;
 use crate::troubles::print_trouble;
@@ -16,18 +17,9 @@ use aci_index::IndexedDir;
 use command_files::dir_tree::Tree;
 use command_files::load_data;
 use command_files::wire_io::{Link, NextFault, PutFault, Shelf, Sink, write_all};
-use session_hub::{Ended, serve_loop};
+use command_words::Serving;
+use session_hub::{Bounds, Ended, serve_loop};
 use std::alloc::{AllocError, Global};
-
-/// What serving is asked for: its data file, the address, after how many connections the link stops, never with 0, and
-/// how many events are heard at most.
-#[derive(Clone, Copy, Debug)]
-pub(crate) struct Serving<'a> {
-    pub(crate) data: &'a str,
-    pub(crate) address: &'a str,
-    pub(crate) sessions: u64,
-    pub(crate) turns: u64,
-}
 
 /// Loads the data file, opens the link, prints that it listens, and serves the tree until the link gives Stop or so many
 /// events were heard. Where the link fails, or the turns are spent, a line says so.
@@ -38,8 +30,7 @@ pub(crate) fn serve<H: Shelf, K: Sink, L: Link>(
     out: &mut K,
     link: &mut L,
 ) -> Status
-    ensures performs { Performs
-        (Serve asked.now.data.now asked.now.address.now asked.now.sessions asked.now.turns)
+    ensures performs { Performs (Serve (serving_view asked.now))
         (outside (H.files shelf.old) (H.faults shelf.old) (K.put out.old) (K.faults out.old)
         (linked (L.journal link.old) (L.plan link.old) (L.faults link.old) (L.lost link.old))) result
         (outside (H.files shelf.new) (H.faults shelf.new) (K.put out.new) (K.faults out.new)
@@ -61,7 +52,7 @@ fn listen<K: Sink, L: Link>(
     link: &mut L,
 ) -> Status
     ensures listens { (shelf : Shelved) → Listens
-        (serve_asked asked.now.address.now asked.now.sessions asked.now.turns (entries_of tree))
+        (serve_asked (serving_view asked.now) (entries_of tree))
         (beside shelf (written (K.put out.old) (K.faults out.old))
         (linked (L.journal link.old) (L.plan link.old) (L.faults link.old) (L.lost link.old))) result
         (beside shelf (written (K.put out.new) (K.faults out.new))
@@ -82,17 +73,27 @@ fn listen_on<K: Sink, L: Link>(
     link: &mut L,
 ) -> Status
     ensures listens { (shelf : Shelved) → Listens
-        (serve_asked asked.now.address.now asked.now.sessions asked.now.turns (entries_of dir))
+        (serve_asked (serving_view asked.now) (entries_of dir))
         (beside shelf (written (K.put out.old) (K.faults out.old))
         (linked (L.journal link.old) (L.plan link.old) (L.faults link.old) (L.lost link.old))) result
         (beside shelf (written (K.put out.new) (K.faults out.new))
         (linked (L.journal link.new) (L.plan link.new) (L.faults link.new) (L.lost link.new))) }
 {
-    match link.open(asked.address, asked.sessions) {
+    match open(asked, link) {
         Ok(()) => serve_opened(alloc, dir, asked, out, link),
         Err(NextFault::Failed) => print_link_fault(out),
         Err(NextFault::NoMemory) => Status::NoMemory,
     }
+}
+
+/// Tells the link which silence ends a connection, and opens it at the address.
+fn open<L: Link>(asked: &Serving<'_>, link: &mut L) -> Result<(), NextFault>
+    ensures { (entries : List EntryInformation) → Opens (serve_asked (serving_view asked.now) entries) result
+        (linked (L.journal link.old) (L.plan link.old) (L.faults link.old) (L.lost link.old))
+        (linked (L.journal link.new) (L.plan link.new) (L.faults link.new) (L.lost link.new)) }
+{
+    link.end_idle_after(asked.idle);
+    link.open(asked.address, asked.sessions)
 }
 
 /// Prints that the link is open, and then serves the directory over it.
@@ -104,14 +105,14 @@ fn serve_opened<K: Sink, L: Link>(
     link: &mut L,
 ) -> Status
     ensures opened { (shelf : Shelved) → ListensOn
-        (serve_asked asked.now.address.now asked.now.sessions asked.now.turns (entries_of dir))
+        (serve_asked (serving_view asked.now) (entries_of dir))
         (beside shelf (written (K.put out.old) (K.faults out.old))
         (linked (L.journal link.old) (L.plan link.old) (L.faults link.old) (L.lost link.old))) result
         (beside shelf (written (K.put out.new) (K.faults out.new))
         (linked (L.journal link.new) (L.plan link.new) (L.faults link.new) (L.lost link.new))) }
 {
     match print_listening(alloc, asked.address, out) {
-        Ok(()) => serve_events(alloc, dir, asked.turns, out, link),
+        Ok(()) => serve_events(alloc, dir, asked, out, link),
         Err(fault) => Status::NoMemory.after(Err(fault)),
     }
 }
@@ -137,21 +138,30 @@ fn listening(alloc: Global, address: &str) -> Result<String, AllocError>
 fn serve_events<K: Sink, L: Link>(
     alloc: Global,
     dir: IndexedDir,
-    turns: u64,
+    asked: &Serving<'_>,
     out: &mut K,
     link: &mut L,
 ) -> Status
-    ensures serves { (shelf : Shelved) (address : List ℕ) (sessions : ℕ) → ServesOpened
-        (serve_asked address sessions turns (entries_of dir))
+    ensures serves { (shelf : Shelved) → ServesOpened (serve_asked (serving_view asked.now) (entries_of dir))
         (beside shelf (written (K.put out.old) (K.faults out.old))
         (linked (L.journal link.old) (L.plan link.old) (L.faults link.old) (L.lost link.old))) result
         (beside shelf (written (K.put out.new) (K.faults out.new))
         (linked (L.journal link.new) (L.plan link.new) (L.faults link.new) (L.lost link.new))) }
 {
     let mut dir = dir;
-    let ended = serve_loop(alloc, &mut dir, link, turns);
+    let ended = serve_loop(alloc, &mut dir, link, asked.turns, bounds_of(asked));
     let put = write_all(out, ended_text(ended).as_bytes());
     loop_status(ended).after(put)
+}
+
+/// What queues may have, in octets, and what one search is given.
+fn bounds_of(asked: &Serving<'_>) -> Bounds
+    ensures limit { result.limit ≡ asked.now.limit }
+{
+    Bounds {
+        limit: asked.limit,
+        queues: asked.queues.saturating_mul(1_048_576),
+    }
 }
 
 /// The line of a loop's end, where it has one.

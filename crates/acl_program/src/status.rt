@@ -22,7 +22,7 @@ pub enum Status {
     LinkFault,
     /// As many events were heard as the words allow, and none was Stop.
     TurnsSpent,
-    /// There was no memory.
+    /// There was no memory, or a connection was cut while it was served.
     NoMemory,
     /// The script file isn't a script, or is too long.
     BadScript,

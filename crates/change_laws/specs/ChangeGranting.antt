@@ -18,6 +18,7 @@ use Rattle.entry_changes.specs.Change.{Modification}
 use Rattle.entry_changes.specs.Renaming.{renamed_entry}
 use Rattle.op_modify.specs.ReadChanges.{read_changes}
 use Rattle.op_modify.specs.ReadRenames.{read_renaming, moves, asks_rename, above}
+use Rattle.op_modify.specs.Modifying.{asker_of}
 use Rattle.op_modify.specs.Renames.{new_name}
 use Rattle.op_modify.specs.declared.renaming.Renaming.{Renaming}
 use Rattle.change_laws.specs.Changing.{MayChangeEach}
@@ -32,7 +33,7 @@ pub record MayModify (entries : List EntryInformation) (who : Requester) (reques
   pub changes_read : read_changes request.changes ≡ Ok changes
   pub found : named_in name entries ≡ Some target
   pub allowed : granted entries who target Entry Modify ≡ true
-  pub changed : MayChangeEach (granted entries who target) target changes left
+  pub changed : MayChangeEach (asker_of entries who target) target changes left
   pub unbroken : broken_rule (Some target) (taken_out target.name entries) left ≡ None
 
 -- the request's name is that of the target, which may be renamed, where that is asked, and exported, where it moves; it is not

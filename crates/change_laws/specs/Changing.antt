@@ -8,7 +8,7 @@ use Rattle.acdf_filters.specs.aci_item.declared.permission.Permission.TheVariant
 use Rattle.acdf_filters.specs.Asking.{Kind, Value}
 use Rattle.entry_changes.specs.declared.kind.ChangeKind.{ChangeKind}
 use Rattle.entry_changes.specs.declared.kind.ChangeKind.TheVariants.{Add, Delete, Replace}
-use Rattle.entry_changes.specs.Change.{Asks, Modification, has_octets, left_by}
+use Rattle.entry_changes.specs.Change.{Asks, Asker, Modification, asks_after, has_octets, made}
 
 -- the value is none of those that are there, and may be added
 pub record MayAddValue (asks : Asks) (kind : ℕ) (old : List Keyed) (value : Keyed) : Type 0 where
@@ -49,12 +49,13 @@ MayDo Add asks kind old given = MayAddValues asks kind old given
 MayDo Delete asks kind old given = MayRemoveValues asks kind old given
 MayDo Replace asks kind old given = MayReplaceValues asks kind old given
 
--- the change of the entry may be made
-abbrev pub MayChange : Asks → EntryInformation → Modification → Type 0
-MayChange asks entry change = MayDo change.change asks change.kind (values_of change.kind entry.attributes) change.values
+-- the change of the entry may be made: a value that comes is asked for by what the change leaves
+abbrev pub MayChange : Asker → EntryInformation → Modification → Type 0
+MayChange asker entry change =
+    MayDo change.change (asks_after asker (made change entry)) change.kind (values_of change.kind entry.attributes) change.values
 
 -- the changes may be made in their order, each of the entry that those before it left, and leave the last one
-abbrev pub MayChangeEach : Asks → EntryInformation → List Modification → EntryInformation → Type 0
-MayChangeEach asks entry [] left = entry ≡ left
-MayChangeEach asks entry (change ∷ changes) left =
-    MayChange asks entry change × MayChangeEach asks (left_by change.change change.kind change.values entry) changes left
+abbrev pub MayChangeEach : Asker → EntryInformation → List Modification → EntryInformation → Type 0
+MayChangeEach asker entry [] left = entry ≡ left
+MayChangeEach asker entry (change ∷ changes) left =
+    MayChange asker entry change × MayChangeEach asker (made change entry) changes left

@@ -25,12 +25,12 @@ two_operands = refl
 
 -- `replay --turns 007 d s`
 apart : read commands.Replay (codes "--turns" ∷ codes "007" ∷ codes "d" ∷ codes "s" ∷ []) ≡ Some (Replay (codes "d") (codes "s") 7 false)
-unfolding clap_on_literals command_said said_by number_of
+unfolding clap_on_literals command_said said_by number_of number_within
 apart = refl
 
 -- `replay d --turns=0 -- -s`
 joined : read commands.Replay (codes "d" ∷ codes "--turns=0" ∷ codes "--" ∷ codes "-s" ∷ []) ≡ Some (Replay (codes "d") (codes "-s") 0 false)
-unfolding clap_on_literals command_said said_by number_of
+unfolding clap_on_literals command_said said_by number_of number_within
 joined = refl
 
 -- `replay - s`, where `-` is an operand
@@ -40,12 +40,12 @@ dash = refl
 
 -- `replay d s --turns -`
 dash_as_argument : read commands.Replay (codes "d" ∷ codes "s" ∷ codes "--turns" ∷ codes "-" ∷ []) ≡ None
-unfolding clap_on_literals command_said said_by number_of
+unfolding clap_on_literals command_said said_by number_of number_within
 dash_as_argument = refl
 
 -- `replay d s --turns=-1`
 below_zero : read commands.Replay (codes "d" ∷ codes "s" ∷ codes "--turns=-1" ∷ []) ≡ None
-unfolding clap_on_literals command_said said_by number_of
+unfolding clap_on_literals command_said said_by number_of number_within
 below_zero = refl
 
 -- `replay d s --turns 1 --turns 1`
@@ -65,7 +65,7 @@ dumped = refl
 
 -- `replay d s --turns 7 --dump`
 dumped_last : read commands.Replay (codes "d" ∷ codes "s" ∷ codes "--turns" ∷ codes "7" ∷ codes "--dump" ∷ []) ≡ Some (Replay (codes "d") (codes "s") 7 true)
-unfolding clap_on_literals command_said said_by number_of
+unfolding clap_on_literals command_said said_by number_of number_within
 dumped_last = refl
 
 -- `replay d -- --dump`
@@ -129,9 +129,23 @@ unfolding clap_on_literals command_said said_by
 dump_turned = refl
 
 -- `serve d 127.0.0.1:389 --sessions=3`
-served : read commands.Serve (codes "d" ∷ codes "127.0.0.1:389" ∷ codes "--sessions=3" ∷ []) ≡ Some (Serve (codes "d") (codes "127.0.0.1:389") 3 1000000000000)
+served : read commands.Serve (codes "d" ∷ codes "127.0.0.1:389" ∷ codes "--sessions=3" ∷ []) ≡ Some (Serve (record { data_file = codes "d"; address = codes "127.0.0.1:389"; sessions = 3; turns = 1000000000000; queues = 256; idle = 0; limit = 0 }))
 unfolding clap_on_literals command_said said_by number_of number_within is_address address_of
 served = refl
+
+-- `serve d 127.0.0.1:389 --queues=1 --idle 60 --limit=2`
+served_bounded : read commands.Serve (codes "d" ∷ codes "127.0.0.1:389" ∷ codes "--queues=1" ∷ codes "--idle" ∷ codes "60" ∷ codes "--limit=2" ∷ []) ≡ Some (Serve (record { data_file = codes "d"; address = codes "127.0.0.1:389"; sessions = 0; turns = 1000000000000; queues = 1; idle = 60; limit = 2 }))
+unfolding clap_on_literals command_said said_by number_of number_within is_address address_of
+served_bounded = refl
+
+-- `serve d 127.0.0.1:389 --queues=0` and `--limit=2147483648`, out of their ranges
+served_without_queues : read commands.Serve (codes "d" ∷ codes "127.0.0.1:389" ∷ codes "--queues=0" ∷ []) ≡ None
+unfolding clap_on_literals command_said said_by number_of number_within is_address address_of
+served_without_queues = refl
+
+served_past_the_limit : read commands.Serve (codes "d" ∷ codes "127.0.0.1:389" ∷ codes "--limit=2147483648" ∷ []) ≡ None
+unfolding clap_on_literals command_said said_by number_of number_within is_address address_of
+served_past_the_limit = refl
 
 -- `serve d 127.0.0.1:0`
 served_at_zero : read commands.Serve (codes "d" ∷ codes "127.0.0.1:0" ∷ []) ≡ None

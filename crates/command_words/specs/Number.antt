@@ -3,6 +3,7 @@ use Rattle.std.specs.Prelude.{◌≡◌, ◌≤◌, ◌<◌, ◌^◌, ◌&&◌, 
 use Rattle.std.specs.Char.{is_ascii_digit}
 use Rattle.std.specs.List.{list_all}
 use Rattle.std.specs.Str.Parse.{digits_value}
+use Rattle.command_words.specs.declared.number.NumberRange.{NumberRange}
 
 -- the text is a number of this value; zeros may lead
 pub record IsNumber (text : List ℕ) (value : ℕ) : Type 0 where
@@ -36,13 +37,13 @@ unfoldable pub number_within : ℕ → ℕ → ℕ → List ℕ → Option ℕ
 number_within digits least greatest text =
     if nat_le (length text) digits then option_and_then (value_within least greatest) (number_of text) else None
 
--- the arguments of an option say this number: the default where the option isn't given
-abbrev pub SaysNumber : ℕ → List (List ℕ) → ℕ → Type 0
-SaysNumber absent [] value = value ≡ absent
-SaysNumber absent (text ∷ []) value = IsNumber text value
-SaysNumber absent (text ∷ again ∷ texts) value = ⊥
+-- the arguments of an option say this number, which is in the option's range: the default where the option isn't given
+abbrev pub SaysNumber : NumberRange → List (List ℕ) → ℕ → Type 0
+SaysNumber range [] value = value ≡ range.absent
+SaysNumber range (text ∷ []) value = IsNumberWithin 20 range.least range.greatest text value
+SaysNumber range (text ∷ again ∷ texts) value = ⊥
 
--- the number that an option's argument says, where there is one
-abbrev pub number_said : ℕ → Option (List ℕ) → Option ℕ
-number_said absent None = Some absent
-number_said absent (Some text) = number_of text
+-- the number that an option's argument says, where there is one in the range
+abbrev pub number_said : NumberRange → Option (List ℕ) → Option ℕ
+number_said range None = Some range.absent
+number_said range (Some text) = number_within 20 range.least range.greatest text

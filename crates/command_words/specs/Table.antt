@@ -14,7 +14,7 @@ pub record Row : Type 0 where
 
 -- the table of commands
 abbrev pub row_of : CommandName → Row
-row_of commands.Serve = record { name = codes "serve"; operands = 2; options = options.Sessions ∷ options.Turns ∷ [] }
+row_of commands.Serve = record { name = codes "serve"; operands = 2; options = options.Sessions ∷ options.Turns ∷ options.Queues ∷ options.Idle ∷ options.Limit ∷ [] }
 row_of commands.Replay = record { name = codes "replay"; operands = 2; options = options.Dump ∷ options.Turns ∷ [] }
 row_of commands.Check = record { name = codes "check"; operands = 1; options = [] }
 row_of commands.Dump = record { name = codes "dump"; operands = 1; options = [] }
@@ -29,20 +29,23 @@ all_commands = commands.Serve ∷ commands.Replay ∷ commands.Check ∷ command
 abbrev pub option_word : OptionName → List ℕ
 option_word options.Sessions = codes "sessions"
 option_word options.Turns = codes "turns"
+option_word options.Queues = codes "queues"
+option_word options.Idle = codes "idle"
+option_word options.Limit = codes "limit"
 option_word options.Dump = codes "dump"
 
 -- whether the option has an argument
 abbrev pub takes_argument : OptionName → Bool
 takes_argument options.Sessions = true
 takes_argument options.Turns = true
+takes_argument options.Queues = true
+takes_argument options.Idle = true
+takes_argument options.Limit = true
 takes_argument options.Dump = false
 
--- the same option
+-- the same option: of one word
 abbrev pub is_same_option : OptionName → OptionName → Bool
-is_same_option options.Sessions options.Sessions = true
-is_same_option options.Turns options.Turns = true
-is_same_option options.Dump options.Dump = true
-is_same_option one other = false
+is_same_option one other = bytes_eq (option_word one) (option_word other)
 
 -- the command of this name
 abbrev pub command_named : List ℕ → Option CommandName

@@ -1,34 +1,77 @@
 //! The commands, and the words that ask for them.
 
 ghost use Rattle.std.specs.Prelude.{◌≡◌, ◌∷◌, map, option_map, string_bytes, Some, IfOk, IfSome};
-ghost use Rattle.command_words.specs.command.Command.{CommandView, IsCommand, view};
-ghost use Rattle.command_words.specs.parser.Parser.{kept_in};
+ghost use Rattle.command_words.specs.command.Command.{CommandView, IsCommand, view, limit_range};
+ghost use Rattle.command_words.specs.Number.{number_said};
+ghost use Rattle.command_words.specs.parser.Parser.{kept_in, kept_text};
 ghost use Rattle.command_words.specs.parser.Asked.{IsRead, IsReading, kept_said, said_by};
 
 use crate::address::address_of;
-use crate::number::{number_said, number_within};
+use crate::number::{NumberRange, number_said, number_within};
 use crate::parser::{is_set, kept_count, kept_text, parse};
 use crate::table::{CommandName, OptionName, Sought};
 use clap::ArgMatches;
 use std::alloc::{AllocError, Global};
 
-/// After how many connections the serving ends where `--sessions` isn't given: it never does.
-const DEFAULT_SESSIONS: u64 = 0;
+/// The numbers of `--sessions`: without it the serving never ends.
+const SESSIONS: NumberRange = NumberRange {
+    absent: 0,
+    least: 0,
+    greatest: u64::MAX,
+};
 
-/// How many events are heard where `--turns` isn't given.
-const DEFAULT_TURNS: u64 = 1_000_000_000_000;
+/// The numbers of `--turns`.
+const TURNS: NumberRange = NumberRange {
+    absent: 1_000_000_000_000,
+    least: 0,
+    greatest: u64::MAX,
+};
+
+/// The numbers of `--queues`, in MiB.
+const QUEUES: NumberRange = NumberRange {
+    absent: 256,
+    least: 1,
+    greatest: 65_536,
+};
+
+/// The numbers of `--idle`, in seconds: without it no connection ends for its silence.
+const IDLE: NumberRange = NumberRange {
+    absent: 0,
+    least: 1,
+    greatest: 4_294_967_295,
+};
+
+/// The numbers of `--limit`, as RFC 4511 4.5.1 has sizeLimit: without it there is none.
+const LIMIT: NumberRange = NumberRange {
+    absent: 0,
+    least: 1,
+    greatest: 2_147_483_647,
+};
+
+/// What `serve` is asked for.
+#[derive(Clone, Copy, Debug, Drop)]
+pub struct Serving<'a> {
+    /// The name of the data file.
+    pub data: &'a str,
+    /// `127.0.0.1:` and a port.
+    pub address: &'a str,
+    /// After how many connections the serving ends; 0: never.
+    pub sessions: u64,
+    /// How many events are heard at most.
+    pub turns: u64,
+    /// How many MiB the queues of all connections may have, from 1 to 65,536.
+    pub queues: u64,
+    /// After how many seconds of silence a connection ends, at most 4,294,967,295; 0: never.
+    pub idle: u64,
+    /// How many entries one search is given at most, at most 2,147,483,647; 0: all.
+    pub limit: u32,
+}
 
 /// What the words of the program ask for. Its texts are parts of the words.
 #[derive(Clone, Copy, Debug, Drop)]
 pub enum Command<'a> {
-    /// `serve DATA ADDRESS [--sessions N] [--turns N]`: the name of the file, the address `127.0.0.1:` with its
-    /// port, after how many connections the serving ends (0: never), and how many events are heard at most.
-    Serve {
-        data: &'a str,
-        address: &'a str,
-        sessions: u64,
-        turns: u64,
-    },
+    /// `serve DATA ADDRESS [--sessions N] [--turns N] [--queues MIB] [--idle SECONDS] [--limit N]`.
+    Serve(Serving<'a>),
     /// `replay DATA SCRIPT [--dump] [--turns N]`: the names of the two files, how many events are heard at
     /// most, and whether the tree that is left is asked for.
     Replay {
@@ -65,7 +108,7 @@ pub enum Command<'a> {
 /// The first word is the command's name. After it operands and options stand in any order, each option
 /// at most once, as `--name text`, `--name=text` or, for one without an argument, `--name`; words after
 /// `--` are operands, and so is `-` alone (POSIX.1, Utility Syntax Guidelines; GNU's long options).
-/// A number stands in one to twenty decimal digits, and is below 2^64; an address is `127.0.0.1:` and a port
+/// A number stands in one to twenty decimal digits, and is in the range of its option; an address is `127.0.0.1:` and a port
 /// in one to five decimal digits, from 1 to 65,535. An `AllocError` comes where memory is wanted, and says
 /// nothing of the words.
 pub fn read_words<'a>(alloc: Global, words: &'a [String]) -> Result<Option<Command<'a>>, AllocError>
@@ -141,6 +184,21 @@ fn read_kept<'a>(command: CommandName, matches: &ArgMatches<'a>) -> Option<Comma
     }
 }
 
+/// The number that an option says.
+fn read_number(matches: &ArgMatches<'_>, name: OptionName, range: NumberRange) -> Option<u64>
+    ensures { result ≡ number_said range (kept_text (kept_in matches.now (Sought.Arguments name)) 0) }
+{
+    number_said(range, kept_text(matches, Sought::Arguments(name), 0))
+}
+
+/// The number that `--limit` says.
+fn read_limit(matches: &ArgMatches<'_>) -> Option<u32>
+    ensures { result ≡ number_said limit_range (kept_text (kept_in matches.now (Sought.Arguments OptionName.Limit)) 0) }
+{
+    let limit = read_number(matches, OptionName::Limit, LIMIT)?;
+    Some(limit as u32)
+}
+
 #[tactic(auto, unfolding(crate::specs::parser::Asked::command_said))]
 fn read_serve<'a>(matches: &ArgMatches<'a>) -> Option<Command<'a>>
     ensures { option_map view result ≡ kept_said CommandName.Serve (kept_in matches.now) }
@@ -148,16 +206,15 @@ fn read_serve<'a>(matches: &ArgMatches<'a>) -> Option<Command<'a>>
     let data = kept_text(matches, Sought::Operands, 0)?;
     let address = kept_text(matches, Sought::Operands, 1)?;
     let address = address_of(address)?;
-    let sessions = kept_text(matches, Sought::Arguments(OptionName::Sessions), 0);
-    let sessions = number_said(sessions, DEFAULT_SESSIONS)?;
-    let turns = kept_text(matches, Sought::Arguments(OptionName::Turns), 0);
-    let turns = number_said(turns, DEFAULT_TURNS)?;
-    Some(Command::Serve {
+    Some(Command::Serve(Serving {
         data,
         address,
-        sessions,
-        turns,
-    })
+        sessions: read_number(matches, OptionName::Sessions, SESSIONS)?,
+        turns: read_number(matches, OptionName::Turns, TURNS)?,
+        queues: read_number(matches, OptionName::Queues, QUEUES)?,
+        idle: read_number(matches, OptionName::Idle, IDLE)?,
+        limit: read_limit(matches)?,
+    }))
 }
 
 #[tactic(auto, unfolding(crate::specs::parser::Asked::command_said))]
@@ -166,8 +223,7 @@ fn read_replay<'a>(matches: &ArgMatches<'a>) -> Option<Command<'a>>
 {
     let data = kept_text(matches, Sought::Operands, 0)?;
     let script = kept_text(matches, Sought::Operands, 1)?;
-    let turns = kept_text(matches, Sought::Arguments(OptionName::Turns), 0);
-    let turns = number_said(turns, DEFAULT_TURNS)?;
+    let turns = read_number(matches, OptionName::Turns, TURNS)?;
     let dump = is_set(matches, OptionName::Dump);
     Some(Command::Replay {
         data,

@@ -8,4 +8,4 @@ mod number;
 mod parser;
 mod table;
 
-pub use command::{Command, read_words};
+pub use command::{Command, Serving, read_words};

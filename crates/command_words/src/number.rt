@@ -5,6 +5,14 @@ ghost use Rattle.std.specs.Char.{is_ascii_digit};
 ghost use Rattle.std.specs.List.{list_all};
 ghost use Rattle.command_words.specs.Number.{number_of, number_said, number_within, value_within, has_form};
 
+/// What an option's number may be: its value where the option isn't given, and the least and the greatest that it says.
+#[derive(Clone, Copy, Debug, Drop)]
+pub struct NumberRange {
+    pub absent: u64,
+    pub least: u64,
+    pub greatest: u64,
+}
+
 fn all_digits(text: &str) -> bool
     ensures { result ≡ list_all is_ascii_digit text.now }
 {
@@ -52,12 +60,13 @@ pub fn number_within(digits: usize, least: u64, greatest: u64, text: &str) -> Op
     }
 }
 
-/// The number that an option's argument says, or the default where the option isn't given.
-pub fn number_said(text: Option<&str>, absent: u64) -> Option<u64>
-    ensures { result ≡ number_said absent (option_copied text.entry) }
+/// The number that an option's argument says, where it is in the option's range, or the default where the option isn't
+/// given.
+pub fn number_said(range: NumberRange, text: Option<&str>) -> Option<u64>
+    ensures { result ≡ number_said range (option_copied text.entry) }
 {
     match text {
-        Some(text) => number_of(text),
-        None => Some(absent),
+        Some(text) => number_within(20, range.least, range.greatest, text),
+        None => Some(range.absent),
     }
 }

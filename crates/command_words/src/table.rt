@@ -19,6 +19,9 @@ pub enum CommandName {
 pub enum OptionName {
     Sessions,
     Turns,
+    Queues,
+    Idle,
+    Limit,
     Dump,
 }
 
@@ -83,7 +86,13 @@ impl CommandName {
         ensures { result.now ≡ (row_of self).options }
     {
         match self {
-            CommandName::Serve => &[OptionName::Sessions, OptionName::Turns],
+            CommandName::Serve => &[
+                OptionName::Sessions,
+                OptionName::Turns,
+                OptionName::Queues,
+                OptionName::Idle,
+                OptionName::Limit,
+            ],
             CommandName::Replay => &[OptionName::Dump, OptionName::Turns],
             CommandName::Check => &[],
             CommandName::Dump => &[],
@@ -101,6 +110,9 @@ impl OptionName {
         match self {
             OptionName::Sessions => "sessions",
             OptionName::Turns => "turns",
+            OptionName::Queues => "queues",
+            OptionName::Idle => "idle",
+            OptionName::Limit => "limit",
             OptionName::Dump => "dump",
         }
     }
@@ -111,6 +123,9 @@ impl OptionName {
         match self {
             OptionName::Sessions => true,
             OptionName::Turns => true,
+            OptionName::Queues => true,
+            OptionName::Idle => true,
+            OptionName::Limit => true,
             OptionName::Dump => false,
         }
     }

@@ -66,7 +66,7 @@ pub trait Dir {
         requires known { AreMemberships (entries_of (rows self.now)) who.now.name known.now }
         ensures exact { result ≡ option_map_or
             (λ entry. granted_after (entries_of (rows self.now)) who.now entry
-            addition.after.now addition.kind.0 addition.value.now)
+            addition.entry.after.now addition.entry.kind.0 addition.entry.value.now)
             (entry_of number.0 (rows self.now)) false };
 
     /// The numbers of the access control subentries in force for an entry that is to be added (X.501 18.3): its areas

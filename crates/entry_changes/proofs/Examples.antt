@@ -1,6 +1,6 @@
 -- The definitions on small cases.
 use Rattle.std.proofs.Common.{◌≡◌, ℕ, true, false, [], ◌∷◌, List, Some, None, Ok, Err, refl}
-use Rattle.std.specs.Prelude.{codes}
+use Rattle.std.specs.Prelude.{codes, not, nat_lt, length}
 use Prim.Native.String.{String}
 use Rattle.dir_tree.specs.dn_names.name.Names.{Keyed, TypeAndValue, RdnSequence}
 use Rattle.dir_tree.specs.Entry.{EntryInformation, kinds_of, values_of}
@@ -8,8 +8,9 @@ use Rattle.ldif_load.specs.load.Loading.{with_pairs}
 use Rattle.acdf_filters.specs.aci_item.declared.permission.Permission.TheVariants.{Add, Remove, DiscloseOnError}
 use Rattle.acdf_filters.specs.Asking.{Kind, Value}
 use Rattle.ldap_msg.specs.declared.operations.ResultCode.TheVariants as code
+use Rattle.entry_changes.specs.declared.kind.ChangeKind.{ChangeKind}
 use Rattle.entry_changes.specs.declared.kind.ChangeKind.TheVariants as change_kind
-use Rattle.entry_changes.specs.Change.{Asks, add_refusal, delete_refusal, replace_refusal, left_by, changed_by}
+use Rattle.entry_changes.specs.Change.{Asks, Asker, Modification, add_refusal, delete_refusal, replace_refusal, left_by, changed, changed_by}
 use Rattle.entry_changes.specs.Renaming.{gone_pairs, without_pairs, renamed_entry}
 
 -- a value of its octets and its key
@@ -56,6 +57,17 @@ of_types item permission = false
 abbrev of_values : Asks
 of_values (Value kind value) permission = true
 of_values item permission = false
+
+-- an asker that allows all, and one that allows no third value of a type
+abbrev anyone : Asker
+anyone = record { allows = all; adds = λ after kind value. true }
+
+abbrev up_to_two : Asker
+up_to_two = record { allows = of_types; adds = λ after kind value. not (nat_lt 2 (length (values_of kind after.attributes))) }
+
+-- a change
+abbrev change : ChangeKind → ℕ → List Keyed → Modification
+change which kind values = record { change = which; kind = kind; values = values }
 
 -- ---- adds
 
@@ -195,7 +207,7 @@ absent_by_values_allowed = refl
 -- ---- changes in their order
 
 -- each is judged by what the earlier ones left
-a_value_moves : changed_by all person (
+a_value_moves : changed_by anyone person (
     record { change = change_kind.Delete; kind = 11; values = value "a" "a" ∷ [] }
     ∷ record { change = change_kind.Add; kind = 11; values = value "a" "a" ∷ [] }
     ∷ []
@@ -206,7 +218,7 @@ unfolding changed_by add_refusal delete_refusal
 a_value_moves = refl
 
 -- the first that is refused decides
-the_first_refusal : changed_by all person (
+the_first_refusal : changed_by anyone person (
     record { change = change_kind.Delete; kind = 11; values = [] }
     ∷ record { change = change_kind.Delete; kind = 11; values = [] }
     ∷ record { change = change_kind.Add; kind = 1; values = ann ∷ [] }
@@ -214,6 +226,39 @@ the_first_refusal : changed_by all person (
     ) ≡ Err code.NoSuchAttribute
 unfolding changed_by delete_refusal
 the_first_refusal = refl
+
+-- ---- what an entry would be
+
+-- the values of a change count together
+one_more : changed up_to_two person (change change_kind.Add 11 (value "B" "b" ∷ []))
+    ≡ Ok (left_by change_kind.Add 11 (value "B" "b" ∷ []) person)
+unfolding add_refusal
+one_more = refl
+
+two_more_are_too_many : changed up_to_two person (change change_kind.Add 11 (value "B" "b" ∷ value "C" "c" ∷ [])) ≡ Err code.InsufficientAccessRights
+unfolding add_refusal
+two_more_are_too_many = refl
+
+-- with those that earlier changes left
+one_by_one : changed_by up_to_two person (change change_kind.Add 11 (value "B" "b" ∷ []) ∷ change change_kind.Add 11 (value "C" "c" ∷ []) ∷ [])
+    ≡ Err code.InsufficientAccessRights
+unfolding changed_by add_refusal
+one_by_one = refl
+
+-- a value that is there counts once
+there_again : changed up_to_two person (change change_kind.Add 1 (ann ∷ [])) ≡ Err code.AttributeOrValueExists
+unfolding add_refusal
+there_again = refl
+
+-- those that take the place of others count without these
+two_for_two : changed up_to_two person (change change_kind.Replace 2 (value "B" "b" ∷ value "C" "c" ∷ []))
+    ≡ Ok (left_by change_kind.Replace 2 (value "B" "b" ∷ value "C" "c" ∷ []) person)
+unfolding replace_refusal
+two_for_two = refl
+
+three_for_none : changed up_to_two person (change change_kind.Replace 2 (value "B" "b" ∷ value "C" "c" ∷ value "D" "d" ∷ [])) ≡ Err code.InsufficientAccessRights
+unfolding replace_refusal
+three_for_none = refl
 
 -- ---- renames
 

@@ -1,6 +1,7 @@
 -- How a modify request changes an entry (RFC 4511 4.6, X.511 11.3): its changes in their order, each of which is refused or
--- made. Every decision is that over the directory before the first change. The values of a change are distinct, so each is
--- judged against the values that are there before the change, as if it came alone.
+-- made. Every decision is that over the directory before the first change; where it is on a value that a change adds, the
+-- entry counts as the change would leave it. The values of a change are distinct, so each is judged against the values that
+-- are there before the change, as if it came alone.
 use Rattle.std.specs.Prelude.{ℕ, Bool, true, false, not, ◌&&◌, ◌||◌, List, [], ◌∷◌, ◌++◌, map, fold, Option, Some, None, Result, Ok, Err, if◌then◌else◌}
 use Rattle.std.specs.List.{list_any}
 use Rattle.std.specs.Str.{bytes_eq}
@@ -22,6 +23,17 @@ use Rattle.ldap_msg.specs.plain_values.Refusals.{when, first_some}
 -- what the requester has the permission for, of one entry
 abbrev pub Asks : Type 0
 Asks = Protected → Permission → Bool
+
+-- who answers of one entry: for which permissions the requester has, and whether a value may be added to the entry, by what
+-- it would be afterwards
+pub record Asker : Type 0 where
+  pub allows : Asks
+  pub adds : EntryInformation → ℕ → Keyed → Bool
+
+-- what the requester has the permission for in a change that leaves this
+abbrev pub asks_after : Asker → EntryInformation → Asks
+asks_after asker after (Value kind value) Add = asker.adds after kind value
+asks_after asker after item permission = asker.allows item permission
 
 -- a change: what is done, and the type and the values that it is done with
 pub record Modification : Type 0 where
@@ -139,20 +151,25 @@ left_by change_kind.Delete kind (value ∷ values) entry = without_each kind (va
 left_by change_kind.Replace kind [] entry = without_kind kind entry
 left_by change_kind.Replace kind (value ∷ values) entry = with_values kind (value ∷ values) entry
 
+-- the entry with a change, were it not refused
+abbrev pub made : Modification → EntryInformation → EntryInformation
+made change entry = left_by change.change change.kind change.values entry
+
 -- what is left, unless there is a refusal
 abbrev pub unless_refused : Option ResultCode → EntryInformation → Result EntryInformation ResultCode
 unless_refused None left = Ok left
 unless_refused (Some refusal) left = Err refusal
 
 -- the entry with a change, or why it is not made
-abbrev pub changed : Asks → EntryInformation → Modification → Result EntryInformation ResultCode
-changed asks entry change =
-    unless_refused (change_refusal asks change (values_of change.kind entry.attributes)) (left_by change.change change.kind change.values entry)
+abbrev pub changed : Asker → EntryInformation → Modification → Result EntryInformation ResultCode
+changed asker entry change =
+    unless_refused (change_refusal (asks_after asker (made change entry)) change (values_of change.kind entry.attributes))
+    (made change entry)
 
 -- the entry with changes in their order, or why the first that is refused is not made
-unfoldable pub changed_by : Asks → EntryInformation → List Modification → Result EntryInformation ResultCode
-changed_by asks entry [] = Ok entry
-changed_by asks entry (change ∷ changes) = changed asks entry change >>= λ left. changed_by asks left changes
+unfoldable pub changed_by : Asker → EntryInformation → List Modification → Result EntryInformation ResultCode
+changed_by asker entry [] = Ok entry
+changed_by asker entry (change ∷ changes) = changed asker entry change >>= λ left. changed_by asker left changes
 
 -- the code of a fault; want of memory has none
 abbrev pub cause_of : ChangeFault → Option ResultCode

@@ -57,18 +57,11 @@ impl EntryChange {
         self.kind
     }
 
-    /// The values.
+    /// The values, of which no two match.
     pub(crate) fn values(&self) -> &[Value]
         ensures exact { result.now ≡ self.now.values }
+        ensures distinct { IsDistinct is_match result.now }
     {
         self.values.as_slice()
-    }
-
-    /// The values, which are the caller's from then on.
-    pub(crate) fn into_values(self) -> Vec<Value>
-        ensures exact { result.items ≡ self.values }
-        ensures distinct { IsDistinct is_match result.items }
-    {
-        self.values
     }
 }

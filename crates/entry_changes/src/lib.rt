@@ -9,10 +9,12 @@ mod effects;
 mod fault;
 mod kind;
 pub mod laws;
+mod making;
+mod pending;
 mod refusing;
 mod renaming;
 
-pub use ask::Ask;
+pub use ask::EntryAsker;
 pub use change::EntryChange;
 pub use changing::change_entry;
 pub use fault::{ChangeFault, NoMemory};

@@ -1,20 +1,20 @@
 //! Why a change isn't made. No memory is taken.
 
-ghost use Rattle.std.specs.Prelude.{◌≡◌, ◌++◌, [], map};
-ghost use Rattle.dir_tree.specs.Entry.{values_of};
+ghost use Rattle.std.specs.Prelude.{◌≡◌, ◌++◌, [], map, length};
+ghost use Rattle.dir_tree.specs.Entry.{values_of, has_key};
 ghost use Rattle.acdf_filters.specs.Asking.{protected_of};
 ghost use Rattle.ldap_msg.specs.plain_values.Refusals.{first_some};
-ghost use Rattle.entry_changes.specs.Change.{are_none, withheld, exists_already, add_value_refusal, add_refusal, delete_value_refusal, delete_refusal, has_octets, goes_refusal, comes_refusal, replace_refusal, change_refusal};
+ghost use Rattle.entry_changes.specs.Change.{are_none, withheld, exists_already, delete_value_refusal, delete_refusal, has_octets, goes_refusal, comes_refusal, replace_refusal};
+ghost use Rattle.entry_changes.specs.Steps.{add_row, add_rows, add_table, staying};
 
 use crate::ask::Ask;
-use crate::change::EntryChange;
-use crate::kind::ChangeKind;
 use acdf_filters::Item;
 use acdf_filters::aci_item::Permission;
 use dir_tree::Entry;
 use dir_tree::dn_names::Value;
 use dir_tree::schema_tables::AttrId;
 use ldap_msg::ResultCode;
+use value_lists::Values;
 
 /// Whether there are no values.
 pub(crate) fn are_none(values: &[Value]) -> bool
@@ -54,17 +54,16 @@ fn exists_already<A: Ask>(asker: &A, kind: AttrId, value: &Value) -> ResultCode
     }
 }
 
-// Why the value is not added beside the old ones.
+// Why the value is not added beside the old ones, by whether it is there.
 fn add_value_refusal<A: Ask>(
     asker: &A,
     kind: AttrId,
-    entry: &Entry,
+    there: bool,
     value: &Value,
 ) -> Option<ResultCode>
-    ensures exact { result
-        ≡ add_value_refusal (A.asks asker.now) kind.0 (values_of kind.0 entry.now.attributes) value.now }
+    ensures exact { result ≡ add_row (A.asks asker.now) kind.0 there value.now }
 {
-    if entry.has_value(kind, value.key()) {
+    if there {
         Some(exists_already(asker, kind, value))
     } else if !asker.asks(Item::Value(kind, value), Permission::Add) {
         Some(ResultCode::InsufficientAccessRights)
@@ -77,36 +76,42 @@ fn add_value_refusal<A: Ask>(
 fn add_values_refusal<A: Ask>(
     asker: &A,
     kind: AttrId,
-    entry: &Entry,
+    there: &[bool],
     values: &[Value],
 ) -> Option<ResultCode>
-    ensures exact { result
-        ≡ first_some (map (add_value_refusal (A.asks asker.now) kind.0
-        (values_of kind.0 entry.now.attributes)) values.now) }
+    requires same_length { length there.now ≡ length values.now }
+    ensures exact { result ≡ first_some (add_rows (A.asks asker.now) kind.0 there.now values.now) }
 {
-    for value in values {
-        if let Some(code) = add_value_refusal(asker, kind, entry, value) {
+    for index in 0..values.len() {
+        if let Some(code) = add_value_refusal(asker, kind, there[index], &values[index]) {
             return Some(code);
         }
     }
     None
 }
 
-// Why the values are not added.
-#[tactic(auto, unfolding(crate::specs::Change::add_refusal))]
-fn add_refusal<A: Ask>(
+/// Why the values are not added, by whether their type is absent and whether each of them is there.
+pub(crate) fn add_refusal<A: Ask>(
     asker: &A,
     kind: AttrId,
-    entry: &Entry,
+    absent: bool,
+    there: &[bool],
     values: &[Value],
 ) -> Option<ResultCode>
-    ensures exact { result
-        ≡ add_refusal (A.asks asker.now) kind.0 (values_of kind.0 entry.now.attributes) values.now }
+    requires same_length { length there.now ≡ length values.now }
+    ensures exact { result ≡ add_table (A.asks asker.now) kind.0 absent there.now values.now }
 {
-    if are_none(entry.values(kind)) && !asker.asks(Item::Kind(kind), Permission::Add) {
+    if absent && !asker.asks(Item::Kind(kind), Permission::Add) {
         return Some(ResultCode::InsufficientAccessRights);
     }
-    add_values_refusal(asker, kind, entry, values)
+    add_values_refusal(asker, kind, there, values)
+}
+
+// Whether the entry has the value, and it is none of those that go.
+fn is_left(kind: AttrId, entry: &Entry, gone: &Values, value: &Value) -> bool
+    ensures exact { result ≡ has_key value.now.key (staying gone.now (values_of kind.0 entry.now.attributes)) }
+{
+    entry.has_value(kind, value.key()) && !gone.has_key(value.key())
 }
 
 // Why the value is not deleted.
@@ -114,42 +119,48 @@ fn delete_value_refusal<A: Ask>(
     asker: &A,
     kind: AttrId,
     entry: &Entry,
+    gone: &Values,
     value: &Value,
 ) -> Option<ResultCode>
-    ensures exact { result
-        ≡ delete_value_refusal (A.asks asker.now) kind.0 (values_of kind.0 entry.now.attributes) value.now }
+    ensures exact { result ≡ delete_value_refusal (A.asks asker.now) kind.0
+        (staying gone.now (values_of kind.0 entry.now.attributes)) value.now }
 {
     if !asker.asks(Item::Value(kind, value), Permission::Remove) {
         Some(withheld(asker, Item::Value(kind, value)))
-    } else if !entry.has_value(kind, value.key()) {
+    } else if !is_left(kind, entry, gone, value) {
         Some(ResultCode::NoSuchAttribute)
     } else {
         None
     }
 }
 
-// Why the values are not deleted, each by itself.
-fn delete_values_refusal<A: Ask>(
+/// Why the values are not deleted, each by itself, from an entry without those that are gone already.
+pub(crate) fn delete_values_refusal<A: Ask>(
     asker: &A,
     kind: AttrId,
     entry: &Entry,
+    gone: &Values,
     values: &[Value],
 ) -> Option<ResultCode>
     ensures exact { result
         ≡ first_some (map (delete_value_refusal (A.asks asker.now) kind.0
-        (values_of kind.0 entry.now.attributes)) values.now) }
+        (staying gone.now (values_of kind.0 entry.now.attributes))) values.now) }
 {
     for value in values {
-        if let Some(code) = delete_value_refusal(asker, kind, entry, value) {
+        if let Some(code) = delete_value_refusal(asker, kind, entry, gone, value) {
             return Some(code);
         }
     }
     None
 }
 
-// Why the attribute is not deleted.
+/// Why the attribute is not deleted.
 #[tactic(auto, unfolding(crate::specs::Change::delete_refusal))]
-fn delete_kind_refusal<A: Ask>(asker: &A, kind: AttrId, old: &[Value]) -> Option<ResultCode>
+pub(crate) fn delete_kind_refusal<A: Ask>(
+    asker: &A,
+    kind: AttrId,
+    old: &[Value],
+) -> Option<ResultCode>
     ensures exact { result ≡ delete_refusal (A.asks asker.now) kind.0 old.now [] }
 {
     if !asker.asks(Item::Kind(kind), Permission::Remove) {
@@ -158,23 +169,6 @@ fn delete_kind_refusal<A: Ask>(asker: &A, kind: AttrId, old: &[Value]) -> Option
         Some(ResultCode::NoSuchAttribute)
     } else {
         None
-    }
-}
-
-// Why the values are not deleted, or, where none is given, the attribute.
-fn delete_refusal<A: Ask>(
-    asker: &A,
-    kind: AttrId,
-    entry: &Entry,
-    values: &[Value],
-) -> Option<ResultCode>
-    ensures exact { result
-        ≡ delete_refusal (A.asks asker.now) kind.0 (values_of kind.0 entry.now.attributes) values.now }
-{
-    if are_none(values) {
-        delete_kind_refusal(asker, kind, entry.values(kind))
-    } else {
-        delete_values_refusal(asker, kind, entry, values)
     }
 }
 
@@ -260,9 +254,9 @@ fn values_refusal<A: Ask>(
     }
 }
 
-// Why the values don't take the place of the old ones.
+/// Why the values don't take the place of the old ones.
 #[tactic(auto, unfolding(crate::specs::Change::replace_refusal))]
-fn replace_refusal<A: Ask>(
+pub(crate) fn replace_refusal<A: Ask>(
     asker: &A,
     kind: AttrId,
     old: &[Value],
@@ -278,22 +272,5 @@ fn replace_refusal<A: Ask>(
         Some(withheld(asker, Item::Kind(kind)))
     } else {
         values_refusal(asker, kind, old, values)
-    }
-}
-
-/// Why the change is not made, by the values of its type that the entry has. A value is looked up by its key.
-pub(crate) fn change_refusal<A: Ask>(
-    asker: &A,
-    change: &EntryChange,
-    entry: &Entry,
-) -> Option<ResultCode>
-    ensures exact { result
-        ≡ change_refusal (A.asks asker.now) change.now (values_of change.now.kind entry.now.attributes) }
-{
-    let kind = change.kind();
-    match change.change() {
-        ChangeKind::Add => add_refusal(asker, kind, entry, change.values()),
-        ChangeKind::Delete => delete_refusal(asker, kind, entry, change.values()),
-        ChangeKind::Replace => replace_refusal(asker, kind, entry.values(kind), change.values()),
     }
 }

@@ -1,1 +1,2 @@
 pub mod SystemLink
+pub mod Cutting

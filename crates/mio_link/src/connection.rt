@@ -1,10 +1,16 @@
 //! One connection of the system.
 
-ghost use Rattle.std.specs.Prelude.{◌<◌, length, IfSome};
+ghost use Rattle.std.specs.Prelude.{ℕ, ◌<◌, ◌≤◌, length, IfSome};
+ghost use Rattle.fair_pieces.specs.Cuts.{cut_at};
+ghost use Rattle.fair_pieces.specs.Keeping.{behind_cut};
 ghost use Rattle.wire_io.specs.Answers.{HeardFits, TookFits};
+ghost use Rattle.mio_link.specs.Cutting.{HearsCut, KeepsCut};
 
+use crate::moment::Moment;
+use fair_pieces::Kept;
 use mio::event::Event;
 use mio::net::TcpStream;
+use std::alloc::Global;
 use std::io::{ErrorKind, Read, Write};
 use wire_io::{Heard, Took};
 
@@ -13,25 +19,38 @@ use wire_io::{Heard, Took};
 pub(crate) struct Connection {
     number: u32,
     stream: TcpStream,
+    // what was read of its octets and not given yet
+    kept: Kept,
+    // when octets of it were last read, or on hold taken, or it was put on hold or released
+    last: Moment,
+    // it waits for another to be hung up before it is opened
+    is_newcomer: bool,
     may_read: bool,
     may_write: bool,
     // the peer was reported to send no more
     is_read_closed: bool,
-    // it was heard that the peer ended the connection
+    // its peer was silent for too long
+    is_idle: bool,
+    // it was heard that the connection ended
     is_ended: bool,
     is_on_hold: bool,
     is_lost: bool,
 }
 
 impl Connection {
-    /// A connection that was just accepted. It may be written to; a report says when it may be read.
-    pub(crate) fn new(number: u32, stream: TcpStream) -> Connection {
+    /// A connection that was just accepted, and isn't opened yet. It may be written to; a report says
+    /// when it may be read.
+    pub(crate) fn new(alloc: Global, number: u32, stream: TcpStream, now: Moment) -> Connection {
         Connection {
             number,
             stream,
+            kept: Kept::new(alloc),
+            last: now,
+            is_newcomer: true,
             may_read: false,
             may_write: true,
             is_read_closed: false,
+            is_idle: false,
             is_ended: false,
             is_on_hold: false,
             is_lost: false,
@@ -42,8 +61,50 @@ impl Connection {
         self.number
     }
 
-    pub(crate) fn set_on_hold(&mut self, is_on_hold: bool) {
-        self.is_on_hold = is_on_hold;
+    /// When something of it was last heard.
+    pub(crate) fn last(&self) -> Moment {
+        self.last
+    }
+
+    /// Opens it, and gives its number.
+    pub(crate) fn open(&mut self) -> u32 {
+        self.is_newcomer = false;
+        self.number
+    }
+
+    pub(crate) fn set_on_hold(&mut self, is_on_hold: bool, now: Moment) {
+        if is_on_hold != self.is_on_hold {
+            self.is_on_hold = is_on_hold;
+            self.is_idle = false;
+            self.last = now;
+        }
+    }
+
+    /// Whether nothing is due to it: nothing can be given of it before its peer sends something, and
+    /// nothing is to be sent to it.
+    pub(crate) fn is_silent(&self) -> bool {
+        let is_open = !self.is_newcomer && !self.is_ended;
+        is_open && !self.is_on_hold && !self.may_read && self.kept.is_waiting()
+    }
+
+    /// Ends it: it is read no more.
+    pub(crate) fn set_ended(&mut self) {
+        self.is_ended = true;
+    }
+
+    /// Notes that for so many seconds nothing of it was heard, and says whether there is something to be
+    /// heard of that: where nothing is due to it that it ended; on hold that it is lost.
+    pub(crate) fn look(&mut self, second: u64, limit: u64) -> bool {
+        if second.saturating_sub(self.last.second) <= limit {
+            return false;
+        }
+        if self.is_on_hold && !self.may_write {
+            self.is_lost = true;
+            self.may_write = true;
+            return true;
+        }
+        self.is_idle = self.is_silent();
+        self.is_idle
     }
 
     /// Notes what the system reports. A connection that failed may be read and written: the call then
@@ -62,33 +123,57 @@ impl Connection {
 
     /// What is to be heard of the connection now: on hold, that it may take octets again; otherwise its
     /// octets or its end.
-    pub(crate) fn hear(&mut self, buf: &mut [u8]) -> Option<Heard>
+    pub(crate) fn hear(&mut self, now: Moment, buf: &mut [u8]) -> Option<Heard>
         requires room { 0 < length buf.old }
         ensures fits { IfSome result (HeardFits (length buf.new)) }
     {
-        if self.is_on_hold && self.may_write {
-            Some(Heard::Ready(self.number))
-        } else if self.is_on_hold || self.is_ended || !self.may_read {
+        if self.is_newcomer {
             None
+        } else if !self.is_on_hold {
+            self.listen(now, buf)
+        } else if self.may_write {
+            Some(Heard::Ready(self.number))
         } else {
-            self.read(buf)
+            None
         }
     }
 
-    /// Reads octets, or the end. A piece that leaves room in the buffer was the last for now, unless the
-    /// peer was reported to send no more. A connection that can't be read is lost, and its end is heard.
-    fn read(&mut self, buf: &mut [u8]) -> Option<Heard>
+    /// What was kept of its octets, as far as it can be given; otherwise what is read; otherwise the end
+    /// of one that was silent for too long.
+    fn listen(&mut self, now: Moment, buf: &mut [u8]) -> Option<Heard>
         requires room { 0 < length buf.old }
         ensures fits { IfSome result (HeardFits (length buf.new)) }
     {
-        match self.stream.read(buf) {
-            Ok(count) if count > 0 => {
-                self.may_read = count == buf.len() || self.is_read_closed;
-                Some(Heard::Bytes(self.number, count))
-            }
-            Ok(_) => {
-                self.is_ended = true;
-                Some(Heard::Ended(self.number))
+        let given = self.kept.give(buf);
+        if given > 0 {
+            return Some(Heard::Bytes(self.number, given));
+        }
+        if self.is_ended {
+            None
+        } else if self.may_read {
+            self.read(now, buf)
+        } else if self.is_idle {
+            self.is_ended = true;
+            Some(Heard::Ended(self.number))
+        } else {
+            None
+        }
+    }
+
+    /// Reads octets behind those that are kept, or the end. A piece that leaves room in the buffer was
+    /// the last for now, unless the peer was reported to send no more. A connection that can't be read is
+    /// lost, and its end is heard.
+    fn read(&mut self, now: Moment, buf: &mut [u8]) -> Option<Heard>
+        requires room { 0 < length buf.old }
+        ensures fits { IfSome result (HeardFits (length buf.new)) }
+    {
+        let had = self.kept.copy(buf);
+        match self.stream.read(&mut buf[had..]) {
+            Ok(0) => Some(self.finish(&buf[..had])),
+            Ok(count) => {
+                let all = had + count;
+                self.may_read = all == buf.len() || self.is_read_closed;
+                Some(self.take(now, &buf[..all]))
             }
             Err(error) => match error.kind() {
                 ErrorKind::WouldBlock => {
@@ -105,29 +190,67 @@ impl Connection {
         }
     }
 
+    /// What is heard where no octet comes any more: these first, which are all that is kept, and then the
+    /// end.
+    fn finish(&mut self, octets: &[u8]) -> Heard
+        ensures fits { (len : ℕ) → length octets.now ≤ len → HeardFits len result }
+    {
+        if octets.len() > 0 {
+            self.kept.forget();
+            return Heard::Bytes(self.number, octets.len());
+        }
+        self.is_ended = true;
+        Heard::Ended(self.number)
+    }
+
+    /// What is heard of octets that were read, with those that were kept at their front: as many as the
+    /// cut gives; the others are kept. Where it gives none, more is waited for; where there is no memory to
+    /// keep them, the connection ends.
+    fn take(&mut self, now: Moment, octets: &[u8]) -> Heard
+        ensures cut { HearsCut (cut_at self.old.kept.left octets.now).given result }
+        ensures kept { KeepsCut (behind_cut self.old.kept.left octets.now) result self.new.kept }
+        ensures fits { (len : ℕ) → length octets.now ≤ len → HeardFits len result }
+    {
+        self.last = now;
+        self.is_idle = false;
+        match self.kept.keep(octets) {
+            Ok(0) => Heard::Idle,
+            Ok(given) => Heard::Bytes(self.number, given),
+            Err(_) => {
+                self.is_ended = true;
+                Heard::Ended(self.number)
+            }
+        }
+    }
+
     /// Offers octets. Where the system took none before, it isn't asked again until it reports that it
     /// may take some. A reset, a broken pipe and every other refusal that doesn't pass is a lost
     /// connection.
-    pub(crate) fn write(&mut self, bytes: &[u8]) -> Took
+    pub(crate) fn write(&mut self, now: Moment, bytes: &[u8]) -> Took
         requires { 0 < length bytes.now }
         ensures fits { TookFits (length bytes.now) result }
     {
         if self.is_lost {
             Took::Gone
         } else if self.may_write {
-            self.offer(bytes)
+            self.offer(now, bytes)
         } else {
             Took::Later
         }
     }
 
     /// Offers octets to the system.
-    fn offer(&mut self, bytes: &[u8]) -> Took
+    fn offer(&mut self, now: Moment, bytes: &[u8]) -> Took
         requires { 0 < length bytes.now }
         ensures fits { TookFits (length bytes.now) result }
     {
         match self.stream.write(bytes) {
-            Ok(count) if count > 0 => Took::Took(count),
+            Ok(count) if count > 0 => {
+                if self.is_on_hold {
+                    self.last = now;
+                }
+                Took::Took(count)
+            }
             Ok(_) => Took::Later,
             Err(error) => match error.kind() {
                 ErrorKind::WouldBlock => {

@@ -1,9 +1,11 @@
 //! The connections of the system, each at a place.
 
-ghost use Rattle.std.specs.Prelude.{◌<◌, length, IfSome};
+ghost use Rattle.std.specs.Prelude.{ℕ, ◌<◌, length, IfSome};
 ghost use Rattle.wire_io.specs.Answers.{HeardFits, TookFits};
 
 use crate::connection::Connection;
+use crate::moment::Moment;
+use crate::ready::Ready;
 use mio::event::Event;
 use std::alloc::{AllocError, Global};
 use wire_io::{Heard, Took};
@@ -83,10 +85,15 @@ impl Connections {
     }
 
     /// Puts the connection of the number on hold, or releases it, and gives its place.
-    pub(crate) fn set_on_hold(&mut self, number: u32, is_on_hold: bool) -> Option<usize> {
+    pub(crate) fn set_on_hold(
+        &mut self,
+        number: u32,
+        is_on_hold: bool,
+        now: Moment,
+    ) -> Option<usize> {
         let place = self.place_of(number)?;
         if let Some(connection) = self.at(place) {
-            connection.set_on_hold(is_on_hold);
+            connection.set_on_hold(is_on_hold, now);
         }
         Some(place)
     }
@@ -102,6 +109,57 @@ impl Connections {
         true
     }
 
+    /// Opens the connection at the place, and gives its number.
+    pub(crate) fn open(&mut self, place: usize) -> Option<u32> {
+        match self.at(place) {
+            Some(connection) => Some(connection.open()),
+            None => None,
+        }
+    }
+
+    /// The place of the connection that was silent longest, of those to which nothing is due.
+    fn most_silent(&self) -> Option<usize> {
+        let mut found = None;
+        let mut least = u64::MAX;
+        for (place, held) in self.places.iter().enumerate() {
+            if let Some(connection) = held {
+                let turn = connection.last().turn;
+                if turn < least && connection.is_silent() {
+                    found = Some(place);
+                    least = turn;
+                }
+            }
+        }
+        found
+    }
+
+    /// Ends the connection that was silent longest, of those to which nothing is due, and says so; None
+    /// where there is none.
+    pub(crate) fn end_most_silent(&mut self) -> Option<Heard>
+        ensures fits { (len : ℕ) → IfSome result (HeardFits len) }
+    {
+        let place = self.most_silent()?;
+        match self.at(place) {
+            Some(connection) => {
+                connection.set_ended();
+                Some(Heard::Ended(connection.number()))
+            }
+            None => None,
+        }
+    }
+
+    /// Adds the places of which it is to be heard that nothing happened there for more than so many
+    /// seconds.
+    pub(crate) fn look_over(&mut self, second: u64, limit: u64, ready: &mut Ready) {
+        for place in 0..PLACES {
+            if let Some(connection) = self.at(place) {
+                if connection.look(second, limit) {
+                    ready.add(place);
+                }
+            }
+        }
+    }
+
     /// Notes what the system reports of the place.
     pub(crate) fn note(&mut self, place: usize, event: &Event) {
         if let Some(connection) = self.at(place) {
@@ -110,23 +168,23 @@ impl Connections {
     }
 
     /// What is to be heard of the place now.
-    pub(crate) fn hear(&mut self, place: usize, buf: &mut [u8]) -> Option<Heard>
+    pub(crate) fn hear(&mut self, place: usize, now: Moment, buf: &mut [u8]) -> Option<Heard>
         requires room { 0 < length buf.old }
         ensures fits { IfSome result (HeardFits (length buf.new)) }
     {
         match self.at(place) {
-            Some(connection) => connection.hear(buf),
+            Some(connection) => connection.hear(now, buf),
             None => None,
         }
     }
 
     /// Offers octets for the connection of the number; one that isn't there is lost.
-    pub(crate) fn write(&mut self, number: u32, bytes: &[u8]) -> Took
+    pub(crate) fn write(&mut self, number: u32, now: Moment, bytes: &[u8]) -> Took
         requires { 0 < length bytes.now }
         ensures fits { TookFits (length bytes.now) result }
     {
         match self.of(number) {
-            Some(connection) => connection.write(bytes),
+            Some(connection) => connection.write(now, bytes),
             None => Took::Gone,
         }
     }

@@ -5,6 +5,7 @@
 mod connection;
 mod connections;
 mod link;
+mod moment;
 mod ready;
 mod server;
 mod sockets;

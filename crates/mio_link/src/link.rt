@@ -8,10 +8,15 @@ use plain_values::raised;
 use std::alloc::Global;
 use std::io::ErrorKind;
 use std::net::Net;
+use std::time::Clock;
 use wire_io::{Heard, Link, NextFault, NoMemory, Took};
 
 /// A link to connections of the system. It tells nothing of what it did. Connections have the numbers 1,
-/// 2, 3 and so on; after 4294967295 none is accepted any more. At most 257 are open at a time.
+/// 2, 3 and so on; after 4294967295 none is accepted any more. At most 257 are open at a time: where
+/// another takes the last place, the one whose peer was silent longest is ended for it, of those to which
+/// nothing is due; where there is none such, the other is opened beside them. What is given at once of a
+/// peer's octets makes at most one message whole that is wide, and that is the last; the others are
+/// kept, at most a buffer of them for each connection.
 #[derive(Drop)]
 pub struct MioLink<R> {
     rt: R,
@@ -34,7 +39,7 @@ impl<R: Net + Drop> MioLink<R> {
     }
 }
 
-impl<R: Net> Link for MioLink<R> {
+impl<R: Net + Clock> Link for MioLink<R> {
     ghost use Rattle.std.specs.Prelude.{None};
 
     ghost journal = { λ _. None };
@@ -44,6 +49,11 @@ impl<R: Net> Link for MioLink<R> {
     ghost faults = { λ link. link.faults };
 
     ghost lost = { λ link. link.lost };
+
+    /// The clock is the runtime's; where it can't be read no connection is idle.
+    fn end_idle_after(&mut self, seconds: u64) {
+        self.sockets.end_idle_after(seconds);
+    }
 
     /// Listens at the address, an IP address and a port.
     #[tactic(auto, unfolding(wire_io::specs::link::Telling::OpenTells, wire_io::specs::Answers::LinkCause, wire_io::specs::Answers::IsPlanned))]
@@ -64,7 +74,7 @@ impl<R: Net> Link for MioLink<R> {
         if self.sockets.are_done() {
             return Ok(Heard::Stop);
         }
-        match self.sockets.next(buf) {
+        match self.sockets.next(&self.rt, buf) {
             Ok(heard) => Ok(heard),
             Err(error) if error.kind() == ErrorKind::OutOfMemory => Err(NextFault::NoMemory),
             Err(_) => {

@@ -15,6 +15,9 @@ pub(crate) const LISTENER: usize = PLACES;
 /// How many milliseconds a poll waits at most where a connection could not be accepted.
 const PAUSE: u64 = 100;
 
+/// How many milliseconds a poll waits at most where the clock is to be read.
+const TICK: u64 = 1000;
+
 /// A listening socket, and the poll of it and of all connections.
 #[derive(Drop)]
 pub(crate) struct Server {
@@ -41,10 +44,13 @@ impl Server {
         })
     }
 
-    /// Waits for reports: where a connection could not be accepted, not for long.
-    pub(crate) fn wait(&mut self, events: &mut Events) -> io::Result<()> {
+    /// Waits for reports: where a connection could not be accepted, not for long, and where the clock
+    /// is to be read, for a second at most.
+    pub(crate) fn wait(&mut self, events: &mut Events, has_clock: bool) -> io::Result<()> {
         let limit = if self.is_refused {
             Some(Duration::from_millis(PAUSE))
+        } else if has_clock {
+            Some(Duration::from_millis(TICK))
         } else {
             None
         };

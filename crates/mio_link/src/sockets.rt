@@ -1,11 +1,12 @@
 //! All sockets of a link: events are found by going around the places of which something may be heard,
 //! the listening socket being one place beside those of connections.
 
-ghost use Rattle.std.specs.Prelude.{◌<◌, length, IfOk, IfSome};
+ghost use Rattle.std.specs.Prelude.{ℕ, ◌<◌, length, IfOk, IfSome};
 ghost use Rattle.wire_io.specs.Answers.{HeardFits, TookFits};
 
 use crate::connection::Connection;
 use crate::connections::{Connections, PLACES};
+use crate::moment::Moment;
 use crate::ready::Ready;
 use crate::server::{LISTENER, Server};
 use mio::Events;
@@ -13,6 +14,7 @@ use std::alloc::{AllocError, Global};
 use std::io;
 use std::io::ErrorKind;
 use std::net::{Net, SocketAddr};
+use std::time::{Clock, Instant};
 use wire_io::{Heard, Took};
 
 /// How many events are heard at most before the system is asked for reports again.
@@ -21,6 +23,7 @@ const EVENTS: u32 = 64;
 /// The sockets, and how far they have come.
 #[derive(Drop)]
 pub(crate) struct Sockets {
+    alloc: Global,
     server: Option<Server>,
     connections: Connections,
     events: Events,
@@ -32,6 +35,13 @@ pub(crate) struct Sockets {
     heard: u32,
     // the number of the next connection, as long as there is one
     number: Option<u32>,
+    // the place of a connection that is opened once another was hung up
+    newcomer: Option<usize>,
+    now: Moment,
+    // when the clock was first read
+    start: Option<Instant>,
+    // for how many seconds connections may be idle, 0 where that has no bound
+    idle: u64,
     // after how many ended connections no event comes any more, 0 where there is no such number
     sessions: u64,
     ended: u64,
@@ -41,6 +51,7 @@ impl Sockets {
     /// No socket is open. Later calls take no memory of their own.
     pub(crate) fn new(alloc: Global) -> Result<Sockets, AllocError> {
         Ok(Sockets {
+            alloc,
             server: None,
             connections: Connections::new(alloc)?,
             events: Events::with_capacity(alloc, PLACES + 1)?,
@@ -48,9 +59,18 @@ impl Sockets {
             cursor: 0,
             heard: 0,
             number: Some(1),
+            newcomer: None,
+            now: Moment { turn: 0, second: 0 },
+            start: None,
+            idle: 0,
             sessions: 0,
             ended: 0,
         })
+    }
+
+    /// Has connections ended that are idle for more than so many seconds.
+    pub(crate) fn end_idle_after(&mut self, seconds: u64) {
+        self.idle = seconds;
     }
 
     /// Listens at the address, an IP address and a port, for so many sessions. Sockets open once.
@@ -73,17 +93,17 @@ impl Sockets {
 
     /// The next event: one that can be had now, or one that the system reports next; Idle where its
     /// reports bring none.
-    pub(crate) fn next(&mut self, buf: &mut [u8]) -> io::Result<Heard>
+    pub(crate) fn next<R: Clock>(&mut self, rt: &R, buf: &mut [u8]) -> io::Result<Heard>
         requires room { 0 < length buf.old }
         ensures fits { IfOk result (HeardFits (length buf.new)) }
     {
         if self.heard >= EVENTS {
-            self.look()?;
+            self.look(rt)?;
         }
         if let Some(heard) = self.hear(buf) {
             return Ok(heard);
         }
-        self.wait()?;
+        self.wait(rt)?;
         match self.hear(buf) {
             Some(heard) => Ok(heard),
             None => Ok(Heard::Idle),
@@ -97,6 +117,7 @@ impl Sockets {
         ensures fits { IfSome result (HeardFits (length buf.new)) }
     {
         self.heard = self.heard.saturating_add(1);
+        self.now.turn = self.now.turn.saturating_add(1);
         for _ in 0..PLACES + 1 {
             let place = self.ready.next(self.cursor)?;
             self.cursor = place.saturating_add(1);
@@ -114,42 +135,74 @@ impl Sockets {
         ensures fits { IfSome result (HeardFits (length buf.new)) }
     {
         if place != LISTENER {
-            return self.connections.hear(place, buf);
+            return self.connections.hear(place, self.now, buf);
         }
-        match self.accept() {
+        match self.newcomer {
+            Some(newcomer) => self.admit(newcomer),
+            None => self.accept(),
+        }
+    }
+
+    /// Accepts a connection that waits, where a place is free and a number left. Where it takes the last
+    /// place, the connection that was silent longest is ended first, if there is one to which nothing is
+    /// due; the other is opened once a place is free.
+    fn accept(&mut self) -> Option<Heard>
+        ensures fits { (len : ℕ) → IfSome result (HeardFits len) }
+    {
+        let number = self.number?;
+        let place = self.connections.free()?;
+        let stream = self.server.as_mut()?.accept(place)?;
+        self.number = number.checked_add(1);
+        let connection = Connection::new(self.alloc, number, stream, self.now);
+        self.connections.put(place, number, connection);
+        if self.connections.free().is_none() {
+            if let Some(ended) = self.connections.end_most_silent() {
+                self.newcomer = Some(place);
+                return Some(ended);
+            }
+        }
+        self.open_at(place)
+    }
+
+    /// Opens the connection that waits at the place, once another place is free.
+    fn admit(&mut self, place: usize) -> Option<Heard>
+        ensures fits { (len : ℕ) → IfSome result (HeardFits len) }
+    {
+        self.connections.free()?;
+        self.newcomer = None;
+        self.ready.add(place);
+        self.open_at(place)
+    }
+
+    /// Opens the connection at the place.
+    fn open_at(&mut self, place: usize) -> Option<Heard>
+        ensures fits { (len : ℕ) → IfSome result (HeardFits len) }
+    {
+        match self.connections.open(place) {
             Some(number) => Some(Heard::Opened(number)),
             None => None,
         }
     }
 
-    /// Accepts a connection that waits, where a place is free and a number left, and gives the number.
-    fn accept(&mut self) -> Option<u32> {
-        let number = self.number?;
-        let place = self.connections.free()?;
-        let stream = self.server.as_mut()?.accept(place)?;
-        self.number = number.checked_add(1);
-        let connection = Connection::new(number, stream);
-        self.connections.put(place, number, connection);
-        Some(number)
-    }
-
     /// Waits for the system's reports.
-    fn wait(&mut self) -> io::Result<()> {
+    fn wait<R: Clock>(&mut self, rt: &R) -> io::Result<()> {
         match &mut self.server {
-            Some(server) => server.wait(&mut self.events)?,
+            Some(server) => server.wait(&mut self.events, self.idle > 0)?,
             None => return Err(io::Error::from(ErrorKind::NotConnected)),
         }
         self.note();
+        self.tick(rt);
         Ok(())
     }
 
     /// Takes the system's reports that are there.
-    fn look(&mut self) -> io::Result<()> {
+    fn look<R: Clock>(&mut self, rt: &R) -> io::Result<()> {
         match &mut self.server {
             Some(server) => server.look(&mut self.events)?,
             None => return Err(io::Error::from(ErrorKind::NotConnected)),
         }
         self.note();
+        self.tick(rt);
         Ok(())
     }
 
@@ -168,12 +221,32 @@ impl Sockets {
         self.listen();
     }
 
+    /// Reads the clock where the time of idle connections has a bound, and looks them over once a second.
+    /// Where the clock can't be read none is idle.
+    fn tick<R: Clock>(&mut self, rt: &R) {
+        if self.idle == 0 {
+            return;
+        }
+        let Ok(instant) = Instant::now(rt) else {
+            return;
+        };
+        let start = *self.start.get_or_insert(instant);
+        let second = instant.duration_since(start).as_secs();
+        if second != self.now.second {
+            self.now.second = second;
+            self.connections
+                .look_over(second, self.idle, &mut self.ready);
+        }
+    }
+
     /// Has the listening socket asked where connections may wait.
     fn listen(&mut self) {
-        if let Some(server) = &self.server {
-            if server.may_accept() {
-                self.ready.add(LISTENER);
-            }
+        let may_accept = match &self.server {
+            Some(server) => server.may_accept(),
+            None => false,
+        };
+        if may_accept || self.newcomer.is_some() {
+            self.ready.add(LISTENER);
         }
     }
 
@@ -182,12 +255,12 @@ impl Sockets {
         requires { 0 < length bytes.now }
         ensures fits { TookFits (length bytes.now) result }
     {
-        self.connections.write(number, bytes)
+        self.connections.write(number, self.now, bytes)
     }
 
     /// Puts the connection on hold, or releases it.
     pub(crate) fn set_on_hold(&mut self, number: u32, is_on_hold: bool) {
-        if let Some(place) = self.connections.set_on_hold(number, is_on_hold) {
+        if let Some(place) = self.connections.set_on_hold(number, is_on_hold, self.now) {
             self.ready.add(place);
         }
     }

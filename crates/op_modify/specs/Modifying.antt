@@ -1,5 +1,6 @@
 -- What a modify comes to (RFC 4511 4.6, X.511 11.3): the changes are made in their order on a copy of the entry, which then
--- takes the entry's place. Each decision is taken over the entries before, and a change that is refused refuses them all.
+-- takes the entry's place. Each decision is taken over the entries before; where it is on a value that comes, the entry
+-- counts as that change would leave it. A change that is refused refuses them all.
 use Rattle.std.specs.Prelude.{List, [], ◌∷◌, Option, Some, None, Result, Ok, Err, if◌then◌else◌}
 use Rattle.dir_tree.specs.dn_names.name.Names.{RdnSequence}
 use Rattle.dir_tree.specs.dn_names.declared.error.BadName.{BadName}
@@ -10,8 +11,8 @@ use Rattle.acdf_filters.specs.aci_item.Rules.{broken_rule}
 use Rattle.acdf_filters.specs.aci_item.declared.permission.Permission.TheVariants.{Modify}
 use Rattle.acdf_filters.specs.declared.asking.Requester.{Requester}
 use Rattle.acdf_filters.specs.Asking.{Entry}
-use Rattle.acdf_filters.specs.Granted.{granted}
-use Rattle.entry_changes.specs.Change.{Modification, changed_by}
+use Rattle.acdf_filters.specs.Granted.{granted, granted_after}
+use Rattle.entry_changes.specs.Change.{Asker, Modification, changed_by}
 use Rattle.ldap_msg.specs.declared.operations.ResultCode.{ResultCode}
 use Rattle.ldap_msg.specs.declared.operations.ResultCode.TheVariants as code
 use Rattle.ldap_msg.specs.declared.kinds.Change.{Change}
@@ -20,6 +21,10 @@ use Rattle.read_model.specs.Views.{view_of, hidden, result_of}
 use Rattle.op_add_delete.specs.adding.Adding.{rule_refusal}
 use Rattle.op_add_delete.specs.adding.Updates.{Changed, refused, unless}
 use Rattle.op_modify.specs.ReadChanges.{read_changes}
+
+-- who answers of the entry, for the requester
+abbrev pub asker_of : List EntryInformation → Requester → EntryInformation → Asker
+asker_of entries who entry = record { allows = granted entries who entry; adds = granted_after entries who entry }
 
 -- the entry that the changes leave takes the target's place, unless it breaks a rule there
 abbrev pub modified_as : List EntryInformation → EntryInformation → Result EntryInformation ResultCode → Changed
@@ -33,7 +38,7 @@ abbrev pub modified_target : List EntryInformation → Requester → RdnSequence
 modified_target entries who name changes None = refused entries (hidden (view_of entries who) name)
 modified_target entries who name changes (Some target) =
     if granted entries who target Entry Modify
-    then modified_as entries target (changed_by (granted entries who target) target changes)
+    then modified_as entries target (changed_by (asker_of entries who target) target changes)
     else refused entries (hidden (view_of entries who) name)
 
 -- the changes, where they could be read

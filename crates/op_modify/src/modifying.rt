@@ -3,14 +3,13 @@
 ghost use Rattle.std.specs.Prelude.{◌≡◌, Some, Ok, IfOk, OnErr};
 ghost use Rattle.dir_tree.specs.tree.Trees.{named_in};
 ghost use Rattle.dir_tree.specs.tree.Numbered.{entry_of, entries_of};
-ghost use Rattle.acdf_filters.specs.Granted.{granted};
 ghost use Rattle.entry_changes.specs.Change.{changed_by};
 ghost use Rattle.op_add_delete.specs.adding.Updates.{IsChanged};
 ghost use Rattle.op_modify.specs.ReadChanges.{read_changes};
-ghost use Rattle.op_modify.specs.Modifying.{modified_as, modified_target, modified_by, modified_named, modified};
+ghost use Rattle.op_modify.specs.Modifying.{asker_of, modified_as, modified_target, modified_by, modified_named, modified};
 ghost use Rattle.op_modify.specs.Steps.{IsChecked};
 
-use crate::asker::EntryAsker;
+use crate::asker::TargetAsker;
 use crate::reading::read_changes;
 use crate::replacing::{Checked, make, rule_refusal};
 use acdf_filters::aci_item::Permission;
@@ -51,11 +50,11 @@ fn check_changes<D: Dir>(
     requires found { entry_of target.number.0 (D.rows asking.now.dir.now) ≡ Some target.entry.now }
     ensures ok { IfOk result (λ checked. IsChecked
         (modified_as (entries_of (D.rows asking.now.dir.now)) target.entry.entry.now
-        (changed_by (granted (entries_of (D.rows asking.now.dir.now)) asking.now.who.now target.entry.entry.now)
+        (changed_by (asker_of (entries_of (D.rows asking.now.dir.now)) asking.now.who.now target.entry.entry.now)
         target.entry.entry.now changes.items))
         (D.rows asking.now.dir.now) checked) }
 {
-    let asker = EntryAsker {
+    let asker = TargetAsker {
         asking,
         number: target.number,
     };
@@ -166,8 +165,8 @@ fn modify_named<D: Dir>(
 }
 
 /// Modifies the entry of the name (RFC 4511 4.6, X.511 11.3) by the request's changes, in their order and all or none:
-/// each must be one that the requester may make, by decisions that are all taken before the first is made, and the entry
-/// that they leave must keep the rules of the directory. None where it was done, and otherwise the result that refuses it,
+/// each must be one that the requester may make, by decisions that are all taken before the first is made, where a value
+/// that comes counts as one of the entry that its change leaves, and the entry that they leave must keep the rules of the directory. None where it was done, and otherwise the result that refuses it,
 /// with the directory as it was: of an entry that may not be modified nothing is said but what is said of one that isn't
 /// there, unless the requester may know of it. The error comes where memory is wanted, and all is then as it was.
 pub fn modify<D: Dir>(

@@ -22,12 +22,14 @@ use ldap_msg::{ResultCode, SearchRequest, put_reply};
 use read_model::filter_match::prepare_filter;
 use std::alloc::Global;
 
-/// A request to search, with the number of its message and what the control of subentries says (RFC 3672 3).
+/// A request to search, with the number of its message, what the control of subentries says (RFC 3672 3), and how many
+/// octets `out` may hold before a further entry is refused.
 #[derive(Clone, Copy)]
 struct Asked<'a> {
     id: u32,
     request: &'a SearchRequest,
     subentries: Option<bool>,
+    room: usize,
 }
 
 // Appends the replies to a search from the entry of the number on, which has the name.
@@ -115,6 +117,7 @@ fn put_prepared<D: Dir>(
         subentries: asked.subentries,
         filter: &filter,
         selection,
+        room: asked.room,
     };
     put_at(alloc, asking, &search, base, out)
 }
@@ -245,7 +248,8 @@ fn append_replies<D: Dir>(
 /// and up to the limit of the request, and how the search ended. What the requester may not know of is answered as
 /// what is not there: over two trees that differ only in a subtree of which it sees nothing, the same octets are
 /// appended. `subentries` is what the control of subentries says, where it goes with the request (RFC 3672 3). The
-/// error comes for want of memory alone, and then `out` is as before.
+/// error comes for want of memory, or past the room: where `out` holds more than `room` octets and entries of the scope
+/// are left. Then `out` is as before.
 pub fn search<D: Dir>(
     alloc: Global,
     dir: &D,
@@ -253,6 +257,7 @@ pub fn search<D: Dir>(
     id: u32,
     request: &SearchRequest,
     subentries: Option<bool>,
+    room: usize,
     out: &mut Vec<u8>,
 ) -> Result<(), NoMemory>
     ensures ok { OnOk result (out.new.items ≡ out.old.items ++ replies_octets id
@@ -265,6 +270,7 @@ pub fn search<D: Dir>(
         id,
         request,
         subentries,
+        room,
     };
     append_replies(alloc, dir, who, asked, out)
 }

@@ -21,7 +21,7 @@ use dir_tree::{EntryNo, NoMemory};
 use directory::{Asking, Dir, discloses, no_such_object, result_of};
 use ldap_msg::{LdapResult, Reply, ResultCode, SearchRequest, put_reply};
 use read_model::filter_match::Prepared;
-use std::alloc::Global;
+use std::alloc::{AllocError, Global};
 
 /// A search, with what is made of its request once for all entries.
 #[derive(Drop)]
@@ -32,6 +32,8 @@ pub(crate) struct Search<'a> {
     pub(crate) subentries: Option<bool>,
     pub(crate) filter: &'a Prepared<'a>,
     pub(crate) selection: Selection<'a>,
+    /// How many octets `out` may hold, before a further entry is refused.
+    pub(crate) room: usize,
     ghost filtering: { filter.now ≡ request.now.filter },
     ghost types: { (kind : ℕ)
         → list_any (chooses kind) selection.choices.now ≡ is_chosen request.now.selection kind },
@@ -118,7 +120,7 @@ fn send<D: Dir>(
     Ok(true)
 }
 
-// Sends the entry if it is selected.
+// Sends the entry if it is selected. The error also comes where `out` is past the room, whether it is selected or not.
 fn offer<D: Dir>(
     alloc: Global,
     search: &Search<'_>,
@@ -133,6 +135,9 @@ fn offer<D: Dir>(
         sent.old out.old.items sent.new out.new.items goes_on) }
     ensures kept { Extends out.old.items out.new.items }
 {
+    if out.len() > search.room {
+        return Err(AllocError);
+    }
     if is_shown(search, seen) {
         send(alloc, search, seen, sent, out)
     } else {
@@ -172,7 +177,8 @@ fn offer_at<D: Dir>(
 }
 
 /// Sends the entries of the scope that are selected, from the entry of the number on and in the order of names: no
-/// more than the limit, if there is one. What is not selected is not counted.
+/// more than the limit, if there is one. What is not selected is not counted. The error comes for want of memory, or
+/// where `out` is past the room and entries of the scope are left.
 pub(crate) fn put_found<D: Dir>(
     alloc: Global,
     asking: &Asking<'_, D>,

@@ -13,6 +13,8 @@ mod integers;
 #[cfg(test)]
 mod links;
 #[cfg(test)]
+mod pieces;
+#[cfg(test)]
 mod replies;
 #[cfg(test)]
 mod requests;

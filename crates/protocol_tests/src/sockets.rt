@@ -109,3 +109,99 @@ fn what_comes_behind_a_short_read_is_heard(rt: HostRuntime) -> Result<(), Fail> 
     assert_eq!(rt; next(&mut link, &mut buf), Ok(Heard::Ended(2)));
     Ok(())
 }
+
+/// A search of the whole tree below "dc=x" for objectClass (RFC 4511 4.5.1).
+const TREE: [u8; 37] = [
+    0x30, 0x23, 2, 1, 1, 0x63, 0x1e, 4, 4, 0x64, 0x63, 0x3d, 0x78, 0x0a, 1, 2, 0x0a, 1, 0, 2, 1, 0,
+    2, 1, 0, 1, 1, 0, 0x87, 5, 0x63, 0x6c, 0x61, 0x73, 0x73, 0x30, 0,
+];
+
+#[test]
+fn searches_sent_at_once_are_heard_in_turn_with_others(rt: HostRuntime) -> Result<(), Fail> {
+    let address = free_address(&rt)?;
+    let name = format!(in rt.alloc(); "{address}")?;
+    let mut link = MioLink::new(rt.clone()?, rt.alloc())?;
+    let mut buf = [0u8; 200];
+    assert_eq!(rt; link.open(&name, 0), Ok(()));
+    let mut peer = TcpStream::connect(&rt, address)?;
+    assert_eq!(rt; next(&mut link, &mut buf), Ok(Heard::Opened(1)));
+    let mut other = TcpStream::connect(&rt, address)?;
+    assert_eq!(rt; next(&mut link, &mut buf), Ok(Heard::Opened(2)));
+
+    let mut octets = Vec::new(rt.alloc());
+    for _ in 0..3 {
+        octets.extend_from_slice(&TREE)?;
+    }
+    octets.push(0x30)?;
+    peer.write_all(&octets)?;
+    other.write_all(&TREE)?;
+    assert_eq!(rt; next(&mut link, &mut buf), Ok(Heard::Bytes(1, 37)));
+    assert_eq!(rt; next(&mut link, &mut buf), Ok(Heard::Bytes(2, 37)));
+    assert_eq!(rt; next(&mut link, &mut buf), Ok(Heard::Bytes(1, 37)));
+    // on hold nothing is heard of it
+    assert!(rt; link.hold(1).is_ok());
+    assert_eq!(rt; next(&mut link, &mut buf), Ok(Heard::Ready(1)));
+    assert!(rt; link.release(1).is_ok());
+    assert_eq!(rt; next(&mut link, &mut buf), Ok(Heard::Bytes(1, 37)));
+    assert_eq!(rt; &buf[..37], &TREE[..]);
+
+    // the front of a header comes with what follows it, and before the end
+    peer.write_all(&[5, 2])?;
+    assert_eq!(rt; next(&mut link, &mut buf), Ok(Heard::Bytes(1, 3)));
+    other.write_all(&[0x30])?;
+    other.shutdown(Shutdown::Write)?;
+    assert_eq!(rt; next(&mut link, &mut buf), Ok(Heard::Bytes(2, 1)));
+    assert_eq!(rt; next(&mut link, &mut buf), Ok(Heard::Ended(2)));
+    Ok(())
+}
+
+#[test]
+fn the_peer_that_was_silent_longest_makes_room_for_another(rt: HostRuntime) -> Result<(), Fail> {
+    let address = free_address(&rt)?;
+    let name = format!(in rt.alloc(); "{address}")?;
+    let mut link = MioLink::new(rt.clone()?, rt.alloc())?;
+    let mut buf = [0u8; 4];
+    assert_eq!(rt; link.open(&name, 0), Ok(()));
+    let mut peers = Vec::new(rt.alloc());
+    for number in 1..257u32 {
+        peers.push(TcpStream::connect(&rt, address)?)?;
+        assert_eq!(rt; next(&mut link, &mut buf), Ok(Heard::Opened(number)));
+    }
+    // the first spoke last, the second is on hold
+    peers[0].write_all(b"abc")?;
+    assert_eq!(rt; next(&mut link, &mut buf), Ok(Heard::Bytes(1, 3)));
+    assert!(rt; link.hold(2).is_ok());
+    assert_eq!(rt; next(&mut link, &mut buf), Ok(Heard::Ready(2)));
+
+    let mut other = TcpStream::connect(&rt, address)?;
+    other.write_all(b"xyz")?;
+    let mut heard = next(&mut link, &mut buf);
+    for _ in 0..4 {
+        if heard == Ok(Heard::Ready(2)) {
+            heard = next(&mut link, &mut buf);
+        }
+    }
+    assert_eq!(rt; heard, Ok(Heard::Ended(3)));
+    assert!(rt; link.release(2).is_ok());
+    assert!(rt; link.hang_up(3).is_ok());
+    assert_eq!(rt; next(&mut link, &mut buf), Ok(Heard::Opened(257)));
+    assert_eq!(rt; next(&mut link, &mut buf), Ok(Heard::Bytes(257, 3)));
+    Ok(())
+}
+
+#[test]
+fn a_peer_that_is_idle_is_ended(rt: HostRuntime) -> Result<(), Fail> {
+    let address = free_address(&rt)?;
+    let name = format!(in rt.alloc(); "{address}")?;
+    let mut link = MioLink::new(rt.clone()?, rt.alloc())?;
+    let mut buf = [0u8; 4];
+    link.end_idle_after(1);
+    assert_eq!(rt; link.open(&name, 0), Ok(()));
+    let mut peer = TcpStream::connect(&rt, address)?;
+    assert_eq!(rt; next(&mut link, &mut buf), Ok(Heard::Opened(1)));
+    peer.write_all(b"abc")?;
+    assert_eq!(rt; next(&mut link, &mut buf), Ok(Heard::Bytes(1, 3)));
+    assert_eq!(rt; next(&mut link, &mut buf), Ok(Heard::Ended(1)));
+    assert!(rt; link.hang_up(1).is_ok());
+    Ok(())
+}

@@ -7,12 +7,18 @@ use std::test::*;
 const USAGE: &str = "usage: aclserver (serve|replay|check|dump|explain|sample) WORDS\n";
 
 /// Lines that are no command.
-static NO_COMMANDS: [&str; 11] = [
+static NO_COMMANDS: [&str; 17] = [
     "",
     "replay",
     "replay d",
     "replay d s t",
     "serve d",
+    "serve d 127.0.0.1:389 --queues 0",
+    "serve d 127.0.0.1:389 --queues 65537",
+    "serve d 127.0.0.1:389 --idle 0",
+    "serve d 127.0.0.1:389 --limit 0",
+    "serve d 127.0.0.1:389 --limit 2147483648",
+    "replay d s --limit 2",
     "replay d s --dump=x",
     "check",
     "check d s",

@@ -105,8 +105,18 @@ pub fn run_line(alloc: Global, line: &str, script: &[u8]) -> Result<Ran, AllocEr
 
 /// Runs the program on the words of the line over two entries, with this link.
 pub fn run_serving(alloc: Global, line: &str, link: &mut ScriptLink) -> Result<Ran, AllocError> {
+    run_serving_over(alloc, line, TWO_ENTRIES, link)
+}
+
+/// Runs the program on the words of the line over a data file, with this link.
+pub fn run_serving_over(
+    alloc: Global,
+    line: &str,
+    data: &str,
+    link: &mut ScriptLink,
+) -> Result<Ran, AllocError> {
     let words = words_of(alloc, line)?;
-    let mut shelf = shelf_of(alloc, TWO_ENTRIES.as_bytes(), b"", &[])?;
+    let mut shelf = shelf_of(alloc, data.as_bytes(), b"", &[])?;
     let mut out = MemSink::new(alloc, Vec::new(alloc));
     let status = run(alloc, words.as_slice(), &mut shelf, &mut out, link);
     let put = String::from_utf8_lossy(alloc, out.bytes())?;

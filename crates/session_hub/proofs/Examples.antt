@@ -133,23 +133,23 @@ search_twice : answered [] nobody (subentries_with None ∷ subentries_with None
 search_twice = refl
 
 -- an anonymous bind, as octets, and its reply
-one_bind : (said_to None [] nobody (0x30 ∷ 12 ∷ 2 ∷ 1 ∷ 1 ∷ 0x60 ∷ 7 ∷ 2 ∷ 1 ∷ 3 ∷ 4 ∷ 0 ∷ 0x80 ∷ 0 ∷ [])).replies
+one_bind : (said_to 0 None [] nobody (0x30 ∷ 12 ∷ 2 ∷ 1 ∷ 1 ∷ 0x60 ∷ 7 ∷ 2 ∷ 1 ∷ 3 ∷ 4 ∷ 0 ∷ 0x80 ∷ 0 ∷ [])).replies
     ≡ 0x30 ∷ 12 ∷ 2 ∷ 1 ∷ 1 ∷ 0x61 ∷ 7 ∷ 10 ∷ 1 ∷ 0 ∷ 4 ∷ 0 ∷ 4 ∷ 0 ∷ []
 unfolding speech rules talk whole whole_of rest_of rest_behind is_broken frame_at framed message_of message_in reads_into any_of required_of optional_of marked_of each_from each_of tagged_at piece_at piece_of number_in are_pieces pieces_of header_at length_at int_at int_octets length_octets element_octets reply_octets bind_answer read_name text_fault resolve written_of
 one_bind = refl
 
 -- an unbind closes in silence, and what follows it is not answered
-one_unbind : (said_to None [] nobody (0x30 ∷ 5 ∷ 2 ∷ 1 ∷ 2 ∷ 0x42 ∷ 0 ∷ 0x31 ∷ [])).replies ≡ []
+one_unbind : (said_to 0 None [] nobody (0x30 ∷ 5 ∷ 2 ∷ 1 ∷ 2 ∷ 0x42 ∷ 0 ∷ 0x31 ∷ [])).replies ≡ []
 unfolding speech rules talk whole whole_of rest_of rest_behind is_broken frame_at framed message_of message_in reads_into any_of required_of optional_of marked_of each_from each_of tagged_at piece_at piece_of number_in are_pieces pieces_of header_at length_at int_at
 one_unbind = refl
 
 -- messageID 0 is no message: the notice, and the connection closes
-unreadable : (said_to None [] nobody (0x30 ∷ 5 ∷ 2 ∷ 1 ∷ 0 ∷ 0x42 ∷ 0 ∷ [])).closes ≡ true
+unreadable : (said_to 0 None [] nobody (0x30 ∷ 5 ∷ 2 ∷ 1 ∷ 0 ∷ 0x42 ∷ 0 ∷ [])).closes ≡ true
 unfolding speech rules talk whole whole_of rest_of rest_behind is_broken frame_at framed message_of message_in reads_into any_of required_of optional_of marked_of each_from each_of tagged_at piece_at piece_of number_in are_pieces pieces_of header_at length_at int_at
 unreadable = refl
 
 -- a cut says nothing of the messages behind it, and closes
-cut_away : said_to (Some 0) [] nobody (0x30 ∷ 5 ∷ 2 ∷ 1 ∷ 2 ∷ 0x42 ∷ 0 ∷ []) ≡ record { replies = []; tree = []; who = nobody; closes = true }
+cut_away : said_to 0 (Some 0) [] nobody (0x30 ∷ 5 ∷ 2 ∷ 1 ∷ 2 ∷ 0x42 ∷ 0 ∷ []) ≡ record { replies = []; tree = []; who = nobody; closes = true }
 unfolding speech talk whole whole_of frame_at framed header_at length_at
 cut_away = refl
 

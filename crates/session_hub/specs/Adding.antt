@@ -40,48 +40,48 @@ pub record OnlyServes (plan_old plan_new : Option Plan) (faults_old faults_new l
   pub lost : NeverFalls lost_old lost_new
 
 -- these are still due, and all others stand as they have to
-abbrev pub IsServing : DirectoryEntries → List ℕ → Held DirectoryEntries Requester → List ℕ → List Item → Type 0
-IsServing entries due held on_hold added = Works rules entries due held on_hold added
+abbrev pub IsServing : ℕ → DirectoryEntries → List ℕ → Held DirectoryEntries Requester → List ℕ → List Item → Type 0
+IsServing limit entries due held on_hold added = Works (rules limit) entries due held on_hold added
 
 -- the first that is due has nothing left to be sent
-pub record IsSent (entries : DirectoryEntries) (number : ℕ) (due : List ℕ) (held : Held DirectoryEntries Requester) (on_hold : List ℕ) (added : List Item) : Type 0 where
-  pub serving : IsServing entries (number ∷ due) held on_hold added
+pub record IsSent (limit : ℕ) (entries : DirectoryEntries) (number : ℕ) (due : List ℕ) (held : Held DirectoryEntries Requester) (on_hold : List ℕ) (added : List Item) : Type 0 where
+  pub serving : IsServing limit entries (number ∷ due) held on_hold added
   pub empty : queue_of number held.kept ≡ []
 
 -- and it isn't on hold
-pub record IsFree (entries : DirectoryEntries) (number : ℕ) (due : List ℕ) (held : Held DirectoryEntries Requester) (on_hold : List ℕ) (added : List Item) : Type 0 where
-  pub sent : IsSent entries number due held on_hold added
+pub record IsFree (limit : ℕ) (entries : DirectoryEntries) (number : ℕ) (due : List ℕ) (held : Held DirectoryEntries Requester) (on_hold : List ℕ) (added : List Item) : Type 0 where
+  pub sent : IsSent limit entries number due held on_hold added
   pub free : is_listed number on_hold ≡ false
 
 -- the claim where a call had memory; and where it had none the journal is right so far
-abbrev pub After : {X E : Type 0} → Result X E → DirectoryEntries → DirectoryEntries → (List Item → Type 0) → List Item → Type 0
-After (Ok value) entries left claim added = claim added
-After (Err fault) entries left claim added = Leads rules entries left added
+abbrev pub After : {X E : Type 0} → ℕ → Result X E → DirectoryEntries → DirectoryEntries → (List Item → Type 0) → List Item → Type 0
+After limit (Ok value) entries left claim added = claim added
+After limit (Err fault) entries left claim added = Leads (rules limit) entries left added
 
 -- what a queue's sending came to
-abbrev pub SentIs : Sent → DirectoryEntries → ℕ → List ℕ → Held DirectoryEntries Requester → List ℕ → List Item → Type 0
-SentIs sent.All entries number due held on_hold added = IsSent entries number due held on_hold added
-SentIs sent.Later entries number due held on_hold added = Refused rules entries number due held on_hold added
-SentIs sent.Gone entries number due held on_hold added = Lost rules entries number due held on_hold added
+abbrev pub SentIs : ℕ → Sent → DirectoryEntries → ℕ → List ℕ → Held DirectoryEntries Requester → List ℕ → List Item → Type 0
+SentIs limit sent.All entries number due held on_hold added = IsSent limit entries number due held on_hold added
+SentIs limit sent.Later entries number due held on_hold added = Refused (rules limit) entries number due held on_hold added
+SentIs limit sent.Gone entries number due held on_hold added = Lost (rules limit) entries number due held on_hold added
 
 -- the same of its answer
-abbrev pub SentAs : {E : Type 0} → Result Sent E → DirectoryEntries → ℕ → List ℕ → Held DirectoryEntries Requester → List ℕ → List Item → Type 0
-SentAs (Ok came) entries number due held on_hold added = SentIs came entries number due held on_hold added
-SentAs (Err fault) entries number due held on_hold added = Leads rules entries held.tree added
+abbrev pub SentAs : {E : Type 0} → ℕ → Result Sent E → DirectoryEntries → ℕ → List ℕ → Held DirectoryEntries Requester → List ℕ → List Item → Type 0
+SentAs limit (Ok came) entries number due held on_hold added = SentIs limit came entries number due held on_hold added
+SentAs limit (Err fault) entries number due held on_hold added = Leads (rules limit) entries held.tree added
 
 -- an event was heard last, which may come, and before it nobody was due
-pub record IsHeard (entries : DirectoryEntries) (held : Held DirectoryEntries Requester) (on_hold : List ℕ) (last_event : Event) (added : List Item) : Type 0 where
+pub record IsHeard (limit : ℕ) (entries : DirectoryEntries) (held : Held DirectoryEntries Requester) (on_hold : List ℕ) (last_event : Event) (added : List Item) : Type 0 where
   pub before : List Item
   pub last : added ≡ before ++ item.Heard last_event ∷ []
   pub opens : (number : ℕ) → last_event ≡ event.Opened number → was_opened number before ≡ false
-  pub works : IsServing entries [] held on_hold before
+  pub works : IsServing limit entries [] held on_hold before
 
 -- a connection opened for which there was no room, and the hub doesn't hold it
-pub record IsTurnedAway (entries : DirectoryEntries) (number : ℕ) (now : Held DirectoryEntries Requester) (on_hold : List ℕ) (added : List Item) : Type 0 where
+pub record IsTurnedAway (limit : ℕ) (entries : DirectoryEntries) (number : ℕ) (now : Held DirectoryEntries Requester) (on_hold : List ℕ) (added : List Item) : Type 0 where
   pub old : Held DirectoryEntries Requester
-  pub heard : IsHeard entries old on_hold (event.Opened number) added
+  pub heard : IsHeard limit entries old on_hold (event.Opened number) added
   pub full : most_held ≤ length old.kept
-  pub same : now ≡ model.heard rules (Opened number) old
+  pub same : now ≡ model.heard (rules limit) (Opened number) old
 
 -- whether an answer of a link is Stop
 abbrev pub stops_with : Answer → Bool

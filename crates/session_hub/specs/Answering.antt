@@ -1,6 +1,6 @@
 -- How this server answers each message (RFC 4511 4.1.1, 4.2 to 4.12). The rules of sessions take this, and
 -- nothing else of them knows what is answered.
-use Rattle.std.specs.Prelude.{Bool, true, false, List, [], ◌∷◌, Option, Some, None, if◌then◌else◌}
+use Rattle.std.specs.Prelude.{ℕ, Bool, true, false, List, [], ◌∷◌, Option, Some, None, if◌then◌else◌}
 use Rattle.session_model.specs.ldap_msg.declared.kinds.BindRequest.{BindRequest}
 use Rattle.session_model.specs.ldap_msg.declared.kinds.SearchRequest.{SearchRequest}
 use Rattle.session_model.specs.ldap_msg.declared.kinds.Request.{Request}
@@ -24,6 +24,7 @@ use Rattle.change_laws.specs.op_modify.Renames.{renamed}
 use Rattle.session_model.specs.Rules.{Rules, Answered}
 use Rattle.session_hub.specs.Parties.{DirectoryEntries, Requester, nobody}
 use Rattle.session_hub.specs.Controls.{is_refused, subentries_asked}
+use Rattle.session_hub.specs.Limiting.{limited_read}
 
 -- a result as the response to a request; none to an unbind or an abandon
 abbrev pub response_to : Request → LdapResult → Option Reply
@@ -157,6 +158,7 @@ answer_read entries who (Some message) =
       closes = is_unbind message.request;
     }
 
--- the rules of this server, over the entries of its directory
-unfoldable pub rules : Rules DirectoryEntries Requester
-rules = record { nobody = nobody; answer = λ tree who bytes. answer_read tree who (message_of bytes) }
+-- the rules of this server, over the entries of its directory: what was read is answered with the server's limit on searches,
+-- where 0 is none
+unfoldable pub rules : ℕ → Rules DirectoryEntries Requester
+rules limit = record { nobody = nobody; answer = λ tree who bytes. answer_read tree who (limited_read limit (message_of bytes)) }

@@ -1,14 +1,16 @@
 -- What an answered message, and an answered stream, leave.
-use Rattle.std.specs.Prelude.{◌≡◌, ◌≤◌, ◌+◌, ℕ, Bool, true, false, List, ◌++◌, length, drop, Option, Some, None}
+use Rattle.std.specs.Prelude.{◌≡◌, ◌≤◌, ◌<◌, ◌+◌, ◌⊎◌, ℕ, Bool, true, false, List, [], ◌++◌, length, drop, Option, Some, None}
 use Rattle.session_model.specs.ldap_msg.Streams.{rest_of}
+use Rattle.session_model.specs.ldap_msg.Replies.{notice_octets}
 use Rattle.session_model.specs.Rules.{Answered, after_octets}
 use Rattle.session_model.specs.Kept.{speech}
 use Rattle.session_hub.specs.Parties.{DirectoryEntries, Requester}
 use Rattle.session_hub.specs.declared.spoken.Spoken.{Spoken}
 use Rattle.session_hub.specs.declared.spoken.SpeechEnd.{SpeechEnd}
-use Rattle.session_hub.specs.declared.spoken.SpeechEnd.TheVariants.{StaysOpen, Closes, IsCut}
+use Rattle.session_hub.specs.declared.spoken.SpeechEnd.TheVariants.{StaysOpen, Closes, IsCut, IsFull}
 use Rattle.op_read.specs.read_model.SearchReplies.{replies_octets}
 use Rattle.session_hub.specs.Answering.{rules, Operated}
+use Rattle.session_hub.specs.Rooms.{HasRoom, queued_after}
 
 -- the octets sent, the entries and the requester left, and whether the connection closes are those of the answer
 pub record Gives (answered : Answered DirectoryEntries Requester) (old new : List ℕ) (entries : DirectoryEntries) (who : Requester) (closes : Bool) : Type 0 where
@@ -25,28 +27,37 @@ pub record Sends (id : ℕ) (came : Operated) (old new : List ℕ) (entries : Di
   pub asker : who ≡ came.who
 
 -- what is said to a stream by this server, up to a cut
-abbrev pub said_to : Option ℕ → DirectoryEntries → Requester → List ℕ → Answered DirectoryEntries Requester
-said_to cut entries who stream = speech rules cut entries who stream
+abbrev pub said_to : ℕ → Option ℕ → DirectoryEntries → Requester → List ℕ → Answered DirectoryEntries Requester
+said_to limit cut entries who stream = speech (rules limit) cut entries who stream
 
 -- whether a stream's connection closes at its end
 abbrev pub closes_at : SpeechEnd → Bool
 closes_at StaysOpen = false
 closes_at Closes = true
 closes_at IsCut = true
+closes_at IsFull = true
 
 -- where it was cut, behind so many messages
 abbrev pub cut_at : SpeechEnd → ℕ → Option ℕ
 cut_at StaysOpen answered = None
 cut_at Closes answered = None
 cut_at IsCut answered = Some answered
+cut_at IsFull answered = Some answered
 
 -- a stream is answered: what was sent is what is said to it, up to where it was cut; where the connection stays open, so
--- many octets were read, and a cut behind all of its messages would leave the same and close
-pub record Speaks (before : DirectoryEntries) (asks : Requester) (stream old new : List ℕ) (entries : DirectoryEntries) (who : Requester) (spoken : Spoken) : Type 0 where
-  pub gives : Gives (said_to (cut_at spoken.end spoken.answered) before asks stream) old new entries who (closes_at spoken.end)
+-- many octets were read, and a cut behind all of its messages would leave the same and close; where it ends since the queue
+-- is full, the queue is longer than the room, and it never was before a message that was answered, but for the first; behind
+-- the answers to so many messages there is nothing but, it may be, a notice
+pub record Speaks (limit room : ℕ) (before : DirectoryEntries) (asks : Requester) (stream old new : List ℕ) (entries : DirectoryEntries) (who : Requester) (spoken : Spoken) : Type 0 where
+  pub gives : Gives (said_to limit (cut_at spoken.end spoken.answered) before asks stream) old new entries who (closes_at spoken.end)
   pub within : spoken.read ≤ length stream
   pub unread : spoken.end ≡ StaysOpen → drop spoken.read stream ≡ rest_of stream
-  pub cuts : spoken.end ≡ StaysOpen → Gives (said_to (Some spoken.answered) before asks stream) old new entries who true
+  pub cuts : spoken.end ≡ StaysOpen → Gives (said_to limit (Some spoken.answered) before asks stream) old new entries who true
+  pub full : spoken.end ≡ IsFull → room < length new
+  pub spare : HasRoom limit room before asks stream old spoken.answered
+  pub ending : List ℕ
+  pub queued : new ≡ queued_after limit before asks stream old spoken.answered ++ ending
+  pub notice : (ending ≡ []) ⊎ (ending ≡ notice_octets)
 
 -- a cut so many messages later
 abbrev pub behind : ℕ → Option ℕ → Option ℕ
@@ -55,10 +66,11 @@ behind answered (Some count) = Some (answered + count)
 
 -- how far a stream was answered: whatever cut may follow, what was said so far and what is said to the rest is what is
 -- said to the stream
-pub record SaysSoFar (before : DirectoryEntries) (asks : Requester) (stream old now : List ℕ) (entries : DirectoryEntries) (who : Requester) (read answered : ℕ) : Type 0 where
+pub record SaysSoFar (limit room : ℕ) (before : DirectoryEntries) (asks : Requester) (stream old now : List ℕ) (entries : DirectoryEntries) (who : Requester) (read answered : ℕ) : Type 0 where
   pub more : List ℕ
   pub grows : now ≡ old ++ more
   pub within : read ≤ length stream
   pub counts : answered ≤ read
   pub rest : rest_of (drop read stream) ≡ rest_of stream
-  pub said : (cut : Option ℕ) → said_to (behind answered cut) before asks stream ≡ after_octets more (said_to cut entries who (drop read stream))
+  pub said : (cut : Option ℕ) → said_to limit (behind answered cut) before asks stream ≡ after_octets more (said_to limit cut entries who (drop read stream))
+  pub spare : HasRoom limit room before asks stream old answered

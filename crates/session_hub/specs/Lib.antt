@@ -1,7 +1,9 @@
 -- what public clauses cite
 pub mod Parties
 pub mod Controls
+pub mod Limiting
 pub mod Answering
+pub mod Rooms
 pub mod connection
 pub mod hub
 pub mod Event

@@ -1,6 +1,6 @@
 -- What is heard over twins: two directories that differ in an ordinary subtree alone, which shows a requester nothing
 -- (X.501 18, X.511 7.11).
-use Rattle.std.specs.Prelude.{◌≡◌, Bool, true, false, not, Result, Ok, Err}
+use Rattle.std.specs.Prelude.{◌≡◌, ℕ, Bool, true, false, not, Result, Ok, Err}
 use Rattle.std.specs.List.{AllByRecursion}
 use Rattle.std.specs.Option.{option_map_or}
 use Rattle.dir_tree.specs.dn_names.name.Names.{RdnSequence}
@@ -44,13 +44,13 @@ pub record IsOverTwins (other : DirectoryEntries) (top : RdnSequence) (asked : A
 
 -- what is held is what the step leaves over the other entries too, but for the entries, which stay; and so the step of a
 -- run over the others is followed
-pub record IsHeardOver (next : Step) (other : DirectoryEntries) (old new : Held DirectoryEntries Requester) : Type 0 where
-  pub same : held_over other new ≡ heard rules next (held_over other old)
+pub record IsHeardOver (limit : ℕ) (next : Step) (other : DirectoryEntries) (old new : Held DirectoryEntries Requester) : Type 0 where
+  pub same : held_over other new ≡ heard (rules limit) next (held_over other old)
   pub entries : new.tree ≡ old.tree
-  pub run : FollowsStep next (held_over other old) (held_over other new)
+  pub run : FollowsStep limit next (held_over other old) (held_over other new)
 
 -- so it is over all entries and names for which each message that the step answers is answered over twins
-unfoldable pub HearsAlike : Step → Held DirectoryEntries Requester → Held DirectoryEntries Requester → Type 0
-HearsAlike next old new =
-    (other : DirectoryEntries) (top : RdnSequence) → AllByRecursion (IsOverTwins other top) (answered_of_held rules old next) →
-    IsHeardOver next other old new
+unfoldable pub HearsAlike : ℕ → Step → Held DirectoryEntries Requester → Held DirectoryEntries Requester → Type 0
+HearsAlike limit next old new =
+    (other : DirectoryEntries) (top : RdnSequence) → AllByRecursion (IsOverTwins other top) (answered_of_held (rules limit) old next) →
+    IsHeardOver limit next other old new

@@ -12,30 +12,30 @@ ghost use Rattle.session_hub.specs.Answering.{rules};
 ghost use Rattle.session_hub.specs.Twins.{IsOverTwins};
 
 /// A search, a compare, an abandon, an unbind, an extended request, a bind with a name outside the subtree, or octets
-/// that are no message are answered alike over twins: the same octets are sent, the same requester is left, and the
-/// entries stay.
+/// that are no message are answered alike over twins, whatever the server's limit on searches is: the same octets are sent, the same requester is
+/// left, and the entries stay.
 pub fn twins_are_answered_alike()
-    ensures exact { (other : DirectoryEntries) (top : RdnSequence) (asked : AnsweredMessage DirectoryEntries Requester) →
-        IsOverTwins other top asked → IsAnsweredAlike rules other asked }
+    ensures exact { (limit : ℕ) (other : DirectoryEntries) (top : RdnSequence) (asked : AnsweredMessage DirectoryEntries Requester) →
+        IsOverTwins other top asked → IsAnsweredAlike (rules limit) other asked }
 {}
 
 /// Steps leave the same sessions over twins, of however many connections, where each of their messages is so; and so
 /// do events where each connection that closes is hung up at once.
 pub fn runs_over_twins_are_alike()
-    ensures run { (one other : DirectoryEntries) (top : RdnSequence) (steps : List Step) →
-        AllByRecursion (IsOverTwins other top) (answered_of_run rules (start rules one) steps) →
-        AreOver one other (run rules one steps) (run rules other steps) }
-    ensures replay { (one other : DirectoryEntries) (top : RdnSequence) (steps : List Step) →
-        AllByRecursion (IsOverTwins other top) (answered_of_replay rules (start rules one) steps) →
-        AreOver one other (replayed rules one steps) (replayed rules other steps) }
+    ensures run { (limit : ℕ) (one other : DirectoryEntries) (top : RdnSequence) (steps : List Step) →
+        AllByRecursion (IsOverTwins other top) (answered_of_run (rules limit) (start (rules limit) one) steps) →
+        AreOver one other (run (rules limit) one steps) (run (rules limit) other steps) }
+    ensures replay { (limit : ℕ) (one other : DirectoryEntries) (top : RdnSequence) (steps : List Step) →
+        AllByRecursion (IsOverTwins other top) (answered_of_replay (rules limit) (start (rules limit) one) steps) →
+        AreOver one other (replayed (rules limit) one steps) (replayed (rules limit) other steps) }
 {}
 
 /// A connection gets by the steps of all what it gets by its own alone, where it opens once at most and finds room,
 /// and the entries over which each of its messages is answered are twins of those of the beginning. The others may
 /// change what lies in the subtree meanwhile.
 pub fn other_sessions_do_not_show()
-    ensures exact { (entries : DirectoryEntries) (top : RdnSequence) (number : ℕ) (steps : List Step) → openings number steps ≤ 1 →
-        finds_room rules number (start rules entries) steps ≡ true →
-        AllByRecursion (IsOverTwins entries top) (answered_of_connection rules number (start rules entries) steps) →
-        (run rules entries steps).of number ≡ (run rules entries (purged number steps)).of number }
+    ensures exact { (limit : ℕ) (entries : DirectoryEntries) (top : RdnSequence) (number : ℕ) (steps : List Step) → openings number steps ≤ 1 →
+        finds_room (rules limit) number (start (rules limit) entries) steps ≡ true →
+        AllByRecursion (IsOverTwins entries top) (answered_of_connection (rules limit) number (start (rules limit) entries) steps) →
+        (run (rules limit) entries steps).of number ≡ (run (rules limit) entries (purged number steps)).of number }
 {}

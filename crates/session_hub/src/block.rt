@@ -1,6 +1,6 @@
 //! The beginning of a block: an event of a link is heard.
 
-ghost use Rattle.std.specs.Prelude.{List, [], length};
+ghost use Rattle.std.specs.Prelude.{◌≡◌, ℕ, List, [], length};
 ghost use Rattle.dir_tree.specs.tree.Numbered.{entries_of};
 ghost use Rattle.session_model.specs.wire_io.Answers.{HeardFits};
 ghost use Rattle.session_model.specs.wire_io.link.Telling.{event_of};
@@ -27,12 +27,13 @@ fn greet<D: Dir, L: Link>(
     conn: u32,
 ) -> Result<(), AllocError>
     ensures adds { (start : DirectoryEntries) → Adds (L.plan link.old)
-        (IsHeard start (held (entries_of (D.rows dir.old)) hub.old) waiting.old.on_hold.items
+        (IsHeard hub.old.bounds.limit start (held (entries_of (D.rows dir.old)) hub.old) waiting.old.on_hold.items
         (event.Opened conn))
-        (After result start (entries_of (D.rows dir.new)) (IsServing start waiting.new.due.items
+        (After hub.old.bounds.limit result start (entries_of (D.rows dir.new)) (IsServing hub.old.bounds.limit start waiting.new.due.items
         (held (entries_of (D.rows dir.new)) hub.new) waiting.new.on_hold.items))
         (L.journal link.old) (L.journal link.new) }
     ensures serves { OnlyServes (L.plan link.old) (L.plan link.new) (L.faults link.old) (L.faults link.new) (L.lost link.old) (L.lost link.new) }
+    ensures bounds { hub.new.bounds ≡ hub.old.bounds }
 {
     let has_room = hub.count() < MAX_CONNECTIONS;
     match hub.hear(dir, Event::Opened(conn)) {
@@ -54,11 +55,12 @@ fn turn_away<L: Link>(
     link: &mut L,
     conn: u32,
 ) -> Result<(), AllocError>
-    ensures adds { (start tree : DirectoryEntries) → Adds (L.plan link.old)
-        (IsTurnedAway start conn (held tree hub.old) waiting.old.on_hold.items)
-        (After result start tree (IsServing start waiting.new.due.items (held tree hub.new) waiting.new.on_hold.items))
+    ensures adds { (limit : ℕ) (start tree : DirectoryEntries) → Adds (L.plan link.old)
+        (IsTurnedAway limit start conn (held tree hub.old) waiting.old.on_hold.items)
+        (After limit result start tree (IsServing limit start waiting.new.due.items (held tree hub.new) waiting.new.on_hold.items))
         (L.journal link.old) (L.journal link.new) }
     ensures serves { OnlyServes (L.plan link.old) (L.plan link.new) (L.faults link.old) (L.faults link.new) (L.lost link.old) (L.lost link.new) }
+    ensures bounds { hub.new.bounds ≡ hub.old.bounds }
 {
     match link.hang_up(conn) {
         Err(_) => Err(AllocError),
@@ -79,10 +81,11 @@ fn hear_on<D: Dir>(
 ) -> Result<(), AllocError>
     requires { IsOf conn heard }
     ensures leads { (start : DirectoryEntries) (added : List Item) →
-        IsHeard start (held (entries_of (D.rows dir.old)) hub.old) waiting.old.on_hold.items
+        IsHeard hub.old.bounds.limit start (held (entries_of (D.rows dir.old)) hub.old) waiting.old.on_hold.items
         (journal_event_of heard.entry) added →
-        After result start (entries_of (D.rows dir.new)) (IsServing start waiting.new.due.items
+        After hub.old.bounds.limit result start (entries_of (D.rows dir.new)) (IsServing hub.old.bounds.limit start waiting.new.due.items
         (held (entries_of (D.rows dir.new)) hub.new) waiting.new.on_hold.items) added }
+    ensures bounds { hub.new.bounds ≡ hub.old.bounds }
 {
     match hub.hear(dir, heard) {
         Ok(()) => waiting.begin_with(conn),
@@ -101,12 +104,13 @@ fn begin_block<D: Dir, L: Link>(
 ) -> Result<(), AllocError>
     requires { HeardFits (length buffer.now) heard }
     ensures adds { (start : DirectoryEntries) → Adds (L.plan link.old)
-        (IsHeard start (held (entries_of (D.rows dir.old)) hub.old) waiting.old.on_hold.items
+        (IsHeard hub.old.bounds.limit start (held (entries_of (D.rows dir.old)) hub.old) waiting.old.on_hold.items
         (event_of buffer.now heard))
-        (After result start (entries_of (D.rows dir.new)) (IsServing start waiting.new.due.items
+        (After hub.old.bounds.limit result start (entries_of (D.rows dir.new)) (IsServing hub.old.bounds.limit start waiting.new.due.items
         (held (entries_of (D.rows dir.new)) hub.new) waiting.new.on_hold.items))
         (L.journal link.old) (L.journal link.new) }
     ensures serves { OnlyServes (L.plan link.old) (L.plan link.new) (L.faults link.old) (L.faults link.new) (L.lost link.old) (L.lost link.new) }
+    ensures bounds { hub.new.bounds ≡ hub.old.bounds }
 {
     match heard {
         Heard::Opened(conn) => greet(hub, dir, waiting, link, conn),
@@ -132,12 +136,13 @@ pub fn serve_event<D: Dir, L: Link>(
 ) -> Result<(), AllocError>
     requires { HeardFits (length buffer.now) heard }
     ensures adds { (start : DirectoryEntries) → Adds (L.plan link.old)
-        (IsHeard start (held (entries_of (D.rows dir.old)) hub.old) waiting.old.on_hold.items
+        (IsHeard hub.old.bounds.limit start (held (entries_of (D.rows dir.old)) hub.old) waiting.old.on_hold.items
         (event_of buffer.now heard))
-        (After result start (entries_of (D.rows dir.new)) (IsServing start []
+        (After hub.old.bounds.limit result start (entries_of (D.rows dir.new)) (IsServing hub.old.bounds.limit start []
         (held (entries_of (D.rows dir.new)) hub.new) waiting.new.on_hold.items))
         (L.journal link.old) (L.journal link.new) }
     ensures serves { OnlyServes (L.plan link.old) (L.plan link.new) (L.faults link.old) (L.faults link.new) (L.lost link.old) (L.lost link.new) }
+    ensures bounds { hub.new.bounds ≡ hub.old.bounds }
 {
     match begin_block(hub, dir, waiting, link, buffer, heard) {
         Ok(()) => settle_all(hub, waiting, link),

@@ -1,13 +1,15 @@
 //! One connection held.
 
-ghost use Rattle.std.specs.Prelude.{◌≡◌, ◌≤◌, [], length, drop, vec_len};
+ghost use Rattle.std.specs.Prelude.{◌≡◌, ◌≤◌, ◌+◌, ℕ, [], length, drop, vec_len};
 ghost use Rattle.dir_tree.specs.tree.Numbered.{entries_of};
 ghost use Rattle.session_model.specs.Kept.{closed, without_front, opened_kept};
 ghost use Rattle.session_hub.specs.Answering.{rules};
 ghost use Rattle.session_hub.specs.Answers.{closes_at, cut_at};
+ghost use Rattle.session_hub.specs.Rooms.{StaysWithin};
 ghost use Rattle.session_hub.specs.connection.Connections.{HearsPiece, KeepsRest};
 ghost use Rattle.session_hub.specs.connection.Limits.{most_unread};
 
+use crate::allowance::Allowance;
 use crate::requester::anonymous;
 use crate::spoken::{SpeechEnd, Spoken};
 use crate::stream::speak;
@@ -46,7 +48,7 @@ impl Model for Connection {
 impl Connection {
     /// A connection that has just opened.
     pub fn new(alloc: Global, number: u32) -> Connection
-        ensures { result ≡ opened_kept rules number }
+        ensures { (limit : ℕ) → result ≡ opened_kept (rules limit) number }
     {
         Connection {
             number,
@@ -71,7 +73,7 @@ impl Connection {
         self.closing
     }
 
-    /// Behind how many of its last octets' messages it was cut for want of memory, if it was.
+    /// Behind how many of its last octets' messages it was cut, if it was.
     pub fn cut(&self) -> Option<u64>
         ensures { result ≡ self.now.cut }
     {
@@ -91,9 +93,8 @@ impl Connection {
         ensures { self.new ≡ without_front count self.old }
     {
         self.taken += count;
-        if self.taken == self.out.len() {
-            self.out.clear();
-            self.out.shrink_to(MOST_SPARE);
+        if is_spent(self.taken, self.out.len()) {
+            give_back(&mut self.out, self.taken);
             self.taken = 0;
         }
     }
@@ -107,37 +108,45 @@ impl Connection {
     }
 
     /// Hears a piece of an open connection: its whole messages are answered, and what is left is
-    /// kept unless the connection closes now. Where there is no memory it is cut, which closes it.
-    pub fn hear<D: Dir>(&mut self, alloc: Global, dir: &mut D, piece: &[u8])
-        ensures exact { HearsPiece piece.now
+    /// kept unless the connection closes now. Where there is no memory, or more waits for it than
+    /// there is room for, it is cut, which closes it.
+    pub fn hear<D: Dir>(&mut self, alloc: Global, dir: &mut D, piece: &[u8], allowed: Allowance)
+        ensures exact { HearsPiece allowed.limit piece.now
             (entries_of (D.rows dir.old)) self.old (entries_of (D.rows dir.new)) self.new }
         ensures bounded { length self.new.rest ≤ most_unread }
+        ensures room { StaysWithin allowed.limit allowed.room piece.now (entries_of (D.rows dir.old)) self.old self.new }
     {
         if self.rest.is_empty() {
-            self.hear_alone(alloc, dir, piece);
+            self.hear_alone(alloc, dir, piece, allowed);
         } else {
-            self.hear_behind(alloc, dir, piece);
+            self.hear_behind(alloc, dir, piece, allowed);
         }
     }
 
     /// Hears a piece where nothing is unread: it is read where it lies.
-    fn hear_alone<D: Dir>(&mut self, alloc: Global, dir: &mut D, piece: &[u8])
+    fn hear_alone<D: Dir>(&mut self, alloc: Global, dir: &mut D, piece: &[u8], allowed: Allowance)
         requires { self.old.rest ≡ [] }
-        ensures exact { HearsPiece piece.now
+        ensures exact { HearsPiece allowed.limit piece.now
             (entries_of (D.rows dir.old)) self.old (entries_of (D.rows dir.new)) self.new }
         ensures bounded { length self.new.rest ≤ most_unread }
+        ensures room { StaysWithin allowed.limit allowed.room piece.now (entries_of (D.rows dir.old)) self.old self.new }
     {
-        let spoken = speak(alloc, dir, &mut self.who, piece, &mut self.out);
+        let inside = Allowance {
+            limit: allowed.limit,
+            room: room_behind(allowed.room, self.taken),
+        };
+        let spoken = speak(alloc, dir, &mut self.who, piece, inside, &mut self.out);
         let end = keep_unread(&mut self.rest, piece, spoken);
         self.closing = closes(end);
         self.cut = cut_behind(end, spoken.answered);
     }
 
     /// Hears a piece behind what is unread.
-    fn hear_behind<D: Dir>(&mut self, alloc: Global, dir: &mut D, piece: &[u8])
-        ensures exact { HearsPiece piece.now
+    fn hear_behind<D: Dir>(&mut self, alloc: Global, dir: &mut D, piece: &[u8], allowed: Allowance)
+        ensures exact { HearsPiece allowed.limit piece.now
             (entries_of (D.rows dir.old)) self.old (entries_of (D.rows dir.new)) self.new }
         ensures bounded { length self.new.rest ≤ most_unread }
+        ensures room { StaysWithin allowed.limit allowed.room piece.now (entries_of (D.rows dir.old)) self.old self.new }
     {
         match self.rest.extend_from_slice(piece) {
             Err(_) => {
@@ -146,7 +155,11 @@ impl Connection {
                 self.cut = Some(0);
             }
             Ok(()) => {
-                let spoken = speak(alloc, dir, &mut self.who, &self.rest, &mut self.out);
+                let inside = Allowance {
+                    limit: allowed.limit,
+                    room: room_behind(allowed.room, self.taken),
+                };
+                let spoken = speak(alloc, dir, &mut self.who, &self.rest, inside, &mut self.out);
                 let end = leave_unread(&mut self.rest, spoken);
                 self.closing = closes(end);
                 self.cut = cut_behind(end, spoken.answered);
@@ -155,12 +168,38 @@ impl Connection {
     }
 }
 
+/// The room of a buffer of which so many octets were taken already.
+fn room_behind(room: usize, taken: usize) -> usize
+    ensures { result ≤ room + taken }
+{
+    room.saturating_add(taken)
+}
+
+/// Whether a buffer of this length, of which so many octets were taken, gives their room back: where all were, or at least
+/// half of it and more than a buffer may keep.
+fn is_spent(taken: usize, length: usize) -> bool
+    requires { taken ≤ length }
+{
+    taken == length || (taken > MOST_SPARE && taken >= length - taken)
+}
+
+/// Takes the first octets away, and gives back what room the buffer needs no more.
+fn give_back(octets: &mut Vec<u8>, count: usize)
+    requires { count ≤ vec_len octets.old }
+    ensures { octets.new.items ≡ drop count octets.old.items }
+{
+    let left = octets.len() - count;
+    octets.copy_within(count.., 0);
+    octets.truncate(left);
+    octets.shrink_to(MOST_SPARE);
+}
+
 fn closes(end: SpeechEnd) -> bool
     ensures { result ≡ closes_at end }
 {
     match end {
         SpeechEnd::StaysOpen => false,
-        SpeechEnd::Closes | SpeechEnd::IsCut => true,
+        SpeechEnd::Closes | SpeechEnd::IsCut | SpeechEnd::IsFull => true,
     }
 }
 
@@ -169,7 +208,7 @@ fn cut_behind(end: SpeechEnd, answered: u64) -> Option<u64>
 {
     match end {
         SpeechEnd::StaysOpen | SpeechEnd::Closes => None,
-        SpeechEnd::IsCut => Some(answered),
+        SpeechEnd::IsCut | SpeechEnd::IsFull => Some(answered),
     }
 }
 
@@ -182,6 +221,7 @@ fn keep_unread(rest: &mut Vec<u8>, stream: &[u8], spoken: Spoken) -> SpeechEnd
     match spoken.end {
         SpeechEnd::Closes => SpeechEnd::Closes,
         SpeechEnd::IsCut => SpeechEnd::IsCut,
+        SpeechEnd::IsFull => SpeechEnd::IsFull,
         SpeechEnd::StaysOpen => match rest.extend_from_slice(stream.split_at(spoken.read).1) {
             Ok(()) => SpeechEnd::StaysOpen,
             Err(_) => SpeechEnd::IsCut,
@@ -196,7 +236,7 @@ fn leave_unread(rest: &mut Vec<u8>, spoken: Spoken) -> SpeechEnd
 {
     match spoken.end {
         SpeechEnd::StaysOpen => cut_front(rest, spoken.read),
-        SpeechEnd::Closes | SpeechEnd::IsCut => rest.clear(),
+        SpeechEnd::Closes | SpeechEnd::IsCut | SpeechEnd::IsFull => rest.clear(),
     }
     spoken.end
 }

@@ -9,6 +9,6 @@ pub enum Ended {
     TurnsSpent,
     /// The link failed to give an event, which its count of faults shows.
     LinkFault,
-    /// There was no memory.
+    /// There was no memory, or a connection was cut.
     NoMemory,
 }

@@ -4,14 +4,18 @@ ghost use Rattle.std.specs.Prelude.{◌≡◌, ◌≤◌, length, IfOk, OnOk, On
 ghost use Rattle.dir_tree.specs.tree.Numbered.{entries_of};
 ghost use Rattle.session_model.specs.Run as run;
 ghost use Rattle.session_model.specs.Kept.{queue_of, closing_of, cut_of, taken_off, forgotten};
+ghost use Rattle.session_hub.specs.Rooms.{room_of, queued_beside, HearsWithin};
 ghost use Rattle.session_hub.specs.hub.Hubs.{held, no_hub, Hears, HearsAnywhere, OpensOne, IsBounded};
 ghost use Rattle.session_hub.specs.hub.Following.{FollowsStart, FollowsStep, FollowsAnywhere, FollowsTaking, QueuesReply, ClosesWith, CountsHeld};
 ghost use Rattle.session_hub.specs.Event.{step_by};
 ghost use Rattle.session_hub.specs.Twins.{HearsAlike};
 
-use crate::Event;
+use crate::allowance::Allowance;
 use crate::connection::Connection;
-use crate::places::{closing_at, cut_at, end_at, forget_at, hear_at, is_at, queue_at, take_off};
+use crate::places::{
+    beside, closing_at, cut_at, end_at, forget_at, hear_at, is_at, queue_at, take_off,
+};
+use crate::{Bounds, Event};
 use op_read::directory::Dir;
 use std::alloc::{AllocError, Global};
 use std::marker::Model;
@@ -20,13 +24,14 @@ use std::marker::Model;
 pub const MAX_CONNECTIONS: usize = 256;
 
 /// All sessions: what of each connection is unread, and what is still to be sent to it. Contracts
-/// see the list of the connections held, in the order in which they opened, and whether any was cut
-/// for want of memory.
+/// see the list of the connections held, in the order in which they opened, whether any was cut, and
+/// what is bounded, which stays.
 #[derive(Drop)]
 pub struct Hub {
     alloc: Global,
     connections: Vec<Connection>,
     was_cut: bool,
+    bounds: Bounds,
     // the place of the connection that was heard last, where the next is looked for first
     last: usize,
 }
@@ -36,21 +41,23 @@ impl Model for Hub {
 
     ghost Value = { HubState };
 
-    ghost view = { λ hub. record { kept = hub.connections.items; was_cut = hub.was_cut } };
+    ghost view = { λ hub. record { kept = hub.connections.items; was_cut = hub.was_cut; bounds = hub.bounds } };
 
     ghost invariant = { λ hub. AreHeld hub.connections.items };
 }
 
 impl Hub {
-    /// A hub that holds nothing, with room for as many connections as it will hold.
-    pub fn new(alloc: Global) -> Result<Hub, AllocError>
-        ensures ok { IfOk result (λ hub. hub ≡ no_hub) }
+    /// A hub that holds nothing, with room for as many connections as it will hold, and with these
+    /// bounds.
+    pub fn new(alloc: Global, bounds: Bounds) -> Result<Hub, AllocError>
+        ensures ok { IfOk result (λ hub. hub ≡ no_hub bounds) }
         ensures run { IfOk result FollowsStart }
     {
         Ok(Hub {
             alloc,
             connections: Vec::with_capacity(alloc, MAX_CONNECTIONS)?,
             was_cut: false,
+            bounds,
             last: 0,
         })
     }
@@ -80,8 +87,7 @@ impl Hub {
         closing_at(&self.connections, self.last, conn)
     }
 
-    /// Behind how many messages of its last octets the connection was cut for want of memory, if it
-    /// was.
+    /// Behind how many messages of its last octets the connection was cut, if it was.
     pub fn cut(&self, conn: u32) -> Option<u64>
         ensures { result ≡ cut_of conn self.now.kept }
     {
@@ -108,20 +114,23 @@ impl Hub {
     /// Hears an event (RFC 4511 5): a connection that opens is held where there is room, the
     /// whole messages of octets are answered, and the end of a peer's octets closes. Nothing is
     /// changed by the events of connections that aren't held, nor by the opening of one that is.
-    /// Where there is no memory for an answer that connection alone is cut, which closes it, and
+    /// A search is answered within the bounds' limit. Where there is no memory for an answer, or more
+    /// waits for the connection than it has room for, that connection alone is cut, which closes it, and
     /// `cut` tells where. `AllocError` comes where a connection is to be held and there is no memory;
     /// all is then as it was. Over twins of the directory the same is answered to requests that read.
     pub fn hear<D: Dir>(&mut self, dir: &mut D, event: Event<'_>) -> Result<(), AllocError>
-        ensures exact { OnOk result (Hears event.entry
+        ensures exact { OnOk result (Hears self.old.bounds.limit event.entry
             (held (entries_of (D.rows dir.old)) self.old) (held (entries_of (D.rows dir.new)) self.new)) }
-        ensures run { OnOk result (FollowsStep (step_by event.entry self.old.kept self.new.kept)
+        ensures run { OnOk result (FollowsStep self.old.bounds.limit (step_by event.entry self.old.kept self.new.kept)
             (held (entries_of (D.rows dir.old)) self.old) (held (entries_of (D.rows dir.new)) self.new)) }
-        ensures twins { OnOk result (HearsAlike (step_by event.entry self.old.kept self.new.kept)
+        ensures twins { OnOk result (HearsAlike self.old.bounds.limit (step_by event.entry self.old.kept self.new.kept)
             (held (entries_of (D.rows dir.old)) self.old) (held (entries_of (D.rows dir.new)) self.new)) }
         ensures cause { OnErr result (OpensOne event.entry self.old.kept) }
         ensures kept { OnErr result
             (held (entries_of (D.rows dir.new)) self.new ≡ held (entries_of (D.rows dir.old)) self.old) }
         ensures bounded { IsBounded self.new.kept }
+        ensures room { HearsWithin event.entry self.old.bounds (entries_of (D.rows dir.old)) self.old.kept self.new.kept }
+        ensures bounds { self.new.bounds ≡ self.old.bounds }
     {
         let heard = self.hear_event(dir, event);
         let _held = &self.connections;
@@ -145,11 +154,13 @@ impl Hub {
     }
 
     fn hear_event<D: Dir>(&mut self, dir: &mut D, event: Event<'_>) -> Result<(), AllocError>
-        ensures ok { OnOk result (Hears event.entry
+        ensures ok { OnOk result (Hears self.old.bounds.limit event.entry
             (held (entries_of (D.rows dir.old)) self.old) (held (entries_of (D.rows dir.new)) self.new)) }
         ensures cause { OnErr result (OpensOne event.entry self.old.kept) }
         ensures kept { OnErr result
             (held (entries_of (D.rows dir.new)) self.new ≡ held (entries_of (D.rows dir.old)) self.old) }
+        ensures room { HearsWithin event.entry self.old.bounds (entries_of (D.rows dir.old)) self.old.kept self.new.kept }
+        ensures bounds { self.new.bounds ≡ self.old.bounds }
     {
         match event {
             Event::Opened(conn) => self.open(conn),
@@ -168,6 +179,7 @@ impl Hub {
         ensures ok { OnOk result (HearsAnywhere (Event.Opened conn) self.old self.new) }
         ensures cause { OnErr result (OpensOne (Event.Opened conn) self.old.kept) }
         ensures kept { OnErr result (self.new ≡ self.old) }
+        ensures bounds { self.new.bounds ≡ self.old.bounds }
     {
         if is_at(&self.connections, self.last, conn) {
             return Ok(());
@@ -181,18 +193,43 @@ impl Hub {
     }
 
     fn end(&mut self, conn: u32)
-        ensures { HearsAnywhere (Event.Ended conn) self.old self.new }
+        ensures ended { HearsAnywhere (Event.Ended conn) self.old self.new }
+        ensures bounds { self.new.bounds ≡ self.old.bounds }
     {
         end_at(&mut self.connections, self.last, conn);
     }
 
     fn hear_piece<D: Dir>(&mut self, dir: &mut D, conn: u32, piece: &[u8])
-        ensures { Hears (Event.Bytes conn piece.entry)
+        ensures heard { Hears self.old.bounds.limit (Event.Bytes conn piece.entry)
             (held (entries_of (D.rows dir.old)) self.old) (held (entries_of (D.rows dir.new)) self.new) }
+        ensures room { HearsWithin (Event.Bytes conn piece.entry) self.old.bounds
+            (entries_of (D.rows dir.old)) self.old.kept self.new.kept }
+        ensures bounds { self.new.bounds ≡ self.old.bounds }
     {
+        let allowed = self.allowance(conn);
         let connections = &mut self.connections;
-        let cut = hear_at(self.alloc, dir, connections, &mut self.last, conn, piece);
+        let cut = hear_at(
+            self.alloc,
+            dir,
+            connections,
+            &mut self.last,
+            conn,
+            piece,
+            allowed,
+        );
         self.was_cut |= cut;
+    }
+
+    /// What the connection is allowed now, by what waits for the others.
+    fn allowance(&self, conn: u32) -> Allowance
+        ensures limit { result.limit ≡ self.now.bounds.limit }
+        ensures room { result.room ≡ room_of self.now.bounds.queues (queued_beside conn self.now.kept) }
+    {
+        let others = beside(&self.connections, conn);
+        Allowance {
+            limit: self.bounds.limit,
+            room: room_beside(self.bounds.queues, others),
+        }
     }
 
     fn forget(&mut self, conn: u32)
@@ -200,4 +237,14 @@ impl Hub {
     {
         forget_at(&mut self.connections, self.last, conn);
     }
+}
+
+/// How many octets of each connection may wait, whatever waits for the others.
+const LEAST_ROOM: usize = 1_048_576;
+
+/// How many octets of a connection may wait, where so many of the others do.
+fn room_beside(queues: u64, others: u64) -> usize
+    ensures { result ≡ room_of queues others }
+{
+    LEAST_ROOM.max(queues.saturating_sub(others) as usize)
 }

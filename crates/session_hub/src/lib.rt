@@ -2,8 +2,10 @@
 #![tactic(auto)]
 
 mod alike;
+mod allowance;
 mod binds;
 mod block;
+mod bounds;
 mod connection;
 mod controls;
 mod ended;
@@ -23,6 +25,7 @@ mod stream;
 mod waiting;
 
 pub use alike::{other_sessions_do_not_show, runs_over_twins_are_alike, twins_are_answered_alike};
+pub use bounds::Bounds;
 pub use ended::Ended;
 pub use event::Event;
 pub use hub::{Hub, MAX_CONNECTIONS};

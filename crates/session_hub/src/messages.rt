@@ -13,7 +13,9 @@ ghost use Rattle.session_hub.specs.Parties.{DirectoryEntries, Requester};
 ghost use Rattle.session_hub.specs.Controls.{subentries_asked};
 ghost use Rattle.session_hub.specs.Answering.{rules, response_to as response_of, replies_in, ended_with, asking, searched, change_of, changing, operated, answered, is_unbind, answer_read};
 ghost use Rattle.session_hub.specs.Answers.{Gives, Sends};
+ghost use Rattle.session_hub.specs.Limiting.{limited_message, lesser_limit};
 
+use crate::allowance::Allowance;
 use crate::binds::{answer_bind, answer_simple_bind};
 use crate::controls::{is_refused, subentries_asked};
 use crate::requester::anonymous;
@@ -98,7 +100,8 @@ fn begin_asking(who: &mut Requester, request: &Request)
     }
 }
 
-/// Appends the replies to a search, with what its controls of subentries ask for.
+/// Appends the replies to a search, with what its controls of subentries ask for. The error comes for want of memory, or
+/// where `out` is past the room and entries are left.
 #[inline(never)] // what it needs is not to be cleared for each bind
 fn put_search<D: Dir>(
     alloc: Global,
@@ -106,6 +109,7 @@ fn put_search<D: Dir>(
     who: &Requester,
     message: &Message,
     request: &SearchRequest,
+    room: usize,
     out: &mut Vec<u8>,
 ) -> Result<(), AllocError>
     ensures ok { OnOk result (out.new.items ≡ out.old.items ++ replies_octets message.now.id
@@ -114,7 +118,7 @@ fn put_search<D: Dir>(
     ensures err { OnErr result (out.new.items ≡ out.old.items) }
 {
     match subentries_asked(message.controls.as_slice()) {
-        Ok(subentries) => search(alloc, dir, who, message.id, request, subentries, out),
+        Ok(subentries) => { search(alloc, dir, who, message.id, request, subentries, room, out) },
         Err(ReadFault::NoMemory) => Err(AllocError),
         Err(ReadFault::BadMessage) => {
             let ended = result_of(alloc, ResultCode::ProtocolError);
@@ -204,6 +208,7 @@ fn operate<D: Dir>(
     dir: &mut D,
     who: &mut Requester,
     message: &Message,
+    room: usize,
     out: &mut Vec<u8>,
 ) -> Result<(), AllocError>
     ensures ok { OnOk result (Sends message.now.id
@@ -216,7 +221,7 @@ fn operate<D: Dir>(
 {
     match &message.request {
         Request::Bind(bind) => answer_bind(alloc, dir, who, message.id, bind, out),
-        Request::Search(search) => put_search(alloc, dir, who, message, search, out),
+        Request::Search(search) => put_search(alloc, dir, who, message, search, room, out),
         Request::Compare(compare) => put_compare(alloc, dir, who, message.id, compare, out),
         Request::Unbind | Request::Abandon(_) => Ok(()),
         Request::Extended(_, _) => put_ended(alloc, message, ResultCode::ProtocolError, out),
@@ -255,6 +260,7 @@ fn answer_request<D: Dir>(
     dir: &mut D,
     who: &mut Requester,
     message: &Message,
+    room: usize,
     out: &mut Vec<u8>,
 ) -> Result<(), AllocError>
     ensures ok { OnOk result (Sends message.now.id
@@ -267,7 +273,7 @@ fn answer_request<D: Dir>(
     if is_refused(&message.request, message.controls.as_slice()) {
         refuse(alloc, who, message, out)
     } else {
-        operate(alloc, dir, who, message, out)
+        operate(alloc, dir, who, message, room, out)
     }
 }
 
@@ -283,6 +289,7 @@ fn answer_message<D: Dir>(
     dir: &mut D,
     who: &mut Requester,
     message: &Message,
+    room: usize,
     out: &mut Vec<u8>,
 ) -> Result<bool, AllocError>
     ensures ok { IfOk result (λ closes.
@@ -292,7 +299,7 @@ fn answer_message<D: Dir>(
     ensures kept { OnErr result (who.new ≡ who.old) }
     ensures entries { OnErr result (entries_of (D.rows dir.new) ≡ entries_of (D.rows dir.old)) }
 {
-    answer_request(alloc, dir, who, message, out)?;
+    answer_request(alloc, dir, who, message, room, out)?;
     Ok(closes_after(&message.request))
 }
 
@@ -306,6 +313,28 @@ fn refuse_octets(out: &mut Vec<u8>) -> Result<bool, AllocError>
     Ok(true)
 }
 
+/// The lesser of two limits on the entries of a search, where 0 is none (RFC 4511 4.5.1.4).
+fn lesser_limit(limit: u32, size: u32) -> u32
+    ensures { result ≡ lesser_limit limit size }
+{
+    if limit == 0 {
+        size
+    } else if size == 0 || limit < size {
+        limit
+    } else {
+        size
+    }
+}
+
+/// Limits a search as the server does.
+fn limit_message(message: &mut Message, limit: u32)
+    ensures { message.new ≡ limited_message limit message.old }
+{
+    if let Request::Search(search) = &mut message.request {
+        search.size = lesser_limit(limit, search.size);
+    }
+}
+
 /// Answers the octets of any message.
 #[inline(never)] // what it needs is not to be cleared for each bind
 fn answer_any<D: Dir>(
@@ -313,16 +342,20 @@ fn answer_any<D: Dir>(
     dir: &mut D,
     who: &mut Requester,
     bytes: &[u8],
+    allowed: Allowance,
     out: &mut Vec<u8>,
 ) -> Result<bool, AllocError>
-    ensures ok { IfOk result (λ closes. Gives (rules.answer (entries_of (D.rows dir.old)) who.old bytes.now)
+    ensures ok { IfOk result (λ closes. Gives ((rules allowed.limit).answer (entries_of (D.rows dir.old)) who.old bytes.now)
         out.old.items out.new.items (entries_of (D.rows dir.new)) who.new closes) }
     ensures err { OnErr result (out.new.items ≡ out.old.items) }
     ensures asker { OnErr result (who.new ≡ who.old) }
     ensures entries { OnErr result (entries_of (D.rows dir.new) ≡ entries_of (D.rows dir.old)) }
 {
     match read_request(alloc, bytes) {
-        Ok(message) => answer_message(alloc, dir, who, &message, out),
+        Ok(mut message) => {
+            limit_message(&mut message, allowed.limit);
+            answer_message(alloc, dir, who, &message, allowed.room, out)
+        }
         Err(ReadFault::NoMemory) => Err(AllocError),
         Err(ReadFault::BadMessage) => refuse_octets(out),
     }
@@ -330,16 +363,18 @@ fn answer_any<D: Dir>(
 
 /// Answers the octets of one message for the requester, appends the replies (RFC 4511 4.1.1), and
 /// says whether the connection closes. Octets that are no message get the notice of disconnection
-/// (4.4.1). `AllocError` comes for want of memory alone, and then all is as it was.
+/// (4.4.1). `AllocError` comes for want of memory, or where more than the room waits for the
+/// connection while a search is answered, and then all is as it was.
 pub fn answer<D: Dir>(
     alloc: Global,
     dir: &mut D,
     who: &mut Requester,
     bytes: &[u8],
+    allowed: Allowance,
     out: &mut Vec<u8>,
 ) -> Result<bool, AllocError>
     requires { frame_at bytes.now ≡ Frame.Whole (length bytes.now) }
-    ensures ok { IfOk result (λ closes. Gives (rules.answer (entries_of (D.rows dir.old)) who.old bytes.now)
+    ensures ok { IfOk result (λ closes. Gives ((rules allowed.limit).answer (entries_of (D.rows dir.old)) who.old bytes.now)
         out.old.items out.new.items (entries_of (D.rows dir.new)) who.new closes) }
     ensures err { OnErr result (out.new.items ≡ out.old.items) }
     ensures asker { OnErr result (who.new ≡ who.old) }
@@ -347,6 +382,6 @@ pub fn answer<D: Dir>(
 {
     match simple_bind(bytes) {
         Some(request) => answer_simple_bind(alloc, dir, who, &request, out),
-        None => answer_any(alloc, dir, who, bytes, out),
+        None => answer_any(alloc, dir, who, bytes, allowed, out),
     }
 }

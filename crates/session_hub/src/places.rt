@@ -1,10 +1,12 @@
 //! Where a connection stands among those held.
 
-ghost use Rattle.std.specs.Prelude.{◌≡◌, ◌≤◌, length, MatchOption, None, true};
+ghost use Rattle.std.specs.Prelude.{◌≡◌, ◌≤◌, ◌-◌, ◌^◌, min, length, MatchOption, None, true};
 ghost use Rattle.dir_tree.specs.tree.Numbered.{entries_of};
 ghost use Rattle.session_model.specs.Kept.{kept_of, is_kept, queue_of, closing_of, cut_of, forgotten, taken_off, changed, closed};
+ghost use Rattle.session_hub.specs.Rooms.{queued_beside, AnswersWithin};
 ghost use Rattle.session_hub.specs.hub.Hubs.{IsAt, IsBounded, AreDistinct, HearsAt};
 
+use crate::allowance::Allowance;
 use crate::connection::Connection;
 use op_read::directory::Dir;
 use std::alloc::Global;
@@ -114,12 +116,15 @@ pub fn hear_at<D: Dir>(
     place: &mut usize,
     number: u32,
     piece: &[u8],
+    allowed: Allowance,
 ) -> bool
     requires { AreDistinct connections.old }
-    ensures exact { HearsAt number piece.now
+    ensures exact { HearsAt allowed.limit number piece.now
         (entries_of (D.rows dir.old)) connections.old (entries_of (D.rows dir.new)) connections.new result }
     ensures bounded { IsBounded connections.old → IsBounded connections.new }
     ensures distinct { AreDistinct connections.new }
+    ensures room { AnswersWithin allowed.limit allowed.room number piece.now
+        (entries_of (D.rows dir.old)) connections.old connections.new }
 {
     match place_of(connections, *place, number) {
         None => false,
@@ -129,10 +134,23 @@ pub fn hear_at<D: Dir>(
             if connection.is_closing() {
                 return false;
             }
-            connection.hear(alloc, dir, piece);
+            connection.hear(alloc, dir, piece, allowed);
             connection.cut().is_some()
         }
     }
+}
+
+/// How many octets wait for the connections of other numbers; the greatest u64 stands for all above it.
+pub fn beside(connections: &[Connection], number: u32) -> u64
+    ensures { result ≡ min (2 ^ 64 - 1) (queued_beside number connections.now) }
+{
+    let mut queued = 0u64;
+    for connection in connections {
+        if connection.number() != number {
+            queued = queued.saturating_add(connection.queue().len() as u64);
+        }
+    }
+    queued
 }
 
 /// Forgets the connection with the number.

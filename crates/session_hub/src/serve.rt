@@ -10,7 +10,7 @@ ghost use Rattle.session_hub.specs.serve.Turns.{GoesOn, EndsWith};
 
 use crate::block::serve_event;
 use crate::waiting::Waiting;
-use crate::{Ended, Hub};
+use crate::{Bounds, Ended, Hub};
 use op_read::directory::Dir;
 use session_model::wire_io::{Heard, Link, NextFault};
 use std::alloc::{AllocError, Global};
@@ -31,7 +31,7 @@ fn new_buffer(alloc: Global) -> Result<Vec<u8>, AllocError>
     vec![in alloc; 0; BUFFER_LENGTH]
 }
 
-/// How a loop ends: where a connection was cut, for want of memory.
+/// How a loop ends: as one that had no memory where a connection was cut.
 fn end_of(hub: &Hub, ended: Ended) -> Ended
     ensures { result ≡ ends_with hub.now.was_cut ended }
 {
@@ -51,18 +51,19 @@ fn take_turn<D: Dir, L: Link>(
     buffer: &mut [u8],
 ) -> Option<Ended>
     requires long { length buffer.old ≡ buffer_length }
-    ensures none { IfNone result (GoesOn
+    ensures none { IfNone result (GoesOn hub.old.bounds.limit
         (L.journal link.old) (L.plan link.old)
         (held (entries_of (D.rows dir.old)) hub.old) waiting.old.on_hold.items
         (L.journal link.new) (L.plan link.new)
         (held (entries_of (D.rows dir.new)) hub.new) waiting.new.on_hold.items) }
-    ensures some { IfSome result (λ ended. EndsWith
+    ensures some { IfSome result (λ ended. EndsWith hub.old.bounds.limit
         (L.journal link.old) (L.plan link.old)
         (held (entries_of (D.rows dir.old)) hub.old) waiting.old.on_hold.items
         ended (entries_of (D.rows dir.new)) (L.journal link.new) (L.plan link.new)) }
     ensures faults { IfNone result (L.faults link.new ≡ L.faults link.old) }
     ensures cause { IfSome result (λ ended. EndsFor (L.plan link.old) (L.faults link.old) (L.faults link.new) ended) }
     ensures lost { NeverFalls (L.lost link.old) (L.lost link.new) }
+    ensures bounds { hub.new.bounds ≡ hub.old.bounds }
 {
     match link.next(buffer) {
         Err(NextFault::Failed) => Some(end_of(hub, Ended::LinkFault)),
@@ -89,10 +90,10 @@ fn serve_in<D: Dir, L: Link>(
     buffer: &mut [u8],
     turns: u64,
 ) -> Ended
-    requires empty { hub ≡ no_hub }
+    requires empty { hub ≡ no_hub hub.bounds }
     requires free { waiting.on_hold.items ≡ [] }
     requires long { length buffer.old ≡ buffer_length }
-    ensures served { Serves (entries_of (D.rows dir.old)) (entries_of (D.rows dir.new))
+    ensures served { Serves hub.bounds.limit (entries_of (D.rows dir.old)) (entries_of (D.rows dir.new))
         turns (L.journal link.old) result (L.journal link.new) }
     ensures plays { PlaysOut turns (L.journal link.old) (L.plan link.old) result (L.journal link.new) (L.plan link.new) }
     ensures cause { EndsFor (L.plan link.old) (L.faults link.old) (L.faults link.new) result }
@@ -113,17 +114,24 @@ fn serve_in<D: Dir, L: Link>(
 /// and says why it ended (RFC 4511 5.3). Where the link tells its journal, the journal then serves
 /// them: nothing is sent but replies, nothing is left unsent but to connections that take no more
 /// now and are on hold, and each connection is hung up in its own block; the directory's entries are
-/// those that the journal's steps leave. With `NoMemory` connections may have been cut for want of
-/// memory, each once, and the last block may be unfinished. `LinkFault` says that the link failed,
+/// those that the journal's steps leave. A search is answered within the bounds' limit. With `NoMemory`
+/// connections may have been cut, for want of memory or since more waited for them than the bounds have
+/// room for, each once, and the last block may be unfinished. `LinkFault` says that the link failed,
 /// which its count of faults shows.
-pub fn serve_loop<D: Dir, L: Link>(alloc: Global, dir: &mut D, link: &mut L, turns: u64) -> Ended
-    ensures served { Serves (entries_of (D.rows dir.old)) (entries_of (D.rows dir.new))
+pub fn serve_loop<D: Dir, L: Link>(
+    alloc: Global,
+    dir: &mut D,
+    link: &mut L,
+    turns: u64,
+    bounds: Bounds,
+) -> Ended
+    ensures served { Serves bounds.limit (entries_of (D.rows dir.old)) (entries_of (D.rows dir.new))
         turns (L.journal link.old) result (L.journal link.new) }
     ensures plays { PlaysOut turns (L.journal link.old) (L.plan link.old) result (L.journal link.new) (L.plan link.new) }
     ensures cause { EndsFor (L.plan link.old) (L.faults link.old) (L.faults link.new) result }
     ensures lost { NeverFalls (L.lost link.old) (L.lost link.new) }
 {
-    let Ok(hub) = Hub::new(alloc) else {
+    let Ok(hub) = Hub::new(alloc, bounds) else {
         return Ended::NoMemory;
     };
     let Ok(waiting) = Waiting::new(alloc) else {

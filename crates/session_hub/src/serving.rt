@@ -18,10 +18,11 @@ use std::alloc::AllocError;
 
 /// Sends the connection's queue as far as the link takes it.
 pub fn send_queue<L: Link>(hub: &mut Hub, link: &mut L, conn: u32) -> Result<Sent, AllocError>
-    ensures adds { (start tree : DirectoryEntries) (due on_hold : List ℕ) → Adds (L.plan link.old)
-        (IsServing start (conn ∷ due) (held tree hub.old) on_hold)
-        (SentAs result start conn due (held tree hub.new) on_hold) (L.journal link.old) (L.journal link.new) }
+    ensures adds { (limit : ℕ) (start tree : DirectoryEntries) (due on_hold : List ℕ) → Adds (L.plan link.old)
+        (IsServing limit start (conn ∷ due) (held tree hub.old) on_hold)
+        (SentAs limit result start conn due (held tree hub.new) on_hold) (L.journal link.old) (L.journal link.new) }
     ensures serves { OnlyServes (L.plan link.old) (L.plan link.new) (L.faults link.old) (L.faults link.new) (L.lost link.old) (L.lost link.new) }
+    ensures bounds { hub.new.bounds ≡ hub.old.bounds }
 {
     'sending: loop {
         let queue = hub.queue(conn);
@@ -44,12 +45,13 @@ fn drop_lost<L: Link>(
     link: &mut L,
     conn: u32,
 ) -> Result<(), AllocError>
-    ensures adds { (start tree : DirectoryEntries) (due : List ℕ) → Adds (L.plan link.old)
-        (Lost rules start conn due (held tree hub.old) waiting.old.on_hold.items)
-        (After result start tree (IsServing start due (held tree hub.new) waiting.new.on_hold.items))
+    ensures adds { (limit : ℕ) (start tree : DirectoryEntries) (due : List ℕ) → Adds (L.plan link.old)
+        (Lost (rules limit) start conn due (held tree hub.old) waiting.old.on_hold.items)
+        (After limit result start tree (IsServing limit start due (held tree hub.new) waiting.new.on_hold.items))
         (L.journal link.old) (L.journal link.new) }
     ensures due { waiting.new.due.items ≡ waiting.old.due.items }
     ensures serves { OnlyServes (L.plan link.old) (L.plan link.new) (L.faults link.old) (L.faults link.new) (L.lost link.old) (L.lost link.new) }
+    ensures bounds { hub.new.bounds ≡ hub.old.bounds }
 {
     hub.gone(conn);
     match link.hang_up(conn) {
@@ -63,9 +65,9 @@ fn drop_lost<L: Link>(
 
 /// Puts a connection on hold that takes no more now, unless it is on hold already.
 fn hold_back<L: Link>(waiting: &mut Waiting, link: &mut L, conn: u32) -> Result<(), AllocError>
-    ensures adds { (start : DirectoryEntries) (due : List ℕ) (hub : Held DirectoryEntries Requester) → Adds (L.plan link.old)
-        (Refused rules start conn due hub waiting.old.on_hold.items)
-        (After result start hub.tree (IsServing start due hub waiting.new.on_hold.items))
+    ensures adds { (limit : ℕ) (start : DirectoryEntries) (due : List ℕ) (hub : Held DirectoryEntries Requester) → Adds (L.plan link.old)
+        (Refused (rules limit) start conn due hub waiting.old.on_hold.items)
+        (After limit result start hub.tree (IsServing limit start due hub waiting.new.on_hold.items))
         (L.journal link.old) (L.journal link.new) }
     ensures due { waiting.new.due.items ≡ waiting.old.due.items }
     ensures serves { OnlyServes (L.plan link.old) (L.plan link.new) (L.faults link.old) (L.faults link.new) (L.lost link.old) (L.lost link.new) }
@@ -81,9 +83,9 @@ fn hold_back<L: Link>(waiting: &mut Waiting, link: &mut L, conn: u32) -> Result<
 
 /// Releases a connection to which nothing is left to be sent, if it is on hold.
 fn let_go<L: Link>(waiting: &mut Waiting, link: &mut L, conn: u32) -> Result<(), AllocError>
-    ensures adds { (start : DirectoryEntries) (due : List ℕ) (hub : Held DirectoryEntries Requester) → Adds (L.plan link.old)
-        (IsSent start conn due hub waiting.old.on_hold.items)
-        (After result start hub.tree (IsFree start conn due hub waiting.new.on_hold.items))
+    ensures adds { (limit : ℕ) (start : DirectoryEntries) (due : List ℕ) (hub : Held DirectoryEntries Requester) → Adds (L.plan link.old)
+        (IsSent limit start conn due hub waiting.old.on_hold.items)
+        (After limit result start hub.tree (IsFree limit start conn due hub waiting.new.on_hold.items))
         (L.journal link.old) (L.journal link.new) }
     ensures due { waiting.new.due.items ≡ waiting.old.due.items }
     ensures serves { OnlyServes (L.plan link.old) (L.plan link.new) (L.faults link.old) (L.faults link.new) (L.lost link.old) (L.lost link.new) }
@@ -102,11 +104,12 @@ fn let_go<L: Link>(waiting: &mut Waiting, link: &mut L, conn: u32) -> Result<(),
 
 /// Hangs up a connection to which nothing is left to be sent, if it is closing.
 fn hang_up_closing<L: Link>(hub: &mut Hub, link: &mut L, conn: u32) -> Result<(), AllocError>
-    ensures adds { (start tree : DirectoryEntries) (due on_hold : List ℕ) → Adds (L.plan link.old)
-        (IsFree start conn due (held tree hub.old) on_hold)
-        (After result start tree (IsServing start due (held tree hub.new) on_hold))
+    ensures adds { (limit : ℕ) (start tree : DirectoryEntries) (due on_hold : List ℕ) → Adds (L.plan link.old)
+        (IsFree limit start conn due (held tree hub.old) on_hold)
+        (After limit result start tree (IsServing limit start due (held tree hub.new) on_hold))
         (L.journal link.old) (L.journal link.new) }
     ensures serves { OnlyServes (L.plan link.old) (L.plan link.new) (L.faults link.old) (L.faults link.new) (L.lost link.old) (L.lost link.new) }
+    ensures bounds { hub.new.bounds ≡ hub.old.bounds }
 {
     if !hub.closing(conn) {
         return Ok(());
@@ -127,12 +130,13 @@ fn finish<L: Link>(
     link: &mut L,
     conn: u32,
 ) -> Result<(), AllocError>
-    ensures adds { (start tree : DirectoryEntries) (due : List ℕ) → Adds (L.plan link.old)
-        (IsSent start conn due (held tree hub.old) waiting.old.on_hold.items)
-        (After result start tree (IsServing start due (held tree hub.new) waiting.new.on_hold.items))
+    ensures adds { (limit : ℕ) (start tree : DirectoryEntries) (due : List ℕ) → Adds (L.plan link.old)
+        (IsSent limit start conn due (held tree hub.old) waiting.old.on_hold.items)
+        (After limit result start tree (IsServing limit start due (held tree hub.new) waiting.new.on_hold.items))
         (L.journal link.old) (L.journal link.new) }
     ensures due { waiting.new.due.items ≡ waiting.old.due.items }
     ensures serves { OnlyServes (L.plan link.old) (L.plan link.new) (L.faults link.old) (L.faults link.new) (L.lost link.old) (L.lost link.new) }
+    ensures bounds { hub.new.bounds ≡ hub.old.bounds }
 {
     match let_go(waiting, link, conn) {
         Ok(()) => hang_up_closing(hub, link, conn),
@@ -148,12 +152,13 @@ pub fn settle<L: Link>(
     link: &mut L,
     conn: u32,
 ) -> Result<(), AllocError>
-    ensures adds { (start tree : DirectoryEntries) (due : List ℕ) → Adds (L.plan link.old)
-        (IsServing start (conn ∷ due) (held tree hub.old) waiting.old.on_hold.items)
-        (After result start tree (IsServing start due (held tree hub.new) waiting.new.on_hold.items))
+    ensures adds { (limit : ℕ) (start tree : DirectoryEntries) (due : List ℕ) → Adds (L.plan link.old)
+        (IsServing limit start (conn ∷ due) (held tree hub.old) waiting.old.on_hold.items)
+        (After limit result start tree (IsServing limit start due (held tree hub.new) waiting.new.on_hold.items))
         (L.journal link.old) (L.journal link.new) }
     ensures due { waiting.new.due.items ≡ waiting.old.due.items }
     ensures serves { OnlyServes (L.plan link.old) (L.plan link.new) (L.faults link.old) (L.faults link.new) (L.lost link.old) (L.lost link.new) }
+    ensures bounds { hub.new.bounds ≡ hub.old.bounds }
 {
     match send_queue(hub, link, conn) {
         Ok(Sent::All) => finish(hub, waiting, link, conn),
@@ -169,11 +174,12 @@ pub fn settle_all<L: Link>(
     waiting: &mut Waiting,
     link: &mut L,
 ) -> Result<(), AllocError>
-    ensures adds { (start tree : DirectoryEntries) → Adds (L.plan link.old)
-        (IsServing start waiting.old.due.items (held tree hub.old) waiting.old.on_hold.items)
-        (After result start tree (IsServing start [] (held tree hub.new) waiting.new.on_hold.items))
+    ensures adds { (limit : ℕ) (start tree : DirectoryEntries) → Adds (L.plan link.old)
+        (IsServing limit start waiting.old.due.items (held tree hub.old) waiting.old.on_hold.items)
+        (After limit result start tree (IsServing limit start [] (held tree hub.new) waiting.new.on_hold.items))
         (L.journal link.old) (L.journal link.new) }
     ensures serves { OnlyServes (L.plan link.old) (L.plan link.new) (L.faults link.old) (L.faults link.new) (L.lost link.old) (L.lost link.new) }
+    ensures bounds { hub.new.bounds ≡ hub.old.bounds }
 {
     'settling: while let Some(conn) = waiting.next_due() {
         match settle(hub, waiting, link, conn) {

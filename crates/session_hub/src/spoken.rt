@@ -9,6 +9,8 @@ pub enum SpeechEnd {
     Closes,
     /// There was no memory for the next answer, which closes the connection.
     IsCut,
+    /// More waits for the connection than it has room for, and a message is left, which closes the connection.
+    IsFull,
 }
 
 /// How many octets of a stream were read, how many messages were answered, and how that ended.

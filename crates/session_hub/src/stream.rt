@@ -1,8 +1,10 @@
 //! The answers to the messages of a stream.
 
+ghost use Rattle.std.specs.Prelude.{◌≡◌, ◌<◌, ◌≤◌, length, true, false};
 ghost use Rattle.dir_tree.specs.tree.Numbered.{entries_of};
 ghost use Rattle.session_hub.specs.Answers.{Speaks};
 
+use crate::allowance::Allowance;
 use crate::messages::answer;
 use crate::spoken::{SpeechEnd, Spoken};
 use op_read::acdf_filters::Requester;
@@ -10,17 +12,27 @@ use op_read::directory::Dir;
 use session_model::ldap_msg::{Frame, frame, put_notice};
 use std::alloc::Global;
 
+/// Whether more is queued than there is room for, behind the first message.
+fn is_full(answered: u64, out: &Vec<u8>, room: usize) -> bool
+    ensures full { result ≡ true → room < length out.now.items }
+    ensures spare { result ≡ false → 0 < answered → length out.now.items ≤ room }
+{
+    answered > 0 && out.len() > room
+}
+
 /// Answers the whole messages of a stream in their order until one closes, where they lie, and
 /// sends the notice where none of them does and the stream can't go on (RFC 4511 4.4.1, 5). Where
-/// there is no memory for an answer the stream is cut there.
+/// there is no memory for an answer the stream is cut there, and so it is behind the first message where
+/// `out` holds more octets than there is room for and another message is to be answered.
 pub fn speak<D: Dir>(
     alloc: Global,
     dir: &mut D,
     who: &mut Requester,
     stream: &[u8],
+    allowed: Allowance,
     out: &mut Vec<u8>,
 ) -> Spoken
-    ensures { Speaks (entries_of (D.rows dir.old)) who.old stream.now
+    ensures { Speaks allowed.limit allowed.room (entries_of (D.rows dir.old)) who.old stream.now
         out.old.items out.new.items (entries_of (D.rows dir.new)) who.new result }
 {
     let mut read = 0;
@@ -46,22 +58,31 @@ pub fn speak<D: Dir>(
                     end,
                 };
             }
-            Frame::Whole(length) => match answer(alloc, dir, who, rest.split_at(length).0, out) {
-                Err(_) => return Spoken {
-                    read,
-                    answered,
-                    end: SpeechEnd::IsCut,
-                },
-                Ok(true) => return Spoken {
-                    read,
-                    answered,
-                    end: SpeechEnd::Closes,
-                },
-                Ok(false) => {
-                    read += length;
-                    answered += 1;
+            Frame::Whole(length) => {
+                if is_full(answered, out, allowed.room) {
+                    return Spoken {
+                        read,
+                        answered,
+                        end: SpeechEnd::IsFull,
+                    };
                 }
-            },
+                match answer(alloc, dir, who, rest.split_at(length).0, allowed, out) {
+                    Err(_) => return Spoken {
+                        read,
+                        answered,
+                        end: SpeechEnd::IsCut,
+                    },
+                    Ok(true) => return Spoken {
+                        read,
+                        answered,
+                        end: SpeechEnd::Closes,
+                    },
+                    Ok(false) => {
+                        read += length;
+                        answered += 1;
+                    }
+                }
+            }
         }
     }
 }

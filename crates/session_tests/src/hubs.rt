@@ -3,7 +3,7 @@
 use crate::messages::{BIND, BOUND, UNBIND};
 use aci_index::IndexedDir;
 use dir_tree::Tree;
-use session_hub::{Event, Hub};
+use session_hub::{Bounds, Event, Hub};
 use std::alloc::AllocError;
 use std::test::Fail;
 
@@ -32,7 +32,7 @@ fn forget(hub: &mut Hub, conn: u32) {
 
 #[test]
 fn a_bind_is_answered_and_an_unbind_closes(rt: HostRuntime) -> Result<(), Fail> {
-    let mut hub = Hub::new(rt.alloc())?;
+    let mut hub = Hub::new(rt.alloc(), Bounds::NONE)?;
     let mut dir = IndexedDir::new(rt.alloc(), Tree::new(rt.alloc()))?;
     let rest = BOUND.split_at(4).1;
     hear(&mut hub, &mut dir, Event::Opened(7))?;
@@ -56,7 +56,7 @@ fn a_bind_is_answered_and_an_unbind_closes(rt: HostRuntime) -> Result<(), Fail> 
 
 #[test]
 fn a_message_that_comes_octet_by_octet_is_answered_once(rt: HostRuntime) -> Result<(), Fail> {
-    let mut hub = Hub::new(rt.alloc())?;
+    let mut hub = Hub::new(rt.alloc(), Bounds::NONE)?;
     let mut dir = IndexedDir::new(rt.alloc(), Tree::new(rt.alloc()))?;
     hear(&mut hub, &mut dir, Event::Opened(1))?;
     hear(&mut hub, &mut dir, Event::Opened(2))?;
@@ -85,7 +85,7 @@ fn a_message_that_comes_octet_by_octet_is_answered_once(rt: HostRuntime) -> Resu
 
 #[test]
 fn connections_that_left_or_never_came_hear_nothing(rt: HostRuntime) -> Result<(), Fail> {
-    let mut hub = Hub::new(rt.alloc())?;
+    let mut hub = Hub::new(rt.alloc(), Bounds::NONE)?;
     let mut dir = IndexedDir::new(rt.alloc(), Tree::new(rt.alloc()))?;
     hear(&mut hub, &mut dir, Event::Bytes(9, BIND))?;
     assert_eq!(rt; held(&hub, 9), (0, false, NOTHING));
@@ -99,7 +99,7 @@ fn connections_that_left_or_never_came_hear_nothing(rt: HostRuntime) -> Result<(
 
 #[test]
 fn nothing_is_cut_while_there_is_memory(rt: HostRuntime) -> Result<(), Fail> {
-    let mut hub = Hub::new(rt.alloc())?;
+    let mut hub = Hub::new(rt.alloc(), Bounds::NONE)?;
     let mut dir = IndexedDir::new(rt.alloc(), Tree::new(rt.alloc()))?;
     hear(&mut hub, &mut dir, Event::Opened(1))?;
     hear(&mut hub, &mut dir, Event::Bytes(1, BIND))?;
@@ -111,7 +111,7 @@ fn nothing_is_cut_while_there_is_memory(rt: HostRuntime) -> Result<(), Fail> {
 
 #[test]
 fn no_more_than_the_most_are_held(rt: HostRuntime) -> Result<(), Fail> {
-    let mut hub = Hub::new(rt.alloc())?;
+    let mut hub = Hub::new(rt.alloc(), Bounds::NONE)?;
     let mut dir = IndexedDir::new(rt.alloc(), Tree::new(rt.alloc()))?;
     for conn in 0..300u32 {
         hear(&mut hub, &mut dir, Event::Opened(conn))?;

@@ -3,7 +3,7 @@
 use crate::messages::{BOUND, NOTICE};
 use aci_index::IndexedDir;
 use dir_tree::Tree;
-use session_hub::{Ended, serve_loop};
+use session_hub::{Bounds, Ended, serve_loop};
 use std::alloc::Global;
 use std::test::Fail;
 use wire_io::ScriptLink;
@@ -17,7 +17,7 @@ fn serve(alloc: Global, link: &mut ScriptLink, turns: u64) -> Ended {
     let Ok(mut dir) = IndexedDir::new(alloc, Tree::new(alloc)) else {
         return Ended::NoMemory;
     };
-    serve_loop(alloc, &mut dir, link, turns)
+    serve_loop(alloc, &mut dir, link, turns, Bounds::NONE)
 }
 
 #[test]

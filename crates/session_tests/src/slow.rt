@@ -6,7 +6,7 @@ ghost use Rattle.wire_io.specs.script_text.script.Script.{OpensOnce, AreFilled};
 use crate::messages::{BIND, BOUND};
 use aci_index::IndexedDir;
 use dir_tree::Tree;
-use session_hub::{Ended, serve_loop};
+use session_hub::{Bounds, Ended, serve_loop};
 use std::alloc::{AllocError, Global};
 use std::test::Fail;
 use wire_io::plain_values::Octets;
@@ -61,7 +61,7 @@ fn serve(alloc: Global, link: &mut ScriptLink) -> Ended {
     let Ok(mut dir) = IndexedDir::new(alloc, Tree::new(alloc)) else {
         return Ended::NoMemory;
     };
-    serve_loop(alloc, &mut dir, link, 100)
+    serve_loop(alloc, &mut dir, link, 100, Bounds::NONE)
 }
 
 #[test]
@@ -128,6 +128,8 @@ impl Link for HalfSlow {
 
     ghost lost = { λ _. 0 };
 
+    fn end_idle_after(&mut self, _seconds: u64) {}
+
     #[tactic(auto, unfolding(wire_io::specs::link::Telling::OpenTells, wire_io::specs::Answers::LinkCause, wire_io::specs::Answers::IsPlanned))]
     fn open(&mut self, _address: &str, _sessions: u64) -> Result<(), NextFault> {
         Ok(())
@@ -192,7 +194,7 @@ fn each_of_256_connections_is_answered_where_half_of_them_are_slow(
     let mut link = HalfSlow { given: 0, writes };
     let mut dir = IndexedDir::new(rt.alloc(), Tree::new(rt.alloc()))?;
     assert_eq!(rt;
-        serve_loop(rt.alloc(), &mut dir, &mut link, 2000),
+        serve_loop(rt.alloc(), &mut dir, &mut link, 2000, Bounds::NONE),
         Ended::Stopped
     );
     for (conn, writes) in link.writes.iter().enumerate() {

@@ -3,7 +3,7 @@
 use aci_index::IndexedDir;
 use aci_index::directory::Dir;
 use data_file::load;
-use session_hub::{Event, Hub};
+use session_hub::{Bounds, Event, Hub};
 use std::alloc::{AllocError, Global};
 use std::test::Fail;
 
@@ -36,7 +36,7 @@ fn site(alloc: Global) -> Result<IndexedDir, Fail> {
 
 // A hub with the connection 1, or with 1 and 2.
 fn opened(alloc: Global, dir: &mut IndexedDir, last: u32) -> Result<Hub, Fail> {
-    let mut hub = Hub::new(alloc)?;
+    let mut hub = Hub::new(alloc, Bounds::NONE)?;
     hear(&mut hub, dir, Event::Opened(1))?;
     if last == 2 {
         hear(&mut hub, dir, Event::Opened(2))?;

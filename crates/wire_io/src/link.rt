@@ -24,6 +24,16 @@ pub trait Link {
 
     ghost lost: { Self → ℕ };
 
+    /// Has connections ended that are idle, called before `open`: one whose peer sent nothing for so many
+    /// seconds, and to which nothing is due, is ended, and one on hold that takes nothing for so long is
+    /// lost; with 0 seconds, and where this is never called, none is. No clause says when a link does so:
+    /// it may have no clock, and then it does nothing.
+    fn end_idle_after(&mut self, seconds: u64)
+        ensures tells { journal self.new ≡ journal self.old }
+        ensures plan { plan self.new ≡ plan self.old }
+        ensures faults { faults self.new ≡ faults self.old }
+        ensures lost { lost self.new ≡ lost self.old };
+
     /// Prepares the address. With sessions above 0 the link is asked to stop once so many
     /// connections have ended; no clause says that it does. `Failed` is a fault, and is counted;
     /// after `NoMemory` nothing was done.

@@ -178,6 +178,15 @@ impl Link for ScriptLink {
 
     ghost lost = { λ link. link.lost };
 
+    /// Does nothing: all that comes is planned.
+    fn end_idle_after(&mut self, _seconds: u64)
+        ensures tells { Some self.new.journal ≡ Some self.old.journal }
+        ensures plan { Some self.new.plan ≡ Some self.old.plan }
+        ensures faults { self.new.faults ≡ self.old.faults }
+        ensures lost { self.new.lost ≡ self.old.lost }
+        ensures exact { self.new ≡ self.old }
+    {}
+
     #[tactic(auto, unfolding(crate::specs::link::Telling::OpenTells, crate::specs::Answers::LinkCause, crate::specs::Answers::IsPlanned, crate::specs::Scripted::LinkOpens))]
     /// Opens, or fails at the chosen calls.
     fn open(&mut self, address: &str, sessions: u64) -> Result<(), NextFault>

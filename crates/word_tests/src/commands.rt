@@ -1,6 +1,6 @@
 //! Words of the command line, and what they ask for.
 
-use command_words::{Command, read_words};
+use command_words::{Command, Serving, read_words};
 use std::alloc::{AllocError, Global};
 use std::test::*;
 
@@ -13,17 +13,29 @@ fn words_of(alloc: Global, line: &str) -> Result<Vec<String>, AllocError> {
     Ok(words)
 }
 
+// What serving is asked for: its texts, the numbers of connections and turns, and those of the other options where they
+// are not as they are without these.
+fn serving_text(alloc: Global, serving: Serving<'_>) -> Result<String, AllocError> {
+    let Serving {
+        data,
+        address,
+        sessions,
+        turns,
+        queues,
+        idle,
+        limit,
+    } = serving;
+    if queues == 256 && idle == 0 && limit == 0 {
+        format!(in alloc; "serve [{data}] [{address}] {sessions} {turns}")
+    } else {
+        format!(in alloc; "serve [{data}] [{address}] {sessions} {turns} {queues} {idle} {limit}")
+    }
+}
+
 // What words ask for, in one line: each text between brackets.
 fn answer(alloc: Global, words: &[String]) -> Result<String, AllocError> {
     match read_words(alloc, words)? {
-        Some(
-            Command::Serve {
-                data,
-                address,
-                sessions,
-                turns,
-            },
-        ) => format!(in alloc; "serve [{data}] [{address}] {sessions} {turns}"),
+        Some(Command::Serve(serving)) => serving_text(alloc, serving),
         Some(
             Command::Replay {
                 data,
@@ -57,7 +69,7 @@ fn asked(alloc: Global, line: &str) -> Result<String, AllocError> {
     answer(alloc, words.as_slice())
 }
 
-static READ: [(&str, &str); 74] = [
+static READ: [(&str, &str); 84] = [
     // a replay
     ("replay d s", "[d] [s] 1000000000000"),
     ("replay d s --turns 5", "[d] [s] 5"),
@@ -166,6 +178,47 @@ static READ: [(&str, &str); 74] = [
         "serve --sessions 0 --turns 0 -- -d 127.0.0.1:389",
         "serve [-d] [127.0.0.1:389] 0 0",
     ),
+    // with how much its queues may have, when a silent connection ends and how many entries a search is given
+    (
+        "serve d 127.0.0.1:389 --queues 256 --idle=1 --limit=1",
+        "serve [d] [127.0.0.1:389] 0 1000000000000 256 1 1",
+    ),
+    (
+        "serve d 127.0.0.1:389 --queues=256",
+        "serve [d] [127.0.0.1:389] 0 1000000000000",
+    ),
+    (
+        "serve d 127.0.0.1:389 --queues 1",
+        "serve [d] [127.0.0.1:389] 0 1000000000000 1 0 0",
+    ),
+    (
+        "serve --queues=65536 d 127.0.0.1:389",
+        "serve [d] [127.0.0.1:389] 0 1000000000000 65536 0 0",
+    ),
+    (
+        "serve d --idle 60 127.0.0.1:389",
+        "serve [d] [127.0.0.1:389] 0 1000000000000 256 60 0",
+    ),
+    (
+        "serve d 127.0.0.1:389 --idle=4294967295",
+        "serve [d] [127.0.0.1:389] 0 1000000000000 256 4294967295 0",
+    ),
+    (
+        "serve d 127.0.0.1:389 --limit 2",
+        "serve [d] [127.0.0.1:389] 0 1000000000000 256 0 2",
+    ),
+    (
+        "serve d 127.0.0.1:389 --limit=2147483647",
+        "serve [d] [127.0.0.1:389] 0 1000000000000 256 0 2147483647",
+    ),
+    (
+        "serve d 127.0.0.1:389 --limit=00000000000000000002",
+        "serve [d] [127.0.0.1:389] 0 1000000000000 256 0 2",
+    ),
+    (
+        "serve --limit 3 --idle 4 --queues 5 --turns 6 --sessions 7 d 127.0.0.1:389",
+        "serve [d] [127.0.0.1:389] 7 6 5 4 3",
+    ),
     // one decision, with its texts as they stand
     (
         "explain d anonymous dc=example entry Read",
@@ -197,7 +250,7 @@ fn each_way_of_writing_a_command_is_read(rt: HostRuntime) -> Result<(), Fail> {
     Ok(())
 }
 
-static REFUSED: [&str; 176] = [
+static REFUSED: [&str; 199] = [
     // other words
     "",
     "Replay d s",
@@ -337,6 +390,29 @@ static REFUSED: [&str; 176] = [
     "serve d 127.0.0.1:389 --turns 5 --turns=5",
     "serve d 127.0.0.1:389 --sessions --turns",
     "serve -d 127.0.0.1:389",
+    "serve d 127.0.0.1:389 --queues",
+    "serve d 127.0.0.1:389 --queues=",
+    "serve d 127.0.0.1:389 --queues=0",
+    "serve d 127.0.0.1:389 --queues 65537",
+    "serve d 127.0.0.1:389 --queues -1",
+    "serve d 127.0.0.1:389 --queues=1M",
+    "serve d 127.0.0.1:389 --queues=18446744073709551616",
+    "serve d 127.0.0.1:389 --queues 1 --queues=1",
+    "serve d 127.0.0.1:389 --queue 1",
+    "serve d 127.0.0.1:389 --idle",
+    "serve d 127.0.0.1:389 --idle 0",
+    "serve d 127.0.0.1:389 --idle=4294967296",
+    "serve d 127.0.0.1:389 --idle=60s",
+    "serve d 127.0.0.1:389 --idle 1 --idle 1",
+    "serve d 127.0.0.1:389 --limit",
+    "serve d 127.0.0.1:389 --limit=0",
+    "serve d 127.0.0.1:389 --limit 2147483648",
+    "serve d 127.0.0.1:389 --limit=000000000000000000002",
+    "serve d 127.0.0.1:389 --limit 2 --limit=2",
+    "serve d 127.0.0.1:389 --queues --limit",
+    "replay d s --queues 1",
+    "replay d s --idle=1",
+    "replay d s --limit 1",
     "check d --sessions 3",
     "dump d --sessions=3",
     "explain d anonymous dc=example entry Read --turns 5",

@@ -66,7 +66,7 @@ one_events events other content good good_other = cc (IsScript-read content even
 
 -- which command it is
 kind_of : CommandView → ℕ
-kind_of (Serve data_file address sessions turns) = 0
+kind_of (Serve serving) = 0
 kind_of (Replay data_file script turns dump) = 1
 kind_of (Check data_file) = 2
 kind_of (Dump data_file) = 3
@@ -128,7 +128,7 @@ module _ (words : List (List ℕ)) (files : Option Files) (before after : ℕ) (
 
   not_serve : (asks : ServeAsked) → (0 ≡ kind_of asked → ⊥) → AsksServe words files asks → ⊥
   unfolding kind_of
-  not_serve asks differ serve = one_kind words (Serve serve.data_file asks.address asks.sessions asks.turns) asked serve.asked is differ
+  not_serve asks differ serve = one_kind words (Serve asks.serving) asked serve.asked is differ
 
   not_check : (found : List EntryInformation) → (2 ≡ kind_of asked → ⊥) → AsksAlone Check words files found → ⊥
   unfolding kind_of
@@ -192,7 +192,7 @@ module _ (words : List (List ℕ)) (files : Option Files) (before after : ℕ) (
 
 -- the parts of a replay
 script_of : CommandView → List ℕ
-script_of (Serve data_file address sessions turns) = []
+script_of (Serve serving) = []
 script_of (Replay data_file script turns dump) = script
 script_of (Check data_file) = []
 script_of (Dump data_file) = []
@@ -200,7 +200,7 @@ script_of (Explain data_file who target item permission) = []
 script_of (Sample count) = []
 
 turns_of : CommandView → ℕ
-turns_of (Serve data_file address sessions turns) = 0
+turns_of (Serve serving) = 0
 turns_of (Replay data_file script turns dump) = turns
 turns_of (Check data_file) = 0
 turns_of (Dump data_file) = 0
@@ -208,7 +208,7 @@ turns_of (Explain data_file who target item permission) = 0
 turns_of (Sample count) = 0
 
 dump_of : CommandView → Bool
-dump_of (Serve data_file address sessions turns) = false
+dump_of (Serve serving) = false
 dump_of (Replay data_file script turns dump) = dump
 dump_of (Check data_file) = false
 dump_of (Dump data_file) = false
@@ -266,30 +266,30 @@ unfolding status_of
 status_of-stopped asks = refl
 
 -- a data file was to be served, and the link didn't fail and gave Stop
-module _ (words : List (List ℕ)) (files : Option Files) (before after : ℕ) (name : List ℕ) (asks : ServeAsked) (old new : Linked)
-    (is : IsCommand words (Serve name asks.address asks.sessions asks.turns)) (known : IsTold files name (IsGoodData asks.entries)) (still : Rose before after → ⊥)
+module _ (words : List (List ℕ)) (files : Option Files) (before after : ℕ) (asks : ServeAsked) (old new : Linked)
+    (is : IsCommand words (Serve asks.serving)) (known : IsTold files asks.serving.data_file (IsGoodData asks.entries)) (still : Rose before after → ⊥)
     (no_fault : Rose old.faults new.faults → ⊥) (hears : HearsStop old.journal new.journal) where
   serve_due : (outcome : Outcome) → Comes words files before after outcome → Links outcome old new → (status_of outcome ≡ NoMemory) ⊎ (status_of outcome ≡ Done)
   unfolding Comes Links kind_of status_of
-  serve_due NoCommand comes links = absurd (asks_something words files before after (Serve name asks.address asks.sessions asks.turns) is name refl tt asks.entries known still comes.0)
-  serve_due NoFile (inl lacks) links = absurd (has_data words files before after (Serve name asks.address asks.sessions asks.turns) is name refl tt asks.entries known still lacks)
+  serve_due NoCommand comes links = absurd (asks_something words files before after (Serve asks.serving) is asks.serving.data_file refl tt asks.entries known still comes.0)
+  serve_due NoFile (inl lacks) links = absurd (has_data words files before after (Serve asks.serving) is asks.serving.data_file refl tt asks.entries known still lacks)
   serve_due NoFile (inr lacks) links =
-      absurd (not_replay words files before after (Serve name asks.address asks.sessions asks.turns) is name refl tt asks.entries known still lacks.script lacks.turns lacks.dump lacks.entries (λ e. omega (arith, e)) lacks.asked)
+      absurd (not_replay words files before after (Serve asks.serving) is asks.serving.data_file refl tt asks.entries known still lacks.script lacks.turns lacks.dump lacks.entries (λ e. omega (arith, e)) lacks.asked)
   serve_due (BadDataLine line cause) comes links =
-      absurd (accepts_data words files before after (Serve name asks.address asks.sessions asks.turns) is name refl tt asks.entries known still line cause comes.0)
+      absurd (accepts_data words files before after (Serve asks.serving) is asks.serving.data_file refl tt asks.entries known still line cause comes.0)
   serve_due (BadLine line) comes links =
-      absurd (not_replay words files before after (Serve name asks.address asks.sessions asks.turns) is name refl tt asks.entries known still comes.0.script comes.0.turns comes.0.dump comes.0.entries (λ e. omega (arith, e)) comes.0.asked)
+      absurd (not_replay words files before after (Serve asks.serving) is asks.serving.data_file refl tt asks.entries known still comes.0.script comes.0.turns comes.0.dump comes.0.entries (λ e. omega (arith, e)) comes.0.asked)
   serve_due (Checked found) comes links =
-      absurd (not_check words files before after (Serve name asks.address asks.sessions asks.turns) is name refl tt asks.entries known still found (λ e. omega (arith, e)) comes.0)
+      absurd (not_check words files before after (Serve asks.serving) is asks.serving.data_file refl tt asks.entries known still found (λ e. omega (arith, e)) comes.0)
   serve_due (Dumped found) comes links =
-      absurd (not_dump words files before after (Serve name asks.address asks.sessions asks.turns) is name refl tt asks.entries known still found (λ e. omega (arith, e)) comes.0)
+      absurd (not_dump words files before after (Serve asks.serving) is asks.serving.data_file refl tt asks.entries known still found (λ e. omega (arith, e)) comes.0)
   serve_due (Replayed events turns dump found) comes links =
-      absurd (not_replay words files before after (Serve name asks.address asks.sessions asks.turns) is name refl tt asks.entries known still comes.0.script turns dump found (λ e. omega (arith, e)) comes.0.asked)
+      absurd (not_replay words files before after (Serve asks.serving) is asks.serving.data_file refl tt asks.entries known still comes.0.script turns dump found (λ e. omega (arith, e)) comes.0.asked)
   serve_due (Served other end) comes links = served_done other end old new no_fault hears links
   serve_due (Explained text) comes links =
-      absurd (not_explain words files before after (Serve name asks.address asks.sessions asks.turns) is name refl tt asks.entries known still text (λ e. omega (arith, e)) comes.0)
+      absurd (not_explain words files before after (Serve asks.serving) is asks.serving.data_file refl tt asks.entries known still text (λ e. omega (arith, e)) comes.0)
   serve_due (Sampled text) comes links =
-      absurd (not_sample words files before after (Serve name asks.address asks.sessions asks.turns) is name refl tt asks.entries known still text (λ e. omega (arith, e)) comes.0)
+      absurd (not_sample words files before after (Serve asks.serving) is asks.serving.data_file refl tt asks.entries known still text (λ e. omega (arith, e)) comes.0)
   serve_due OutOfMemory comes links = inl refl
 
 -- one question over the same entries has one text
@@ -340,7 +340,7 @@ module _ (words : List (List ℕ)) (files : Option Files) (before after : ℕ) (
 
 -- how many persons a sample has
 count_of : CommandView → ℕ
-count_of (Serve data_file address sessions turns) = 0
+count_of (Serve serving) = 0
 count_of (Replay data_file script turns dump) = 0
 count_of (Check data_file) = 0
 count_of (Dump data_file) = 0
@@ -390,7 +390,7 @@ module _ (words : List (List ℕ)) (files : Option Files) (before after : ℕ) (
   sample_due (Dumped found) comes = absurd (other_kind (Dump comes.0.data_file) comes.0.asked (λ e. omega (arith, e)))
   sample_due (Replayed events turns dump found) comes =
       absurd (other_kind (Replay comes.0.asked.data_file comes.0.script turns dump) comes.0.asked.asked (λ e. omega (arith, e)))
-  sample_due (Served asks end) comes = absurd (other_kind (Serve comes.0.data_file asks.address asks.sessions asks.turns) comes.0.asked (λ e. omega (arith, e)))
+  sample_due (Served asks end) comes = absurd (other_kind (Serve asks.serving) comes.0.asked (λ e. omega (arith, e)))
   sample_due (Explained other) comes =
       absurd (other_kind (Explain comes.0.data_file comes.0.who comes.0.target comes.0.item comes.0.permission) comes.0.asked (λ e. omega (arith, e)))
   sample_due (Sampled other) comes = inr (ap Sampled (same_sample other comes.0))
@@ -419,7 +419,7 @@ due_comes words files before after old new outcome (Replayed events turns dump e
 due_comes words files before after old new outcome (Served asks end) is still comes links =
     let P : ServeEnd → Type 0 = λ how. (status_of outcome ≡ NoMemory) ⊎ (status_of outcome ≡ status_of (Served asks how)) in
     subst P (sym is.0) (subst (λ wanted. (status_of outcome ≡ NoMemory) ⊎ (status_of outcome ≡ wanted)) (sym (status_of-stopped asks))
-    (serve_due words files before after is.1 asks old new is.2 is.3 still is.4 is.5 outcome comes links))
+    (serve_due words files before after asks old new is.1 is.2 still is.3 is.4 outcome comes links))
 due_comes words files before after old new outcome (Explained text) is still comes links =
     as_status outcome (Explained text) (explain_due words files before after text is still outcome comes)
 due_comes words files before after old new outcome (Sampled text) is still comes links =

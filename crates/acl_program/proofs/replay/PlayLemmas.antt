@@ -24,18 +24,18 @@ use Rattle.acl_program.specs.program.Playing.{Plays, journal_text}
 use Rattle.acl_program.proofs.replay.JournalLemmas.{journal_text-sessions, steps_of_events-steps, length-stopped}
 
 -- the sessions of a journal that heard a replay's events
-pub heard_is : (t : DirectoryEntries) (events : List ScriptEvent) (turns : ℕ) (journal : List Item) → IsReplay rules t (journal_steps journal) journal
-    → steps_of (heard journal) ≡ heard_of events turns → run rules t (journal_steps journal) ≡ replay_of t events turns
+pub heard_is : (t : DirectoryEntries) (events : List ScriptEvent) (turns : ℕ) (journal : List Item) → IsReplay (rules 0) t (journal_steps journal) journal
+    → steps_of (heard journal) ≡ heard_of events turns → run (rules 0) t (journal_steps journal) ≡ replay_of t events turns
 heard_is t events turns journal replay is =
-    replay.same ∙ ap (λ steps. replayed rules t steps) (events_of journal ∙ sym (steps_of_events-steps (heard journal)) ∙ ap steps_of_events is)
+    replay.same ∙ ap (λ steps. replayed (rules 0) t steps) (events_of journal ∙ sym (steps_of_events-steps (heard journal)) ∙ ap steps_of_events is)
 
 -- its lines, and the entries that it leaves
-text_of_heard : (t : DirectoryEntries) (events : List ScriptEvent) (turns : ℕ) (journal : List Item) → IsReplay rules t (journal_steps journal) journal
+text_of_heard : (t : DirectoryEntries) (events : List ScriptEvent) (turns : ℕ) (journal : List Item) → IsReplay (rules 0) t (journal_steps journal) journal
     → steps_of (heard journal) ≡ heard_of events turns → journal_text journal ≡ replay_text t events turns
 unfolding replay_text
 text_of_heard t events turns journal replay is = journal_text-sessions t journal replay ∙ ap (λ u. lines_of u) (heard_is t events turns journal replay is)
 
-left_of_heard : (t left : DirectoryEntries) (events : List ScriptEvent) (turns : ℕ) (journal : List Item) → IsReplay rules t (journal_steps journal) journal → left ≡ (run rules t (journal_steps journal)).tree
+left_of_heard : (t left : DirectoryEntries) (events : List ScriptEvent) (turns : ℕ) (journal : List Item) → IsReplay (rules 0) t (journal_steps journal) journal → left ≡ (run (rules 0) t (journal_steps journal)).tree
     → steps_of (heard journal) ≡ heard_of events turns → left ≡ entries_after t events turns
 unfolding entries_after
 left_of_heard t left events turns journal replay leaves is = leaves ∙ ap (λ u. u.tree) (heard_is t events turns journal replay is)
@@ -67,7 +67,7 @@ not_held c = refl
 -- the loop's clauses, by its answer
 plays_journal :
     (t left : DirectoryEntries) (events : List ScriptEvent) (turns : ℕ) (how : Ended) (known : List Item) (plan after : Plan)
-    → plan.to_come ≡ events → plan.later ≡ [] → plan.gone ≡ [] → ServesAll t left turns known how → PlayedOut turns [] known plan after how → (how ≡ ended.LinkFault → ⊥)
+    → plan.to_come ≡ events → plan.later ≡ [] → plan.gone ≡ [] → ServesAll 0 t left turns known how → PlayedOut turns [] known plan after how → (how ≡ ended.LinkFault → ⊥)
     → Plays t left events turns how known
 unfolding Plays BringsOn
 plays_journal t left events turns ended.Stopped known plan after is later gone serves played fails =
@@ -97,7 +97,7 @@ no_fault plan before after ended.NoMemory none cause is = cc
 plays_served :
     (t left : DirectoryEntries) (events : List ScriptEvent) (turns : ℕ) (how : Ended) (journal : List Item) (plan after : Plan) (faults_before faults_after : ℕ)
     → plan ≡ record { to_come = events; failing = []; later = []; gone = [] }
-    → Serves t left turns (Some []) how (Some journal) → PlaysOut turns (Some []) (Some plan) how (Some journal) (Some after)
+    → Serves 0 t left turns (Some []) how (Some journal) → PlaysOut turns (Some []) (Some plan) how (Some journal) (Some after)
     → EndsFor (Some plan) faults_before faults_after how → Plays t left events turns how journal
 unfolding Serves PlaysOut
 plays_served t left events turns how journal plan after faults_before faults_after is served plays cause =
@@ -112,25 +112,25 @@ plays_served t left events turns how journal plan after faults_before faults_aft
 -- the same of a link that has only a script
 pub Plays-link :
     (t left : DirectoryEntries) (turns : ℕ) (how : Ended) (old new : LinkState) → old ≡ fresh_link old.plan.to_come [] [] []
-    → Serves t left turns (Some old.journal) how (Some new.journal) → PlaysOut turns (Some old.journal) (Some old.plan) how (Some new.journal) (Some new.plan)
+    → Serves 0 t left turns (Some old.journal) how (Some new.journal) → PlaysOut turns (Some old.journal) (Some old.plan) how (Some new.journal) (Some new.plan)
     → EndsFor (Some old.plan) old.faults new.faults how → Plays t left old.plan.to_come turns how new.journal
 Plays-link t left turns how old new fresh serves plays cause =
     let none : old.journal ≡ [] = ap (λ link. link.journal) fresh in
-    let P : List Item → Type 0 = λ journal. Serves t left turns (Some journal) how (Some new.journal) in
+    let P : List Item → Type 0 = λ journal. Serves 0 t left turns (Some journal) how (Some new.journal) in
     let Q : List Item → Type 0 = λ journal. PlaysOut turns (Some journal) (Some old.plan) how (Some new.journal) (Some new.plan) in
     plays_served t left old.plan.to_come turns how new.journal old.plan new.plan old.faults new.faults (ap (λ link. link.plan) fresh) (subst P none serves) (subst Q none plays) cause
 
 -- good entries leave good ones, whatever is heard, where the steps of sessions do
-pub Good-link : ((entries : DirectoryEntries) (steps : List Step) → IsGoodTree entries → IsGoodTree (run rules entries steps).tree)
+pub Good-link : ((entries : DirectoryEntries) (steps : List Step) → IsGoodTree entries → IsGoodTree (run (rules 0) entries steps).tree)
     → (t left : DirectoryEntries) (turns : ℕ) (how : Ended) (before : Option (List Item)) (begun now : List Item)
-    → before ≡ Some begun → IsGoodTree t → Serves t left turns before how (Some now) → IsGoodTree left
+    → before ≡ Some begun → IsGoodTree t → Serves 0 t left turns before how (Some now) → IsGoodTree left
 unfolding Serves
 Good-link keeps t left turns how before begun now is good serves = let so = serves begun is in by_end how so.0 so.2
   where
-    after : (steps : List Step) → left ≡ (run rules t steps).tree → IsGoodTree left
+    after : (steps : List Step) → left ≡ (run (rules 0) t steps).tree → IsGoodTree left
     after steps leaves = subst IsGoodTree (sym leaves) (keeps t steps good)
 
-    by_end : (how : Ended) (added : List Item) → ServesAll t left turns added how → IsGoodTree left
+    by_end : (how : Ended) (added : List Item) → ServesAll 0 t left turns added how → IsGoodTree left
     by_end ended.Stopped added all = after (journal_steps added) all.served.entries_left
     by_end ended.TurnsSpent added all = after (journal_steps added) all.served.entries_left
     by_end ended.LinkFault added all = after (journal_steps added) all.served.entries_left

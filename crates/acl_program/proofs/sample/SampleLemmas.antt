@@ -37,7 +37,7 @@ use Rattle.acl_program.proofs.replay.PlayLemmas.{heard_is, front_heard, all_hear
 
 -- words ask for no more persons than a sample may have
 says_few : (name : CommandName) (line : Line) (asked : CommandView) → Says name line asked → IsFew asked
-says_few name line (Serve data_file address sessions turns) says = tt
+says_few name line (Serve serving) says = tt
 says_few name line (Replay data_file script turns dump) says = tt
 says_few name line (Check data_file) says = tt
 says_few name line (Dump data_file) says = tt
@@ -53,7 +53,7 @@ pub few_of : (words : List (List ℕ)) (asked : CommandView) → IsCommand words
 few_of words asked is = says_few is.name is.line asked is.says
 
 -- what was sent to a connection
-sent_of : (t : DirectoryEntries) (events : List ScriptEvent) (turns : ℕ) (journal : List Item) (conn : ℕ) → IsReplay rules t (journal_steps journal) journal
+sent_of : (t : DirectoryEntries) (events : List ScriptEvent) (turns : ℕ) (journal : List Item) (conn : ℕ) → IsReplay (rules 0) t (journal_steps journal) journal
     → steps_of (heard journal) ≡ heard_of events turns → taken_of conn journal ≡ ((replay_of t events turns).of conn).reply
 sent_of t events turns journal conn replay is = replay.taken conn ∙ ap (λ u. (u.of conn).reply) (heard_is t events turns journal replay is)
 
@@ -66,7 +66,7 @@ Sent t events turns ended.NoMemory journal = Unit {0}
 
 sent_journal :
     (t left : DirectoryEntries) (events : List ScriptEvent) (turns : ℕ) (how : Ended) (known : List Item) (plan after : Plan)
-    → plan.to_come ≡ events → plan.later ≡ [] → plan.gone ≡ [] → ServesAll t left turns known how → PlayedOut turns [] known plan after how → Sent t events turns how known
+    → plan.to_come ≡ events → plan.later ≡ [] → plan.gone ≡ [] → ServesAll 0 t left turns known how → PlayedOut turns [] known plan after how → Sent t events turns how known
 unfolding BringsOn
 sent_journal t left events turns ended.Stopped known plan after is later gone serves played =
     let on : pieces buffer_length plan.to_come ≡ steps_of (heard known) ++ pieces buffer_length after.to_come = played.plays in
@@ -85,7 +85,7 @@ sent_journal t left events turns ended.NoMemory known plan after is later gone s
 sent_served :
     (t left : DirectoryEntries) (events : List ScriptEvent) (turns : ℕ) (how : Ended) (journal : List Item) (plan after : Plan)
     → plan ≡ record { to_come = events; failing = []; later = []; gone = [] }
-    → Serves t left turns (Some []) how (Some journal) → PlaysOut turns (Some []) (Some plan) how (Some journal) (Some after) → Sent t events turns how journal
+    → Serves 0 t left turns (Some []) how (Some journal) → PlaysOut turns (Some []) (Some plan) how (Some journal) (Some after) → Sent t events turns how journal
 unfolding Serves PlaysOut
 sent_served t left events turns how journal plan after is served plays =
     let serves = served [] refl in
@@ -96,22 +96,22 @@ sent_served t left events turns how journal plan after is served plays =
     subst P (sym same) (sent_journal t left events turns how known plan played.0 (ap (λ p. p.to_come) is) (ap (λ p. p.later) is) (ap (λ p. p.gone) is) serves.2 played.2)
 
 Sent-link : (t left : DirectoryEntries) (events : List ScriptEvent) (turns : ℕ) (how : Ended) (old new : LinkState) → old ≡ fresh_link events [] [] []
-    → Serves t left turns (Some old.journal) how (Some new.journal) → PlaysOut turns (Some old.journal) (Some old.plan) how (Some new.journal) (Some new.plan)
+    → Serves 0 t left turns (Some old.journal) how (Some new.journal) → PlaysOut turns (Some old.journal) (Some old.plan) how (Some new.journal) (Some new.plan)
     → Sent t events turns how new.journal
 Sent-link t left events turns how old new fresh serves plays =
     let none : old.journal ≡ [] = ap (λ link. link.journal) fresh in
-    let P : List Item → Type 0 = λ journal. Serves t left turns (Some journal) how (Some new.journal) in
+    let P : List Item → Type 0 = λ journal. Serves 0 t left turns (Some journal) how (Some new.journal) in
     let Q : List Item → Type 0 = λ journal. PlaysOut turns (Some journal) (Some old.plan) how (Some new.journal) (Some new.plan) in
     sent_served t left events turns how new.journal old.plan new.plan (ap (λ link. link.plan) fresh) (subst P none serves) (subst Q none plays)
 
 -- what was sent to the sample's connection
 module _ (t left : DirectoryEntries) (count : ℕ) (old new : LinkState) (fresh : old ≡ fresh_link (sample_events count) [] [] []) where
-  pub sent_stopped : Serves t left sample_turns (Some old.journal) ended.Stopped (Some new.journal)
+  pub sent_stopped : Serves 0 t left sample_turns (Some old.journal) ended.Stopped (Some new.journal)
       → PlaysOut sample_turns (Some old.journal) (Some old.plan) ended.Stopped (Some new.journal) (Some new.plan) → taken_of 1 new.journal ≡ sample_replies t count
   unfolding sample_replies
   sent_stopped serves plays = Sent-link t left (sample_events count) sample_turns ended.Stopped old new fresh serves plays 1
 
-  pub sent_spent : Serves t left sample_turns (Some old.journal) ended.TurnsSpent (Some new.journal)
+  pub sent_spent : Serves 0 t left sample_turns (Some old.journal) ended.TurnsSpent (Some new.journal)
       → PlaysOut sample_turns (Some old.journal) (Some old.plan) ended.TurnsSpent (Some new.journal) (Some new.plan) → taken_of 1 new.journal ≡ sample_replies t count
   unfolding sample_replies
   sent_spent serves plays = Sent-link t left (sample_events count) sample_turns ended.TurnsSpent old new fresh serves plays 1

@@ -15,7 +15,7 @@ use Rattle.command_files.proofs.wire_io_proofs.Theorems.{appended-none, PutsAll-
 use Rattle.session_hub.specs.declared.ended.Ended.{Ended}
 use Rattle.session_hub.specs.declared.ended.Ended.TheVariants as ended
 use Rattle.session_hub.specs.serve.Loops.{Serves, EndsFor}
-use Rattle.command_words.specs.command.Command.{Serve}
+use Rattle.command_words.specs.command.Command.{Serve, ServingView}
 use Rattle.command_files.specs.dir_tree.Entry.{EntryInformation}
 use Rattle.command_files.specs.dir_tree.tree.Numbered.{Numbered, entries_of}
 use Rattle.command_files.specs.loading.Loading.{LoadsData}
@@ -71,9 +71,9 @@ opening_goes_on address sessions ok added is = is
 
 -- the journal of an open link that goes on after what was there before
 opened_journal : (asked : ServeAsked) (before opened : Linked) (begun : List Item) → before.journal ≡ Some begun → Opens asked (Ok tt) before opened
-    → opened.journal ≡ Some (begun ++ item.OpenedAt asked.address asked.sessions true ∷ [])
+    → opened.journal ≡ Some (begun ++ item.OpenedAt asked.serving.address asked.serving.sessions true ∷ [])
 unfolding OpenTells
-opened_journal asked before opened begun is opens = opens.tells ∙ ap (λ journal. noted journal (item.OpenedAt asked.address asked.sessions true)) is
+opened_journal asked before opened begun is opens = opens.tells ∙ ap (λ journal. noted journal (item.OpenedAt asked.serving.address asked.serving.sessions true)) is
 
 -- two journals that go on after the same
 same_added : (begun added more : List Item) (opening : Item) (journal : Option (List Item)) → journal ≡ Some (begun ++ added) → journal ≡ Some ((begun ++ opening ∷ []) ++ more)
@@ -88,11 +88,11 @@ not_spent : (asked : ServeAsked) (before opened after : Linked) → HearsStop be
     → ServesUntil asked ended.TurnsSpent opened after → ⊥
 unfolding HearsStop Serves
 not_spent asked before opened after hears opens serves =
-    let opening : Item = item.OpenedAt asked.address asked.sessions true in
+    let opening : Item = item.OpenedAt asked.serving.address asked.serving.sessions true in
     let begun : List Item = hears.0 in
     let on = serves.served (begun ++ opening ∷ []) (opened_journal asked before opened begun hears.2 opens) in
     let same : hears.1 ≡ opening ∷ on.0 = same_added begun hears.1 on.0 opening after.journal hears.3 on.1 in
-    let goes_on : was_stopped (opening ∷ on.0) ≡ false = opening_goes_on asked.address asked.sessions true on.0 on.2.ends.0 in
+    let goes_on : was_stopped (opening ∷ on.0) ≡ false = opening_goes_on asked.serving.address asked.serving.sessions true on.0 on.2.ends.0 in
     let clash : true ≡ false = sym hears.4 ∙ ap was_stopped same ∙ goes_on in
     cc
 
@@ -128,23 +128,23 @@ module _ (asked : ServeAsked) (before after : Outside) (status : Status) where
   Listens-failed opens ends = (NotOpened, ends, opens)
 
   -- the line was put, and the loop ended
-  pub ListensOn-ended : (put : Written) (done : Unit {0}) → PutsAll before.out.put (listening_text asked.address) (Ok done) put.put → PutCause {T = Unit {0}} before.out.faults put.faults (Ok done)
+  pub ListensOn-ended : (put : Written) (done : Unit {0}) → PutsAll before.out.put (listening_text asked.serving.address) (Ok done) put.put → PutCause {T = Unit {0}} before.out.faults put.faults (Ok done)
       → ServesOpened asked (beside before.shelf put before.link) status after → ListensOn asked before status after
   unfolding ListensOn text_of status_of
   ListensOn-ended put done tells cause opened = (
     LoopEnded opened.how,
-    Ends-put (Served asked (LoopEnded opened.how)) before.out after.out (listening_text asked.address ++ ended_text opened.how) opened.answer (loop_status opened.how) status refl refl opened.ends
-        (PutsAll-then before.out.put put.put after.out.put (listening_text asked.address) (ended_text opened.how) done opened.answer tells opened.tells)
+    Ends-put (Served asked (LoopEnded opened.how)) before.out after.out (listening_text asked.serving.address ++ ended_text opened.how) opened.answer (loop_status opened.how) status refl refl opened.ends
+        (PutsAll-then before.out.put put.put after.out.put (listening_text asked.serving.address) (ended_text opened.how) done opened.answer tells opened.tells)
         (PutCause-then before.out.faults put.faults after.out.faults done opened.answer cause opened.cause),
     opened.serves,
   )
 
   -- the line wasn't put whole
-  pub ListensOn-cut : (fault : PutFault) → PutsAll {T = Unit {0}} before.out.put (listening_text asked.address) (Err fault) after.out.put
+  pub ListensOn-cut : (fault : PutFault) → PutsAll {T = Unit {0}} before.out.put (listening_text asked.serving.address) (Err fault) after.out.put
       → PutCause {T = Unit {0}} before.out.faults after.out.faults (Err fault) → status ≡ settled (Err fault) NoMemory → after.link ≡ before.link → ListensOn asked before status after
   unfolding ListensOn text_of status_of
   ListensOn-cut fault tells cause is same =
-      (NotServed, Ends-put (Served asked NotServed) before.out after.out (listening_text asked.address) (Err fault) NoMemory status refl refl is tells cause, same)
+      (NotServed, Ends-put (Served asked NotServed) before.out after.out (listening_text asked.serving.address) (Err fault) NoMemory status refl refl is tells cause, same)
 
 -- a text that is another
 pub PutsAll-as : (old new : Option (List ℕ)) (text made : List ℕ) (answer : Result (Unit {0}) PutFault) → text ≡ made → PutsAll old text answer new → PutsAll old made answer new
@@ -163,16 +163,16 @@ Listens-nothing asked before = Listens-no_memory asked before before (record { t
 
 -- the entries that are served are those of the tree
 pub Listens-over :
-    (address : List ℕ) (sessions turns : ℕ) (served entries : List EntryInformation) (before after : Outside) (status : Status)
-    → served ≡ entries → Listens (serve_asked address sessions turns served) before status after → Listens (serve_asked address sessions turns entries) before status after
-Listens-over address sessions turns served entries before after status same listens =
-    subst (λ found. Listens (serve_asked address sessions turns found) before status after) same listens
+    (serving : ServingView) (served entries : List EntryInformation) (before after : Outside) (status : Status)
+    → served ≡ entries → Listens (serve_asked serving served) before status after → Listens (serve_asked serving entries) before status after
+Listens-over serving served entries before after status same listens =
+    subst (λ found. Listens (serve_asked serving found) before status after) same listens
 
 -- a data file was loaded and served
 pub Performs-served :
-    (name : List ℕ) (asked : ServeAsked) (before after : Outside) (status : Status) (rows : List Numbered)
-    → asked.entries ≡ entries_of rows → LoadsData before.shelf.files name before.shelf.faults after.shelf.faults (Ok rows)
-    → Listens asked (beside before.shelf before.out before.link) status (beside before.shelf after.out after.link) → Performs (Serve name asked.address asked.sessions asked.turns) before status after
+    (asked : ServeAsked) (before after : Outside) (status : Status) (rows : List Numbered)
+    → asked.entries ≡ entries_of rows → LoadsData before.shelf.files asked.serving.data_file before.shelf.faults after.shelf.faults (Ok rows)
+    → Listens asked (beside before.shelf before.out before.link) status (beside before.shelf after.out after.link) → Performs (Serve asked.serving) before status after
 unfolding Performs Listens LoadsData Comes Links
-Performs-served name asked before after status rows over loads listens =
-    (Served asked listens.0, (λ words is. (record { data_file = name; asked = is; good = rw over loads.0 }, loads.2)), listens.1, listens.2)
+Performs-served asked before after status rows over loads listens =
+    (Served asked listens.0, (λ words is. (record { asked = is; good = rw over loads.0 }, loads.2)), listens.1, listens.2)

@@ -99,7 +99,7 @@ script_cause words files before after OutOfMemory is comes = absurd (cc)
 -- a data file is to be served
 serving_asked : (words : List (List ℕ)) (files : Option Files) (asked : ServeAsked) → AsksServe words files asked → AsksServing words
 unfolding AsksServing
-serving_asked words files asked asks = (asks.data_file, asked.address, asked.sessions, asked.turns, asks.asked)
+serving_asked words files asked asks = (asked.serving, asks.asked)
 
 -- a fault of the link comes of serving alone, and raised its count
 link_cause : (words : List (List ℕ)) (files : Option Files) (before after : ℕ) (old new : Linked) (outcome : Outcome)

@@ -7,7 +7,7 @@ use Rattle.command_files.specs.wire_io.declared.journal.Item.{Item}
 use Rattle.command_files.specs.wire_io.Files.{Files}
 use Rattle.command_files.specs.wire_io.Journal.{was_stopped}
 use Rattle.session_hub.specs.declared.ended.Ended.TheVariants as ended
-use Rattle.command_words.specs.command.Command.{CommandView, Serve, Replay, Check, Dump, Explain, Sample, IsCommand}
+use Rattle.command_words.specs.command.Command.{CommandView, ServingView, Serve, Replay, Check, Dump, Explain, Sample, IsCommand}
 use Rattle.explanation.specs.Questions.{Question}
 use Rattle.explanation.specs.Reading.{question_of}
 use Rattle.command_files.specs.dir_tree.Entry.{EntryInformation}
@@ -21,7 +21,7 @@ use Rattle.acl_program.specs.serve.Serving.{ServeAsked, LoopEnded, LinkServes}
 
 -- the command is done: an explanation where its words are a question
 abbrev pub IsPerformed : CommandView → Type 0
-IsPerformed (Serve data_file address sessions turns) = Unit {0}
+IsPerformed (Serve serving) = Unit {0}
 IsPerformed (Replay data_file script turns dump) = Unit {0}
 IsPerformed (Check data_file) = Unit {0}
 IsPerformed (Dump data_file) = Unit {0}
@@ -34,7 +34,7 @@ IsNoCommand words = (asked : CommandView) → IsCommand words asked → IsPerfor
 
 -- the data file of a command, where it has one
 abbrev pub data_of : CommandView → Option (List ℕ)
-data_of (Serve data_file address sessions turns) = Some data_file
+data_of (Serve serving) = Some serving.data_file
 data_of (Replay data_file script turns dump) = Some data_file
 data_of (Check data_file) = Some data_file
 data_of (Dump data_file) = Some data_file
@@ -95,13 +95,12 @@ pub record AsksBoth (words : List (List ℕ)) (files : Option Files) (events : L
 
 -- the words ask for a data file to be served
 unfoldable pub AsksServing : List (List ℕ) → Type 0
-AsksServing words = (data_file : List ℕ) × (address : List ℕ) × (sessions : ℕ) × (turns : ℕ) × IsCommand words (Serve data_file address sessions turns)
+AsksServing words = (serving : ServingView) × IsCommand words (Serve serving)
 
 -- a data file is to be served, which is accepted
 pub record AsksServe (words : List (List ℕ)) (files : Option Files) (asks : ServeAsked) : Type 0 where
-  pub data_file : List ℕ
-  pub asked : IsCommand words (Serve data_file asks.address asks.sessions asks.turns)
-  pub good : HoldsIn files data_file (IsGoodData asks.entries)
+  pub asked : IsCommand words (Serve asks.serving)
+  pub good : HoldsIn files asks.serving.data_file (IsGoodData asks.entries)
 
 -- when each outcome comes, by the words, the files that the shelf tells, and its count of faults before and after: the count
 -- is as it was but where a file wasn't read
@@ -149,8 +148,8 @@ IsDue words files old new (Replayed events turns dump entries) =
     (data_file : List ℕ) × (script : List ℕ) × IsCommand words (Replay data_file script turns dump)
     × IsTold files data_file (IsGoodData entries) × IsTold files script (IsGoodScript events)
 IsDue words files old new (Served asks end) =
-    (end ≡ LoopEnded ended.Stopped) × (data_file : List ℕ) × IsCommand words (Serve data_file asks.address asks.sessions asks.turns)
-    × IsTold files data_file (IsGoodData asks.entries) × (Rose old.faults new.faults → ⊥) × HearsStop old.journal new.journal
+    (end ≡ LoopEnded ended.Stopped) × IsCommand words (Serve asks.serving)
+    × IsTold files asks.serving.data_file (IsGoodData asks.entries) × (Rose old.faults new.faults → ⊥) × HearsStop old.journal new.journal
 IsDue words files old new (Explained text) = Explains words (IsTold files) text
 IsDue words files old new (Sampled text) = Samples words text
 IsDue words files old new OutOfMemory = ⊥

@@ -8,22 +8,20 @@ use Rattle.command_files.specs.wire_io.link.Telling.{OpenTells}
 use Rattle.session_hub.specs.declared.ended.Ended.{Ended}
 use Rattle.session_hub.specs.declared.ended.Ended.TheVariants as ended
 use Rattle.session_hub.specs.serve.Loops.{Serves, PlaysOut, EndsFor}
+use Rattle.command_words.specs.command.Command.{ServingView}
 use Rattle.command_files.specs.dir_tree.Entry.{EntryInformation}
 use Rattle.acl_program.specs.declared.status.Status.{Status}
 use Rattle.acl_program.specs.declared.status.Status.TheVariants.{Done, LinkFault, TurnsSpent, NoMemory}
 use Rattle.acl_program.specs.program.Outside.{Linked}
 
--- what is served: the entries of a data file, at an address, until so many connections have ended, or so many events were
--- heard
+-- what is served: the entries of a data file, as the words ask for it
 pub record ServeAsked : Type 0 where
-  pub address : List ℕ
-  pub sessions : ℕ
-  pub turns : ℕ
+  pub serving : ServingView
   pub entries : List EntryInformation
 
 -- what is served, by its parts
-abbrev pub serve_asked : List ℕ → ℕ → ℕ → List EntryInformation → ServeAsked
-serve_asked address sessions turns entries = record { address = address; sessions = sessions; turns = turns; entries = entries }
+abbrev pub serve_asked : ServingView → List EntryInformation → ServeAsked
+serve_asked serving entries = record { serving = serving; entries = entries }
 
 -- how it ended: there was no memory to open the link; the link failed to open; it opened, and the line that says so wasn't
 -- put whole; the line was put, and the loop ended so
@@ -67,16 +65,16 @@ serve_status (LoopEnded how) = loop_status how
 
 -- the link was asked to open at the address, which its journal notes, and gave this answer
 pub record Opens (asked : ServeAsked) (answer : Result (Unit {0}) NextFault) (before after : Linked) : Type 0 where
-  pub tells : OpenTells before.journal asked.address asked.sessions answer after.journal
+  pub tells : OpenTells before.journal asked.serving.address asked.serving.sessions answer after.journal
   pub cause : LinkCause before.plan before.faults after.faults answer
   pub plan : after.plan ≡ before.plan
   pub lost : NeverFalls before.lost after.lost
 
--- the open link was served over the entries, and the loop ended so
+-- the open link was served over the entries, by rules with the limit that the words ask for, and the loop ended so
 pub record ServesUntil (asked : ServeAsked) (how : Ended) (before after : Linked) : Type 0 where
   pub left : List EntryInformation
-  pub served : Serves asked.entries left asked.turns before.journal how after.journal
-  pub plays : PlaysOut asked.turns before.journal before.plan how after.journal after.plan
+  pub served : Serves asked.serving.limit asked.entries left asked.serving.turns before.journal how after.journal
+  pub plays : PlaysOut asked.serving.turns before.journal before.plan how after.journal after.plan
   pub cause : EndsFor before.plan before.faults after.faults how
   pub lost : NeverFalls before.lost after.lost
 

@@ -11,7 +11,7 @@ use Rattle.ldap_msg.specs.declared.operations.ResultCode.{ResultCode}
 use Rattle.ldap_msg.specs.declared.operations.ResultCode.TheVariants as code
 use Rattle.entry_changes.specs.declared.kind.ChangeKind.{ChangeKind}
 use Rattle.entry_changes.specs.declared.kind.ChangeKind.TheVariants.{Add, Delete, Replace}
-use Rattle.entry_changes.specs.Change.{Asks, Modification, are_none, withheld, add_value_refusal, add_refusal, delete_value_refusal, delete_refusal, has_octets, goes_refusal, comes_refusal, replace_refusal, refusal_by, left_by, unless_refused, changed, changed_by}
+use Rattle.entry_changes.specs.Change.{Asks, Asker, Modification, asks_after, are_none, withheld, add_value_refusal, add_refusal, delete_value_refusal, delete_refusal, has_octets, goes_refusal, comes_refusal, replace_refusal, refusal_by, made, unless_refused, changed, changed_by}
 use Rattle.entry_changes.proofs.Theorems.{filled_from as some_there}
 use Rattle.change_laws.specs.Changing.{MayAddValue, MayAddValues, MayRemoveValue, MayRemoveValues, MayReplaceValues, MayDo, MayChangeEach}
 use Rattle.change_laws.proofs.laws.TableLemmas.{none_of_both, none_from_both, each_from_none, none_from_each, granted_where, where_granted, granted_where_both, where_both_granted}
@@ -154,24 +154,26 @@ left_unless (Some refusal) left found is = absurd cc
 
 -- one change after the other
 pub may-changed_by :
-    (asks : Asks) (entry : EntryInformation) (changes : List Modification) (left : EntryInformation) → changed_by asks entry changes ≡ Ok left
-    → MayChangeEach asks entry changes left
+    (asker : Asker) (entry : EntryInformation) (changes : List Modification) (left : EntryInformation) → changed_by asker entry changes ≡ Ok left
+    → MayChangeEach asker entry changes left
 unfolding changed_by
-may-changed_by asks entry [] left is = cc
-may-changed_by asks entry (change ∷ changes) left is =
-    let steps = both_given (changed asks entry change) (λ left. changed_by asks left changes) left is in
-    let done = left_unless _ (left_by change.change change.kind change.values entry) steps.0 steps.1 in (
+may-changed_by asker entry [] left is = cc
+may-changed_by asker entry (change ∷ changes) left is =
+    let asks = asks_after asker (made change entry) in
+    let steps = both_given (changed asker entry change) (λ left. changed_by asker left changes) left is in
+    let done = left_unless _ (made change entry) steps.0 steps.1 in (
       may-do asks change.kind change.change (values_of change.kind entry.attributes) change.values done.0,
-      subst (λ next. MayChangeEach asks next changes left) (sym done.1) (may-changed_by asks steps.0 changes left steps.2),
+      subst (λ next. MayChangeEach asker next changes left) (sym done.1) (may-changed_by asker steps.0 changes left steps.2),
     )
 
 pub changed_by-may :
-    (asks : Asks) (entry : EntryInformation) (changes : List Modification) (left : EntryInformation) → MayChangeEach asks entry changes left
-    → changed_by asks entry changes ≡ Ok left
+    (asker : Asker) (entry : EntryInformation) (changes : List Modification) (left : EntryInformation) → MayChangeEach asker entry changes left
+    → changed_by asker entry changes ≡ Ok left
 unfolding changed_by
-changed_by-may asks entry [] left may = cc
-changed_by-may asks entry (change ∷ changes) left may =
-    let next = left_by change.change change.kind change.values entry in
+changed_by-may asker entry [] left may = cc
+changed_by-may asker entry (change ∷ changes) left may =
+    let asks = asks_after asker (made change entry) in
+    let next = made change entry in
     let unrefused = do-may asks change.kind change.change (values_of change.kind entry.attributes) change.values may.0 in
-    ap (λ refusal. unless_refused refusal next >>= λ left. changed_by asks left changes) unrefused
-    ∙ changed_by-may asks next changes left may.1
+    ap (λ refusal. unless_refused refusal next >>= λ left. changed_by asker left changes) unrefused
+    ∙ changed_by-may asker next changes left may.1

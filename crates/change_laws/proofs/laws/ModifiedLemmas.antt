@@ -19,7 +19,7 @@ use Rattle.op_add_delete.specs.adding.Updates.{refused, unless, IsChanged}
 use Rattle.op_add_delete.proofs.Theorems.{not_broken, unless-made}
 use Rattle.entry_changes.specs.Change.{Modification, changed_by}
 use Rattle.op_modify.specs.ReadChanges.{read_changes}
-use Rattle.op_modify.specs.Modifying.{modified_as, modified_target, modified_by, modified_named, modified}
+use Rattle.op_modify.specs.Modifying.{asker_of, modified_as, modified_target, modified_by, modified_named, modified}
 use Rattle.change_laws.specs.ChangeGranting.{MayModify}
 use Rattle.change_laws.proofs.laws.ChangeLemmas.{may-changed_by, changed_by-may}
 
@@ -28,7 +28,7 @@ modified_done :
     (entries : List EntryInformation) (who : Requester) (request : ModifyRequest) (name : RdnSequence) (changes : List Modification)
     (target left : EntryInformation) → read_name request.name ≡ Ok name → name ≢ [] → read_changes request.changes ≡ Ok changes
     → named_in name entries ≡ Some target → granted entries who target Entry Modify ≡ true
-    → changed_by (granted entries who target) target changes ≡ Ok left
+    → changed_by (asker_of entries who target) target changes ≡ Ok left
     → broken_rule (Some target) (taken_out target.name entries) left ≡ None
     → modified entries who request ≡ unless None entries (put_in left (taken_out target.name entries))
 unfolding modified
@@ -38,7 +38,7 @@ modified_done entries who request (rdn ∷ rdns) changes target left name_read s
     ap (modified_named entries who request.changes) name_read
     ∙ ap (modified_by entries who (rdn ∷ rdns)) changes_read
     ∙ ap (modified_target entries who (rdn ∷ rdns) changes) found
-    ∙ cond-true (asks Entry Modify) (modified_as entries target (changed_by asks target changes)) (refused entries (hidden (view_of entries who) (rdn ∷ rdns))) allowed
+    ∙ cond-true (asks Entry Modify) (modified_as entries target (changed_by (asker_of entries who target) target changes)) (refused entries (hidden (view_of entries who) (rdn ∷ rdns))) allowed
     ∙ ap (modified_as entries target) is
     ∙ ap (λ broken. unless (rule_refusal broken) entries (put_in left (taken_out target.name entries))) unbroken
 
@@ -48,7 +48,7 @@ pub modified-may :
     → IsChanged (modified entries who request) None (put_in left (taken_out target.name entries))
 modified-may entries who request target left may =
     let is = modified_done entries who request may.name may.changes target left may.name_read may.named may.changes_read may.found may.allowed
-    (changed_by-may (granted entries who target) target may.changes left may.changed) may.unbroken in
+    (changed_by-may (asker_of entries who target) target may.changes left may.changed) may.unbroken in
     record { refused = sym (ap (λ changed. changed.refusal) is); left = sym (ap (λ changed. changed.entries) is) }
 
 -- and what was changed was granted
@@ -59,7 +59,7 @@ may-modified_as :
     (entries : List EntryInformation) (who : Requester) (request : ModifyRequest) (name : RdnSequence) (changes : List Modification)
     (target : EntryInformation) (found : Result EntryInformation ResultCode) → read_name request.name ≡ Ok name → name ≢ []
     → read_changes request.changes ≡ Ok changes → named_in name entries ≡ Some target → granted entries who target Entry Modify ≡ true
-    → changed_by (granted entries who target) target changes ≡ found → (modified_as entries target found).refusal ≡ None
+    → changed_by (asker_of entries who target) target changes ≡ found → (modified_as entries target found).refusal ≡ None
     → MayModifySome entries who request
 may-modified_as entries who request name changes target (Err code) name_read some changes_read known allowed is none = absurd cc
 may-modified_as entries who request name changes target (Ok left) name_read some changes_read known allowed is none =
@@ -74,7 +74,7 @@ may-modified_as entries who request name changes target (Ok left) name_read some
         changes_read = changes_read;
         found = known;
         allowed = allowed;
-        changed = may-changed_by (granted entries who target) target changes left is;
+        changed = may-changed_by (asker_of entries who target) target changes left is;
         unbroken = not_broken broken (unless-made (rule_refusal broken) entries (put_in left (taken_out target.name entries)) none);
       },
     )
@@ -87,11 +87,11 @@ may-modified_target :
 may-modified_target entries who request name changes None name_read some changes_read is none = absurd cc
 may-modified_target entries who request name changes (Some target) name_read some changes_read is none =
     let asks = granted entries who target in
-    let made = modified_as entries target (changed_by asks target changes) in
+    let made = modified_as entries target (changed_by (asker_of entries who target) target changes) in
     let kept = refused entries (hidden (view_of entries who) name) in
     (elim (asks Entry Modify)
     as (λ allowed. asks Entry Modify ≡ allowed → (if allowed then made else kept).refusal ≡ None → MayModifySome entries who request) [
-      | true ↦ λ allowed none. may-modified_as entries who request name changes target (changed_by asks target changes) name_read some changes_read is allowed refl none
+      | true ↦ λ allowed none. may-modified_as entries who request name changes target (changed_by (asker_of entries who target) target changes) name_read some changes_read is allowed refl none
       | false ↦ λ allowed none. absurd cc
     ]) refl none
 

@@ -22,9 +22,9 @@ use Rattle.op_add_delete.specs.read_model.Views.{view_of, hidden}
 use Rattle.op_add_delete.specs.adding.Adding.{rule_refusal}
 use Rattle.op_add_delete.specs.adding.Updates.{refused}
 use Rattle.op_add_delete.proofs.Theorems.{not_broken, unless-good, unless-refused}
-use Rattle.entry_changes.specs.Change.{Asks, Modification, changed_by}
+use Rattle.entry_changes.specs.Change.{Asker, Modification, changed_by}
 use Rattle.op_modify.specs.ReadChanges.{read_changes}
-use Rattle.op_modify.specs.Modifying.{modified_as, modified_target, modified_by, modified_named, modified}
+use Rattle.op_modify.specs.Modifying.{asker_of, modified_as, modified_target, modified_by, modified_named, modified}
 use Rattle.change_laws.proofs.laws.ReadLemmas.{HasDistinctValues, distinct-read_changes}
 
 -- good entries stay so where one takes another's place under the same name
@@ -39,30 +39,30 @@ StaysUnderName =
 -- changes leave good attributes, and the name
 abbrev pub ChangesKeepGood : Type 0
 ChangesKeepGood =
-    (asks : Asks) (entry : EntryInformation) (changes : List Modification)
+    (asker : Asker) (entry : EntryInformation) (changes : List Modification)
     → AllByRecursion HasDistinctValues changes → IsGoodAttributes entry.attributes
-    → IfOk (changed_by asks entry changes) (λ left. IsGoodAttributes left.attributes)
+    → IfOk (changed_by asker entry changes) (λ left. IsGoodAttributes left.attributes)
 
 abbrev pub ChangesKeepName : Type 0
 ChangesKeepName =
-    (asks : Asks) (entry : EntryInformation) (changes : List Modification)
-    → IfOk (changed_by asks entry changes) (λ left. left.name ≡ entry.name)
+    (asker : Asker) (entry : EntryInformation) (changes : List Modification)
+    → IfOk (changed_by asker entry changes) (λ left. left.name ≡ entry.name)
 
 -- a good tree stays good
 module _ (stays : StaysUnderName) (keeps_good : ChangesKeepGood) (keeps_name : ChangesKeepName) where
   good_with_left :
-      (entries : List EntryInformation) (asks : Asks) (target left : EntryInformation) (changes : List Modification)
+      (entries : List EntryInformation) (asker : Asker) (target left : EntryInformation) (changes : List Modification)
       → named_in target.name entries ≡ Some target → AllByRecursion HasDistinctValues changes
-      → changed_by asks target changes ≡ Ok left → broken_rule (Some target) (taken_out target.name entries) left ≡ None
+      → changed_by asker target changes ≡ Ok left → broken_rule (Some target) (taken_out target.name entries) left ≡ None
       → IsGoodTree entries → IsGoodTree (put_in left (taken_out target.name entries))
-  good_with_left entries asks target left changes known distinct is unbroken good =
+  good_with_left entries asker target left changes known distinct is unbroken good =
       let attributes = found_all (λ entry. IsGoodAttributes entry.attributes) target.name target entries good.good.attributes known in
       let names = found_all (λ entry. IsGoodName entry.name) target.name target entries good.good.names known in
       let some = found_all (λ entry. entry.name ≢ []) target.name target entries good.good.tree.named known in
       let kept : IsGoodAttributes left.attributes =
-      subst (λ (found : Result EntryInformation ResultCode). IfOk found (λ left. IsGoodAttributes left.attributes)) is (keeps_good asks target changes distinct attributes) in
+      subst (λ (found : Result EntryInformation ResultCode). IfOk found (λ left. IsGoodAttributes left.attributes)) is (keeps_good asker target changes distinct attributes) in
       let same : left.name ≡ target.name =
-      subst (λ (found : Result EntryInformation ResultCode). IfOk found (λ left. left.name ≡ target.name)) is (keeps_name asks target changes) in
+      subst (λ (found : Result EntryInformation ResultCode). IfOk found (λ left. left.name ≡ target.name)) is (keeps_name asker target changes) in
       record {
         some = put_in-some left (taken_out target.name entries);
         good = stays entries target left good.good known (subst (λ name. is_same name target.name ≡ true) (sym same) (same_itself target.name))
@@ -70,15 +70,15 @@ module _ (stays : StaysUnderName) (keeps_good : ChangesKeepGood) (keeps_name : C
       }
 
   good-modified_as :
-      (entries : List EntryInformation) (asks : Asks) (target : EntryInformation) (changes : List Modification)
+      (entries : List EntryInformation) (asker : Asker) (target : EntryInformation) (changes : List Modification)
       (found : Result EntryInformation ResultCode) → named_in target.name entries ≡ Some target
-      → AllByRecursion HasDistinctValues changes → changed_by asks target changes ≡ found → IsGoodTree entries
+      → AllByRecursion HasDistinctValues changes → changed_by asker target changes ≡ found → IsGoodTree entries
       → IsGoodTree (modified_as entries target found).entries
-  good-modified_as entries asks target changes (Err code) known distinct is good = good
-  good-modified_as entries asks target changes (Ok left) known distinct is good =
+  good-modified_as entries asker target changes (Err code) known distinct is good = good
+  good-modified_as entries asker target changes (Ok left) known distinct is good =
       let broken = broken_rule (Some target) (taken_out target.name entries) left in
       unless-good (rule_refusal broken) entries (put_in left (taken_out target.name entries)) good
-      (λ none. good_with_left entries asks target left changes known distinct is (not_broken broken none) good)
+      (λ none. good_with_left entries asker target left changes known distinct is (not_broken broken none) good)
 
   good-modified_target :
       (entries : List EntryInformation) (who : Requester) (name : RdnSequence) (changes : List Modification) (found : Option EntryInformation)
@@ -86,10 +86,10 @@ module _ (stays : StaysUnderName) (keeps_good : ChangesKeepGood) (keeps_name : C
       → IsGoodTree (modified_target entries who name changes found).entries
   good-modified_target entries who name changes None is distinct good = good
   good-modified_target entries who name changes (Some target) is distinct good =
-      let asks = granted entries who target in
-      elim (asks Entry Modify)
-      as (λ allowed. IsGoodTree (if allowed then modified_as entries target (changed_by asks target changes) else refused entries (hidden (view_of entries who) name)).entries) [
-        | true ↦ good-modified_as entries asks target changes (changed_by asks target changes) (found_by_own_name name target entries is) distinct refl good
+      let asker = asker_of entries who target in
+      elim (granted entries who target Entry Modify)
+      as (λ allowed. IsGoodTree (if allowed then modified_as entries target (changed_by asker target changes) else refused entries (hidden (view_of entries who) name)).entries) [
+        | true ↦ good-modified_as entries asker target changes (changed_by asker target changes) (found_by_own_name name target entries is) distinct refl good
         | false ↦ good
       ]
 
@@ -129,11 +129,11 @@ refused-modified_target :
     → (modified_target entries who name changes found).entries ≡ entries
 refused-modified_target entries who name changes None refusal is = refl
 refused-modified_target entries who name changes (Some target) refusal is =
-    let made = modified_as entries target (changed_by (granted entries who target) target changes) in
+    let made = modified_as entries target (changed_by (asker_of entries who target) target changes) in
     let kept = refused entries (hidden (view_of entries who) name) in
     (elim (granted entries who target Entry Modify)
     as (λ allowed. (if allowed then made else kept).refusal ≡ Some refusal → (if allowed then made else kept).entries ≡ entries) [
-      | true ↦ refused-modified_as entries target (changed_by (granted entries who target) target changes) refusal
+      | true ↦ refused-modified_as entries target (changed_by (asker_of entries who target) target changes) refusal
       | false ↦ λ _. refl
     ]) is
 

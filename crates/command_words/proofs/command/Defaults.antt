@@ -64,6 +64,9 @@ flag-default word other rows differs = by (has_row word rows) refl
 option-default : (name : OptionName) (sought : Sought) (rows : List Kept) → IsWritten sought → all_of (id_of sought) (with_default rows (option name)) ≡ all_of (id_of sought) rows
 option-default options.Sessions sought rows written = ap (all_of (id_of sought)) (value-default (option_word options.Sessions) rows)
 option-default options.Turns sought rows written = ap (all_of (id_of sought)) (value-default (option_word options.Turns) rows)
+option-default options.Queues sought rows written = ap (all_of (id_of sought)) (value-default (option_word options.Queues) rows)
+option-default options.Idle sought rows written = ap (all_of (id_of sought)) (value-default (option_word options.Idle) rows)
+option-default options.Limit sought rows written = ap (all_of (id_of sought)) (value-default (option_word options.Limit) rows)
 option-default options.Dump sought rows written = flag-default (option_word options.Dump) (id_of sought) rows (flag-differs options.Dump sought refl written)
 
 options-default : (names : List OptionName) (sought : Sought) (rows : List Kept) → IsWritten sought → all_of (id_of sought) (fold with_default rows (map option names)) ≡ all_of (id_of sought) rows
@@ -110,6 +113,9 @@ plain-passes false kinds none = none
 default-passes : (name : OptionName) (rows : List Kept) → default_fault rows (option name) ≡ []
 default-passes options.Sessions rows = rw (or-true (has_row (option_word options.Sessions) rows)) refl
 default-passes options.Turns rows = rw (or-true (has_row (option_word options.Turns) rows)) refl
+default-passes options.Queues rows = rw (or-true (has_row (option_word options.Queues) rows)) refl
+default-passes options.Idle rows = rw (or-true (has_row (option_word options.Idle) rows)) refl
+default-passes options.Limit rows = rw (or-true (has_row (option_word options.Limit) rows)) refl
 default-passes options.Dump rows = plain-passes (has_row (option_word options.Dump) rows || false) [] refl
 
 defaults-pass : (names : List OptionName) (rows : List Kept) → defaults_fault rows (map option names) ≡ []

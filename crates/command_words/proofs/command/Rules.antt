@@ -90,7 +90,7 @@ find-none : (names : List OptionName) → find (λ (name : OptionName). false) n
 find-none [] = refl
 find-none (name ∷ names) = find-none names
 
-bytes_eq-back : (one other : Text) → bytes_eq one other ≡ bytes_eq other one
+pub bytes_eq-back : (one other : Text) → bytes_eq one other ≡ bytes_eq other one
 bytes_eq-back one other = elim (bytes_eq one other) as (λ (b : Bool). bytes_eq one other ≡ b → b ≡ bytes_eq other one) [
   | true ↦ λ is. sym (ap (bytes_eq other) ((bytes_eq-Decides one other).0 is) ∙ (bytes_eq-Decides other other).1 refl)
   | false ↦ λ differs. elim (bytes_eq other one) as (λ (b : Bool). bytes_eq other one ≡ b → false ≡ b) [
@@ -99,24 +99,24 @@ bytes_eq-back one other = elim (bytes_eq one other) as (λ (b : Bool). bytes_eq 
   ] refl
 ] refl
 
+-- what is found of an argument is the same of each option, by whether it has a value
 id-is : (text : Text) (name : OptionName) → bytes_eq (option name).id text ≡ bytes_eq text (option_word name)
-id-is text options.Sessions = bytes_eq-back (option_word options.Sessions) text
-id-is text options.Turns = bytes_eq-back (option_word options.Turns) text
-id-is text options.Dump = bytes_eq-back (option_word options.Dump) text
-
-long-is : (text : Text) (name : OptionName) → has_long (option name) text ≡ bytes_eq text (option_word name)
-long-is text options.Sessions = or-false _ ∙ bytes_eq-back (option_word options.Sessions) text
-long-is text options.Turns = or-false _ ∙ bytes_eq-back (option_word options.Turns) text
-long-is text options.Dump = or-false _ ∙ bytes_eq-back (option_word options.Dump) text
+id-is text name = by (takes_argument name)
+  where
+    by : (takes : Bool) → bytes_eq (option_by takes (option_word name)).id text ≡ bytes_eq text (option_word name)
+    by true = bytes_eq-back (option_word name) text
+    by false = bytes_eq-back (option_word name) text
 
 -- by its long name an option of the row is found, and nothing else
 pub by-long : (row : Row) (text : Text) → arg_by_long (rules row) text ≡ option_map option (option_named row text)
 by-long row text = find-option _ (λ (name : OptionName). bytes_eq text (option_word name)) same row.options
   where
+    by : (takes : Bool) (word : Text) → (not (is_some (option_by takes word).index) && has_long (option_by takes word) text) ≡ bytes_eq text word
+    by true word = or-false _ ∙ bytes_eq-back word text
+    by false word = or-false _ ∙ bytes_eq-back word text
+
     same : (name : OptionName) → (not (is_some (option name).index) && has_long (option name) text) ≡ bytes_eq text (option_word name)
-    same options.Sessions = long-is text options.Sessions
-    same options.Turns = long-is text options.Turns
-    same options.Dump = long-is text options.Dump
+    same name = by (takes_argument name) (option_word name)
 
 -- by its name
 pub by-id : (row : Row) (name : OptionName) → option_named row (option_word name) ≡ Some name → arg_by_id (rules row) (option_word name) ≡ Some (option name)
@@ -125,13 +125,18 @@ by-id row name named = other name ∙ find-option _ (λ (own : OptionName). byte
     other : (name : OptionName) → arg_by_id (rules row) (option_word name) ≡ find (λ (rule : Rule). bytes_eq rule.id (option_word name)) (map option row.options)
     other options.Sessions = refl
     other options.Turns = refl
+    other options.Queues = refl
+    other options.Idle = refl
+    other options.Limit = refl
     other options.Dump = refl
 
 -- nothing has a name of one character
 pub by-short : (row : Row) (x : ℕ) → arg_by_short (rules row) x ≡ None
 by-short row x = find-option _ (λ (name : OptionName). false) same row.options ∙ ap (option_map option) (find-none row.options)
   where
+    by : (takes : Bool) (word : Text) → (not (is_some (option_by takes word).index) && has_short (option_by takes word) x) ≡ false
+    by true word = refl
+    by false word = refl
+
     same : (name : OptionName) → (not (is_some (option name).index) && has_short (option name) x) ≡ false
-    same options.Sessions = refl
-    same options.Turns = refl
-    same options.Dump = refl
+    same name = by (takes_argument name) (option_word name)

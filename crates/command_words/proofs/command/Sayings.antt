@@ -11,7 +11,7 @@ use Rattle.command_words.specs.Table.{Row, row_of}
 use Rattle.command_words.specs.command.Line.{Line, texts_of}
 use Rattle.command_words.specs.Number.{number_said, number_within}
 use Rattle.command_words.specs.Address.{address_of}
-use Rattle.command_words.specs.command.Command.{CommandView, Serve, Replay, Check, Dump, Explain, Sample, Says, default_sessions, default_turns}
+use Rattle.command_words.specs.command.Command.{CommandView, ServingView, Serve, Replay, Check, Dump, Explain, Sample, Says, sessions_range, turns_range, queues_range, idle_range, limit_range}
 use Rattle.command_words.specs.parser.Asked.{command_said, ◌>>=◌}
 use Rattle.command_words.proofs.number.Numbers.{and_then-some, number_said-sound, number_said-complete, number_within-sound, number_within-complete}
 use Rattle.command_words.proofs.address.Addresses.{address_of-sound, address_of-complete}
@@ -62,20 +62,31 @@ once-is_some (text ∷ []) once = refl
 once-is_some (text ∷ again ∷ more) once = absurd (omega (arith, once))
 
 -- what the commands with more than one step say, by their operands and arguments
-abbrev serve_said : List (List ℕ) → List (List ℕ) → List (List ℕ) → Option CommandView
-serve_said operands sessions turns = do
-  data_file ← slice_get operands 0
-  said ← slice_get operands 1
+abbrev serve_said : Line → Option CommandView
+serve_said line = do
+  data_file ← slice_get (texts_of Operands line) 0
+  said ← slice_get (texts_of Operands line) 1
   address ← address_of said
-  number ← number_said default_sessions (slice_get sessions 0)
-  events ← number_said default_turns (slice_get turns 0)
-  Some (Serve data_file address number events)
+  sessions ← number_said sessions_range (slice_get (texts_of (Arguments options.Sessions) line) 0)
+  turns ← number_said turns_range (slice_get (texts_of (Arguments options.Turns) line) 0)
+  queues ← number_said queues_range (slice_get (texts_of (Arguments options.Queues) line) 0)
+  idle ← number_said idle_range (slice_get (texts_of (Arguments options.Idle) line) 0)
+  limit ← number_said limit_range (slice_get (texts_of (Arguments options.Limit) line) 0)
+  Some (Serve (record {
+    data_file = data_file;
+    address = address;
+    sessions = sessions;
+    turns = turns;
+    queues = queues;
+    idle = idle;
+    limit = limit;
+  }))
 
 abbrev replay_said : List (List ℕ) → List (List ℕ) → Bool → Option CommandView
 replay_said operands turns dump = do
   data_file ← slice_get operands 0
   script ← slice_get operands 1
-  events ← number_said default_turns (slice_get turns 0)
+  events ← number_said turns_range (slice_get turns 0)
   Some (Replay data_file script events dump)
 
 abbrev explain_said : List (List ℕ) → Option CommandView
@@ -93,40 +104,39 @@ sample_said operands = do
   count ← number_within 20 1 20000 said
   Some (Sample count)
 
-abbrev serve_heard : List ℕ → List ℕ → ℕ → List (List ℕ) → Option CommandView
-serve_heard data_file address number turns = do
-  events ← number_said default_turns (slice_get turns 0)
-  Some (Serve data_file address number events)
-
-abbrev serve_numbered : List ℕ → List ℕ → List (List ℕ) → List (List ℕ) → Option CommandView
-serve_numbered data_file address sessions turns = do
-  number ← number_said default_sessions (slice_get sessions 0)
-  serve_heard data_file address number turns
-
-serve-sound : (line : Line) (asked : CommandView) → Taken (row_of commands.Serve) line → serve_said (texts_of Operands line) (texts_of (Arguments options.Sessions) line) (texts_of (Arguments options.Turns) line) ≡ Some asked → Says commands.Serve line asked
+serve-sound : (line : Line) (asked : CommandView) → Taken (row_of commands.Serve) line → serve_said line ≡ Some asked → Says commands.Serve line asked
 serve-sound line asked is given =
-    let sessions = texts_of (Arguments options.Sessions) line in
-    let turns = texts_of (Arguments options.Turns) line in
     let own = pair (texts_of Operands line) is.operands in
-    let addressed = and_then-some (λ (address : List ℕ). serve_numbered own.0 address sessions turns) (address_of own.1) asked (sym (ap (λ (operands : List (List ℕ)). serve_said operands sessions turns) own.2) ∙ given) in
-    let numbered = and_then-some (λ (number : ℕ). serve_heard own.0 addressed.0 number turns) (number_said default_sessions (slice_get sessions 0)) asked addressed.2 in
-    let heard = and_then-some (λ (events : ℕ). Some (Serve own.0 addressed.0 numbered.0 events)) (number_said default_turns (slice_get turns 0)) asked numbered.2 in
-    let address = address_of-sound own.1 addressed.0 addressed.1 in
-    subst (Says commands.Serve line) (same_Some (Serve own.0 addressed.0 numbered.0 heard.0) asked heard.2) (
-      own.2 ∙ ap (λ (second : List ℕ). own.0 ∷ second ∷ []) address.1,
-      address.0,
-      number_said-sound default_sessions sessions numbered.0 is.once.0 numbered.1,
-      number_said-sound default_turns turns heard.0 is.once.1.0 heard.1,
-    )
+    let first = and_then-some _ (slice_get (texts_of Operands line) 0) asked given in
+    let second = and_then-some _ (slice_get (texts_of Operands line) 1) asked first.2 in
+    let address = and_then-some _ (address_of second.0) asked second.2 in
+    let sessions = and_then-some _ (number_said sessions_range (slice_get (texts_of (Arguments options.Sessions) line) 0)) asked address.2 in
+    let turns = and_then-some _ (number_said turns_range (slice_get (texts_of (Arguments options.Turns) line) 0)) asked sessions.2 in
+    let queues = and_then-some _ (number_said queues_range (slice_get (texts_of (Arguments options.Queues) line) 0)) asked turns.2 in
+    let idle = and_then-some _ (number_said idle_range (slice_get (texts_of (Arguments options.Idle) line) 0)) asked queues.2 in
+    let limit = and_then-some _ (number_said limit_range (slice_get (texts_of (Arguments options.Limit) line) 0)) asked idle.2 in
+    let addressed = address_of-sound second.0 address.0 address.1 in
+    subst (Says commands.Serve line) (same_Some _ asked limit.2) (record {
+      operands = own.2 ∙ ap (λ found. found ∷ own.1 ∷ []) (same_Some own.0 first.0 (sym (ap (λ texts. slice_get texts 0) own.2) ∙ first.1)) ∙ ap (λ found. first.0 ∷ found ∷ []) (same_Some own.1 second.0 (sym (ap (λ texts. slice_get texts 1) own.2) ∙ second.1) ∙ addressed.1);
+      address = addressed.0;
+      sessions = number_said-sound sessions_range _ sessions.0 is.once.0 sessions.1;
+      turns = number_said-sound turns_range _ turns.0 is.once.1.0 turns.1;
+      queues = number_said-sound queues_range _ queues.0 is.once.1.1.0 queues.1;
+      idle = number_said-sound idle_range _ idle.0 is.once.1.1.1.0 idle.1;
+      limit = number_said-sound limit_range _ limit.0 is.once.1.1.1.1.0 limit.1;
+    })
 
-serve-complete : (line : Line) (data_file address : List ℕ) (number events : ℕ) → Says commands.Serve line (Serve data_file address number events) → serve_said (texts_of Operands line) (texts_of (Arguments options.Sessions) line) (texts_of (Arguments options.Turns) line) ≡ Some (Serve data_file address number events)
-serve-complete line data_file address number events says =
-    let sessions = texts_of (Arguments options.Sessions) line in
-    let turns = texts_of (Arguments options.Turns) line in
-    ap (λ (operands : List (List ℕ)). serve_said operands sessions turns) says.0
-    ∙ ap (λ (found : Option (List ℕ)). found >>= (λ (own : List ℕ). serve_numbered data_file own sessions turns)) (address_of-complete address says.1)
-    ∙ ap (λ (found : Option ℕ). found >>= (λ (own : ℕ). serve_heard data_file address own turns)) (number_said-complete default_sessions sessions number says.2)
-    ∙ ap (λ (found : Option ℕ). found >>= (λ (own : ℕ). Some (Serve data_file address number own))) (number_said-complete default_turns turns events says.3)
+serve-complete : (line : Line) (serving : ServingView) → Says commands.Serve line (Serve serving) → serve_said line ≡ Some (Serve serving)
+serve-complete line serving says =
+    rw (
+      says.operands,
+      address_of-complete serving.address says.address,
+      number_said-complete sessions_range _ serving.sessions says.sessions,
+      number_said-complete turns_range _ serving.turns says.turns,
+      number_said-complete queues_range _ serving.queues says.queues,
+      number_said-complete idle_range _ serving.idle says.idle,
+      number_said-complete limit_range _ serving.limit says.limit,
+    ) refl
 
 replay-sound : (line : Line) (asked : CommandView) → Taken (row_of commands.Replay) line → replay_said (texts_of Operands line) (texts_of (Arguments options.Turns) line) (is_some (slice_get (texts_of (Arguments options.Dump) line) 0)) ≡ Some asked → Says commands.Replay line asked
 replay-sound line asked is given =
@@ -134,10 +144,10 @@ replay-sound line asked is given =
     let dumps = texts_of (Arguments options.Dump) line in
     let dump = is_some (slice_get dumps 0) in
     let own = pair (texts_of Operands line) is.operands in
-    let heard = and_then-some (λ (events : ℕ). Some (Replay own.0 own.1 events dump)) (number_said default_turns (slice_get turns 0)) asked (sym (ap (λ (operands : List (List ℕ)). replay_said operands turns dump) own.2) ∙ given) in
+    let heard = and_then-some (λ (events : ℕ). Some (Replay own.0 own.1 events dump)) (number_said turns_range (slice_get turns 0)) asked (sym (ap (λ (operands : List (List ℕ)). replay_said operands turns dump) own.2) ∙ given) in
     subst (Says commands.Replay line) (same_Some (Replay own.0 own.1 heard.0 dump) asked heard.2) (
       own.2,
-      number_said-sound default_turns turns heard.0 is.once.1.0 heard.1,
+      number_said-sound turns_range turns heard.0 is.once.1.0 heard.1,
       once-is_some dumps is.once.0,
     )
 
@@ -146,7 +156,7 @@ replay-complete line data_file script events dump is says =
     let turns = texts_of (Arguments options.Turns) line in
     let dumps = texts_of (Arguments options.Dump) line in
     ap (λ (operands : List (List ℕ)). replay_said operands turns (is_some (slice_get dumps 0))) says.0
-    ∙ ap (λ (found : Option ℕ). found >>= (λ (own : ℕ). Some (Replay data_file script own (is_some (slice_get dumps 0))))) (number_said-complete default_turns turns events says.1)
+    ∙ ap (λ (found : Option ℕ). found >>= (λ (own : ℕ). Some (Replay data_file script own (is_some (slice_get dumps 0))))) (number_said-complete turns_range turns events says.1)
     ∙ ap (λ (own : Bool). Some (Replay data_file script events own)) (once-is_some dumps is.once.0 ∙ sym says.2)
 
 explain-sound : (line : Line) (asked : CommandView) → Taken (row_of commands.Explain) line → explain_said (texts_of Operands line) ≡ Some asked → Says commands.Explain line asked
@@ -182,7 +192,7 @@ command_said-sound commands.Sample line asked is given = sample-sound line asked
 
 pub command_said-complete : (name : CommandName) (line : Line) (asked : CommandView) → Taken (row_of name) line → Says name line asked → line_said name line ≡ Some asked
 unfolding command_said
-command_said-complete commands.Serve line (Serve data_file address number events) is says = serve-complete line data_file address number events says
+command_said-complete commands.Serve line (Serve serving) is says = serve-complete line serving says
 command_said-complete commands.Replay line (Replay data_file script events dump) is says = replay-complete line data_file script events dump is says
 command_said-complete commands.Check line (Check data_file) is says = ap (λ (texts : List (List ℕ)). option_map Check (slice_get texts 0)) says
 command_said-complete commands.Dump line (Dump data_file) is says = ap (λ (texts : List (List ℕ)). option_map Dump (slice_get texts 0)) says

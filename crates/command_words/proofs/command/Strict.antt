@@ -12,8 +12,9 @@ use Rattle.command_words.specs.declared.table.OptionName.TheVariants as options
 use Rattle.command_words.specs.declared.table.Sought.TheVariants.{Arguments}
 use Rattle.command_words.specs.Table.{Row, row_of, takes_argument}
 use Rattle.command_words.specs.command.Line.{Item, Operand, Flag, Joined, Apart, Line, IsItem, begins_with_dash, item_texts, texts_of}
+use Rattle.command_words.specs.declared.number.NumberRange.{NumberRange}
 use Rattle.command_words.specs.Number.{IsNumber, SaysNumber}
-use Rattle.command_words.specs.command.Command.{CommandView, Serve, Replay, Says}
+use Rattle.command_words.specs.command.Command.{CommandView, Serve, Replay, Says, sessions_range, turns_range, queues_range, idle_range, limit_range}
 use Rattle.command_words.proofs.table.Tables.{none-contained, not_of_replay, same_option}
 use Rattle.command_words.proofs.command.Sound.{IsLoose}
 
@@ -31,17 +32,23 @@ number-undashed (x ∷ xs) value is = by (eqb x 45) refl
         cc
     by false other = refl
 
-says-undashed : (absent : ℕ) (texts : List (List ℕ)) (value : ℕ) → SaysNumber absent texts value → AllByRecursion Undashed texts
-says-undashed absent [] value says = tt
-says-undashed absent (text ∷ []) value says = (number-undashed text value says, tt)
-says-undashed absent (text ∷ again ∷ more) value says = absurd says
+says-undashed : (range : NumberRange) (texts : List (List ℕ)) (value : ℕ) → SaysNumber range texts value → AllByRecursion Undashed texts
+says-undashed range [] value says = tt
+says-undashed range (text ∷ []) value says = (number-undashed text value says.number, tt)
+says-undashed range (text ∷ again ∷ more) value says = absurd says
 
 -- the values of each option of a command that is said
 numbered : (name : CommandName) (line : Line) (asked : CommandView) (option : OptionName) → Says name line asked → Contains (row_of name).options option → takes_argument option ≡ true → AllByRecursion Undashed (texts_of (Arguments option) line)
-numbered commands.Serve line (Serve data_file address sessions turns) options.Sessions says of_row takes = says-undashed _ _ sessions says.2
-numbered commands.Serve line (Serve data_file address sessions turns) options.Turns says of_row takes = says-undashed _ _ turns says.3
-numbered commands.Replay line (Replay data_file script turns dump) options.Turns says of_row takes = says-undashed _ _ turns says.1
-numbered commands.Replay line (Replay data_file script turns dump) options.Sessions says of_row takes = absurd (not_of_replay of_row)
+numbered commands.Serve line (Serve serving) options.Sessions says of_row takes = says-undashed sessions_range _ serving.sessions says.sessions
+numbered commands.Serve line (Serve serving) options.Turns says of_row takes = says-undashed turns_range _ serving.turns says.turns
+numbered commands.Serve line (Serve serving) options.Queues says of_row takes = says-undashed queues_range _ serving.queues says.queues
+numbered commands.Serve line (Serve serving) options.Idle says of_row takes = says-undashed idle_range _ serving.idle says.idle
+numbered commands.Serve line (Serve serving) options.Limit says of_row takes = says-undashed limit_range _ serving.limit says.limit
+numbered commands.Replay line (Replay data_file script turns dump) options.Turns says of_row takes = says-undashed turns_range _ turns says.1
+numbered commands.Replay line (Replay data_file script turns dump) options.Sessions says of_row takes = absurd (not_of_replay options.Sessions refl of_row)
+numbered commands.Replay line (Replay data_file script turns dump) options.Queues says of_row takes = absurd (not_of_replay options.Queues refl of_row)
+numbered commands.Replay line (Replay data_file script turns dump) options.Idle says of_row takes = absurd (not_of_replay options.Idle refl of_row)
+numbered commands.Replay line (Replay data_file script turns dump) options.Limit says of_row takes = absurd (not_of_replay options.Limit refl of_row)
 numbered commands.Check line asked option says of_row takes = absurd (none-contained option of_row)
 numbered commands.Dump line asked option says of_row takes = absurd (none-contained option of_row)
 numbered commands.Explain line asked option says of_row takes = absurd (none-contained option of_row)

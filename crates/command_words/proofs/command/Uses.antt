@@ -2,6 +2,7 @@
 use Rattle.std.proofs.Common.{◌≡◌, ◌∙◌, ◌≤◌, ◌&&◌, Bool, true, false, cond, List, [], ◌∷◌, ◌++◌, length, map, Option, Some, None, is_some, refl, sym, ap, subst, arith}
 use Rattle.std.specs.Prelude.{bytes_eq, codes}
 use Rattle.std.proofs.lemmas.List.{append-nil, map-append}
+use Rattle.std.proofs.lemmas.Slice.Eq.{bytes_eq-Decides}
 use Rattle.clap.specs.Walk.{Row as Kept, Text, all_of, has_row, used, with_values}
 use Rattle.clap.specs.Kinds.{or_else}
 use Rattle.clap.specs.Faults.{use_fault}
@@ -17,7 +18,8 @@ use Rattle.command_words.specs.Table.{option_word, takes_argument, is_same_optio
 use Rattle.command_words.specs.command.Line.{Item, Operand, Flag, Joined, Apart, item_texts}
 use Rattle.command_words.specs.parser.Parser.{id_of}
 use Rattle.command_words.proofs.command.Rows.{kept_more, after_use, all_of-with_values, has_row-kept, without-absent}
-use Rattle.command_words.proofs.command.Rules.{operand, option_by}
+use Rattle.command_words.proofs.command.Rules.{operand, option_by, bytes_eq-back}
+use Rattle.command_words.proofs.table.Tables.{option_word-once}
 
 -- the texts that were given, by what is sought
 abbrev pub Given : Type 0
@@ -52,45 +54,27 @@ kept_of-more : (sought : Sought) (texts : List Text) (text : Text) → Some (kep
 kept_of-more sought [] text = refl
 kept_of-more sought (first ∷ texts) text = ap Some (sym (map-append (shown sought) (first ∷ texts) (text ∷ [])))
 
--- things of one name are one
-pub same-id : (own other : Sought) → bytes_eq (id_of own) (id_of other) ≡ true → own ≡ other
-same-id Operands Operands is = refl
-same-id Operands (Arguments options.Sessions) is = absurd (cc)
-same-id Operands (Arguments options.Turns) is = absurd (cc)
-same-id Operands (Arguments options.Dump) is = absurd (cc)
-same-id (Arguments options.Sessions) Operands is = absurd (cc)
-same-id (Arguments options.Sessions) (Arguments options.Sessions) is = refl
-same-id (Arguments options.Sessions) (Arguments options.Turns) is = absurd (cc)
-same-id (Arguments options.Sessions) (Arguments options.Dump) is = absurd (cc)
-same-id (Arguments options.Turns) Operands is = absurd (cc)
-same-id (Arguments options.Turns) (Arguments options.Sessions) is = absurd (cc)
-same-id (Arguments options.Turns) (Arguments options.Turns) is = refl
-same-id (Arguments options.Turns) (Arguments options.Dump) is = absurd (cc)
-same-id (Arguments options.Dump) Operands is = absurd (cc)
-same-id (Arguments options.Dump) (Arguments options.Sessions) is = absurd (cc)
-same-id (Arguments options.Dump) (Arguments options.Turns) is = absurd (cc)
-same-id (Arguments options.Dump) (Arguments options.Dump) is = refl
-
-option-same : (name other : OptionName) → bytes_eq (option_word name) (option_word other) ≡ is_same_option other name
-option-same options.Sessions options.Sessions = refl
-option-same options.Sessions options.Turns = refl
-option-same options.Sessions options.Dump = refl
-option-same options.Turns options.Sessions = refl
-option-same options.Turns options.Turns = refl
-option-same options.Turns options.Dump = refl
-option-same options.Dump options.Sessions = refl
-option-same options.Dump options.Turns = refl
-option-same options.Dump options.Dump = refl
-
+-- operands are no option
 option-operands : (name : OptionName) → bytes_eq (option_word name) (codes "operands") ≡ false
 option-operands options.Sessions = refl
 option-operands options.Turns = refl
+option-operands options.Queues = refl
+option-operands options.Idle = refl
+option-operands options.Limit = refl
 option-operands options.Dump = refl
 
 operands-option : (name : OptionName) → bytes_eq (codes "operands") (option_word name) ≡ false
-operands-option options.Sessions = refl
-operands-option options.Turns = refl
-operands-option options.Dump = refl
+operands-option name = bytes_eq-back (codes "operands") (option_word name) ∙ option-operands name
+
+-- things of one name are one
+pub same-id : (own other : Sought) → bytes_eq (id_of own) (id_of other) ≡ true → own ≡ other
+same-id Operands Operands is = refl
+same-id Operands (Arguments name) is = (let clash : true ≡ false = sym is ∙ operands-option name in cc)
+same-id (Arguments name) Operands is = (let clash : true ≡ false = sym is ∙ option-operands name in cc)
+same-id (Arguments name) (Arguments other) is = ap Arguments (option_word-once name other ((bytes_eq-Decides (option_word name) (option_word other)).0 is))
+
+option-same : (name other : OptionName) → bytes_eq (option_word name) (option_word other) ≡ is_same_option other name
+option-same name other = bytes_eq-back (option_word name) (option_word other)
 
 -- the item gives this text of its own
 abbrev pub Gives : Item → Sought → Text → Type 0

@@ -117,11 +117,17 @@ cut_of body = by (equals_in body)
 pub option_word-whole : (name : OptionName) → name_and_value (option_word name) ≡ (option_word name, None)
 option_word-whole options.Sessions = refl
 option_word-whole options.Turns = refl
+option_word-whole options.Queues = refl
+option_word-whole options.Idle = refl
+option_word-whole options.Limit = refl
 option_word-whole options.Dump = refl
 
 pub option_word-parts : (name : OptionName) (value : Text) → name_and_value (option_word name ++ 61 ∷ value) ≡ (option_word name, Some value)
 option_word-parts options.Sessions value = refl
 option_word-parts options.Turns value = refl
+option_word-parts options.Queues value = refl
+option_word-parts options.Idle value = refl
+option_word-parts options.Limit value = refl
 option_word-parts options.Dump value = refl
 
 -- and a first character
@@ -133,4 +139,7 @@ pub record Begins (text : Text) : Type 0 where
 pub option_word-begins : (name : OptionName) → Begins (option_word name)
 option_word-begins options.Sessions = record { first = _; more = _; is = refl }
 option_word-begins options.Turns = record { first = _; more = _; is = refl }
+option_word-begins options.Queues = record { first = _; more = _; is = refl }
+option_word-begins options.Idle = record { first = _; more = _; is = refl }
+option_word-begins options.Limit = record { first = _; more = _; is = refl }
 option_word-begins options.Dump = record { first = _; more = _; is = refl }

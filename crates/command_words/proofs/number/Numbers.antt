@@ -7,6 +7,7 @@ use Rattle.std.specs.Char.{is_ascii_digit}
 use Rattle.std.specs.List.{list_all}
 use Rattle.std.specs.Result.{result_ok}
 use Rattle.std.specs.Str.Parse.{digits_value, ParsesUnsigned}
+use Rattle.command_words.specs.declared.number.NumberRange.{NumberRange}
 use Rattle.command_words.specs.Number.{IsNumber, IsNumberWithin, SaysNumber, has_form, number_of, number_said, number_within, value_within}
 use Rattle.plain_values.proofs.Theorems.{decimal_numerals}
 
@@ -58,17 +59,6 @@ pub and_then-some : {A B : Type 0} (f : A → Option B) (o : Option A) (y : B) �
 and_then-some f None y given = absurd (cc)
 and_then-some f (Some x) y given = (x, refl, given)
 
--- the number that an option's argument says, if it is given at most once
-pub number_said-sound : (absent : ℕ) (texts : List (List ℕ)) (value : ℕ) → length texts ≤ 1 → number_said absent (slice_get texts 0) ≡ Some value → SaysNumber absent texts value
-number_said-sound absent [] value once given = sym (same_Some absent value given)
-number_said-sound absent (text ∷ []) value once given = number_of-sound text value given
-number_said-sound absent (text ∷ again ∷ more) value once given = absurd (omega (arith, once))
-
-pub number_said-complete : (absent : ℕ) (texts : List (List ℕ)) (value : ℕ) → SaysNumber absent texts value → number_said absent (slice_get texts 0) ≡ Some value
-number_said-complete absent [] value says = rw says refl
-number_said-complete absent (text ∷ []) value says = number_of-complete text value says
-number_said-complete absent (text ∷ again ∷ more) value says = absurd says
-
 -- numbers in a range
 pub number_within-sound : (digits least greatest : ℕ) (text : List ℕ) (value : ℕ) → number_within digits least greatest text ≡ Some value → IsNumberWithin digits least greatest text value
 unfolding number_within
@@ -92,3 +82,19 @@ pub number_within-complete : (digits least greatest : ℕ) (text : List ℕ) (va
 unfolding number_within
 number_within-complete digits least greatest text value is =
     rw (le-leb _ _ is.short, number_of-complete text value is.number, le-leb _ _ is.reaches, le-leb _ _ is.stays_below) refl
+
+-- the number that an option's argument says, if it is given at most once
+pub number_said-sound : (range : NumberRange) (texts : List (List ℕ)) (value : ℕ) → length texts ≤ 1 → number_said range (slice_get texts 0) ≡ Some value → SaysNumber range texts value
+number_said-sound range [] value once given = sym (same_Some range.absent value given)
+number_said-sound range (text ∷ []) value once given = number_within-sound 20 range.least range.greatest text value given
+number_said-sound range (text ∷ again ∷ more) value once given = absurd (omega (arith, once))
+
+pub number_said-complete : (range : NumberRange) (texts : List (List ℕ)) (value : ℕ) → SaysNumber range texts value → number_said range (slice_get texts 0) ≡ Some value
+number_said-complete range [] value says = rw says refl
+number_said-complete range (text ∷ []) value says = number_within-complete 20 range.least range.greatest text value says
+number_said-complete range (text ∷ again ∷ more) value says = absurd says
+
+-- a number that is said is within the range
+pub number_said-within : (range : NumberRange) (text : Option (List ℕ)) (value : ℕ) → range.absent ≤ range.greatest → number_said range text ≡ Some value → value ≤ range.greatest
+number_said-within range None value within given = subst (λ number. number ≤ range.greatest) (same_Some range.absent value given) within
+number_said-within range (Some text) value within given = (number_within-sound 20 range.least range.greatest text value given).stays_below

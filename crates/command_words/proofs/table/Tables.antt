@@ -1,5 +1,6 @@
 -- What is found in the tables of commands and options, and that each name is found.
-use Rattle.std.proofs.Common.{◌≡◌, ◌≢◌, ◌<◌, ℕ, zero, suc, Bool, true, false, cond, List, [], ◌∷◌, get_or, Some, refl, subst, arith}
+use Rattle.std.proofs.Common.{◌≡◌, ◌∙◌, ◌<◌, ◌||◌, ℕ, zero, suc, Bool, true, false, cond, List, [], ◌∷◌, get_or, length, Some, refl, sym, ap, subst, arith}
+use Rattle.std.specs.List.{list_any}
 use Rattle.std.specs.Prelude.{Contains, find, bytes_eq}
 use Rattle.std.proofs.lemmas.Option.{same_Some}
 use Rattle.std.proofs.lemmas.Slice.Eq.{bytes_eq-Decides}
@@ -42,27 +43,37 @@ command_named-sound word name given =
 pub none-contained : {X : Type 0} (x : X) → Contains [] x → ⊥
 none-contained x contained = omega (arith, contained.1)
 
--- nor is another option of two
-not_of_two : (one other name : OptionName) → one ≢ name → other ≢ name → Contains (one ∷ other ∷ []) name → ⊥
-not_of_two one other name not_one not_other contained = among contained.0 contained.1 contained.2
+-- an option is the same as itself
+pub same_option : (name : OptionName) → is_same_option name name ≡ true
+same_option name = (bytes_eq-Decides (option_word name) (option_word name)).1 refl
+
+-- nor is another option of a list
+pub not_contained : (names : List OptionName) (name : OptionName) → list_any (is_same_option name) names ≡ false → Contains names name → ⊥
+not_contained [] name lacks contained = none-contained name contained
+not_contained (other ∷ names) name lacks contained = by (is_same_option name other) refl (not_contained names name) contained.0 contained.1 contained.2
   where
-    among : (at : ℕ) → at < 2 → get_or (one ∷ other ∷ []) at name ≡ name → ⊥
-    among zero below is = not_one is
-    among (suc zero) below is = not_other is
-    among (suc (suc at)) below is = omega (arith, below)
+    by : (b : Bool) → is_same_option name other ≡ b → (list_any (is_same_option name) names ≡ false → Contains names name → ⊥) → (at : ℕ) → at < suc (length names) → get_or (other ∷ names) at name ≡ name → ⊥
+    by true same later at below is = (let clash : true ≡ false = sym (ap (λ (c : Bool). c || list_any (is_same_option name) names) same) ∙ lacks in cc)
+    by false differs later zero below is = (let clash : true ≡ false = sym (same_option name) ∙ ap (is_same_option name) (sym is) ∙ differs in cc)
+    by false differs later (suc at) below is =
+        later (sym (ap (λ (c : Bool). c || list_any (is_same_option name) names) differs) ∙ lacks) (at, omega (arith, below), is)
 
-not_of_serve : Contains (row_of commands.Serve).options options.Dump → ⊥
-not_of_serve = not_of_two options.Sessions options.Turns options.Dump (λ same. cc) (λ same. cc)
-
-pub not_of_replay : Contains (row_of commands.Replay).options options.Sessions → ⊥
-not_of_replay = not_of_two options.Dump options.Turns options.Sessions (λ same. cc) (λ same. cc)
+-- a replay has no option of serving but its turns
+pub not_of_replay : (name : OptionName) → list_any (is_same_option name) (row_of commands.Replay).options ≡ false → Contains (row_of commands.Replay).options name → ⊥
+not_of_replay = not_contained (row_of commands.Replay).options
 
 -- each option of a command is found by its name
 pub option_named-complete : (command : CommandName) (name : OptionName) → Contains (row_of command).options name → option_named (row_of command) (option_word name) ≡ Some name
 option_named-complete commands.Serve options.Sessions of_row = refl
 option_named-complete commands.Serve options.Turns of_row = refl
-option_named-complete commands.Serve options.Dump of_row = absurd (not_of_serve of_row)
-option_named-complete commands.Replay options.Sessions of_row = absurd (not_of_replay of_row)
+option_named-complete commands.Serve options.Queues of_row = refl
+option_named-complete commands.Serve options.Idle of_row = refl
+option_named-complete commands.Serve options.Limit of_row = refl
+option_named-complete commands.Serve options.Dump of_row = absurd (not_contained (row_of commands.Serve).options options.Dump refl of_row)
+option_named-complete commands.Replay options.Sessions of_row = absurd (not_of_replay options.Sessions refl of_row)
+option_named-complete commands.Replay options.Queues of_row = absurd (not_of_replay options.Queues refl of_row)
+option_named-complete commands.Replay options.Idle of_row = absurd (not_of_replay options.Idle refl of_row)
+option_named-complete commands.Replay options.Limit of_row = absurd (not_of_replay options.Limit refl of_row)
 option_named-complete commands.Replay options.Turns of_row = refl
 option_named-complete commands.Replay options.Dump of_row = refl
 option_named-complete commands.Check name of_row = absurd (none-contained name of_row)
@@ -78,8 +89,19 @@ command_named-complete commands.Dump = refl
 command_named-complete commands.Explain = refl
 command_named-complete commands.Sample = refl
 
--- an option is the same as itself
-pub same_option : (name : OptionName) → is_same_option name name ≡ true
-same_option options.Sessions = refl
-same_option options.Turns = refl
-same_option options.Dump = refl
+-- all options
+abbrev all_options : List OptionName
+all_options = options.Sessions ∷ options.Turns ∷ options.Queues ∷ options.Idle ∷ options.Limit ∷ options.Dump ∷ []
+
+-- each is found by its word, so that options of one word are one
+word-found : (name : OptionName) → find (λ other. bytes_eq (option_word name) (option_word other)) all_options ≡ Some name
+word-found options.Sessions = refl
+word-found options.Turns = refl
+word-found options.Queues = refl
+word-found options.Idle = refl
+word-found options.Limit = refl
+word-found options.Dump = refl
+
+pub option_word-once : (one other : OptionName) → option_word one ≡ option_word other → one ≡ other
+option_word-once one other is =
+    same_Some one other (sym (word-found one) ∙ ap (λ word. find (λ name. bytes_eq word (option_word name)) all_options) is ∙ word-found other)

@@ -2,6 +2,8 @@
 use Rattle.std.specs.Prelude.{◌≡◌, ℕ, Bool, List, [], ◌∷◌, length, ◌==◌}
 use Rattle.command_words.specs.declared.command.Command.{Command}
 use Rattle.command_words.specs.declared.command.Command.TheVariants as command
+use Rattle.command_words.specs.declared.command.Serving.{Serving}
+use Rattle.command_words.specs.declared.number.NumberRange.{NumberRange}
 use Rattle.command_words.specs.declared.table.CommandName.{CommandName}
 use Rattle.command_words.specs.declared.table.CommandName.TheVariants as commands
 use Rattle.command_words.specs.declared.table.OptionName.TheVariants as options
@@ -11,46 +13,88 @@ use Rattle.command_words.specs.command.Line.{Line, IsLine, line_words, texts_of}
 use Rattle.command_words.specs.Number.{SaysNumber, IsNumberWithin}
 use Rattle.command_words.specs.Address.{IsAddress}
 
+-- what serving is asked for: the data file, the address, after how many connections it ends, how many events are heard,
+-- how many MiB all queues may have, after how many seconds of silence a connection ends, and how many entries one search
+-- is given
+pub record ServingView : Type 0 where
+  pub data_file : List ℕ
+  pub address : List ℕ
+  pub sessions : ℕ
+  pub turns : ℕ
+  pub queues : ℕ
+  pub idle : ℕ
+  pub limit : ℕ
+
 -- what words may ask for, with texts as octets
 pub data CommandView : Type 0 where
-  Serve : (data_file address : List ℕ) (sessions turns : ℕ) → CommandView
+  Serve : (serving : ServingView) → CommandView
   Replay : (data_file script : List ℕ) (turns : ℕ) (dump : Bool) → CommandView
   Check : (data_file : List ℕ) → CommandView
   Dump : (data_file : List ℕ) → CommandView
   Explain : (data_file who target item permission : List ℕ) → CommandView
   Sample : (count : ℕ) → CommandView
 
+-- serving as it is read, with its texts as octets
+abbrev pub serving_view : Serving → ServingView
+serving_view serving = record {
+  data_file = serving.«data».now;
+  address = serving.address.now;
+  sessions = serving.sessions;
+  turns = serving.turns;
+  queues = serving.queues;
+  idle = serving.idle;
+  limit = serving.limit;
+}
+
 -- a command as it is read, with its texts as octets
 abbrev pub view : Command → CommandView
-view (command.Serve data_file address sessions turns) = Serve data_file.now address.now sessions turns
+view (command.Serve serving) = Serve (serving_view serving)
 view (command.Replay data_file script turns dump) = Replay data_file.now script.now turns dump
 view (command.Check data_file) = Check data_file.now
 view (command.Dump data_file) = Dump data_file.now
 view (command.Explain data_file who target item permission) = Explain data_file.now who.now target.now item.now permission.now
 view (command.Sample count) = Sample count
 
--- after how many connections the serving ends where the words don't say: never
-abbrev pub default_sessions : ℕ
-default_sessions = 0
+-- after how many connections the serving ends: never, where the words don't say
+abbrev pub sessions_range : NumberRange
+sessions_range = record { absent = 0; least = 0; greatest = 18446744073709551615 }
 
--- how many events are heard where the words don't say
-abbrev pub default_turns : ℕ
-default_turns = 1000000000000
+-- how many events are heard
+abbrev pub turns_range : NumberRange
+turns_range = record { absent = 1000000000000; least = 0; greatest = 18446744073709551615 }
+
+-- how many MiB the queues of all connections may have
+abbrev pub queues_range : NumberRange
+queues_range = record { absent = 256; least = 1; greatest = 65536 }
+
+-- after how many seconds of silence a connection ends: never, where the words don't say
+abbrev pub idle_range : NumberRange
+idle_range = record { absent = 0; least = 1; greatest = 4294967295 }
+
+-- how many entries one search is given: all, where the words don't say; else at most the greatest sizeLimit (RFC 4511 4.5.1)
+abbrev pub limit_range : NumberRange
+limit_range = record { absent = 0; least = 1; greatest = 2147483647 }
 
 -- a count of persons in one to twenty decimal digits, from 1 to 20,000
 abbrev pub IsCount : List ℕ → ℕ → Type 0
 IsCount text count = IsNumberWithin 20 1 20000 text count
 
--- the command that a command's line says: its operands, its numbers of connections and turns, and whether it has `--dump`
+-- what a line of `serve` says: its operands, and a number for each option
+pub record SaysServing (line : Line) (serving : ServingView) : Type 0 where
+  pub operands : texts_of Operands line ≡ serving.data_file ∷ serving.address ∷ []
+  pub address : IsAddress serving.address
+  pub sessions : SaysNumber sessions_range (texts_of (Arguments options.Sessions) line) serving.sessions
+  pub turns : SaysNumber turns_range (texts_of (Arguments options.Turns) line) serving.turns
+  pub queues : SaysNumber queues_range (texts_of (Arguments options.Queues) line) serving.queues
+  pub idle : SaysNumber idle_range (texts_of (Arguments options.Idle) line) serving.idle
+  pub limit : SaysNumber limit_range (texts_of (Arguments options.Limit) line) serving.limit
+
+-- the command that a command's line says: its operands, its numbers, and whether it has `--dump`
 abbrev pub Says : CommandName → Line → CommandView → Type 0
-Says commands.Serve line (Serve data_file address sessions turns) =
-    (texts_of Operands line ≡ data_file ∷ address ∷ [])
-    × IsAddress address
-    × SaysNumber default_sessions (texts_of (Arguments options.Sessions) line) sessions
-    × SaysNumber default_turns (texts_of (Arguments options.Turns) line) turns
+Says commands.Serve line (Serve serving) = SaysServing line serving
 Says commands.Replay line (Replay data_file script turns dump) =
     (texts_of Operands line ≡ data_file ∷ script ∷ [])
-    × SaysNumber default_turns (texts_of (Arguments options.Turns) line) turns
+    × SaysNumber turns_range (texts_of (Arguments options.Turns) line) turns
     × (dump ≡ (length (texts_of (Arguments options.Dump) line) == 1))
 Says commands.Check line (Check data_file) = texts_of Operands line ≡ data_file ∷ []
 Says commands.Dump line (Dump data_file) = texts_of Operands line ≡ data_file ∷ []

@@ -12,7 +12,7 @@ use Rattle.command_words.specs.Table.{row_of}
 use Rattle.command_words.specs.command.Line.{Line, IsLine, line_words}
 use Rattle.command_words.specs.Number.{number_said, number_within}
 use Rattle.command_words.specs.Address.{address_of}
-use Rattle.command_words.specs.command.Command.{CommandView, Serve, Replay, Check, Dump, Explain, Sample, Says, IsCommand, default_sessions, default_turns}
+use Rattle.command_words.specs.command.Command.{CommandView, Serve, Replay, Check, Dump, Explain, Sample, Says, IsCommand, sessions_range, turns_range, queues_range, idle_range, limit_range}
 use Rattle.command_words.specs.parser.Parser.{kept_in, kept_text, is_set}
 
 -- the command that texts say, and whether it has a flag: one case a command
@@ -21,13 +21,24 @@ command_said commands.Serve text has = do
   data_file ← text Operands 0
   said ← text Operands 1
   address ← address_of said
-  sessions ← number_said default_sessions (text (Arguments options.Sessions) 0)
-  turns ← number_said default_turns (text (Arguments options.Turns) 0)
-  Some (Serve data_file address sessions turns)
+  sessions ← number_said sessions_range (text (Arguments options.Sessions) 0)
+  turns ← number_said turns_range (text (Arguments options.Turns) 0)
+  queues ← number_said queues_range (text (Arguments options.Queues) 0)
+  idle ← number_said idle_range (text (Arguments options.Idle) 0)
+  limit ← number_said limit_range (text (Arguments options.Limit) 0)
+  Some (Serve (record {
+    data_file = data_file;
+    address = address;
+    sessions = sessions;
+    turns = turns;
+    queues = queues;
+    idle = idle;
+    limit = limit;
+  }))
 command_said commands.Replay text has = do
   data_file ← text Operands 0
   script ← text Operands 1
-  turns ← number_said default_turns (text (Arguments options.Turns) 0)
+  turns ← number_said turns_range (text (Arguments options.Turns) 0)
   Some (Replay data_file script turns (has options.Dump))
 command_said commands.Check text has = option_map Check (text Operands 0)
 command_said commands.Dump text has = option_map Dump (text Operands 0)

@@ -1,14 +1,13 @@
 -- Tables of refusals: what the first part of one says of the whole.
-use Rattle.std.proofs.Common.{◌≡◌, ℕ, false, map, List, [], ◌∷◌, ◌++◌, Option, Some, None, Result, Ok, refl, ap, ◌∙◌}
+use Rattle.std.proofs.Common.{◌≡◌, List, [], ◌∷◌, ◌++◌, Option, Some, None, Result, Ok, refl, ap, ◌∙◌}
 use Rattle.ldap_msg.specs.plain_values.Answers.{IsFaultOf}
 use Rattle.ldap_msg.specs.plain_values.Results.{◌>>=◌}
-use Rattle.dir_tree.specs.dn_names.name.Names.{Keyed}
 use Rattle.dir_tree.specs.Entry.{EntryInformation}
 use Rattle.ldap_msg.specs.declared.operations.ResultCode.{ResultCode}
 use Rattle.entry_changes.specs.declared.fault.ChangeFault.{ChangeFault}
 use Rattle.entry_changes.specs.declared.fault.ChangeFault.TheVariants as fault
 use Rattle.ldap_msg.specs.plain_values.Refusals.{first_some}
-use Rattle.entry_changes.specs.Change.{Asks, Modification, are_none, delete_value_refusal, delete_refusal, changed, changed_by, cause_of}
+use Rattle.entry_changes.specs.Change.{Asker, Modification, changed, changed_by, cause_of}
 
 -- ---- two tables, one behind the other
 
@@ -22,31 +21,23 @@ first_some-open [] more e = refl
 first_some-open (None ∷ rows) more e = first_some-open rows more e
 first_some-open (Some other ∷ rows) more e = absurd cc
 
--- ---- deletes
-
-pub delete_refusal-values : (asks : Asks) (kind : ℕ) (old values : List Keyed) → are_none values ≡ false
-    → delete_refusal asks kind old values ≡ first_some (map (delete_value_refusal asks kind old) values)
-unfolding delete_refusal
-delete_refusal-values asks kind old [] e = absurd cc
-delete_refusal-values asks kind old (first ∷ rest) e = refl
-
 -- ---- changes in their order
 
 -- one change more
-pub changes-step : (asks : Asks) (entry left : EntryInformation) (all : List Modification) (change : Modification) (changes : List Modification) → all ≡ change ∷ changes → changed asks entry change ≡ Ok left
-    → changed_by asks entry all ≡ changed_by asks left changes
+pub changes-step : (asker : Asker) (entry left : EntryInformation) (all : List Modification) (change : Modification) (changes : List Modification) → all ≡ change ∷ changes → changed asker entry change ≡ Ok left
+    → changed_by asker entry all ≡ changed_by asker left changes
 unfolding changed_by
-changes-step asks entry left all change changes is made =
-    ap (changed_by asks entry) is ∙ ap (λ (first : Result EntryInformation ResultCode). first >>= λ left. changed_by asks left changes) made
+changes-step asker entry left all change changes is made =
+    ap (changed_by asker entry) is ∙ ap (λ (first : Result EntryInformation ResultCode). first >>= λ left. changed_by asker left changes) made
 
 -- the first that is refused decides
-pub changes-fault : (asks : Asks) (entry : EntryInformation) (all : List Modification) (change : Modification) (changes : List Modification) (bad : ChangeFault) → all ≡ change ∷ changes
-    → IsFaultOf (cause_of bad) (changed asks entry change) → IsFaultOf (cause_of bad) (changed_by asks entry all)
+pub changes-fault : (asker : Asker) (entry : EntryInformation) (all : List Modification) (change : Modification) (changes : List Modification) (bad : ChangeFault) → all ≡ change ∷ changes
+    → IsFaultOf (cause_of bad) (changed asker entry change) → IsFaultOf (cause_of bad) (changed_by asker entry all)
 unfolding changed_by
-changes-fault asks entry all change changes fault.NoMemory is says = tt
-changes-fault asks entry all change changes (fault.Refused refusal) is says =
-    ap (changed_by asks entry) is ∙ ap (λ (first : Result EntryInformation ResultCode). first >>= λ left. changed_by asks left changes) says
+changes-fault asker entry all change changes fault.NoMemory is says = tt
+changes-fault asker entry all change changes (fault.Refused refusal) is says =
+    ap (changed_by asker entry) is ∙ ap (λ (first : Result EntryInformation ResultCode). first >>= λ left. changed_by asker left changes) says
 
-pub changes-done : (asks : Asks) (entry : EntryInformation) (changes : List Modification) → changes ≡ [] → changed_by asks entry changes ≡ Ok entry
+pub changes-done : (asker : Asker) (entry : EntryInformation) (changes : List Modification) → changes ≡ [] → changed_by asker entry changes ≡ Ok entry
 unfolding changed_by
-changes-done asks entry changes none = ap (changed_by asks entry) none
+changes-done asker entry changes none = ap (changed_by asker entry) none

@@ -12,7 +12,7 @@ use Rattle.ldif_load.proofs.Theorems.{name-with_pairs, name-with_value, good-wit
 use Rattle.ldap_msg.specs.declared.operations.ResultCode.{ResultCode}
 use Rattle.entry_changes.specs.declared.kind.ChangeKind.{ChangeKind}
 use Rattle.entry_changes.specs.declared.kind.ChangeKind.TheVariants.{Add, Delete, Replace}
-use Rattle.entry_changes.specs.Change.{Asks, Modification, with_each, without_each, left_by, change_refusal, unless_refused, changed_by}
+use Rattle.entry_changes.specs.Change.{Asker, Modification, asks_after, made, with_each, without_each, left_by, change_refusal, unless_refused, changed_by}
 use Rattle.entry_changes.specs.Renaming.{gone_pairs, without_pairs, renamed_entry}
 use Rattle.entry_changes.proofs.effects.EffectLemmas.{good-with_each}
 
@@ -55,26 +55,26 @@ kept-step : (P : EntryInformation → Type 0) (refusal : Option ResultCode) (lef
 kept-step P None left next holds = holds
 kept-step P (Some refusal) left next holds = tt
 
-pub good-changed_by : (asks : Asks) (entry : EntryInformation) (changes : List Modification) → AllByRecursion (λ change. IsDistinct is_match change.values) changes → IsGoodAttributes entry.attributes
-    → IfOk (changed_by asks entry changes) (λ left. IsGoodAttributes left.attributes)
+pub good-changed_by : (asker : Asker) (entry : EntryInformation) (changes : List Modification) → AllByRecursion (λ change. IsDistinct is_match change.values) changes → IsGoodAttributes entry.attributes
+    → IfOk (changed_by asker entry changes) (λ left. IsGoodAttributes left.attributes)
 unfolding changed_by
-good-changed_by asks entry [] distinct good = good
-good-changed_by asks entry (change ∷ changes) distinct good =
-    kept-step (λ left. IsGoodAttributes left.attributes) (change_refusal asks change (values_of change.kind entry.attributes))
-    (left_by change.change change.kind change.values entry) (λ left. changed_by asks left changes)
-    (good-changed_by asks (left_by change.change change.kind change.values entry) changes distinct.1 (good-left_by change.change change.kind change.values entry distinct.0 good))
+good-changed_by asker entry [] distinct good = good
+good-changed_by asker entry (change ∷ changes) distinct good =
+    kept-step (λ left. IsGoodAttributes left.attributes) (change_refusal (asks_after asker (made change entry)) change (values_of change.kind entry.attributes))
+    (left_by change.change change.kind change.values entry) (λ left. changed_by asker left changes)
+    (good-changed_by asker (left_by change.change change.kind change.values entry) changes distinct.1 (good-left_by change.change change.kind change.values entry distinct.0 good))
 
-named-changed_by : (asks : Asks) (entry : EntryInformation) (name : RdnSequence) (changes : List Modification) → entry.name ≡ name
-    → IfOk (changed_by asks entry changes) (λ left. left.name ≡ name)
+named-changed_by : (asker : Asker) (entry : EntryInformation) (name : RdnSequence) (changes : List Modification) → entry.name ≡ name
+    → IfOk (changed_by asker entry changes) (λ left. left.name ≡ name)
 unfolding changed_by
-named-changed_by asks entry name [] is = is
-named-changed_by asks entry name (change ∷ changes) is =
-    kept-step (λ left. left.name ≡ name) (change_refusal asks change (values_of change.kind entry.attributes))
-    (left_by change.change change.kind change.values entry) (λ left. changed_by asks left changes)
-    (named-changed_by asks (left_by change.change change.kind change.values entry) name changes (name-left_by change.change change.kind change.values entry ∙ is))
+named-changed_by asker entry name [] is = is
+named-changed_by asker entry name (change ∷ changes) is =
+    kept-step (λ left. left.name ≡ name) (change_refusal (asks_after asker (made change entry)) change (values_of change.kind entry.attributes))
+    (left_by change.change change.kind change.values entry) (λ left. changed_by asker left changes)
+    (named-changed_by asker (left_by change.change change.kind change.values entry) name changes (name-left_by change.change change.kind change.values entry ∙ is))
 
-pub name-changed_by : (asks : Asks) (entry : EntryInformation) (changes : List Modification) → IfOk (changed_by asks entry changes) (λ left. left.name ≡ entry.name)
-name-changed_by asks entry changes = named-changed_by asks entry entry.name changes refl
+pub name-changed_by : (asker : Asker) (entry : EntryInformation) (changes : List Modification) → IfOk (changed_by asker entry changes) (λ left. left.name ≡ entry.name)
+name-changed_by asker entry changes = named-changed_by asker entry entry.name changes refl
 
 -- ---- renames
 

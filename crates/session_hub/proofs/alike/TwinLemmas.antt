@@ -32,6 +32,7 @@ use Rattle.session_model.specs.Purging.{purged, openings, finds_room, answered_o
 use Rattle.session_model.proofs.Theorems.{heard-alike, run-alike, replayed-alike, run-purged}
 use Rattle.session_hub.specs.Parties.{DirectoryEntries, Requester}
 use Rattle.session_hub.specs.Controls.{is_refused, subentries_asked}
+use Rattle.session_hub.specs.Limiting.{limited_request, limited_read}
 use Rattle.session_hub.specs.Answering.{rules, searched, answer_read}
 use Rattle.session_hub.specs.declared.event.Event.{Event}
 use Rattle.session_hub.specs.Event.{step_by}
@@ -115,44 +116,62 @@ module _ (who : Requester) (one other : DirectoryEntries) (top : RdnSequence) (t
   read-alike None h = record { replies = refl; who = refl; closes = refl; one_stays = refl; other_stays = refl }
   read-alike (Some message) h = request-alike message.id message.controls message.request h
 
+-- what the limit leaves of a request asks for what the request does
+limited-outside : (limit : ℕ) (top : RdnSequence) (asked : Request) → reads_outside top (limited_request limit asked) ≡ reads_outside top asked
+limited-outside limit top (request.Bind bind) = refl
+limited-outside limit top request.Unbind = refl
+limited-outside limit top (request.Search search) = refl
+limited-outside limit top (request.Modify modify) = refl
+limited-outside limit top (request.Add add) = refl
+limited-outside limit top (request.Delete delete) = refl
+limited-outside limit top (request.Rename rename) = refl
+limited-outside limit top (request.Compare compare) = refl
+limited-outside limit top (request.Abandon id) = refl
+limited-outside limit top (request.Extended name value) = refl
+
+still_outside : (limit : ℕ) (top : RdnSequence) (read : Option Message) → option_map_or (λ message. reads_outside top message.request) read true ≡ true →
+    option_map_or (λ message. reads_outside top message.request) (limited_read limit read) true ≡ true
+still_outside limit top None outside = refl
+still_outside limit top (Some message) outside = limited-outside limit top message.request ∙ outside
+
 -- a message over twins is answered alike
-pub answer-twins : (other : DirectoryEntries) (top : RdnSequence) (asked : AnsweredMessage DirectoryEntries Requester) → IsOverTwins other top asked
-    → IsAnsweredAlike rules other asked
+pub answer-twins : (limit : ℕ) (other : DirectoryEntries) (top : RdnSequence) (asked : AnsweredMessage DirectoryEntries Requester) → IsOverTwins other top asked
+    → IsAnsweredAlike (rules limit) other asked
 unfolding rules
-answer-twins other top asked over = read-alike asked.who asked.tree other top over.twins (message_of asked.message) over.outside
+answer-twins limit other top asked over = read-alike asked.who asked.tree other top over.twins (limited_read limit (message_of asked.message)) (still_outside limit top (message_of asked.message) over.outside)
 
 -- so are all of them
-pub all_answered : (other : DirectoryEntries) (top : RdnSequence) (xs : List (AnsweredMessage DirectoryEntries Requester)) → AllByRecursion (IsOverTwins other top) xs
-    → AllByRecursion (IsAnsweredAlike rules other) xs
-all_answered other top xs all = all_map (IsOverTwins other top) (IsAnsweredAlike rules other) (answer-twins other top) xs all
+pub all_answered : (limit : ℕ) (other : DirectoryEntries) (top : RdnSequence) (xs : List (AnsweredMessage DirectoryEntries Requester)) → AllByRecursion (IsOverTwins other top) xs
+    → AllByRecursion (IsAnsweredAlike (rules limit) other) xs
+all_answered limit other top xs all = all_map (IsOverTwins other top) (IsAnsweredAlike (rules limit) other) (answer-twins limit other top) xs all
 
 -- a step that was heard is heard alike over twins
-pub hears_alike : (s : Step) (old new : Held DirectoryEntries Requester) → new ≡ heard rules s old → HearsAlike s old new
+pub hears_alike : (limit : ℕ) (s : Step) (old new : Held DirectoryEntries Requester) → new ≡ heard (rules limit) s old → HearsAlike limit s old new
 unfolding HearsAlike
-hears_alike s old new is other top all =
-    let alike = heard-alike rules other old s (all_answered other top (answered_of_held rules old s) all) in
-    let same : held_over other new ≡ heard rules s (held_over other old) = ap (held_over other) is ∙ sym alike.same in
+hears_alike limit s old new is other top all =
+    let alike = heard-alike (rules limit) other old s (all_answered limit other top (answered_of_held (rules limit) old s) all) in
+    let same : held_over other new ≡ heard (rules limit) s (held_over other old) = ap (held_over other) is ∙ sym alike.same in
     record {
       same = same;
       entries = ap (λ (h : Held DirectoryEntries Requester). h.tree) is ∙ alike.one_stays;
-      run = follows_step s (held_over other old) (held_over other new) same;
+      run = follows_step limit s (held_over other old) (held_over other new) same;
     }
 
-pub hears_alike_event : (e : Event) (old new : Held DirectoryEntries Requester) → Hears e old new → HearsAlike (step_by e old.kept new.kept) old new
-hears_alike_event e old new hears = hears_alike (step_by e old.kept new.kept) old new hears.same
+pub hears_alike_event : (limit : ℕ) (e : Event) (old new : Held DirectoryEntries Requester) → Hears limit e old new → HearsAlike limit (step_by e old.kept new.kept) old new
+hears_alike_event limit e old new hears = hears_alike limit (step_by e old.kept new.kept) old new hears.same
 
 -- whole runs, from their beginning
-pub run-twins : (one other : DirectoryEntries) (top : RdnSequence) (ss : List Step) → AllByRecursion (IsOverTwins other top) (answered_of_run rules (start rules one) ss)
-    → AreOver one other (run rules one ss) (run rules other ss)
-run-twins one other top ss all = run-alike rules other one ss (all_answered other top (answered_of_run rules (start rules one) ss) all)
+pub run-twins : (limit : ℕ) (one other : DirectoryEntries) (top : RdnSequence) (ss : List Step) → AllByRecursion (IsOverTwins other top) (answered_of_run (rules limit) (start (rules limit) one) ss)
+    → AreOver one other (run (rules limit) one ss) (run (rules limit) other ss)
+run-twins limit one other top ss all = run-alike (rules limit) other one ss (all_answered limit other top (answered_of_run (rules limit) (start (rules limit) one) ss) all)
 
-pub replayed-twins : (one other : DirectoryEntries) (top : RdnSequence) (ss : List Step) → AllByRecursion (IsOverTwins other top) (answered_of_replay rules (start rules one) ss)
-    → AreOver one other (replayed rules one ss) (replayed rules other ss)
-replayed-twins one other top ss all = replayed-alike rules other one ss (all_answered other top (answered_of_replay rules (start rules one) ss) all)
+pub replayed-twins : (limit : ℕ) (one other : DirectoryEntries) (top : RdnSequence) (ss : List Step) → AllByRecursion (IsOverTwins other top) (answered_of_replay (rules limit) (start (rules limit) one) ss)
+    → AreOver one other (replayed (rules limit) one ss) (replayed (rules limit) other ss)
+replayed-twins limit one other top ss all = replayed-alike (rules limit) other one ss (all_answered limit other top (answered_of_replay (rules limit) (start (rules limit) one) ss) all)
 
 -- one connection, among all and alone
-pub run-purged-twins : (entries : DirectoryEntries) (top : RdnSequence) (c : ℕ) (ss : List Step) → openings c ss ≤ 1
-    → finds_room rules c (start rules entries) ss ≡ true → AllByRecursion (IsOverTwins entries top) (answered_of_connection rules c (start rules entries) ss)
-    → (run rules entries ss).of c ≡ (run rules entries (purged c ss)).of c
-run-purged-twins entries top c ss once room all =
-    run-purged rules entries c ss once room (all_answered entries top (answered_of_connection rules c (start rules entries) ss) all)
+pub run-purged-twins : (limit : ℕ) (entries : DirectoryEntries) (top : RdnSequence) (c : ℕ) (ss : List Step) → openings c ss ≤ 1
+    → finds_room (rules limit) c (start (rules limit) entries) ss ≡ true → AllByRecursion (IsOverTwins entries top) (answered_of_connection (rules limit) c (start (rules limit) entries) ss)
+    → (run (rules limit) entries ss).of c ≡ (run (rules limit) entries (purged c ss)).of c
+run-purged-twins limit entries top c ss once room all =
+    run-purged (rules limit) entries c ss once room (all_answered limit entries top (answered_of_connection (rules limit) c (start (rules limit) entries) ss) all)

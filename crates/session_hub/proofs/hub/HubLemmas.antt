@@ -95,8 +95,8 @@ bounded_append : (new : Kept Requester) (ks : List (Kept Requester)) → IsBound
 bounded_append new [] bounded empty = (rw empty (omega arith), tt)
 bounded_append new (k ∷ ks) bounded empty = (bounded.0, bounded_append new ks bounded.1 empty)
 
-pub held_opened : (c : ℕ) (ks : List (Kept Requester)) → AreHeld ks → is_kept (kept_of c ks) ≡ false → AreHeld (ks ++ opened_kept rules c ∷ [])
-held_opened c ks held absent = record { bounded = bounded_append (opened_kept rules c) ks held.bounded refl; distinct = distinct_append (opened_kept rules c) ks held.distinct (none_kept (kept_of c ks) absent) }
+pub held_opened : (limit c : ℕ) (ks : List (Kept Requester)) → AreHeld ks → is_kept (kept_of c ks) ≡ false → AreHeld (ks ++ opened_kept (rules limit) c ∷ [])
+held_opened limit c ks held absent = record { bounded = bounded_append (opened_kept (rules limit) c) ks held.bounded refl; distinct = distinct_append (opened_kept (rules limit) c) ks held.distinct (none_kept (kept_of c ks) absent) }
   where
     none_kept : (o : Option (Kept Requester)) → is_kept o ≡ false → o ≡ None
     none_kept None e = refl
@@ -111,7 +111,7 @@ pub opens_full : (c : ℕ) (hub : HubState) → most_held ≤ length hub.kept �
 unfolding heard
 opens_full c hub full = λ entries. record { same = ap (λ ks. record { tree = entries; kept = ks; was_cut = hub.was_cut }) (grind (arith, nat_tests)) }
 
-pub opens_new : (c : ℕ) (hub now : HubState) → is_kept (kept_of c hub.kept) ≡ false → length hub.kept < most_held → now ≡ record hub { kept = hub.kept ++ opened_kept rules c ∷ [] } →
+pub opens_new : (c : ℕ) (hub now : HubState) → is_kept (kept_of c hub.kept) ≡ false → length hub.kept < most_held → now ≡ record hub { kept = hub.kept ++ opened_kept (rules hub.bounds.limit) c ∷ [] } →
     HearsAnywhere (came.Opened c) hub now
 unfolding heard
 opens_new c hub now absent room is = λ entries. record { same = rw is (ap (λ ks. record { tree = entries; kept = ks; was_cut = hub.was_cut }) (rw absent (grind (arith, nat_tests)))) }

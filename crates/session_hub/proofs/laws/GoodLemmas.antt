@@ -17,6 +17,7 @@ use Rattle.session_model.specs.Run.{Step, run}
 use Rattle.session_model.proofs.Theorems.{AnswersKeep, run_claim}
 use Rattle.session_hub.specs.Parties.{DirectoryEntries, Requester}
 use Rattle.session_hub.specs.Controls.{is_refused}
+use Rattle.session_hub.specs.Limiting.{limited_read}
 use Rattle.session_hub.specs.Answering.{rules, Operated, asking, operated, refused, answered, answer_read}
 
 -- of two operations one is done
@@ -49,9 +50,9 @@ module _
         one_good (is_refused message.request message.controls) (refused entries asks message.request) (operated entries asks message.controls message.request)
         good (operated_good entries asks message.controls message.request good)
 
-    answers_good : AnswersKeep rules IsGoodTree
+    answers_good : (limit : ℕ) → AnswersKeep (rules limit) IsGoodTree
     unfolding rules
-    answers_good entries who bytes good = read_good entries who (message_of bytes) good
+    answers_good limit entries who bytes good = read_good entries who (limited_read limit (message_of bytes)) good
 
-    pub sessions_good : (entries : DirectoryEntries) (steps : List Step) → IsGoodTree entries → IsGoodTree (run rules entries steps).tree
-    sessions_good entries steps good = run_claim rules IsGoodTree answers_good entries steps good
+    pub sessions_good : (limit : ℕ) (entries : DirectoryEntries) (steps : List Step) → IsGoodTree entries → IsGoodTree (run (rules limit) entries steps).tree
+    sessions_good limit entries steps good = run_claim (rules limit) IsGoodTree (answers_good limit) entries steps good

@@ -1,30 +1,63 @@
 -- What is answered to octets, by the message that they are read as.
-use Rattle.std.proofs.Common.{◌≡◌, ℕ, Bool, List, Option, None, Result, Ok, Err, IfOk, OnErr, sym, subst}
+use Rattle.std.proofs.Common.{◌≡◌, ◌⊎◌, ℕ, Bool, true, List, [], Option, None, Result, Ok, Err, IfOk, OnErr, Some, inl, inr, refl, true≢false, sym, ap, ◌∙◌, subst}
 use Rattle.std.proofs.lemmas.Result.{IfOk-weaker}
+use Rattle.std.proofs.lemmas.Bool.{cases_Bool}
+use Rattle.session_model.specs.ldap_msg.declared.kinds.Control.{Control}
+use Rattle.session_model.specs.ldap_msg.declared.kinds.Request.{Request}
+use Rattle.session_model.specs.ldap_msg.declared.kinds.Request.TheVariants as request
 use Rattle.session_model.specs.ldap_msg.declared.kinds.Message.{Message}
+use Rattle.session_model.specs.ldap_msg.Replies.{notice_octets}
+use Rattle.op_read.specs.read_model.SearchReplies.{replies_octets}
+use Rattle.session_hub.specs.Controls.{is_refused}
 use Rattle.session_model.specs.ldap_msg.reading.Messages.{message_of}
 use Rattle.session_hub.specs.Parties.{DirectoryEntries, Requester}
 use Rattle.session_hub.specs.Answers.{Gives}
-use Rattle.session_hub.specs.Answering.{answer_read, rules}
+use Rattle.session_hub.specs.Limiting.{limited_read}
+use Rattle.session_hub.specs.Answering.{answered, is_unbind, answer_read, rules}
 
 -- a message, or octets that are none, answered by the rules
-pub answered_as : {E : Type 0} (r : Result Bool E) (o : Option Message) (entries left : DirectoryEntries) (who after : Requester) (bytes old new : List ℕ) → message_of bytes ≡ o →
-    IfOk r (λ closes. Gives (answer_read entries who o) old new left after closes) →
-    IfOk r (λ closes. Gives (rules.answer entries who bytes) old new left after closes)
+pub answered_as : {E : Type 0} (limit : ℕ) (r : Result Bool E) (o now : Option Message) (entries left : DirectoryEntries) (who after : Requester) (bytes old new : List ℕ) → message_of bytes ≡ o → now ≡ limited_read limit o →
+    IfOk r (λ closes. Gives (answer_read entries who now) old new left after closes) →
+    IfOk r (λ closes. Gives ((rules limit).answer entries who bytes) old new left after closes)
 unfolding rules
-answered_as r o entries left who after bytes old new is h =
-    IfOk-weaker r (λ closes. Gives (answer_read entries who o) old new left after closes) (λ closes. Gives (rules.answer entries who bytes) old new left after closes)
-    (λ closes gives. subst (λ m. Gives (answer_read entries who m) old new left after closes) (sym is) gives) h
+answered_as limit r o now entries left who after bytes old new is is_now h =
+    IfOk-weaker r (λ closes. Gives (answer_read entries who now) old new left after closes) (λ closes. Gives ((rules limit).answer entries who bytes) old new left after closes)
+    (λ closes gives. subst (λ m. Gives (answer_read entries who m) old new left after closes) (is_now ∙ ap (limited_read limit) (sym is)) gives) h
 
-pub refused_as : {E : Type 0} (r : Result Bool E) (entries : DirectoryEntries) (who : Requester) (bytes old new : List ℕ) → message_of bytes ≡ None →
+pub refused_as : {E : Type 0} (limit : ℕ) (r : Result Bool E) (entries : DirectoryEntries) (who : Requester) (bytes old new : List ℕ) → message_of bytes ≡ None →
     IfOk r (λ closes. (others : DirectoryEntries) (asks : Requester) → Gives (answer_read others asks None) old new others asks closes) →
-    IfOk r (λ closes. Gives (rules.answer entries who bytes) old new entries who closes)
+    IfOk r (λ closes. Gives ((rules limit).answer entries who bytes) old new entries who closes)
 unfolding rules
-refused_as r entries who bytes old new is h =
-    IfOk-weaker r (λ closes. (others : DirectoryEntries) (asks : Requester) → Gives (answer_read others asks None) old new others asks closes) (λ closes. Gives (rules.answer entries who bytes) old new entries who closes)
-    (λ closes gives. subst (λ m. Gives (answer_read entries who m) old new entries who closes) (sym is) (gives entries who)) h
+refused_as limit r entries who bytes old new is h =
+    IfOk-weaker r (λ closes. (others : DirectoryEntries) (asks : Requester) → Gives (answer_read others asks None) old new others asks closes) (λ closes. Gives ((rules limit).answer entries who bytes) old new entries who closes)
+    (λ closes gives. subst (λ m. Gives (answer_read entries who m) old new entries who closes) (ap (limited_read limit) (sym is)) (gives entries who)) h
 
 -- what holds anyway holds where there is a refusal
 pub refused_anyway : {A E : Type 0} (r : Result A E) (P : Type 0) → P → OnErr r P
 refused_anyway (Ok value) P holds = tt
 refused_anyway (Err fault) P holds = holds
+
+-- a request that closes is an unbind, to which nothing is said
+unbind_says : (id : ℕ) (controls : List Control) (entries : DirectoryEntries) (who : Requester) (asked : Request) → is_unbind asked ≡ true →
+    replies_octets id (answered entries who controls asked).replies ≡ []
+unbind_says id controls entries who (request.Bind bind) h = absurd (true≢false (sym h))
+unbind_says id controls entries who request.Unbind h = elim (cases_Bool (is_refused request.Unbind controls)) [ inl e ↦ rw e refl | inr e ↦ rw e refl ]
+unbind_says id controls entries who (request.Search search) h = absurd (true≢false (sym h))
+unbind_says id controls entries who (request.Modify modify) h = absurd (true≢false (sym h))
+unbind_says id controls entries who (request.Add add) h = absurd (true≢false (sym h))
+unbind_says id controls entries who (request.Delete delete) h = absurd (true≢false (sym h))
+unbind_says id controls entries who (request.Rename rename) h = absurd (true≢false (sym h))
+unbind_says id controls entries who (request.Compare compare) h = absurd (true≢false (sym h))
+unbind_says id controls entries who (request.Abandon number) h = absurd (true≢false (sym h))
+unbind_says id controls entries who (request.Extended name value) h = absurd (true≢false (sym h))
+
+closing_says : (entries : DirectoryEntries) (who : Requester) (read : Option Message) → (answer_read entries who read).closes ≡ true →
+    ((answer_read entries who read).replies ≡ []) ⊎ ((answer_read entries who read).replies ≡ notice_octets)
+closing_says entries who None h = inr refl
+closing_says entries who (Some message) h = inl (unbind_says message.id message.controls entries who message.request h)
+
+-- what closes a connection says nothing, or gives the notice
+pub closes_says : (limit : ℕ) (entries : DirectoryEntries) (who : Requester) (bytes : List ℕ) → ((rules limit).answer entries who bytes).closes ≡ true →
+    (((rules limit).answer entries who bytes).replies ≡ []) ⊎ (((rules limit).answer entries who bytes).replies ≡ notice_octets)
+unfolding rules
+closes_says limit entries who bytes h = closing_says entries who (limited_read limit (message_of bytes)) h

@@ -108,3 +108,11 @@ cut_changed c at f ks k place is same = by_place ks (kept_at c at ks k place is)
     by_place : (ks : List (Kept Requester)) → kept_of c ks ≡ Some k → cut_of c (changed c f ks) ≡ (f k).cut
     by_place [] found = cc
     by_place (x ∷ xs) found = grind (arith, nat_tests, by_place xs, same)
+
+pub kept_changed : (c at : ℕ) (f : Kept Requester → Kept Requester) (ks : List (Kept Requester)) (k : Kept Requester) → IsAt c at ks → k ≡ get_or ks at k → (f k).number ≡ k.number →
+    kept_of c (changed c f ks) ≡ Some (f k)
+kept_changed c at f ks k place is same = by_place ks (kept_at c at ks k place is)
+  where
+    by_place : (ks : List (Kept Requester)) → kept_of c ks ≡ Some k → kept_of c (changed c f ks) ≡ Some (f k)
+    by_place [] found = cc
+    by_place (x ∷ xs) found = grind (arith, nat_tests, by_place xs, same)

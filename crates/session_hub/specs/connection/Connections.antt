@@ -3,17 +3,18 @@ use Rattle.std.specs.Prelude.{◌≡◌, ◌⊎◌, ℕ, List, [], ◌++◌}
 use Rattle.session_model.specs.Kept.{Kept, heard_piece}
 use Rattle.session_hub.specs.Parties.{DirectoryEntries, Requester}
 use Rattle.session_hub.specs.declared.spoken.SpeechEnd.{SpeechEnd}
-use Rattle.session_hub.specs.declared.spoken.SpeechEnd.TheVariants.{StaysOpen, Closes, IsCut}
+use Rattle.session_hub.specs.declared.spoken.SpeechEnd.TheVariants.{StaysOpen, Closes, IsCut, IsFull}
 use Rattle.session_hub.specs.Answering.{rules}
 use Rattle.session_hub.specs.Answers.{said_to}
 
 -- what is said to an open connection's unread octets and a piece, up to where it was then cut, is queued and done
-pub record HearsPiece (piece : List ℕ) (before : DirectoryEntries) (old : Kept Requester) (after : DirectoryEntries) (new : Kept Requester) : Type 0 where
-  pub kept : new ≡ heard_piece rules piece new.cut old (said_to new.cut before old.who (old.rest ++ piece))
-  pub entries : after ≡ (said_to new.cut before old.who (old.rest ++ piece)).tree
+pub record HearsPiece (limit : ℕ) (piece : List ℕ) (before : DirectoryEntries) (old : Kept Requester) (after : DirectoryEntries) (new : Kept Requester) : Type 0 where
+  pub kept : new ≡ heard_piece (rules limit) piece new.cut old (said_to limit new.cut before old.who (old.rest ++ piece))
+  pub entries : after ≡ (said_to limit new.cut before old.who (old.rest ++ piece)).tree
 
 -- what was unread stays where the connection does, and else nothing; where there is no room for it the connection is cut
 abbrev pub KeepsRest : SpeechEnd → List ℕ → List ℕ → SpeechEnd → Type 0
 KeepsRest ended unread rest StaysOpen = (ended ≡ StaysOpen) × (rest ≡ unread)
 KeepsRest ended unread rest Closes = (ended ≡ Closes) × (rest ≡ [])
+KeepsRest ended unread rest IsFull = (ended ≡ IsFull) × (rest ≡ [])
 KeepsRest ended unread rest IsCut = ((ended ≡ StaysOpen) ⊎ (ended ≡ IsCut)) × (rest ≡ [])

@@ -15,16 +15,16 @@ IsHeldOf sessions taken kept = Keeps sessions taken kept
 
 -- the sessions before any step, of whose replies nothing was taken
 unfoldable pub FollowsStart : HubState → Type 0
-FollowsStart hub = (entries : DirectoryEntries) → IsHeldOf (start rules entries) (λ number. 0) (held entries hub)
+FollowsStart hub = (entries : DirectoryEntries) → IsHeldOf (start (rules hub.bounds.limit) entries) (λ number. 0) (held entries hub)
 
 -- a step that opens no number twice leaves the sessions of a run after it, with as much taken as before
-unfoldable pub FollowsStep : Step → Held DirectoryEntries Requester → Held DirectoryEntries Requester → Type 0
-FollowsStep next old new =
-    (sessions : Sessions DirectoryEntries Requester) (taken : ℕ → ℕ) → IsNew sessions next → IsHeldOf sessions taken old → IsHeldOf (step rules sessions next) taken new
+unfoldable pub FollowsStep : ℕ → Step → Held DirectoryEntries Requester → Held DirectoryEntries Requester → Type 0
+FollowsStep limit next old new =
+    (sessions : Sessions DirectoryEntries Requester) (taken : ℕ → ℕ) → IsNew sessions next → IsHeldOf sessions taken old → IsHeldOf (step (rules limit) sessions next) taken new
 
 -- the same, whatever the entries are
 abbrev pub FollowsAnywhere : Step → HubState → HubState → Type 0
-FollowsAnywhere next old new = (entries : DirectoryEntries) → FollowsStep next (held entries old) (held entries new)
+FollowsAnywhere next old new = (entries : DirectoryEntries) → FollowsStep old.bounds.limit next (held entries old) (held entries new)
 
 -- so many more octets of one connection's reply were taken, of the same sessions
 unfoldable pub FollowsTaking : ℕ → ℕ → HubState → HubState → Type 0

@@ -29,35 +29,35 @@ EndsAt turns added NoMemory = length (heard added) ≤ turns
 
 -- the journal serves its connections by its own steps from nothing and from these entries, and those left are what the
 -- steps leave
-pub record IsServed (entries left : DirectoryEntries) (added : List Item) : Type 0 where
-  pub served : Served rules entries (steps_of added) added
-  pub entries_left : left ≡ (run rules entries (steps_of added)).tree
+pub record IsServed (limit : ℕ) (entries left : DirectoryEntries) (added : List Item) : Type 0 where
+  pub served : Served (rules limit) entries (steps_of added) added
+  pub entries_left : left ≡ (run (rules limit) entries (steps_of added)).tree
 
 -- nothing was cut; with want of memory connections may have been, each once, and the last block may be unfinished
-abbrev pub ServedAs : DirectoryEntries → DirectoryEntries → List Item → Ended → Type 0
-ServedAs entries left added Stopped = IsServed entries left added
-ServedAs entries left added TurnsSpent = IsServed entries left added
-ServedAs entries left added LinkFault = IsServed entries left added
-ServedAs entries left added NoMemory = Leads rules entries left added
+abbrev pub ServedAs : ℕ → DirectoryEntries → DirectoryEntries → List Item → Ended → Type 0
+ServedAs limit entries left added Stopped = IsServed limit entries left added
+ServedAs limit entries left added TurnsSpent = IsServed limit entries left added
+ServedAs limit entries left added LinkFault = IsServed limit entries left added
+ServedAs limit entries left added NoMemory = Leads (rules limit) entries left added
 
 -- the journal is that of its events replayed
-abbrev pub ReplayedAs : DirectoryEntries → List Item → Ended → Type 0
-ReplayedAs entries added Stopped = IsReplay rules entries (steps_of added) added
-ReplayedAs entries added TurnsSpent = IsReplay rules entries (steps_of added) added
-ReplayedAs entries added LinkFault = IsReplay rules entries (steps_of added) added
-ReplayedAs entries added NoMemory = Unit {0}
+abbrev pub ReplayedAs : ℕ → DirectoryEntries → List Item → Ended → Type 0
+ReplayedAs limit entries added Stopped = IsReplay (rules limit) entries (steps_of added) added
+ReplayedAs limit entries added TurnsSpent = IsReplay (rules limit) entries (steps_of added) added
+ReplayedAs limit entries added LinkFault = IsReplay (rules limit) entries (steps_of added) added
+ReplayedAs limit entries added NoMemory = Unit {0}
 
 -- what a link added in a loop of so many turns: the answer is one that its events have, and its connections were served;
 -- where each write took octets, that is its events replayed
-pub record ServesAll (entries left : DirectoryEntries) (turns : ℕ) (added : List Item) (ended : Ended) : Type 0 where
+pub record ServesAll (limit : ℕ) (entries left : DirectoryEntries) (turns : ℕ) (added : List Item) (ended : Ended) : Type 0 where
   pub ends : EndsAt turns added ended
-  pub served : ServedAs entries left added ended
-  pub replayed : all_taken added ≡ true → ReplayedAs entries added ended
+  pub served : ServedAs limit entries left added ended
+  pub replayed : all_taken added ≡ true → ReplayedAs limit entries added ended
 
 -- the same of any journal that the link tells
-unfoldable pub Serves : DirectoryEntries → DirectoryEntries → ℕ → Option (List Item) → Ended → Option (List Item) → Type 0
-Serves entries left turns before ended after =
-    (begun : List Item) → before ≡ Some begun → (added : List Item) × (after ≡ Some (begun ++ added)) × ServesAll entries left turns added ended
+unfoldable pub Serves : ℕ → DirectoryEntries → DirectoryEntries → ℕ → Option (List Item) → Ended → Option (List Item) → Type 0
+Serves limit entries left turns before ended after =
+    (begun : List Item) → before ≡ Some begun → (added : List Item) × (after ≡ Some (begun ++ added)) × ServesAll limit entries left turns added ended
 
 -- a link that plays a plan: the events heard brought the plan on, to its end with Stopped; where no calls are planned
 -- that take nothing, each write took octets and, where no connection was on hold, each event but Stop brought the plan on

@@ -8,4 +8,4 @@ returns-clause-plays c = Plays-link _ _ c.args.turns c.serve_loop.result c.args.
 
 -- and the entries that it leaves of good ones
 pub returns-clause-good : goal.returns-clause-good
-returns-clause-good c = Good-link c.sessions_keep_a_directory_good.ensures.good _ _ c.args.turns c.serve_loop.result _ c.args.link.now.journal c.serve_loop.new.link.journal refl c.requires.good c.serve_loop.ensures.served
+returns-clause-good c = Good-link (c.sessions_keep_a_directory_good.ensures.good 0) _ _ c.args.turns c.serve_loop.result _ c.args.link.now.journal c.serve_loop.new.link.journal refl c.requires.good c.serve_loop.ensures.served

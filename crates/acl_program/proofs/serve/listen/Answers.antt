@@ -8,10 +8,10 @@ use Rattle.acl_program.proofs.serve.listen.Goals as goal
 -- the directory is that of the tree
 pub returns-in-Ok : goal.returns-in-Ok
 returns-in-Ok g c = record {
-  listens = λ shelf. Listens-over _ _ _ _ _ (beside shelf (written _ _) (linked _ _ _ _)) (beside shelf (written _ _) (linked _ _ _ _)) _
+  listens = λ shelf. Listens-over _ _ _ (beside shelf (written _ _) (linked _ _ _ _)) (beside shelf (written _ _) (linked _ _ _ _)) _
       (ap entries_of c.in-Ok.ensures.ok) (c.listen_on.ensures.listens shelf);
 }
 
 -- there was no memory for it
 pub returns-in-Err : goal.returns-in-Err
-returns-in-Err g c = record { listens = λ shelf. Listens-nothing (serve_asked _ _ _ _) (beside shelf (written _ _) (linked _ _ _ _)) }
+returns-in-Err g c = record { listens = λ shelf. Listens-nothing (serve_asked _ _) (beside shelf (written _ _) (linked _ _ _ _)) }

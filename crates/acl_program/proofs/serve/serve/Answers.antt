@@ -1,5 +1,5 @@
 use Rattle.std.proofs.Common.{refl}
-use Rattle.command_words.specs.command.Command.{Serve}
+use Rattle.command_words.specs.command.Command.{Serve, serving_view}
 use Rattle.acl_program.specs.program.Outside.{outside, linked, shelved}
 use Rattle.acl_program.specs.serve.Serving.{serve_asked}
 use Rattle.acl_program.proofs.program.PerformLemmas.{Performs-refused}
@@ -8,10 +8,9 @@ use Rattle.acl_program.proofs.serve.serve.Goals as goal
 
 -- the data file was loaded
 pub returns-in-Ok-clause-performs : goal.returns-in-Ok-clause-performs
-returns-in-Ok-clause-performs g c = Performs-served _ (serve_asked _ _ _ _) (outside _ _ _ _ (linked _ _ _ _)) (outside _ _ _ _ (linked _ _ _ _)) _ _ refl
+returns-in-Ok-clause-performs g c = Performs-served (serve_asked _ _) (outside _ _ _ _ (linked _ _ _ _)) (outside _ _ _ _ (linked _ _ _ _)) _ _ refl
     c.in-Ok.ensures.exact (c.listen.ensures.listens (shelved _ _))
 
 -- it wasn't
 pub returns-in-Err-clause-performs : goal.returns-in-Err-clause-performs
-returns-in-Err-clause-performs g c = Performs-refused (Serve c.args.asked.now.data.now c.args.asked.now.address.now c.args.asked.now.sessions c.args.asked.now.turns)
-    c.args.asked.now.data.now (outside _ _ _ _ (linked _ _ _ _)) (outside _ _ _ _ (linked _ _ _ _)) _ _ refl c.in-Err.ensures.exact c.print_trouble.ensures.ends refl
+returns-in-Err-clause-performs g c = Performs-refused (Serve (serving_view c.args.asked.now)) c.args.asked.now.«data».now (outside _ _ _ _ (linked _ _ _ _)) (outside _ _ _ _ (linked _ _ _ _)) _ _ refl c.in-Err.ensures.exact c.print_trouble.ensures.ends refl

@@ -6,12 +6,12 @@ use Rattle.acl_program.proofs.serve.serve_events.Goals as goal
 -- the loop ended, and its line was to be put
 pub returns : goal.returns
 returns g c = record {
-  serves = λ shelf address sessions. record {
+  serves = λ shelf. record {
     how = c.serve_loop-ended.result;
     answer = c.write_all-put.result;
     serves = record {
       left = _;
-      served = c.serve_loop-ended.ensures.served;
+      served = rw c.bounds_of.ensures.limit at c.serve_loop-ended.ensures.served;
       plays = c.serve_loop-ended.ensures.plays;
       cause = c.serve_loop-ended.ensures.cause;
       lost = c.serve_loop-ended.ensures.lost;

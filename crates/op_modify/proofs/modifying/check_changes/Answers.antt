@@ -4,7 +4,7 @@ use Rattle.std.proofs.lemmas.Result.{IfOk-weaker}
 use Rattle.dir_tree.specs.tree.Numbered.{entries_of}
 use Rattle.entry_changes.specs.Change.{changed_by}
 use Rattle.op_add_delete.specs.adding.Updates.{Changed, refused}
-use Rattle.op_modify.specs.Asked.{granted_at}
+use Rattle.op_modify.specs.Asked.{asker_at}
 use Rattle.op_modify.specs.Steps.{IsChecked}
 use Rattle.op_modify.proofs.modifying.ChangeLemmas.{modified_as-asked}
 use Rattle.op_modify.proofs.modifying.check_changes.Goals as goal
@@ -20,7 +20,7 @@ returns-in-Ok g c =
 pub returns-in-Err-Refused : goal.returns-in-Err-Refused
 returns-in-Err-Refused g c =
     let rows = g.D.Dir.rows c.args.asking.now.dir.now in
-    let told : changed_by (granted_at rows c.args.asking.now.who.now c.args.target.number.0) c.args.target.entry.now c.args.changes.items ≡ Err c.in-Err-Refused.code =
+    let told : changed_by (asker_at rows c.args.asking.now.who.now c.args.target.number.0) c.args.target.entry.now c.args.changes.items ≡ Err c.in-Err-Refused.code =
     rw c.in-Err-Refused.field-0-is at c.in-Err-Refused.ensures.exact in
     record {
       ok = modified_as-asked rows c.args.asking.now.who.now c.args.target.number.0 c.args.target.entry.now c.args.changes.items (Err c.in-Err-Refused.code) c.requires.found told

@@ -7,19 +7,19 @@ use Rattle.session_hub.proofs.block.greet.Goals as goal
 
 -- there was no memory to hold the connection
 pub returns-in-Err-clause-adds : goal.returns-in-Err-clause-adds
-returns-in-Err-clause-adds g c = λ start. adds_nothing _ _ _ _ _ refl (λ added h. opened_starved start c.args.conn _ _ _ added c.in-Err.ensures.kept h)
+returns-in-Err-clause-adds g c = λ start. adds_nothing _ _ _ _ _ refl (λ added h. opened_starved c.args.hub.now.bounds.limit start c.args.conn _ _ _ added c.in-Err.ensures.kept h)
 
 -- it is held
 pub returns-then-has_room-clause-adds : goal.returns-then-has_room-clause-adds
 returns-then-has_room-clause-adds g c = λ start.
     adds_nothing _ _ _ _ _ refl
-    (λ added h. opened_goes c.begin_with.result start c.args.conn (held (entries_of (g.D.Dir.rows c.args.dir.now)) c.args.hub.now) (held (entries_of (g.D.Dir.rows c.hear.new.dir)) c.hear.new.self) _ _ _ added c.in-Ok.ensures.exact
+    (λ added h. opened_goes c.args.hub.now.bounds.limit c.begin_with.result start c.args.conn (held (entries_of (g.D.Dir.rows c.args.dir.now)) c.args.hub.now) (held (entries_of (g.D.Dir.rows c.hear.new.dir)) c.hear.new.self) _ _ _ added c.in-Ok.ensures.exact
     (let all : c.count-has_room.result ≡ length c.args.hub.now.kept = c.count-has_room.ensures.exact in omega arith) c.begin_with.ensures.on_hold c.begin_with.ensures.ok h)
 
 -- it is hung up
 pub returns-else-has_room-clause-adds : goal.returns-else-has_room-clause-adds
 returns-else-has_room-clause-adds g c = λ start.
     adds_after _ _ _ _ _ _ _ _ refl
-    (adds_nothing _ _ _ _ _ refl (λ added h. turns_away start c.args.conn (held (entries_of (g.D.Dir.rows c.args.dir.now)) c.args.hub.now) _ _ added c.in-Ok.ensures.exact
+    (adds_nothing _ _ _ _ _ refl (λ added h. turns_away c.args.hub.now.bounds.limit start c.args.conn (held (entries_of (g.D.Dir.rows c.args.dir.now)) c.args.hub.now) _ _ added c.in-Ok.ensures.exact
     (let all : c.count-has_room.result ≡ length c.args.hub.now.kept = c.count-has_room.ensures.exact in omega arith) h))
-    (c.turn_away.ensures.adds start (entries_of (g.D.Dir.rows c.hear.new.dir)))
+    (c.turn_away.ensures.adds c.args.hub.now.bounds.limit start (entries_of (g.D.Dir.rows c.hear.new.dir)))

@@ -11,7 +11,8 @@ invariant-loop-turn g l =
     let journal = g.L.Link.journal in
     let plan = g.L.Link.plan in
     record {
-      under_way : IsUnderWay (entries_of (g.D.Dir.rows l.fn.dir)) l._turn (journal l.fn.link) (journal l.link) (plan l.fn.link) (plan l.link) (held (entries_of (g.D.Dir.rows l.dir)) l.hub) l.waiting.on_hold.items;
+      under_way : IsUnderWay l.fn.hub.bounds.limit (entries_of (g.D.Dir.rows l.fn.dir)) l._turn (journal l.fn.link) (journal l.link) (plan l.fn.link) (plan l.link) (held (entries_of (g.D.Dir.rows l.dir)) l.hub) l.waiting.on_hold.items;
       faults : g.L.Link.faults l.link ≡ g.L.Link.faults l.fn.link;
       lost : NeverFalls (g.L.Link.lost l.fn.link) (g.L.Link.lost l.link);
+      bounds : l.hub.bounds ≡ l.fn.hub.bounds;
     }

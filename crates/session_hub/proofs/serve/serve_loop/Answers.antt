@@ -7,7 +7,7 @@ use Rattle.session_hub.proofs.serve.serve_loop.Goals as goal
 
 -- there was no memory to hold connections
 pub returns-in_default-clause-served : goal.returns-in_default-clause-served
-returns-in_default-clause-served g c = running_starved (entries_of (g.D.Dir.rows c.args.dir.now)) 0 c.args.turns _ _ _ _ _ (running_start (entries_of (g.D.Dir.rows c.args.dir.now)) (g.L.Link.journal c.args.link.now)) refl (omega arith)
+returns-in_default-clause-served g c = running_starved c.args.bounds.limit (entries_of (g.D.Dir.rows c.args.dir.now)) 0 c.args.turns _ _ _ _ _ (running_start c.args.bounds.limit c.args.bounds (entries_of (g.D.Dir.rows c.args.dir.now)) (g.L.Link.journal c.args.link.now)) refl (omega arith)
 
 pub returns-in_default-clause-plays : goal.returns-in_default-clause-plays
 returns-in_default-clause-plays g c = plays_ended c.args.turns _ _ _ _ _ (playing_start (g.L.Link.journal c.args.link.now) (g.L.Link.plan c.args.link.now)) (λ h. cc) (λ h. cc)
@@ -17,7 +17,7 @@ returns-in_default-clause-cause g c = ends_starved _ _ _ refl
 
 -- there was no memory to wait for them
 pub returns-in_default-new-clause-served : goal.returns-in_default-new-clause-served
-returns-in_default-new-clause-served g c = running_starved (entries_of (g.D.Dir.rows c.args.dir.now)) 0 c.args.turns _ _ _ _ _ (running_start (entries_of (g.D.Dir.rows c.args.dir.now)) (g.L.Link.journal c.args.link.now)) refl (omega arith)
+returns-in_default-new-clause-served g c = running_starved c.args.bounds.limit (entries_of (g.D.Dir.rows c.args.dir.now)) 0 c.args.turns _ _ _ _ _ (running_start c.args.bounds.limit c.args.bounds (entries_of (g.D.Dir.rows c.args.dir.now)) (g.L.Link.journal c.args.link.now)) refl (omega arith)
 
 pub returns-in_default-new-clause-plays : goal.returns-in_default-new-clause-plays
 returns-in_default-new-clause-plays g c = plays_ended c.args.turns _ _ _ _ _ (playing_start (g.L.Link.journal c.args.link.now) (g.L.Link.plan c.args.link.now)) (λ h. cc) (λ h. cc)
@@ -27,7 +27,7 @@ returns-in_default-new-clause-cause g c = ends_starved _ _ _ refl
 
 -- there was no memory for a buffer
 pub returns-in_default-new_buffer-clause-served : goal.returns-in_default-new_buffer-clause-served
-returns-in_default-new_buffer-clause-served g c = running_starved (entries_of (g.D.Dir.rows c.args.dir.now)) 0 c.args.turns _ _ _ _ _ (running_start (entries_of (g.D.Dir.rows c.args.dir.now)) (g.L.Link.journal c.args.link.now)) refl (omega arith)
+returns-in_default-new_buffer-clause-served g c = running_starved c.args.bounds.limit (entries_of (g.D.Dir.rows c.args.dir.now)) 0 c.args.turns _ _ _ _ _ (running_start c.args.bounds.limit c.args.bounds (entries_of (g.D.Dir.rows c.args.dir.now)) (g.L.Link.journal c.args.link.now)) refl (omega arith)
 
 pub returns-in_default-new_buffer-clause-plays : goal.returns-in_default-new_buffer-clause-plays
 returns-in_default-new_buffer-clause-plays g c = plays_ended c.args.turns _ _ _ _ _ (playing_start (g.L.Link.journal c.args.link.now) (g.L.Link.plan c.args.link.now)) (λ h. cc) (λ h. cc)

@@ -8,7 +8,7 @@ use Rattle.session_hub.proofs.serve.take_turn.Goals as goal
 -- the link failed
 pub returns-in-Err-Failed-clause-some : goal.returns-in-Err-Failed-clause-some
 returns-in-Err-Failed-clause-some g c =
-    turn_failed _ _ _ _ _ _ _ c.next.new.buf _ _ (rw c.in-Err-Failed.field-0-is at c.in-Err-Failed.ensures.tells) (rw c.in-Err-Failed.field-0-is at c.in-Err-Failed.ensures.plays) c.end_of.ensures
+    turn_failed c.args.hub.now.bounds.limit _ _ _ _ _ c.args.hub.now _ c.next.new.buf _ _ (rw c.in-Err-Failed.field-0-is at c.in-Err-Failed.ensures.tells) (rw c.in-Err-Failed.field-0-is at c.in-Err-Failed.ensures.plays) c.end_of.ensures
 
 pub returns-in-Err-Failed-clause-cause : goal.returns-in-Err-Failed-clause-cause
 returns-in-Err-Failed-clause-cause g c =
@@ -17,7 +17,7 @@ returns-in-Err-Failed-clause-cause g c =
 -- the link had no memory for an event
 pub returns-in-Err-NoMemory-clause-some : goal.returns-in-Err-NoMemory-clause-some
 returns-in-Err-NoMemory-clause-some g c =
-    turn_starved _ _ _ _ (held _ c.args.hub.now) _ c.next.new.buf _ (rw c.in-Err-NoMemory.field-0-is at c.in-Err-NoMemory.ensures.tells) (rw c.in-Err-NoMemory.field-0-is at c.in-Err-NoMemory.ensures.plays)
+    turn_starved c.args.hub.now.bounds.limit _ _ _ _ (held _ c.args.hub.now) _ c.next.new.buf _ (rw c.in-Err-NoMemory.field-0-is at c.in-Err-NoMemory.ensures.tells) (rw c.in-Err-NoMemory.field-0-is at c.in-Err-NoMemory.ensures.plays)
 
 pub returns-in-Err-NoMemory-clause-cause : goal.returns-in-Err-NoMemory-clause-cause
 returns-in-Err-NoMemory-clause-cause g c = ends_starved _ _ _ (LinkCause-starved _ _ _ _ (rw c.in-Err-NoMemory.field-0-is at c.in-Err-NoMemory.ensures.cause))
@@ -25,7 +25,7 @@ returns-in-Err-NoMemory-clause-cause g c = ends_starved _ _ _ (LinkCause-starved
 -- there was no memory in the event's block
 pub returns-in-Err-clause-some : goal.returns-in-Err-clause-some
 returns-in-Err-clause-some g c =
-    turn_cut _ _ _ _ _ _ _ _ _ c.next.new.buf c.in-Ok.heard (record { long = c.next.auto.buf ∙ c.requires.long; tells = c.in-Ok.ensures.tells; plays = c.in-Ok.ensures.plays })
+    turn_cut c.args.hub.now.bounds.limit _ _ _ _ _ _ _ _ _ c.next.new.buf c.in-Ok.heard (record { long = c.next.auto.buf ∙ c.requires.long; tells = c.in-Ok.ensures.tells; plays = c.in-Ok.ensures.plays })
     (λ start. c.in-Err.ensures.adds start) c.in-Err.ensures.serves.plan
 
 pub returns-in-Err-clause-cause : goal.returns-in-Err-clause-cause
@@ -34,7 +34,7 @@ returns-in-Err-clause-cause g c = ends_starved _ _ _ (c.in-Err.ensures.serves.fa
 -- the event is Stop
 pub returns-then-is_stop-clause-some : goal.returns-then-is_stop-clause-some
 returns-then-is_stop-clause-some g c =
-    turn_stopped _ _ _ _ _ _ _ _ _ _ _ c.next.new.buf c.in-Ok.heard _ (record { long = c.next.auto.buf ∙ c.requires.long; tells = c.in-Ok.ensures.tells; plays = c.in-Ok.ensures.plays })
+    turn_stopped c.args.hub.now.bounds.limit _ _ _ _ _ _ _ _ c.serve_event.new.hub _ _ c.next.new.buf c.in-Ok.heard _ (record { long = c.next.auto.buf ∙ c.requires.long; tells = c.in-Ok.ensures.tells; plays = c.in-Ok.ensures.plays })
     (sym c.is_stop.ensures ∙ c.if-is_stop.true) (λ start. c.in-Ok-serve_event.ensures.adds start) c.in-Ok-serve_event.ensures.serves.plan c.end_of-then-is_stop.ensures
 
 pub returns-then-is_stop-clause-cause : goal.returns-then-is_stop-clause-cause
@@ -44,7 +44,7 @@ returns-then-is_stop-clause-cause g c =
 -- the loop goes on
 pub returns-else-is_stop-clause-none : goal.returns-else-is_stop-clause-none
 returns-else-is_stop-clause-none g c =
-    turn_served _ _ _ _ _ _ _ _ _ _ c.next.new.buf c.in-Ok.heard (record { long = c.next.auto.buf ∙ c.requires.long; tells = c.in-Ok.ensures.tells; plays = c.in-Ok.ensures.plays })
+    turn_served c.args.hub.now.bounds.limit _ _ _ _ _ _ _ _ _ _ c.next.new.buf c.in-Ok.heard (record { long = c.next.auto.buf ∙ c.requires.long; tells = c.in-Ok.ensures.tells; plays = c.in-Ok.ensures.plays })
     (sym c.is_stop.ensures ∙ c.if-is_stop.false) (λ start. c.in-Ok-serve_event.ensures.adds start) c.in-Ok-serve_event.ensures.serves.plan
 
 pub returns-else-is_stop-clause-faults : goal.returns-else-is_stop-clause-faults

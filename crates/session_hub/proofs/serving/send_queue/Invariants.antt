@@ -1,4 +1,4 @@
-use Rattle.std.proofs.Common.{◌∷◌, List, ℕ, length}
+use Rattle.std.proofs.Common.{◌≡◌, ◌∷◌, List, ℕ, length}
 use Rattle.session_model.specs.Kept.{queue_of}
 use Rattle.session_hub.specs.Parties.{DirectoryEntries}
 use Rattle.session_hub.specs.hub.Hubs.{held}
@@ -11,8 +11,9 @@ invariant-sending g l =
     let journal = g.L.Link.journal in
     let plan = g.L.Link.plan in
     record {
-      adds : (start tree : DirectoryEntries) (due on_hold : List ℕ) → Adds (plan l.fn.link) (IsServing start (l.conn ∷ due) (held tree l.fn.hub) on_hold) (IsServing start (l.conn ∷ due) (held tree l.hub) on_hold) (journal l.fn.link) (journal l.link);
+      adds : (limit : ℕ) (start tree : DirectoryEntries) (due on_hold : List ℕ) → Adds (plan l.fn.link) (IsServing limit start (l.conn ∷ due) (held tree l.fn.hub) on_hold) (IsServing limit start (l.conn ∷ due) (held tree l.hub) on_hold) (journal l.fn.link) (journal l.link);
       serves : OnlyServes (plan l.fn.link) (plan l.link) (g.L.Link.faults l.fn.link) (g.L.Link.faults l.link) (g.L.Link.lost l.fn.link) (g.L.Link.lost l.link);
+      bounds : l.hub.bounds ≡ l.fn.hub.bounds;
     }
 
 abbrev pub decreases-sending : goal.decreases-sending

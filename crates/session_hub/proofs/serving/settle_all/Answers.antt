@@ -1,4 +1,4 @@
-use Rattle.std.proofs.Common.{refl}
+use Rattle.std.proofs.Common.{refl, ◌∙◌}
 use Rattle.session_hub.specs.hub.Hubs.{held}
 use Rattle.session_hub.proofs.serving.AddingLemmas.{adds_nothing, serves_none, serves_then}
 use Rattle.session_hub.proofs.serving.ServingLemmas.{next_goes, left_due, none_due}
@@ -6,28 +6,29 @@ use Rattle.session_hub.proofs.serving.settle_all.Goals as goal
 
 -- nothing was done yet
 pub settling-init : goal.settling-init
-settling-init g c = record { adds = λ start tree. adds_nothing _ _ _ _ _ refl (λ _ holds. holds); serves = serves_none _ _ _ }
+settling-init g c = record { adds = λ limit start tree. adds_nothing _ _ _ _ _ refl (λ _ holds. holds); serves = serves_none _ _ _; bounds = refl }
 
 -- one more is settled
 pub settling-preserved : goal.settling-preserved
 settling-preserved g c =
     record {
-      adds = λ start tree.
-          left_due _ start _ _ _ (held tree c.settle.new.hub) _ _ _ c.in-Ok.ensures.due
-          (next_goes _ _ start c.in-Some.conn _ _ _ _ (held tree c.settling.hub) _ _ _ _ _ c.settling.invariant.serves.plan c.in-Some.ensures.due.0 c.in-Some.ensures.on_hold (c.settling.invariant.adds start tree)
-          (c.in-Ok.ensures.adds start tree _));
+      adds = λ limit start tree.
+          left_due limit _ start _ _ _ (held tree c.settle.new.hub) _ _ _ c.in-Ok.ensures.due
+          (next_goes limit _ _ start c.in-Some.conn _ _ _ _ (held tree c.settling.hub) _ _ _ _ _ c.settling.invariant.serves.plan c.in-Some.ensures.due.0 c.in-Some.ensures.on_hold (c.settling.invariant.adds limit start tree)
+          (c.in-Ok.ensures.adds limit start tree _));
       serves = serves_then _ _ _ _ _ _ _ _ _ c.settling.invariant.serves c.in-Ok.ensures.serves;
+      bounds = c.settle.ensures.bounds ∙ c.settling.invariant.bounds;
     }
 
 -- there was no memory
 pub returns-in-Err-clause-adds : goal.returns-in-Err-clause-adds
-returns-in-Err-clause-adds g c = λ start tree.
-    next_goes _ _ start c.in-Some.conn _ _ _ _ (held tree c.settling.hub) _ _ _ _ _ c.settling.invariant.serves.plan c.in-Some.ensures.due.0 c.in-Some.ensures.on_hold (c.settling.invariant.adds start tree)
-    (c.in-Err.ensures.adds start tree _)
+returns-in-Err-clause-adds g c = λ limit start tree.
+    next_goes limit _ _ start c.in-Some.conn _ _ _ _ (held tree c.settling.hub) _ _ _ _ _ c.settling.invariant.serves.plan c.in-Some.ensures.due.0 c.in-Some.ensures.on_hold (c.settling.invariant.adds limit start tree)
+    (c.in-Err.ensures.adds limit start tree _)
 
 pub returns-in-Err-clause-serves : goal.returns-in-Err-clause-serves
 returns-in-Err-clause-serves g c = serves_then _ _ _ _ _ _ _ _ _ c.settling.invariant.serves c.in-Err.ensures.serves
 
 -- nobody is due
 pub returns-clause-adds : goal.returns-clause-adds
-returns-clause-adds g c = λ start tree. none_due _ start _ _ _ (held tree c.settling.hub) _ _ _ c.in_default.ensures.due.0 c.in_default.ensures.on_hold (c.settling.invariant.adds start tree)
+returns-clause-adds g c = λ limit start tree. none_due limit _ start _ _ _ (held tree c.settling.hub) _ _ _ c.in_default.ensures.due.0 c.in_default.ensures.on_hold (c.settling.invariant.adds limit start tree)

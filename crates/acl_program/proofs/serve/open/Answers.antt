@@ -1,0 +1,11 @@
+use Rattle.std.proofs.Common.{◌∙◌}
+use Rattle.acl_program.proofs.serve.open.Goals as goal
+
+-- the link opened as it was before it was told of idle connections
+pub returns : goal.returns
+returns g c = λ entries. record {
+  tells = rw c.end_idle_after.ensures.tells at c.open.ensures.tells;
+  cause = rw (c.end_idle_after.ensures.plan, c.end_idle_after.ensures.faults) at c.open.ensures.cause;
+  plan = c.open.ensures.plan ∙ c.end_idle_after.ensures.plan;
+  lost = rw c.end_idle_after.ensures.lost at c.open.ensures.lost;
+}

@@ -1,0 +1,4 @@
+pub mod PartLemmas
+pub mod FairLemmas
+pub mod AdvanceLemmas
+pub mod SearchLemmas
