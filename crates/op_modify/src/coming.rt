@@ -53,11 +53,7 @@ fn taken_code<D: Dir>(asking: &Asking<'_, D>, other: Target<'_>) -> ResultCode
 }
 
 // Whether the entry may not come to its new place. The error comes where memory is wanted.
-fn is_barred<D: Dir>(
-    alloc: Global,
-    asking: &Asking<'_, D>,
-    entry: &Entry,
-) -> Result<bool, NoMemory>
+fn is_barred<D: Dir>(alloc: Global, asking: &Asking<'_, D>, entry: &Entry) -> Result<bool, NoMemory>
     ensures ok { IfOk result (λ barred. barred ≡ not (granted_new (entries_of (D.rows asking.now.dir.now))
         asking.now.who.now entry.now protected.Entry permission.Import)) }
 {

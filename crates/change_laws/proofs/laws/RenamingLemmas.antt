@@ -99,7 +99,7 @@ module _ (request : RenameRequest) (renaming : Renaming) where
       let one : Renaming = record { name = name; rdn = rdn; delete_old = request.delete_old; superior = new_superior name given } in
       subst (IsRead request) (same_Some one renaming is) (record {
         rdn_read = rdn_is;
-        room = λ superior new. room_given request.superior superior (given_is ∙ ap (λ given. Some given) (given_superior name given superior new));
+        room = λ superior new. room_given request.superior superior (given_is ∙ ap (λ (given : Option RdnSequence). Some given) (given_superior name given superior new));
       })
 
   by_rdn :
