@@ -13,7 +13,7 @@ ghost use Rattle.session_hub.specs.Parties.{DirectoryEntries, Requester};
 ghost use Rattle.session_hub.specs.Controls.{subentries_asked};
 ghost use Rattle.session_hub.specs.Answering.{rules, response_to as response_of, replies_in, ended_with, asking, searched, change_of, changing, operated, answered, is_unbind, answer_read};
 ghost use Rattle.session_hub.specs.Answers.{Gives, Sends};
-ghost use Rattle.session_hub.specs.Limiting.{limited, limited_message, lesser_limit};
+ghost use Rattle.session_hub.specs.Limiting.{limited_message, lesser_limit};
 
 use crate::allowance::Allowance;
 use crate::binds::{answer_bind, answer_simple_bind};

@@ -1,8 +1,8 @@
 -- What waits for a connection that hears a piece, by the room that it has.
-use Rattle.std.proofs.Common.{◌≡◌, ◌≤◌, ◌<◌, ◌+◌, ℕ, Bool, true, false, List, [], ◌++◌, length, drop, set, get_or, Option, Some, None, refl, ap, sym, ◌∙◌, subst, inl, append_assoc, append-nil, length-append, length-drop, arith, true≢false}
+use Rattle.std.proofs.Common.{◌≡◌, ◌≤◌, ◌+◌, ℕ, Bool, true, false, List, [], ◌++◌, length, drop, set, get_or, Option, Some, None, refl, ap, sym, ◌∙◌, subst, inl, append_assoc, append-nil, length-append, length-drop, arith, true≢false}
 use Rattle.std.proofs.lemmas.List.{drop-append-le}
 use Rattle.session_model.specs.Rules.{Answered}
-use Rattle.session_model.specs.Kept.{Kept, kept_of, changed}
+use Rattle.session_model.specs.Kept.{Kept, kept_of}
 use Rattle.session_model.proofs.Theorems.{speech-cut}
 use Rattle.session_hub.specs.Parties.{DirectoryEntries, Requester}
 use Rattle.session_hub.specs.declared.spoken.Spoken.{Spoken}

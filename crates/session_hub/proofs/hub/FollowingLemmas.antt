@@ -1,6 +1,6 @@
 -- A hub follows a run of sessions, call by call.
 use Rattle.std.proofs.Common.{◌≡◌, ◌≤◌, ◌+◌, ℕ, Bool, true, false, cond, List, [], length, drop, refl, ap, sym, ◌∙◌, subst, arith, length-drop}
-use Rattle.session_model.specs.Run.{start, Session, Sessions, State, Open, Closing, TurnedAway, Away, Unopened, Step, step, is_held, Gone, HungUp}
+use Rattle.session_model.specs.Run.{Session, Sessions, State, Open, Closing, TurnedAway, Away, Unopened, Step, step, is_held, Gone, HungUp}
 use Rattle.session_model.specs.Kept.{Held, heard, queue_of, closing_of, taken_off, forgotten}
 use Rattle.session_model.specs.Keeping.{more_taken, shown}
 use Rattle.session_model.specs.Replaying.{is_closing}

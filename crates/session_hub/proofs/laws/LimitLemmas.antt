@@ -1,6 +1,7 @@
 -- What a server's limit on searches keeps, and how many entries a search then sends.
-use Rattle.std.proofs.Common.{◌≡◌, ◌≤◌, ◌<◌, ◌+◌, ℕ, ◌==◌, nat_lt, Bool, true, false, ◌&&◌, ◌||◌, List, [], ◌∷◌, ◌++◌, length, take, map, filter, Option, Some, None, Result, Ok, Err, if◌then◌else◌, refl, ap, sym, ◌∙◌, arith, length-append, length-map, length-take}
+use Rattle.std.proofs.Common.{◌≡◌, ◌≤◌, ◌<◌, ℕ, ◌==◌, Bool, true, false, List, [], ◌∷◌, ◌++◌, length, map, Option, Some, None, Result, Ok, Err, if◌then◌else◌, refl, ap, arith, length-take}
 use Rattle.std.proofs.lemmas.Bool.Decides.{nat_tests}
+use Rattle.std.proofs.lemmas.List.{length-map}
 use Rattle.std.specs.List.{list_any}
 use Rattle.dir_tree.specs.dn_names.name.Names.{RdnSequence}
 use Rattle.dir_tree.specs.dn_names.parsing.NameText.{read_name}
@@ -22,7 +23,7 @@ use Rattle.op_read.specs.read_model.SearchReplies.{within_limit, limit_code, fou
 use Rattle.session_hub.specs.Parties.{DirectoryEntries, Requester}
 use Rattle.session_hub.specs.Controls.{is_refused, subentries_asked}
 use Rattle.session_hub.specs.Answering.{Operated, searched, refused, operated, answered}
-use Rattle.session_hub.specs.Limiting.{lesser_limit, limited, limited_request, limited_message, IsWithin, IsLimitedTo, KeepsAsked, is_entry, entries_among}
+use Rattle.session_hub.specs.Limiting.{lesser_limit, limited, limited_request, limited_message, IsWithin, IsLimitedTo, KeepsAsked, entries_among}
 
 -- the lesser limit is one, and within the server's
 lesser_within : (limit size : ℕ) → 0 < limit → IsWithin limit (lesser_limit limit size)

@@ -6,7 +6,7 @@ use Rattle.session_hub.specs.Parties.{Requester}
 use Rattle.session_hub.specs.hub.Hubs.{HearsAt, AreDistinct}
 use Rattle.session_hub.proofs.hub.HubLemmas.{distinct_set}
 use Rattle.session_hub.specs.connection.Connections.{HearsPiece}
-use Rattle.session_hub.specs.Rooms.{StaysWithin, AnswersWithin}
+use Rattle.session_hub.specs.Rooms.{StaysWithin}
 use Rattle.session_hub.proofs.connection.RoomLemmas.{answers_nowhere, answers_closing, answers_open}
 use Rattle.session_hub.proofs.connection.HearLemmas.{hears_nowhere, hears_closing, hears_open, is_some_cut}
 use Rattle.session_hub.proofs.places.hear_at.Goals as goal
