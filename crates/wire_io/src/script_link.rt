@@ -185,8 +185,7 @@ impl Link for ScriptLink {
         ensures faults { self.new.faults ≡ self.old.faults }
         ensures lost { self.new.lost ≡ self.old.lost }
         ensures exact { self.new ≡ self.old }
-    {
-    }
+    {}
 
     #[tactic(auto, unfolding(crate::specs::link::Telling::OpenTells, crate::specs::Answers::LinkCause, crate::specs::Answers::IsPlanned, crate::specs::Scripted::LinkOpens))]
     /// Opens, or fails at the chosen calls.
