@@ -78,6 +78,16 @@ ldapmodify -x -H "$url" "${piet[@]}" <<<"dn: uid=amal,ou=people,$suffix
 $number" 2>&1
 find_ -b "ou=people,$suffix" '(|(sn=Hoekstra)(sn=Said))' telephoneNumber
 
+say "he may have three numbers, and not four"
+for last in 98 97 96; do
+    ldapmodify -x -H "$url" "${piet[@]}" 2>&1 <<NUMBER
+dn: uid=piet,ou=people,$suffix
+changetype: modify
+add: telephoneNumber
+telephoneNumber: +47 70 55 01 $last
+NUMBER
+done
+
 say "the help desk gives Piet a new password, without reading the old one"
 ldapmodify -x -H "$url" "${kofi[@]}" 2>&1 <<PASSWORD
 dn: uid=piet,ou=people,$suffix
@@ -91,3 +101,8 @@ find_ -D "uid=piet,ou=people,$suffix" -w flood -b "ou=heron,ou=projects,$suffix"
 say "Ines gives a gauge another name"
 ldapmodrdn -x -H "$url" -r "${ines[@]}" "cn=gauge 2,ou=devices,$suffix" "cn=gauge north"
 find_ "${ines[@]}" -b "ou=devices,$suffix" '(cn=gauge*)' cn
+
+say "Ines moves a light to the project of the lights, and Runa moves none"
+ldapmodrdn -x -H "$url" "${runa[@]}" -s "ou=lights,ou=projects,$suffix" "cn=light 7,ou=devices,$suffix" "cn=light 7" 2>&1
+ldapmodrdn -x -H "$url" "${ines[@]}" -s "ou=lights,ou=projects,$suffix" "cn=light 7,ou=devices,$suffix" "cn=light 7"
+find_ "${ines[@]}" -b "$suffix" '(cn=light 7)' cn
