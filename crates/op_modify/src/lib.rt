@@ -16,3 +16,4 @@ pub use ldap_msg;
 pub use modifying::modify;
 pub use op_add_delete;
 pub use renames::rename;
+pub use renaming::Renaming;

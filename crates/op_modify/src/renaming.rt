@@ -15,17 +15,17 @@ use ldap_msg::plain_values::Octets;
 use op_add_delete::directory::read_named;
 use std::alloc::{AllocError, Global};
 
-/// A rename request, read.
+/// A rename request, read (RFC 4511 4.9).
 #[derive(Drop)]
-pub(crate) struct Renaming {
+pub struct Renaming {
     /// The name of the entry.
-    pub(crate) name: Dn,
+    pub name: Dn,
     /// The new RDN, as a name of one.
-    pub(crate) rdn: Dn,
+    pub rdn: Dn,
     /// Whether values of the old RDN go.
-    pub(crate) delete_old: bool,
+    pub delete_old: bool,
     /// The new superior's name, if one is given that is not the present one.
-    pub(crate) superior: Option<Dn>,
+    pub superior: Option<Dn>,
 }
 
 // The RDN that the octets say, as a name of one; None where they say none. The error comes where memory is wanted.
