@@ -1,8 +1,7 @@
 //! The command `serve`: a data file's tree served over the link's connections.
 
-ghost use Rattle.std.specs.Prelude.{◌≡◌, List, IfOk, string_bytes};
+ghost use Rattle.std.specs.Prelude.{◌≡◌, IfOk, string_bytes};
 ghost use Rattle.command_words.specs.command.Command.{Serve, serving_view};
-ghost use Rattle.command_files.specs.dir_tree.Entry.{EntryInformation};
 ghost use Rattle.command_files.specs.dir_tree.tree.Numbered.{entries_of};
 ghost use Rattle.command_files.specs.wire_io.Putting.{PutsAll, PutCause};
 ghost use Rattle.acl_program.specs.serve.Listening.{Listens, ListensOn, ServesOpened};
@@ -88,7 +87,7 @@ fn listen_on<K: Sink, L: Link>(
 
 /// Tells the link which silence ends a connection, and opens it at the address.
 fn open<L: Link>(asked: &Serving<'_>, link: &mut L) -> Result<(), NextFault>
-    ensures { (entries : List EntryInformation) → Opens (serve_asked (serving_view asked.now) entries) result
+    ensures { Opens (serving_view asked.now) result
         (linked (L.journal link.old) (L.plan link.old) (L.faults link.old) (L.lost link.old))
         (linked (L.journal link.new) (L.plan link.new) (L.faults link.new) (L.lost link.new)) }
 {

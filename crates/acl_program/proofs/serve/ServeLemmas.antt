@@ -70,7 +70,7 @@ unfolding was_stopped stops
 opening_goes_on address sessions ok added is = is
 
 -- the journal of an open link that goes on after what was there before
-opened_journal : (asked : ServeAsked) (before opened : Linked) (begun : List Item) → before.journal ≡ Some begun → Opens asked (Ok tt) before opened
+opened_journal : (asked : ServeAsked) (before opened : Linked) (begun : List Item) → before.journal ≡ Some begun → Opens asked.serving (Ok tt) before opened
     → opened.journal ≡ Some (begun ++ item.OpenedAt asked.serving.address asked.serving.sessions true ∷ [])
 unfolding OpenTells
 opened_journal asked before opened begun is opens = opens.tells ∙ ap (λ journal. noted journal (item.OpenedAt asked.serving.address asked.serving.sessions true)) is
@@ -84,7 +84,7 @@ same_added begun added more opening journal one other =
     append_cancel_left begun added (opening ∷ more) (lists ∙ append_assoc begun (opening ∷ []) more)
 
 -- where Stop was heard the turns weren't spent
-not_spent : (asked : ServeAsked) (before opened after : Linked) → HearsStop before.journal after.journal → Opens asked (Ok tt) before opened
+not_spent : (asked : ServeAsked) (before opened after : Linked) → HearsStop before.journal after.journal → Opens asked.serving (Ok tt) before opened
     → ServesUntil asked ended.TurnsSpent opened after → ⊥
 unfolding HearsStop Serves
 not_spent asked before opened after hears opens serves =
@@ -109,21 +109,21 @@ served_done asked (LoopEnded ended.LinkFault) before after still hears serves = 
 served_done asked (LoopEnded ended.NoMemory) before after still hears serves = inl refl
 
 -- what follows `open`
-follows_open : (asked : ServeAsked) (end : ServeEnd) (before opened after : Linked) → Opens asked (Ok tt) before opened → FollowsOpen asked end opened after → LinkServes asked end before after
+follows_open : (asked : ServeAsked) (end : ServeEnd) (before opened after : Linked) → Opens asked.serving (Ok tt) before opened → FollowsOpen asked end opened after → LinkServes asked end before after
 unfolding LinkServes
 follows_open asked NotBegun before opened after opens follows = absurd follows
 follows_open asked NotOpened before opened after opens follows = absurd follows
-follows_open asked NotServed before opened after opens follows = subst (λ link. Opens asked (Ok tt) before link) (sym follows) opens
+follows_open asked NotServed before opened after opens follows = subst (λ link. Opens asked.serving (Ok tt) before link) (sym follows) opens
 follows_open asked (LoopEnded how) before opened after opens follows = (opened, opens, follows)
 
 module _ (asked : ServeAsked) (before after : Outside) (status : Status) where
   -- the link opened, and what followed
-  pub Listens-opened : (opened : Linked) → Opens asked (Ok tt) before.link opened → ListensOn asked (beside before.shelf before.out opened) status after → Listens asked before status after
+  pub Listens-opened : (opened : Linked) → Opens asked.serving (Ok tt) before.link opened → ListensOn asked (beside before.shelf before.out opened) status after → Listens asked before status after
   unfolding Listens ListensOn
   Listens-opened opened opens on = (on.0, on.1, follows_open asked on.0 before.link opened after.link opens on.2)
 
   -- it failed to open
-  pub Listens-failed : Opens asked (Err next.Failed) before.link after.link → Ends (Served asked NotOpened) before.out status after.out → Listens asked before status after
+  pub Listens-failed : Opens asked.serving (Err next.Failed) before.link after.link → Ends (Served asked NotOpened) before.out status after.out → Listens asked before status after
   unfolding Listens LinkServes
   Listens-failed opens ends = (NotOpened, ends, opens)
 
@@ -151,7 +151,7 @@ pub PutsAll-as : (old new : Option (List ℕ)) (text made : List ℕ) (answer : 
 PutsAll-as old new text made answer is puts = subst (λ printed. PutsAll old printed answer new) is puts
 
 -- there was no memory to open the link
-pub Listens-no_memory : (asked : ServeAsked) (before after : Outside) → Opens asked (Err next.NoMemory) before.link after.link → after.out ≡ before.out → Listens asked before NoMemory after
+pub Listens-no_memory : (asked : ServeAsked) (before after : Outside) → Opens asked.serving (Err next.NoMemory) before.link after.link → after.out ≡ before.out → Listens asked before NoMemory after
 unfolding Listens LinkServes
 Listens-no_memory asked before after opens stays =
     (NotBegun, Ends-no_memory (Served asked NotBegun) before.out after.out 0 (ap (λ out. out.put) stays ∙ appended-none before.out.put) (ap (λ out. out.faults) stays), opens)

@@ -64,8 +64,8 @@ serve_status NotServed = NoMemory
 serve_status (LoopEnded how) = loop_status how
 
 -- the link was asked to open at the address, which its journal notes, and gave this answer
-pub record Opens (asked : ServeAsked) (answer : Result (Unit {0}) NextFault) (before after : Linked) : Type 0 where
-  pub tells : OpenTells before.journal asked.serving.address asked.serving.sessions answer after.journal
+pub record Opens (serving : ServingView) (answer : Result (Unit {0}) NextFault) (before after : Linked) : Type 0 where
+  pub tells : OpenTells before.journal serving.address serving.sessions answer after.journal
   pub cause : LinkCause before.plan before.faults after.faults answer
   pub plan : after.plan ≡ before.plan
   pub lost : NeverFalls before.lost after.lost
@@ -80,7 +80,7 @@ pub record ServesUntil (asked : ServeAsked) (how : Ended) (before after : Linked
 
 -- what was done with the link: one `open`, and where that was answered Ok and the line was put, what the loop did
 unfoldable pub LinkServes : ServeAsked → ServeEnd → Linked → Linked → Type 0
-LinkServes asked NotBegun before after = Opens asked (Err next.NoMemory) before after
-LinkServes asked NotOpened before after = Opens asked (Err next.Failed) before after
-LinkServes asked NotServed before after = Opens asked (Ok tt) before after
-LinkServes asked (LoopEnded how) before after = (opened : Linked) × Opens asked (Ok tt) before opened × ServesUntil asked how opened after
+LinkServes asked NotBegun before after = Opens asked.serving (Err next.NoMemory) before after
+LinkServes asked NotOpened before after = Opens asked.serving (Err next.Failed) before after
+LinkServes asked NotServed before after = Opens asked.serving (Ok tt) before after
+LinkServes asked (LoopEnded how) before after = (opened : Linked) × Opens asked.serving (Ok tt) before opened × ServesUntil asked how opened after

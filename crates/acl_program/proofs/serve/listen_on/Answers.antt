@@ -8,19 +8,19 @@ use Rattle.acl_program.proofs.serve.listen_on.Goals as goal
 pub returns-in-Ok : goal.returns-in-Ok
 returns-in-Ok g c = record {
   listens = λ shelf. Listens-opened (serve_asked _ _) (beside shelf (written _ _) (linked _ _ _ _)) (beside shelf (written _ _) (linked _ _ _ _)) _ (linked _ _ _ _)
-      (c.in-Ok.ensures _) (c.serve_opened.ensures.opened shelf);
+      c.in-Ok.ensures (c.serve_opened.ensures.opened shelf);
 }
 
 -- it failed to
 pub returns-in-Err-Failed : goal.returns-in-Err-Failed
 returns-in-Err-Failed g c = record {
   listens = λ shelf. Listens-failed (serve_asked _ _) (beside shelf (written _ _) (linked _ _ _ _)) (beside shelf (written _ _) (linked _ _ _ _)) _
-      ((rw c.in-Err-Failed.field-0-is at c.in-Err-Failed.ensures) _) (c.print_link_fault.ensures.ends (serve_asked _ _));
+      (rw c.in-Err-Failed.field-0-is at c.in-Err-Failed.ensures) (c.print_link_fault.ensures.ends (serve_asked _ _));
 }
 
 -- there was no memory
 pub returns : goal.returns
 returns g c = record {
   listens = λ shelf. Listens-no_memory (serve_asked _ _) (beside shelf (written _ _) (linked _ _ _ _)) (beside shelf (written _ _) (linked _ _ _ _))
-      ((rw c.in-Err-NoMemory.field-0-is at c.in-Err-NoMemory.ensures) _) refl;
+      (rw c.in-Err-NoMemory.field-0-is at c.in-Err-NoMemory.ensures) refl;
 }

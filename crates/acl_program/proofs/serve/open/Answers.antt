@@ -3,7 +3,7 @@ use Rattle.acl_program.proofs.serve.open.Goals as goal
 
 -- the link opened as it was before it was told of idle connections
 pub returns : goal.returns
-returns g c = λ entries. record {
+returns g c = record {
   tells = rw c.end_idle_after.ensures.tells at c.open.ensures.tells;
   cause = rw (c.end_idle_after.ensures.plan, c.end_idle_after.ensures.faults) at c.open.ensures.cause;
   plan = c.open.ensures.plan ∙ c.end_idle_after.ensures.plan;
