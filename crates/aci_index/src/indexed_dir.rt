@@ -56,13 +56,13 @@ impl IndexedDir {
 
     // Whether the requester has the permission for the item of an entry, which has the number.
     #[tactic(auto, unfolding(acdf_filters::specs::Granted::granted))]
-    fn decide_entry(
-        &self,
-        who: &Requester,
-        known: &[Membership],
+    fn decide_entry<'a>(
+        &'a self,
+        who: &'a Requester,
+        known: &'a [Membership],
         number: EntryNo,
-        entry: &Entry,
-        item: Item<'_>,
+        entry: &'a Entry,
+        item: Item<'a>,
         permission: Permission,
     ) -> bool
         requires known { AreMemberships (entries_of self.now) who.now.name known.now }

@@ -5,9 +5,7 @@ use Rattle.std.specs.Option.{option_map_or}
 use Rattle.dir_tree.specs.dn_names.name.Names.{RdnSequence}
 use Rattle.dir_tree.specs.Entry.{EntryInformation}
 use Rattle.dir_tree.specs.tree.Numbered.{Numbered, entries_of, entry_of}
-use Rattle.acdf_filters.specs.aci_item.declared.permission.Permission.{Permission}
-use Rattle.acdf_filters.specs.declared.asking.Requester.{Requester}
-use Rattle.acdf_filters.specs.Asking.{Protected, Asked}
+use Rattle.acdf_filters.specs.Asking.{Asked}
 use Rattle.acdf_filters.specs.Filters.{Placed, left_by_users, left_by_item, left_by_permission, left_by_precedence, left_by_class, left_by_explicit, decided}
 use Rattle.acdf_filters.specs.Granted.{placed_of}
 use Rattle.explanation.specs.declared.steps.Counts.{Counts}

@@ -1,7 +1,7 @@
 -- The printed text of an access control decision (X.501 18.8), filter by filter: a line for each subentry in force, one
 -- for the number of tuples that count and for that which each filter leaves, one for each tuple that is left at the end,
 -- and one for what is decided. Each line ends in LF.
-use Rattle.std.specs.Prelude.{ℕ, Bool, true, false, List, [], ◌++◌, length, map, flat_map, codes, decimal}
+use Rattle.std.specs.Prelude.{ℕ, Bool, true, false, List, ◌++◌, length, map, flat_map, codes, decimal}
 use Rattle.std.specs.Option.{option_map_or}
 use Rattle.dir_tree.specs.dn_names.name.Names.{RdnSequence}
 use Rattle.dir_tree.specs.dn_names.Printing.{print_name}

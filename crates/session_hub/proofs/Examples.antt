@@ -30,6 +30,8 @@ use Rattle.session_model.specs.Kept.{speech}
 use Rattle.session_hub.specs.Parties.{Requester, nobody}
 use Rattle.session_hub.specs.Controls.{subentries_asked}
 use Rattle.session_hub.specs.Answering.{rules, answered}
+use Rattle.session_hub.specs.Limiting.{lesser_limit}
+use Rattle.session_hub.specs.Rooms.{room_of, queued_beside}
 use Rattle.session_hub.specs.Answers.{said_to}
 use Rattle.session_hub.specs.Event.{new_cut}
 use Rattle.session_hub.specs.serve.Loops.{ends_with}
@@ -162,3 +164,29 @@ cut_of_closing = refl
 
 cut_ends : ends_with true Stopped ≡ NoMemory
 cut_ends = refl
+
+-- the lesser of two limits, where 0 is none
+limit_none : lesser_limit 0 7 ≡ 7
+limit_none = refl
+
+limit_all : lesser_limit 5 0 ≡ 5
+limit_all = refl
+
+limit_more : lesser_limit 5 9 ≡ 5
+limit_more = refl
+
+limit_less : lesser_limit 5 3 ≡ 3
+limit_less = refl
+
+-- what others leave of the bound of all queues, and 1 MiB where they leave less
+room_left : room_of 2000000 500000 ≡ 1500000
+room_left = refl
+
+room_least : room_of 2000000 1900000 ≡ 1048576
+room_least = refl
+
+-- a connection's own queue is not counted
+queues_beside : queued_beside 1
+    (record { number = 1; rest = []; who = nobody; queue = 7 ∷ 7 ∷ 7 ∷ []; closing = false; cut = None }
+    ∷ record { number = 2; rest = []; who = nobody; queue = 7 ∷ 7 ∷ []; closing = false; cut = None } ∷ []) ≡ 2
+queues_beside = refl

@@ -23,6 +23,9 @@ use std::marker::Model;
 /// The most connections that are held at once.
 pub const MAX_CONNECTIONS: usize = 256;
 
+/// How many octets of each connection may wait, whatever waits for the others.
+const LEAST_ROOM: usize = 1_048_576;
+
 /// All sessions: what of each connection is unread, and what is still to be sent to it. Contracts
 /// see the list of the connections held, in the order in which they opened, whether any was cut, and
 /// what is bounded, which stays.
@@ -238,9 +241,6 @@ impl Hub {
         forget_at(&mut self.connections, self.last, conn);
     }
 }
-
-/// How many octets of each connection may wait, whatever waits for the others.
-const LEAST_ROOM: usize = 1_048_576;
 
 /// How many octets of a connection may wait, where so many of the others do.
 fn room_beside(queues: u64, others: u64) -> usize

@@ -1,9 +1,8 @@
 -- Filters by facts leave what the six filters leave.
-use Rattle.std.proofs.Common.{◌≡◌, ℕ, Bool, ◌&&◌, List, [], ◌∷◌, length, map, refl, sym, ap, ◌∙◌}
+use Rattle.std.proofs.Common.{◌≡◌, Bool, ◌&&◌, List, map, sym, ap, ◌∙◌}
 use Rattle.std.specs.List.{list_all}
-use Rattle.dir_tree.specs.Entry.{EntryInformation}
 use Rattle.dir_tree.specs.tree.Numbered.{Numbered, entries_of}
-use Rattle.acdf_filters.specs.Asking.{Asked, protected_of}
+use Rattle.acdf_filters.specs.Asking.{Asked}
 use Rattle.acdf_filters.specs.users.Choices.{is_filled}
 use Rattle.acdf_filters.specs.Filters.{Placed, left_by_users, left_by_item, left_by_permission, left_by_precedence, left_by_class, left_by_explicit, decided}
 use Rattle.acdf_filters.specs.Tuples.{Listed, tuples_of}
@@ -13,9 +12,8 @@ use Rattle.acdf_filters.specs.declared.question.Question.{Question}
 use Rattle.explanation.specs.declared.candidates.Candidate.{Candidate}
 use Rattle.explanation.specs.declared.facts.Facts.{Facts}
 use Rattle.explanation.specs.declared.steps.Counts.{Counts}
-use Rattle.explanation.specs.declared.steps.KeptTuple.{KeptTuple}
 use Rattle.explanation.specs.declared.steps.Steps.{Steps}
-use Rattle.explanation.specs.Explained.{AreCounts, Kept, kept_at, kept_of, IsExplained}
+use Rattle.explanation.specs.Explained.{AreCounts, kept_at, kept_of, IsExplained}
 use Rattle.explanation.specs.Candidates.{Described, described, described_for, described_at, described_all, staying, covering, permitted, foremost, most_specific, deciding, AreCounted, kept_from, kept_in, all_grant}
 use Rattle.explanation.proofs.filters.MappedLemmas.{map-both, same_length, staying-mapped, covering-mapped, permitted-mapped, foremost-mapped, most_specific-mapped, deciding-mapped, granting-mapped}
 

@@ -1,5 +1,5 @@
 -- Ranks are at most 3.
-use Rattle.std.proofs.Common.{◌≡◌, map, arith}
+use Rattle.std.proofs.Common.{map, arith}
 use Rattle.explanation.proofs.filters.MappedLemmas.{min_of_most}
 use Rattle.explanation.proofs.filters.lowest_rank.Goals as goal
 

@@ -1,5 +1,5 @@
 -- By whether an entry has the name.
-use Rattle.std.proofs.Common.{◌≡◌, List, ℕ, sym, ap, subst, ◌∙◌}
+use Rattle.std.proofs.Common.{◌≡◌, List, ℕ, sym, subst, ◌∙◌}
 use Rattle.std.specs.Prelude.{string_bytes, IfOk}
 use Rattle.dir_tree.specs.tree.Numbered.{IsNumberedTree}
 use Rattle.acdf_filters.specs.Asking.{protected_of}
