@@ -7,6 +7,8 @@ mod adds;
 #[cfg(test)]
 mod changes;
 #[cfg(test)]
+mod counts;
+#[cfg(test)]
 mod deletes;
 #[cfg(test)]
 mod explains;
