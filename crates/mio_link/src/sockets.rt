@@ -20,6 +20,9 @@ use wire_io::{Heard, Took};
 /// How many events are heard at most before the system is asked for reports again.
 const EVENTS: u32 = 64;
 
+/// After how many microseconds it is asked again, however few events were heard: one may take long to answer.
+const LATE: u128 = 1_000;
+
 /// The sockets, and how far they have come.
 #[derive(Drop)]
 pub(crate) struct Sockets {
@@ -40,6 +43,8 @@ pub(crate) struct Sockets {
     now: Moment,
     // when the clock was first read
     start: Option<Instant>,
+    // when the system was asked last, if the clock could be read then
+    looked: Option<Instant>,
     // for how many seconds connections may be idle, 0 where that has no bound
     idle: u64,
     // after how many ended connections no event comes any more, 0 where there is no such number
@@ -62,6 +67,7 @@ impl Sockets {
             newcomer: None,
             now: Moment { turn: 0, second: 0 },
             start: None,
+            looked: None,
             idle: 0,
             sessions: 0,
             ended: 0,
@@ -97,7 +103,7 @@ impl Sockets {
         requires room { 0 < length buf.old }
         ensures fits { IfOk result (HeardFits (length buf.new)) }
     {
-        if self.heard >= EVENTS {
+        if self.heard >= EVENTS || self.is_late(rt) {
             self.look(rt)?;
         }
         if let Some(heard) = self.hear(buf) {
@@ -107,6 +113,18 @@ impl Sockets {
         match self.hear(buf) {
             Some(heard) => Ok(heard),
             None => Ok(Heard::Idle),
+        }
+    }
+
+    /// Whether the events since the system was asked took so long that it is to be asked again. Where the
+    /// clock can't be read it is asked before each event.
+    fn is_late<R: Clock>(&self, rt: &R) -> bool {
+        let Some(looked) = self.looked else {
+            return true;
+        };
+        match Instant::now(rt) {
+            Ok(now) => now.duration_since(looked).as_micros() >= LATE,
+            Err(_) => true,
         }
     }
 
@@ -221,15 +239,16 @@ impl Sockets {
         self.listen();
     }
 
-    /// Reads the clock where the time of idle connections has a bound, and looks them over once a second.
-    /// Where the clock can't be read none is idle.
+    /// Reads the clock, and looks connections over once a second where their idle time has a bound. Where the
+    /// clock can't be read none is idle.
     fn tick<R: Clock>(&mut self, rt: &R) {
+        self.looked = Instant::now(rt).ok();
+        let Some(instant) = self.looked else {
+            return;
+        };
         if self.idle == 0 {
             return;
         }
-        let Ok(instant) = Instant::now(rt) else {
-            return;
-        };
         let start = *self.start.get_or_insert(instant);
         let second = instant.duration_since(start).as_secs();
         if second != self.now.second {
