@@ -116,6 +116,19 @@ const TREE: [u8; 37] = [
     2, 1, 0, 1, 1, 0, 0x87, 5, 0x63, 0x6c, 0x61, 0x73, 0x73, 0x30, 0,
 ];
 
+// Whether the octets begin with that search.
+fn begins_with_tree(octets: &[u8]) -> bool {
+    octets.starts_with(&TREE)
+}
+
+// Sends from the first of the peers.
+fn write_first(peers: &mut [TcpStream], octets: &[u8]) -> io::Result<()> {
+    match peers.first_mut() {
+        Some(first) => first.write_all(octets),
+        None => Ok(()),
+    }
+}
+
 #[test]
 fn searches_sent_at_once_are_heard_in_turn_with_others(rt: HostRuntime) -> Result<(), Fail> {
     let address = free_address(&rt)?;
@@ -143,7 +156,7 @@ fn searches_sent_at_once_are_heard_in_turn_with_others(rt: HostRuntime) -> Resul
     assert_eq!(rt; next(&mut link, &mut buf), Ok(Heard::Ready(1)));
     assert!(rt; link.release(1).is_ok());
     assert_eq!(rt; next(&mut link, &mut buf), Ok(Heard::Bytes(1, 37)));
-    assert_eq!(rt; &buf[..37], &TREE[..]);
+    assert!(rt; begins_with_tree(&buf));
 
     // the front of a header comes with what follows it, and before the end
     peer.write_all(&[5, 2])?;
@@ -168,7 +181,7 @@ fn the_peer_that_was_silent_longest_makes_room_for_another(rt: HostRuntime) -> R
         assert_eq!(rt; next(&mut link, &mut buf), Ok(Heard::Opened(number)));
     }
     // the first spoke last, the second is on hold
-    peers[0].write_all(b"abc")?;
+    write_first(peers.as_mut_slice(), b"abc")?;
     assert_eq!(rt; next(&mut link, &mut buf), Ok(Heard::Bytes(1, 3)));
     assert!(rt; link.hold(2).is_ok());
     assert_eq!(rt; next(&mut link, &mut buf), Ok(Heard::Ready(2)));
