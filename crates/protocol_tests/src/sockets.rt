@@ -189,7 +189,8 @@ fn the_peer_that_was_silent_longest_makes_room_for_another(rt: HostRuntime) -> R
     let mut other = TcpStream::connect(&rt, address)?;
     other.write_all(b"xyz")?;
     let mut heard = next(&mut link, &mut buf);
-    for _ in 0..4 {
+    // the second may take octets all the time, until the system is asked for reports again
+    for _ in 0..100_000 {
         if heard == Ok(Heard::Ready(2)) {
             heard = next(&mut link, &mut buf);
         }
