@@ -27,9 +27,9 @@ fn is_keystring(text: &[u8]) -> bool
     text[0].is_ascii_alphabetic() && are_key_octets(text.split_at(1).1)
 }
 
-/// Whether the octets are the text of a type.
+/// Whether the octets are the text of an attribute's type: a keystring or a dotted object identifier (RFC 4512 1.4).
 #[tactic(auto, unfolding(crate::specs::Fields::is_kind))]
-pub(crate) fn is_kind(text: &[u8]) -> bool
+pub fn is_kind(text: &[u8]) -> bool
     ensures { result ≡ is_kind text.now }
 {
     is_keystring(text) || is_dotted_oid(text)

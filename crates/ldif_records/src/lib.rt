@@ -13,6 +13,7 @@ mod unfolded;
 mod writing;
 
 pub use kind_text::KindText;
+pub use kinds::is_kind;
 pub use reading::next_record;
 pub use types::{BadLine, LineCause, NoMemory, Position, Record, RecordLine, RecordLines};
-pub use writing::put_entry;
+pub use writing::{put_entry, put_line};

@@ -60,8 +60,10 @@ fn put_value(out: &mut Vec<u8>, value: &[u8]) -> Result<(), NoMemory>
     out.extend_from_slice(text.as_bytes())
 }
 
-// Writes a line.
-fn put_line(out: &mut Vec<u8>, kind: &[u8], value: &[u8]) -> Result<(), NoMemory>
+/// Appends a line of a type and a value, as `put_entry` writes each: the type, the value as it stands or in base64, and LF.
+///
+/// The error comes where memory is refused; of the line a part may then stand.
+pub fn put_line(out: &mut Vec<u8>, kind: &[u8], value: &[u8]) -> Result<(), NoMemory>
     ensures { OnOk result (out.new.items ≡ out.old.items ++ written_line kind.now value.now) }
 {
     out.extend_from_slice(kind)?;
