@@ -9,3 +9,5 @@ mod fixtures;
 mod grants;
 #[cfg(test)]
 mod steps;
+#[cfg(test)]
+mod texts;

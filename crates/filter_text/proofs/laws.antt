@@ -1,0 +1,9 @@
+pub mod ClassLemmas
+pub mod MachineOfItems
+pub mod ItemLemmas
+pub mod CameTo
+pub mod BeginsLemmas
+pub mod OpenLemmas
+pub mod PassLemmas
+pub mod DepthLemmas
+pub mod SaysLemmas
