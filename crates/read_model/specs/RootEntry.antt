@@ -16,24 +16,25 @@ use Rattle.ldap_msg.specs.declared.kinds.Reply.{Reply}
 use Rattle.ldap_msg.specs.declared.kinds.Reply.TheVariants as reply
 use Rattle.read_model.specs.Views.{Row, View, result_of}
 
--- an attribute of the root DSE, which has one value
+-- an attribute of the root DSE
 pub record RootAttribute : Type 0 where
   pub name : List ℕ
   pub operational : Bool
-  pub value : List ℕ
+  pub values : List (List ℕ)
 
 -- the name of the suffix
 abbrev pub suffix_name : View → List ℕ
 suffix_name [] = []
 suffix_name (row ∷ rows) = print_name row.entry.name
 
--- its attributes: what the server holds, and what it is able to do
+-- its attributes: what the server holds, and what it is able to do, with the controls of subentries (RFC 3672 3) and of
+-- paged results (RFC 2696)
 abbrev pub root_attributes : View → List RootAttribute
 root_attributes view =
-    record { name = codes "objectClass"; operational = false; value = codes "top" }
-    ∷ record { name = codes "namingContexts"; operational = true; value = suffix_name view }
-    ∷ record { name = codes "supportedControl"; operational = true; value = codes "1.3.6.1.4.1.4203.1.10.1" }
-    ∷ record { name = codes "supportedLDAPVersion"; operational = true; value = codes "3" }
+    record { name = codes "objectClass"; operational = false; values = codes "top" ∷ [] }
+    ∷ record { name = codes "namingContexts"; operational = true; values = suffix_name view ∷ [] }
+    ∷ record { name = codes "supportedControl"; operational = true; values = codes "1.3.6.1.4.1.4203.1.10.1" ∷ codes "1.2.840.113556.1.4.319" ∷ [] }
+    ∷ record { name = codes "supportedLDAPVersion"; operational = true; values = codes "3" ∷ [] }
     ∷ []
 
 -- one text chooses the attribute: `*` the user one, `+` the operational ones (RFC 3673), its name, and of objectClass
@@ -51,7 +52,7 @@ is_root_chosen (text ∷ texts) attribute = list_any (is_root_chosen_by attribut
 
 -- an attribute as it is sent
 abbrev pub sent_root : Bool → RootAttribute → KindValues
-sent_root kinds_only attribute = record { kind = attribute.name; values = if kinds_only then [] else attribute.value ∷ [] }
+sent_root kinds_only attribute = record { kind = attribute.name; values = if kinds_only then [] else attribute.values }
 
 -- the entry as it is sent
 unfoldable pub root_entry : View → SearchRequest → Reply

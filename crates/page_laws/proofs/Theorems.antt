@@ -1,0 +1,2 @@
+-- What crates above may cite of pages.
+pub use Rattle.page_laws.proofs.laws.PageTwins.{page_replies-twins}
