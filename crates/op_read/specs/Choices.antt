@@ -6,8 +6,8 @@ use Rattle.dir_tree.specs.Entry.{Attribute}
 use Rattle.acdf_filters.specs.aci_item.declared.permission.Permission.TheVariants.{Read}
 use Rattle.acdf_filters.specs.Asking.{Kind as TheKind}
 use Rattle.ldap_msg.specs.declared.kinds.KindValues.{KindValues}
-use Rattle.read_model.specs.Views.{Row}
-use Rattle.read_model.specs.Choosing.{sent_attribute}
+use Rattle.page_core.specs.read_model.Views.{Row}
+use Rattle.page_core.specs.read_model.Choosing.{sent_attribute}
 use Rattle.op_read.specs.declared.choosing.Choice.{Choice}
 use Rattle.op_read.specs.declared.choosing.Choice.TheVariants.{User, Operational, Kind, Nothing}
 

@@ -7,7 +7,7 @@ use Rattle.dir_tree.specs.declared.number.EntryNo.{EntryNo}
 use Rattle.dir_tree.specs.declared.scope.Scope.{Scope}
 use Rattle.dir_tree.specs.declared.scope.Scope.TheVariants.{Base, One, Sub}
 use Rattle.acdf_filters.specs.declared.asking.Requester.{Requester}
-use Rattle.read_model.specs.Views.{Row, View, row_of}
+use Rattle.page_core.specs.read_model.Views.{Row, View, row_of}
 
 -- an entry as the requester sees it, each decision taken over the rows' entries
 abbrev pub row_in : List Numbered → Requester → EntryInformation → Row

@@ -1,15 +1,16 @@
 -- What a search sends, one entry after the other.
-use Rattle.std.specs.Prelude.{◌≡◌, ◌≢◌, ℕ, ◌+◌, Bool, true, false, List, [], ◌∷◌, ◌++◌, length, filter, flat_map}
+use Rattle.std.specs.Prelude.{◌≡◌, ◌≢◌, ℕ, ◌+◌, Bool, true, false, List, [], ◌∷◌, ◌++◌, length, filter, flat_map, Option, is_some}
 use Rattle.dir_tree.specs.tree.Numbered.{Numbered, entry_of}
+use Rattle.dir_tree.specs.declared.number.EntryNo.{EntryNo}
 use Rattle.dir_tree.specs.dn_names.name.Names.{RdnSequence}
 use Rattle.acdf_filters.specs.declared.asking.Requester.{Requester}
 use Rattle.ldap_msg.specs.declared.operations.ResultCode.TheVariants as code
 use Rattle.ldap_msg.specs.declared.kinds.LdapResult.{LdapResult}
 use Rattle.ldap_msg.specs.declared.kinds.SearchRequest.{SearchRequest}
 use Rattle.ldap_msg.specs.Replies.{reply_octets}
-use Rattle.read_model.specs.Views.{Row, View, result_of}
-use Rattle.read_model.specs.Choosing.{sent_entry}
-use Rattle.read_model.specs.SearchReplies.{within_limit, limit_code, nothing_found}
+use Rattle.page_core.specs.read_model.Views.{Row, View, result_of}
+use Rattle.page_core.specs.read_model.Choosing.{sent_entry}
+use Rattle.page_core.specs.read_model.SearchReplies.{within_limit, limit_code, nothing_found}
 use Rattle.op_read.specs.declared.sending.Sent.{Sent}
 use Rattle.op_read.specs.declared.sending.Found.{Found}
 use Rattle.op_read.specs.declared.sending.Found.TheVariants.{Nothing, Some as FoundSome, TooMany}
@@ -19,6 +20,12 @@ use Rattle.op_read.specs.Seeing.{row_in, one_or_none}
 abbrev pub is_filled : View → Bool
 is_filled [] = false
 is_filled (row ∷ rows) = true
+
+-- the last of the rows, if there are any
+abbrev pub last_row : View → View
+last_row [] = []
+last_row (row ∷ []) = row ∷ []
+last_row (row ∷ next ∷ rows) = last_row (next ∷ rows)
 
 -- the entry of a number, if it is shown
 abbrev pub shown_at : (Row → Bool) → List Numbered → Requester → ℕ → View
@@ -32,32 +39,38 @@ shown_among test rows who ids = flat_map (shown_at test rows who) ids
 abbrev pub entry_octets : ℕ → SearchRequest → Row → List ℕ
 entry_octets id request row = reply_octets id (sent_entry request.selection request.kinds_only row)
 
--- of all that are found some were sent and these are left: how many more may be sent, if there is a limit
-pub record Sends (limit : ℕ) (octets : Row → List ℕ) (all left : View) (before : List ℕ) (sent : Sent) (after : List ℕ) : Type 0 where
+-- of all that are found some were sent and these are left: the number of the last that was sent, and how many more may
+-- be sent, if there is a limit
+pub record Sends (at : Option EntryNo → View) (limit : ℕ) (octets : Row → List ℕ) (all left : View) (before : List ℕ) (sent : Sent) (after : List ℕ) : Type 0 where
   pub rows : View
   pub whole : all ≡ rows ++ left
   pub put : after ≡ before ++ flat_map octets rows
-  pub some : sent.some ≡ is_filled rows
+  pub some : is_some sent.last ≡ is_filled rows
+  pub last : at sent.last ≡ last_row rows
   pub room : limit ≢ 0 → length rows + sent.room ≡ limit
 
 -- a step of a search: these are sent, or there is one that may not be
-abbrev pub Goes : ℕ → (Row → List ℕ) → View → Sent → List ℕ → Sent → List ℕ → Bool → Type 0
-Goes limit octets rows sent out sent_new out_new true =
-    (all left : View) (before : List ℕ) → Sends limit octets all (rows ++ left) before sent out
-    → Sends limit octets all left before sent_new out_new
-Goes limit octets rows sent out sent_new out_new false = (is_filled rows ≡ true) × (limit ≢ 0) × (sent.room ≡ 0) × (out_new ≡ out)
+abbrev pub Goes : (Option EntryNo → View) → ℕ → (Row → List ℕ) → View → Sent → List ℕ → Sent → List ℕ → Bool → Type 0
+Goes at limit octets rows sent out sent_new out_new true =
+    (all left : View) (before : List ℕ) → Sends at limit octets all (rows ++ left) before sent out
+    → Sends at limit octets all left before sent_new out_new
+Goes at limit octets rows sent out sent_new out_new false =
+    (is_filled rows ≡ true) × (limit ≢ 0) × (sent.room ≡ 0) × (sent_new.last ≡ sent.last) × (out_new ≡ out)
 
 -- all that are found were sent, as far as the limit allows
 abbrev pub SendsAll : ℕ → (Row → List ℕ) → View → List ℕ → List ℕ → Type 0
 SendsAll limit octets all before after = (is_filled all ≡ true) × (after ≡ before ++ flat_map octets (within_limit limit all))
 
-abbrev pub IsSent : ℕ → (Row → List ℕ) → View → List ℕ → List ℕ → Found → Type 0
-IsSent limit octets all before after Nothing = (all ≡ []) × (after ≡ before)
-IsSent limit octets all before after FoundSome = SendsAll limit octets all before after × (limit_code limit all ≡ code.Success)
-IsSent limit octets all before after TooMany = SendsAll limit octets all before after × (limit_code limit all ≡ code.SizeLimitExceeded)
+-- what was found, and sent; of more than may be sent the number of the last that was
+abbrev pub IsSent : (Option EntryNo → View) → ℕ → (Row → List ℕ) → View → List ℕ → List ℕ → Found → Type 0
+IsSent at limit octets all before after Nothing = (all ≡ []) × (after ≡ before)
+IsSent at limit octets all before after FoundSome = SendsAll limit octets all before after × (limit_code limit all ≡ code.Success)
+IsSent at limit octets all before after (TooMany last) =
+    SendsAll limit octets all before after × (limit_code limit all ≡ code.SizeLimitExceeded)
+    × (at last ≡ last_row (within_limit limit all))
 
 -- how the search ends then
 abbrev pub ended_by : View → RdnSequence → Found → LdapResult
 ended_by view base Nothing = nothing_found view base
 ended_by view base FoundSome = result_of code.Success
-ended_by view base TooMany = result_of code.SizeLimitExceeded
+ended_by view base (TooMany last) = result_of code.SizeLimitExceeded

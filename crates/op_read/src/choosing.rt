@@ -5,7 +5,7 @@ ghost use Rattle.std.specs.List.{list_any};
 ghost use Rattle.dir_tree.specs.schema_tables.Attributes.{is_operational, name_of};
 ghost use Rattle.acdf_filters.specs.Asking as protected;
 ghost use Rattle.acdf_filters.specs.aci_item.declared.permission.Permission.TheVariants as permission;
-ghost use Rattle.read_model.specs.Choosing.{is_chosen_by, is_chosen, is_sent, readable_values, sent_attribute, sent_attributes, sent_entry};
+ghost use Rattle.page_core.specs.read_model.Choosing.{is_chosen_by, is_chosen, is_sent, readable_values, sent_attribute, sent_attributes, sent_entry};
 ghost use Rattle.op_read.specs.Seeing.{row_in};
 ghost use Rattle.op_read.specs.Choices.{chooses, sent_of};
 

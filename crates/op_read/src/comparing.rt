@@ -7,8 +7,8 @@ ghost use Rattle.dir_tree.specs.dn_names.NameValues.{value_of};
 ghost use Rattle.dir_tree.specs.tree.Numbered.{entries_of};
 ghost use Rattle.acdf_filters.specs.Asking as protected;
 ghost use Rattle.acdf_filters.specs.aci_item.declared.permission.Permission.TheVariants as permission;
-ghost use Rattle.read_model.specs.Views.{view_of, result_of};
-ghost use Rattle.read_model.specs.CompareReplies.{has_equal, compared, readable, compared_in, compared_value, compared_kind, compare_result};
+ghost use Rattle.page_core.specs.read_model.Views.{view_of, result_of};
+ghost use Rattle.page_core.specs.read_model.CompareReplies.{has_equal, compared, readable, compared_in, compared_value, compared_kind, compare_result};
 ghost use Rattle.directory.specs.Asking.{view_in};
 ghost use Rattle.op_read.specs.Alike.{ComparesAlike};
 ghost use Rattle.op_read.specs.Seeing.{row_in, rows_at};
@@ -45,7 +45,6 @@ fn has_equal<D: Dir>(seen: &Seen<'_, D>, kind: AttrId, asserted: &Value) -> bool
 }
 
 // How the compare of the entry ends.
-#[tactic(auto, unfolding(read_model::specs::CompareReplies::compared))]
 fn compared<D: Dir>(seen: &Seen<'_, D>, kind: AttrId, asserted: &Value) -> ResultCode
     ensures exact { result_of result ≡ compared kind.0 asserted.now
         (row_in (D.rows seen.now.dir.now) seen.now.who.now seen.now.entry.now) }
@@ -184,7 +183,6 @@ fn compare_named<D: Dir>(
 }
 
 // A compare, the groups of whose requester are known.
-#[tactic(auto, unfolding(read_model::specs::CompareReplies::compare_result))]
 fn compare_known<D: Dir>(
     alloc: Global,
     asking: &Asking<'_, D>,

@@ -1,10 +1,10 @@
 //! The root DSE (RFC 4512 5.1).
 
-ghost use Rattle.std.specs.Prelude.{◌≡◌, ◌++◌, ◌||◌, ◌&&◌, not, true, false, [], ◌∷◌, IfOk, OnOk, codes, flat_map, if◌then◌else◌};
+ghost use Rattle.std.specs.Prelude.{◌≡◌, ◌++◌, ◌||◌, ◌&&◌, not, true, false, [], ◌∷◌, IfOk, OnOk, codes, map, flat_map, if◌then◌else◌};
 ghost use Rattle.std.specs.List.{list_any};
 ghost use Rattle.std.specs.Str.{bytes_eq};
 ghost use Rattle.dir_tree.specs.schema_tables.Naming.{is_same_name};
-ghost use Rattle.read_model.specs.RootEntry.{suffix_name, is_root_chosen_by, is_root_chosen, sent_root, root_entry, asks_for_root, finds_root};
+ghost use Rattle.page_core.specs.read_model.RootEntry.{suffix_name, is_root_chosen_by, is_root_chosen, sent_root, root_entry, asks_for_root, finds_root};
 ghost use Rattle.directory.specs.Asking.{view_in};
 ghost use Rattle.op_read.specs.Rooting.{root_of, root_sent_of, roots_with};
 
@@ -15,12 +15,12 @@ use ldap_msg::plain_values::{Octets, OneOrMany};
 use ldap_msg::{Filter, KindValues, Node, Reply, SearchRequest};
 use std::alloc::Global;
 
-/// An attribute of the root DSE, which has one value.
+/// An attribute of the root DSE.
 #[derive(Clone, Copy)]
 pub(crate) struct RootAttribute<'a> {
     pub(crate) name: &'static str,
     pub(crate) operational: bool,
-    pub(crate) value: &'a [u8],
+    pub(crate) values: &'a [&'a [u8]],
 }
 
 // Whether the text is the attribute's name, or the object identifier of objectClass.
@@ -64,14 +64,30 @@ fn is_root_chosen(attribute: RootAttribute<'_>, texts: &[Octets]) -> bool
     }
 }
 
-// The value that is sent, if values are.
-fn sent_value(alloc: Global, kinds_only: bool, value: &[u8]) -> Result<OneOrMany<Octets>, NoMemory>
-    ensures ok { IfOk result (λ values. values ≡ (if kinds_only then [] else value.now ∷ [])) }
+// The values in memory of their own.
+fn copies(alloc: Global, values: &[&[u8]]) -> Result<Vec<Octets>, NoMemory>
+    ensures ok { IfOk result (λ copies. copies.items ≡ map (λ value. value.now) values.now) }
+{
+    let mut copies = Vec::with_capacity(alloc, values.len())?;
+    for value in values {
+        copies.push(copied(alloc, *value)?)?;
+    }
+    Ok(copies)
+}
+
+// The values that are sent, if values are.
+fn sent_values(
+    alloc: Global,
+    kinds_only: bool,
+    values: &[&[u8]],
+) -> Result<OneOrMany<Octets>, NoMemory>
+    ensures ok { IfOk result (λ sent. sent
+        ≡ (if kinds_only then [] else map (λ value. value.now) values.now)) }
 {
     if kinds_only {
         return Ok(OneOrMany::from_vec(Vec::new(alloc)));
     }
-    Ok(OneOrMany::one(copied(alloc, value)?))
+    Ok(OneOrMany::from_vec(copies(alloc, values)?))
 }
 
 // The attribute as it is sent.
@@ -83,7 +99,7 @@ fn sent_root(
     ensures ok { IfOk result (λ sent. sent ≡ sent_root kinds_only (root_of attribute.entry)) }
 {
     let kind = copied(alloc, attribute.name.as_bytes())?;
-    let values = sent_value(alloc, kinds_only, attribute.value)?;
+    let values = sent_values(alloc, kinds_only, attribute.values)?;
     Ok(KindValues { kind, values })
 }
 
@@ -128,46 +144,53 @@ fn sent_roots(
         sent.items ≡ flat_map (root_sent_of request.now) (roots_with suffix.now)) }
 {
     let mut sent = Vec::new(alloc);
+    let classes = [b"top".as_slice()];
     put_root(
         alloc,
         request,
-        user_attribute("objectClass", b"top"),
+        user_attribute("objectClass", &classes),
         &mut sent,
     )?;
+    let contexts = [suffix];
     put_root(
         alloc,
         request,
-        operational_attribute("namingContexts", suffix),
+        operational_attribute("namingContexts", &contexts),
         &mut sent,
     )?;
-    let control = operational_attribute("supportedControl", b"1.3.6.1.4.1.4203.1.10.1");
+    let controls = [
+        b"1.3.6.1.4.1.4203.1.10.1".as_slice(),
+        b"1.2.840.113556.1.4.319".as_slice(),
+    ];
+    let control = operational_attribute("supportedControl", &controls);
     put_root(alloc, request, control, &mut sent)?;
+    let versions = [b"3".as_slice()];
     put_root(
         alloc,
         request,
-        operational_attribute("supportedLDAPVersion", b"3"),
+        operational_attribute("supportedLDAPVersion", &versions),
         &mut sent,
     )?;
     Ok(sent)
 }
 
-fn user_attribute<'a>(name: &'static str, value: &'a [u8]) -> RootAttribute<'a>
-    ensures exact { root_of result ≡ record { name = name.now; operational = false; value = value.now } }
+fn user_attribute<'a>(name: &'static str, values: &'a [&'a [u8]]) -> RootAttribute<'a>
+    ensures exact { root_of result ≡ record { name = name.now; operational = false; values = map (λ value. value.now) values.now } }
 {
     RootAttribute {
         name,
         operational: false,
-        value,
+        values,
     }
 }
 
-fn operational_attribute<'a>(name: &'static str, value: &'a [u8]) -> RootAttribute<'a>
-    ensures exact { root_of result ≡ record { name = name.now; operational = true; value = value.now } }
+fn operational_attribute<'a>(name: &'static str, values: &'a [&'a [u8]]) -> RootAttribute<'a>
+    ensures exact { root_of result ≡ record { name = name.now; operational = true; values = map (λ value. value.now) values.now } }
 {
     RootAttribute {
         name,
         operational: true,
-        value,
+        values,
     }
 }
 

@@ -4,32 +4,33 @@ ghost use Rattle.std.specs.Prelude.{◌≡◌, ◌++◌, ◌∷◌, [], Some, Ok
 ghost use Rattle.dir_tree.specs.tree.Numbered.{IsNumberedTree, entries_of, find_name};
 ghost use Rattle.ldap_msg.specs.ber_layout.Spellings.{Extends};
 ghost use Rattle.ldap_msg.specs.declared.kinds.Reply.TheVariants as reply;
-ghost use Rattle.read_model.specs.Views.{view_of, hidden};
-ghost use Rattle.read_model.specs.Selecting.{selected};
-ghost use Rattle.read_model.specs.RootEntry.{finds_root, root_entry, root_replies};
-ghost use Rattle.read_model.specs.SearchReplies.{replies_octets, found_replies, replies_at, replies_by, search_replies};
+ghost use Rattle.page_core.specs.read_model.Views.{view_of, hidden};
+ghost use Rattle.page_core.specs.read_model.Selecting.{selected};
+ghost use Rattle.page_core.specs.read_model.RootEntry.{finds_root, root_entry, root_replies};
+ghost use Rattle.page_core.specs.read_model.SearchReplies.{replies_octets, found_replies, replies_at, replies_by, search_replies};
 ghost use Rattle.directory.specs.Asking.{view_in};
 ghost use Rattle.op_read.specs.Alike.{SendsAlike};
 
 use crate::choosing::{Selection, read_choices};
 use crate::root_entry::{finds_root, root_entry};
+use crate::selecting::walk_from;
 use crate::sending::{Search, ended_by, put_done, put_found};
 use acdf_filters::Requester;
 use dir_tree::dn_names::Dn;
 use dir_tree::{EntryNo, NoMemory};
 use directory::{Asking, Dir, hidden, read_named, result_of};
 use ldap_msg::{ResultCode, SearchRequest, put_reply};
-use read_model::filter_match::prepare_filter;
+use page_core::read_model::filter_match::prepare_filter;
 use std::alloc::Global;
 
 /// A request to search, with the number of its message, what the control of subentries says (RFC 3672 3), and how many
 /// octets `out` may hold before a further entry is refused.
 #[derive(Clone, Copy)]
-struct Asked<'a> {
-    id: u32,
-    request: &'a SearchRequest,
-    subentries: Option<bool>,
-    room: usize,
+pub(crate) struct Asked<'a> {
+    pub(crate) id: u32,
+    pub(crate) request: &'a SearchRequest,
+    pub(crate) subentries: Option<bool>,
+    pub(crate) room: usize,
 }
 
 // Appends the replies to a search from the entry of the number on, which has the name.
@@ -43,6 +44,7 @@ fn put_selected<D: Dir>(
 ) -> Result<(), NoMemory>
     requires tree { IsNumberedTree (D.rows asking.now.dir.now) }
     requires found { find_name base.now (D.rows asking.now.dir.now) ≡ Some number.0 }
+    requires limit { search.now.limit ≡ search.now.request.now.size }
     ensures ok { OnOk result (out.new.items ≡ out.old.items ++ replies_octets search.now.id
         (found_replies (view_in (D.rows asking.now.dir.now) asking.now.who.now)
         search.now.request.now base.now
@@ -50,13 +52,14 @@ fn put_selected<D: Dir>(
         search.now.subentries base.now))) }
     ensures kept { Extends out.old.items out.new.items }
 {
-    let found = put_found(alloc, asking, search, number, out)?;
+    let walk = walk_from(asking, search.request.scope, number);
+    let found = put_found(alloc, asking, search, walk, out)?;
     let ended = ended_by(alloc, asking, base, found)?;
     put_done(search.id, ended, out)
 }
 
-// Appends that the base is hidden.
-fn put_hidden<D: Dir>(
+/// Appends that the base is hidden.
+pub(crate) fn put_hidden<D: Dir>(
     alloc: Global,
     asking: &Asking<'_, D>,
     id: u32,
@@ -79,6 +82,7 @@ fn put_at<D: Dir>(
     base: &Dn,
     out: &mut Vec<u8>,
 ) -> Result<(), NoMemory>
+    requires limit { search.now.limit ≡ search.now.request.now.size }
     ensures ok { OnOk result (out.new.items ≡ out.old.items ++ replies_octets search.now.id
         (replies_at (view_in (D.rows asking.now.dir.now) asking.now.who.now) search.now.request.now
         search.now.subentries base.now)) }
@@ -117,6 +121,7 @@ fn put_prepared<D: Dir>(
         subentries: asked.subentries,
         filter: &filter,
         selection,
+        limit: asked.request.size,
         room: asked.room,
     };
     put_at(alloc, asking, &search, base, out)
@@ -142,8 +147,8 @@ fn put_root<D: Dir>(
     Ok(())
 }
 
-// Appends the replies to a search of the empty name.
-fn put_root_replies<D: Dir>(
+/// Appends the replies to a search of the empty name.
+pub(crate) fn put_root_replies<D: Dir>(
     alloc: Global,
     asking: &Asking<'_, D>,
     asked: Asked<'_>,
@@ -180,9 +185,8 @@ fn put_named<D: Dir>(
     put_prepared(alloc, asking, asked, base, out)
 }
 
-// Appends the replies to a search, the groups of whose requester are known.
-#[tactic(auto, unfolding(read_model::specs::SearchReplies::search_replies))]
-fn put_known<D: Dir>(
+/// Appends the replies to a search, the groups of whose requester are known.
+pub(crate) fn put_known<D: Dir>(
     alloc: Global,
     asking: &Asking<'_, D>,
     asked: Asked<'_>,

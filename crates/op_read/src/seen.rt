@@ -3,7 +3,7 @@
 ghost use Rattle.std.specs.Prelude.{◌≡◌, Some};
 ghost use Rattle.dir_tree.specs.tree.Numbered.{entry_of};
 ghost use Rattle.acdf_filters.specs.Asking.{protected_of};
-ghost use Rattle.read_model.specs.Selecting.{permits_of};
+ghost use Rattle.page_core.specs.read_model.Selecting.{permits_of};
 ghost use Rattle.directory.specs.Asking.{Knows, knows-prop};
 ghost use Rattle.op_read.specs.Seeing.{row_in};
 
@@ -13,7 +13,7 @@ use dir_tree::dn_names::Value;
 use dir_tree::schema_tables::AttrId;
 use dir_tree::{Entry, EntryNo};
 use directory::Dir;
-use read_model::filter_match::Allow;
+use page_core::read_model::filter_match::Allow;
 
 /// An entry of the directory, as the requester sees it.
 #[derive(Drop)]

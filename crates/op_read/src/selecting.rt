@@ -1,15 +1,17 @@
 //! Which entries a search selects.
 
 ghost use Rattle.std.specs.Prelude.{◌≡◌};
-ghost use Rattle.read_model.specs.Selecting.{is_seen, is_found};
+ghost use Rattle.dir_tree.specs.Scope.{scoped, scoped_after};
+ghost use Rattle.page_core.specs.read_model.Selecting.{is_seen, is_found};
 ghost use Rattle.op_read.specs.Seeing.{row_in, scope_of};
 
 use crate::seen::Seen;
 use acdf_filters::Item;
 use acdf_filters::aci_item::Permission;
-use dir_tree::{Entry, Scope};
-use directory::Dir;
-use read_model::filter_match::{Prepared, is_true};
+use dir_tree::dn_names::Dn;
+use dir_tree::{Entry, EntryNo, Scope, Walk};
+use directory::{Asking, Dir};
+use page_core::read_model::filter_match::{Prepared, is_true};
 
 /// The scope of the number (RFC 4511 4.5.1.2).
 pub(crate) fn scope_of(number: u8) -> Scope
@@ -22,6 +24,28 @@ pub(crate) fn scope_of(number: u8) -> Scope
     } else {
         Scope::Sub
     }
+}
+
+/// The walk over the entries of the scope, from the entry of the number on.
+pub(crate) fn walk_from<'a, D: Dir>(asking: &Asking<'a, D>, scope: u8, number: EntryNo) -> Walk<'a>
+    ensures exact { result ≡ scoped (scope_of scope) number.0 (D.rows asking.now.dir.now) }
+{
+    asking.dir.tree().below(number, scope_of(scope))
+}
+
+/// The walk over those of them whose names come after the name: what comes before is not walked over.
+pub(crate) fn walk_after<'a, D: Dir>(
+    asking: &Asking<'a, D>,
+    scope: u8,
+    number: EntryNo,
+    after: &Dn,
+) -> Walk<'a>
+    ensures exact { result ≡ scoped_after (scope_of scope) number.0 after.now (D.rows asking.now.dir.now) }
+{
+    asking
+        .dir
+        .tree()
+        .below_after(number, scope_of(scope), after)
 }
 
 /// Whether a search of the scope sees the entry, by the control of subentries (RFC 3672 3).

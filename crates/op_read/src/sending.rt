@@ -2,25 +2,24 @@
 
 ghost use Rattle.std.specs.Prelude.{◌≡◌, ◌++◌, ◌∷◌, [], ℕ, IfOk, OnOk, filter};
 ghost use Rattle.std.specs.List.{list_any};
-ghost use Rattle.dir_tree.specs.Scope.{scoped};
 ghost use Rattle.ldap_msg.specs.ber_layout.Spellings.{Extends};
 ghost use Rattle.ldap_msg.specs.declared.kinds.Reply.TheVariants as reply;
-ghost use Rattle.read_model.specs.Selecting.{is_shown};
-ghost use Rattle.read_model.specs.Choosing.{is_chosen};
-ghost use Rattle.read_model.specs.SearchReplies.{replies_octets, nothing_found};
+ghost use Rattle.page_core.specs.read_model.Selecting.{is_shown};
+ghost use Rattle.page_core.specs.read_model.Choosing.{is_chosen};
+ghost use Rattle.page_core.specs.read_model.SearchReplies.{replies_octets, nothing_found};
 ghost use Rattle.directory.specs.Asking.{view_in};
 ghost use Rattle.op_read.specs.Choices.{chooses};
-ghost use Rattle.op_read.specs.Seeing.{row_in, scope_of};
+ghost use Rattle.op_read.specs.Seeing.{row_in, rows_at};
 ghost use Rattle.op_read.specs.Sending.{shown_at, shown_among, entry_octets, Goes, IsSent, ended_by};
 
 use crate::choosing::{Selection, sent_entry};
 use crate::seen::Seen;
-use crate::selecting::{is_found, is_seen, scope_of};
+use crate::selecting::{is_found, is_seen};
 use dir_tree::dn_names::Dn;
-use dir_tree::{EntryNo, NoMemory};
+use dir_tree::{EntryNo, NoMemory, Walk};
 use directory::{Asking, Dir, discloses, no_such_object, result_of};
 use ldap_msg::{LdapResult, Reply, ResultCode, SearchRequest, put_reply};
-use read_model::filter_match::Prepared;
+use page_core::read_model::filter_match::Prepared;
 use std::alloc::{AllocError, Global};
 
 /// A search, with what is made of its request once for all entries.
@@ -32,6 +31,8 @@ pub(crate) struct Search<'a> {
     pub(crate) subentries: Option<bool>,
     pub(crate) filter: &'a Prepared<'a>,
     pub(crate) selection: Selection<'a>,
+    /// How many entries may be sent; 0 where there is no limit.
+    pub(crate) limit: u32,
     /// How many octets `out` may hold, before a further entry is refused.
     pub(crate) room: usize,
     ghost filtering: { filter.now ≡ request.now.filter },
@@ -43,8 +44,8 @@ pub(crate) struct Search<'a> {
 /// What was sent so far.
 #[derive(Clone, Copy)]
 pub(crate) struct Sent {
-    /// Whether there is an entry among it.
-    pub(crate) some: bool,
+    /// The number of the last entry among it.
+    pub(crate) last: Option<EntryNo>,
     /// How many more entries may be sent, where there is a limit.
     pub(crate) room: u32,
 }
@@ -56,8 +57,8 @@ pub(crate) enum Found {
     Nothing,
     /// Entries, which all were sent.
     Some,
-    /// More entries than may be sent.
-    TooMany,
+    /// More entries than may be sent; the number of the last that was.
+    TooMany(Option<EntryNo>),
 }
 
 /// Appends how the search ended. After the error, want of memory, `out` is as before.
@@ -84,8 +85,8 @@ fn put_entry<D: Dir>(
     put_reply(out, search.id, &reply)
 }
 
-// Whether the entry is selected, of those in the scope.
-fn is_shown<D: Dir>(search: &Search<'_>, seen: &Seen<'_, D>) -> bool
+/// Whether the entry is selected, of those in the scope.
+pub(crate) fn is_shown<D: Dir>(search: &Search<'_>, seen: &Seen<'_, D>) -> bool
     ensures exact { result ≡ is_shown search.now.request.now search.now.subentries
         (row_in (D.rows seen.now.dir.now) seen.now.who.now seen.now.entry.now) }
 {
@@ -100,22 +101,22 @@ fn send<D: Dir>(
     sent: &mut Sent,
     out: &mut Vec<u8>,
 ) -> Result<bool, NoMemory>
-    ensures ok { IfOk result (λ goes_on. Goes search.now.request.now.size
+    ensures ok { IfOk result (λ goes_on. Goes (rows_at (D.rows seen.now.dir.now) seen.now.who.now) search.now.limit
         (entry_octets search.now.id search.now.request.now)
         (row_in (D.rows seen.now.dir.now) seen.now.who.now seen.now.entry.now ∷ [])
         sent.old out.old.items sent.new out.new.items goes_on) }
     ensures kept { Extends out.old.items out.new.items }
 {
-    if search.request.size == 0 {
+    if search.limit == 0 {
         put_entry(alloc, search, seen, out)?;
-        sent.some = true;
+        sent.last = Some(seen.number);
         return Ok(true);
     }
     if sent.room == 0 {
         return Ok(false);
     }
     put_entry(alloc, search, seen, out)?;
-    sent.some = true;
+    sent.last = Some(seen.number);
     sent.room -= 1;
     Ok(true)
 }
@@ -128,7 +129,7 @@ fn offer<D: Dir>(
     sent: &mut Sent,
     out: &mut Vec<u8>,
 ) -> Result<bool, NoMemory>
-    ensures ok { IfOk result (λ goes_on. Goes search.now.request.now.size
+    ensures ok { IfOk result (λ goes_on. Goes (rows_at (D.rows seen.now.dir.now) seen.now.who.now) search.now.limit
         (entry_octets search.now.id search.now.request.now)
         (filter (is_shown search.now.request.now search.now.subentries)
         (row_in (D.rows seen.now.dir.now) seen.now.who.now seen.now.entry.now ∷ []))
@@ -154,7 +155,7 @@ fn offer_at<D: Dir>(
     sent: &mut Sent,
     out: &mut Vec<u8>,
 ) -> Result<bool, NoMemory>
-    ensures ok { IfOk result (λ goes_on. Goes search.now.request.now.size
+    ensures ok { IfOk result (λ goes_on. Goes (rows_at (D.rows asking.now.dir.now) asking.now.who.now) search.now.limit
         (entry_octets search.now.id search.now.request.now)
         (shown_at (is_shown search.now.request.now search.now.subentries)
         (D.rows asking.now.dir.now) asking.now.who.now number.0)
@@ -176,35 +177,33 @@ fn offer_at<D: Dir>(
     }
 }
 
-/// Sends the entries of the scope that are selected, from the entry of the number on and in the order of names: no
-/// more than the limit, if there is one. What is not selected is not counted. The error comes for want of memory, or
-/// where `out` is past the room and entries of the scope are left.
+/// Sends the entries of the walk that are selected, in its order: no more than the limit, if there is one. What is not
+/// selected is not counted. The error comes for want of memory, or where `out` is past the room and entries of the walk
+/// are left.
 pub(crate) fn put_found<D: Dir>(
     alloc: Global,
     asking: &Asking<'_, D>,
     search: &Search<'_>,
-    number: EntryNo,
+    walk: Walk<'_>,
     out: &mut Vec<u8>,
 ) -> Result<Found, NoMemory>
-    ensures ok { IfOk result (λ found. IsSent search.now.request.now.size
-        (entry_octets search.now.id search.now.request.now)
+    ensures ok { IfOk result (λ found. IsSent (rows_at (D.rows asking.now.dir.now) asking.now.who.now)
+        search.now.limit (entry_octets search.now.id search.now.request.now)
         (shown_among (is_shown search.now.request.now search.now.subentries) (D.rows asking.now.dir.now)
-        asking.now.who.now
-        (scoped (scope_of search.now.request.now.scope) number.0 (D.rows asking.now.dir.now)))
+        asking.now.who.now walk.entry)
         out.old.items out.new.items found) }
     ensures kept { Extends out.old.items out.new.items }
 {
     let mut sent = Sent {
-        some: false,
-        room: search.request.size,
+        last: None,
+        room: search.limit,
     };
-    let scope = scope_of(search.request.scope);
-    for candidate in asking.dir.tree().below(number, scope) {
+    for candidate in walk {
         if !offer_at(alloc, asking, search, candidate, &mut sent, out)? {
-            return Ok(Found::TooMany);
+            return Ok(Found::TooMany(sent.last));
         }
     }
-    if sent.some {
+    if sent.last.is_some() {
         Ok(Found::Some)
     } else {
         Ok(Found::Nothing)
@@ -240,6 +239,6 @@ pub(crate) fn ended_by<D: Dir>(
     match found {
         Found::Nothing => nothing_found(alloc, asking, base),
         Found::Some => Ok(result_of(alloc, ResultCode::Success)),
-        Found::TooMany => Ok(result_of(alloc, ResultCode::SizeLimitExceeded)),
+        Found::TooMany(_) => Ok(result_of(alloc, ResultCode::SizeLimitExceeded)),
     }
 }

@@ -8,8 +8,8 @@ use Rattle.acdf_filters.specs.aci_item.declared.permission.Permission.TheVariant
 use Rattle.acdf_filters.specs.Asking.{Kind}
 use Rattle.ldap_msg.specs.declared.kinds.KindValues.{KindValues}
 use Rattle.ldap_msg.specs.declared.kinds.Reply.TheVariants as reply
-use Rattle.read_model.specs.Views.{Row}
-use Rattle.read_model.specs.Choosing.{is_chosen_by, is_chosen, sent_attribute, sent_attributes, sent_entry}
+use Rattle.page_core.specs.read_model.Views.{Row}
+use Rattle.page_core.specs.read_model.Choosing.{is_chosen_by, is_chosen, sent_attribute, sent_attributes, sent_entry}
 use Rattle.op_read.specs.declared.choosing.Choice.{Choice}
 use Rattle.op_read.specs.Choices.{chooses, sent_of}
 

@@ -6,9 +6,9 @@ use Rattle.ldap_msg.specs.declared.kinds.LdapResult.{LdapResult}
 use Rattle.ldap_msg.specs.declared.kinds.SearchRequest.{SearchRequest}
 use Rattle.ldap_msg.specs.declared.kinds.CompareRequest.{CompareRequest}
 use Rattle.ldap_msg.specs.declared.kinds.Reply.{Reply}
-use Rattle.read_model.specs.Views.{view_of}
-use Rattle.read_model.specs.SearchReplies.{search_replies, replies_octets}
-use Rattle.read_model.specs.CompareReplies.{compare_result}
+use Rattle.page_core.specs.read_model.Views.{view_of}
+use Rattle.page_core.specs.read_model.SearchReplies.{search_replies, replies_octets}
+use Rattle.page_core.specs.read_model.CompareReplies.{compare_result}
 use Rattle.twin_laws.proofs.Theorems.{search_replies-twins, compare_result-twins}
 use Rattle.op_read.specs.Alike.{SendsAlike, ComparesAlike}
 

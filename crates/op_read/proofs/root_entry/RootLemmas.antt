@@ -1,5 +1,5 @@
 -- The root DSE, its attributes one after the other.
-use Rattle.std.proofs.Common.{◌≡◌, List, [], ◌++◌, sym, ap, ◌∙◌, append_assoc}
+use Rattle.std.proofs.Common.{◌≡◌, ℕ, Bool, List, [], ◌∷◌, ◌++◌, sym, ap, ◌∙◌, append_assoc}
 use Rattle.std.specs.Prelude.{flat_map}
 use Rattle.std.proofs.lemmas.List.{append-nil}
 use Rattle.dir_tree.specs.tree.Numbered.{Numbered}
@@ -7,7 +7,7 @@ use Rattle.acdf_filters.specs.declared.asking.Requester.{Requester}
 use Rattle.ldap_msg.specs.declared.kinds.KindValues.{KindValues}
 use Rattle.ldap_msg.specs.declared.kinds.SearchRequest.{SearchRequest}
 use Rattle.ldap_msg.specs.declared.kinds.Reply.TheVariants as reply
-use Rattle.read_model.specs.RootEntry.{RootAttribute, suffix_name, root_attributes, is_root_chosen, sent_root, root_entry}
+use Rattle.page_core.specs.read_model.RootEntry.{RootAttribute, suffix_name, root_attributes, is_root_chosen, sent_root, root_entry}
 use Rattle.directory.specs.Asking.{view_in}
 use Rattle.op_read.specs.Rooting.{root_sent_of, roots_with}
 use Rattle.op_read.proofs.choosing.ChoosingLemmas.{roots-one}
@@ -23,6 +23,21 @@ unfolding root_entry
 root-entry rows who request =
     ap (λ (sent : List KindValues). reply.Entry [] sent)
     (roots-one (is_root_chosen request.selection) (sent_root request.kinds_only) (root_attributes (view_in rows who)))
+
+-- an attribute's values, as they were written
+pub one-value : (made : RootAttribute) (name : List ℕ) (operational : Bool) (text value : List ℕ) → made ≡ record { name = name; operational = operational; values = text ∷ [] } → text ≡ value
+    → made ≡ record { name = name; operational = operational; values = value ∷ [] }
+one-value made name operational text value is e = is ∙ ap (λ (values : List (List ℕ)). attribute values) (ap (λ text. text ∷ []) e)
+  where
+    attribute : List (List ℕ) → RootAttribute
+    attribute values = record { name = name; operational = operational; values = values }
+
+pub two-values : (made : RootAttribute) (name : List ℕ) (operational : Bool) (text other value last : List ℕ) → made ≡ record { name = name; operational = operational; values = text ∷ other ∷ [] } → text ≡ value → other ≡ last
+    → made ≡ record { name = name; operational = operational; values = value ∷ last ∷ [] }
+two-values made name operational text other value last is e f = is ∙ ap (λ (values : List (List ℕ)). attribute values) (ap (λ text. text ∷ other ∷ []) e ∙ ap (λ other. value ∷ other ∷ []) f)
+  where
+    attribute : List (List ℕ) → RootAttribute
+    attribute values = record { name = name; operational = operational; values = values }
 
 -- four attributes, one behind the other
 pub sent-four : (f : RootAttribute → List KindValues) (s0 s1 s2 s3 s4 : List KindValues) (r1 r2 r3 r4 a b c d : RootAttribute) → s0 ≡ [] → s1 ≡ s0 ++ f r1 → s2 ≡ s1 ++ f r2 → s3 ≡ s2 ++ f r3 → s4 ≡ s3 ++ f r4

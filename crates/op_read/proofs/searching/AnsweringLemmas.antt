@@ -8,9 +8,9 @@ use Rattle.ldap_msg.specs.declared.kinds.SearchRequest.{SearchRequest}
 use Rattle.ldap_msg.specs.declared.kinds.Reply.{Reply}
 use Rattle.ldap_msg.specs.declared.kinds.Reply.TheVariants as reply
 use Rattle.ldap_msg.specs.Replies.{reply_octets}
-use Rattle.read_model.specs.Views.{View, result_of}
-use Rattle.read_model.specs.SearchReplies.{replies_octets}
-use Rattle.read_model.specs.RootEntry.{root_replies, finds_root, root_entry}
+use Rattle.page_core.specs.read_model.Views.{View, result_of}
+use Rattle.page_core.specs.read_model.SearchReplies.{replies_octets}
+use Rattle.page_core.specs.read_model.RootEntry.{root_replies, finds_root, root_entry}
 
 -- ---- searches
 

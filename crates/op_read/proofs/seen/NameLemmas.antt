@@ -1,6 +1,5 @@
 -- Entries by their names: an entry of a name is the only one, and names that are the same begin the same names.
-use Rattle.std.proofs.Common.{◌≡◌, inl, inr, Bool, true, ◌&&◌, List, [], ◌∷◌, ◌++◌, refl, ap, ◌∙◌, map, filter}
-use Rattle.std.specs.Prelude.{◌==◌, ◌+◌}
+use Rattle.std.proofs.Common.{◌≡◌, inl, inr, Bool, true, ◌&&◌, List, [], ◌∷◌, refl, ap, map, filter}
 use Rattle.std.specs.List.{AllByRecursion}
 use Rattle.std.specs.declared.cmp.Ordering.TheVariants.{Less}
 use Rattle.std.proofs.lemmas.Bool.{cases_Bool}
@@ -10,8 +9,8 @@ use Rattle.dir_tree.specs.Entry.{EntryInformation}
 use Rattle.dir_tree.specs.tree.Trees.{is_named, named_in, IsInOrder}
 use Rattle.dir_tree.specs.Scope.{is_within}
 use Rattle.dir_tree.proofs.TreeTheorems.{prefix_same as prefix-like, later-other}
-use Rattle.read_model.specs.Views as views
-use Rattle.read_model.specs.Views.{Row}
+use Rattle.page_core.specs.read_model.Views as views
+use Rattle.page_core.specs.read_model.Views.{Row}
 use Rattle.op_read.specs.Seeing.{one_or_none}
 
 -- what comes later than an entry of the name has another

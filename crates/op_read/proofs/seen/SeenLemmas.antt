@@ -10,7 +10,7 @@ use Rattle.acdf_filters.specs.aci_item.declared.permission.Permission.TheVariant
 use Rattle.acdf_filters.specs.declared.asking.Requester.{Requester}
 use Rattle.acdf_filters.specs.Asking.{Entry}
 use Rattle.acdf_filters.specs.Granted.{granted}
-use Rattle.read_model.specs.CompareReplies.{readable}
+use Rattle.page_core.specs.read_model.CompareReplies.{readable}
 use Rattle.directory.specs.Asking.{view_in}
 use Rattle.op_read.specs.Seeing.{row_in, one_or_none}
 use Rattle.op_read.proofs.seen.ListLemmas.{kept-one, dropped-one}

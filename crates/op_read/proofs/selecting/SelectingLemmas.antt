@@ -1,5 +1,5 @@
 -- The entries that a search selects, by their numbers.
-use Rattle.std.proofs.Common.{◌≡◌, ◌⊎◌, inl, inr, ℕ, Bool, true, false, List, [], ◌∷◌, Option, Some, None, refl, sym, ap, ◌∙◌, map, filter, find}
+use Rattle.std.proofs.Common.{◌≡◌, ◌⊎◌, inl, inr, ℕ, Bool, true, false, ◌&&◌, List, [], ◌∷◌, Option, Some, None, refl, sym, ap, ◌∙◌, map, filter, find}
 use Rattle.std.specs.Prelude.{◌==◌, is_some}
 use Rattle.std.specs.List.{list_any}
 use Rattle.std.specs.Option.{option_map}
@@ -9,19 +9,20 @@ use Rattle.dir_tree.proofs.base_laws_proofs.Theorems.{find-map, list_any-map, fi
 use Rattle.dir_tree.specs.dn_names.name.Names.{RdnSequence}
 use Rattle.dir_tree.specs.dn_names.NameOrder.{is_same}
 use Rattle.dir_tree.specs.Entry.{EntryInformation}
-use Rattle.dir_tree.specs.tree.Trees.{is_named, named_in}
+use Rattle.dir_tree.specs.tree.Trees.{is_named, named_in, is_before}
 use Rattle.dir_tree.specs.tree.Numbered.{Numbered, IsNumberedTree, entries_of, entries_at, entry_of, find_name}
-use Rattle.dir_tree.specs.Scope.{scoped, in_scope, is_child, is_within}
+use Rattle.dir_tree.specs.Scope.{scoped, in_scope, scoped_after, in_scope_after, is_child, is_within}
 use Rattle.dir_tree.specs.declared.scope.Scope.{Scope}
 use Rattle.dir_tree.specs.declared.scope.Scope.TheVariants.{Base, One, Sub}
-use Rattle.dir_tree.proofs.TreeTheorems.{scoped-One-entries, scoped-Sub-entries, named-found, has_name-find, child_same}
+use Rattle.dir_tree.proofs.TreeTheorems.{entries_at-kept, scoped-One-entries, scoped-Sub-entries, named-found, has_name-find, child_same}
 use Rattle.acdf_filters.specs.declared.asking.Requester.{Requester}
 use Rattle.ldap_msg.specs.declared.kinds.SearchRequest.{SearchRequest}
 use Rattle.ldap_msg.specs.declared.kinds.Reply.TheVariants as reply
-use Rattle.read_model.specs.Views as views
-use Rattle.read_model.specs.Views.{Row, View, hidden}
-use Rattle.read_model.specs.SearchReplies.{found_replies, replies_at}
-use Rattle.read_model.specs.Selecting.{takes_in, is_shown, is_selected, selected}
+use Rattle.page_core.specs.read_model.Views as views
+use Rattle.page_core.specs.read_model.Views.{Row, View, hidden}
+use Rattle.page_core.specs.read_model.SearchReplies.{found_replies, replies_at}
+use Rattle.page_core.specs.read_model.Selecting.{takes_in, is_shown, is_selected, selected}
+use Rattle.page_core.specs.Starts.{is_after}
 use Rattle.directory.specs.Asking.{view_in}
 use Rattle.op_read.specs.Seeing.{row_in, one_or_none, scope_of}
 use Rattle.op_read.specs.Sending.{shown_among}
@@ -95,9 +96,87 @@ selected-among request subentries name id rows who tree found =
     (scope-entries request.scope id known.0 name rows tree known.1 (named-found name rows tree.distinct id found ∙ known.1))
     ∙ sym (filter-two (row_in rows who) (takes_in request.scope name) (λ row. takes_in request.scope name row.entry) (is_shown request subentries) (λ entry. refl) (entries_of rows))
 
+-- ---- behind a name
+
+-- of the entries that pass a test, those that pass another
+filter-filter : {A : Type 0} (p q r : A → Bool) → ((x : A) → r x ≡ (q x && p x)) → (xs : List A) → filter p (filter q xs) ≡ filter r xs
+filter-filter p q r is [] = refl
+filter-filter p q r is (x ∷ xs) = elim (cases_Bool (q x)) [
+  | inl e ↦ elim (cases_Bool (p x)) [
+    | inl g ↦ rw (is x, e, g) (ap (λ ys. x ∷ ys) (filter-filter p q r is xs))
+    | inr g ↦ rw (is x, e, g) (filter-filter p q r is xs)
+  ]
+  | inr e ↦ rw (is x, e) (filter-filter p q r is xs)
+]
+
+-- the entries of a scope behind a name are those that it takes in and that come after it
+base-behind : (id : ℕ) (entry : EntryInformation) (name after : RdnSequence) (rows : List Numbered) → IsNumberedTree rows → entry_of id rows ≡ Some entry → named_in name (entries_of rows) ≡ Some entry
+    → entries_at rows (scoped_after Base id after rows) ≡ filter (λ entry. is_named name entry && is_before after entry.name) (entries_of rows)
+base-behind id entry name after rows tree known named =
+    ap (λ (found : Option EntryInformation). entries_at rows (in_scope_after Base id found after rows)) known
+    ∙ single (cases_Bool (is_before after entry.name))
+    ∙ ap (λ (entries : List EntryInformation). filter (λ entry. is_before after entry.name) entries)
+    (sym (named-entries name (entries_of rows) tree.tree.sorted ∙ ap (one_or_none (λ entry. entry)) named))
+    ∙ filter-filter (λ entry. is_before after entry.name) (is_named name) (λ entry. is_named name entry && is_before after entry.name) (λ entry. refl) (entries_of rows)
+  where
+    single : ((is_before after entry.name ≡ true) ⊎ (is_before after entry.name ≡ false)) → entries_at rows (in_scope_after Base id (Some entry) after rows) ≡ filter (λ entry. is_before after entry.name) (entry ∷ [])
+    single (inl e) = rw (e, known) refl
+    single (inr e) = rw e refl
+
+behind-entries : (scope id : ℕ) (entry : EntryInformation) (name after : RdnSequence) (rows : List Numbered) → IsNumberedTree rows → entry_of id rows ≡ Some entry → named_in name (entries_of rows) ≡ Some entry
+    → entries_at rows (scoped_after (scope_of scope) id after rows) ≡ filter (λ entry. takes_in scope name entry && is_before after entry.name) (entries_of rows)
+behind-entries scope id entry name after rows tree known named = by (cases_Bool (scope == 0)) (cases_Bool (scope == 1))
+  where
+    same : is_same name entry.name ≡ true
+    same = find-passes (is_named name) (entries_of rows) entry named
+
+    by : (((scope == 0) ≡ true) ⊎ ((scope == 0) ≡ false)) → (((scope == 1) ≡ true) ⊎ ((scope == 1) ≡ false)) → entries_at rows (scoped_after (scope_of scope) id after rows) ≡ filter (λ entry. takes_in scope name entry && is_before after entry.name) (entries_of rows)
+    by (inl e) f =
+        let is : scope_of scope ≡ Base = rw e refl in
+        ap (λ (s : Scope). entries_at rows (scoped_after s id after rows)) is
+        ∙ base-behind id entry name after rows tree known named
+        ∙ sym (filter_agree (λ x. takes_in scope name x && is_before after x.name) (λ x. is_named name x && is_before after x.name)
+        (λ x. ap (λ takes. takes && is_before after x.name) (base-test scope name e x)) (entries_of rows))
+    by (inr e) (inl f) =
+        let is : scope_of scope ≡ One = rw (e, f) refl in
+        ap (λ (s : Scope). entries_at rows (scoped_after s id after rows)) is
+        ∙ ap (λ (found : Option EntryInformation). entries_at rows (in_scope_after One id found after rows)) known
+        ∙ entries_at-kept (λ x. is_child entry.name x && is_before after x.name) rows tree.distinct
+        ∙ sym (filter_agree (λ x. takes_in scope name x && is_before after x.name) (λ x. is_child entry.name x && is_before after x.name)
+        (λ x. ap (λ takes. takes && is_before after x.name) (one-test scope name e f x ∙ child_same name entry.name x same)) (entries_of rows))
+    by (inr e) (inr f) =
+        let is : scope_of scope ≡ Sub = rw (e, f) refl in
+        ap (λ (s : Scope). entries_at rows (scoped_after s id after rows)) is
+        ∙ ap (λ (found : Option EntryInformation). entries_at rows (in_scope_after Sub id found after rows)) known
+        ∙ entries_at-kept (λ x. is_within entry.name x && is_before after x.name) rows tree.distinct
+        ∙ sym (filter_agree (λ x. takes_in scope name x && is_before after x.name) (λ x. is_within entry.name x && is_before after x.name)
+        (λ x. ap (λ takes. takes && is_before after x.name) (sub-test scope name e f x ∙ within-like name entry.name same x)) (entries_of rows))
+
+-- three tests
+tests-three : (takes behind shown : Bool) → ((takes && behind) && shown) ≡ ((takes && shown) && behind)
+tests-three true true true = refl
+tests-three true true false = refl
+tests-three true false true = refl
+tests-three true false false = refl
+tests-three false behind shown = refl
+
+-- those that are selected and come after the name
+pub listed-among : (request : SearchRequest) (subentries : Option Bool) (name after : RdnSequence) (id : ℕ) (rows : List Numbered) (who : Requester) → IsNumberedTree rows → find_name name rows ≡ Some id
+    → shown_among (is_shown request subentries) rows who (scoped_after (scope_of request.scope) id after rows) ≡ filter (is_after after) (selected (view_in rows who) request subentries name)
+unfolding selected is_selected
+listed-among request subentries name after id rows who tree found =
+    let known = in-use rows tree name id found in
+    let takes = λ (entry : EntryInformation). takes_in request.scope name entry && is_before after entry.name in
+    among (λ id. entry_of id rows) (row_in rows who) (is_shown request subentries) (scoped_after (scope_of request.scope) id after rows)
+    ∙ ap (λ (entries : List EntryInformation). filter (is_shown request subentries) (map (row_in rows who) entries))
+    (behind-entries request.scope id known.0 name after rows tree known.1 (named-found name rows tree.distinct id found ∙ known.1))
+    ∙ sym (filter-two (row_in rows who) takes (λ row. takes row.entry) (is_shown request subentries) (λ entry. refl) (entries_of rows))
+    ∙ sym (filter-filter (is_after after) (λ row. takes_in request.scope name row.entry && is_shown request subentries row) (λ row. takes row.entry && is_shown request subentries row)
+    (λ row. tests-three (takes_in request.scope name row.entry) (is_before after row.entry.name) (is_shown request subentries row)) (view_in rows who))
+
 -- ---- a base that is a name
 
-named-rows : (rows : List Numbered) (who : Requester) (name : RdnSequence) → list_any (views.has_name name) (view_in rows who) ≡ is_some (find_name name rows)
+pub named-rows : (rows : List Numbered) (who : Requester) (name : RdnSequence) → list_any (views.has_name name) (view_in rows who) ≡ is_some (find_name name rows)
 named-rows rows who name = list_any-map (row_in rows who) (views.has_name name) (entries_of rows) ∙ has_name-find name rows
 
 pub replies-found : (rows : List Numbered) (who : Requester) (request : SearchRequest) (subentries : Option Bool) (name : RdnSequence) (id : ℕ) → find_name name rows ≡ Some id

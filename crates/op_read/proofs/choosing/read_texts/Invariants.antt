@@ -1,7 +1,7 @@
 -- The texts so far were read.
 use Rattle.std.proofs.Common.{◌≡◌, ℕ, take}
 use Rattle.std.specs.List.{list_any}
-use Rattle.read_model.specs.Choosing.{is_chosen_by}
+use Rattle.page_core.specs.read_model.Choosing.{is_chosen_by}
 use Rattle.op_read.specs.Choices.{chooses}
 use Rattle.op_read.proofs.choosing.read_texts.Given as goal
 

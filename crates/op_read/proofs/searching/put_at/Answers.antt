@@ -2,7 +2,7 @@
 use Rattle.std.proofs.Common.{◌∙◌, ◌++◌, List, ap}
 use Rattle.std.proofs.lemmas.Result.{on_ok_weaker}
 use Rattle.ldap_msg.specs.declared.kinds.Reply.{Reply}
-use Rattle.read_model.specs.SearchReplies.{replies_octets}
+use Rattle.page_core.specs.read_model.SearchReplies.{replies_octets}
 use Rattle.op_read.proofs.seen.SeenLemmas.{name-found, name-none}
 use Rattle.op_read.proofs.selecting.SelectingLemmas.{replies-found, replies-none}
 use Rattle.op_read.proofs.searching.put_at.Goals as goal

@@ -6,9 +6,9 @@ use Rattle.ldap_msg.specs.declared.kinds.LdapResult.{LdapResult}
 use Rattle.ldap_msg.specs.declared.kinds.Reply.{Reply}
 use Rattle.ldap_msg.specs.declared.kinds.Reply.TheVariants as reply
 use Rattle.ldap_msg.specs.declared.operations.ResultCode.TheVariants as code
-use Rattle.read_model.specs.Views.{result_of}
-use Rattle.read_model.specs.RootEntry.{finds_root, root_entry, root_replies}
-use Rattle.read_model.specs.SearchReplies.{replies_octets}
+use Rattle.page_core.specs.read_model.Views.{result_of}
+use Rattle.page_core.specs.read_model.RootEntry.{finds_root, root_entry, root_replies}
+use Rattle.page_core.specs.read_model.SearchReplies.{replies_octets}
 use Rattle.directory.specs.Asking.{view_in}
 use Rattle.op_read.proofs.searching.AnsweringLemmas.{root-elsewhere, root-here, replies-behind}
 use Rattle.op_read.proofs.searching.put_root_replies.Goals as goal

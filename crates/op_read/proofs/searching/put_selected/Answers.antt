@@ -1,13 +1,15 @@
 -- What was sent, and how the search ended.
-use Rattle.std.proofs.Common.{◌∙◌, ◌++◌, ◌∷◌, [], ap, subst}
+use Rattle.std.proofs.Common.{◌∙◌, ◌++◌, ◌∷◌, [], List, ℕ, ap, subst}
 use Rattle.std.proofs.lemmas.Result.{on_ok_weaker}
+use Rattle.dir_tree.specs.Scope.{scoped}
 use Rattle.ldap_msg.specs.declared.kinds.LdapResult.{LdapResult}
 use Rattle.ldap_msg.specs.declared.kinds.Reply.TheVariants as reply
-use Rattle.read_model.specs.Views.{View}
-use Rattle.read_model.specs.Selecting.{selected}
-use Rattle.read_model.specs.SearchReplies.{replies_octets}
+use Rattle.page_core.specs.read_model.Views.{View}
+use Rattle.page_core.specs.read_model.Selecting.{selected, is_shown}
+use Rattle.page_core.specs.read_model.SearchReplies.{replies_octets}
 use Rattle.directory.specs.Asking.{view_in}
-use Rattle.op_read.specs.Sending.{entry_octets, IsSent}
+use Rattle.op_read.specs.Seeing.{rows_at, scope_of}
+use Rattle.op_read.specs.Sending.{shown_among, entry_octets, IsSent}
 use Rattle.op_read.proofs.sending.SendingLemmas.{found-replies}
 use Rattle.op_read.proofs.selecting.SelectingLemmas.{selected-among}
 use Rattle.op_read.proofs.searching.put_selected.Goals as goal
@@ -20,11 +22,17 @@ returns-clause-ok g c =
     let request = search.request.now in
     let middle = c.put_found.new.out.items in
     let found = c.in_ok-found.found in
-    let sent = subst (λ (rows : View). IsSent request.size (entry_octets search.id request) rows c.args.out.now.items middle found)
-    (selected-among request search.subentries c.args.base.now c.args.number.0 rows who c.requires.tree c.requires.found) c.in_ok-found.ensures.ok in
+    let at = rows_at rows who in
+    let octets = entry_octets search.id request in
+    let test = is_shown request search.subentries in
+    let ids = scoped (scope_of request.scope) c.args.number.0 rows in
+    let walked = subst (λ (ids : List ℕ). IsSent at search.limit octets (shown_among test rows who ids) c.args.out.now.items middle found) c.walk_from-walk.ensures.exact c.in_ok-found.ensures.ok in
+    let limited = subst (λ (limit : ℕ). IsSent at limit octets (shown_among test rows who ids) c.args.out.now.items middle found) c.requires.limit walked in
+    let sent = subst (λ (rows : View). IsSent at request.size octets rows c.args.out.now.items middle found)
+    (selected-among request search.subentries c.args.base.now c.args.number.0 rows who c.requires.tree c.requires.found) limited in
     on_ok_weaker c.put_done.result
     (λ put.
-    found-replies search.id (view_in rows who) (selected (view_in rows who) request search.subentries c.args.base.now) request c.args.base.now c.args.out.now.items middle c.put_done.new.out.items found
+    found-replies at search.id (view_in rows who) (selected (view_in rows who) request search.subentries c.args.base.now) request c.args.base.now c.args.out.now.items middle c.put_done.new.out.items found
     sent
     (put ∙ ap (λ (ended : LdapResult). middle ++ replies_octets search.id (reply.Done ended ∷ [])) c.in_ok-ended.ensures.ok))
     c.put_done.ensures.ok

@@ -1,0 +1,4 @@
+pub mod StartLemmas
+pub mod PageLemmas
+pub mod CaseLemmas
+pub mod TwinLemmas
