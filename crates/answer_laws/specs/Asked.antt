@@ -1,6 +1,6 @@
 -- Messages with searches and compares that no control refuses, and the octets that answer them (RFC 4511 4.1.1, 4.1.11,
 -- 4.5 and 4.10).
-use Rattle.std.specs.Prelude.{◌≡◌, ℕ, Bool, false, List, [], ◌∷◌, Option, Some}
+use Rattle.std.specs.Prelude.{◌≡◌, ℕ, Bool, false, List, [], ◌∷◌, Option, Some, None}
 use Rattle.ldap_msg.specs.declared.operations.ResultCode.{ResultCode}
 use Rattle.ldap_msg.specs.declared.kinds.SearchRequest.{SearchRequest}
 use Rattle.ldap_msg.specs.declared.kinds.CompareRequest.{CompareRequest}
@@ -11,14 +11,16 @@ use Rattle.ldap_msg.specs.declared.kinds.Reply.TheVariants as reply
 use Rattle.read_model.specs.Views.{result_of}
 use Rattle.read_model.specs.SearchReplies.{replies_octets}
 use Rattle.answer_laws.specs.Complete.{EndsWith}
-use Rattle.session_hub.specs.Controls.{is_refused, subentries_asked}
+use Rattle.session_hub.specs.Controls.{is_refused, subentries_asked, page_asked}
 
--- the message asks for the search: no control of it is refused, and a control of subentries, if there is one, can be read
+-- the message asks for the search: no control of it is refused, a control of subentries, if there is one, can be read, and
+-- there is none of pages
 pub record AsksSearch (message : Message) (search : SearchRequest) : Type 0 where
   pub asks : message.request ≡ request.Search search
   pub accepted : is_refused message.request message.controls ≡ false
   pub subentries : Option Bool
   pub readable : subentries_asked message.controls ≡ Some subentries
+  pub whole : page_asked message.controls ≡ Some None
 
 -- the message asks for the compare: no control of it is refused
 pub record AsksCompare (message : Message) (compare : CompareRequest) : Type 0 where

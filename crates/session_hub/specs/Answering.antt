@@ -1,6 +1,6 @@
 -- How this server answers each message (RFC 4511 4.1.1, 4.2 to 4.12). The rules of sessions take this, and
 -- nothing else of them knows what is answered.
-use Rattle.std.specs.Prelude.{ℕ, Bool, true, false, List, [], ◌∷◌, Option, Some, None, if◌then◌else◌}
+use Rattle.std.specs.Prelude.{ℕ, Bool, true, false, List, [], ◌∷◌, ◌++◌, Option, Some, None, if◌then◌else◌}
 use Rattle.session_model.specs.ldap_msg.declared.kinds.BindRequest.{BindRequest}
 use Rattle.session_model.specs.ldap_msg.declared.kinds.SearchRequest.{SearchRequest}
 use Rattle.session_model.specs.ldap_msg.declared.kinds.Request.{Request}
@@ -16,6 +16,9 @@ use Rattle.session_model.specs.ldap_msg.reading.Messages.{message_of}
 use Rattle.session_model.specs.ldap_msg.Replies.{notice_octets}
 use Rattle.op_read.specs.read_model.Views.{View, view_of, result_of}
 use Rattle.op_read.specs.read_model.SearchReplies.{search_replies, replies_octets}
+use Rattle.op_read.specs.page_core.declared.page.Page.{Page}
+use Rattle.op_read.specs.page_core.Endings.{page_end}
+use Rattle.op_read.specs.page_core.Pages.{Paged, unpaged, ended, page_replies}
 use Rattle.op_read.specs.read_model.CompareReplies.{compare_result}
 use Rattle.op_bind.specs.Binds.{bind_answer}
 use Rattle.change_laws.specs.op_add_delete.adding.Updates.{Changed, unless, added, deleted}
@@ -23,8 +26,9 @@ use Rattle.change_laws.specs.op_modify.Modifying.{modified}
 use Rattle.change_laws.specs.op_modify.Renames.{renamed}
 use Rattle.session_model.specs.Rules.{Rules, Answered}
 use Rattle.session_hub.specs.Parties.{DirectoryEntries, Requester, nobody}
-use Rattle.session_hub.specs.Controls.{is_refused, subentries_asked}
+use Rattle.session_hub.specs.Controls.{is_refused, subentries_asked, page_asked}
 use Rattle.session_hub.specs.Limiting.{limited_read}
+use Rattle.session_hub.specs.WhoAmI.{extended_replies}
 
 -- a result as the response to a request; none to an unbind or an abandon
 abbrev pub response_to : Request → LdapResult → Option Reply
@@ -61,25 +65,34 @@ asking who (request.Compare compare) = who
 asking who (request.Abandon id) = who
 asking who (request.Extended name value) = who
 
--- a search, by what its controls of subentries ask for: protocolError where they can't be read
-abbrev pub searched : View → SearchRequest → Option (Option Bool) → List Reply
-searched view search None = reply.Done (result_of code.ProtocolError) ∷ []
-searched view search (Some subentries) = search_replies view search subentries
+-- a search, by what its controls of subentries and of pages ask for: protocolError where either can't be read
+abbrev pub searched : View → SearchRequest → Option (Option Bool) → Option (Option Page) → Paged
+searched view search None page = ended code.ProtocolError
+searched view search (Some subentries) None = ended code.ProtocolError
+searched view search (Some subentries) (Some None) = unpaged (search_replies view search subentries)
+searched view search (Some subentries) (Some (Some page)) = page_replies view search subentries page
 
--- what an operation comes to: the replies, the entries that it leaves, and who the requester is from then on
+-- what an operation comes to: the replies, the cookie of a page that ends them, the entries that it leaves, and who the
+-- requester is from then on
 pub record Operated : Type 0 where
   pub replies : List Reply
+  pub cookie : Option (List ℕ)
   pub entries : DirectoryEntries
   pub who : Requester
 
 -- these replies, and the entries and the requester stay
 abbrev pub replying : DirectoryEntries → Requester → List Reply → Operated
-replying entries who replies = record { replies = replies; entries = entries; who = who }
+replying entries who replies = record { replies = replies; cookie = None; entries = entries; who = who }
+
+-- the same of the replies of a page
+abbrev pub paging : DirectoryEntries → Requester → Paged → Operated
+paging entries who paged = record { replies = paged.replies; cookie = paged.cookie; entries = entries; who = who }
 
 -- a bind over the entries
 abbrev pub bound : DirectoryEntries → BindRequest → Operated
 bound entries bind = record {
   replies = reply.Bind (result_of (bind_answer entries bind).code) ∷ [];
+  cookie = None;
   entries = entries;
   who = (bind_answer entries bind).who;
 }
@@ -92,7 +105,7 @@ change_result (Some refusal) = refusal
 -- a change of the entries that a request asks for
 abbrev pub changing : Requester → Request → Changed → Operated
 changing who asked changed =
-    record { replies = replies_in (response_to asked (change_result changed.refusal)); entries = changed.entries; who = who }
+    record { replies = replies_in (response_to asked (change_result changed.refusal)); cookie = None; entries = changed.entries; who = who }
 
 -- the change that a request asks for; the entries stay where it asks for none
 abbrev pub change_of : DirectoryEntries → Requester → Request → Changed
@@ -108,12 +121,12 @@ change_of entries who (request.Abandon id) = unless None entries entries
 change_of entries who (request.Extended name value) = unless None entries entries
 
 -- an operation that no control refuses: a search and a compare read what the requester sees of the entries, a modify, an
--- add, a delete and a rename change them, and no extended operation is known
+-- add, a delete and a rename change them, and an extended operation may ask who the requester is
 abbrev pub operated : DirectoryEntries → Requester → List Control → Request → Operated
 operated entries who controls (request.Bind bind) = bound entries bind
 operated entries who controls request.Unbind = replying entries who []
 operated entries who controls (request.Search search) =
-    replying entries who (searched (view_of entries who) search (subentries_asked controls))
+    paging entries who (searched (view_of entries who) search (subentries_asked controls) (page_asked controls))
 operated entries who controls (request.Modify modify) = changing who (request.Modify modify) (modified entries who modify)
 operated entries who controls (request.Add add) = changing who (request.Add add) (added entries who add)
 operated entries who controls (request.Delete delete) = changing who (request.Delete delete) (deleted entries who delete)
@@ -121,8 +134,7 @@ operated entries who controls (request.Rename rename) = changing who (request.Re
 operated entries who controls (request.Compare compare) =
     replying entries who (reply.Compare (compare_result (view_of entries who) compare) ∷ [])
 operated entries who controls (request.Abandon id) = replying entries who []
-operated entries who controls (request.Extended name value) =
-    replying entries who (ended_with code.ProtocolError (request.Extended name value))
+operated entries who controls (request.Extended name value) = replying entries who (extended_replies who name value)
 
 -- an operation that a control refuses, for this requester
 abbrev pub refused : DirectoryEntries → Requester → Request → Operated
@@ -146,13 +158,22 @@ is_unbind (request.Compare compare) = false
 is_unbind (request.Abandon id) = false
 is_unbind (request.Extended name value) = false
 
+-- the written octets of replies to the message of this number, and of the end of a page behind them, if there is one
+abbrev pub sent_octets : ℕ → List Reply → Option (List ℕ) → List ℕ
+sent_octets id replies None = replies_octets id replies
+sent_octets id replies (Some cookie) = replies_octets id replies ++ page_end id cookie
+
+-- those of what is answered page by page
+abbrev pub answer_octets : ℕ → Paged → List ℕ
+answer_octets id paged = sent_octets id paged.replies paged.cookie
+
 -- the answer to a message, or to octets that are none, which get the notice of disconnection and close
 abbrev pub answer_read : DirectoryEntries → Requester → Option Message → Answered DirectoryEntries Requester
 answer_read entries who None = record { replies = notice_octets; tree = entries; who = who; closes = true }
 answer_read entries who (Some message) =
     let came = answered entries who message.controls message.request in
     record {
-      replies = replies_octets message.id came.replies;
+      replies = sent_octets message.id came.replies came.cookie;
       tree = came.entries;
       who = came.who;
       closes = is_unbind message.request;

@@ -8,8 +8,7 @@ use Rattle.session_hub.specs.Parties.{DirectoryEntries, Requester}
 use Rattle.session_hub.specs.declared.spoken.Spoken.{Spoken}
 use Rattle.session_hub.specs.declared.spoken.SpeechEnd.{SpeechEnd}
 use Rattle.session_hub.specs.declared.spoken.SpeechEnd.TheVariants.{StaysOpen, Closes, IsCut, IsFull}
-use Rattle.op_read.specs.read_model.SearchReplies.{replies_octets}
-use Rattle.session_hub.specs.Answering.{rules, Operated}
+use Rattle.session_hub.specs.Answering.{rules, Operated, sent_octets}
 use Rattle.session_hub.specs.Rooms.{HasRoom, queued_after}
 
 -- the octets sent, the entries and the requester left, and whether the connection closes are those of the answer
@@ -22,7 +21,7 @@ pub record Gives (answered : Answered DirectoryEntries Requester) (old new : Lis
 -- what was sent is the replies of an operation to the message of this number, and the entries and the requester are those
 -- that it leaves
 pub record Sends (id : ℕ) (came : Operated) (old new : List ℕ) (entries : DirectoryEntries) (who : Requester) : Type 0 where
-  pub said : new ≡ old ++ replies_octets id came.replies
+  pub said : new ≡ old ++ sent_octets id came.replies came.cookie
   pub left : entries ≡ came.entries
   pub asker : who ≡ came.who
 

@@ -6,7 +6,8 @@ use Rattle.session_hub.specs.Parties.{Requester}
 use Rattle.session_hub.specs.declared.event.Event.{Event}
 use Rattle.session_hub.specs.declared.event.Event.TheVariants as event
 
--- an event as a step of its session, with the cut of its octets
+-- an event as a step of its session, with the cut of its octets: a hub cuts where there is no memory for an answer, and where
+-- more waits for the connection than it has room for
 abbrev pub step_of : Event → Option ℕ → Step
 step_of (event.Opened number) cut = Opened number
 step_of (event.Bytes number octets) cut = Bytes number octets.now cut

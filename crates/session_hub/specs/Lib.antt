@@ -2,6 +2,7 @@
 pub mod Parties
 pub mod Controls
 pub mod Limiting
+pub mod WhoAmI
 pub mod Answering
 pub mod Rooms
 pub mod connection

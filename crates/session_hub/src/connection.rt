@@ -4,7 +4,7 @@ ghost use Rattle.std.specs.Prelude.{◌≡◌, ◌≤◌, ◌+◌, ℕ, [], leng
 ghost use Rattle.dir_tree.specs.tree.Numbered.{entries_of};
 ghost use Rattle.session_model.specs.Kept.{closed, without_front, opened_kept};
 ghost use Rattle.session_hub.specs.Answering.{rules};
-ghost use Rattle.session_hub.specs.Answers.{closes_at, cut_at};
+ghost use Rattle.session_hub.specs.Answers.{Speaks, closes_at, cut_at};
 ghost use Rattle.session_hub.specs.Rooms.{StaysWithin};
 ghost use Rattle.session_hub.specs.connection.Connections.{HearsPiece, KeepsRest};
 ghost use Rattle.session_hub.specs.connection.Limits.{most_unread};
@@ -103,7 +103,7 @@ impl Connection {
     pub fn end(&mut self)
         ensures { self.new ≡ closed self.old }
     {
-        self.rest.clear();
+        discard(&mut self.rest);
         self.closing = true;
     }
 
@@ -135,7 +135,7 @@ impl Connection {
             limit: allowed.limit,
             room: room_behind(allowed.room, self.taken),
         };
-        let spoken = speak(alloc, dir, &mut self.who, piece, inside, &mut self.out);
+        let spoken = speak_and_fit(alloc, dir, &mut self.who, piece, inside, &mut self.out);
         let end = keep_unread(&mut self.rest, piece, spoken);
         self.closing = closes(end);
         self.cut = cut_behind(end, spoken.answered);
@@ -150,7 +150,7 @@ impl Connection {
     {
         match self.rest.extend_from_slice(piece) {
             Err(_) => {
-                self.rest.clear();
+                discard(&mut self.rest);
                 self.closing = true;
                 self.cut = Some(0);
             }
@@ -159,7 +159,14 @@ impl Connection {
                     limit: allowed.limit,
                     room: room_behind(allowed.room, self.taken),
                 };
-                let spoken = speak(alloc, dir, &mut self.who, &self.rest, inside, &mut self.out);
+                let spoken = speak_and_fit(
+                    alloc,
+                    dir,
+                    &mut self.who,
+                    &self.rest,
+                    inside,
+                    &mut self.out,
+                );
                 let end = leave_unread(&mut self.rest, spoken);
                 self.closing = closes(end);
                 self.cut = cut_behind(end, spoken.answered);
@@ -175,15 +182,47 @@ fn room_behind(room: usize, taken: usize) -> usize
     room.saturating_add(taken)
 }
 
-/// Whether a buffer of this length, of which so many octets were taken, gives their room back: where all were, or at least
-/// half of it and more than a buffer may keep.
+/// Answers a stream, as `speak` does, and leaves the queue no more room than it needs.
+fn speak_and_fit<D: Dir>(
+    alloc: Global,
+    dir: &mut D,
+    who: &mut Requester,
+    stream: &[u8],
+    allowed: Allowance,
+    out: &mut Vec<u8>,
+) -> Spoken
+    ensures { Speaks allowed.limit allowed.room (entries_of (D.rows dir.old)) who.old stream.now
+        out.old.items out.new.items (entries_of (D.rows dir.new)) who.new result }
+{
+    let spoken = speak(alloc, dir, who, stream, allowed, out);
+    fit(out);
+    spoken
+}
+
+/// Whether a buffer of this length, of which so many octets were taken, gives their room back: where all were, or a quarter
+/// as many as are left and more than a buffer may keep.
 fn is_spent(taken: usize, length: usize) -> bool
     requires { taken ≤ length }
 {
-    taken == length || (taken > MOST_SPARE && taken >= length - taken)
+    taken == length || (taken > MOST_SPARE && taken >= (length - taken) / 4)
 }
 
-/// Takes the first octets away, and gives back what room the buffer needs no more.
+/// Whether a buffer of this length has much more room than it needs: a quarter more, and more than a buffer may keep.
+fn is_loose(room: usize, length: usize) -> bool {
+    room > MOST_SPARE && room.saturating_sub(length) >= length / 4
+}
+
+/// Gives back most of the room that a buffer doesn't need. An eighth stays, so that what is appended next is seldom copied.
+fn fit(octets: &mut Vec<u8>)
+    ensures { octets.new.items ≡ octets.old.items }
+{
+    let length = octets.len();
+    if is_loose(octets.capacity(), length) {
+        octets.shrink_to(MOST_SPARE.max(length.saturating_add(length / 8)));
+    }
+}
+
+/// Takes the first octets away, without memory, and gives back what room the buffer needs no more.
 fn give_back(octets: &mut Vec<u8>, count: usize)
     requires { count ≤ vec_len octets.old }
     ensures { octets.new.items ≡ drop count octets.old.items }
@@ -191,7 +230,15 @@ fn give_back(octets: &mut Vec<u8>, count: usize)
     let left = octets.len() - count;
     octets.copy_within(count.., 0);
     octets.truncate(left);
-    octets.shrink_to(MOST_SPARE);
+    fit(octets);
+}
+
+/// Drops all octets and their room.
+fn discard(octets: &mut Vec<u8>)
+    ensures items { octets.new.items ≡ [] }
+{
+    octets.clear();
+    octets.shrink_to(0);
 }
 
 fn closes(end: SpeechEnd) -> bool
@@ -236,23 +283,17 @@ fn leave_unread(rest: &mut Vec<u8>, spoken: Spoken) -> SpeechEnd
 {
     match spoken.end {
         SpeechEnd::StaysOpen => cut_front(rest, spoken.read),
-        SpeechEnd::Closes | SpeechEnd::IsCut | SpeechEnd::IsFull => rest.clear(),
+        SpeechEnd::Closes | SpeechEnd::IsCut | SpeechEnd::IsFull => discard(rest),
     }
     spoken.end
 }
 
-/// Takes the first octets away, without memory, and gives back what an emptied buffer needs no more.
+/// Takes the first octets away, if there are any to take.
 fn cut_front(octets: &mut Vec<u8>, count: usize)
     requires { count ≤ vec_len octets.old }
     ensures { octets.new.items ≡ drop count octets.old.items }
 {
-    if count == 0 {
-        return;
-    }
-    let left = octets.len() - count;
-    octets.copy_within(count.., 0);
-    octets.truncate(left);
-    if left == 0 {
-        octets.shrink_to(MOST_SPARE);
+    if count > 0 {
+        give_back(octets, count);
     }
 }

@@ -9,6 +9,6 @@ pub enum Ended {
     TurnsSpent,
     /// The link failed to give an event, which its count of faults shows.
     LinkFault,
-    /// There was no memory, or a connection was cut.
+    /// There was no memory, or a connection was cut, for want of memory or since more waited for it than it has room for.
     NoMemory,
 }

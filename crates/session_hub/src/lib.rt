@@ -10,6 +10,7 @@ mod connection;
 mod controls;
 mod ended;
 mod event;
+mod extended;
 mod hub;
 pub mod laws;
 mod messages;

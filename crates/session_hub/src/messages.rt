@@ -10,14 +10,16 @@ ghost use Rattle.op_read.specs.read_model.CompareReplies.{compare_result};
 ghost use Rattle.session_model.specs.ldap_msg.declared.kinds.Reply.TheVariants as reply;
 ghost use Rattle.change_laws.specs.op_add_delete.adding.Updates.{IsChanged};
 ghost use Rattle.session_hub.specs.Parties.{DirectoryEntries, Requester};
-ghost use Rattle.session_hub.specs.Controls.{subentries_asked};
-ghost use Rattle.session_hub.specs.Answering.{rules, response_to as response_of, replies_in, ended_with, asking, searched, change_of, changing, operated, answered, is_unbind, answer_read};
+ghost use Rattle.op_read.specs.page_core.Pages.{ended as unread};
+ghost use Rattle.session_hub.specs.Controls.{subentries_asked, page_asked};
+ghost use Rattle.session_hub.specs.Answering.{rules, response_to as response_of, replies_in, ended_with, asking, searched, answer_octets, change_of, changing, operated, answered, is_unbind, answer_read};
 ghost use Rattle.session_hub.specs.Answers.{Gives, Sends};
 ghost use Rattle.session_hub.specs.Limiting.{limited_message, lesser_limit};
 
 use crate::allowance::Allowance;
 use crate::binds::{answer_bind, answer_simple_bind};
-use crate::controls::{is_refused, subentries_asked};
+use crate::controls::{is_refused, page_asked, subentries_asked};
+use crate::extended::answer_extended;
 use crate::requester::anonymous;
 use crate::results::result_of;
 use crate::simple::simple_bind;
@@ -26,7 +28,7 @@ use change_laws::op_add_delete::{add, delete};
 use change_laws::op_modify::{modify, rename};
 use op_read::acdf_filters::Requester;
 use op_read::directory::Dir;
-use op_read::{compare, search};
+use op_read::{compare, search, search_page};
 use session_model::ldap_msg::{
     CompareRequest, Frame, LdapResult, Message, ReadFault, Reply, Request, ResultCode,
     SearchRequest, put_notice, put_reply, read_request,
@@ -100,8 +102,45 @@ fn begin_asking(who: &mut Requester, request: &Request)
     }
 }
 
-/// Appends the replies to a search, with what its controls of subentries ask for. The error comes for want of memory, or
-/// where `out` is past the room and entries are left.
+/// Appends that a search's controls can't be read.
+fn put_unread(alloc: Global, id: u32, out: &mut Vec<u8>) -> Result<(), AllocError>
+    ensures ok { OnOk result (out.new.items ≡ out.old.items ++ answer_octets id (unread code.ProtocolError)) }
+    ensures err { OnErr result (out.new.items ≡ out.old.items) }
+{
+    let ended = result_of(alloc, ResultCode::ProtocolError);
+    put_reply(out, id, &Reply::Done(ended))
+}
+
+/// Appends the replies to a search, or to the page of it that its controls ask for, among subentries or others.
+fn put_asked<D: Dir>(
+    alloc: Global,
+    dir: &D,
+    who: &Requester,
+    message: &Message,
+    request: &SearchRequest,
+    subentries: Option<bool>,
+    room: usize,
+    out: &mut Vec<u8>,
+) -> Result<(), AllocError>
+    ensures ok { OnOk result (out.new.items ≡ out.old.items ++ answer_octets message.now.id
+        (searched (view_of (entries_of (D.rows dir.now)) who.now) request.now (Some subentries)
+        (page_asked message.now.controls))) }
+    ensures err { OnErr result (out.new.items ≡ out.old.items) }
+{
+    match page_asked(alloc, message.controls.as_slice()) {
+        Ok(None) => search(alloc, dir, who, message.id, request, subentries, room, out),
+        Ok(Some(page)) => {
+            search_page(
+                alloc, dir, who, message.id, request, subentries, &page, room, out,
+            )
+        }
+        Err(ReadFault::NoMemory) => Err(AllocError),
+        Err(ReadFault::BadMessage) => put_unread(alloc, message.id, out),
+    }
+}
+
+/// Appends the replies to a search, with what its controls ask for. The error comes for want of memory, or where `out` is
+/// past the room and entries are left.
 #[inline(never)] // what it needs is not to be cleared for each bind
 fn put_search<D: Dir>(
     alloc: Global,
@@ -112,18 +151,15 @@ fn put_search<D: Dir>(
     room: usize,
     out: &mut Vec<u8>,
 ) -> Result<(), AllocError>
-    ensures ok { OnOk result (out.new.items ≡ out.old.items ++ replies_octets message.now.id
+    ensures ok { OnOk result (out.new.items ≡ out.old.items ++ answer_octets message.now.id
         (searched (view_of (entries_of (D.rows dir.now)) who.now) request.now
-        (subentries_asked message.now.controls))) }
+        (subentries_asked message.now.controls) (page_asked message.now.controls))) }
     ensures err { OnErr result (out.new.items ≡ out.old.items) }
 {
     match subentries_asked(message.controls.as_slice()) {
-        Ok(subentries) => { search(alloc, dir, who, message.id, request, subentries, room, out) },
+        Ok(subentries) => { put_asked(alloc, dir, who, message, request, subentries, room, out) }
         Err(ReadFault::NoMemory) => Err(AllocError),
-        Err(ReadFault::BadMessage) => {
-            let ended = result_of(alloc, ResultCode::ProtocolError);
-            put_reply(out, message.id, &Reply::Done(ended))
-        }
+        Err(ReadFault::BadMessage) => put_unread(alloc, message.id, out),
     }
 }
 
@@ -224,7 +260,9 @@ fn operate<D: Dir>(
         Request::Search(search) => put_search(alloc, dir, who, message, search, room, out),
         Request::Compare(compare) => put_compare(alloc, dir, who, message.id, compare, out),
         Request::Unbind | Request::Abandon(_) => Ok(()),
-        Request::Extended(_, _) => put_ended(alloc, message, ResultCode::ProtocolError, out),
+        Request::Extended(name, value) => {
+            answer_extended(alloc, who, message.id, name, value, out)
+        }
         Request::Modify(_) | Request::Add(_) | Request::Delete(_) | Request::Rename(_) => {
             put_change(alloc, dir, who, message, out)
         }

@@ -10,6 +10,8 @@ mod loops;
 #[cfg(test)]
 mod messages;
 #[cfg(test)]
+mod pages;
+#[cfg(test)]
 mod slow;
 #[cfg(test)]
 mod updates;

@@ -24,6 +24,9 @@ use Rattle.op_bind.specs.Binds.{bind_answer}
 use Rattle.op_bind.proofs.Theorems.{bind_answer-without}
 use Rattle.op_read.specs.twin_laws.Twins.{AreTwins}
 use Rattle.op_read.proofs.twin_laws_proofs.Theorems.{search_replies-twins, compare_result-twins}
+use Rattle.op_read.specs.page_core.declared.page.Page.{Page}
+use Rattle.op_read.specs.page_core.Pages.{Paged, unpaged}
+use Rattle.page_laws.proofs.Theorems.{page_replies-twins}
 use Rattle.session_model.specs.Run.{Step, start, run}
 use Rattle.session_model.specs.Kept.{Held, heard}
 use Rattle.session_model.specs.Replaying.{replayed}
@@ -31,9 +34,9 @@ use Rattle.session_model.specs.AnsweredMessages.{AnsweredMessage, AreAlike, AreO
 use Rattle.session_model.specs.Purging.{purged, openings, finds_room, answered_of_connection}
 use Rattle.session_model.proofs.Theorems.{heard-alike, run-alike, replayed-alike, run-purged}
 use Rattle.session_hub.specs.Parties.{DirectoryEntries, Requester}
-use Rattle.session_hub.specs.Controls.{is_refused, subentries_asked}
+use Rattle.session_hub.specs.Controls.{is_refused, subentries_asked, page_asked}
 use Rattle.session_hub.specs.Limiting.{limited_request, limited_read}
-use Rattle.session_hub.specs.Answering.{rules, searched, answer_read}
+use Rattle.session_hub.specs.Answering.{rules, searched, answer_octets, answer_read}
 use Rattle.session_hub.specs.declared.event.Event.{Event}
 use Rattle.session_hub.specs.Event.{step_by}
 use Rattle.session_hub.specs.hub.Hubs.{Hears}
@@ -56,9 +59,12 @@ module _ (who : Requester) (one other : DirectoryEntries) (top : RdnSequence) (t
       let outside = outside_of top (read_name bind.name) h in
       sym (bind_answer-without top one bind outside) ∙ ap (λ entries. bind_answer entries bind) twins.same ∙ bind_answer-without top other bind outside
 
-  searched-twins : (search : SearchRequest) (asked : Option (Option Bool)) → searched (view_of one who) search asked ≡ searched (view_of other who) search asked
-  searched-twins search None = refl
-  searched-twins search (Some subentries) = search_replies-twins who one other top twins search subentries
+  searched-twins : (search : SearchRequest) (asked : Option (Option Bool)) (page : Option (Option Page))
+      → searched (view_of one who) search asked page ≡ searched (view_of other who) search asked page
+  searched-twins search None page = refl
+  searched-twins search (Some subentries) None = refl
+  searched-twins search (Some subentries) (Some None) = ap unpaged (search_replies-twins who one other top twins search subentries)
+  searched-twins search (Some subentries) (Some (Some page)) = page_replies-twins who one other top twins search subentries page
 
   -- by the request, and by whether a control refuses it
   request-alike : (id : ℕ) (controls : List Control) (asked : Request) → reads_outside top asked ≡ true
@@ -80,7 +86,7 @@ module _ (who : Requester) (one other : DirectoryEntries) (top : RdnSequence) (t
   request-alike id controls (request.Search search) h = elim (cases_Bool (is_refused (request.Search search) controls)) [
     | inl e ↦ rw e (record { replies = refl; who = refl; closes = refl; one_stays = refl; other_stays = refl })
     | inr e ↦ rw e (record {
-      replies = ap (replies_octets id) (searched-twins search (subentries_asked controls));
+      replies = ap (λ (paged : Paged). answer_octets id paged) (searched-twins search (subentries_asked controls) (page_asked controls));
       who = refl;
       closes = refl;
       one_stays = refl;

@@ -1,9 +1,10 @@
 -- What a server's limit on searches keeps, and how many entries a search then sends.
-use Rattle.std.proofs.Common.{◌≡◌, ◌≤◌, ◌<◌, ℕ, ◌==◌, Bool, true, false, List, [], ◌∷◌, ◌++◌, length, map, Option, Some, None, Result, Ok, Err, if◌then◌else◌, refl, ap, arith, length-take}
+use Rattle.std.proofs.Common.{◌≡◌, ◌≤◌, ◌<◌, ℕ, ◌==◌, Bool, true, false, List, [], ◌∷◌, ◌++◌, length, map, take, filter, Option, Some, None, Result, Ok, Err, if◌then◌else◌, inl, inr, refl, ap, sym, ◌∙◌, true≢false, arith, length-take}
 use Rattle.std.proofs.lemmas.Bool.Decides.{nat_tests}
+use Rattle.std.proofs.lemmas.Bool.{cases_Bool}
 use Rattle.std.proofs.lemmas.List.{length-map}
 use Rattle.std.specs.List.{list_any}
-use Rattle.dir_tree.specs.dn_names.name.Names.{RdnSequence}
+use Rattle.dir_tree.specs.dn_names.name.Names.{RdnSequence, TypeAndValue}
 use Rattle.dir_tree.specs.dn_names.parsing.NameText.{read_name}
 use Rattle.dir_tree.specs.dn_names.declared.error.BadName.{BadName}
 use Rattle.session_model.specs.ldap_msg.declared.kinds.SearchRequest.{SearchRequest}
@@ -20,8 +21,11 @@ use Rattle.op_read.specs.read_model.Selecting.{selected}
 use Rattle.op_read.specs.read_model.Choosing.{sent_entry}
 use Rattle.op_read.specs.read_model.RootEntry.{finds_root, root_entry, root_replies}
 use Rattle.op_read.specs.read_model.SearchReplies.{within_limit, limit_code, found_replies, replies_at, replies_by, search_replies}
+use Rattle.op_read.specs.page_core.declared.page.Page.{Page}
+use Rattle.op_read.specs.page_core.Starts.{start_of, is_after}
+use Rattle.op_read.specs.page_core.Pages.{page_of_rows, unlimited, is_success, page_after, page_from, page_by, fits_page, page_replies}
 use Rattle.session_hub.specs.Parties.{DirectoryEntries, Requester}
-use Rattle.session_hub.specs.Controls.{is_refused, subentries_asked}
+use Rattle.session_hub.specs.Controls.{is_refused, subentries_asked, page_asked}
 use Rattle.session_hub.specs.Answering.{Operated, searched, refused, operated, answered}
 use Rattle.session_hub.specs.Limiting.{lesser_limit, limited, limited_request, limited_message, IsWithin, IsLimitedTo, KeepsAsked, entries_among}
 
@@ -119,9 +123,89 @@ search_sends : (view : View) (asked : SearchRequest) (subentries : Option Bool) 
 unfolding search_replies
 search_sends view asked subentries some = by_sends view asked subentries (read_name asked.base) some
 
-searched_sends : (view : View) (asked : SearchRequest) (subentries : Option (Option Bool)) → 0 < asked.size → entries_among (searched view asked subentries) ≤ asked.size
-searched_sends view asked None some = omega arith
-searched_sends view asked (Some subentries) some = search_sends view asked subentries some
+-- a page has at most so many rows
+page_sends : (asked : SearchRequest) (size : ℕ) (rows : View) → size ≤ asked.size → entries_among (page_of_rows asked size rows).replies ≤ asked.size
+page_sends asked size rows small =
+    let sent = map (sent_entry asked.selection asked.kinds_only) (take size rows) in
+    let few : entries_among sent ≤ length sent = entries-le sent in
+    let same : length sent ≡ length (take size rows) = length-map (take size rows) (sent_entry asked.selection asked.kinds_only) in
+    let all : length (take size rows) ≤ size = grind (arith, nat_tests, length-take size rows) in
+    omega arith
+
+-- of two lists one, of which both meet a fact
+either_list : (P : List Reply → Type 0) (first : Bool) (xs ys : List Reply) → P xs → P ys → P (if first then xs else ys)
+either_list P true xs ys one other = one
+either_list P false xs ys one other = other
+
+-- replies that end with success, or that send no entry: where one is found and there is no limit a search succeeds
+abbrev SendsOrNone : List Reply → Type 0
+SendsOrNone replies = list_any is_success replies ≡ false → entries_among replies ≡ 0
+
+success-last : (sent : List Reply) → list_any is_success (sent ++ reply.Done (result_of code.Success) ∷ []) ≡ true
+success-last [] = refl
+success-last (first ∷ rest) = let last = success-last rest in grind (arith, last)
+
+found_none : (view : View) (asked : SearchRequest) (base : RdnSequence) (rows : View) → SendsOrNone (found_replies view (unlimited asked) base rows)
+unfolding found_replies
+found_none view asked base [] fails = refl
+found_none view asked base (first ∷ rest) fails =
+    absurd (true≢false (sym (success-last (map (sent_entry asked.selection asked.kinds_only) (first ∷ rest))) ∙ fails))
+
+at_none : (view : View) (asked : SearchRequest) (subentries : Option Bool) (base : RdnSequence) → SendsOrNone (replies_at view (unlimited asked) subentries base)
+unfolding replies_at
+at_none view asked subentries base =
+    either_list SendsOrNone (list_any (has_name base) view) (found_replies view (unlimited asked) base (selected view (unlimited asked) subentries base))
+    (reply.Done (hidden view base) ∷ []) (found_none view asked base (selected view (unlimited asked) subentries base)) (λ fails. refl)
+
+-- a page of a named base
+named_none : (view : View) (asked : SearchRequest) (subentries : Option Bool) (rdn : List TypeAndValue) (rdns : RdnSequence) → read_name asked.base ≡ Ok (rdn ∷ rdns)
+    → SendsOrNone (search_replies view (unlimited asked) subentries)
+unfolding search_replies
+named_none view asked subentries rdn rdns is = rw is (at_none view asked subentries (rdn ∷ rdns))
+
+after_sends : (view : View) (asked : SearchRequest) (subentries : Option Bool) (base : RdnSequence) (size : ℕ) (after : RdnSequence) → size ≤ asked.size
+    → SendsOrNone (search_replies view (unlimited asked) subentries) → entries_among (page_after view asked subentries base size after).replies ≤ asked.size
+unfolding page_after
+after_sends view asked subentries base size after small none =
+    elim (cases_Bool (list_any is_success (search_replies view (unlimited asked) subentries))) [
+      | inl e ↦ rw e (page_sends asked size (filter (is_after after) (selected view asked subentries base)) small)
+      | inr e ↦ rw e (let zero = none e in omega arith)
+    ]
+
+from_sends : (view : View) (asked : SearchRequest) (subentries : Option Bool) (base : RdnSequence) (size : ℕ) (start : Option RdnSequence) → size ≤ asked.size
+    → SendsOrNone (search_replies view (unlimited asked) subentries) → entries_among (page_from view asked subentries base size start).replies ≤ asked.size
+from_sends view asked subentries base size None small none = omega arith
+from_sends view asked subentries base size (Some after) small none =
+    elim (cases_Bool (size == 0)) [
+      | inl e ↦ rw e (omega arith)
+      | inr e ↦ rw e (after_sends view asked subentries base size after small none)
+    ]
+
+by_pages : (view : View) (asked : SearchRequest) (subentries : Option Bool) (page : Page) (base : Result RdnSequence BadName) → read_name asked.base ≡ base → 0 < asked.size
+    → page.size ≤ asked.size → entries_among (page_by view asked subentries page base).replies ≤ asked.size
+by_pages view asked subentries page (Err bad) is some small = omega arith
+by_pages view asked subentries page (Ok []) is some small = search_sends view asked subentries some
+by_pages view asked subentries page (Ok (rdn ∷ rdns)) is some small =
+    from_sends view asked subentries (rdn ∷ rdns) page.size (start_of page.cookie) small (named_none view asked subentries rdn rdns is)
+
+page_replies_sends : (view : View) (asked : SearchRequest) (subentries : Option Bool) (page : Page) → 0 < asked.size
+    → entries_among (page_replies view asked subentries page).replies ≤ asked.size
+unfolding page_replies
+page_replies_sends view asked subentries page some =
+    elim (cases_Bool (fits_page asked page.size)) [
+      | inl e ↦ rw e (search_sends view asked subentries some)
+      | inr e ↦ rw e (by_pages view asked subentries page (read_name asked.base) refl some (small_page asked page.size some e))
+    ]
+  where
+    small_page : (asked : SearchRequest) (size : ℕ) → 0 < asked.size → fits_page asked size ≡ false → size ≤ asked.size
+    small_page asked size some fits = grind (arith, nat_tests, some, fits)
+
+searched_sends : (view : View) (asked : SearchRequest) (subentries : Option (Option Bool)) (page : Option (Option Page)) → 0 < asked.size
+    → entries_among (searched view asked subentries page).replies ≤ asked.size
+searched_sends view asked None page some = omega arith
+searched_sends view asked (Some subentries) None some = omega arith
+searched_sends view asked (Some subentries) (Some None) some = search_sends view asked subentries some
+searched_sends view asked (Some subentries) (Some (Some page)) some = page_replies_sends view asked subentries page some
 
 -- a search that a control refuses sends none
 either_answers : (first : Bool) (a b : Operated) (n : ℕ) → entries_among a.replies ≤ n → entries_among b.replies ≤ n → entries_among (if first then a else b).replies ≤ n
@@ -133,6 +217,7 @@ pub limited_sends : (limit : ℕ) (entries : DirectoryEntries) (who : Requester)
 limited_sends limit entries who controls search some =
     let now = limited limit search in
     let within = lesser_within limit search.size some in
-    let few : entries_among (searched (view_of entries who) now (subentries_asked controls)) ≤ now.size = searched_sends (view_of entries who) now (subentries_asked controls) within.some in
+    let few : entries_among (searched (view_of entries who) now (subentries_asked controls) (page_asked controls)).replies ≤ now.size =
+    searched_sends (view_of entries who) now (subentries_asked controls) (page_asked controls) within.some in
     let size : now.size ≤ limit = within.within in
     either_answers (is_refused (request.Search now) controls) (refused entries who (request.Search now)) (operated entries who controls (request.Search now)) limit (omega arith) (omega arith)

@@ -1,5 +1,6 @@
 -- What is answered to octets, by the message that they are read as.
-use Rattle.std.proofs.Common.{◌≡◌, ◌⊎◌, ℕ, Bool, true, List, [], Option, None, Result, Ok, Err, IfOk, OnErr, Some, inl, inr, refl, true≢false, sym, ap, ◌∙◌, subst}
+use Rattle.std.proofs.Common.{◌≡◌, ◌⊎◌, ℕ, Bool, true, List, [], ◌++◌, Option, None, Result, Ok, Err, IfOk, OnOk, OnErr, Some, inl, inr, refl, true≢false, sym, ap, ◌∙◌, subst}
+use Rattle.std.proofs.lemmas.List.{append-nil}
 use Rattle.std.proofs.lemmas.Result.{IfOk-weaker}
 use Rattle.std.proofs.lemmas.Bool.{cases_Bool}
 use Rattle.session_model.specs.ldap_msg.declared.kinds.Control.{Control}
@@ -8,12 +9,18 @@ use Rattle.session_model.specs.ldap_msg.declared.kinds.Request.TheVariants as re
 use Rattle.session_model.specs.ldap_msg.declared.kinds.Message.{Message}
 use Rattle.session_model.specs.ldap_msg.Replies.{notice_octets}
 use Rattle.op_read.specs.read_model.SearchReplies.{replies_octets}
+use Rattle.op_read.specs.page_core.Endings.{page_end}
+use Rattle.op_read.specs.page_core.declared.page.Page.{Page}
+use Rattle.op_read.specs.page_core.Pages.{Paged, paged_octets, end_octets, page_replies}
+use Rattle.op_read.specs.read_model.Views.{View}
+use Rattle.session_model.specs.ldap_msg.declared.kinds.SearchRequest.{SearchRequest}
+use Rattle.session_model.specs.ldap_msg.declared.kinds.Reply.{Reply}
 use Rattle.session_hub.specs.Controls.{is_refused}
 use Rattle.session_model.specs.ldap_msg.reading.Messages.{message_of}
 use Rattle.session_hub.specs.Parties.{DirectoryEntries, Requester}
 use Rattle.session_hub.specs.Answers.{Gives}
 use Rattle.session_hub.specs.Limiting.{limited_read}
-use Rattle.session_hub.specs.Answering.{answered, is_unbind, answer_read, rules}
+use Rattle.session_hub.specs.Answering.{searched, sent_octets, answer_octets, answered, is_unbind, answer_read, rules}
 
 -- a message, or octets that are none, answered by the rules
 pub answered_as : {E : Type 0} (limit : ℕ) (r : Result Bool E) (o now : Option Message) (entries left : DirectoryEntries) (who after : Requester) (bytes old new : List ℕ) → message_of bytes ≡ o → now ≡ limited_read limit o →
@@ -39,7 +46,7 @@ refused_anyway (Err fault) P holds = holds
 
 -- a request that closes is an unbind, to which nothing is said
 unbind_says : (id : ℕ) (controls : List Control) (entries : DirectoryEntries) (who : Requester) (asked : Request) → is_unbind asked ≡ true →
-    replies_octets id (answered entries who controls asked).replies ≡ []
+    sent_octets id (answered entries who controls asked).replies (answered entries who controls asked).cookie ≡ []
 unbind_says id controls entries who (request.Bind bind) h = absurd (true≢false (sym h))
 unbind_says id controls entries who request.Unbind h = elim (cases_Bool (is_refused request.Unbind controls)) [ inl e ↦ rw e refl | inr e ↦ rw e refl ]
 unbind_says id controls entries who (request.Search search) h = absurd (true≢false (sym h))
@@ -61,3 +68,18 @@ pub closes_says : (limit : ℕ) (entries : DirectoryEntries) (who : Requester) (
     (((rules limit).answer entries who bytes).replies ≡ []) ⊎ (((rules limit).answer entries who bytes).replies ≡ notice_octets)
 unfolding rules
 closes_says limit entries who bytes h = closing_says entries who (limited_read limit (message_of bytes)) h
+
+-- the octets of a page are those of what is answered, with its end or without
+octets_by : (id : ℕ) (replies : List Reply) (cookie : Option (List ℕ)) → replies_octets id replies ++ end_octets id cookie ≡ sent_octets id replies cookie
+octets_by id replies None = append-nil (replies_octets id replies)
+octets_by id replies (Some cookie) = refl
+
+pub octets-paged : (id : ℕ) (paged : Paged) → paged_octets id paged ≡ answer_octets id paged
+unfolding paged_octets
+octets-paged id paged = octets_by id paged.replies paged.cookie
+
+-- a page that was sent is what its control asks for
+pub page_sent : {A E : Type 0} (r : Result A E) (old new : List ℕ) (id : ℕ) (view : View) (request : SearchRequest) (subentries : Option Bool) (page : Page) (asked : Option (Option Page))
+    → asked ≡ Some (Some page) → OnOk r (new ≡ old ++ paged_octets id (page_replies view request subentries page)) → OnOk r (new ≡ old ++ answer_octets id (searched view request (Some subentries) asked))
+page_sent (Ok value) old new id view request subentries page asked is h = rw is (h ∙ ap (λ octets. old ++ octets) (octets-paged id (page_replies view request subentries page)))
+page_sent (Err fault) old new id view request subentries page asked is h = tt

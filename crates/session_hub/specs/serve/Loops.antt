@@ -33,7 +33,8 @@ pub record IsServed (limit : ℕ) (entries left : DirectoryEntries) (added : Lis
   pub served : Served (rules limit) entries (steps_of added) added
   pub entries_left : left ≡ (run (rules limit) entries (steps_of added)).tree
 
--- nothing was cut; with want of memory connections may have been, each once, and the last block may be unfinished
+-- nothing was cut; with NoMemory connections may have been, each once, for want of memory or since more waited for them than
+-- they have room for, and the last block may be unfinished
 abbrev pub ServedAs : ℕ → DirectoryEntries → DirectoryEntries → List Item → Ended → Type 0
 ServedAs limit entries left added Stopped = IsServed limit entries left added
 ServedAs limit entries left added TurnsSpent = IsServed limit entries left added
