@@ -55,10 +55,12 @@ fn value_item(alloc: Global, body: &[u8]) -> Result<Option<AskedItem>, NoMemory>
     }
 }
 
-/// The item that a word says; None where it says none.
+/// The item that a word says; None where it says none: `entry`, `type:NAME` or `value:NAME=TEXT`, cut at the first `=`,
+/// where NAME is an attribute type's name or object identifier, and TEXT is of its syntax. The error comes where memory is
+/// refused.
 #[tactic(auto, unfolding(crate::specs::ItemWords::item_of))]
 pub fn read_item(alloc: Global, word: &str) -> Result<Option<AskedItem>, NoMemory>
-    ensures { IfOk result (λ item. option_map item_asked item ≡ item_of word.now) }
+    ensures exact { IfOk result (λ item. option_map item_asked item ≡ item_of word.now) }
 {
     if word == "entry" {
         return Ok(Some(AskedItem::Entry));

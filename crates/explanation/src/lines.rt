@@ -110,8 +110,8 @@ fn put_name_at(
     }
 }
 
-// Whether a tuple grants.
-fn effect(grants: bool) -> &'static str
+/// The word for what a tuple does: `grant` or `deny`.
+pub fn effect(grants: bool) -> &'static str
     ensures exact { result.now ≡ effect grants }
 {
     if grants { "grant" } else { "deny" }

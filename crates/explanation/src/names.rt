@@ -9,9 +9,10 @@ use acdf_filters::aci_item::Level;
 use dir_tree::dn_names::{BadName, Dn, parse};
 use std::alloc::{AllocError, Global};
 
-/// The name that a text is.
-fn read_name(alloc: Global, text: &[u8]) -> Result<Option<Dn>, NoMemory>
-    ensures { IfOk result (λ name. name ≡ name_in text.now) }
+/// The name that the octets spell (RFC 4514), the empty one too; None where they spell none, or where it has more RDNs or a
+/// longer value than names may have. The error comes where memory is refused.
+pub fn read_name(alloc: Global, text: &[u8]) -> Result<Option<Dn>, NoMemory>
+    ensures exact { IfOk result (λ name. name ≡ name_in text.now) }
 {
     match parse(alloc, text) {
         Ok(name) => Ok(Some(name)),
@@ -45,15 +46,17 @@ fn requester(name: Dn) -> Requester
     }
 }
 
-/// The requester that a word says; None where it says none.
+/// The requester that the octets of a word say: `anonymous`, or a name (RFC 4514); None where they say none. A requester
+/// with a name is one known by a password, and the empty name is that of an anonymous one (RFC 4513, 5.1.1). The error comes
+/// where memory is refused.
 #[tactic(auto, unfolding(crate::specs::NameWords::who_of))]
-pub fn read_who(alloc: Global, word: &str) -> Result<Option<Requester>, NoMemory>
-    ensures { IfOk result (λ who. who ≡ who_of word.now) }
+pub fn read_who(alloc: Global, word: &[u8]) -> Result<Option<Requester>, NoMemory>
+    ensures exact { IfOk result (λ who. who ≡ who_of word.now) }
 {
-    if word == "anonymous" {
+    if word == b"anonymous".as_slice() {
         return Ok(Some(anonymous()));
     }
-    match read_name(alloc, word.as_bytes())? {
+    match read_name(alloc, word)? {
         Some(name) => Ok(Some(requester(name))),
         None => Ok(None),
     }
@@ -66,12 +69,13 @@ fn named(name: Dn) -> Option<Dn>
     if name.len() == 0 { None } else { Some(name) }
 }
 
-/// The name of the entry that a word says; None where it says none.
+/// The name of an entry that the octets of a word spell (RFC 4514), which isn't empty; None where they spell none. The
+/// error comes where memory is refused.
 #[tactic(auto, unfolding(crate::specs::NameWords::target_of))]
-pub fn read_target(alloc: Global, word: &str) -> Result<Option<Dn>, NoMemory>
-    ensures { IfOk result (λ name. name ≡ target_of word.now) }
+pub fn read_target(alloc: Global, word: &[u8]) -> Result<Option<Dn>, NoMemory>
+    ensures exact { IfOk result (λ name. name ≡ target_of word.now) }
 {
-    match read_name(alloc, word.as_bytes())? {
+    match read_name(alloc, word)? {
         Some(name) => Ok(named(name)),
         None => Ok(None),
     }

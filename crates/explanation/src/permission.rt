@@ -21,16 +21,16 @@ static ASKED: [Permission; 12] = [
     Permission::FilterMatch,
 ];
 
-/// The permissions that may be asked for.
-fn asked() -> &'static [Permission]
-    ensures { result.now ≡ asked_permissions }
+/// The permissions that operations ask for (X.501 18.2.3 and 18.2.4), in the order of their type: all but Invoke.
+pub fn asked_permissions() -> &'static [Permission]
+    ensures exact { result.now ≡ asked_permissions }
 {
     &ASKED
 }
 
 /// The name of a permission, as bits of access control items have it behind `grant`.
-fn permission_name(permission: Permission) -> &'static str
-    ensures { result.now ≡ permission_name permission }
+pub fn permission_name(permission: Permission) -> &'static str
+    ensures exact { result.now ≡ permission_name permission }
 {
     match permission {
         Permission::Add => "Add",
@@ -49,12 +49,10 @@ fn permission_name(permission: Permission) -> &'static str
     }
 }
 
-/// The permission that a word says; None where it says none.
-pub fn permission_named(word: &str) -> Option<Permission>
-    ensures { result ≡ permission_of word.now }
+/// The permission that operations ask for whose name the octets of a word are, letter for letter; None where there is none.
+pub fn permission_named(word: &[u8]) -> Option<Permission>
+    ensures exact { result ≡ permission_of word.now }
 {
-    asked()
-        .iter()
-        .copied()
-        .find(|permission| word == permission_name(*permission))
+    asked_permissions().iter().copied().find(|permission| word
+        == permission_name(*permission).as_bytes())
 }

@@ -28,16 +28,16 @@ pub fn read_question(
     ensures exact { IfOk result (λ asked.
         option_map question_view asked ≡ question_of who.now target.now item.now permission.now) }
 {
-    let Some(who) = read_who(alloc, who)? else {
+    let Some(who) = read_who(alloc, who.as_bytes())? else {
         return Ok(None);
     };
-    let Some(target) = read_target(alloc, target)? else {
+    let Some(target) = read_target(alloc, target.as_bytes())? else {
         return Ok(None);
     };
     let Some(item) = read_item(alloc, item)? else {
         return Ok(None);
     };
-    match permission_named(permission) {
+    match permission_named(permission.as_bytes()) {
         Some(permission) => Ok(Some(AskedDecision {
             who,
             target,
