@@ -1,0 +1,3 @@
+pub mod NumberTests
+pub mod LastLemmas
+pub mod ScopeLaw
