@@ -1,0 +1,3 @@
+pub mod EventLemmas
+pub mod LineLemmas
+pub mod ScriptLemmas
