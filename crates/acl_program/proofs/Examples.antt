@@ -13,7 +13,8 @@ use Rattle.session_hub.specs.Answering.{rules}
 use Rattle.session_hub.specs.declared.ended.Ended.TheVariants as ended
 use Rattle.acl_program.specs.declared.status.Status.TheVariants.{Done, TurnsSpent, LinkFault}
 use Rattle.acl_program.specs.Lines.{line_of, lines_of, replay_text}
-use Rattle.acl_program.specs.Outcomes.{BadLine, Replayed, Served, text_of, status_of}
+use Rattle.command_files.specs.declared.loading.SecondFile.TheVariants.{Script, Requests, Certificate}
+use Rattle.acl_program.specs.Outcomes.{BadLine, FalseLine, Replayed, Served, text_of, status_of}
 use Rattle.acl_program.specs.serve.Serving.{ServeAsked, NotOpened, LoopEnded, serve_asked}
 
 -- a line with octets, with none, and of a connection that was hung up
@@ -30,9 +31,22 @@ unfolding line_of digits
 none_closed = refl
 
 -- a bad line
-bad_line : text_of (BadLine 12) ≡ codes "bad script line 12\n"
+bad_line : text_of (BadLine Script 12) ≡ codes "bad script line 12\n"
 unfolding text_of digits
 bad_line = refl
+
+bad_request : text_of (BadLine Requests 3) ≡ codes "bad request line 3\n"
+unfolding text_of digits
+bad_request = refl
+
+bad_certificate : text_of (BadLine Certificate 13) ≡ codes "bad certificate line 13\n"
+unfolding text_of digits
+bad_certificate = refl
+
+-- and one that is false
+false_line : text_of (FalseLine 9) ≡ codes "false line 9\n"
+unfolding text_of digits
+false_line = refl
 
 -- two connections, opened out of order, of which one ends
 two_events : List ScriptEvent

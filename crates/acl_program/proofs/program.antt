@@ -1,3 +1,6 @@
+pub mod AcceptLemmas
+pub mod ReadyLemmas
+pub mod AnswerLemmas
 pub mod DueLemmas
 pub mod PerformLemmas
 pub mod RunLemmas

@@ -2,9 +2,9 @@
 pub mod program
 pub mod Lines
 pub mod serve
-pub mod Explaining
+pub mod Answering
 pub mod Sampling
 pub mod Outcomes
 -- for the inside of the crate alone
 pub mod Troubles
-pub mod Asked
+pub mod Deciding

@@ -40,6 +40,10 @@ heard_of events turns = take turns (pieces buffer_length events)
 abbrev pub replay_of : DirectoryEntries → List ScriptEvent → ℕ → Sessions DirectoryEntries Requester
 replay_of entries events turns = replayed (rules 0) entries (steps_of_events (heard_of events turns))
 
+-- all that is sent to connection 1 over these entries where all of these events are heard
+unfoldable pub sent_over : DirectoryEntries → List ScriptEvent → List ℕ
+sent_over entries events = ((replayed (rules 0) entries (steps_of_events (pieces buffer_length events))).of 1).reply
+
 -- the text of a replay: the lines after them
 unfoldable pub replay_text : DirectoryEntries → List ScriptEvent → ℕ → List ℕ
 replay_text entries events turns = lines_of (replay_of entries events turns)

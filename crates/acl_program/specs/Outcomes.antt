@@ -7,6 +7,8 @@ use Rattle.command_files.specs.wire_io.Pieces.{pieces}
 use Rattle.session_hub.specs.serve.Loops.{buffer_length}
 use Rattle.command_files.specs.dir_tree.Entry.{EntryInformation}
 use Rattle.command_files.specs.dir_tree.Points.{access_subentries}
+use Rattle.command_files.specs.declared.loading.SecondFile.{SecondFile}
+use Rattle.command_files.specs.declared.loading.SecondFile.TheVariants as second
 use Rattle.command_files.specs.ldif_records.declared.types.LineCause.{LineCause}
 use Rattle.command_files.specs.ldif_records.declared.types.LineCause.TheVariants.{Syntax, Changetype, Base64}
 use Rattle.command_files.specs.ldif_records.writing.WrittenFile.{written_file}
@@ -14,24 +16,26 @@ use Rattle.command_files.specs.ldif_load.declared.fault.LoadCause.{LoadCause}
 use Rattle.command_files.specs.ldif_load.declared.fault.LoadCause.TheVariants.{Name, Kind, Value, Twice, Order, Rule, Limit}
 use Rattle.command_files.specs.ldif_load.load.DataFile.{FileCause, OfLine, OfRecord}
 use Rattle.acl_program.specs.declared.status.Status.{Status}
-use Rattle.acl_program.specs.declared.status.Status.TheVariants.{Done, Usage, BadData, ShelfFault, SinkFault, LinkFault, TurnsSpent, NoMemory, BadScript}
+use Rattle.acl_program.specs.declared.status.Status.TheVariants.{Done, Usage, BadData, ShelfFault, SinkFault, LinkFault, TurnsSpent, NoMemory, BadScript, NotProved}
 use Rattle.acl_program.specs.Lines.{replay_text, entries_after}
 use Rattle.acl_program.specs.serve.Serving.{ServeAsked, ServeEnd, serve_text, serve_status}
 
--- no command is asked for; a file wasn't read; the data file's first bad line, and why; a script's first bad line; a data
--- file was checked, or put again; a script was replayed for so many turns, and the tree put after it if that was asked
--- for; a data file was served over the link; a decision was explained; a sample was made and served; memory ran out before
--- anything was printed
+-- no command is asked for; a file wasn't read; the data file's first bad line, and why; the first bad line of a script, of
+-- requests or of a certificate; the first line of a certificate that isn't that of the loaded tree; a data file was checked,
+-- or put again; a script was replayed for so many turns, and the tree put after it if that was asked for; a data file was
+-- served over the link; what was asked of a data file was answered by this text; a sample was made and served; memory ran
+-- out before anything was printed
 pub data Outcome : Type 0 where
   NoCommand : Outcome
   NoFile : Outcome
   BadDataLine : (line : ℕ) (cause : FileCause) → Outcome
-  BadLine : (line : ℕ) → Outcome
+  BadLine : (file : SecondFile) (line : ℕ) → Outcome
+  FalseLine : (line : ℕ) → Outcome
   Checked : (entries : List EntryInformation) → Outcome
   Dumped : (entries : List EntryInformation) → Outcome
   Replayed : (events : List ScriptEvent) (turns : ℕ) (dump : Bool) (entries : List EntryInformation) → Outcome
   Served : (asked : ServeAsked) (end : ServeEnd) → Outcome
-  Explained : (text : List ℕ) → Outcome
+  Answered : (text : List ℕ) → Outcome
   Sampled : (text : List ℕ) → Outcome
   OutOfMemory : Outcome
 
@@ -56,6 +60,12 @@ abbrev pub cause_text : FileCause → List ℕ
 cause_text (OfLine cause) = line_cause_text cause
 cause_text (OfRecord cause) = record_cause_text cause
 
+-- what a line of a file that isn't in its form is of
+abbrev pub file_word : SecondFile → List ℕ
+file_word second.Script = codes "script"
+file_word second.Requests = codes "request"
+file_word second.Certificate = codes "certificate"
+
 -- the tree as a data file, where it is asked for
 abbrev pub dump_text : Bool → List EntryInformation → List ℕ
 dump_text true entries = written_file entries
@@ -63,15 +73,16 @@ dump_text false entries = []
 
 -- what is printed
 unfoldable pub text_of : Outcome → List ℕ
-text_of NoCommand = codes "usage: aclserver (serve|replay|check|dump|explain|sample) WORDS\n"
+text_of NoCommand = codes "usage: aclserver (serve|replay|check|dump|explain|sample|ask|prove|verify|rights) WORDS\n"
 text_of NoFile = codes "data fault\n"
 text_of (BadDataLine line cause) = codes "bad data line " ++ (decimal line ++ (codes ": " ++ (cause_text cause ++ codes "\n")))
-text_of (BadLine line) = codes "bad script line " ++ (decimal line ++ codes "\n")
+text_of (BadLine file line) = codes "bad " ++ (file_word file ++ (codes " line " ++ (decimal line ++ codes "\n")))
+text_of (FalseLine line) = codes "false line " ++ (decimal line ++ codes "\n")
 text_of (Checked entries) = codes "ok " ++ (decimal (length entries) ++ (codes " " ++ (decimal (access_subentries entries) ++ codes "\n")))
 text_of (Dumped entries) = written_file entries
 text_of (Replayed events turns dump entries) = replay_text entries events turns ++ dump_text dump (entries_after entries events turns)
 text_of (Served asked end) = serve_text asked.serving.address end
-text_of (Explained text) = text
+text_of (Answered text) = text
 text_of (Sampled text) = text
 text_of OutOfMemory = []
 
@@ -80,12 +91,13 @@ unfoldable pub status_of : Outcome → Status
 status_of NoCommand = Usage
 status_of NoFile = ShelfFault
 status_of (BadDataLine line cause) = BadData
-status_of (BadLine line) = BadScript
+status_of (BadLine file line) = BadScript
+status_of (FalseLine line) = NotProved
 status_of (Checked entries) = Done
 status_of (Dumped entries) = Done
 status_of (Replayed events turns dump entries) = if nat_lt (length (pieces buffer_length events)) turns then Done else TurnsSpent
 status_of (Served asked end) = serve_status end
-status_of (Explained text) = Done
+status_of (Answered text) = Done
 status_of (Sampled text) = Done
 status_of OutOfMemory = NoMemory
 
@@ -100,6 +112,7 @@ number_of LinkFault = 6
 number_of TurnsSpent = 7
 number_of NoMemory = 8
 number_of BadScript = 9
+number_of NotProved = 10
 
 -- how it ends after a text was to be printed: a refusal of the sink comes before all else
 abbrev pub settled : Result (Unit {0}) PutFault → Status → Status

@@ -1,21 +1,17 @@
 -- The sample: its data file is loaded, its one connection is served, and a summary is put.
 use Rattle.std.specs.Prelude.{◌≡◌, ◌≤◌, ℕ, List, ◌++◌, length, codes, decimal, Ok, Err}
-use Rattle.command_words.specs.command.Command.{CommandView, Serve, Replay, Check, Dump, Explain, Sample, IsCommand}
+use Rattle.command_words.specs.command.Command.{CommandView, Serve, Replay, Check, Dump, Explain, Sample, Ask, Prove, Verify, Rights, IsCommand}
 use Rattle.command_files.specs.dir_tree.Entry.{EntryInformation}
 use Rattle.command_files.specs.ldif_load.load.DataFile.{FileCause, loads}
 use Rattle.sample_input.specs.SampleFile.{sample_file}
 use Rattle.sample_input.specs.SampleEvents.{sample_events}
 use Rattle.sample_input.specs.Counting.{found_in, hidden_in}
 use Rattle.session_hub.specs.Parties.{DirectoryEntries}
-use Rattle.acl_program.specs.Lines.{replay_of}
-
--- how many events are heard at most
-abbrev pub sample_turns : ℕ
-sample_turns = 1000000000000
+use Rattle.acl_program.specs.Lines.{sent_over}
 
 -- all that is sent to the connection of a sample of so many persons, over these entries
-unfoldable pub sample_replies : DirectoryEntries → ℕ → List ℕ
-sample_replies entries count = ((replay_of entries (sample_events count) sample_turns).of 1).reply
+abbrev pub sample_replies : DirectoryEntries → ℕ → List ℕ
+sample_replies entries count = sent_over entries (sample_events count)
 
 -- a summary: how many entries there are, how many were sent, and how many replies say that there is no such object
 unfoldable pub summary : ℕ → List ℕ → List ℕ
@@ -48,3 +44,7 @@ IsFew (Check data_file) = Unit {0}
 IsFew (Dump data_file) = Unit {0}
 IsFew (Explain data_file who target item permission) = Unit {0}
 IsFew (Sample count) = count ≤ 20000
+IsFew (Ask data_file requests script) = Unit {0}
+IsFew (Prove data_file who target item permission) = Unit {0}
+IsFew (Verify data_file certificate) = Unit {0}
+IsFew (Rights data_file who target) = Unit {0}

@@ -8,5 +8,5 @@ use Rattle.acl_program.specs.Outcomes.{Outcome, NoFile, BadDataLine, BadLine, Ou
 abbrev pub outcome_of : Trouble → Outcome
 outcome_of trouble.NoFile = NoFile
 outcome_of (trouble.BadData line cause) = BadDataLine line (cause_of cause)
-outcome_of (trouble.BadLine line) = BadLine line
+outcome_of (trouble.BadLine file line) = BadLine file line
 outcome_of trouble.NoMemory = OutOfMemory

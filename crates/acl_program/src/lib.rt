@@ -2,15 +2,19 @@
 //! any link to its connections.
 #![tactic(auto)]
 
+mod asking;
+mod connection;
 mod data;
-mod explain;
+mod decisions;
 mod printing;
 mod program;
 mod replay;
+mod rights_table;
 mod sample;
 mod serve;
 mod status;
 mod troubles;
+mod verifying;
 
 pub use program::run;
 pub use status::Status;

@@ -11,13 +11,16 @@ ghost use Rattle.acl_program.specs.program.Twins.{PrintsAlike};
 ghost use Rattle.acl_program.specs.Sampling.{IsFew};
 ghost use Rattle.command_words.specs.command.Command.{view};
 
+use crate::asking::{Asking, tell_replies};
 use crate::data::{check, dump};
-use crate::explain::{Explaining, explain};
+use crate::decisions::{Account, Deciding, tell_decision};
 use crate::replay::{Asked, replay};
+use crate::rights_table::{RightsAsked, tell_rights};
 use crate::sample::sample;
 use crate::serve::serve;
 use crate::status::Status;
 use crate::troubles::print_usage;
+use crate::verifying::tell_validity;
 use command_files::wire_io::{Link, Shelf, Sink};
 use command_words::{Command, read_words};
 use std::alloc::Global;
@@ -29,7 +32,12 @@ use std::alloc::Global;
 /// the script file, serves its events as those of a link's connections, at most N of them, and puts one line for each
 /// connection: its number, what was sent to it, and whether it was hung up; with `--dump` the tree follows as a data
 /// file. `explain DATA WHO TARGET ITEM PERMISSION` loads the data file and puts one access control decision over it, filter
-/// by filter. `sample N` makes a data file of N persons, half of whom access control hides, serves one connection that
+/// by filter. `prove DATA WHO TARGET ITEM PERMISSION` puts the same decision as a certificate, and `verify DATA CERTIFICATE`
+/// loads the data file, reads the certificate, and puts `valid granted` or `valid refused` where it is that of the loaded
+/// tree, and else its first line that isn't, as `false line L`. `rights DATA WHO TARGET` puts all decisions on one entry and
+/// what it holds. `ask DATA REQUESTS [--script]` loads the data file, reads the requests, serves them as those of one
+/// connection, and puts the replies; with `--script` it serves nothing, and puts the script that sends the requests.
+/// `sample N` makes a data file of N persons, half of whom access control hides, serves one connection that
 /// searches for each of them, and puts how many entries there are, how many were sent, and how many replies say that there
 /// is no such object. These leave the link as it is.
 ///
@@ -39,7 +47,7 @@ use std::alloc::Global;
 /// entries, and a connection is closed that leaves untaken more than is left of so many MiB for all. Where the link fails it
 /// puts `link fault`, and where the turns are spent `turns spent`. Other words put a line on how to call the program.
 ///
-/// The data file is read before the script. A file that isn't there, or that the shelf can't read, puts `data fault`; a
+/// The data file is read before any other. A file that isn't there, or that the shelf can't read, puts `data fault`; a
 /// file that isn't accepted puts its first bad line.
 pub fn run<H: Shelf, K: Sink, L: Link>(
     alloc: Global,
@@ -152,9 +160,10 @@ fn perform<H: Shelf, K: Sink, L: Link>(
             target,
             item,
             permission,
-        } => explain(
+        } => tell_decision(
             alloc,
-            &Explaining {
+            &Deciding {
+                account: Account::Explanation,
                 data,
                 who,
                 target,
@@ -165,5 +174,44 @@ fn perform<H: Shelf, K: Sink, L: Link>(
             out,
         ),
         Command::Sample { count } => sample(alloc, count, out),
+        Command::Ask {
+            data,
+            requests,
+            script,
+        } => tell_replies(
+            alloc,
+            &Asking {
+                data,
+                requests,
+                script,
+            },
+            shelf,
+            out,
+        ),
+        Command::Prove {
+            data,
+            who,
+            target,
+            item,
+            permission,
+        } => tell_decision(
+            alloc,
+            &Deciding {
+                account: Account::Certificate,
+                data,
+                who,
+                target,
+                item,
+                permission,
+            },
+            shelf,
+            out,
+        ),
+        Command::Verify { data, certificate } => {
+            tell_validity(alloc, data, certificate, shelf, out)
+        }
+        Command::Rights { data, who, target } => {
+            tell_rights(alloc, &RightsAsked { data, who, target }, shelf, out)
+        }
     }
 }

@@ -1,14 +1,14 @@
 //! The command `replay`: a script's events served over a data file's tree, and what was sent to each of its connections.
 
-ghost use Rattle.std.specs.Prelude.{◌≡◌, [], Some};
+ghost use Rattle.std.specs.Prelude.{◌≡◌, [], ℕ, List, Ok, Some};
 ghost use Rattle.std.specs.Option.{option_map};
 ghost use Rattle.command_words.specs.command.Command.{Replay};
 ghost use Rattle.command_files.specs.wire_io.Scripted.{fresh_link};
 ghost use Rattle.command_files.specs.dir_tree.tree.Numbered.{entries_of};
 ghost use Rattle.command_files.specs.aci_item.Rules.{IsGoodTree};
+ghost use Rattle.command_files.specs.loading.Loading.{LoadsData};
 ghost use Rattle.acl_program.specs.Outcomes.{Replayed, dump_text};
 ghost use Rattle.acl_program.specs.program.Outside.{Linked, outside, written};
-ghost use Rattle.acl_program.specs.Asked.{Replays, replay_asked};
 ghost use Rattle.acl_program.specs.program.Playing.{Performs, Plays, Shows, Ends, dumped_text, IsDumpable};
 
 use crate::printing::print_replay;
@@ -61,9 +61,10 @@ fn replay_over<H: Shelf, K: Sink>(
     out: &mut K,
 ) -> Status
     requires good { IsGoodTree (entries_of tree) }
-    ensures replays { (link : Linked) →
-        Replays (replay_asked asked.now.script.now asked.now.turns asked.now.dump (entries_of tree))
-        (outside (H.files shelf.old) (H.faults shelf.old) (K.put out.old) (K.faults out.old) link) result
+    ensures performs { (link : Linked) (name : List ℕ) (before : ℕ) →
+        LoadsData (H.files shelf.old) name before (H.faults shelf.old) (Ok tree) →
+        Performs (Replay name asked.now.script.now asked.now.turns asked.now.dump)
+        (outside (H.files shelf.old) before (K.put out.old) (K.faults out.old) link) result
         (outside (H.files shelf.new) (H.faults shelf.new) (K.put out.new) (K.faults out.new) link) }
     ensures kept { H.files shelf.new ≡ H.files shelf.old }
 {

@@ -1,7 +1,7 @@
 //! The command `sample`: a data file made in memory, half of which is hidden, and one connection that searches for each of
 //! its persons.
 
-ghost use Rattle.std.specs.Prelude.{◌≡◌, ◌≤◌, [], ℕ, Option, Ok, IfErr, IfOk, OnOk, string_bytes};
+ghost use Rattle.std.specs.Prelude.{◌≡◌, ◌≤◌, [], ℕ, Option, Ok, IfErr, IfOk, string_bytes};
 ghost use Rattle.command_words.specs.command.Command.{Sample};
 ghost use Rattle.command_files.specs.plain_values.Answers.{IsFaultOf};
 ghost use Rattle.command_files.specs.data_file.Files.{fault_of};
@@ -10,13 +10,13 @@ ghost use Rattle.command_files.specs.ldif_load.load.DataFile.{loads};
 ghost use Rattle.sample_input.specs.SampleFile.{sample_file};
 ghost use Rattle.sample_input.specs.SampleEvents.{sample_events};
 ghost use Rattle.command_files.specs.wire_io.Files.{Files};
-ghost use Rattle.command_files.specs.wire_io.Journal.{taken_of};
 ghost use Rattle.command_files.specs.wire_io.Scripted.{fresh_link};
 ghost use Rattle.acl_program.specs.Outcomes.{Sampled};
 ghost use Rattle.acl_program.specs.program.Outside.{Linked, outside, written};
 ghost use Rattle.acl_program.specs.program.Playing.{Ends, Performs};
-ghost use Rattle.acl_program.specs.Sampling.{sample_text, sample_replies, summary};
+ghost use Rattle.acl_program.specs.Sampling.{sample_text, summary};
 
+use crate::connection::{CONNECTION, link_of, serve_link};
 use crate::status::Status;
 use crate::troubles::print_bad_data;
 use aci_index::IndexedDir;
@@ -25,14 +25,7 @@ use command_files::data_file::{DataFault, load};
 use command_files::dir_tree::{NoMemory, Tree};
 use command_files::wire_io::{ScriptLink, Sink, write_all};
 use sample_input::{count_found, sample_events, sample_file};
-use session_hub::{Bounds, Ended, serve_loop};
 use std::alloc::{AllocError, Global};
-
-/// How many events are heard at most.
-const TURNS: u64 = 1_000_000_000_000;
-
-/// The number of the connection.
-const CONNECTION: u32 = 1;
 
 /// Makes a sample of so many persons, serves its connection, and prints how many entries it has, how many were sent and how
 /// many replies say that there is no such object.
@@ -67,8 +60,7 @@ fn sample_link(alloc: Global, count: u32) -> Result<ScriptLink, NoMemory>
     ensures fresh { IfOk result (λ link. link ≡ fresh_link (sample_events count) [] [] []) }
 {
     let events = sample_events(alloc, count)?;
-    let (failing, later, gone) = (Vec::new(alloc), Vec::new(alloc), Vec::new(alloc));
-    Ok(ScriptLink::new(alloc, events, failing, later, gone))
+    Ok(link_of(alloc, events))
 }
 
 /// The same over the tree.
@@ -103,21 +95,8 @@ fn served_text(alloc: Global, dir: IndexedDir, link: ScriptLink) -> Result<Strin
     let mut dir = dir;
     let mut link = link;
     let entries = dir.tree().len();
-    serve_sample(alloc, &mut dir, &mut link)?;
+    serve_link(alloc, &mut dir, &mut link)?;
     summary(alloc, entries, link.said_of(CONNECTION))
-}
-
-/// Serves the link's events over the directory.
-fn serve_sample(alloc: Global, dir: &mut IndexedDir, link: &mut ScriptLink) -> Result<(), NoMemory>
-    ensures sends { (count : ℕ) → link.old ≡ fresh_link (sample_events count) [] [] [] → OnOk result
-        (taken_of 1 link.new.journal ≡ sample_replies (entries_of dir.old) count) }
-{
-    match serve_loop(alloc, dir, link, TURNS, Bounds::NONE) {
-        Ended::Stopped => Ok(()),
-        Ended::TurnsSpent => Ok(()),
-        Ended::LinkFault => Err(AllocError),
-        Ended::NoMemory => Err(AllocError),
-    }
 }
 
 /// The summary of the replies that were sent.

@@ -24,8 +24,10 @@ pub enum Status {
     TurnsSpent,
     /// There was no memory, or a connection was cut while it was served.
     NoMemory,
-    /// The script file isn't a script, or is too long.
+    /// The script, the requests or the certificate aren't in their form, or the file is too long.
     BadScript,
+    /// The certificate isn't that of the loaded tree.
+    NotProved,
 }
 
 impl Status {
@@ -43,6 +45,7 @@ impl Status {
             Status::TurnsSpent => 7,
             Status::NoMemory => 8,
             Status::BadScript => 9,
+            Status::NotProved => 10,
         }
     }
 

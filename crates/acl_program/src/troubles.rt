@@ -2,20 +2,21 @@
 
 ghost use Rattle.std.specs.Prelude.{◌≡◌, IfOk, string_bytes};
 ghost use Rattle.command_files.specs.data_file.Files.{cause_of};
-ghost use Rattle.acl_program.specs.Outcomes.{NoCommand, NoFile, BadDataLine, BadLine, cause_text, line_cause_text, record_cause_text, status_of, text_of};
+ghost use Rattle.acl_program.specs.Outcomes.{NoCommand, NoFile, BadDataLine, BadLine, cause_text, file_word, line_cause_text, record_cause_text, status_of, text_of};
 ghost use Rattle.acl_program.specs.program.Outside.{written};
 ghost use Rattle.acl_program.specs.program.Playing.{Ends};
 ghost use Rattle.acl_program.specs.Troubles.{outcome_of};
 
 use crate::status::Status;
-use command_files::Trouble;
 use command_files::data_file::DataCause;
 use command_files::ldif_load::LoadCause;
 use command_files::ldif_records::LineCause;
 use command_files::wire_io::{Sink, write_all};
+use command_files::{SecondFile, Trouble};
 use std::alloc::{AllocError, Global};
 
-const USAGE: &[u8] = b"usage: aclserver (serve|replay|check|dump|explain|sample) WORDS\n";
+const USAGE: &[u8] =
+    b"usage: aclserver (serve|replay|check|dump|explain|sample|ask|prove|verify|rights) WORDS\n";
 
 /// Prints that the words are no command.
 #[tactic(auto, unfolding(crate::specs::Outcomes::text_of, crate::specs::Outcomes::status_of))]
@@ -35,7 +36,7 @@ pub(crate) fn print_trouble<K: Sink>(alloc: Global, trouble: Trouble, out: &mut 
     match trouble {
         Trouble::NoFile => print_data_fault(out),
         Trouble::BadData(line, cause) => print_bad_data(alloc, line, cause, out),
-        Trouble::BadLine(line) => print_bad_line(alloc, line, out),
+        Trouble::BadLine(file, line) => print_bad_line(alloc, file, line, out),
         Trouble::NoMemory => Status::NoMemory,
     }
 }
@@ -110,13 +111,18 @@ fn record_cause_text(alloc: Global, cause: LoadCause) -> Result<String, AllocErr
     }
 }
 
-/// Prints the number of a script's bad line.
+/// Prints the number of the bad line of a script, of requests or of a certificate.
 #[tactic(auto, unfolding(crate::specs::Outcomes::text_of, crate::specs::Outcomes::status_of))]
-fn print_bad_line<K: Sink>(alloc: Global, line: u64, out: &mut K) -> Status
-    ensures ends { Ends (BadLine line) (written (K.put out.old) (K.faults out.old)) result
+pub(crate) fn print_bad_line<K: Sink>(
+    alloc: Global,
+    file: SecondFile,
+    line: u64,
+    out: &mut K,
+) -> Status
+    ensures ends { Ends (BadLine file line) (written (K.put out.old) (K.faults out.old)) result
         (written (K.put out.new) (K.faults out.new)) }
 {
-    let Ok(text) = bad_line(alloc, line) else {
+    let Ok(text) = bad_line(alloc, file, line) else {
         return Status::NoMemory;
     };
     let put = write_all(out, text.as_bytes());
@@ -124,8 +130,20 @@ fn print_bad_line<K: Sink>(alloc: Global, line: u64, out: &mut K) -> Status
 }
 
 #[tactic(auto, unfolding(crate::specs::Outcomes::text_of))]
-fn bad_line(alloc: Global, line: u64) -> Result<String, AllocError>
-    ensures { IfOk result (λ text. string_bytes text ≡ text_of (BadLine line)) }
+fn bad_line(alloc: Global, file: SecondFile, line: u64) -> Result<String, AllocError>
+    ensures { IfOk result (λ text. string_bytes text ≡ text_of (BadLine file line)) }
 {
-    format!(in alloc; "bad script line {line}\n")
+    let word = file_word(file);
+    format!(in alloc; "bad {word} line {line}\n")
+}
+
+/// What a line of the file is of, in words.
+fn file_word(file: SecondFile) -> &'static str
+    ensures { result.now ≡ file_word file }
+{
+    match file {
+        SecondFile::Script => "script",
+        SecondFile::Requests => "request",
+        SecondFile::Certificate => "certificate",
+    }
 }

@@ -1,5 +1,6 @@
 pub mod loading
 -- the words of crates below, handed on
+pub use Rattle.client_core.specs as client_core
 pub use Rattle.data_file.specs as data_file
 pub use Rattle.data_file.specs.ldif_load as ldif_load
 pub use Rattle.data_file.specs.ldif_records as ldif_records

@@ -1,13 +1,15 @@
-//! The files of a command, read from a shelf: a data file, which is loaded as a tree, and a script, whose events a link gives.
+//! The files of a command, read from a shelf: a data file, which is loaded as a tree, and after it a script, whose events a
+//! link gives, requests as text, or the octets of a certificate.
 #![tactic(auto)]
 
 mod loading;
 
 pub use aci_item;
+pub use client_core;
 pub use data_file;
 pub use data_file::{ldif_load, ldif_records};
 pub use dir_tree;
 pub use dir_tree::dn_names;
-pub use loading::{Trouble, load_data, load_script};
+pub use loading::{SecondFile, Trouble, load_asks, load_certificate, load_data, load_script};
 pub use wire_io;
 pub use wire_io::{hex, plain_values, script_text};

@@ -1,9 +1,10 @@
-//! Reading a data file and a script from a shelf.
+//! Reading a data file, and a script, requests or a certificate, from a shelf.
 
 ghost use Rattle.std.specs.Prelude.{◌≡◌, ◌≤◌, length};
-ghost use Rattle.command_files.specs.loading.Accepting.{most_data, most_script};
-ghost use Rattle.command_files.specs.loading.Loading.{LoadsScript, LoadsData, ReadsScript, ReadsData, data_trouble_of_file, trouble_of_data, trouble_of_file, trouble_of_script};
+ghost use Rattle.command_files.specs.loading.Accepting.{most_data, most_second};
+ghost use Rattle.command_files.specs.loading.Loading.{LoadsCertificate, LoadsRequests, LoadsScript, LoadsData, ReadsRequests, ReadsScript, ReadsData, data_trouble_of_file, trouble_of_asks, trouble_of_data, trouble_of_file, trouble_of_script};
 
+use client_core::{AskFault, Asked, read_asks};
 use data_file::ldif_load::LoadCause;
 use data_file::{DataCause, DataFault, load};
 use dir_tree::Tree;
@@ -14,8 +15,19 @@ use wire_io::{ReadFault, ScriptLink, Shelf, read_all};
 /// The most octets that a data file may have.
 const MOST_DATA: u64 = 67_108_864;
 
-/// The most octets that a script file may have.
-const MOST_SCRIPT: u64 = 67_108_864;
+/// The most octets that the file that is read after it may have.
+const MOST_SECOND: u64 = 67_108_864;
+
+/// The file that a command reads after its data file.
+#[derive(Clone, Copy, Debug, PartialEq)]
+pub enum SecondFile {
+    /// A script, whose events are replayed.
+    Script,
+    /// Requests as text, which are asked.
+    Requests,
+    /// The certificate of a decision, which is verified.
+    Certificate,
+}
 
 /// Why a file wasn't read.
 #[derive(Clone, Copy, Debug, PartialEq)]
@@ -24,8 +36,8 @@ pub enum Trouble {
     NoFile,
     /// The data file's first bad line and its cause, or the line where it becomes too long.
     BadData(u64, DataCause),
-    /// The script's first bad line, or the line where it becomes too long.
-    BadLine(u64),
+    /// The first bad line of the file that is read after it, or the line where that becomes too long.
+    BadLine(SecondFile, u64),
     /// There was no memory.
     NoMemory,
 }
@@ -81,15 +93,15 @@ pub fn load_script<H: Shelf>(
     ensures exact { LoadsScript (H.files shelf.old) name.now (H.faults shelf.old) (H.faults shelf.new) result }
     ensures kept { H.files shelf.new ≡ H.files shelf.old }
 {
-    match read_all(alloc, shelf, name, MOST_SCRIPT) {
+    match read_all(alloc, shelf, name, MOST_SECOND) {
         Ok(text) => read_script(alloc, text.as_slice()),
-        Err(fault) => Err(unread(fault)),
+        Err(fault) => Err(unread(SecondFile::Script, fault)),
     }
 }
 
 /// A link that gives the events of the script.
 fn read_script(alloc: Global, text: &[u8]) -> Result<ScriptLink, Trouble>
-    requires { length text.now ≤ most_script }
+    requires { length text.now ≤ most_second }
     ensures exact { ReadsScript text.now result }
 {
     match ScriptLink::read(alloc, text) {
@@ -98,13 +110,50 @@ fn read_script(alloc: Global, text: &[u8]) -> Result<ScriptLink, Trouble>
     }
 }
 
-fn unread(fault: ReadFault) -> Trouble
-    ensures exact { result ≡ trouble_of_file fault }
+/// The requests of the file.
+pub fn load_asks<H: Shelf>(alloc: Global, shelf: &mut H, name: &str) -> Result<Vec<Asked>, Trouble>
+    ensures exact { LoadsRequests (H.files shelf.old) name.now (H.faults shelf.old) (H.faults shelf.new) result }
+    ensures kept { H.files shelf.new ≡ H.files shelf.old }
+{
+    match read_all(alloc, shelf, name, MOST_SECOND) {
+        Ok(text) => read_requests(alloc, text.as_slice()),
+        Err(fault) => Err(unread(SecondFile::Requests, fault)),
+    }
+}
+
+/// The requests of the text.
+fn read_requests(alloc: Global, text: &[u8]) -> Result<Vec<Asked>, Trouble>
+    requires { length text.now ≤ most_second }
+    ensures exact { ReadsRequests text.now result }
+{
+    match read_asks(alloc, text) {
+        Ok(asks) => Ok(asks),
+        Err(fault) => Err(misread_asks(fault)),
+    }
+}
+
+/// The octets of the certificate's file. Whether they have its form is not looked at.
+pub fn load_certificate<H: Shelf>(
+    alloc: Global,
+    shelf: &mut H,
+    name: &str,
+) -> Result<Vec<u8>, Trouble>
+    ensures exact { LoadsCertificate (H.files shelf.old) name.now (H.faults shelf.old) (H.faults shelf.new) result }
+    ensures kept { H.files shelf.new ≡ H.files shelf.old }
+{
+    match read_all(alloc, shelf, name, MOST_SECOND) {
+        Ok(text) => Ok(text),
+        Err(fault) => Err(unread(SecondFile::Certificate, fault)),
+    }
+}
+
+fn unread(kind: SecondFile, fault: ReadFault) -> Trouble
+    ensures exact { result ≡ trouble_of_file kind fault }
 {
     match fault {
         ReadFault::Absent => Trouble::NoFile,
         ReadFault::Failed => Trouble::NoFile,
-        ReadFault::TooLong { line } => Trouble::BadLine(line),
+        ReadFault::TooLong { line } => Trouble::BadLine(kind, line),
         ReadFault::NoMemory => Trouble::NoMemory,
     }
 }
@@ -113,7 +162,16 @@ fn misread(fault: ScriptFault) -> Trouble
     ensures exact { result ≡ trouble_of_script fault }
 {
     match fault {
-        ScriptFault::Bad { line } => Trouble::BadLine(line),
+        ScriptFault::Bad { line } => Trouble::BadLine(SecondFile::Script, line),
         ScriptFault::NoMemory => Trouble::NoMemory,
+    }
+}
+
+fn misread_asks(fault: AskFault) -> Trouble
+    ensures exact { result ≡ trouble_of_asks fault }
+{
+    match fault {
+        AskFault::Bad { line } => Trouble::BadLine(SecondFile::Requests, line),
+        AskFault::NoMemory => Trouble::NoMemory,
     }
 }

@@ -10,7 +10,7 @@ use Rattle.command_words.specs.declared.table.CommandName.TheVariants as command
 use Rattle.command_words.specs.Table.{row_of}
 use Rattle.command_words.specs.Number.{number_of, number_within}
 use Rattle.command_words.specs.Address.{is_address, address_of}
-use Rattle.command_words.specs.command.Command.{CommandView, Serve, Replay, Check, Dump, Explain, Sample}
+use Rattle.command_words.specs.command.Command.{CommandView, Serve, Replay, Check, Dump, Explain, Sample, Ask, Prove, Verify, Rights}
 use Rattle.command_words.specs.parser.Parser.{app_for, id_of}
 use Rattle.command_words.specs.parser.Asked.{command_said, said_by}
 
@@ -175,6 +175,51 @@ sampled = refl
 sample_too_great : read commands.Sample (codes "20001" ∷ []) ≡ None
 unfolding clap_on_literals command_said said_by number_of number_within
 sample_too_great = refl
+
+-- `ask d r`, and with its flag
+asked : read commands.Ask (codes "d" ∷ codes "r" ∷ []) ≡ Some (Ask (codes "d") (codes "r") false)
+unfolding clap_on_literals command_said said_by
+asked = refl
+
+asked_as_script : read commands.Ask (codes "d" ∷ codes "--script" ∷ codes "r" ∷ []) ≡ Some (Ask (codes "d") (codes "r") true)
+unfolding clap_on_literals command_said said_by
+asked_as_script = refl
+
+-- `ask d r --script --script`, `ask d r --script=1` and `ask d r --dump`
+asked_twice : read commands.Ask (codes "d" ∷ codes "r" ∷ codes "--script" ∷ codes "--script" ∷ []) ≡ None
+unfolding clap_on_literals command_said said_by
+asked_twice = refl
+
+asked_with_value : read commands.Ask (codes "d" ∷ codes "r" ∷ codes "--script=1" ∷ []) ≡ None
+unfolding clap_on_literals command_said said_by
+asked_with_value = refl
+
+ask_dumped : read commands.Ask (codes "d" ∷ codes "r" ∷ codes "--dump" ∷ []) ≡ None
+unfolding clap_on_literals command_said said_by
+ask_dumped = refl
+
+-- `prove d anonymous dc=t entry Read`
+proved : read commands.Prove (codes "d" ∷ codes "anonymous" ∷ codes "dc=t" ∷ codes "entry" ∷ codes "Read" ∷ []) ≡ Some (Prove (codes "d") (codes "anonymous") (codes "dc=t") (codes "entry") (codes "Read"))
+unfolding clap_on_literals command_said said_by
+proved = refl
+
+-- `verify d c`, and `verify d`
+verified : read commands.Verify (codes "d" ∷ codes "c" ∷ []) ≡ Some (Verify (codes "d") (codes "c"))
+unfolding clap_on_literals command_said said_by
+verified = refl
+
+verify_of_one : read commands.Verify (codes "d" ∷ []) ≡ None
+unfolding clap_on_literals command_said said_by
+verify_of_one = refl
+
+-- `rights d anonymous dc=t`, and with `--script`, which is none of its options
+all_rights : read commands.Rights (codes "d" ∷ codes "anonymous" ∷ codes "dc=t" ∷ []) ≡ Some (Rights (codes "d") (codes "anonymous") (codes "dc=t"))
+unfolding clap_on_literals command_said said_by
+all_rights = refl
+
+rights_as_script : read commands.Rights (codes "d" ∷ codes "anonymous" ∷ codes "dc=t" ∷ codes "--script" ∷ []) ≡ None
+unfolding clap_on_literals command_said said_by
+rights_as_script = refl
 
 -- the least and the greatest port, and what is none
 least_port : is_address (codes "127.0.0.1:00001") ≡ true

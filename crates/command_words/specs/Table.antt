@@ -20,10 +20,14 @@ row_of commands.Check = record { name = codes "check"; operands = 1; options = [
 row_of commands.Dump = record { name = codes "dump"; operands = 1; options = [] }
 row_of commands.Explain = record { name = codes "explain"; operands = 5; options = [] }
 row_of commands.Sample = record { name = codes "sample"; operands = 1; options = [] }
+row_of commands.Ask = record { name = codes "ask"; operands = 2; options = options.Script ∷ [] }
+row_of commands.Prove = record { name = codes "prove"; operands = 5; options = [] }
+row_of commands.Verify = record { name = codes "verify"; operands = 2; options = [] }
+row_of commands.Rights = record { name = codes "rights"; operands = 3; options = [] }
 
 -- all commands
 abbrev pub all_commands : List CommandName
-all_commands = commands.Serve ∷ commands.Replay ∷ commands.Check ∷ commands.Dump ∷ commands.Explain ∷ commands.Sample ∷ []
+all_commands = commands.Serve ∷ commands.Replay ∷ commands.Check ∷ commands.Dump ∷ commands.Explain ∷ commands.Sample ∷ commands.Ask ∷ commands.Prove ∷ commands.Verify ∷ commands.Rights ∷ []
 
 -- the table of options: what follows the two dashes
 abbrev pub option_word : OptionName → List ℕ
@@ -33,6 +37,7 @@ option_word options.Queues = codes "queues"
 option_word options.Idle = codes "idle"
 option_word options.Limit = codes "limit"
 option_word options.Dump = codes "dump"
+option_word options.Script = codes "script"
 
 -- whether the option has an argument
 abbrev pub takes_argument : OptionName → Bool
@@ -42,6 +47,7 @@ takes_argument options.Queues = true
 takes_argument options.Idle = true
 takes_argument options.Limit = true
 takes_argument options.Dump = false
+takes_argument options.Script = false
 
 -- the same option: of one word
 abbrev pub is_same_option : OptionName → OptionName → Bool

@@ -101,6 +101,33 @@ pub enum Command<'a> {
     Sample {
         count: u64,
     },
+    /// `ask DATA REQUESTS [--script]`: the names of the two files, and whether the script that sends the requests is asked
+    /// for in place of their replies.
+    Ask {
+        data: &'a str,
+        requests: &'a str,
+        script: bool,
+    },
+    /// `prove DATA WHO TARGET ITEM PERMISSION`: the name of the file, and the texts that ask for the certificate of one
+    /// decision, as they stand.
+    Prove {
+        data: &'a str,
+        who: &'a str,
+        target: &'a str,
+        item: &'a str,
+        permission: &'a str,
+    },
+    /// `verify DATA CERTIFICATE`: the names of the two files.
+    Verify {
+        data: &'a str,
+        certificate: &'a str,
+    },
+    /// `rights DATA WHO TARGET`: the name of the file, and the texts that ask for all decisions on one entry, as they stand.
+    Rights {
+        data: &'a str,
+        who: &'a str,
+        target: &'a str,
+    },
 }
 
 /// The command that the words after the program's name ask for, or `None` where they ask for none.
@@ -181,6 +208,10 @@ fn read_kept<'a>(command: CommandName, matches: &ArgMatches<'a>) -> Option<Comma
         CommandName::Dump => read_dump(matches),
         CommandName::Explain => read_explain(matches),
         CommandName::Sample => read_sample(matches),
+        CommandName::Ask => read_ask(matches),
+        CommandName::Prove => read_prove(matches),
+        CommandName::Verify => read_verify(matches),
+        CommandName::Rights => read_rights(matches),
     }
 }
 
@@ -274,4 +305,55 @@ fn read_sample<'a>(matches: &ArgMatches<'a>) -> Option<Command<'a>>
     let count = kept_text(matches, Sought::Operands, 0)?;
     let count = number_within(20, 1, 20_000, count)?;
     Some(Command::Sample { count })
+}
+
+#[tactic(auto, unfolding(crate::specs::parser::Asked::command_said))]
+fn read_ask<'a>(matches: &ArgMatches<'a>) -> Option<Command<'a>>
+    ensures { option_map view result ≡ kept_said CommandName.Ask (kept_in matches.now) }
+{
+    let data = kept_text(matches, Sought::Operands, 0)?;
+    let requests = kept_text(matches, Sought::Operands, 1)?;
+    let script = is_set(matches, OptionName::Script);
+    Some(Command::Ask {
+        data,
+        requests,
+        script,
+    })
+}
+
+#[tactic(auto, unfolding(crate::specs::parser::Asked::command_said))]
+fn read_prove<'a>(matches: &ArgMatches<'a>) -> Option<Command<'a>>
+    ensures { option_map view result ≡ kept_said CommandName.Prove (kept_in matches.now) }
+{
+    let data = kept_text(matches, Sought::Operands, 0)?;
+    let who = kept_text(matches, Sought::Operands, 1)?;
+    let target = kept_text(matches, Sought::Operands, 2)?;
+    let item = kept_text(matches, Sought::Operands, 3)?;
+    let permission = kept_text(matches, Sought::Operands, 4)?;
+    Some(Command::Prove {
+        data,
+        who,
+        target,
+        item,
+        permission,
+    })
+}
+
+#[tactic(auto, unfolding(crate::specs::parser::Asked::command_said))]
+fn read_verify<'a>(matches: &ArgMatches<'a>) -> Option<Command<'a>>
+    ensures { option_map view result ≡ kept_said CommandName.Verify (kept_in matches.now) }
+{
+    let data = kept_text(matches, Sought::Operands, 0)?;
+    let certificate = kept_text(matches, Sought::Operands, 1)?;
+    Some(Command::Verify { data, certificate })
+}
+
+#[tactic(auto, unfolding(crate::specs::parser::Asked::command_said))]
+fn read_rights<'a>(matches: &ArgMatches<'a>) -> Option<Command<'a>>
+    ensures { option_map view result ≡ kept_said CommandName.Rights (kept_in matches.now) }
+{
+    let data = kept_text(matches, Sought::Operands, 0)?;
+    let who = kept_text(matches, Sought::Operands, 1)?;
+    let target = kept_text(matches, Sought::Operands, 2)?;
+    Some(Command::Rights { data, who, target })
 }

@@ -12,6 +12,10 @@ pub enum CommandName {
     Dump,
     Explain,
     Sample,
+    Ask,
+    Prove,
+    Verify,
+    Rights,
 }
 
 /// The options of the program's commands.
@@ -23,6 +27,7 @@ pub enum OptionName {
     Idle,
     Limit,
     Dump,
+    Script,
 }
 
 /// What a line is read for: its operands, or the arguments of an option.
@@ -43,6 +48,10 @@ impl CommandName {
             CommandName::Dump,
             CommandName::Explain,
             CommandName::Sample,
+            CommandName::Ask,
+            CommandName::Prove,
+            CommandName::Verify,
+            CommandName::Rights,
         ]
     }
 
@@ -66,6 +75,10 @@ impl CommandName {
             CommandName::Dump => "dump",
             CommandName::Explain => "explain",
             CommandName::Sample => "sample",
+            CommandName::Ask => "ask",
+            CommandName::Prove => "prove",
+            CommandName::Verify => "verify",
+            CommandName::Rights => "rights",
         }
     }
 
@@ -79,6 +92,10 @@ impl CommandName {
             CommandName::Dump => 1,
             CommandName::Explain => 5,
             CommandName::Sample => 1,
+            CommandName::Ask => 2,
+            CommandName::Prove => 5,
+            CommandName::Verify => 2,
+            CommandName::Rights => 3,
         }
     }
 
@@ -98,6 +115,10 @@ impl CommandName {
             CommandName::Dump => &[],
             CommandName::Explain => &[],
             CommandName::Sample => &[],
+            CommandName::Ask => &[OptionName::Script],
+            CommandName::Prove => &[],
+            CommandName::Verify => &[],
+            CommandName::Rights => &[],
         }
     }
 }
@@ -114,6 +135,7 @@ impl OptionName {
             OptionName::Idle => "idle",
             OptionName::Limit => "limit",
             OptionName::Dump => "dump",
+            OptionName::Script => "script",
         }
     }
 
@@ -127,6 +149,7 @@ impl OptionName {
             OptionName::Idle => true,
             OptionName::Limit => true,
             OptionName::Dump => false,
+            OptionName::Script => false,
         }
     }
 }

@@ -59,6 +59,28 @@ fn answer(alloc: Global, words: &[String]) -> Result<String, AllocError> {
             },
         ) => format!(in alloc; "explain [{data}] [{who}] [{target}] [{item}] [{permission}]"),
         Some(Command::Sample { count }) => format!(in alloc; "sample {count}"),
+        Some(
+            Command::Ask {
+                data,
+                requests,
+                script,
+            },
+        ) => format!(in alloc; "ask [{data}] [{requests}]{}", if script { " script" } else { "" }),
+        Some(
+            Command::Prove {
+                data,
+                who,
+                target,
+                item,
+                permission,
+            },
+        ) => format!(in alloc; "prove [{data}] [{who}] [{target}] [{item}] [{permission}]"),
+        Some(Command::Verify { data, certificate }) => {
+            format!(in alloc; "verify [{data}] [{certificate}]")
+        }
+        Some(Command::Rights { data, who, target }) => {
+            format!(in alloc; "rights [{data}] [{who}] [{target}]")
+        }
         None => String::from_str(alloc, "usage"),
     }
 }
@@ -69,7 +91,7 @@ fn asked(alloc: Global, line: &str) -> Result<String, AllocError> {
     answer(alloc, words.as_slice())
 }
 
-static READ: [(&str, &str); 84] = [
+static READ: [(&str, &str); 92] = [
     // a replay
     ("replay d s", "[d] [s] 1000000000000"),
     ("replay d s --turns 5", "[d] [s] 5"),
@@ -239,6 +261,19 @@ static READ: [(&str, &str); 84] = [
     ("sample 20000", "sample 20000"),
     ("sample -- 4", "sample 4"),
     ("sample 00000000000000000004", "sample 4"),
+    // requests that are asked
+    ("ask d r", "ask [d] [r]"),
+    ("ask --script d r", "ask [d] [r] script"),
+    ("ask d r --script", "ask [d] [r] script"),
+    ("ask d -- --script", "ask [d] [--script]"),
+    // a certificate, and rights
+    (
+        "prove d anonymous dc=example entry Read",
+        "prove [d] [anonymous] [dc=example] [entry] [Read]",
+    ),
+    ("verify d c", "verify [d] [c]"),
+    ("verify d -", "verify [d] [-]"),
+    ("rights d anonymous dc=example", "rights [d] [anonymous] [dc=example]"),
 ];
 
 #[test]
@@ -250,7 +285,7 @@ fn each_way_of_writing_a_command_is_read(rt: HostRuntime) -> Result<(), Fail> {
     Ok(())
 }
 
-static REFUSED: [&str; 199] = [
+static REFUSED: [&str; 213] = [
     // other words
     "",
     "Replay d s",
@@ -306,6 +341,14 @@ static REFUSED: [&str; 199] = [
     "explain d anonymous dc=example entry Read ",
     "sample",
     "sample 4 4",
+    "ask",
+    "ask d",
+    "ask d r x",
+    "prove d anonymous dc=example entry",
+    "verify d",
+    "verify d c x",
+    "rights d anonymous",
+    "rights d anonymous dc=example entry",
     // what is no address
     "serve d 127.0.0.1",
     "serve d 127.0.0.1:",
@@ -421,6 +464,12 @@ static REFUSED: [&str; 199] = [
     "sample 4 --turns 5",
     "sample --sessions=3 4",
     "sample --count 4",
+    "ask d r --script=1",
+    "ask d r --script --script",
+    "ask d r --dump",
+    "prove d anonymous dc=example entry Read --script",
+    "verify d c --script",
+    "rights d anonymous dc=example --turns 5",
     // a dump with a value, or given twice
     "replay d s --dump=",
     "replay d s --dump=x",

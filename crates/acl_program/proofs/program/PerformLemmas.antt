@@ -1,20 +1,24 @@
 -- What the parts of a command say together of how it ended.
-use Rattle.std.proofs.Common.{◌≡◌, ℕ, List, Option, Some, Ok, Err, refl, subst, ◌∙◌, inl, inr}
+use Rattle.std.proofs.Common.{◌≡◌, ℕ, Bool, List, Option, Some, None, Ok, Err, refl, sym, subst, ◌∙◌, inl, inr}
 use Rattle.command_files.specs.wire_io.Files.{Files}
+use Rattle.command_files.specs.wire_io.Scripted.{LinkState}
+use Rattle.command_files.proofs.wire_io_proofs.Theorems.{appended-none}
 use Rattle.command_words.specs.command.Command.{CommandView, IsCommand, Replay, Check, Dump}
-use Rattle.command_files.specs.dir_tree.tree.Numbered.{Numbered}
-use Rattle.command_files.specs.dir_tree.tree.Numbered.{entries_of}
+use Rattle.command_files.specs.dir_tree.tree.Numbered.{Numbered, entries_of}
 use Rattle.acl_program.specs.declared.status.Status.{Status}
+use Rattle.acl_program.specs.declared.status.Status.TheVariants.{NoMemory}
 use Rattle.command_files.specs.declared.loading.Trouble.{Trouble}
 use Rattle.command_files.specs.declared.loading.Trouble.TheVariants as trouble
-use Rattle.acl_program.specs.Outcomes.{Outcome, NoCommand, NoFile, BadDataLine, BadLine, Checked, Dumped, Replayed, Served, Explained, Sampled, OutOfMemory}
-use Rattle.command_files.specs.loading.Accepting.{IsUnread}
-use Rattle.acl_program.specs.program.Causes.{AsksData, Comes, Links, data_of}
-use Rattle.acl_program.specs.program.Outside.{Linked, Outside}
+use Rattle.command_files.specs.loading.Accepting.{IsUnread, HoldsIn}
+use Rattle.command_files.specs.loading.Loading.{IsRefused, LoadsData, LoadsScript}
+use Rattle.acl_program.specs.Answering.{Tells}
+use Rattle.acl_program.specs.Outcomes.{Checked, Dumped, Replayed, Answered, OutOfMemory}
+use Rattle.acl_program.specs.program.Causes.{AsksData, Comes, IsBadSecond, Links, RefusesSecond, Second, data_of, second_of}
+use Rattle.acl_program.specs.program.Outside.{Linked, Outside, Written, beside, shelved}
 use Rattle.acl_program.specs.program.Playing.{Ends, ComesFor, Performs}
-use Rattle.acl_program.specs.Asked.{ReplayAsked, ReplayComes, Replays}
-use Rattle.command_files.specs.loading.Loading.{LoadsData}
 use Rattle.acl_program.specs.Troubles.{outcome_of}
+use Rattle.acl_program.proofs.troubles.EndsLemmas.{Ends-no_memory}
+use Rattle.acl_program.proofs.program.AcceptLemmas.{HoldsIn-weaker}
 
 -- a file that wasn't read after a count stayed
 unread_later : (files : Option Files) (name : List ℕ) (before middle after : ℕ) → middle ≡ before → IsUnread files name middle after → IsUnread files name before after
@@ -29,7 +33,7 @@ data_refused asked name files before after trouble.NoFile names loads =
     λ words is. inl (record { data_file = name; asked = (asked, is, names); unread = loads })
 data_refused asked name files before after (trouble.BadData line cause) names loads =
     λ words is. (inl (record { data_file = name; asked = (asked, is, names); bad = loads.0 }), loads.1)
-data_refused asked name files before after (trouble.BadLine line) names loads = absurd loads
+data_refused asked name files before after (trouble.BadLine file line) names loads = absurd loads
 data_refused asked name files before after trouble.NoMemory names loads = λ words is. loads
 
 -- a file that wasn't read leaves the link as it is
@@ -37,7 +41,7 @@ links_refused : (why : Trouble) (before after : Linked) → after ≡ before →
 unfolding Links
 links_refused trouble.NoFile before after stays = stays
 links_refused (trouble.BadData line cause) before after stays = stays
-links_refused (trouble.BadLine line) before after stays = stays
+links_refused (trouble.BadLine file line) before after stays = stays
 links_refused trouble.NoMemory before after stays = stays
 
 pub Performs-refused :
@@ -69,82 +73,77 @@ unfolding Performs LoadsData Comes Links
 Performs-dumped name before after status rows loads ends stays =
     (Dumped (entries_of rows), (λ words is. (record { data_file = name; asked = is; good = loads.0 }, loads.2)), ends, stays)
 
--- an outcome of a replay over a data file is one of the command
-replay_comes :
-    (name : List ℕ) (asked : ReplayAsked) (rows : List Numbered) (files : Option Files) (before middle after : ℕ) (outcome : Outcome)
-    → asked.entries ≡ entries_of rows → LoadsData files name before middle (Ok rows) → ReplayComes asked files middle after outcome
-    → ComesFor (Replay name asked.script asked.turns asked.dump) files before after outcome
-unfolding LoadsData Comes
-replay_comes name asked rows files before middle after NoCommand over loads comes = absurd comes
-replay_comes name asked rows files before middle after NoFile over loads comes =
+-- a second file that isn't taken, after the data file was loaded
+second_refused :
+    (asked : CommandView) (name : List ℕ) (read : Second) (rows : List Numbered) (bad : ℕ → List ℕ → Type 0) (files : Option Files) (before middle after : ℕ) (why : Trouble)
+    → data_of asked ≡ Some name → second_of asked ≡ Some read → ((line : ℕ) (content : List ℕ) → bad line content → IsBadSecond read.kind (entries_of rows) line content)
+    → LoadsData files name before middle (Ok rows) → IsRefused read.kind bad files read.name middle after why → ComesFor asked files before after (outcome_of why)
+unfolding LoadsData IsRefused Comes
+second_refused asked name read rows bad files before middle after trouble.NoFile has_data has_second is_bad loads refused =
     λ words is. inr (record {
-      script = asked.script;
-      turns = asked.turns;
-      dump = asked.dump;
+      read = read;
       entries = entries_of rows;
-      asked = record { data_file = name; asked = is; good = loads.0 };
-      unread = unread_later files asked.script before middle after loads.2 comes;
+      asked = record { command = asked; data_file = name; asked = is; has_data = has_data; has_second = has_second; good = loads.0 };
+      unread = unread_later files read.name before middle after loads.2 refused;
     })
-replay_comes name asked rows files before middle after (BadDataLine line cause) over loads comes = absurd comes
-replay_comes name asked rows files before middle after (BadLine line) over loads comes =
-    λ words is. (
-      record {
-        script = asked.script;
-        turns = asked.turns;
-        dump = asked.dump;
-        entries = entries_of rows;
-        asked = record { data_file = name; asked = is; good = loads.0 };
-        bad = comes.0;
-      },
-      comes.1 ∙ loads.2,
-    )
-replay_comes name asked rows files before middle after (Checked found) over loads comes = absurd comes
-replay_comes name asked rows files before middle after (Dumped found) over loads comes = absurd comes
-replay_comes name asked rows files before middle after (Replayed events turns dumped found) over loads comes =
-    λ words is. (
-      record {
-        script = asked.script;
-        asked = record {
-          data_file = name;
-          asked = rw (comes.0, comes.1) is;
-          good = rw (comes.2 ∙ over) loads.0;
-        };
-        good = comes.3;
-      },
-      comes.4 ∙ loads.2,
-    )
-replay_comes name asked rows files before middle after (Served other end) over loads comes = absurd comes
-replay_comes name asked rows files before middle after (Explained text) over loads comes = absurd comes
-replay_comes name asked rows files before middle after (Sampled text) over loads comes = absurd comes
-replay_comes name asked rows files before middle after OutOfMemory over loads comes = λ words is. comes ∙ loads.2
+second_refused asked name read rows bad files before middle after (trouble.BadData line cause) has_data has_second is_bad loads refused = absurd refused
+second_refused asked name read rows bad files before middle after (trouble.BadLine file line) has_data has_second is_bad loads refused =
+    let refuses : (words : List (List ℕ)) → IsCommand words asked → RefusesSecond words files read.kind line = λ words is. record {
+      name = read.name;
+      entries = entries_of rows;
+      asked = record { command = asked; data_file = name; asked = is; has_data = has_data; has_second = has_second; good = loads.0 };
+      bad = HoldsIn-weaker files read.name (bad line) (IsBadSecond read.kind (entries_of rows) line) (is_bad line) refused.1;
+    } in
+    λ words is. (subst (λ kind. RefusesSecond words files kind line) (sym refused.0) (refuses words is), refused.2 ∙ loads.2)
+second_refused asked name read rows bad files before middle after trouble.NoMemory has_data has_second is_bad loads refused = λ words is. refused ∙ loads.2
 
--- a replay leaves the link as it is
-links_replay : (asked : ReplayAsked) (files : Option Files) (middle after : ℕ) (outcome : Outcome) (old new : Linked) → ReplayComes asked files middle after outcome → new ≡ old → Links outcome old new
-unfolding Links
-links_replay asked files middle after NoCommand old new comes same = absurd comes
-links_replay asked files middle after NoFile old new comes same = same
-links_replay asked files middle after (BadDataLine line cause) old new comes same = absurd comes
-links_replay asked files middle after (BadLine line) old new comes same = same
-links_replay asked files middle after (Checked found) old new comes same = absurd comes
-links_replay asked files middle after (Dumped found) old new comes same = absurd comes
-links_replay asked files middle after (Replayed events turns dumped found) old new comes same = same
-links_replay asked files middle after (Served other end) old new comes same = absurd comes
-links_replay asked files middle after (Explained text) old new comes same = absurd comes
-links_replay asked files middle after (Sampled text) old new comes same = absurd comes
-links_replay asked files middle after OutOfMemory old new comes same = same
+pub Performs-second_refused :
+    (asked : CommandView) (name : List ℕ) (read : Second) (bad : ℕ → List ℕ → Type 0) (before after : Outside) (middle : ℕ) (status : Status) (rows : List Numbered) (why : Trouble)
+    → data_of asked ≡ Some name → second_of asked ≡ Some read → ((line : ℕ) (content : List ℕ) → bad line content → IsBadSecond read.kind (entries_of rows) line content)
+    → LoadsData before.shelf.files name before.shelf.faults middle (Ok rows) → IsRefused read.kind bad before.shelf.files read.name middle after.shelf.faults why
+    → Ends (outcome_of why) before.out status after.out → after.link ≡ before.link → Performs asked before status after
+unfolding Performs
+Performs-second_refused asked name read bad before after middle status rows why has_data has_second is_bad loads refused ends stays = (
+  outcome_of why,
+  second_refused asked name read rows bad before.shelf.files before.shelf.faults middle after.shelf.faults why has_data has_second is_bad loads refused,
+  ends,
+  links_refused why before.link after.link stays,
+)
 
--- a replay after its data file was loaded, from the shelf as it then was
+-- a command after its data file was loaded, from the shelf as it then was
+pub Performs-after :
+    (asked : CommandView) (files kept : Option Files) (name : List ℕ) (count middle : ℕ) (out : Written) (link : Linked) (status : Status) (after : Outside) (rows : List Numbered)
+    → kept ≡ files → LoadsData files name count middle (Ok rows)
+    → (LoadsData kept name count middle (Ok rows) → Performs asked (beside (shelved kept count) out link) status after) → Performs asked (beside (shelved files count) out link) status after
+Performs-after asked files kept name count middle out link status after rows same loads performs =
+    let P : Option Files → Type 0 = λ known. Performs asked (beside (shelved known count) out link) status after in
+    let Q : Option Files → Type 0 = λ known. LoadsData known name count middle (Ok rows) in
+    subst P same (performs (subst Q (sym same) loads))
+
+-- a script was replayed
 pub Performs-replayed :
-    (name : List ℕ) (asked : ReplayAsked) (before after : Outside) (kept : Option Files) (middle : ℕ) (status : Status) (rows : List Numbered)
-    → asked.entries ≡ entries_of rows → LoadsData before.shelf.files name before.shelf.faults middle (Ok rows) → kept ≡ before.shelf.files
-    → Replays asked (record { shelf = record { files = kept; faults = middle }; out = before.out; link = before.link }) status after
-    → after.link ≡ before.link → Performs (Replay name asked.script asked.turns asked.dump) before status after
-unfolding Performs Replays
-Performs-replayed name asked before after kept middle status rows over loads stays replays same =
-    let comes : ReplayComes asked before.shelf.files middle after.shelf.faults replays.0 =
-    subst (λ shown. ReplayComes asked shown middle after.shelf.faults replays.0) stays replays.1 in (
-      replays.0,
-      replay_comes name asked rows before.shelf.files before.shelf.faults middle after.shelf.faults replays.0 over loads comes,
-      replays.2,
-      links_replay asked before.shelf.files middle after.shelf.faults replays.0 before.link after.link comes same,
-    )
+    (name script : List ℕ) (turns : ℕ) (dump : Bool) (before after : Outside) (middle : ℕ) (status : Status) (rows : List Numbered) (link : LinkState)
+    → LoadsData before.shelf.files name before.shelf.faults middle (Ok rows) → LoadsScript before.shelf.files script middle after.shelf.faults (Ok link)
+    → Ends (Replayed link.plan.to_come turns dump (entries_of rows)) before.out status after.out → after.link ≡ before.link → Performs (Replay name script turns dump) before status after
+unfolding Performs LoadsData LoadsScript Comes Links
+Performs-replayed name script turns dump before after middle status rows link loads reads ends same = (
+  Replayed link.plan.to_come turns dump (entries_of rows),
+  (λ words is. (record { script = script; asked = record { data_file = name; asked = is; good = loads.0 }; good = reads.0 }, reads.2 ∙ loads.2)),
+  ends,
+  same,
+)
+
+-- something was answered
+pub Performs-answered :
+    (asked : CommandView) (text : List ℕ) (before after : Outside) (status : Status)
+    → Tells asked (HoldsIn before.shelf.files) text → after.shelf.faults ≡ before.shelf.faults → Ends (Answered text) before.out status after.out
+    → after.link ≡ before.link → Performs asked before status after
+unfolding Performs Comes Links
+Performs-answered asked text before after status tells stays ends same =
+    (Answered text, (λ words is. (record { command = asked; asked = is; tells = tells }, stays)), ends, same)
+
+-- there was no memory for the command
+pub Performs-no_memory : (asked : CommandView) (before : Outside) → Performs asked before NoMemory before
+unfolding Performs Comes Links
+Performs-no_memory asked before =
+    (OutOfMemory, (λ words is. refl), Ends-no_memory OutOfMemory before.out before.out 0 (appended-none before.out.put) refl, refl)

@@ -17,18 +17,14 @@ use Rattle.command_files.specs.dir_tree.tree.Numbered.{Numbered}
 use Rattle.command_files.specs.dir_tree.tree.Numbered.{entries_of}
 use Rattle.command_files.specs.aci_item.Rules.{IsGoodTree}
 use Rattle.acl_program.specs.declared.status.Status.{Status}
-use Rattle.acl_program.specs.declared.status.Status.TheVariants.{Done, Usage, BadData, ShelfFault, SinkFault, LinkFault, TurnsSpent, NoMemory, BadScript}
-use Rattle.command_files.specs.declared.loading.Trouble.{Trouble}
-use Rattle.command_files.specs.declared.loading.Trouble.TheVariants as trouble
-use Rattle.acl_program.specs.Outcomes.{Outcome, NoCommand, NoFile, BadLine, Replayed, OutOfMemory, dump_text, text_of, status_of}
+use Rattle.acl_program.specs.declared.status.Status.TheVariants.{Done, Usage, BadData, ShelfFault, SinkFault, LinkFault, TurnsSpent, NoMemory, BadScript, NotProved}
+use Rattle.acl_program.specs.Outcomes.{Outcome, NoCommand, Replayed, OutOfMemory, dump_text, text_of, status_of}
 use Rattle.acl_program.specs.Lines.{entries_after}
 use Rattle.acl_program.specs.program.Causes.{IsNoCommand, IsPerformed, AsksServing, Comes, Links, IsDue}
 use Rattle.acl_program.specs.program.Running.{Prints, Puts, EndsAs, IsCause, EndsAtFaults}
 use Rattle.acl_program.specs.program.Outside.{Written, Outside}
 use Rattle.acl_program.specs.program.Playing.{IsSinkCount, Plays, Shows, Ends, Performs, Runs, journal_text}
-use Rattle.acl_program.specs.Asked.{ReplayAsked, Replays}
 use Rattle.command_files.specs.loading.Loading.{LoadsScript, LoadsData}
-use Rattle.acl_program.specs.Troubles.{outcome_of}
 use Rattle.acl_program.proofs.troubles.EndsLemmas.{Ends-no_memory}
 use Rattle.acl_program.proofs.status.OutcomeLemmas.{usage_comes, cause_comes, faults_end, link_stays}
 use Rattle.acl_program.proofs.program.DueLemmas.{due_comes}
@@ -86,22 +82,6 @@ LoadsScript-fresh files name before after link loads = loads.1
 pub LoadsData-good : (files : Option Files) (name : List ℕ) (before after : ℕ) (rows : List Numbered) → LoadsData files name before after (Ok rows) → IsGoodTree (entries_of rows)
 unfolding LoadsData
 LoadsData-good files name before after rows loads = loads.1
-
-module _ (asked : ReplayAsked) (before after : Outside) (status : Status) where
-  -- the script was read and replayed
-  pub Replays-played : (link : LinkState) → LoadsScript before.shelf.files asked.script before.shelf.faults after.shelf.faults (Ok link)
-      → Ends (Replayed link.plan.to_come asked.turns asked.dump asked.entries) before.out status after.out → Replays asked before status after
-  unfolding Replays LoadsScript
-  Replays-played link loads ends = (Replayed link.plan.to_come asked.turns asked.dump asked.entries, (refl, refl, refl, loads.0, loads.2), ends)
-
-  -- the script wasn't read
-  pub Replays-refused : (why : Trouble) → LoadsScript before.shelf.files asked.script before.shelf.faults after.shelf.faults (Err why)
-      → Ends (outcome_of why) before.out status after.out → Replays asked before status after
-  unfolding Replays LoadsScript
-  Replays-refused trouble.NoFile loads ends = (NoFile, loads, ends)
-  Replays-refused (trouble.BadData line cause) loads ends = absurd loads
-  Replays-refused (trouble.BadLine line) loads ends = (BadLine line, loads, ends)
-  Replays-refused trouble.NoMemory loads ends = (OutOfMemory, loads, ends)
 
 -- the words ask for this command
 pub Runs-performed :
@@ -162,6 +142,7 @@ status_is outcome old LinkFault new puts = inr (inr puts.0)
 status_is outcome old TurnsSpent new puts = inr (inr puts.0)
 status_is outcome old NoMemory new puts = inr (inl refl)
 status_is outcome old BadScript new puts = inr (inr puts.0)
+status_is outcome old NotProved new puts = inr (inr puts.0)
 
 -- so it is where it is none of these two
 status_comes : (outcome : Outcome) (old : Option (List ℕ)) (status wanted : Status) (new : Option (List ℕ)) → Puts outcome old status new → status ≡ wanted

@@ -6,12 +6,13 @@ use Rattle.command_files.specs.wire_io.Files.{Files}
 use Rattle.command_files.specs.wire_io.Pieces.{pieces}
 use Rattle.session_hub.specs.serve.Loops.{buffer_length}
 use Rattle.command_files.specs.dir_tree.Entry.{EntryInformation}
+use Rattle.command_files.specs.declared.loading.SecondFile.{SecondFile}
 use Rattle.command_files.specs.ldif_load.load.DataFile.{FileCause}
 use Rattle.acl_program.specs.declared.status.Status.{Status}
-use Rattle.acl_program.specs.declared.status.Status.TheVariants.{Done, Usage, BadData, ShelfFault, SinkFault, LinkFault, TurnsSpent, NoMemory, BadScript}
+use Rattle.acl_program.specs.declared.status.Status.TheVariants.{Done, Usage, BadData, ShelfFault, SinkFault, LinkFault, TurnsSpent, NoMemory, BadScript, NotProved}
 use Rattle.acl_program.specs.program.Outside.{Linked, Outside}
-use Rattle.acl_program.specs.Outcomes.{Outcome, NoCommand, NoFile, BadDataLine, BadLine, Checked, Dumped, Replayed, Served, Explained, Sampled, OutOfMemory, status_of}
-use Rattle.acl_program.specs.program.Causes.{IsNoCommand, AsksServing, AsksServe, LacksData, LacksScript, RefusesData, RefusesScript, Comes, Links}
+use Rattle.acl_program.specs.Outcomes.{Outcome, NoCommand, NoFile, BadDataLine, BadLine, FalseLine, Checked, Dumped, Replayed, Served, Answered, Sampled, OutOfMemory, status_of}
+use Rattle.acl_program.specs.program.Causes.{IsNoCommand, AsksServing, AsksServe, LacksData, LacksSecond, RefusesData, RefusesSecond, RefutesCertificate, Comes, Links}
 use Rattle.acl_program.specs.Sampling.{RefusesSample}
 use Rattle.acl_program.specs.program.Running.{Puts, IsCause, EndsAtFaults}
 use Rattle.acl_program.specs.program.Playing.{Ends}
@@ -40,12 +41,13 @@ unfolding status_of Comes
 usage_comes words files before after NoCommand is comes = comes.0
 usage_comes words files before after NoFile is comes = absurd (cc)
 usage_comes words files before after (BadDataLine line cause) is comes = absurd (cc)
-usage_comes words files before after (BadLine line) is comes = absurd (cc)
+usage_comes words files before after (BadLine file line) is comes = absurd (cc)
+usage_comes words files before after (FalseLine line) is comes = absurd (cc)
 usage_comes words files before after (Checked entries) is comes = absurd (cc)
 usage_comes words files before after (Dumped entries) is comes = absurd (cc)
 usage_comes words files before after (Replayed events turns dump entries) is comes = absurd (not_replayed Usage events turns dump entries is (λ e. cc) (λ e. cc))
 usage_comes words files before after (Served asked end) is comes = absurd (serve_not Usage end is (λ e. cc) (λ e. cc) (λ e. cc) (λ e. cc))
-usage_comes words files before after (Explained text) is comes = absurd (cc)
+usage_comes words files before after (Answered text) is comes = absurd (cc)
 usage_comes words files before after (Sampled text) is comes = absurd (cc)
 usage_comes words files before after OutOfMemory is comes = absurd (cc)
 
@@ -57,44 +59,63 @@ unfolding status_of Comes
 data_cause words files before after NoCommand is comes = absurd (cc)
 data_cause words files before after NoFile is comes = absurd (cc)
 data_cause words files before after (BadDataLine line cause) is comes = (line, cause, comes.0)
-data_cause words files before after (BadLine line) is comes = absurd (cc)
+data_cause words files before after (BadLine file line) is comes = absurd (cc)
+data_cause words files before after (FalseLine line) is comes = absurd (cc)
 data_cause words files before after (Checked entries) is comes = absurd (cc)
 data_cause words files before after (Dumped entries) is comes = absurd (cc)
 data_cause words files before after (Replayed events turns dump entries) is comes = absurd (not_replayed BadData events turns dump entries is (λ e. cc) (λ e. cc))
 data_cause words files before after (Served asked end) is comes = absurd (serve_not BadData end is (λ e. cc) (λ e. cc) (λ e. cc) (λ e. cc))
-data_cause words files before after (Explained text) is comes = absurd (cc)
+data_cause words files before after (Answered text) is comes = absurd (cc)
 data_cause words files before after (Sampled text) is comes = absurd (cc)
 data_cause words files before after OutOfMemory is comes = absurd (cc)
 
 shelf_cause : (words : List (List ℕ)) (files : Option Files) (before after : ℕ) (outcome : Outcome)
-    → ShelfFault ≡ status_of outcome → Comes words files before after outcome → LacksData words files before after ⊎ LacksScript words files before after
+    → ShelfFault ≡ status_of outcome → Comes words files before after outcome → LacksData words files before after ⊎ LacksSecond words files before after
 unfolding status_of Comes
 shelf_cause words files before after NoCommand is comes = absurd (cc)
 shelf_cause words files before after NoFile is comes = comes
 shelf_cause words files before after (BadDataLine line cause) is comes = absurd (cc)
-shelf_cause words files before after (BadLine line) is comes = absurd (cc)
+shelf_cause words files before after (BadLine file line) is comes = absurd (cc)
+shelf_cause words files before after (FalseLine line) is comes = absurd (cc)
 shelf_cause words files before after (Checked entries) is comes = absurd (cc)
 shelf_cause words files before after (Dumped entries) is comes = absurd (cc)
 shelf_cause words files before after (Replayed events turns dump entries) is comes = absurd (not_replayed ShelfFault events turns dump entries is (λ e. cc) (λ e. cc))
 shelf_cause words files before after (Served asked end) is comes = absurd (serve_not ShelfFault end is (λ e. cc) (λ e. cc) (λ e. cc) (λ e. cc))
-shelf_cause words files before after (Explained text) is comes = absurd (cc)
+shelf_cause words files before after (Answered text) is comes = absurd (cc)
 shelf_cause words files before after (Sampled text) is comes = absurd (cc)
 shelf_cause words files before after OutOfMemory is comes = absurd (cc)
 
 script_cause : (words : List (List ℕ)) (files : Option Files) (before after : ℕ) (outcome : Outcome)
-    → BadScript ≡ status_of outcome → Comes words files before after outcome → (line : ℕ) × RefusesScript words files line
+    → BadScript ≡ status_of outcome → Comes words files before after outcome → (file : SecondFile) × (line : ℕ) × RefusesSecond words files file line
 unfolding status_of Comes
 script_cause words files before after NoCommand is comes = absurd (cc)
 script_cause words files before after NoFile is comes = absurd (cc)
 script_cause words files before after (BadDataLine line cause) is comes = absurd (cc)
-script_cause words files before after (BadLine line) is comes = (line, comes.0)
+script_cause words files before after (BadLine file line) is comes = (file, line, comes.0)
+script_cause words files before after (FalseLine line) is comes = absurd (cc)
 script_cause words files before after (Checked entries) is comes = absurd (cc)
 script_cause words files before after (Dumped entries) is comes = absurd (cc)
 script_cause words files before after (Replayed events turns dump entries) is comes = absurd (not_replayed BadScript events turns dump entries is (λ e. cc) (λ e. cc))
 script_cause words files before after (Served asked end) is comes = absurd (serve_not BadScript end is (λ e. cc) (λ e. cc) (λ e. cc) (λ e. cc))
-script_cause words files before after (Explained text) is comes = absurd (cc)
+script_cause words files before after (Answered text) is comes = absurd (cc)
 script_cause words files before after (Sampled text) is comes = absurd (cc)
 script_cause words files before after OutOfMemory is comes = absurd (cc)
+
+false_cause : (words : List (List ℕ)) (files : Option Files) (before after : ℕ) (outcome : Outcome)
+    → NotProved ≡ status_of outcome → Comes words files before after outcome → (line : ℕ) × RefutesCertificate words files line
+unfolding status_of Comes
+false_cause words files before after NoCommand is comes = absurd (cc)
+false_cause words files before after NoFile is comes = absurd (cc)
+false_cause words files before after (BadDataLine line cause) is comes = absurd (cc)
+false_cause words files before after (BadLine file line) is comes = absurd (cc)
+false_cause words files before after (FalseLine line) is comes = (line, comes.0)
+false_cause words files before after (Checked entries) is comes = absurd (cc)
+false_cause words files before after (Dumped entries) is comes = absurd (cc)
+false_cause words files before after (Replayed events turns dump entries) is comes = absurd (not_replayed NotProved events turns dump entries is (λ e. cc) (λ e. cc))
+false_cause words files before after (Served asked end) is comes = absurd (serve_not NotProved end is (λ e. cc) (λ e. cc) (λ e. cc) (λ e. cc))
+false_cause words files before after (Answered text) is comes = absurd (cc)
+false_cause words files before after (Sampled text) is comes = absurd (cc)
+false_cause words files before after OutOfMemory is comes = absurd (cc)
 
 -- a data file is to be served
 serving_asked : (words : List (List ℕ)) (files : Option Files) (asked : ServeAsked) → AsksServe words files asked → AsksServing words
@@ -108,12 +129,13 @@ unfolding status_of Comes Links
 link_cause words files before after old new NoCommand is comes links = absurd (cc)
 link_cause words files before after old new NoFile is comes links = absurd (cc)
 link_cause words files before after old new (BadDataLine line cause) is comes links = absurd (cc)
-link_cause words files before after old new (BadLine line) is comes links = absurd (cc)
+link_cause words files before after old new (BadLine file line) is comes links = absurd (cc)
+link_cause words files before after old new (FalseLine line) is comes links = absurd (cc)
 link_cause words files before after old new (Checked entries) is comes links = absurd (cc)
 link_cause words files before after old new (Dumped entries) is comes links = absurd (cc)
 link_cause words files before after old new (Replayed events turns dump entries) is comes links = absurd (not_replayed LinkFault events turns dump entries is (λ e. cc) (λ e. cc))
 link_cause words files before after old new (Served asked end) is comes links = (serving_asked words files asked comes.0, fault_rose asked old new end is links)
-link_cause words files before after old new (Explained text) is comes links = absurd (cc)
+link_cause words files before after old new (Answered text) is comes links = absurd (cc)
 link_cause words files before after old new (Sampled text) is comes links = absurd (cc)
 link_cause words files before after old new OutOfMemory is comes links = absurd (cc)
 
@@ -124,12 +146,13 @@ unfolding Comes Links
 link_stays words files before after old new NoCommand other comes links = links
 link_stays words files before after old new NoFile other comes links = links
 link_stays words files before after old new (BadDataLine line cause) other comes links = links
-link_stays words files before after old new (BadLine line) other comes links = links
+link_stays words files before after old new (BadLine file line) other comes links = links
+link_stays words files before after old new (FalseLine line) other comes links = links
 link_stays words files before after old new (Checked entries) other comes links = links
 link_stays words files before after old new (Dumped entries) other comes links = links
 link_stays words files before after old new (Replayed events turns dump entries) other comes links = links
 link_stays words files before after old new (Served asked end) other comes links = absurd (other (serving_asked words files asked comes.0))
-link_stays words files before after old new (Explained text) other comes links = links
+link_stays words files before after old new (Answered text) other comes links = links
 link_stays words files before after old new (Sampled text) other comes links = links
 link_stays words files before after old new OutOfMemory other comes links = links
 
@@ -148,6 +171,7 @@ cause_comes words before after outcome LinkFault puts comes links =
 cause_comes words before after outcome TurnsSpent puts comes links = tt
 cause_comes words before after outcome NoMemory puts comes links = tt
 cause_comes words before after outcome BadScript puts comes links = script_cause words before.shelf.files before.shelf.faults after.shelf.faults outcome puts.0 comes
+cause_comes words before after outcome NotProved puts comes links = false_cause words before.shelf.files before.shelf.faults after.shelf.faults outcome puts.0 comes
 
 -- the shelf's count is as it was where its fault isn't answered
 pub count_stays : (words : List (List ℕ)) (files : Option Files) (before after : ℕ) (outcome : Outcome) (status : Status)
@@ -156,12 +180,13 @@ unfolding status_of Comes
 count_stays words files before after NoCommand status is other comes = comes.1
 count_stays words files before after NoFile status is other comes = absurd (other is)
 count_stays words files before after (BadDataLine line cause) status is other comes = comes.1
-count_stays words files before after (BadLine line) status is other comes = comes.1
+count_stays words files before after (BadLine file line) status is other comes = comes.1
+count_stays words files before after (FalseLine line) status is other comes = comes.1
 count_stays words files before after (Checked entries) status is other comes = comes.1
 count_stays words files before after (Dumped entries) status is other comes = comes.1
 count_stays words files before after (Replayed events turns dump entries) status is other comes = comes.1
 count_stays words files before after (Served asked end) status is other comes = comes.1
-count_stays words files before after (Explained text) status is other comes = comes.1
+count_stays words files before after (Answered text) status is other comes = comes.1
 count_stays words files before after (Sampled text) status is other comes = comes.1
 count_stays words files before after OutOfMemory status is other comes = comes
 
@@ -172,12 +197,13 @@ unfolding status_of Links
 link_count_stays NoCommand old new status is not_fault not_memory links = ap (λ link. link.faults) links
 link_count_stays NoFile old new status is not_fault not_memory links = ap (λ link. link.faults) links
 link_count_stays (BadDataLine line cause) old new status is not_fault not_memory links = ap (λ link. link.faults) links
-link_count_stays (BadLine line) old new status is not_fault not_memory links = ap (λ link. link.faults) links
+link_count_stays (BadLine file line) old new status is not_fault not_memory links = ap (λ link. link.faults) links
+link_count_stays (FalseLine line) old new status is not_fault not_memory links = ap (λ link. link.faults) links
 link_count_stays (Checked entries) old new status is not_fault not_memory links = ap (λ link. link.faults) links
 link_count_stays (Dumped entries) old new status is not_fault not_memory links = ap (λ link. link.faults) links
 link_count_stays (Replayed events turns dump entries) old new status is not_fault not_memory links = ap (λ link. link.faults) links
 link_count_stays (Served asked end) old new status is not_fault not_memory links = serve_count_stays asked old new end status is not_fault not_memory links
-link_count_stays (Explained text) old new status is not_fault not_memory links = ap (λ link. link.faults) links
+link_count_stays (Answered text) old new status is not_fault not_memory links = ap (λ link. link.faults) links
 link_count_stays (Sampled text) old new status is not_fault not_memory links = ap (λ link. link.faults) links
 link_count_stays OutOfMemory old new status is not_fault not_memory links = ap (λ link. link.faults) links
 
@@ -205,3 +231,4 @@ module _ (words : List (List ℕ)) (before after : Outside) (outcome : Outcome)
   faults_end TurnsSpent ends = ((shelf_stays TurnsSpent ends.puts.0 (λ e. cc), ends.cause), linked_stays TurnsSpent ends.puts.0 (λ e. cc) (λ e. cc))
   faults_end NoMemory ends = ends.cause
   faults_end BadScript ends = ((shelf_stays BadScript ends.puts.0 (λ e. cc), ends.cause), linked_stays BadScript ends.puts.0 (λ e. cc) (λ e. cc))
+  faults_end NotProved ends = ((shelf_stays NotProved ends.puts.0 (λ e. cc), ends.cause), linked_stays NotProved ends.puts.0 (λ e. cc) (λ e. cc))

@@ -9,8 +9,8 @@ use Rattle.session_hub.specs.declared.ended.Ended.{Ended}
 use Rattle.session_hub.specs.declared.ended.Ended.TheVariants as ended
 use Rattle.session_hub.specs.serve.Loops.{buffer_length}
 use Rattle.acl_program.specs.declared.status.Status.{Status}
-use Rattle.acl_program.specs.declared.status.Status.TheVariants.{Done, Usage, BadData, ShelfFault, SinkFault, LinkFault, TurnsSpent, NoMemory, BadScript}
-use Rattle.acl_program.specs.Outcomes.{Outcome, NoCommand, NoFile, BadDataLine, BadLine, Checked, Dumped, Replayed, Served, Explained, Sampled, OutOfMemory, text_of, status_of, settled}
+use Rattle.acl_program.specs.declared.status.Status.TheVariants.{Done, Usage, BadData, ShelfFault, SinkFault, LinkFault, TurnsSpent, NoMemory, BadScript, NotProved}
+use Rattle.acl_program.specs.Outcomes.{Outcome, NoCommand, NoFile, BadDataLine, BadLine, FalseLine, Checked, Dumped, Replayed, Served, Answered, Sampled, OutOfMemory, text_of, status_of, settled}
 use Rattle.acl_program.specs.program.Outside.{Written}
 use Rattle.acl_program.specs.program.Running.{PutsFront}
 use Rattle.acl_program.specs.serve.Serving.{ServeEnd, NotBegun, NotOpened, NotServed, LoopEnded, serve_status}
@@ -35,12 +35,13 @@ unfolding status_of
 status_of-not_sink NoCommand is = cc
 status_of-not_sink NoFile is = cc
 status_of-not_sink (BadDataLine line cause) is = cc
-status_of-not_sink (BadLine line) is = cc
+status_of-not_sink (BadLine file line) is = cc
+status_of-not_sink (FalseLine line) is = cc
 status_of-not_sink (Checked entries) is = cc
 status_of-not_sink (Dumped entries) is = cc
 status_of-not_sink (Replayed events turns dump entries) is = done_or_spent-not_sink (nat_lt (length (pieces buffer_length events)) turns) is
 status_of-not_sink (Served asked end) is = serve-not_sink end is
-status_of-not_sink (Explained text) is = cc
+status_of-not_sink (Answered text) is = cc
 status_of-not_sink (Sampled text) is = cc
 status_of-not_sink OutOfMemory is = cc
 
@@ -61,6 +62,7 @@ Ends-whole outcome before after LinkFault is put stays = record { puts = (is, pu
 Ends-whole outcome before after TurnsSpent is put stays = record { puts = (is, put); cause = stays }
 Ends-whole outcome before after NoMemory is put stays = record { puts = whole_front before.put after.put (text_of outcome) put; cause = stays }
 Ends-whole outcome before after BadScript is put stays = record { puts = (is, put); cause = stays }
+Ends-whole outcome before after NotProved is put stays = record { puts = (is, put); cause = stays }
 
 -- a front of the text was put, and memory ran out
 pub Ends-no_memory :

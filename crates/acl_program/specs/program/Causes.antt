@@ -7,19 +7,24 @@ use Rattle.command_files.specs.wire_io.declared.journal.Item.{Item}
 use Rattle.command_files.specs.wire_io.Files.{Files}
 use Rattle.command_files.specs.wire_io.Journal.{was_stopped}
 use Rattle.session_hub.specs.declared.ended.Ended.TheVariants as ended
-use Rattle.command_words.specs.command.Command.{CommandView, ServingView, Serve, Replay, Check, Dump, Explain, Sample, IsCommand}
-use Rattle.explanation.specs.Questions.{Question}
-use Rattle.explanation.specs.Reading.{question_of}
+use Rattle.session_hub.specs.Parties.{Requester}
+use Rattle.command_words.specs.command.Command.{CommandView, ServingView, Serve, Replay, Check, Dump, Explain, Sample, Ask, Prove, Verify, Rights, IsCommand}
+use Rattle.certify.specs.explanation.Questions.{Question}
+use Rattle.certify.specs.explanation.Reading.{question_of}
+use Rattle.certify.specs.explanation.NameWords.{who_of, target_of}
+use Rattle.command_files.specs.declared.loading.SecondFile.{SecondFile}
+use Rattle.command_files.specs.declared.loading.SecondFile.TheVariants as second
 use Rattle.command_files.specs.dir_tree.Entry.{EntryInformation}
+use Rattle.command_files.specs.dn_names.name.Names.{RdnSequence}
 use Rattle.command_files.specs.ldif_load.load.DataFile.{FileCause}
-use Rattle.command_files.specs.loading.Accepting.{IsUnread, HoldsIn, IsTold, IsGoodData, IsBadData, IsGoodScript, IsBadScript}
-use Rattle.acl_program.specs.Outcomes.{Outcome, NoCommand, NoFile, BadDataLine, BadLine, Checked, Dumped, Replayed, Served, Explained, Sampled, OutOfMemory}
+use Rattle.command_files.specs.loading.Accepting.{IsUnread, HoldsIn, IsTold, IsGoodData, IsBadData, IsGoodScript, IsBadScript, IsBadRequests}
+use Rattle.acl_program.specs.Outcomes.{Outcome, NoCommand, NoFile, BadDataLine, BadLine, FalseLine, Checked, Dumped, Replayed, Served, Answered, Sampled, OutOfMemory}
 use Rattle.acl_program.specs.program.Outside.{Linked}
-use Rattle.acl_program.specs.Explaining.{Explains}
+use Rattle.acl_program.specs.Answering.{IsBadCertificate, IsFalseCertificate, AsksAnswer}
 use Rattle.acl_program.specs.Sampling.{Samples, RefusesSample}
 use Rattle.acl_program.specs.serve.Serving.{ServeAsked, LoopEnded, LinkServes}
 
--- the command is done: an explanation where its words are a question
+-- the command is done: a decision is told where its words are a question, and rights where theirs say who and on what
 abbrev pub IsPerformed : CommandView → Type 0
 IsPerformed (Serve serving) = Unit {0}
 IsPerformed (Replay data_file script turns dump) = Unit {0}
@@ -27,6 +32,10 @@ IsPerformed (Check data_file) = Unit {0}
 IsPerformed (Dump data_file) = Unit {0}
 IsPerformed (Explain data_file who target item permission) = (question : Question) × (question_of who target item permission ≡ Some question)
 IsPerformed (Sample count) = Unit {0}
+IsPerformed (Ask data_file requests script) = Unit {0}
+IsPerformed (Prove data_file who target item permission) = (question : Question) × (question_of who target item permission ≡ Some question)
+IsPerformed (Verify data_file certificate) = Unit {0}
+IsPerformed (Rights data_file who target) = (requester : Requester) × (name : RdnSequence) × (who_of who ≡ Some requester) × (target_of target ≡ Some name)
 
 -- the words ask for nothing that is done
 unfoldable pub IsNoCommand : List (List ℕ) → Type 0
@@ -40,6 +49,32 @@ data_of (Check data_file) = Some data_file
 data_of (Dump data_file) = Some data_file
 data_of (Explain data_file who target item permission) = Some data_file
 data_of (Sample count) = None
+data_of (Ask data_file requests script) = Some data_file
+data_of (Prove data_file who target item permission) = Some data_file
+data_of (Verify data_file certificate) = Some data_file
+data_of (Rights data_file who target) = Some data_file
+
+-- a file that is read after the data file: what it is to be, and its name
+pub record Second : Type 0 where
+  pub kind : SecondFile
+  pub name : List ℕ
+
+-- the same, by its parts
+abbrev pub second_named : SecondFile → List ℕ → Second
+second_named kind name = record { kind = kind; name = name }
+
+-- that of a command, where it has one
+abbrev pub second_of : CommandView → Option Second
+second_of (Serve serving) = None
+second_of (Replay data_file script turns dump) = Some (second_named second.Script script)
+second_of (Check data_file) = None
+second_of (Dump data_file) = None
+second_of (Explain data_file who target item permission) = None
+second_of (Sample count) = None
+second_of (Ask data_file requests script) = Some (second_named second.Requests requests)
+second_of (Prove data_file who target item permission) = None
+second_of (Verify data_file certificate) = Some (second_named second.Certificate certificate)
+second_of (Rights data_file who target) = None
 
 -- the words ask for a command with this data file
 unfoldable pub AsksData : List (List ℕ) → List ℕ → Type 0
@@ -57,14 +92,21 @@ pub record LacksData (words : List (List ℕ)) (files : Option Files) (before af
   pub asked : AsksData words data_file
   pub unread : IsUnread files data_file before after
 
--- the data file was accepted, and the script file wasn't read
-pub record LacksScript (words : List (List ℕ)) (files : Option Files) (before after : ℕ) : Type 0 where
-  pub script : List ℕ
-  pub turns : ℕ
-  pub dump : Bool
+-- the words ask for a command with this second file, whose data file is accepted
+pub record AsksSecond (words : List (List ℕ)) (files : Option Files) (read : Second) (entries : List EntryInformation) : Type 0 where
+  pub command : CommandView
+  pub data_file : List ℕ
+  pub asked : IsCommand words command
+  pub has_data : data_of command ≡ Some data_file
+  pub has_second : second_of command ≡ Some read
+  pub good : HoldsIn files data_file (IsGoodData entries)
+
+-- the data file was accepted, and the second file wasn't read
+pub record LacksSecond (words : List (List ℕ)) (files : Option Files) (before after : ℕ) : Type 0 where
+  pub read : Second
   pub entries : List EntryInformation
-  pub asked : AsksReplay words files script turns dump entries
-  pub unread : IsUnread files script before after
+  pub asked : AsksSecond words files read entries
+  pub unread : IsUnread files read.name before after
 
 -- the data file is refused
 pub record RefusesData (words : List (List ℕ)) (files : Option Files) (line : ℕ) (cause : FileCause) : Type 0 where
@@ -72,14 +114,27 @@ pub record RefusesData (words : List (List ℕ)) (files : Option Files) (line : 
   pub asked : AsksData words data_file
   pub bad : HoldsIn files data_file (IsBadData line cause)
 
--- the data file was accepted, and the script file is refused
-pub record RefusesScript (words : List (List ℕ)) (files : Option Files) (line : ℕ) : Type 0 where
-  pub script : List ℕ
-  pub turns : ℕ
-  pub dump : Bool
+-- the line of a second file at which it is refused: it isn't a script or requests, or isn't in a certificate's form
+abbrev pub IsBadSecond : SecondFile → List EntryInformation → ℕ → List ℕ → Type 0
+IsBadSecond second.Script entries line content = IsBadScript line content
+IsBadSecond second.Requests entries line content = IsBadRequests line content
+IsBadSecond second.Certificate entries line content = IsBadCertificate entries line content
+
+-- the data file was accepted, and the second file is refused
+pub record RefusesSecond (words : List (List ℕ)) (files : Option Files) (kind : SecondFile) (line : ℕ) : Type 0 where
+  pub name : List ℕ
   pub entries : List EntryInformation
-  pub asked : AsksReplay words files script turns dump entries
-  pub bad : HoldsIn files script (IsBadScript line)
+  pub asked : AsksSecond words files (second_named kind name) entries
+  pub bad : HoldsIn files name (IsBadSecond kind entries line)
+
+-- the words ask for a certificate to be verified over an accepted data file, and this is its first line that is false
+pub record RefutesCertificate (words : List (List ℕ)) (files : Option Files) (line : ℕ) : Type 0 where
+  pub data_file : List ℕ
+  pub certificate : List ℕ
+  pub entries : List EntryInformation
+  pub asked : IsCommand words (Verify data_file certificate)
+  pub good : HoldsIn files data_file (IsGoodData entries)
+  pub refuted : HoldsIn files certificate (IsFalseCertificate entries line)
 
 -- a command of a data file alone, which is accepted
 pub record AsksAlone (command : List ℕ → CommandView) (words : List (List ℕ)) (files : Option Files) (entries : List EntryInformation) : Type 0 where
@@ -106,14 +161,15 @@ pub record AsksServe (words : List (List ℕ)) (files : Option Files) (asks : Se
 -- is as it was but where a file wasn't read
 unfoldable pub Comes : List (List ℕ) → Option Files → ℕ → ℕ → Outcome → Type 0
 Comes words files before after NoCommand = IsNoCommand words × (after ≡ before)
-Comes words files before after NoFile = LacksData words files before after ⊎ LacksScript words files before after
+Comes words files before after NoFile = LacksData words files before after ⊎ LacksSecond words files before after
 Comes words files before after (BadDataLine line cause) = (RefusesData words files line cause ⊎ RefusesSample words line cause) × (after ≡ before)
-Comes words files before after (BadLine line) = RefusesScript words files line × (after ≡ before)
+Comes words files before after (BadLine file line) = RefusesSecond words files file line × (after ≡ before)
+Comes words files before after (FalseLine line) = RefutesCertificate words files line × (after ≡ before)
 Comes words files before after (Checked entries) = AsksAlone Check words files entries × (after ≡ before)
 Comes words files before after (Dumped entries) = AsksAlone Dump words files entries × (after ≡ before)
 Comes words files before after (Replayed events turns dump entries) = AsksBoth words files events turns dump entries × (after ≡ before)
 Comes words files before after (Served asks end) = AsksServe words files asks × (after ≡ before)
-Comes words files before after (Explained text) = Explains words (HoldsIn files) text × (after ≡ before)
+Comes words files before after (Answered text) = AsksAnswer words (HoldsIn files) text × (after ≡ before)
 Comes words files before after (Sampled text) = Samples words text × (after ≡ before)
 Comes words files before after OutOfMemory = after ≡ before
 
@@ -122,12 +178,13 @@ unfoldable pub Links : Outcome → Linked → Linked → Type 0
 Links NoCommand before after = after ≡ before
 Links NoFile before after = after ≡ before
 Links (BadDataLine line cause) before after = after ≡ before
-Links (BadLine line) before after = after ≡ before
+Links (BadLine file line) before after = after ≡ before
+Links (FalseLine line) before after = after ≡ before
 Links (Checked entries) before after = after ≡ before
 Links (Dumped entries) before after = after ≡ before
 Links (Replayed events turns dump entries) before after = after ≡ before
 Links (Served asks end) before after = LinkServes asks end before after
-Links (Explained text) before after = after ≡ before
+Links (Answered text) before after = after ≡ before
 Links (Sampled text) before after = after ≡ before
 Links OutOfMemory before after = after ≡ before
 
@@ -141,7 +198,8 @@ unfoldable pub IsDue : List (List ℕ) → Option Files → Linked → Linked �
 IsDue words files old new NoCommand = ⊥
 IsDue words files old new NoFile = ⊥
 IsDue words files old new (BadDataLine line cause) = ⊥
-IsDue words files old new (BadLine line) = ⊥
+IsDue words files old new (BadLine file line) = ⊥
+IsDue words files old new (FalseLine line) = ⊥
 IsDue words files old new (Checked entries) = (data_file : List ℕ) × IsCommand words (Check data_file) × IsTold files data_file (IsGoodData entries)
 IsDue words files old new (Dumped entries) = (data_file : List ℕ) × IsCommand words (Dump data_file) × IsTold files data_file (IsGoodData entries)
 IsDue words files old new (Replayed events turns dump entries) =
@@ -150,6 +208,6 @@ IsDue words files old new (Replayed events turns dump entries) =
 IsDue words files old new (Served asks end) =
     (end ≡ LoopEnded ended.Stopped) × IsCommand words (Serve asks.serving)
     × IsTold files asks.serving.data_file (IsGoodData asks.entries) × (Rose old.faults new.faults → ⊥) × HearsStop old.journal new.journal
-IsDue words files old new (Explained text) = Explains words (IsTold files) text
+IsDue words files old new (Answered text) = AsksAnswer words (IsTold files) text
 IsDue words files old new (Sampled text) = Samples words text
 IsDue words files old new OutOfMemory = ⊥

@@ -16,7 +16,7 @@ use Rattle.command_files.specs.dir_tree.tree.Numbered.{Numbered, entries_of}
 use Rattle.command_files.specs.ldif_records.writing.WrittenFile.{written_file}
 use Rattle.command_files.specs.aci_item.Rules.{IsGoodTree}
 use Rattle.acl_program.specs.declared.status.Status.{Status}
-use Rattle.acl_program.specs.declared.status.Status.TheVariants.{Done, Usage, BadData, ShelfFault, SinkFault, LinkFault, TurnsSpent, NoMemory, BadScript}
+use Rattle.acl_program.specs.declared.status.Status.TheVariants.{Done, Usage, BadData, ShelfFault, SinkFault, LinkFault, TurnsSpent, NoMemory, BadScript, NotProved}
 use Rattle.acl_program.specs.Lines.{line_of, replay_text, entries_after}
 use Rattle.acl_program.specs.Outcomes.{Outcome, text_of, status_of}
 use Rattle.acl_program.specs.program.Causes.{Comes, Links}
@@ -62,6 +62,7 @@ IsSinkCount before after LinkFault = after ≡ before
 IsSinkCount before after TurnsSpent = after ≡ before
 IsSinkCount before after NoMemory = after ≡ before
 IsSinkCount before after BadScript = after ≡ before
+IsSinkCount before after NotProved = after ≡ before
 
 -- the text of an outcome was put, and the sink's fault has its cause
 pub record Ends (outcome : Outcome) (before : Written) (status : Status) (after : Written) : Type 0 where

@@ -3,11 +3,12 @@ use Rattle.std.specs.Prelude.{◌≡◌, ◌⊎◌, ℕ, List, take, Option}
 use Rattle.command_files.specs.plain_values.Counts.{Rose}
 use Rattle.command_files.specs.wire_io.Putting.{appended}
 use Rattle.acl_program.specs.declared.status.Status.{Status}
-use Rattle.acl_program.specs.declared.status.Status.TheVariants.{Done, Usage, BadData, ShelfFault, SinkFault, LinkFault, TurnsSpent, NoMemory, BadScript}
+use Rattle.acl_program.specs.declared.status.Status.TheVariants.{Done, Usage, BadData, ShelfFault, SinkFault, LinkFault, TurnsSpent, NoMemory, BadScript, NotProved}
 use Rattle.acl_program.specs.program.Outside.{Outside}
 use Rattle.acl_program.specs.Outcomes.{Outcome, text_of, status_of}
+use Rattle.command_files.specs.declared.loading.SecondFile.{SecondFile}
 use Rattle.command_files.specs.ldif_load.load.DataFile.{FileCause}
-use Rattle.acl_program.specs.program.Causes.{Comes, Links, AsksServing, LacksData, LacksScript, RefusesData, RefusesScript}
+use Rattle.acl_program.specs.program.Causes.{Comes, Links, AsksServing, LacksData, LacksSecond, RefusesData, RefusesSecond, RefutesCertificate}
 use Rattle.acl_program.specs.Sampling.{RefusesSample}
 
 -- a front of the text was put
@@ -34,8 +35,9 @@ EndsAs outcome status = (status ≡ NoMemory) ⊎ (status ≡ status_of outcome)
 -- what came where it ended with one of these statuses
 unfoldable pub IsCause : List (List ℕ) → Outside → Outside → Status → Type 0
 IsCause words before after BadData = (line : ℕ) × (cause : FileCause) × (RefusesData words before.shelf.files line cause ⊎ RefusesSample words line cause)
-IsCause words before after ShelfFault = LacksData words before.shelf.files before.shelf.faults after.shelf.faults ⊎ LacksScript words before.shelf.files before.shelf.faults after.shelf.faults
-IsCause words before after BadScript = (line : ℕ) × RefusesScript words before.shelf.files line
+IsCause words before after ShelfFault = LacksData words before.shelf.files before.shelf.faults after.shelf.faults ⊎ LacksSecond words before.shelf.files before.shelf.faults after.shelf.faults
+IsCause words before after BadScript = (file : SecondFile) × (line : ℕ) × RefusesSecond words before.shelf.files file line
+IsCause words before after NotProved = (line : ℕ) × RefutesCertificate words before.shelf.files line
 IsCause words before after Done = Unit {0}
 IsCause words before after Usage = Unit {0}
 IsCause words before after SinkFault = Unit {0}
@@ -60,3 +62,4 @@ EndsAtFaults before after Usage = NoFaults before after × (after.link.faults �
 EndsAtFaults before after BadData = NoFaults before after × (after.link.faults ≡ before.link.faults)
 EndsAtFaults before after TurnsSpent = NoFaults before after × (after.link.faults ≡ before.link.faults)
 EndsAtFaults before after BadScript = NoFaults before after × (after.link.faults ≡ before.link.faults)
+EndsAtFaults before after NotProved = NoFaults before after × (after.link.faults ≡ before.link.faults)

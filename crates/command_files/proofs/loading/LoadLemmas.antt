@@ -1,5 +1,7 @@
--- Lemmas on a data file and a script read from a shelf.
+-- Lemmas on the files of a command, read from a shelf.
 use Rattle.std.proofs.Common.{◌≡◌, ℕ, ◌≤◌, List, length, Option, Some, None, Result, Ok, Err, refl, sym, subst, inl, inr}
+use Rattle.std.specs.Prelude.{Vec}
+use Rattle.std.specs.Global.{Global}
 use Rattle.wire_io.specs.Files.{Files, file_of}
 use Rattle.wire_io.specs.ReadWhole.{GivesFile, IsLonger, IsLongerFile, ReadCause}
 use Rattle.wire_io.specs.declared.answers.ReadFault.{ReadFault}
@@ -9,6 +11,12 @@ use Rattle.wire_io.specs.script_text.declared.event.ScriptFault.TheVariants as s
 use Rattle.wire_io.specs.script_text.script.ScriptReading.{IsCause, script_of}
 use Rattle.wire_io.proofs.script_text_proofs.Theorems.{script_of-err}
 use Rattle.wire_io.specs.Scripted.{LinkState}
+use Rattle.client_core.specs.declared.types.Asked.{Asked}
+use Rattle.client_core.specs.declared.types.AskFault.{AskFault}
+use Rattle.client_core.specs.declared.types.AskFault.TheVariants as ask
+use Rattle.client_core.specs.Asks.{asks_of, line_of}
+use Rattle.command_files.specs.declared.loading.SecondFile.{SecondFile}
+use Rattle.command_files.specs.declared.loading.SecondFile.TheVariants as second
 use Rattle.command_files.specs.declared.loading.Trouble.{Trouble}
 use Rattle.command_files.specs.declared.loading.Trouble.TheVariants as trouble
 use Rattle.dir_tree.specs.tree.Numbered.{Numbered, entries_of}
@@ -19,8 +27,8 @@ use Rattle.data_file.specs.declared.fault.DataFault.{DataFault}
 use Rattle.data_file.specs.declared.fault.DataFault.TheVariants as loading
 use Rattle.wire_io.specs.plain_values.Answers.{IsFaultOf}
 use Rattle.data_file.specs.Files.{cause_of, fault_of}
-use Rattle.command_files.specs.loading.Accepting.{HoldsOf, HoldsIn, IsUnread, IsBadData, IsGoodData, IsBadScript, IsGoodScript, most_data, most_script}
-use Rattle.command_files.specs.loading.Loading.{LoadsScript, LoadsData, ReadsScript, ReadsData, data_trouble_of_file, trouble_of_data, trouble_of_file, trouble_of_script}
+use Rattle.command_files.specs.loading.Accepting.{HoldsOf, HoldsIn, IsUnread, IsBadData, IsGoodData, IsTooLong, IsBadScript, IsGoodScript, IsBadRequests, IsGoodRequests, IsContent, most_data, most_second}
+use Rattle.command_files.specs.loading.Loading.{IsRefused, IsMisread, LoadsCertificate, LoadsRequests, LoadsScript, LoadsData, ReadsRequests, ReadsScript, ReadsData, data_trouble_of_file, trouble_of_asks, trouble_of_data, trouble_of_file, trouble_of_script}
 
 -- what holds of the content that was given holds of the file, where the shelf tells
 HoldsIn-given : (files : Option Files) (name content : List ℕ) (P : List ℕ → Type 0) → GivesFile files name content → P content → HoldsIn files name P
@@ -28,53 +36,106 @@ unfolding HoldsIn GivesFile
 HoldsIn-given None name content P gives holds = tt
 HoldsIn-given (Some files) name content P gives holds = let Q : Option (List ℕ) → Type 0 = λ file. HoldsOf P file in subst Q (sym gives) holds
 
+-- why a file that was given isn't taken
+module _ (kind : SecondFile) (bad : ℕ → List ℕ → Type 0) (files : Option Files) (name : List ℕ) (before after : ℕ) where
+  pub IsRefused-given : (content : List ℕ) (why : Trouble) → GivesFile files name content → after ≡ before → IsMisread kind bad content why → IsRefused kind bad files name before after why
+  unfolding IsRefused IsMisread
+  IsRefused-given content trouble.NoFile gives stays misread = absurd misread
+  IsRefused-given content (trouble.BadData line cause) gives stays misread = absurd misread
+  IsRefused-given content (trouble.BadLine other line) gives stays misread = (misread.0, HoldsIn-given files name content (bad line) gives misread.1, stays)
+  IsRefused-given content trouble.NoMemory gives stays misread = stays
+
+  -- a file that is too long is bad
+  too_long : (file : Option (List ℕ)) (line : ℕ) → ((content : List ℕ) → IsTooLong line content → bad line content) → IsLongerFile file most_second line → HoldsOf (bad line) file
+  unfolding IsLongerFile
+  too_long None line all longer = absurd longer
+  too_long (Some content) line all longer = all content longer
+
+  holds_too_long : (line : ℕ) → ((content : List ℕ) → IsTooLong line content → bad line content) → (known : Option Files) → IsLonger known name most_second line → HoldsIn known name (bad line)
+  unfolding IsLonger HoldsIn
+  holds_too_long line all None longer = tt
+  holds_too_long line all (Some known) longer = too_long (file_of name known) line all longer
+
+  -- the file wasn't read, or is too long
+  pub IsRefused-unread : (T : Type 0) (fault : ReadFault) → ((line : ℕ) (content : List ℕ) → IsTooLong line content → bad line content)
+      → ReadCause {T = T} files name most_second before after (Err fault) → IsRefused kind bad files name before after (trouble_of_file kind fault)
+  unfolding IsRefused ReadCause IsUnread
+  IsRefused-unread T read.Absent all cause = inr cause
+  IsRefused-unread T read.Failed all cause = inl cause
+  IsRefused-unread T (read.TooLong line) all cause = (refl, holds_too_long line (all line) files cause.0, cause.1)
+  IsRefused-unread T read.NoMemory all cause = cause
+
 -- the script of a file that was given
-loads_given :
+script_given :
     (files : Option Files) (name content : List ℕ) (before after : ℕ) (result : Result LinkState Trouble)
     → GivesFile files name content → after ≡ before → ReadsScript content result → LoadsScript files name before after result
 unfolding LoadsScript ReadsScript
-loads_given files name content before after (Ok link) gives stays reads = (HoldsIn-given files name content (IsGoodScript link.plan.to_come) gives reads.0, reads.1, stays)
-loads_given files name content before after (Err trouble.NoFile) gives stays reads = absurd reads
-loads_given files name content before after (Err (trouble.BadData line cause)) gives stays reads = absurd reads
-loads_given files name content before after (Err (trouble.BadLine line)) gives stays reads = (HoldsIn-given files name content (IsBadScript line) gives reads, stays)
-loads_given files name content before after (Err trouble.NoMemory) gives stays reads = stays
+script_given files name content before after (Ok link) gives stays reads = (HoldsIn-given files name content (IsGoodScript link.plan.to_come) gives reads.0, reads.1, stays)
+script_given files name content before after (Err why) gives stays reads = IsRefused-given second.Script IsBadScript files name before after content why gives stays reads
 
 pub LoadsScript-read :
     {T : Type 0} (files : Option Files) (name content lent : List ℕ) (before after : ℕ) (text : T) (result : Result LinkState Trouble)
-    → lent ≡ content → GivesFile files name content → ReadCause {T = T} files name most_script before after (Ok text) → ReadsScript lent result → LoadsScript files name before after result
+    → lent ≡ content → GivesFile files name content → ReadCause {T = T} files name most_second before after (Ok text) → ReadsScript lent result → LoadsScript files name before after result
 unfolding ReadCause
 LoadsScript-read files name content lent before after text result same gives stays reads =
-    let P : List ℕ → Type 0 = λ octets. ReadsScript octets result in loads_given files name content before after result gives stays (subst P same reads)
-
--- a file that is too long is no script
-too_long : (file : Option (List ℕ)) (line : ℕ) → IsLongerFile file most_script line → HoldsOf (IsBadScript line) file
-unfolding IsLongerFile IsBadScript
-too_long None line longer = absurd longer
-too_long (Some content) line longer = inr longer
-
-LoadsScript-too_long :
-    (files : Option Files) (name : List ℕ) (before after line : ℕ)
-    → IsLonger files name most_script line → after ≡ before → LoadsScript files name before after (Err (trouble.BadLine line))
-unfolding LoadsScript IsLonger HoldsIn
-LoadsScript-too_long None name before after line longer stays = (tt, stays)
-LoadsScript-too_long (Some files) name before after line longer stays = (too_long (file_of name files) line longer, stays)
+    let P : List ℕ → Type 0 = λ octets. ReadsScript octets result in script_given files name content before after result gives stays (subst P same reads)
 
 -- the file wasn't read, or is too long
 pub LoadsScript-refused :
     (T : Type 0) (files : Option Files) (name : List ℕ) (before after : ℕ) (fault : ReadFault)
-    → ReadCause {T = T} files name most_script before after (Err fault) → LoadsScript files name before after (Err (trouble_of_file fault))
-unfolding LoadsScript ReadCause IsUnread
-LoadsScript-refused T files name before after read.Absent cause = inr cause
-LoadsScript-refused T files name before after read.Failed cause = inl cause
-LoadsScript-refused T files name before after (read.TooLong line) cause = LoadsScript-too_long files name before after line cause.0 cause.1
-LoadsScript-refused T files name before after read.NoMemory cause = cause
+    → ReadCause {T = T} files name most_second before after (Err fault) → LoadsScript files name before after (Err (trouble_of_file second.Script fault))
+unfolding LoadsScript IsBadScript
+LoadsScript-refused T files name before after fault cause = IsRefused-unread second.Script IsBadScript files name before after T fault (λ line content long. inr long) cause
 
 -- the text isn't a script
 pub ReadsScript-refused :
-    (content : List ℕ) (fault : ScriptFault) → length content ≤ most_script → IsCause fault (script_of content) → ReadsScript content (Err (trouble_of_script fault))
-unfolding ReadsScript IsBadScript
-ReadsScript-refused content (script.Bad line) short cause = inl (short, script_of-err content line cause)
+    (content : List ℕ) (fault : ScriptFault) → length content ≤ most_second → IsCause fault (script_of content) → ReadsScript content (Err (trouble_of_script fault))
+unfolding ReadsScript IsMisread IsBadScript
+ReadsScript-refused content (script.Bad line) short cause = (refl, inl (short, script_of-err content line cause))
 ReadsScript-refused content script.NoMemory short cause = tt
+
+-- the requests of a file that was given
+requests_given :
+    (files : Option Files) (name content : List ℕ) (before after : ℕ) (result : Result (Vec Asked Global) Trouble)
+    → GivesFile files name content → after ≡ before → ReadsRequests content result → LoadsRequests files name before after result
+unfolding LoadsRequests ReadsRequests
+requests_given files name content before after (Ok asks) gives stays reads = (HoldsIn-given files name content (IsGoodRequests asks.items) gives reads.0, reads.1, stays)
+requests_given files name content before after (Err why) gives stays reads = IsRefused-given second.Requests IsBadRequests files name before after content why gives stays reads
+
+pub LoadsRequests-read :
+    {T : Type 0} (files : Option Files) (name content lent : List ℕ) (before after : ℕ) (text : T) (result : Result (Vec Asked Global) Trouble)
+    → lent ≡ content → GivesFile files name content → ReadCause {T = T} files name most_second before after (Ok text) → ReadsRequests lent result → LoadsRequests files name before after result
+unfolding ReadCause
+LoadsRequests-read files name content lent before after text result same gives stays reads =
+    let P : List ℕ → Type 0 = λ octets. ReadsRequests octets result in requests_given files name content before after result gives stays (subst P same reads)
+
+-- the file wasn't read, or is too long
+pub LoadsRequests-refused :
+    (T : Type 0) (files : Option Files) (name : List ℕ) (before after : ℕ) (fault : ReadFault)
+    → ReadCause {T = T} files name most_second before after (Err fault) → LoadsRequests files name before after (Err (trouble_of_file second.Requests fault))
+unfolding LoadsRequests IsBadRequests
+LoadsRequests-refused T files name before after fault cause = IsRefused-unread second.Requests IsBadRequests files name before after T fault (λ line content long. inr long) cause
+
+-- the text asks nothing that can be read
+pub ReadsRequests-refused :
+    (content : List ℕ) (fault : AskFault) → length content ≤ most_second → IsFaultOf (line_of fault) (asks_of content) → ReadsRequests content (Err (trouble_of_asks fault))
+unfolding ReadsRequests IsMisread IsBadRequests
+ReadsRequests-refused content (ask.Bad line) short is = (refl, inl (short, is))
+ReadsRequests-refused content ask.NoMemory short is = tt
+
+-- the certificate of a file that was given
+pub LoadsCertificate-read :
+    (files : Option Files) (name : List ℕ) (before after : ℕ) (text : Vec ℕ Global)
+    → length text.items ≤ most_second → GivesFile files name text.items → ReadCause {T = Vec ℕ Global} files name most_second before after (Ok text) → LoadsCertificate files name before after (Ok text)
+unfolding LoadsCertificate ReadCause
+LoadsCertificate-read files name before after text short gives stays = (HoldsIn-given files name text.items (IsContent text.items) gives (record { short = short; is = refl }), stays)
+
+-- the file wasn't read, or is too long
+pub LoadsCertificate-refused :
+    (T : Type 0) (files : Option Files) (name : List ℕ) (before after : ℕ) (fault : ReadFault)
+    → ReadCause {T = T} files name most_second before after (Err fault) → LoadsCertificate files name before after (Err (trouble_of_file second.Certificate fault))
+unfolding LoadsCertificate
+LoadsCertificate-refused T files name before after fault cause = IsRefused-unread second.Certificate IsTooLong files name before after T fault (λ line content long. long) cause
 
 -- the tree of a file that was given
 data_given :
@@ -84,7 +145,7 @@ unfolding LoadsData ReadsData
 data_given files name content before after (Ok rows) gives stays reads = (HoldsIn-given files name content (IsGoodData (entries_of rows)) gives reads.0, reads.1, stays)
 data_given files name content before after (Err trouble.NoFile) gives stays reads = absurd reads
 data_given files name content before after (Err (trouble.BadData line cause)) gives stays reads = (HoldsIn-given files name content (IsBadData line (cause_of cause)) gives reads, stays)
-data_given files name content before after (Err (trouble.BadLine line)) gives stays reads = absurd reads
+data_given files name content before after (Err (trouble.BadLine kind line)) gives stays reads = absurd reads
 data_given files name content before after (Err trouble.NoMemory) gives stays reads = stays
 
 pub LoadsData-read :

@@ -1,11 +1,13 @@
--- Which data files and scripts a command accepts, of those on a shelf: a data file (RFC 2849) that loads as a tree, a script
--- of events, and neither of more octets than a limit.
+-- Which files a command accepts, of those on a shelf: a data file (RFC 2849) that loads as a tree, and after it a script of
+-- events, requests as text, or a certificate; none of more octets than a limit.
 use Rattle.std.specs.Prelude.{◌≡◌, ◌⊎◌, ◌<◌, ◌≤◌, ℕ, List, length, take, Option, Some, None, Ok, Err}
 use Rattle.wire_io.specs.plain_values.Counts.{Rose}
 use Rattle.wire_io.specs.script_text.declared.event.ScriptEvent.{ScriptEvent}
 use Rattle.wire_io.specs.script_text.script.Script.{IsScript, IsFirstBadLine}
 use Rattle.wire_io.specs.Files.{Files, file_of, Lacks}
 use Rattle.wire_io.specs.ReadWhole.{line_past}
+use Rattle.client_core.specs.declared.types.Asked.{Asked}
+use Rattle.client_core.specs.Asks.{asks_of}
 use Rattle.dir_tree.specs.Entry.{EntryInformation}
 use Rattle.data_file.specs.ldif_load.declared.fault.LoadCause.TheVariants.{Limit}
 use Rattle.data_file.specs.ldif_load.load.DataFile.{FileCause, OfRecord, loads}
@@ -14,9 +16,9 @@ use Rattle.data_file.specs.ldif_load.load.DataFile.{FileCause, OfRecord, loads}
 abbrev pub most_data : ℕ
 most_data = 67108864
 
--- the most octets of a script file
-abbrev pub most_script : ℕ
-most_script = 67108864
+-- the most octets of the file that is read after it
+abbrev pub most_second : ℕ
+most_second = 67108864
 
 -- the file wasn't read: the shelf's count of faults rose, or stayed where the shelf tells that it has no such file
 unfoldable pub IsUnread : Option Files → List ℕ → ℕ → ℕ → Type 0
@@ -34,16 +36,32 @@ IsBadData line cause content =
     ((length content ≤ most_data) × (loads content ≡ Err (record { line = line; cause = cause })))
     ⊎ ((most_data < length content) × (line ≡ line_past (take most_data content)) × (cause ≡ OfRecord Limit))
 
+-- the content is longer than a second file may be, and this is the line of the first octet past the limit
+abbrev pub IsTooLong : ℕ → List ℕ → Type 0
+IsTooLong line content = (most_second < length content) × (line ≡ line_past (take most_second content))
+
 -- the content is a script of these events, and not too long
 pub record IsGoodScript (events : List ScriptEvent) (content : List ℕ) : Type 0 where
-  pub short : length content ≤ most_script
+  pub short : length content ≤ most_second
   pub script : IsScript content events
 
--- the content isn't a script, and this is its first bad line; or it is too long, and this is the line of the first octet
--- past the limit
+-- the content isn't a script, and this is its first bad line; or it is too long
 unfoldable pub IsBadScript : ℕ → List ℕ → Type 0
-IsBadScript line content =
-    ((length content ≤ most_script) × IsFirstBadLine content line) ⊎ ((most_script < length content) × (line ≡ line_past (take most_script content)))
+IsBadScript line content = ((length content ≤ most_second) × IsFirstBadLine content line) ⊎ IsTooLong line content
+
+-- the content asks these requests, and is not too long
+pub record IsGoodRequests (asks : List Asked) (content : List ℕ) : Type 0 where
+  pub short : length content ≤ most_second
+  pub read : asks_of content ≡ Ok asks
+
+-- the content asks nothing that can be read, and this is its first bad line; or it is too long
+unfoldable pub IsBadRequests : ℕ → List ℕ → Type 0
+IsBadRequests line content = ((length content ≤ most_second) × (asks_of content ≡ Err line)) ⊎ IsTooLong line content
+
+-- the content is these octets, and not too long
+pub record IsContent (octets content : List ℕ) : Type 0 where
+  pub short : length content ≤ most_second
+  pub is : octets ≡ content
 
 -- the file is there, and this holds of its content
 abbrev pub HoldsOf : (List ℕ → Type 0) → Option (List ℕ) → Type 0

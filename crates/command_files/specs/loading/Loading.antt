@@ -1,5 +1,6 @@
--- What reading the data file and the script of a command gives, and why it gives nothing.
-use Rattle.std.specs.Prelude.{◌≡◌, ℕ, List, [], Option, Result, Ok, Err}
+-- What reading the files of a command gives, and why it gives nothing.
+use Rattle.std.specs.Prelude.{◌≡◌, ℕ, List, [], Option, Result, Ok, Err, Vec}
+use Rattle.std.specs.Global.{Global}
 use Rattle.wire_io.specs.script_text.declared.event.ScriptFault.{ScriptFault}
 use Rattle.wire_io.specs.script_text.declared.event.ScriptFault.TheVariants as script
 use Rattle.wire_io.specs.declared.answers.ReadFault.{ReadFault}
@@ -13,16 +14,22 @@ use Rattle.data_file.specs.declared.fault.DataCause.TheVariants as DataCause
 use Rattle.data_file.specs.declared.fault.DataFault.{DataFault}
 use Rattle.data_file.specs.declared.fault.DataFault.TheVariants as loading
 use Rattle.data_file.specs.Files.{cause_of}
+use Rattle.client_core.specs.declared.types.Asked.{Asked}
+use Rattle.client_core.specs.Asks.{AreSendable}
+use Rattle.client_core.specs.declared.types.AskFault.{AskFault}
+use Rattle.client_core.specs.declared.types.AskFault.TheVariants as ask
+use Rattle.command_files.specs.declared.loading.SecondFile.{SecondFile}
+use Rattle.command_files.specs.declared.loading.SecondFile.TheVariants as second
 use Rattle.command_files.specs.declared.loading.Trouble.{Trouble}
 use Rattle.command_files.specs.declared.loading.Trouble.TheVariants as trouble
-use Rattle.command_files.specs.loading.Accepting.{IsUnread, HoldsIn, IsBadData, IsGoodData, IsBadScript, IsGoodScript}
+use Rattle.command_files.specs.loading.Accepting.{IsUnread, HoldsIn, IsBadData, IsGoodData, IsTooLong, IsBadScript, IsGoodScript, IsBadRequests, IsGoodRequests, IsContent}
 
 -- the data file of the name was loaded, or why not
 unfoldable pub LoadsData : Option Files → List ℕ → ℕ → ℕ → Result (List Numbered) Trouble → Type 0
 LoadsData files name before after (Ok rows) = HoldsIn files name (IsGoodData (entries_of rows)) × IsGoodTree (entries_of rows) × (after ≡ before)
 LoadsData files name before after (Err trouble.NoFile) = IsUnread files name before after
 LoadsData files name before after (Err (trouble.BadData line cause)) = HoldsIn files name (IsBadData line (cause_of cause)) × (after ≡ before)
-LoadsData files name before after (Err (trouble.BadLine line)) = ⊥
+LoadsData files name before after (Err (trouble.BadLine kind line)) = ⊥
 LoadsData files name before after (Err trouble.NoMemory) = after ≡ before
 
 -- the data file was loaded, or is bad at this line
@@ -30,24 +37,47 @@ unfoldable pub ReadsData : List ℕ → Result (List Numbered) Trouble → Type 
 ReadsData content (Ok rows) = IsGoodData (entries_of rows) content × IsGoodTree (entries_of rows)
 ReadsData content (Err trouble.NoFile) = ⊥
 ReadsData content (Err (trouble.BadData line cause)) = IsBadData line (cause_of cause) content
-ReadsData content (Err (trouble.BadLine line)) = ⊥
+ReadsData content (Err (trouble.BadLine kind line)) = ⊥
 ReadsData content (Err trouble.NoMemory) = Unit {0}
+
+-- why a file that is read after the data file isn't taken, where a line of it is bad in this sense
+unfoldable pub IsRefused : SecondFile → (ℕ → List ℕ → Type 0) → Option Files → List ℕ → ℕ → ℕ → Trouble → Type 0
+IsRefused kind bad files name before after trouble.NoFile = IsUnread files name before after
+IsRefused kind bad files name before after (trouble.BadData line cause) = ⊥
+IsRefused kind bad files name before after (trouble.BadLine other line) = (other ≡ kind) × HoldsIn files name (bad line) × (after ≡ before)
+IsRefused kind bad files name before after trouble.NoMemory = after ≡ before
+
+-- the same of its content
+unfoldable pub IsMisread : SecondFile → (ℕ → List ℕ → Type 0) → List ℕ → Trouble → Type 0
+IsMisread kind bad content trouble.NoFile = ⊥
+IsMisread kind bad content (trouble.BadData line cause) = ⊥
+IsMisread kind bad content (trouble.BadLine other line) = (other ≡ kind) × bad line content
+IsMisread kind bad content trouble.NoMemory = Unit {0}
 
 -- the script of the name was read, or why not
 unfoldable pub LoadsScript : Option Files → List ℕ → ℕ → ℕ → Result LinkState Trouble → Type 0
 LoadsScript files name before after (Ok link) = HoldsIn files name (IsGoodScript link.plan.to_come) × (link ≡ fresh_link link.plan.to_come [] [] []) × (after ≡ before)
-LoadsScript files name before after (Err trouble.NoFile) = IsUnread files name before after
-LoadsScript files name before after (Err (trouble.BadData line cause)) = ⊥
-LoadsScript files name before after (Err (trouble.BadLine line)) = HoldsIn files name (IsBadScript line) × (after ≡ before)
-LoadsScript files name before after (Err trouble.NoMemory) = after ≡ before
+LoadsScript files name before after (Err why) = IsRefused second.Script IsBadScript files name before after why
 
 -- the script was read, or is bad at this line
 unfoldable pub ReadsScript : List ℕ → Result LinkState Trouble → Type 0
 ReadsScript content (Ok link) = IsGoodScript link.plan.to_come content × (link ≡ fresh_link link.plan.to_come [] [] [])
-ReadsScript content (Err trouble.NoFile) = ⊥
-ReadsScript content (Err (trouble.BadData line cause)) = ⊥
-ReadsScript content (Err (trouble.BadLine line)) = IsBadScript line content
-ReadsScript content (Err trouble.NoMemory) = Unit {0}
+ReadsScript content (Err why) = IsMisread second.Script IsBadScript content why
+
+-- the requests of the name were read, each of which can be sent, or why not
+unfoldable pub LoadsRequests : Option Files → List ℕ → ℕ → ℕ → Result (Vec Asked Global) Trouble → Type 0
+LoadsRequests files name before after (Ok asks) = HoldsIn files name (IsGoodRequests asks.items) × AreSendable asks.items × (after ≡ before)
+LoadsRequests files name before after (Err why) = IsRefused second.Requests IsBadRequests files name before after why
+
+-- the requests were read, or are bad at this line
+unfoldable pub ReadsRequests : List ℕ → Result (Vec Asked Global) Trouble → Type 0
+ReadsRequests content (Ok asks) = IsGoodRequests asks.items content × AreSendable asks.items
+ReadsRequests content (Err why) = IsMisread second.Requests IsBadRequests content why
+
+-- the certificate of the name was read as octets, or why not
+unfoldable pub LoadsCertificate : Option Files → List ℕ → ℕ → ℕ → Result (Vec ℕ Global) Trouble → Type 0
+LoadsCertificate files name before after (Ok octets) = HoldsIn files name (IsContent octets.items) × (after ≡ before)
+LoadsCertificate files name before after (Err why) = IsRefused second.Certificate IsTooLong files name before after why
 
 -- why a data file wasn't read, by the fault of reading the file
 abbrev pub data_trouble_of_file : ReadFault → Trouble
@@ -61,14 +91,19 @@ abbrev pub trouble_of_data : DataFault → Trouble
 trouble_of_data (loading.Bad line cause) = trouble.BadData line cause
 trouble_of_data loading.NoMemory = trouble.NoMemory
 
--- why a script file wasn't read, by the fault of reading the file
-abbrev pub trouble_of_file : ReadFault → Trouble
-trouble_of_file read.Absent = trouble.NoFile
-trouble_of_file read.Failed = trouble.NoFile
-trouble_of_file (read.TooLong line) = trouble.BadLine line
-trouble_of_file read.NoMemory = trouble.NoMemory
+-- why another file wasn't read, by the fault of reading the file
+abbrev pub trouble_of_file : SecondFile → ReadFault → Trouble
+trouble_of_file kind read.Absent = trouble.NoFile
+trouble_of_file kind read.Failed = trouble.NoFile
+trouble_of_file kind (read.TooLong line) = trouble.BadLine kind line
+trouble_of_file kind read.NoMemory = trouble.NoMemory
 
 -- why a script file isn't accepted, by the fault of reading its text
 abbrev pub trouble_of_script : ScriptFault → Trouble
-trouble_of_script (script.Bad line) = trouble.BadLine line
+trouble_of_script (script.Bad line) = trouble.BadLine second.Script line
 trouble_of_script script.NoMemory = trouble.NoMemory
+
+-- why requests aren't accepted, by the fault of reading their text
+abbrev pub trouble_of_asks : AskFault → Trouble
+trouble_of_asks (ask.Bad line) = trouble.BadLine second.Requests line
+trouble_of_asks ask.NoMemory = trouble.NoMemory

@@ -1,5 +1,5 @@
 -- What the defaults at the end of a parse change: a flag that isn't given is kept as `false`.
-use Rattle.std.proofs.Common.{◌≡◌, ◌∙◌, ◌||◌, ℕ, Bool, true, false, cond, List, [], ◌∷◌, map, length, Option, is_some, true≢false, refl, sym, ap, subst}
+use Rattle.std.proofs.Common.{◌≡◌, ◌∙◌, ◌||◌, ℕ, Bool, true, false, cond, List, [], ◌∷◌, map, length, Option, Some, None, is_some, true≢false, refl, sym, ap, subst}
 use Rattle.std.specs.Prelude.{bytes_eq, codes, fold, slice_get}
 use Rattle.std.proofs.Math.Bool.{or-true}
 use Rattle.clap.specs.Walk.{Row as Kept, Text, all_of, has_row, with_default}
@@ -17,6 +17,7 @@ use Rattle.command_words.specs.Table.{Row, row_of, option_word, takes_argument}
 use Rattle.command_words.specs.parser.Parser.{id_of, is_set, kept_text}
 use Rattle.command_words.specs.parser.Asked.{kept_count}
 use Rattle.command_words.proofs.command.Rows.{after_use, all_of-with_values, has_row-kept}
+use Rattle.command_words.proofs.table.Tables.{same_option}
 use Rattle.command_words.proofs.command.Rules.{operand, option, option_by, rules, shape}
 use Rattle.command_words.proofs.command.Uses.{kept_of, same-id, shown}
 
@@ -68,6 +69,7 @@ option-default options.Queues sought rows written = ap (all_of (id_of sought)) (
 option-default options.Idle sought rows written = ap (all_of (id_of sought)) (value-default (option_word options.Idle) rows)
 option-default options.Limit sought rows written = ap (all_of (id_of sought)) (value-default (option_word options.Limit) rows)
 option-default options.Dump sought rows written = flag-default (option_word options.Dump) (id_of sought) rows (flag-differs options.Dump sought refl written)
+option-default options.Script sought rows written = flag-default (option_word options.Script) (id_of sought) rows (flag-differs options.Script sought refl written)
 
 options-default : (names : List OptionName) (sought : Sought) (rows : List Kept) → IsWritten sought → all_of (id_of sought) (fold with_default rows (map option names)) ≡ all_of (id_of sought) rows
 options-default [] sought rows written = refl
@@ -78,15 +80,18 @@ pub written-default : (row : Row) (sought : Sought) (rows : List Kept) → IsWri
 written-default row sought rows written = options-default row.options sought (with_default rows operand) written ∙ ap (all_of (id_of sought)) (operand-default rows)
 
 -- a flag is set where it is given
-pub flag-set : (texts : List Text) (rows : List Kept) → all_of (option_word options.Dump) rows ≡ kept_of (Arguments options.Dump) texts
-    → is_set (kept_text (all_of (option_word options.Dump) (with_default rows (option_by false (option_word options.Dump)))) 0) ≡ is_some (slice_get texts 0)
-flag-set [] rows fits =
-    let absent : has_row (option_word options.Dump) rows ≡ false = has_row-kept (option_word options.Dump) rows ∙ ap is_some fits in
-    rw absent (ap (λ (kept : Option (List Text)). is_set (kept_text kept 0)) (all_of-with_values (option_word options.Dump) (option_word options.Dump) AsWritten DefaultValue (codes "false" ∷ []) rows
-    ∙ ap (after_use (option_word options.Dump) (option_word options.Dump) (codes "false" ∷ [])) fits))
-flag-set (text ∷ texts) rows fits =
-    let present : has_row (option_word options.Dump) rows ≡ true = has_row-kept (option_word options.Dump) rows ∙ ap is_some fits in
-    rw present (ap (λ (kept : Option (List Text)). is_set (kept_text kept 0)) fits)
+pub flag-set : (name : OptionName) → takes_argument name ≡ false → (texts : List Text) (rows : List Kept) → all_of (option_word name) rows ≡ kept_of (Arguments name) texts
+    → is_set (kept_text (all_of (option_word name) (with_default rows (option_by false (option_word name)))) 0) ≡ is_some (slice_get texts 0)
+flag-set name flag [] rows fits =
+    let word = option_word name in
+    let absent : has_row word rows ≡ false = has_row-kept word rows ∙ ap is_some fits in
+    rw absent (ap (λ (kept : Option (List Text)). is_set (kept_text kept 0)) (all_of-with_values word word AsWritten DefaultValue (codes "false" ∷ []) rows
+    ∙ ap (after_use word word (codes "false" ∷ [])) fits ∙ ap (λ (same : Bool). cond same (Some (codes "false" ∷ [])) None) (same_option name)))
+flag-set name flag (text ∷ texts) rows fits =
+    let word = option_word name in
+    let present : has_row word rows ≡ true = has_row-kept word rows ∙ ap is_some fits in
+    let own : shown (Arguments name) text ≡ codes "true" = rw flag refl in
+    rw present (ap (λ (kept : Option (List Text)). is_set (kept_text kept 0)) fits ∙ ap (λ (kept : Text). bytes_eq kept (codes "true")) own)
 
 -- texts that are kept as they are written
 shown-same : (sought : Sought) → IsWritten sought → (text : Text) → shown sought text ≡ text
@@ -117,6 +122,7 @@ default-passes options.Queues rows = rw (or-true (has_row (option_word options.Q
 default-passes options.Idle rows = rw (or-true (has_row (option_word options.Idle) rows)) refl
 default-passes options.Limit rows = rw (or-true (has_row (option_word options.Limit) rows)) refl
 default-passes options.Dump rows = plain-passes (has_row (option_word options.Dump) rows || false) [] refl
+default-passes options.Script rows = plain-passes (has_row (option_word options.Script) rows || false) [] refl
 
 defaults-pass : (names : List OptionName) (rows : List Kept) → defaults_fault rows (map option names) ≡ []
 unfolding defaults_fault
@@ -139,3 +145,7 @@ check-passes commands.Check rows = refl
 check-passes commands.Dump rows = refl
 check-passes commands.Explain rows = refl
 check-passes commands.Sample rows = refl
+check-passes commands.Ask rows = refl
+check-passes commands.Prove rows = refl
+check-passes commands.Verify rows = refl
+check-passes commands.Rights rows = refl

@@ -68,6 +68,10 @@ built-is commands.Check = refl
 built-is commands.Dump = refl
 built-is commands.Explain = refl
 built-is commands.Sample = refl
+built-is commands.Ask = refl
+built-is commands.Prove = refl
+built-is commands.Verify = refl
+built-is commands.Rights = refl
 
 pub is-simple : (name : CommandName) → is_simple_and_free (app_for (row_of name)) ≡ true
 is-simple commands.Serve = refl
@@ -76,6 +80,10 @@ is-simple commands.Check = refl
 is-simple commands.Dump = refl
 is-simple commands.Explain = refl
 is-simple commands.Sample = refl
+is-simple commands.Ask = refl
+is-simple commands.Prove = refl
+is-simple commands.Verify = refl
+is-simple commands.Rights = refl
 
 -- a search among arguments is one among options
 find-option : (test : Rule → Bool) (own : OptionName → Bool) → ((name : OptionName) → test (option name) ≡ own name) → (names : List OptionName) → find test (map option names) ≡ option_map option (find own names)
@@ -129,6 +137,7 @@ by-id row name named = other name ∙ find-option _ (λ (own : OptionName). byte
     other options.Idle = refl
     other options.Limit = refl
     other options.Dump = refl
+    other options.Script = refl
 
 -- nothing has a name of one character
 pub by-short : (row : Row) (x : ℕ) → arg_by_short (rules row) x ≡ None

@@ -34,7 +34,13 @@ dump-same rows line holds =
     let dump = option_by false (option_word options.Dump) in
     let left : defaulted (row_of commands.Replay) rows ≡ with_default rows dump =
     ap (λ (base : List Kept). with_default (with_default base dump) (option_by true (option_word options.Turns))) (operand-default rows) ∙ value-default (option_word options.Turns) (with_default rows dump) in
-    ap (λ (base : List Kept). is_set (kept_text (all_of (option_word options.Dump) base) 0)) left ∙ flag-set (texts_of (Arguments options.Dump) line) rows (holds.fits (Arguments options.Dump))
+    ap (λ (base : List Kept). is_set (kept_text (all_of (option_word options.Dump) base) 0)) left ∙ flag-set options.Dump refl (texts_of (Arguments options.Dump) line) rows (holds.fits (Arguments options.Dump))
+
+script-same : (rows : List Kept) (line : Line) → Holds rows (λ sought. texts_of sought line) → is_set (kept_text (kept_at_end (row_of commands.Ask) rows (Arguments options.Script)) 0) ≡ is_some (slice_get (texts_of (Arguments options.Script) line) 0)
+script-same rows line holds =
+    let script = option_by false (option_word options.Script) in
+    let left : defaulted (row_of commands.Ask) rows ≡ with_default rows script = ap (λ (base : List Kept). with_default base script) (operand-default rows) in
+    ap (λ (base : List Kept). is_set (kept_text (all_of (option_word options.Script) base) 0)) left ∙ flag-set options.Script refl (texts_of (Arguments options.Script) line) rows (holds.fits (Arguments options.Script))
 
 -- one case a command
 pub said-same : (name : CommandName) (rows : List Kept) (line : Line) → Holds rows (λ sought. texts_of sought line) → kept_said name (kept_at_end (row_of name) rows) ≡ line_said name line
@@ -51,3 +57,15 @@ said-same commands.Explain rows line holds =
     let own : (index : ℕ) → kept_text (kept_at_end (row_of commands.Explain) rows Operands) index ≡ slice_get (texts_of Operands line) index = λ index. text-same (row_of commands.Explain) rows line Operands index holds refl in
     rw (own 0, own 1, own 2, own 3, own 4) refl
 said-same commands.Sample rows line holds = rw (text-same (row_of commands.Sample) rows line Operands 0 holds refl) refl
+said-same commands.Ask rows line holds =
+    let own : (index : ℕ) → kept_text (kept_at_end (row_of commands.Ask) rows Operands) index ≡ slice_get (texts_of Operands line) index = λ index. text-same (row_of commands.Ask) rows line Operands index holds refl in
+    rw (own 0, own 1, script-same rows line holds) refl
+said-same commands.Prove rows line holds =
+    let own : (index : ℕ) → kept_text (kept_at_end (row_of commands.Prove) rows Operands) index ≡ slice_get (texts_of Operands line) index = λ index. text-same (row_of commands.Prove) rows line Operands index holds refl in
+    rw (own 0, own 1, own 2, own 3, own 4) refl
+said-same commands.Verify rows line holds =
+    let own : (index : ℕ) → kept_text (kept_at_end (row_of commands.Verify) rows Operands) index ≡ slice_get (texts_of Operands line) index = λ index. text-same (row_of commands.Verify) rows line Operands index holds refl in
+    rw (own 0, own 1) refl
+said-same commands.Rights rows line holds =
+    let own : (index : ℕ) → kept_text (kept_at_end (row_of commands.Rights) rows Operands) index ≡ slice_get (texts_of Operands line) index = λ index. text-same (row_of commands.Rights) rows line Operands index holds refl in
+    rw (own 0, own 1, own 2) refl

@@ -11,7 +11,7 @@ use Rattle.command_words.specs.Table.{Row, row_of}
 use Rattle.command_words.specs.command.Line.{Line, texts_of}
 use Rattle.command_words.specs.Number.{number_said, number_within}
 use Rattle.command_words.specs.Address.{address_of}
-use Rattle.command_words.specs.command.Command.{CommandView, ServingView, Serve, Replay, Check, Dump, Explain, Sample, Says, sessions_range, turns_range, queues_range, idle_range, limit_range}
+use Rattle.command_words.specs.command.Command.{CommandView, ServingView, Serve, Replay, Check, Dump, Explain, Sample, Ask, Prove, Verify, Rights, Says, sessions_range, turns_range, queues_range, idle_range, limit_range}
 use Rattle.command_words.specs.parser.Asked.{command_said, ◌>>=◌}
 use Rattle.command_words.proofs.number.Numbers.{and_then-some, number_said-sound, number_said-complete, number_within-sound, number_within-complete}
 use Rattle.command_words.proofs.address.Addresses.{address_of-sound, address_of-complete}
@@ -36,6 +36,13 @@ pair [] two = absurd (omega (arith, two))
 pair (first ∷ []) two = absurd (omega (arith, two))
 pair (first ∷ second ∷ []) two = (first, second, refl)
 pair (first ∷ second ∷ third ∷ more) two = absurd (omega (arith, two))
+
+triple : (operands : List (List ℕ)) → length operands ≡ 3 → (first : List ℕ) × (second : List ℕ) × (third : List ℕ) × (operands ≡ first ∷ second ∷ third ∷ [])
+triple [] three = absurd (omega (arith, three))
+triple (first ∷ []) three = absurd (omega (arith, three))
+triple (first ∷ second ∷ []) three = absurd (omega (arith, three))
+triple (first ∷ second ∷ third ∷ []) three = (first, second, third, refl)
+triple (first ∷ second ∷ third ∷ fourth ∷ more) three = absurd (omega (arith, three))
 
 record Five (operands : List (List ℕ)) : Type 0 where
   first : List ℕ
@@ -97,6 +104,34 @@ explain_said operands = do
   item ← slice_get operands 3
   permission ← slice_get operands 4
   Some (Explain data_file who target item permission)
+
+abbrev ask_said : List (List ℕ) → Bool → Option CommandView
+ask_said operands script = do
+  data_file ← slice_get operands 0
+  requests ← slice_get operands 1
+  Some (Ask data_file requests script)
+
+abbrev prove_said : List (List ℕ) → Option CommandView
+prove_said operands = do
+  data_file ← slice_get operands 0
+  who ← slice_get operands 1
+  target ← slice_get operands 2
+  item ← slice_get operands 3
+  permission ← slice_get operands 4
+  Some (Prove data_file who target item permission)
+
+abbrev verify_said : List (List ℕ) → Option CommandView
+verify_said operands = do
+  data_file ← slice_get operands 0
+  certificate ← slice_get operands 1
+  Some (Verify data_file certificate)
+
+abbrev rights_said : List (List ℕ) → Option CommandView
+rights_said operands = do
+  data_file ← slice_get operands 0
+  who ← slice_get operands 1
+  target ← slice_get operands 2
+  Some (Rights data_file who target)
 
 abbrev sample_said : List (List ℕ) → Option CommandView
 sample_said operands = do
@@ -164,6 +199,34 @@ explain-sound line asked is given =
     let own = five (texts_of Operands line) is.operands in
     subst (Says commands.Explain line) (same_Some (Explain own.first own.second own.third own.fourth own.fifth) asked (sym (ap explain_said own.are) ∙ given)) own.are
 
+ask-sound : (line : Line) (asked : CommandView) → Taken (row_of commands.Ask) line → ask_said (texts_of Operands line) (is_some (slice_get (texts_of (Arguments options.Script) line) 0)) ≡ Some asked → Says commands.Ask line asked
+ask-sound line asked is given =
+    let scripts = texts_of (Arguments options.Script) line in
+    let script = is_some (slice_get scripts 0) in
+    let own = pair (texts_of Operands line) is.operands in
+    subst (Says commands.Ask line) (same_Some (Ask own.0 own.1 script) asked (sym (ap (λ (operands : List (List ℕ)). ask_said operands script) own.2) ∙ given)) (own.2, once-is_some scripts is.once.0)
+
+ask-complete : (line : Line) (data_file requests : List ℕ) (script : Bool) → Taken (row_of commands.Ask) line → Says commands.Ask line (Ask data_file requests script) → ask_said (texts_of Operands line) (is_some (slice_get (texts_of (Arguments options.Script) line) 0)) ≡ Some (Ask data_file requests script)
+ask-complete line data_file requests script is says =
+    let scripts = texts_of (Arguments options.Script) line in
+    ap (λ (operands : List (List ℕ)). ask_said operands (is_some (slice_get scripts 0))) says.0
+    ∙ ap (λ (own : Bool). Some (Ask data_file requests own)) (once-is_some scripts is.once.0 ∙ sym says.1)
+
+prove-sound : (line : Line) (asked : CommandView) → Taken (row_of commands.Prove) line → prove_said (texts_of Operands line) ≡ Some asked → Says commands.Prove line asked
+prove-sound line asked is given =
+    let own = five (texts_of Operands line) is.operands in
+    subst (Says commands.Prove line) (same_Some (Prove own.first own.second own.third own.fourth own.fifth) asked (sym (ap prove_said own.are) ∙ given)) own.are
+
+verify-sound : (line : Line) (asked : CommandView) → Taken (row_of commands.Verify) line → verify_said (texts_of Operands line) ≡ Some asked → Says commands.Verify line asked
+verify-sound line asked is given =
+    let own = pair (texts_of Operands line) is.operands in
+    subst (Says commands.Verify line) (same_Some (Verify own.0 own.1) asked (sym (ap verify_said own.2) ∙ given)) own.2
+
+rights-sound : (line : Line) (asked : CommandView) → Taken (row_of commands.Rights) line → rights_said (texts_of Operands line) ≡ Some asked → Says commands.Rights line asked
+rights-sound line asked is given =
+    let own = triple (texts_of Operands line) is.operands in
+    subst (Says commands.Rights line) (same_Some (Rights own.0 own.1 own.2) asked (sym (ap rights_said own.3) ∙ given)) own.3
+
 sample-sound : (line : Line) (asked : CommandView) → Taken (row_of commands.Sample) line → sample_said (texts_of Operands line) ≡ Some asked → Says commands.Sample line asked
 sample-sound line asked is given =
     let own = alone (texts_of Operands line) is.operands in
@@ -189,6 +252,10 @@ command_said-sound commands.Check line asked is given = file-sound commands.Chec
 command_said-sound commands.Dump line asked is given = file-sound commands.Dump Dump line asked is.operands (λ data_file are. are) given
 command_said-sound commands.Explain line asked is given = explain-sound line asked is given
 command_said-sound commands.Sample line asked is given = sample-sound line asked is given
+command_said-sound commands.Ask line asked is given = ask-sound line asked is given
+command_said-sound commands.Prove line asked is given = prove-sound line asked is given
+command_said-sound commands.Verify line asked is given = verify-sound line asked is given
+command_said-sound commands.Rights line asked is given = rights-sound line asked is given
 
 pub command_said-complete : (name : CommandName) (line : Line) (asked : CommandView) → Taken (row_of name) line → Says name line asked → line_said name line ≡ Some asked
 unfolding command_said
@@ -198,4 +265,8 @@ command_said-complete commands.Check line (Check data_file) is says = ap (λ (te
 command_said-complete commands.Dump line (Dump data_file) is says = ap (λ (texts : List (List ℕ)). option_map Dump (slice_get texts 0)) says
 command_said-complete commands.Explain line (Explain data_file who target item permission) is says = ap explain_said says
 command_said-complete commands.Sample line (Sample count) is says = sample-complete line count says
+command_said-complete commands.Ask line (Ask data_file requests script) is says = ask-complete line data_file requests script is says
+command_said-complete commands.Prove line (Prove data_file who target item permission) is says = ap prove_said says
+command_said-complete commands.Verify line (Verify data_file certificate) is says = ap verify_said says
+command_said-complete commands.Rights line (Rights data_file who target) is says = ap rights_said says
 command_said-complete name line asked is says = absurd says

@@ -1,5 +1,5 @@
 -- A line that says a command has no option with the value `-`, since each such value is a number.
-use Rattle.std.proofs.Common.{◌≡◌, ◌∙◌, ℕ, Bool, true, false, eqb, ◌&&◌, List, [], ◌∷◌, ◌++◌, refl, sym, ap, subst}
+use Rattle.std.proofs.Common.{◌≡◌, ◌∙◌, ℕ, Bool, true, false, true≢false, eqb, ◌&&◌, List, [], ◌∷◌, ◌++◌, refl, sym, ap, subst}
 use Rattle.std.specs.Prelude.{Contains, flat_map}
 use Rattle.std.specs.Char.{is_ascii_digit}
 use Rattle.std.specs.List.{AllByRecursion, list_all}
@@ -15,7 +15,7 @@ use Rattle.command_words.specs.command.Line.{Item, Operand, Flag, Joined, Apart,
 use Rattle.command_words.specs.declared.number.NumberRange.{NumberRange}
 use Rattle.command_words.specs.Number.{IsNumber, SaysNumber}
 use Rattle.command_words.specs.command.Command.{CommandView, Serve, Replay, Says, sessions_range, turns_range, queues_range, idle_range, limit_range}
-use Rattle.command_words.proofs.table.Tables.{none-contained, not_of_replay, same_option}
+use Rattle.command_words.proofs.table.Tables.{none-contained, not_of_replay, option-of_ask, same_option}
 use Rattle.command_words.proofs.command.Sound.{IsLoose}
 
 -- a text has no `-` at its front
@@ -53,7 +53,12 @@ numbered commands.Check line asked option says of_row takes = absurd (none-conta
 numbered commands.Dump line asked option says of_row takes = absurd (none-contained option of_row)
 numbered commands.Explain line asked option says of_row takes = absurd (none-contained option of_row)
 numbered commands.Sample line asked option says of_row takes = absurd (none-contained option of_row)
+numbered commands.Ask line asked option says of_row takes = absurd (true≢false (sym takes ∙ ap takes_argument (sym (option-of_ask option of_row))))
+numbered commands.Prove line asked option says of_row takes = absurd (none-contained option of_row)
+numbered commands.Verify line asked option says of_row takes = absurd (none-contained option of_row)
+numbered commands.Rights line asked option says of_row takes = absurd (none-contained option of_row)
 numbered name line asked options.Dump says of_row takes = absurd (cc)
+numbered name line asked options.Script says of_row takes = absurd (cc)
 numbered name line asked option says of_row takes = absurd says
 
 -- each part of a list

@@ -62,6 +62,7 @@ option-operands options.Queues = refl
 option-operands options.Idle = refl
 option-operands options.Limit = refl
 option-operands options.Dump = refl
+option-operands options.Script = refl
 
 operands-option : (name : OptionName) → bytes_eq (codes "operands") (option_word name) ≡ false
 operands-option name = bytes_eq-back (codes "operands") (option_word name) ∙ option-operands name

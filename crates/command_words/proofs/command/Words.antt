@@ -121,6 +121,7 @@ option_word-whole options.Queues = refl
 option_word-whole options.Idle = refl
 option_word-whole options.Limit = refl
 option_word-whole options.Dump = refl
+option_word-whole options.Script = refl
 
 pub option_word-parts : (name : OptionName) (value : Text) → name_and_value (option_word name ++ 61 ∷ value) ≡ (option_word name, Some value)
 option_word-parts options.Sessions value = refl
@@ -129,6 +130,7 @@ option_word-parts options.Queues value = refl
 option_word-parts options.Idle value = refl
 option_word-parts options.Limit value = refl
 option_word-parts options.Dump value = refl
+option_word-parts options.Script value = refl
 
 -- and a first character
 pub record Begins (text : Text) : Type 0 where
@@ -143,3 +145,4 @@ option_word-begins options.Queues = record { first = _; more = _; is = refl }
 option_word-begins options.Idle = record { first = _; more = _; is = refl }
 option_word-begins options.Limit = record { first = _; more = _; is = refl }
 option_word-begins options.Dump = record { first = _; more = _; is = refl }
+option_word-begins options.Script = record { first = _; more = _; is = refl }

@@ -62,6 +62,18 @@ not_contained (other ∷ names) name lacks contained = by (is_same_option name o
 pub not_of_replay : (name : OptionName) → list_any (is_same_option name) (row_of commands.Replay).options ≡ false → Contains (row_of commands.Replay).options name → ⊥
 not_of_replay = not_contained (row_of commands.Replay).options
 
+-- what a list of one has
+one-contained : {X : Type 0} (x y : X) → Contains (x ∷ []) y → x ≡ y
+one-contained {X} x y contained = by contained.0 contained.1 contained.2
+  where
+    by : (at : ℕ) → at < 1 → get_or (x ∷ []) at y ≡ y → x ≡ y
+    by zero below is = is
+    by (suc at) below is = absurd (omega (arith, below))
+
+-- asking has one option
+pub option-of_ask : (name : OptionName) → Contains (row_of commands.Ask).options name → options.Script ≡ name
+option-of_ask name of_row = one-contained options.Script name of_row
+
 -- each option of a command is found by its name
 pub option_named-complete : (command : CommandName) (name : OptionName) → Contains (row_of command).options name → option_named (row_of command) (option_word name) ≡ Some name
 option_named-complete commands.Serve options.Sessions of_row = refl
@@ -70,16 +82,22 @@ option_named-complete commands.Serve options.Queues of_row = refl
 option_named-complete commands.Serve options.Idle of_row = refl
 option_named-complete commands.Serve options.Limit of_row = refl
 option_named-complete commands.Serve options.Dump of_row = absurd (not_contained (row_of commands.Serve).options options.Dump refl of_row)
+option_named-complete commands.Serve options.Script of_row = absurd (not_contained (row_of commands.Serve).options options.Script refl of_row)
 option_named-complete commands.Replay options.Sessions of_row = absurd (not_of_replay options.Sessions refl of_row)
 option_named-complete commands.Replay options.Queues of_row = absurd (not_of_replay options.Queues refl of_row)
 option_named-complete commands.Replay options.Idle of_row = absurd (not_of_replay options.Idle refl of_row)
 option_named-complete commands.Replay options.Limit of_row = absurd (not_of_replay options.Limit refl of_row)
+option_named-complete commands.Replay options.Script of_row = absurd (not_of_replay options.Script refl of_row)
 option_named-complete commands.Replay options.Turns of_row = refl
 option_named-complete commands.Replay options.Dump of_row = refl
 option_named-complete commands.Check name of_row = absurd (none-contained name of_row)
 option_named-complete commands.Dump name of_row = absurd (none-contained name of_row)
 option_named-complete commands.Explain name of_row = absurd (none-contained name of_row)
 option_named-complete commands.Sample name of_row = absurd (none-contained name of_row)
+option_named-complete commands.Ask name of_row = subst (λ (own : OptionName). option_named (row_of commands.Ask) (option_word own) ≡ Some own) (option-of_ask name of_row) refl
+option_named-complete commands.Prove name of_row = absurd (none-contained name of_row)
+option_named-complete commands.Verify name of_row = absurd (none-contained name of_row)
+option_named-complete commands.Rights name of_row = absurd (none-contained name of_row)
 
 pub command_named-complete : (name : CommandName) → command_named (row_of name).name ≡ Some name
 command_named-complete commands.Serve = refl
@@ -88,10 +106,14 @@ command_named-complete commands.Check = refl
 command_named-complete commands.Dump = refl
 command_named-complete commands.Explain = refl
 command_named-complete commands.Sample = refl
+command_named-complete commands.Ask = refl
+command_named-complete commands.Prove = refl
+command_named-complete commands.Verify = refl
+command_named-complete commands.Rights = refl
 
 -- all options
 abbrev all_options : List OptionName
-all_options = options.Sessions ∷ options.Turns ∷ options.Queues ∷ options.Idle ∷ options.Limit ∷ options.Dump ∷ []
+all_options = options.Sessions ∷ options.Turns ∷ options.Queues ∷ options.Idle ∷ options.Limit ∷ options.Dump ∷ options.Script ∷ []
 
 -- each is found by its word, so that options of one word are one
 word-found : (name : OptionName) → find (λ other. bytes_eq (option_word name) (option_word other)) all_options ≡ Some name
@@ -101,6 +123,7 @@ word-found options.Queues = refl
 word-found options.Idle = refl
 word-found options.Limit = refl
 word-found options.Dump = refl
+word-found options.Script = refl
 
 pub option_word-once : (one other : OptionName) → option_word one ≡ option_word other → one ≡ other
 option_word-once one other is =

@@ -33,6 +33,10 @@ pub data CommandView : Type 0 where
   Dump : (data_file : List ℕ) → CommandView
   Explain : (data_file who target item permission : List ℕ) → CommandView
   Sample : (count : ℕ) → CommandView
+  Ask : (data_file requests : List ℕ) (script : Bool) → CommandView
+  Prove : (data_file who target item permission : List ℕ) → CommandView
+  Verify : (data_file certificate : List ℕ) → CommandView
+  Rights : (data_file who target : List ℕ) → CommandView
 
 -- serving as it is read, with its texts as octets
 abbrev pub serving_view : Serving → ServingView
@@ -54,6 +58,10 @@ view (command.Check data_file) = Check data_file.now
 view (command.Dump data_file) = Dump data_file.now
 view (command.Explain data_file who target item permission) = Explain data_file.now who.now target.now item.now permission.now
 view (command.Sample count) = Sample count
+view (command.Ask data_file requests script) = Ask data_file.now requests.now script
+view (command.Prove data_file who target item permission) = Prove data_file.now who.now target.now item.now permission.now
+view (command.Verify data_file certificate) = Verify data_file.now certificate.now
+view (command.Rights data_file who target) = Rights data_file.now who.now target.now
 
 -- after how many connections the serving ends: never, where the words don't say
 abbrev pub sessions_range : NumberRange
@@ -89,7 +97,7 @@ pub record SaysServing (line : Line) (serving : ServingView) : Type 0 where
   pub idle : SaysNumber idle_range (texts_of (Arguments options.Idle) line) serving.idle
   pub limit : SaysNumber limit_range (texts_of (Arguments options.Limit) line) serving.limit
 
--- the command that a command's line says: its operands, its numbers, and whether it has `--dump`
+-- the command that a command's line says: its operands, its numbers, and whether it has a flag
 abbrev pub Says : CommandName → Line → CommandView → Type 0
 Says commands.Serve line (Serve serving) = SaysServing line serving
 Says commands.Replay line (Replay data_file script turns dump) =
@@ -101,6 +109,12 @@ Says commands.Dump line (Dump data_file) = texts_of Operands line ≡ data_file 
 Says commands.Explain line (Explain data_file who target item permission) =
     texts_of Operands line ≡ data_file ∷ who ∷ target ∷ item ∷ permission ∷ []
 Says commands.Sample line (Sample count) = (text : List ℕ) × (texts_of Operands line ≡ text ∷ []) × IsCount text count
+Says commands.Ask line (Ask data_file requests script) =
+    (texts_of Operands line ≡ data_file ∷ requests ∷ []) × (script ≡ (length (texts_of (Arguments options.Script) line) == 1))
+Says commands.Prove line (Prove data_file who target item permission) =
+    texts_of Operands line ≡ data_file ∷ who ∷ target ∷ item ∷ permission ∷ []
+Says commands.Verify line (Verify data_file certificate) = texts_of Operands line ≡ data_file ∷ certificate ∷ []
+Says commands.Rights line (Rights data_file who target) = texts_of Operands line ≡ data_file ∷ who ∷ target ∷ []
 Says name line asked = ⊥
 
 -- the words are a command's name and a line of it that says this command

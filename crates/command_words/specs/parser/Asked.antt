@@ -12,7 +12,7 @@ use Rattle.command_words.specs.Table.{row_of}
 use Rattle.command_words.specs.command.Line.{Line, IsLine, line_words}
 use Rattle.command_words.specs.Number.{number_said, number_within}
 use Rattle.command_words.specs.Address.{address_of}
-use Rattle.command_words.specs.command.Command.{CommandView, Serve, Replay, Check, Dump, Explain, Sample, Says, IsCommand, sessions_range, turns_range, queues_range, idle_range, limit_range}
+use Rattle.command_words.specs.command.Command.{CommandView, Serve, Replay, Check, Dump, Explain, Sample, Ask, Prove, Verify, Rights, Says, IsCommand, sessions_range, turns_range, queues_range, idle_range, limit_range}
 use Rattle.command_words.specs.parser.Parser.{kept_in, kept_text, is_set}
 
 -- the command that texts say, and whether it has a flag: one case a command
@@ -53,6 +53,26 @@ command_said commands.Sample text has = do
   said ← text Operands 0
   count ← number_within 20 1 20000 said
   Some (Sample count)
+command_said commands.Ask text has = do
+  data_file ← text Operands 0
+  requests ← text Operands 1
+  Some (Ask data_file requests (has options.Script))
+command_said commands.Prove text has = do
+  data_file ← text Operands 0
+  who ← text Operands 1
+  target ← text Operands 2
+  item ← text Operands 3
+  permission ← text Operands 4
+  Some (Prove data_file who target item permission)
+command_said commands.Verify text has = do
+  data_file ← text Operands 0
+  certificate ← text Operands 1
+  Some (Verify data_file certificate)
+command_said commands.Rights text has = do
+  data_file ← text Operands 0
+  who ← text Operands 1
+  target ← text Operands 2
+  Some (Rights data_file who target)
 
 -- how many texts are kept
 abbrev pub kept_count : Option (List (List ℕ)) → ℕ

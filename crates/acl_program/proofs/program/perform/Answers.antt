@@ -15,7 +15,7 @@ pub returns-in-Dump-clause-performs : goal.returns-in-Dump-clause-performs
 returns-in-Dump-clause-performs g c = rw c.in-Dump.is (c.dump.ensures.performs (linked _ _ _ _))
 
 pub returns-in-Explain-clause-performs : goal.returns-in-Explain-clause-performs
-returns-in-Explain-clause-performs g c = rw c.in-Explain.is (c.explain.ensures.performs (linked _ _ _ _))
+returns-in-Explain-clause-performs g c = rw c.in-Explain.is (c.tell_decision.ensures.performs (linked _ _ _ _))
 
 -- a sample has no more persons than its words may ask for
 pub sample-requires : goal.sample-requires
@@ -23,3 +23,15 @@ sample-requires g c = record { few = rw c.in-Sample.is at c.requires.few }
 
 pub returns-in-Sample-clause-performs : goal.returns-in-Sample-clause-performs
 returns-in-Sample-clause-performs g c = rw c.in-Sample.is (c.sample.ensures.performs _ _ (linked _ _ _ _))
+
+pub returns-in-Ask-clause-performs : goal.returns-in-Ask-clause-performs
+returns-in-Ask-clause-performs g c = rw c.in-Ask.is (c.tell_replies.ensures.performs (linked _ _ _ _))
+
+pub returns-in-Prove-clause-performs : goal.returns-in-Prove-clause-performs
+returns-in-Prove-clause-performs g c = rw c.in-Prove.is (c.tell_decision-in-Prove.ensures.performs (linked _ _ _ _))
+
+pub returns-in-Verify-clause-performs : goal.returns-in-Verify-clause-performs
+returns-in-Verify-clause-performs g c = rw c.in-Verify.is (c.tell_validity.ensures.performs (linked _ _ _ _))
+
+pub returns-in-Rights-clause-performs : goal.returns-in-Rights-clause-performs
+returns-in-Rights-clause-performs g c = rw c.in-Rights.is (c.tell_rights.ensures.performs (linked _ _ _ _))

@@ -1,9 +1,8 @@
-use Rattle.command_words.specs.command.Command.{Replay}
 use Rattle.std.proofs.Common.{refl}
-use Rattle.acl_program.specs.program.Outside.{outside}
-use Rattle.acl_program.specs.Asked.{replay_asked}
+use Rattle.command_words.specs.command.Command.{Replay}
+use Rattle.acl_program.specs.program.Outside.{outside, written}
 use Rattle.acl_program.proofs.program.RunLemmas.{LoadsData-good}
-use Rattle.acl_program.proofs.program.PerformLemmas.{Performs-replayed, Performs-refused}
+use Rattle.acl_program.proofs.program.PerformLemmas.{Performs-after, Performs-refused}
 use Rattle.acl_program.proofs.replay.replay.Goals as goal
 
 -- the tree is good
@@ -12,7 +11,7 @@ replay_over-requires g c = record { good = LoadsData-good _ _ _ _ _ c.in-Ok.ensu
 
 -- the data file was loaded
 pub returns-in-Ok-clause-performs : goal.returns-in-Ok-clause-performs
-returns-in-Ok-clause-performs g c = λ link. Performs-replayed _ (replay_asked _ _ _ _) (outside _ _ _ _ link) (outside _ _ _ _ link) _ _ _ _ refl c.in-Ok.ensures.exact c.in-Ok.ensures.kept (c.replay_over.ensures.replays link) refl
+returns-in-Ok-clause-performs g c = λ link. Performs-after _ _ _ _ _ _ (written _ _) link _ (outside _ _ _ _ link) _ c.in-Ok.ensures.kept c.in-Ok.ensures.exact (c.replay_over.ensures.performs link _ _)
 
 -- it wasn't
 pub returns-in-Err-clause-performs : goal.returns-in-Err-clause-performs

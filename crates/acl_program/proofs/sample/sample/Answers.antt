@@ -1,6 +1,6 @@
 use Rattle.std.proofs.Common.{refl}
 use Rattle.acl_program.specs.program.Outside.{outside}
-use Rattle.acl_program.proofs.explain.ExplainLemmas.{Performs-no_memory}
+use Rattle.acl_program.proofs.program.PerformLemmas.{Performs-no_memory}
 use Rattle.acl_program.proofs.sample.SampleLemmas.{Performs-sampled, Performs-unsampled}
 use Rattle.acl_program.proofs.sample.sample.Goals as goal
 

@@ -7,4 +7,4 @@ use Rattle.acl_program.proofs.troubles.print_bad_line.Goals as goal
 -- the text was to be put, and how the sink answered
 pub returns : goal.returns
 unfolding status_of
-returns g c = record { ends = Ends-put (BadLine c.args.line) (written _ _) (written _ _) _ _ _ _ (c.as_bytes.ensures.value ∙ c.in-Ok.ensures) refl c.after.ensures.exact c.write_all-put.ensures.tells c.write_all-put.ensures.cause }
+returns g c = record { ends = Ends-put (BadLine c.args.file c.args.line) (written _ _) (written _ _) _ _ _ _ (c.as_bytes.ensures.value ∙ c.in-Ok.ensures) refl c.after.ensures.exact c.write_all-put.ensures.tells c.write_all-put.ensures.cause }

@@ -1,0 +1,10 @@
+use Rattle.std.proofs.Common.{refl, ◌∙◌}
+use Rattle.acl_program.specs.Outcomes.{FalseLine, status_of}
+use Rattle.acl_program.specs.program.Outside.{written}
+use Rattle.acl_program.proofs.troubles.EndsLemmas.{Ends-put}
+use Rattle.acl_program.proofs.verifying.print_false_line.Goals as goal
+
+-- the text was to be put, and how the sink answered
+pub returns : goal.returns
+unfolding status_of
+returns g c = record { ends = Ends-put (FalseLine c.args.line) (written _ _) (written _ _) _ _ _ _ (c.as_bytes.ensures.value ∙ c.in-Ok.ensures) refl c.after.ensures.exact c.write_all-put.ensures.tells c.write_all-put.ensures.cause }

@@ -1,0 +1,11 @@
+use Rattle.std.proofs.Common.{refl, ◌∙◌}
+use Rattle.acl_program.specs.Answering.{valid_text}
+use Rattle.acl_program.specs.Outcomes.{Answered, text_of, status_of}
+use Rattle.acl_program.specs.program.Outside.{written}
+use Rattle.acl_program.proofs.troubles.EndsLemmas.{Ends-put}
+use Rattle.acl_program.proofs.verifying.print_valid.Goals as goal
+
+-- the text was to be put, and how the sink answered
+pub returns : goal.returns
+unfolding text_of status_of
+returns g c = record { ends = Ends-put (Answered (valid_text c.args.granted)) (written _ _) (written _ _) _ _ _ _ (c.as_bytes.ensures.value ∙ c.valid_text.ensures) refl c.after.ensures.exact c.write_all-put.ensures.tells c.write_all-put.ensures.cause }

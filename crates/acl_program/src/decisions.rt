@@ -1,0 +1,131 @@
+//! The commands `explain` and `prove`: one access control decision over a data file's tree, filter by filter or as a
+//! certificate.
+
+ghost use Rattle.std.specs.Prelude.{◌≡◌, ℕ, List, Some, IfOk};
+ghost use Rattle.command_files.specs.dir_tree.tree.Numbered.{entries_of};
+ghost use Rattle.certify.specs.explanation.Questions.{question_view};
+ghost use Rattle.certify.specs.explanation.Reading.{question_of};
+ghost use Rattle.acl_program.specs.Answering.{account_text};
+ghost use Rattle.acl_program.specs.Deciding.{decision_asked};
+ghost use Rattle.acl_program.specs.Outcomes.{Answered};
+ghost use Rattle.acl_program.specs.program.Outside.{Linked, outside, written};
+ghost use Rattle.acl_program.specs.program.Playing.{Ends, Performs};
+
+use crate::status::Status;
+use crate::troubles::{print_trouble, print_usage};
+use aci_index::IndexedDir;
+use certify::explanation::{AskedDecision, explain_text, read_question};
+use certify::prove_text;
+use command_files::dir_tree::{NoMemory, Tree};
+use command_files::load_data;
+use command_files::wire_io::{Shelf, Sink, write_all};
+use std::alloc::Global;
+
+/// How a decision is told.
+#[derive(Clone, Copy, Debug)]
+pub(crate) enum Account {
+    /// By what each filter leaves.
+    Explanation,
+    /// As a certificate, which can be verified.
+    Certificate,
+}
+
+/// What a decision is asked for: how it is told, its data file, and the four words of its question.
+#[derive(Clone, Copy, Debug)]
+pub(crate) struct Deciding<'a> {
+    pub(crate) account: Account,
+    pub(crate) data: &'a str,
+    pub(crate) who: &'a str,
+    pub(crate) target: &'a str,
+    pub(crate) item: &'a str,
+    pub(crate) permission: &'a str,
+}
+
+/// Reads the question, loads the data file, and prints the decision. Where the words are no question it prints how to call
+/// the program, and reads no file.
+pub(crate) fn tell_decision<H: Shelf, K: Sink>(
+    alloc: Global,
+    asked: &Deciding<'_>,
+    shelf: &mut H,
+    out: &mut K,
+) -> Status
+    ensures performs { (link : Linked) → Performs (decision_asked asked.now.account asked.now.data.now asked.now.who.now
+        asked.now.target.now asked.now.item.now asked.now.permission.now)
+        (outside (H.files shelf.old) (H.faults shelf.old) (K.put out.old) (K.faults out.old) link) result
+        (outside (H.files shelf.new) (H.faults shelf.new) (K.put out.new) (K.faults out.new) link) }
+    ensures kept { H.files shelf.new ≡ H.files shelf.old }
+{
+    match read_question(alloc, asked.who, asked.target, asked.item, asked.permission) {
+        Ok(Some(question)) => decide_over(alloc, asked, &question, shelf, out),
+        Ok(None) => print_usage(out),
+        Err(_) => Status::NoMemory,
+    }
+}
+
+/// Loads the data file, and prints the decision over its tree.
+fn decide_over<H: Shelf, K: Sink>(
+    alloc: Global,
+    asked: &Deciding<'_>,
+    question: &AskedDecision,
+    shelf: &mut H,
+    out: &mut K,
+) -> Status
+    ensures performs { (link : Linked) (who target item permission : List ℕ) →
+        question_of who target item permission ≡ Some (question_view question.now) →
+        Performs (decision_asked asked.now.account asked.now.data.now who target item permission)
+        (outside (H.files shelf.old) (H.faults shelf.old) (K.put out.old) (K.faults out.old) link) result
+        (outside (H.files shelf.new) (H.faults shelf.new) (K.put out.new) (K.faults out.new) link) }
+    ensures kept { H.files shelf.new ≡ H.files shelf.old }
+{
+    match load_data(alloc, shelf, asked.data) {
+        Ok(tree) => print_decision(alloc, tree, question, asked.account, out),
+        Err(trouble) => print_trouble(alloc, trouble, out),
+    }
+}
+
+/// Prints the decision over the tree.
+#[tactic(auto, unfolding(crate::specs::Outcomes::text_of, crate::specs::Outcomes::status_of))]
+fn print_decision<K: Sink>(
+    alloc: Global,
+    tree: Tree,
+    question: &AskedDecision,
+    account: Account,
+    out: &mut K,
+) -> Status
+    ensures ends { Ends (Answered (account_text account (entries_of tree) (question_view question.now)))
+        (written (K.put out.old) (K.faults out.old)) result (written (K.put out.new) (K.faults out.new)) }
+{
+    let Ok(text) = decision_text(alloc, tree, question, account) else {
+        return Status::NoMemory;
+    };
+    let put = write_all(out, text.as_slice());
+    Status::Done.after(put)
+}
+
+/// The text of the decision over the tree.
+fn decision_text(
+    alloc: Global,
+    tree: Tree,
+    question: &AskedDecision,
+    account: Account,
+) -> Result<Vec<u8>, NoMemory>
+    ensures exact { IfOk result (λ text. text.items ≡ account_text account (entries_of tree) (question_view question.now)) }
+{
+    let dir = IndexedDir::new(alloc, tree)?;
+    account_text(alloc, &dir, question, account)
+}
+
+/// The same over the directory.
+fn account_text(
+    alloc: Global,
+    dir: &IndexedDir,
+    question: &AskedDecision,
+    account: Account,
+) -> Result<Vec<u8>, NoMemory>
+    ensures exact { IfOk result (λ text. text.items ≡ account_text account (entries_of dir.now) (question_view question.now)) }
+{
+    match account {
+        Account::Explanation => Ok(explain_text(alloc, dir, question)?.into_bytes()),
+        Account::Certificate => prove_text(alloc, dir, question),
+    }
+}

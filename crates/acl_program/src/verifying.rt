@@ -1,0 +1,123 @@
+//! The command `verify`: a certificate held against a data file's tree.
+
+ghost use Rattle.std.specs.Prelude.{◌≡◌, ℕ, List, Ok, IfOk, string_bytes};
+ghost use Rattle.command_words.specs.command.Command.{Verify};
+ghost use Rattle.command_files.specs.dir_tree.tree.Numbered.{entries_of};
+ghost use Rattle.command_files.specs.loading.Loading.{LoadsData};
+ghost use Rattle.acl_program.specs.Answering.{valid_text};
+ghost use Rattle.acl_program.specs.Deciding.{EndsVerified, outcome_of_fault};
+ghost use Rattle.acl_program.specs.Outcomes.{Answered, FalseLine, status_of, text_of};
+ghost use Rattle.acl_program.specs.program.Outside.{Linked, outside, written};
+ghost use Rattle.acl_program.specs.program.Playing.{Ends, Performs};
+
+use crate::status::Status;
+use crate::troubles::{print_bad_line, print_trouble};
+use certify::{CertFault, verify};
+use command_files::dir_tree::Tree;
+use command_files::wire_io::{Shelf, Sink, write_all};
+use command_files::{SecondFile, load_certificate, load_data};
+use std::alloc::{AllocError, Global};
+
+/// Loads the data file, reads the certificate, and prints whether it is that of the tree. The tree alone is asked, and no
+/// index of it.
+pub(crate) fn tell_validity<H: Shelf, K: Sink>(
+    alloc: Global,
+    name: &str,
+    certificate: &str,
+    shelf: &mut H,
+    out: &mut K,
+) -> Status
+    ensures performs { (link : Linked) → Performs (Verify name.now certificate.now)
+        (outside (H.files shelf.old) (H.faults shelf.old) (K.put out.old) (K.faults out.old) link) result
+        (outside (H.files shelf.new) (H.faults shelf.new) (K.put out.new) (K.faults out.new) link) }
+    ensures kept { H.files shelf.new ≡ H.files shelf.old }
+{
+    match load_data(alloc, shelf, name) {
+        Ok(tree) => verify_over(alloc, &tree, certificate, shelf, out),
+        Err(trouble) => print_trouble(alloc, trouble, out),
+    }
+}
+
+/// The same over the tree of the data file.
+fn verify_over<H: Shelf, K: Sink>(
+    alloc: Global,
+    tree: &Tree,
+    certificate: &str,
+    shelf: &mut H,
+    out: &mut K,
+) -> Status
+    ensures performs { (link : Linked) (name : List ℕ) (before : ℕ) →
+        LoadsData (H.files shelf.old) name before (H.faults shelf.old) (Ok tree.now) →
+        Performs (Verify name certificate.now)
+        (outside (H.files shelf.old) before (K.put out.old) (K.faults out.old) link) result
+        (outside (H.files shelf.new) (H.faults shelf.new) (K.put out.new) (K.faults out.new) link) }
+    ensures kept { H.files shelf.new ≡ H.files shelf.old }
+{
+    match load_certificate(alloc, shelf, certificate) {
+        Ok(text) => verify_text(alloc, tree, text.as_slice(), out),
+        Err(trouble) => print_trouble(alloc, trouble, out),
+    }
+}
+
+/// Prints what is found of the certificate over the tree.
+fn verify_text<K: Sink>(alloc: Global, tree: &Tree, text: &[u8], out: &mut K) -> Status
+    ensures ends { EndsVerified (entries_of tree.now) text.now (written (K.put out.old) (K.faults out.old)) result
+        (written (K.put out.new) (K.faults out.new)) }
+{
+    match verify(alloc, tree, text) {
+        Ok(granted) => print_valid(granted, out),
+        Err(fault) => print_fault(alloc, fault, out),
+    }
+}
+
+/// Prints why the certificate isn't that of the tree.
+fn print_fault<K: Sink>(alloc: Global, fault: CertFault, out: &mut K) -> Status
+    ensures ends { Ends (outcome_of_fault fault) (written (K.put out.old) (K.faults out.old)) result
+        (written (K.put out.new) (K.faults out.new)) }
+{
+    match fault {
+        CertFault::Form { line } => print_bad_line(alloc, SecondFile::Certificate, line, out),
+        CertFault::False { line } => print_false_line(alloc, line, out),
+        CertFault::NoMemory => Status::NoMemory,
+    }
+}
+
+/// Prints that the certificate is that of the tree, and what it decides.
+#[tactic(auto, unfolding(crate::specs::Outcomes::text_of, crate::specs::Outcomes::status_of))]
+fn print_valid<K: Sink>(granted: bool, out: &mut K) -> Status
+    ensures ends { Ends (Answered (valid_text granted)) (written (K.put out.old) (K.faults out.old)) result
+        (written (K.put out.new) (K.faults out.new)) }
+{
+    let put = write_all(out, valid_text(granted).as_bytes());
+    Status::Done.after(put)
+}
+
+fn valid_text(granted: bool) -> &'static str
+    ensures { result.now ≡ valid_text granted }
+{
+    if granted {
+        "valid granted\n"
+    } else {
+        "valid refused\n"
+    }
+}
+
+/// Prints the number of the certificate's first line that isn't that of the tree.
+#[tactic(auto, unfolding(crate::specs::Outcomes::text_of, crate::specs::Outcomes::status_of))]
+fn print_false_line<K: Sink>(alloc: Global, line: u64, out: &mut K) -> Status
+    ensures ends { Ends (FalseLine line) (written (K.put out.old) (K.faults out.old)) result
+        (written (K.put out.new) (K.faults out.new)) }
+{
+    let Ok(text) = false_line(alloc, line) else {
+        return Status::NoMemory;
+    };
+    let put = write_all(out, text.as_bytes());
+    Status::NotProved.after(put)
+}
+
+#[tactic(auto, unfolding(crate::specs::Outcomes::text_of))]
+fn false_line(alloc: Global, line: u64) -> Result<String, AllocError>
+    ensures { IfOk result (λ text. string_bytes text ≡ text_of (FalseLine line)) }
+{
+    format!(in alloc; "false line {line}\n")
+}

@@ -1,0 +1,11 @@
+use Rattle.std.proofs.Common.{arith}
+use Rattle.command_files.proofs.loading.LoadLemmas.{LoadsCertificate-read, LoadsCertificate-refused}
+use Rattle.command_files.proofs.loading.load_certificate.Goals as goal
+
+-- the file was read
+pub returns-in-Ok-clause-exact : goal.returns-in-Ok-clause-exact
+returns-in-Ok-clause-exact g c = LoadsCertificate-read _ _ _ _ _ (omega (arith, c.in-Ok.ensures.fits)) c.in-Ok.ensures.ok c.in-Ok.ensures.cause
+
+-- it wasn't
+pub returns-in-Err-clause-exact : goal.returns-in-Err-clause-exact
+returns-in-Err-clause-exact g c = rw c.unread.ensures.exact (LoadsCertificate-refused _ _ _ _ _ _ c.in-Err.ensures.cause)
