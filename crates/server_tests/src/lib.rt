@@ -1,5 +1,5 @@
-//! Tests of the whole program over files, sinks and links in memory: tables of scripts and words, with what is printed
-//! and how it ends.
+//! Tests of the whole program over files, sinks and links in memory: calls of the outside that fail, and what is served
+//! over a link. What it puts of files is tested by the rows of `tests/` at the top, over the built program.
 #![tactic(auto)]
 
 #[cfg(test)]
@@ -7,29 +7,7 @@ mod bounds;
 #[cfg(test)]
 mod causes;
 #[cfg(test)]
-mod classes;
-#[cfg(test)]
-mod cuts;
-#[cfg(test)]
-mod data;
-#[cfg(test)]
-mod explains;
-#[cfg(test)]
-mod hostile;
-#[cfg(test)]
 mod messages;
-#[cfg(test)]
-mod modifies;
-#[cfg(test)]
-mod pipelines;
-#[cfg(test)]
-mod points;
-#[cfg(test)]
-mod ranks;
-#[cfg(test)]
-mod reads;
-#[cfg(test)]
-mod replays;
 #[cfg(test)]
 mod rooms;
 #[cfg(test)]
@@ -37,14 +15,6 @@ mod runs;
 #[cfg(test)]
 mod samples;
 #[cfg(test)]
-mod selections;
-#[cfg(test)]
 mod serves;
 #[cfg(test)]
 mod sets;
-#[cfg(test)]
-mod strangers;
-#[cfg(test)]
-mod subentries;
-#[cfg(test)]
-mod twins;

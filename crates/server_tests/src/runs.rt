@@ -98,11 +98,6 @@ pub fn run_failing(
     run_over(alloc, line, TWO_ENTRIES.as_bytes(), script, failing)
 }
 
-/// The same with no failing call.
-pub fn run_line(alloc: Global, line: &str, script: &[u8]) -> Result<Ran, AllocError> {
-    run_failing(alloc, line, script, &[], &[])
-}
-
 /// Runs the program on the words of the line over two entries, with this link.
 pub fn run_serving(alloc: Global, line: &str, link: &mut ScriptLink) -> Result<Ran, AllocError> {
     run_serving_over(alloc, line, TWO_ENTRIES, link)
@@ -123,15 +118,6 @@ pub fn run_serving_over(
     Ok(Ran { status, put })
 }
 
-/// Runs the program over a data file and a script.
-fn run_both(alloc: Global, line: &str, data: &str, script: &str) -> Result<Ran, AllocError> {
-    let failing = Failing {
-        shelf: &[],
-        sink: &[],
-    };
-    run_over(alloc, line, data.as_bytes(), script.as_bytes(), failing)
-}
-
 /// Runs the program over a data file, and a script that only opens a connection.
 pub fn run_data(alloc: Global, line: &str, data: &[u8]) -> Result<Ran, AllocError> {
     let failing = Failing {
@@ -139,35 +125,4 @@ pub fn run_data(alloc: Global, line: &str, data: &[u8]) -> Result<Ran, AllocErro
         sink: &[],
     };
     run_over(alloc, line, data, b"open 1\n", failing)
-}
-
-/// A script, what its replay prints, and what that shows.
-#[derive(Clone, Copy)]
-pub struct Replay<'a> {
-    pub script: &'a str,
-    pub put: &'a str,
-    pub what: &'a str,
-}
-
-/// The replay of the script prints that, and comes to its end.
-pub fn assert_replay(
-    rt: &impl Abort,
-    alloc: Global,
-    replay: &Replay<'_>,
-) -> Result<(), AllocError> {
-    let ran = run_line(alloc, "replay d s", replay.script.as_bytes())?;
-    assert_ran(rt, &ran, replay.put, Status::Done, replay.what);
-    Ok(())
-}
-
-/// The replay of the script over the data file prints that, and comes to its end.
-pub fn assert_replay_over(
-    rt: &impl Abort,
-    alloc: Global,
-    data: &str,
-    replay: &Replay<'_>,
-) -> Result<(), AllocError> {
-    let ran = run_both(alloc, "replay d s", data, replay.script)?;
-    assert_ran(rt, &ran, replay.put, Status::Done, replay.what);
-    Ok(())
 }
