@@ -60,6 +60,8 @@ class Names:
         self.labels = labels_of_functions("\n".join(code))
         self.labels_of_link = set().union(*labels_of_functions((CRATES / "wire_io/src/link.rt").read_text()).values())
         self.tests = set(re.findall(r"#\[test\]\s*fn (\w+)", "\n".join(tests)))
+        self.tests |= {name for path in (TOP / "tests").glob("*.py")
+                       for name in re.findall(r"^@test\ndef (\w+)", path.read_text(), re.M)}
         self.edits = {path.stem for path in CRATES.glob("*/must-fail/*.edit")}
         self.definitions = {crate: {path.stem: text for path, text in sources(crate, "specs", ".antt").items()}
                             for crate in self.crates}
@@ -229,9 +231,10 @@ def faults_of_laws(crate):
 
 
 def faults_of_citations(crate, crates):
-    """Lemmas of other crates that are cited past their theorems."""
+    """Lemmas of other crates that are cited past their theorems; known cases may unfold what those of a crate unfold."""
     for path, kind, chain, rest, _words in imports(crate, crates):
-        if kind == "theorems" and chain[-1] != crate and rest and not rest[0].endswith("Theorems"):
+        unfolds = path.stem == "Examples" and rest and rest[-1] == "OnLiterals"
+        if kind == "theorems" and chain[-1] != crate and rest and not rest[0].endswith("Theorems") and not unfolds:
             yield f"{path.relative_to(CRATES)} cites {rest[0]} of {chain[-1]}"
 
 
