@@ -65,7 +65,10 @@ fn answer(alloc: Global, words: &[String]) -> Result<String, AllocError> {
                 requests,
                 script,
             },
-        ) => format!(in alloc; "ask [{data}] [{requests}]{}", if script { " script" } else { "" }),
+        ) => format!(in alloc;
+            "ask [{data}] [{requests}]{}",
+            if script { " script" } else { "" }
+        ),
         Some(
             Command::Prove {
                 data,
@@ -273,7 +276,10 @@ static READ: [(&str, &str); 92] = [
     ),
     ("verify d c", "verify [d] [c]"),
     ("verify d -", "verify [d] [-]"),
-    ("rights d anonymous dc=example", "rights [d] [anonymous] [dc=example]"),
+    (
+        "rights d anonymous dc=example",
+        "rights [d] [anonymous] [dc=example]",
+    ),
 ];
 
 #[test]
