@@ -1,5 +1,5 @@
--- What items ask, and what filters are of an entry.
-use Rattle.std.proofs.Common.{◌≡◌, ℕ, true, false, [], ◌∷◌, Some, None, refl}
+-- What items ask, what filters are of an entry, and what they need.
+use Rattle.std.proofs.Common.{◌≡◌, ℕ, true, false, [], ◌∷◌, Option, Some, None, refl}
 use Rattle.std.specs.Prelude.{codes, ◌==◌, not}
 use Rattle.std.specs.Str.{bytes_eq}
 use Prim.Native.String.{String}
@@ -14,8 +14,9 @@ use Rattle.ldap_filter.specs.filter.Filters.{Filter}
 use Rattle.ldap_filter.specs.filter.Filters.Filter.{And, Or, Not, Equal, Parts, AtLeast, Present, Extensible}
 use Rattle.ldap_filter.specs.filter.Filters.Filters.{Nil, Cons}
 use Rattle.filter_match.specs.declared.truth.Truth.TheVariants.{True, False, Undefined}
+use Rattle.filter_match.specs.Needs.{is_needed}
 use Rattle.filter_match.specs.Substrings.{is_substring}
-use Rattle.filter_match.specs.Tests.{equal_test, order_test, parts_test, present_test, rule_of, test_of}
+use Rattle.filter_match.specs.Tests.{Test, equal_test, order_test, parts_test, present_test, rule_of, test_of}
 use Rattle.filter_match.specs.Tests.Assertion.{HasKey, IsClass, IsAtLeast, IsAtMost}
 use Rattle.filter_match.specs.Tests.Test.{Nothing, IsThere, HasValue}
 use Rattle.filter_match.specs.Truth.{Permits, matches, has_match, test_truth, truth}
@@ -162,3 +163,34 @@ true_or_undefined = refl
 false_or_undefined : truth all ann (Or (Cons (Not there) (Cons unknown Nil))) ≡ Undefined
 unfolding test_of test_truth present_test attributes
 false_or_undefined = refl
+
+-- ---- what is needed
+
+abbrev secret : Filter
+secret = Equal (codes "userPassword") (codes "Abc")
+
+abbrev asked : Option Test
+asked = Some (HasValue 18 (HasKey (codes "Abc")))
+
+needed_by_and : is_needed (And (Cons there (Cons secret Nil))) asked ≡ true
+unfolding test_of present_test equal_test attributes value_of key_of is_of
+needed_by_and = refl
+
+needed_by_each_of_or : is_needed (Or (Cons secret (Cons (And (Cons there (Cons secret Nil))) Nil))) asked ≡ true
+unfolding test_of present_test equal_test attributes value_of key_of is_of
+needed_by_each_of_or = refl
+
+not_needed_by_one_of_or : is_needed (Or (Cons there (Cons secret Nil))) asked ≡ false
+unfolding test_of present_test equal_test attributes value_of key_of is_of
+not_needed_by_one_of_or = refl
+
+not_needed_where_denied : is_needed (Not secret) asked ≡ false
+unfolding test_of equal_test attributes value_of key_of is_of
+not_needed_where_denied = refl
+
+needed_where_denied_twice : is_needed (Not (Not secret)) asked ≡ true
+unfolding test_of equal_test attributes value_of key_of is_of
+needed_where_denied_twice = refl
+
+a_class_is_not_needed : is_needed (Equal (codes "objectClass") (codes "person")) (Some (HasValue 0 (IsClass (codes "2.5.6.6")))) ≡ false
+a_class_is_not_needed = refl

@@ -16,7 +16,7 @@ use crate::walk::walk;
 use dir_tree::Entry;
 
 /// The answer to a question of the filter, by those of its items.
-fn judge<J: Judge>(filter: &Prepared<'_>, question: Question, judge: &J) -> bool
+pub(crate) fn judge<J: Judge>(filter: &Prepared<'_>, question: Question, judge: &J) -> bool
     ensures exact { result ≡ judged (J.answers judge.now) question filter.now }
 {
     walk(filter.filter(), question, filter.tests(), judge).holds

@@ -9,14 +9,17 @@ mod exact;
 mod judge;
 pub mod laws;
 mod matching;
+mod needs;
 mod possible;
 mod prepared;
 mod preparing;
 mod question;
 mod truth;
 mod walk;
+mod without;
 
 pub use allow::Allow;
 pub use evaluating::{evaluate, is_true};
+pub use needs::Need;
 pub use prepared::{NoMemory, Prepared, prepare_filter};
 pub use truth::Truth;

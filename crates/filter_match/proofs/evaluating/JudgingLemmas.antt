@@ -55,7 +55,7 @@ join-weaker false one first other second so also holds =
     ]
 
 mutual
-  judged-weaker : (one other : Question → Test → Bool) → ((question : Question) (test : Test) → one question test ≡ true → other question test ≡ true)
+  pub judged-weaker : (one other : Question → Test → Bool) → ((question : Question) (test : Test) → one question test ≡ true → other question test ≡ true)
       → (question : Question) (filter : Filter) → judged one question filter ≡ true → judged other question filter ≡ true
   judged-weaker one other so question (And members) holds = judged_all-weaker (asks_all_of_and question) one other so question members holds
   judged-weaker one other so question (Or members) holds = judged_all-weaker (asks_all_of_or question) one other so question members holds
@@ -77,13 +77,13 @@ mutual
 
 -- ---- without permission
 
-found_so : (permitted found : Bool) → is_true (if permitted then (if found then True else False) else Undefined) ≡ true → found ≡ true
+pub found_so : (permitted found : Bool) → is_true (if permitted then (if found then True else False) else Undefined) ≡ true → found ≡ true
 found_so true true holds = refl
 found_so true false holds = holds
 found_so false true holds = refl
 found_so false false holds = holds
 
-list_any-weaker : {A : Type 0} (one other : A → Bool) (items : List A) → list_any (λ item. one item && other item) items ≡ true → list_any one items ≡ true
+pub list_any-weaker : {A : Type 0} (one other : A → Bool) (items : List A) → list_any (λ item. one item && other item) items ≡ true → list_any one items ≡ true
 list_any-weaker one other [] holds = holds
 list_any-weaker one other (item ∷ items) holds =
     elim (or_cases (one item && other item) _ holds) [
@@ -100,7 +100,7 @@ possible-weaker permits entry IsTrue (HasValue kind asserted) holds =
 possible-weaker permits entry IsFalse test holds = refl
 possible-weaker permits entry Settled test holds = holds
 
-not_so : (one other : Bool) → (one ≡ true → other ≡ true) → other ≡ false → one ≡ false
+pub not_so : (one other : Bool) → (one ≡ true → other ≡ true) → other ≡ false → one ≡ false
 not_so true other so is = absurd (false≢true (sym is ∙ so refl))
 not_so false other so is = refl
 
