@@ -1,6 +1,7 @@
 -- what public clauses cite
 pub mod Aside
 -- for the inside of the crate alone
+pub mod Kept
 pub mod Steps
 pub mod Reach
 -- the words of crates below, handed on

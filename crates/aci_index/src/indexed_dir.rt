@@ -6,36 +6,38 @@ ghost use Rattle.acdf_filters.specs.Asking.{protected_of};
 ghost use Rattle.acdf_filters.specs.Granted.{granted, granted_after};
 ghost use Rattle.acdf_filters.specs.weighing.Weighing.{AreMemberships};
 
-use crate::inserting::insert_step;
-use crate::removing::remove_step;
-use crate::replacing::replace_step;
+use crate::posting::{insert_posted, remove_posted, replace_posted};
 use acdf_filters::aci_item::Permission;
 use acdf_filters::{Item, Membership, Question, Requester};
 use aci_lists::{
     Holdings, decide_by, decide_new_by, hold, in_force_at, in_force_new_by, memberships_in,
 };
+use dir_tree::schema_tables::AttrId;
 use dir_tree::{Entry, EntryNo, InsertRefusal, NoMemory, RemoveRefusal, ReplaceRefusal, Tree};
 use directory::{Addition, Dir};
 use std::alloc::Global;
 use std::marker::Model;
+use value_index::{ValueIndex, index_of};
 
-/// A tree, and what is kept beside it. Contracts see the numbered entries.
+/// A tree, and what is kept beside it: what decisions need, and an index of the values of attributes. Contracts see the
+/// numbered entries.
 #[derive(Drop)]
 pub struct IndexedDir {
     tree: Tree,
     held: Holdings,
+    index: ValueIndex,
 }
 
 impl Model for IndexedDir {
     ghost use Rattle.std.specs.Prelude.{List};
     ghost use Rattle.dir_tree.specs.tree.Numbered.{Numbered};
-    ghost use Rattle.aci_lists.specs.kept.Holdings.{IsHeld};
+    ghost use Rattle.aci_index.specs.Kept.{AreKept};
 
     ghost Value = { List Numbered };
 
     ghost view = { λ dir. dir.tree };
 
-    ghost invariant = { λ dir. IsHeld dir.held dir.tree };
+    ghost invariant = { λ dir. AreKept dir.held dir.index dir.tree };
 }
 
 impl IndexedDir {
@@ -44,7 +46,8 @@ impl IndexedDir {
         ensures ok { IfOk result (λ dir. dir ≡ tree) }
     {
         let held = hold(alloc, &tree)?;
-        Ok(IndexedDir { tree, held })
+        let index = index_of(alloc, &tree)?;
+        Ok(IndexedDir { tree, held, index })
     }
 
     /// The numbers of the access control subentries, in the order of the names.
@@ -177,12 +180,28 @@ impl Dir for IndexedDir {
         in_force_at(&self.held.lists, number)
     }
 
+    fn holders(
+        &self,
+        alloc: Global,
+        kind: AttrId,
+        key: &[u8],
+    ) -> Result<Option<Vec<EntryNo>>, NoMemory> {
+        self.tree.entries_form_a_tree();
+        self.index.holders(alloc, kind, key)
+    }
+
     fn insert(&mut self, alloc: Global, entry: Entry) -> Result<EntryNo, InsertRefusal> {
-        insert_step(alloc, &mut self.tree, &mut self.held, entry)
+        insert_posted(
+            alloc,
+            &mut self.tree,
+            &mut self.held,
+            &mut self.index,
+            entry,
+        )
     }
 
     fn remove(&mut self, alloc: Global, no: EntryNo) -> Result<Entry, RemoveRefusal> {
-        remove_step(alloc, &mut self.tree, &mut self.held, no)
+        remove_posted(alloc, &mut self.tree, &mut self.held, &mut self.index, no)
     }
 
     fn replace(
@@ -191,6 +210,13 @@ impl Dir for IndexedDir {
         no: EntryNo,
         entry: Entry,
     ) -> Result<Entry, ReplaceRefusal> {
-        replace_step(alloc, &mut self.tree, &mut self.held, no, entry)
+        replace_posted(
+            alloc,
+            &mut self.tree,
+            &mut self.held,
+            &mut self.index,
+            no,
+            entry,
+        )
     }
 }

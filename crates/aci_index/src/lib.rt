@@ -6,6 +6,7 @@ mod indexed_dir;
 mod inserting;
 pub mod laws;
 mod points;
+mod posting;
 mod putting;
 mod removing;
 mod replacing;

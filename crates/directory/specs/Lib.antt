@@ -5,3 +5,5 @@ pub mod EntryNumbers
 -- for the inside of the crate alone
 pub mod Nearest
 pub mod Fronts
+-- the words of a crate below, handed on
+pub use Rattle.value_index.specs as value_index

@@ -1,6 +1,6 @@
 //! Directories.
 
-ghost use Rattle.std.specs.Prelude.{◌≡◌, ◌≢◌, ◌⊎◌, [], Some, None, IfOk, IfErr, OnOk, OnErr, false, map};
+ghost use Rattle.std.specs.Prelude.{◌≡◌, ◌≢◌, ◌⊎◌, [], Some, None, IfOk, IfErr, IfSome, OnOk, OnErr, false, map};
 ghost use Rattle.std.specs.Option.{option_map_or};
 ghost use Rattle.dir_tree.specs.Entry.{EntryInformation};
 ghost use Rattle.dir_tree.specs.tree.Numbered.{entry_of, entries_of, entries_at, put_entry, without};
@@ -10,6 +10,7 @@ ghost use Rattle.acdf_filters.specs.Asking.{protected_of};
 ghost use Rattle.acdf_filters.specs.Granted.{granted, granted_after, granted_new};
 ghost use Rattle.acdf_filters.specs.weighing.Weighing.{AreMemberships};
 ghost use Rattle.acdf_filters.specs.admin_scope.InForce.{AreInForce};
+ghost use Rattle.value_index.specs.Holders.{HasHolders};
 
 use acdf_filters::aci_item::Permission;
 use acdf_filters::{Item, Membership, Requester};
@@ -105,6 +106,18 @@ pub trait Dir {
     fn in_force(&self, number: EntryNo) -> &[EntryNo]
         ensures exact { (entry : EntryInformation) → entry_of number.0 (rows self.now) ≡ Some entry
             → entries_at (rows self.now) (map (λ no. no.0) result.now) ≡ in_force (entries_of (rows self.now)) entry };
+
+    /// Numbers among which each entry is that has a value of the type with the key. There may be others among them, of
+    /// entries without the value or in no use, and a number may come twice. None where the directory does not know them, or
+    /// they are many: who asks then looks at all entries. The error comes where memory is wanted.
+    fn holders(
+        &self,
+        alloc: Global,
+        kind: AttrId,
+        key: &[u8],
+    ) -> Result<Option<Vec<EntryNo>>, NoMemory>
+        ensures ok { IfOk result (λ found. IfSome found (λ numbers.
+            HasHolders kind.0 key.now (rows self.now) numbers.items)) };
 
     /// Puts the entry in, and gives the number by which it is known: one that is not in use.
     ///

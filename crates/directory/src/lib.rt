@@ -19,3 +19,4 @@ pub use newcomer::Newcomer;
 pub use results::{result_numbered, result_of, result_with};
 pub use targets::{is_suffix, not_leaf};
 pub use texts::{copied, printed, read_named};
+pub use value_index;

@@ -5,6 +5,7 @@ pub mod Seeing
 pub mod Choices
 pub mod Rooting
 pub mod Sending
+pub mod Candidates
 pub mod Paging
 -- the words of crates below, handed on
 pub use Rattle.page_core.specs as page_core

@@ -2,6 +2,7 @@
 //! directory that takes decisions.
 #![tactic(auto)]
 
+mod candidates;
 mod choosing;
 mod comparing;
 mod paging;

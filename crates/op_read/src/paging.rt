@@ -1,6 +1,6 @@
 //! Searches by pages (RFC 2696).
 
-ghost use Rattle.std.specs.Prelude.{◌≡◌, ◌≢◌, ◌++◌, Some, IfOk, OnOk, OnErr};
+ghost use Rattle.std.specs.Prelude.{◌≡◌, ◌≢◌, ◌++◌, Some, IfOk, OnOk, OnErr, filter};
 ghost use Rattle.std.specs.Result.{result_ok};
 ghost use Rattle.dir_tree.specs.Scope.{scoped};
 ghost use Rattle.dir_tree.specs.dn_names.parsing.NameText.{read_name};
@@ -10,14 +10,15 @@ ghost use Rattle.ldap_msg.specs.ber_layout.Spellings.{Extends};
 ghost use Rattle.page_core.specs.read_model.Views.{view_of};
 ghost use Rattle.page_core.specs.read_model.Selecting.{is_shown, selected};
 ghost use Rattle.page_core.specs.Endings.{page_end};
-ghost use Rattle.page_core.specs.Starts.{start_of};
+ghost use Rattle.page_core.specs.Starts.{start_of, is_after};
 ghost use Rattle.page_core.specs.Pages.{fits_page, last_name, paged_octets, page_by, page_replies};
 ghost use Rattle.directory.specs.Asking.{view_in};
 ghost use Rattle.op_read.specs.Alike.{SendsPageAlike};
 ghost use Rattle.op_read.specs.Paging.{is_done, page_of_none, page_ending, page_at, page_sized_at, page_from_at, page_named};
 ghost use Rattle.op_read.specs.Seeing.{rows_at, scope_of};
-ghost use Rattle.op_read.specs.Sending.{is_filled, shown_at, shown_among};
+ghost use Rattle.op_read.specs.Sending.{is_filled, shown_at, shown_among, entry_octets, IsSent};
 
+use crate::candidates::{Candidates, candidates_after};
 use crate::choosing::{Selection, read_choices};
 use crate::searching::{Asked, put_hidden, put_known, put_root_replies};
 use crate::seen::Seen;
@@ -210,6 +211,35 @@ fn put_ending<D: Dir>(
     }
 }
 
+// Sends the entries of the scope that are selected and come after the name, from the entry of the number on, which has the
+// name of the base. Where the holders of a value that the filter needs are known, they alone are looked at.
+fn put_behind<D: Dir>(
+    alloc: Global,
+    asking: &Asking<'_, D>,
+    search: &Search<'_>,
+    start: Start<'_>,
+    number: EntryNo,
+    out: &mut Vec<u8>,
+) -> Result<Found, NoMemory>
+    requires tree { IsNumberedTree (D.rows asking.now.dir.now) }
+    requires found { find_name start.base.now (D.rows asking.now.dir.now) ≡ Some number.0 }
+    ensures ok { IfOk result (λ found. IsSent (rows_at (D.rows asking.now.dir.now) asking.now.who.now)
+        search.now.limit (entry_octets search.now.id search.now.request.now)
+        (filter (is_after start.entry.after.now)
+        (selected (view_in (D.rows asking.now.dir.now) asking.now.who.now) search.now.request.now
+        search.now.subentries start.entry.base.now))
+        out.old.items out.new.items found) }
+    ensures kept { Extends out.old.items out.new.items }
+{
+    match candidates_after(alloc, asking, search, number, start.after) {
+        Some(numbers) => put_found(alloc, asking, search, Candidates::of_list(&numbers), out),
+        None => {
+            let walk = walk_after(asking, search.request.scope, number, start.after);
+            put_found(alloc, asking, search, Candidates::of_walk(walk), out)
+        }
+    }
+}
+
 // Appends a page of a search from the entry of the number on, which has the name of the base.
 fn put_page_selected<D: Dir>(
     alloc: Global,
@@ -227,8 +257,7 @@ fn put_page_selected<D: Dir>(
         search.now.subentries start.entry.base.now search.now.limit start.entry.after.now)) }
     ensures kept { Extends out.old.items out.new.items }
 {
-    let walk = walk_after(asking, search.request.scope, number, start.after);
-    let found = put_found(alloc, asking, search, walk, out)?;
+    let found = put_behind(alloc, asking, search, start, number, out)?;
     put_ending(alloc, asking, search, start.base, number, found, out)
 }
 
@@ -444,11 +473,12 @@ fn append_page<D: Dir>(
 /// Appends the answer to a search with the control of pages (RFC 2696): of the entries that are selected, in the order
 /// of names, those behind the name that the cookie says, as many as the page's size, and the end of the page, with the
 /// last one's name where more are left. It costs what is sent and what the filter passes over: what comes before the
-/// page is not walked over, nor what comes behind the first entry too many. What the requester may not know of is
+/// page is not walked over, nor what comes behind the first entry too many; where the directory knows who holds a value
+/// that the filter needs, it costs its holders. What the requester may not know of is
 /// answered as what is not there: over two trees that differ only in a subtree of which it sees nothing, the same octets
 /// are appended. `subentries` is what the control of subentries says, where it goes with the request (RFC 3672 3). The
 /// error comes for want of memory, or past the room: where `out` holds more than `room` octets and entries of the scope
-/// are left. Then `out` is as before.
+/// are left to be looked at. Then `out` is as before.
 pub fn search_page<D: Dir>(
     alloc: Global,
     dir: &D,

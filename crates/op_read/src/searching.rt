@@ -1,20 +1,24 @@
 //! Searches.
 
-ghost use Rattle.std.specs.Prelude.{◌≡◌, ◌++◌, ◌∷◌, [], Some, Ok, OnOk, OnErr, if◌then◌else◌};
+ghost use Rattle.std.specs.Prelude.{◌≡◌, ◌++◌, ◌∷◌, [], Some, Ok, IfOk, OnOk, OnErr, if◌then◌else◌};
+ghost use Rattle.dir_tree.specs.Scope.{scoped};
 ghost use Rattle.dir_tree.specs.tree.Numbered.{IsNumberedTree, entries_of, find_name};
 ghost use Rattle.ldap_msg.specs.ber_layout.Spellings.{Extends};
 ghost use Rattle.ldap_msg.specs.declared.kinds.Reply.TheVariants as reply;
 ghost use Rattle.page_core.specs.read_model.Views.{view_of, hidden};
-ghost use Rattle.page_core.specs.read_model.Selecting.{selected};
+ghost use Rattle.page_core.specs.read_model.Selecting.{is_shown, selected};
 ghost use Rattle.page_core.specs.read_model.RootEntry.{finds_root, root_entry, root_replies};
 ghost use Rattle.page_core.specs.read_model.SearchReplies.{replies_octets, found_replies, replies_at, replies_by, search_replies};
 ghost use Rattle.directory.specs.Asking.{view_in};
 ghost use Rattle.op_read.specs.Alike.{SendsAlike};
+ghost use Rattle.op_read.specs.Seeing.{rows_at, scope_of};
+ghost use Rattle.op_read.specs.Sending.{shown_among, entry_octets, IsSent};
 
+use crate::candidates::{Candidates, candidates_of};
 use crate::choosing::{Selection, read_choices};
 use crate::root_entry::{finds_root, root_entry};
 use crate::selecting::walk_from;
-use crate::sending::{Search, ended_by, put_done, put_found};
+use crate::sending::{Found, Search, ended_by, put_done, put_found};
 use acdf_filters::Requester;
 use dir_tree::dn_names::Dn;
 use dir_tree::{EntryNo, NoMemory};
@@ -31,6 +35,32 @@ pub(crate) struct Asked<'a> {
     pub(crate) request: &'a SearchRequest,
     pub(crate) subentries: Option<bool>,
     pub(crate) room: usize,
+}
+
+// Sends the entries of the scope that are selected, from the entry of the number on. Where the holders of a value that
+// the filter needs are known, they alone are looked at.
+fn put_scope<D: Dir>(
+    alloc: Global,
+    asking: &Asking<'_, D>,
+    search: &Search<'_>,
+    number: EntryNo,
+    out: &mut Vec<u8>,
+) -> Result<Found, NoMemory>
+    ensures ok { IfOk result (λ found. IsSent (rows_at (D.rows asking.now.dir.now) asking.now.who.now)
+        search.now.limit (entry_octets search.now.id search.now.request.now)
+        (shown_among (is_shown search.now.request.now search.now.subentries) (D.rows asking.now.dir.now)
+        asking.now.who.now
+        (scoped (scope_of search.now.request.now.scope) number.0 (D.rows asking.now.dir.now)))
+        out.old.items out.new.items found) }
+    ensures kept { Extends out.old.items out.new.items }
+{
+    match candidates_of(alloc, asking, search, number) {
+        Some(numbers) => put_found(alloc, asking, search, Candidates::of_list(&numbers), out),
+        None => {
+            let walk = walk_from(asking, search.request.scope, number);
+            put_found(alloc, asking, search, Candidates::of_walk(walk), out)
+        }
+    }
 }
 
 // Appends the replies to a search from the entry of the number on, which has the name.
@@ -52,8 +82,7 @@ fn put_selected<D: Dir>(
         search.now.subentries base.now))) }
     ensures kept { Extends out.old.items out.new.items }
 {
-    let walk = walk_from(asking, search.request.scope, number);
-    let found = put_found(alloc, asking, search, walk, out)?;
+    let found = put_scope(alloc, asking, search, number, out)?;
     let ended = ended_by(alloc, asking, base, found)?;
     put_done(search.id, ended, out)
 }
@@ -253,7 +282,8 @@ fn append_replies<D: Dir>(
 /// what is not there: over two trees that differ only in a subtree of which it sees nothing, the same octets are
 /// appended. `subentries` is what the control of subentries says, where it goes with the request (RFC 3672 3). The
 /// error comes for want of memory, or past the room: where `out` holds more than `room` octets and entries of the scope
-/// are left. Then `out` is as before.
+/// are left to be looked at. Then `out` is as before. Where the directory knows who holds a value that the filter needs,
+/// the search costs its holders, and else the entries of the scope.
 pub fn search<D: Dir>(
     alloc: Global,
     dir: &D,

@@ -12,11 +12,12 @@ ghost use Rattle.op_read.specs.Choices.{chooses};
 ghost use Rattle.op_read.specs.Seeing.{row_in, rows_at};
 ghost use Rattle.op_read.specs.Sending.{shown_at, shown_among, entry_octets, Goes, IsSent, ended_by};
 
+use crate::candidates::Candidates;
 use crate::choosing::{Selection, sent_entry};
 use crate::seen::Seen;
 use crate::selecting::{is_found, is_seen};
 use dir_tree::dn_names::Dn;
-use dir_tree::{EntryNo, NoMemory, Walk};
+use dir_tree::{EntryNo, NoMemory};
 use directory::{Asking, Dir, discloses, no_such_object, result_of};
 use ldap_msg::{LdapResult, Reply, ResultCode, SearchRequest, put_reply};
 use page_core::read_model::filter_match::Prepared;
@@ -177,20 +178,19 @@ fn offer_at<D: Dir>(
     }
 }
 
-/// Sends the entries of the walk that are selected, in its order: no more than the limit, if there is one. What is not
-/// selected is not counted. The error comes for want of memory, or where `out` is past the room and entries of the walk
-/// are left.
+/// Sends the candidates that are selected, in their order: no more than the limit, if there is one. What is not selected
+/// is not counted. The error comes for want of memory, or where `out` is past the room and candidates are left.
 pub(crate) fn put_found<D: Dir>(
     alloc: Global,
     asking: &Asking<'_, D>,
     search: &Search<'_>,
-    walk: Walk<'_>,
+    candidates: Candidates<'_>,
     out: &mut Vec<u8>,
 ) -> Result<Found, NoMemory>
     ensures ok { IfOk result (λ found. IsSent (rows_at (D.rows asking.now.dir.now) asking.now.who.now)
         search.now.limit (entry_octets search.now.id search.now.request.now)
         (shown_among (is_shown search.now.request.now search.now.subentries) (D.rows asking.now.dir.now)
-        asking.now.who.now walk.entry)
+        asking.now.who.now candidates.entry)
         out.old.items out.new.items found) }
     ensures kept { Extends out.old.items out.new.items }
 {
@@ -198,7 +198,7 @@ pub(crate) fn put_found<D: Dir>(
         last: None,
         room: search.limit,
     };
-    for candidate in walk {
+    for candidate in candidates {
         if !offer_at(alloc, asking, search, candidate, &mut sent, out)? {
             return Ok(Found::TooMany(sent.last));
         }

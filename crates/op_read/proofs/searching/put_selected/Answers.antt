@@ -1,5 +1,5 @@
 -- What was sent, and how the search ended.
-use Rattle.std.proofs.Common.{◌∙◌, ◌++◌, ◌∷◌, [], List, ℕ, ap, subst}
+use Rattle.std.proofs.Common.{◌∙◌, ◌++◌, ◌∷◌, [], ℕ, ap, subst}
 use Rattle.std.proofs.lemmas.Result.{on_ok_weaker}
 use Rattle.dir_tree.specs.Scope.{scoped}
 use Rattle.ldap_msg.specs.declared.kinds.LdapResult.{LdapResult}
@@ -20,14 +20,13 @@ returns-clause-ok g c =
     let who = c.args.asking.now.who.now in
     let search = c.args.search.now in
     let request = search.request.now in
-    let middle = c.put_found.new.out.items in
+    let middle = c.put_scope.new.out.items in
     let found = c.in_ok-found.found in
     let at = rows_at rows who in
     let octets = entry_octets search.id request in
     let test = is_shown request search.subentries in
     let ids = scoped (scope_of request.scope) c.args.number.0 rows in
-    let walked = subst (λ (ids : List ℕ). IsSent at search.limit octets (shown_among test rows who ids) c.args.out.now.items middle found) c.walk_from-walk.ensures.exact c.in_ok-found.ensures.ok in
-    let limited = subst (λ (limit : ℕ). IsSent at limit octets (shown_among test rows who ids) c.args.out.now.items middle found) c.requires.limit walked in
+    let limited = subst (λ (limit : ℕ). IsSent at limit octets (shown_among test rows who ids) c.args.out.now.items middle found) c.requires.limit c.in_ok-found.ensures.ok in
     let sent = subst (λ (rows : View). IsSent at request.size octets rows c.args.out.now.items middle found)
     (selected-among request search.subentries c.args.base.now c.args.number.0 rows who c.requires.tree c.requires.found) limited in
     on_ok_weaker c.put_done.result

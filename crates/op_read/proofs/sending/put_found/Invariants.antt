@@ -7,6 +7,6 @@ use Rattle.op_read.proofs.sending.put_found.Given as goal
 abbrev pub invariant-loop-candidate : goal.invariant-loop-candidate
 invariant-loop-candidate g l =
     Sends (rows_at (g.D.Dir.rows l.asking.dir.now) l.asking.who.now) l.search.limit (entry_octets l.search.id l.search.request.now)
-    (shown_among (is_shown l.search.request.now l.search.subentries) (g.D.Dir.rows l.asking.dir.now) l.asking.who.now l.fn.walk)
+    (shown_among (is_shown l.search.request.now l.search.subentries) (g.D.Dir.rows l.asking.dir.now) l.asking.who.now l.fn.candidates)
     (shown_among (is_shown l.search.request.now l.search.subentries) (g.D.Dir.rows l.asking.dir.now) l.asking.who.now l.candidate-iterator)
     l.fn.out.items l.sent l.out.items

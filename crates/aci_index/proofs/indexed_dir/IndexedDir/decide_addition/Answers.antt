@@ -6,4 +6,4 @@ use Rattle.aci_index.proofs.indexed_dir.IndexedDir.decide_addition.Goals as goal
 
 pub decide_by-requires-clause-kept : goal.decide_by-requires-clause-kept
 decide_by-requires-clause-kept c =
-    subst (λ (kept : List Kept). IsKept kept c.self.inside.tree) (sym c.deref.ensures.value) c.self.invariant.lists
+    subst (λ (kept : List Kept). IsKept kept c.self.inside.tree) (sym c.deref.ensures.value) c.self.invariant.held.lists

@@ -6,4 +6,4 @@ use Rattle.aci_index.proofs.indexed_dir.IndexedDirDir.decide_new.Goals as goal
 
 pub decide_new_by-requires-clause-kept : goal.decide_new_by-requires-clause-kept
 decide_new_by-requires-clause-kept c =
-    subst (λ (kept : List Kept). IsKept kept c.self.inside.tree) (sym c.deref.ensures.value) c.self.invariant.lists
+    subst (λ (kept : List Kept). IsKept kept c.self.inside.tree) (sym c.deref.ensures.value) c.self.invariant.held.lists
