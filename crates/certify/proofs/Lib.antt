@@ -1,2 +1,3 @@
 mod Examples
+mod FormExamples
 pub mod ListLemmas

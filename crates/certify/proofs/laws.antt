@@ -1,3 +1,14 @@
 pub mod NumberTests
 pub mod LastLemmas
 pub mod ScopeLaw
+pub mod EndLemmas
+pub mod QuotedLemmas
+pub mod WordLemmas
+pub mod ItemLemmas
+pub mod LineLemmas
+pub mod WhoLemmas
+pub mod AgreementLemmas
+pub mod PartLemmas
+pub mod PrintedLemmas
+pub mod QuestionLemmas
+pub mod AcceptedLaw

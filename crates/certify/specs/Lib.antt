@@ -7,6 +7,7 @@ pub mod RightsTable
 pub mod FormLines
 pub mod Form
 pub mod Verifying
+pub mod Readable
 -- for the inside of the crate alone
 pub mod Making
 -- the words of crates below, handed on

@@ -1,13 +1,17 @@
 //! The certificate of a decision.
 
-ghost use Rattle.std.specs.Prelude.{◌≡◌, ◌++◌, Some, None, IfOk, OnOk, OnErr, map};
+ghost use Rattle.std.specs.Prelude.{◌≡◌, ◌++◌, Some, None, Ok, IfOk, OnOk, OnErr, drop, length, map};
 ghost use Rattle.dir_tree.specs.Entry.{EntryInformation};
+ghost use Rattle.dir_tree.specs.tree.Trees.{named_in};
 ghost use Rattle.dir_tree.specs.tree.Numbered.{entry_of, entries_of, entries_at};
 ghost use Rattle.acdf_filters.specs.admin_scope.InForce.{in_force};
 ghost use Rattle.acdf_filters.specs.Asking.{protected_of, asked_on};
+ghost use Rattle.acdf_filters.specs.Granted.{granted};
 ghost use Rattle.acdf_filters.specs.weighing.Weighing.{KnowsGroups, asked_of};
-ghost use Rattle.explanation.specs.Questions.{question_view};
+ghost use Rattle.explanation.specs.Questions.{item_asked, question_view};
 ghost use Rattle.certify.specs.Certificate.{certificate_text, proved_text, text_proved};
+ghost use Rattle.certify.specs.Verifying.{verified};
+ghost use Rattle.certify.specs.Readable.{AreSaid, HaveGoodNames};
 
 use crate::certifying::certify;
 use crate::printing::put_lines;
@@ -83,10 +87,20 @@ pub fn prove<D: Dir>(
     ensures ok { (entry : EntryInformation) → entry_of number.0 (D.rows dir.now) ≡ Some entry
         → OnOk result (out.new.items ≡ out.old.items ++ certificate_text (entries_of (D.rows dir.now))
         (asked_on who.now entry (protected_of item.entry) permission) entry) }
+
+    // `verify` accepts what is appended, where words say what is asked and the names of the entries are good
+    ensures accepted { (entry : EntryInformation) → entry_of number.0 (D.rows dir.now) ≡ Some entry
+        → HaveGoodNames (entries_of (D.rows dir.now)) → AreSaid who.now (protected_of item.entry) permission
+        → OnOk result (verified (entries_of (D.rows dir.now)) (drop (length out.old.items) out.new.items)
+        ≡ Ok (granted (entries_of (D.rows dir.now)) who.now entry (protected_of item.entry) permission)) }
+
+    // nothing is appended
     ensures absent { entry_of number.0 (D.rows dir.now) ≡ None → out.new.items ≡ out.old.items }
     ensures err { OnErr result (out.new.items ≡ out.old.items) }
 {
-    let Some(entry) = dir.tree().at(number) else {
+    let tree = dir.tree();
+    tree.entries_form_a_tree();
+    let Some(entry) = tree.at(number) else {
         return Ok(());
     };
     let text = entry_text(alloc, dir, who, number, entry, item, permission)?;
@@ -119,6 +133,14 @@ pub fn prove_text<D: Dir>(
     question: &AskedDecision,
 ) -> Result<Vec<u8>, NoMemory>
     ensures ok { IfOk result (λ text. text.items ≡ text_proved (entries_of (D.rows dir.now)) (question_view question.now)) }
+
+    // `verify` accepts the text where an entry has the name, words say what is asked and the names of the entries are good
+    ensures accepted { (entry : EntryInformation) → named_in question.now.target (entries_of (D.rows dir.now)) ≡ Some entry
+        → HaveGoodNames (entries_of (D.rows dir.now))
+        → AreSaid question.now.who (item_asked question.now.item) question.now.permission
+        → IfOk result (λ text. verified (entries_of (D.rows dir.now)) text.items
+        ≡ Ok (granted (entries_of (D.rows dir.now)) question.now.who entry
+        (item_asked question.now.item) question.now.permission)) }
 {
     let item = question.item.item();
     target_text(
