@@ -7,8 +7,8 @@ pub use Rattle.session_model.proofs.laws.KeepingLemmas.{Keeps-taken, length-kept
 pub use Rattle.session_model.proofs.laws.SpeechLemmas.{one_later, speech-whole, speech-more, speech-bad, speech-cut}
 -- octets and messages, however they are told apart
 pub use Rattle.session_model.proofs.laws.JoinedLemmas.{talk-append, pieces-join}
--- what each answer keeps true of a tree, through all steps
-pub use Rattle.session_model.proofs.laws.ClaimLemmas.{AnswersKeep, run_claim}
+-- what each answer keeps true of a tree, through all steps, at each place, and of each message that is answered
+pub use Rattle.session_model.proofs.laws.ClaimLemmas.{step_claim, step_and_hang_up_claim, run_claim, replayed_claim, places_claim, replay_places_claim, connection_claim, replay_connection_claim}
 -- from block to block
 pub use Rattle.session_model.proofs.laws.TrackLemmas.{works_start}
 pub use Rattle.session_model.proofs.laws.EventLemmas.{works_bytes, works_ended, works_idle}
@@ -25,7 +25,16 @@ pub use Rattle.session_model.proofs.laws.HeldLemmas.{is_listed-append}
 -- what is held stays true to its sessions, from the beginning and at each step that opens no number twice
 pub use Rattle.session_model.proofs.laws.SessionLemmas.{Keeps-step, Keeps-start}
 -- runs over two trees, and without the steps of others
-pub use Rattle.session_model.proofs.laws.AlikeLemmas.{all_append, AreAlike-over, talk-alike, said-alike}
+pub use Rattle.session_model.proofs.laws.AlikeLemmas.{all_append, all_both, AreAlike-over, talk-alike, said-alike}
 pub use Rattle.session_model.proofs.laws.RunLemmas.{step-alike, run-alike, replayed-alike}
 pub use Rattle.session_model.proofs.laws.AlikeHeldLemmas.{heard-alike, answered-kept}
-pub use Rattle.session_model.proofs.laws.PurgeLemmas.{run-purged}
+pub use Rattle.session_model.proofs.laws.PurgeLemmas.{run-purged, replayed-purged, taken-purged}
+pub use Rattle.session_model.proofs.laws.ServedLemmas.{served-alike, sound-alike}
+-- a number that opens once is new
+pub use Rattle.session_model.proofs.laws.OnceLemmas.{run-new, replay-new}
+-- what a connection meets at its places
+pub use Rattle.session_model.proofs.laws.MeetingLemmas.{run-meets, replay-meets}
+-- a piece message by message, and where the next message ends
+pub use Rattle.session_model.proofs.laws.PieceLemmas.{run-piece, replay-piece, places-none, places-closed}
+pub use Rattle.session_model.proofs.laws.NextLemmas.{completes_next, completes_none, asks_kept, none_asks}
+pub use Rattle.session_model.proofs.laws.LeftLemmas.{Keeps-alike, Keeps-hung_up, held_numbers-left}

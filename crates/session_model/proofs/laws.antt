@@ -21,3 +21,9 @@ pub mod AlikeLemmas
 pub mod RunLemmas
 pub mod PurgeLemmas
 pub mod AlikeHeldLemmas
+pub mod MeetingLemmas
+pub mod ServedLemmas
+pub mod LeftLemmas
+pub mod PieceLemmas
+pub mod NextLemmas
+pub mod OnceLemmas

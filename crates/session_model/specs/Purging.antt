@@ -2,7 +2,7 @@
 use Rattle.std.specs.Prelude.{ℕ, ◌==◌, nat_lt, Bool, true, false, not, ◌&&◌, ◌||◌, cond, List, [], ◌∷◌, ◌++◌, length, filter, ◌+◌, if◌then◌else◌}
 use Rattle.session_model.specs.Rules.{Rules}
 use Rattle.session_model.specs.Run.{Sessions, Step, Opened, Bytes, Ended, Gone, HungUp, step, held_numbers, most_held}
-use Rattle.session_model.specs.Replaying.{number_of}
+use Rattle.session_model.specs.Replaying.{number_of, step_and_hang_up}
 use Rattle.session_model.specs.AnsweredMessages.{AnsweredMessage, answered_of_step}
 
 -- a step of this connection
@@ -30,15 +30,29 @@ openings number (next ∷ steps) = (if is_opening number next then 1 else 0) + o
 abbrev pub has_room : {T W : Type 0} → Sessions T W → Bool
 has_room sessions = nat_lt (length (held_numbers sessions)) most_held
 
-module _ {T W : Type 0} (rules : Rules T W) where
-  -- so it is whenever this connection opens
-  unfoldable pub finds_room : ℕ → Sessions T W → List Step → Bool
-  finds_room number sessions [] = true
-  finds_room number sessions (next ∷ steps) =
-      (not (is_opening number next) || has_room sessions) && finds_room number (step rules sessions next) steps
+-- so it is whenever this connection opens, where each step leads on so
+unfoldable pub finds_room_by : {T W : Type 0} → (Sessions T W → Step → Sessions T W) → ℕ → Sessions T W → List Step → Bool
+finds_room_by after number sessions [] = true
+finds_room_by after number sessions (next ∷ steps) =
+    (not (is_opening number next) || has_room sessions) && finds_room_by after number (after sessions next) steps
 
-  -- the messages of this connection that are answered in steps of all
-  unfoldable pub answered_of_connection : ℕ → Sessions T W → List Step → List (AnsweredMessage T W)
-  answered_of_connection number sessions [] = []
-  answered_of_connection number sessions (next ∷ steps) =
-      cond (is_of number next) (answered_of_step rules sessions next) [] ++ answered_of_connection number (step rules sessions next) steps
+module _ {T W : Type 0} (rules : Rules T W) where
+  -- the messages of this connection that are answered in steps of all, where each leads on so
+  unfoldable pub answered_of_connection_by : (Sessions T W → Step → Sessions T W) → ℕ → Sessions T W → List Step → List (AnsweredMessage T W)
+  answered_of_connection_by after number sessions [] = []
+  answered_of_connection_by after number sessions (next ∷ steps) =
+      cond (is_of number next) (answered_of_step rules sessions next) [] ++ answered_of_connection_by after number (after sessions next) steps
+
+  -- both in a run
+  abbrev pub finds_room : ℕ → Sessions T W → List Step → Bool
+  finds_room number sessions steps = finds_room_by (step rules) number sessions steps
+
+  abbrev pub answered_of_connection : ℕ → Sessions T W → List Step → List (AnsweredMessage T W)
+  answered_of_connection number sessions steps = answered_of_connection_by (step rules) number sessions steps
+
+  -- and where events are replayed
+  abbrev pub finds_room_in_replay : ℕ → Sessions T W → List Step → Bool
+  finds_room_in_replay number sessions events = finds_room_by (step_and_hang_up rules) number sessions events
+
+  abbrev pub answered_in_replay : ℕ → Sessions T W → List Step → List (AnsweredMessage T W)
+  answered_in_replay number sessions events = answered_of_connection_by (step_and_hang_up rules) number sessions events

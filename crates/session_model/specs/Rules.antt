@@ -14,6 +14,10 @@ pub record Rules (T W : Type 0) : Type 0 where
   pub nobody : W
   pub answer : T → W → List ℕ → Answered T W
 
+-- a claim that holds of a tree holds of the tree that each answer leaves of it
+abbrev pub AnswersKeep : {T W : Type 0} → Rules T W → (T → Type 0) → Type 0
+AnswersKeep {T} {W} rules claim = (tree : T) (who : W) (message : List ℕ) → claim tree → claim (rules.answer tree who message).tree
+
 -- the same answer with these octets sent before its own
 abbrev pub after_octets : {T W : Type 0} → List ℕ → Answered T W → Answered T W
 after_octets octets answered = record { replies = octets ++ answered.replies; tree = answered.tree; who = answered.who; closes = answered.closes }

@@ -1,24 +1,36 @@
 //! Laws over the definitions, whatever the trees, the requesters and the answers are: each function computes nothing,
 //! and what it ensures is a law.
 
-ghost use Rattle.std.specs.Prelude.{◌≡◌, ◌≤◌, ◌+◌, ◌++◌, ℕ, length, List, filter, None, Bool, true, Option};
+ghost use Rattle.std.specs.Prelude.{◌≡◌, ◌≢◌, ◌≤◌, ◌+◌, ◌-◌, ◌++◌, ◌∷◌, [], ℕ, length, take, cond, List, filter, Some, None, Bool, true, false, Option};
 ghost use Rattle.wire_io.specs.declared.journal.Item.{Item};
 ghost use Rattle.wire_io.specs.Journal.{heard as heard_events};
 ghost use Rattle.session_model.specs.Rules.{Rules, talk, said, up_to};
-ghost use Rattle.session_model.specs.Run.{Sessions, Step, Bytes, step, start, run, run_from};
-ghost use Rattle.session_model.specs.Kept.{Held, heard, taken_off};
+ghost use Rattle.session_model.specs.ldap_msg.declared.kinds.Frame.TheVariants.{Whole};
+ghost use Rattle.session_model.specs.ldap_msg.Streams.{frame_at};
+ghost use Rattle.session_model.specs.Run.{Sessions, Step, Open, Bytes, step, start, run, new_messages};
+ghost use Rattle.session_model.specs.Kept.{Kept, Held, heard, taken_off, kept_of, closing_of, forgotten};
 ghost use Rattle.session_model.specs.Keeping.{Keeps, IsNew, more_taken};
 ghost use Rattle.session_model.specs.Journaled.{StepsOf, HasNoCut, steps_of, steps_of_events, is_event};
 ghost use Rattle.session_model.specs.Joined.{and_then, LeavesAlike};
 ghost use Rattle.std.specs.List.{AllByRecursion};
-ghost use Rattle.session_model.specs.Replaying.{replayed, replayed_from};
+ghost use Rattle.session_model.specs.Replaying.{number_of, replayed, hung_up, step_and_hang_up};
+ghost use Rattle.session_model.specs.Serving.{Sound, Served, IsFront};
 ghost use Rattle.session_model.specs.AnsweredMessages.{AreAlike, AreOver, AreHeldOver, IsAnsweredAlike, over, held_over, answered_messages, answered_of_step, answered_of_run, answered_of_replay, answered_of_held};
-ghost use Rattle.session_model.specs.Purging.{purged, openings, finds_room, answered_of_connection};
+ghost use Rattle.session_model.specs.Purging.{purged, openings, finds_room, answered_of_connection, finds_room_in_replay, answered_in_replay};
+ghost use Rattle.session_model.specs.Places.{CompletesOne, IsPassing, asker_of, asker_in, passes, places, places_of_replay, places_of_step, standing, standing_behind};
 
 /// What a server holds stays true to its sessions at each step, as long as no number is opened twice.
 pub fn keeps_each_step<T, W>()
     ensures { (rules : Rules T W) (sessions : Sessions T W) (taken : ℕ → ℕ) (held : Held T W) (next : Step) →
         IsNew sessions next → Keeps sessions taken held → Keeps (step rules sessions next) taken (heard rules next held) }
+{}
+
+/// A step opens no number that was opened before, where its number opens once among all steps.
+pub fn a_number_that_opens_once_is_new<T, W>()
+    ensures run { (rules : Rules T W) (tree : T) (early late : List Step) (next : Step) →
+        openings (number_of next) (early ++ next ∷ late) ≤ 1 → IsNew (run rules tree early) next }
+    ensures replay { (rules : Rules T W) (tree : T) (early late : List Step) (next : Step) →
+        openings (number_of next) (early ++ next ∷ late) ≤ 1 → IsNew (replayed rules tree early) next }
 {}
 
 /// What a server holds stays true to its sessions as octets are taken of a connection's queue.
@@ -91,10 +103,96 @@ pub fn sessions_are_kept_alike<T, W>()
 {}
 
 /// A connection is left the same by the steps of all as by its own alone, which opens once at most and then finds
-/// room, where each of its messages is answered over the tree that is then there as over that of the beginning.
+/// room, where each of its messages is answered over the tree that is then there as over that of the beginning. So it
+/// is where events are replayed; and what a link took of it is a front of what it gets alone.
 pub fn steps_of_others_do_not_show<T, W>()
     ensures exact { (rules : Rules T W) (tree : T) (number : ℕ) (steps : List Step) → openings number steps ≤ 1 →
         finds_room rules number (start rules tree) steps ≡ true →
         AllByRecursion (IsAnsweredAlike rules tree) (answered_of_connection rules number (start rules tree) steps) →
         (run rules tree steps).of number ≡ (run rules tree (purged number steps)).of number }
+    ensures replay { (rules : Rules T W) (tree : T) (number : ℕ) (events : List Step) → openings number events ≤ 1 →
+        finds_room_in_replay rules number (start rules tree) events ≡ true →
+        AllByRecursion (IsAnsweredAlike rules tree) (answered_in_replay rules number (start rules tree) events) →
+        (replayed rules tree events).of number ≡ (replayed rules tree (purged number events)).of number }
+    ensures taken { (rules : Rules T W) (tree : T) (number : ℕ) (steps : List Step) (journal : List Item) →
+        Sound rules tree steps journal → openings number steps ≤ 1 →
+        finds_room rules number (start rules tree) steps ≡ true →
+        AllByRecursion (IsAnsweredAlike rules tree) (answered_of_connection rules number (start rules tree) steps) →
+        IsFront journal number ((run rules tree (purged number steps)).of number) }
+{}
+
+/// A journal that serves its connections over a tree serves them over another, where each message that its steps
+/// answer is answered alike; with its last block unfinished too.
+pub fn a_journal_serves_alike<T, W>()
+    ensures served { (rules : Rules T W) (one other : T) (steps : List Step) (journal : List Item) →
+        AllByRecursion (IsAnsweredAlike rules other) (answered_of_run rules (start rules one) steps) →
+        Served rules one steps journal → Served rules other steps journal }
+    ensures sound { (rules : Rules T W) (one other : T) (steps : List Step) (journal : List Item) →
+        AllByRecursion (IsAnsweredAlike rules other) (answered_of_run rules (start rules one) steps) →
+        Sound rules one steps journal → Sound rules other steps journal }
+{}
+
+/// Where each place of a connection passes tests, it finds room whenever it opens, and each of its messages that is
+/// answered passes them over the tree and for the requester with which it is; in a run, and where events are replayed.
+pub fn what_a_connection_meets<T, W>()
+    ensures room { (rules : Rules T W) (allows : T → W → Bool) (reads : List ℕ → Bool) (number : ℕ) (tree : T) (steps : List Step) →
+        AllByRecursion (λ place. passes allows reads place ≡ true) (places rules number tree steps) →
+        finds_room rules number (start rules tree) steps ≡ true }
+    ensures messages { (rules : Rules T W) (allows : T → W → Bool) (reads : List ℕ → Bool) (number : ℕ) (tree : T) (steps : List Step) →
+        AllByRecursion (λ place. passes allows reads place ≡ true) (places rules number tree steps) →
+        AllByRecursion (IsPassing allows reads) (answered_of_connection rules number (start rules tree) steps) }
+    ensures replay_room { (rules : Rules T W) (allows : T → W → Bool) (reads : List ℕ → Bool) (number : ℕ) (tree : T) (events : List Step) →
+        AllByRecursion (λ place. passes allows reads place ≡ true) (places_of_replay rules number tree events) →
+        finds_room_in_replay rules number (start rules tree) events ≡ true }
+    ensures replay_messages { (rules : Rules T W) (allows : T → W → Bool) (reads : List ℕ → Bool) (number : ℕ) (tree : T) (events : List Step) →
+        AllByRecursion (λ place. passes allows reads place ≡ true) (places_of_replay rules number tree events) →
+        AllByRecursion (IsPassing allows reads) (answered_in_replay rules number (start rules tree) events) }
+{}
+
+/// The places of a piece of octets may be looked at message by message: the one behind its first message, where that has
+/// been heard and answered, and then those of what is left of the piece. A piece that completes no message, or isn't of an
+/// open connection, has one place, after it.
+pub fn a_piece_is_heard_message_by_message<T, W>()
+    ensures run { (rules : Rules T W) (number heard other : ℕ) (sessions : Sessions T W) (piece more message : List ℕ) →
+        CompletesOne sessions other piece message →
+        let first = step rules sessions (Bytes other piece None) in
+        places_of_step rules (step rules) number heard sessions (Bytes other (piece ++ more) None)
+        ≡ standing_behind number heard other message first ∷ places_of_step rules (step rules) number heard first (Bytes other more None) }
+    ensures replay { (rules : Rules T W) (number heard other : ℕ) (sessions : Sessions T W) (piece more message : List ℕ) →
+        CompletesOne sessions other piece message →
+        let first = step rules sessions (Bytes other piece None) in
+        places_of_step rules (step_and_hang_up rules) number heard sessions (Bytes other (piece ++ more) None)
+        ≡ standing_behind number heard other message first ∷ places_of_step rules (step_and_hang_up rules) number heard first (Bytes other more None) }
+    ensures none { (rules : Rules T W) (after : Sessions T W → Step → Sessions T W) (number heard other : ℕ) (sessions : Sessions T W) (piece : List ℕ) →
+        new_messages (sessions.of other).stream piece ≡ [] →
+        places_of_step rules after number heard sessions (Bytes other piece None) ≡ standing number heard (after sessions (Bytes other piece None)) ∷ [] }
+    ensures closed { (rules : Rules T W) (after : Sessions T W → Step → Sessions T W) (number heard other : ℕ) (sessions : Sessions T W) (piece : List ℕ) →
+        (sessions.of other).state ≢ Open →
+        places_of_step rules after number heard sessions (Bytes other piece None) ≡ standing number heard (after sessions (Bytes other piece None)) ∷ [] }
+{}
+
+/// What a server holds shows where a connection's next message ends, and who asks on it: a frame at the front of what is
+/// unread and of a piece tells how much of the piece completes that message; where none stands there, the piece completes none.
+pub fn what_is_kept_shows_the_next_message<T, W>()
+    ensures one { (sessions : Sessions T W) (taken : ℕ → ℕ) (held : Held T W) (other count : ℕ) (connection : Kept W) (piece : List ℕ) →
+        Keeps sessions taken held → kept_of other held.kept ≡ Some connection → connection.closing ≡ false →
+        frame_at (connection.rest ++ piece) ≡ Whole count →
+        CompletesOne sessions other (take (count - length connection.rest) piece) (take count (connection.rest ++ piece)) }
+    ensures none { (sessions : Sessions T W) (taken : ℕ → ℕ) (held : Held T W) (other : ℕ) (connection : Kept W) (piece : List ℕ) →
+        Keeps sessions taken held → kept_of other held.kept ≡ Some connection → connection.closing ≡ false →
+        ((count : ℕ) → frame_at (connection.rest ++ piece) ≢ Whole count) → new_messages (sessions.of other).stream piece ≡ [] }
+    ensures closed { (sessions : Sessions T W) (taken : ℕ → ℕ) (held : Held T W) (other : ℕ) →
+        Keeps sessions taken held → asker_in (kept_of other held.kept) ≡ None → (sessions.of other).state ≢ Open }
+    ensures asks { (sessions : Sessions T W) (taken : ℕ → ℕ) (held : Held T W) (number : ℕ) →
+        Keeps sessions taken held → asker_of (sessions.of number) ≡ asker_in (kept_of number held.kept) }
+{}
+
+/// What a server holds is true to sessions that are left alike, as those of a piece and of its parts are; and it stays true to
+/// its sessions where a connection that is to be hung up is, and forgotten.
+pub fn what_is_kept_is_of_sessions_left_alike<T, W>()
+    ensures alike { (number : ℕ) (sessions others : Sessions T W) (taken : ℕ → ℕ) (held : Held T W) →
+        LeavesAlike number sessions others → Keeps sessions taken held → Keeps others taken held }
+    ensures hung_up { (rules : Rules T W) (number : ℕ) (sessions : Sessions T W) (taken : ℕ → ℕ) (held : Held T W) → Keeps sessions taken held →
+        Keeps (hung_up rules number sessions) taken
+        (record held { kept = cond (closing_of number held.kept) (forgotten number held.kept) held.kept }) }
 {}

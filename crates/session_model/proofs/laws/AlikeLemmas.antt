@@ -9,6 +9,11 @@ pub all_append : {A : Type 0} (P : A → Type 0) (xs ys : List A) → AllByRecur
 all_append P [] ys all = (tt, all)
 all_append P (x ∷ xs) ys all = let rest = all_append P xs ys all.1 in ((all.0, rest.0), rest.1)
 
+-- and what holds of each holds of both
+pub all_both : {A : Type 0} (P : A → Type 0) (xs ys : List A) → AllByRecursion P xs → AllByRecursion P ys → AllByRecursion P (xs ++ ys)
+all_both P [] ys first later = later
+all_both P (x ∷ xs) ys first later = (first.0, all_both P xs ys first.1 later)
+
 -- the same answer over another tree
 abbrev pub answer_over : {T W : Type 0} → T → Answered T W → Answered T W
 answer_over tree a = record a { tree = tree }

@@ -99,6 +99,9 @@ ends_then a b x y broken = by_first a.closes refl
 abbrev after_piece : {T W : Type 0} → Session W → List ℕ → Answered T W → Session W
 after_piece s p a = record { stream = s.stream ++ p; who = a.who; reply = s.reply ++ a.replies; state = cond a.closes Closing Open; cut = None }
 
+open_isnt_closing : Closing ≡ Open → ⊥
+open_isnt_closing h = cc
+
 -- others are answered by where the first messages led
 then_talk : {T W : Type 0} (r : Rules T W) (ys : List (List ℕ)) (a b : Answered T W) →
     and_then (and_then a b) (talk r b.tree b.who ys) ≡ (let d = and_then a b in and_then d (talk r d.tree d.who ys))
@@ -155,7 +158,7 @@ module _ {T W : Type 0} (r : Rules T W) where
   alike_same : (c : ℕ) (u v w : Sessions T W) → v ≡ u → w ≡ u → LeavesAlike c v w
   alike_same c u v w e f =
       subst (λ x. LeavesAlike c x w) (sym e) (subst (λ x. LeavesAlike c u x) (sym f)
-      (record { tree = refl; opened = refl; who = refl; reply = refl; state = refl; cut = refl; rest = λ d _. refl }))
+      (record { tree = refl; opened = refl; who = refl; reply = refl; state = refl; cut = refl; stream = λ _. refl; rest = λ d _. refl }))
 
   -- an open session hears two pieces
   open_join : (u : Sessions T W) (c : ℕ) (p q : List ℕ) → let first = hears r Open u c p None in (closes : Bool) →
@@ -175,6 +178,7 @@ module _ {T W : Type 0} (r : Rules T W) where
         reply = ap (λ (x : Session W). x.reply) is ∙ ap (λ (x : Answered T W). s.reply ++ x.replies) (sym all) ∙ ap (λ (x : Session W). x.reply) (sym both);
         state = ap (λ (x : Session W). x.state) is ∙ ap (λ (x : Answered T W). cond x.closes Closing Open) (sym all) ∙ ap (λ (x : Session W). x.state) (sym both);
         cut = ap (λ (x : Session W). x.cut) is ∙ ap (λ (x : Session W). x.cut) (sym both);
+        stream = λ still. absurd (open_isnt_closing (sym (ap (λ (x : Session W). x.state) is ∙ ap (λ b. cond b Closing Open) e) ∙ still));
         rest = λ d differs. with_session-other c d _ u.of differs ∙ sym (with_session-other c d _ u.of differs);
       }
   open_join u c p q false e =
@@ -192,6 +196,7 @@ module _ {T W : Type 0} (r : Rules T W) where
         reply = ap (λ (x : Session W). x.reply) is.1 ∙ append_assoc s.reply a.replies b.replies ∙ ap (λ (x : Answered T W). s.reply ++ x.replies) (sym all) ∙ ap (λ (x : Session W). x.reply) (sym both);
         state = ap (λ (x : Session W). x.state) is.1 ∙ ap (λ (x : Answered T W). cond x.closes Closing Open) (sym all) ∙ ap (λ (x : Session W). x.state) (sym both);
         cut = ap (λ (x : Session W). x.cut) is.1 ∙ ap (λ (x : Session W). x.cut) (sym both);
+        stream = λ still. ap (λ (x : Session W). x.stream) is.1 ∙ append_assoc s.stream p q ∙ ap (λ (x : Session W). x.stream) (sym both);
         rest = λ d differs. with_session-other c d _ first.of differs ∙ with_session-other c d _ u.of differs ∙ sym (with_session-other c d _ u.of differs);
       }
 

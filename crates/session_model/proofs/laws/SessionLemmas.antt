@@ -15,7 +15,7 @@ pub use Rattle.session_model.proofs.laws.SpeechLemmas.{one_later, speech-whole, 
 -- octets and messages, however they are told apart
 pub use Rattle.session_model.proofs.laws.JoinedLemmas.{talk-append, pieces-join}
 -- what each answer keeps true of a tree, through all steps
-pub use Rattle.session_model.proofs.laws.ClaimLemmas.{AnswersKeep, run_claim}
+pub use Rattle.session_model.proofs.laws.ClaimLemmas.{run_claim}
 -- from block to block
 pub use Rattle.session_model.proofs.laws.TrackLemmas.{works_start}
 pub use Rattle.session_model.proofs.laws.EventLemmas.{works_bytes, works_ended, works_idle}
