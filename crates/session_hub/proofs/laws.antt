@@ -1,3 +1,4 @@
 pub mod GoodLemmas
+pub mod WholeEventLemmas
 pub mod TwinExamples
 pub mod LimitLemmas

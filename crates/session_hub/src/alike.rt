@@ -6,7 +6,9 @@ ghost use Rattle.dir_tree.specs.dn_names.name.Names.{RdnSequence};
 ghost use Rattle.session_model.specs.Run.{Step, start, run};
 ghost use Rattle.session_model.specs.Replaying.{replayed};
 ghost use Rattle.session_model.specs.AnsweredMessages.{AnsweredMessage, AreOver, IsAnsweredAlike, answered_of_run, answered_of_replay};
-ghost use Rattle.session_model.specs.Purging.{purged, openings, finds_room, answered_of_connection};
+ghost use Rattle.session_model.specs.Purging.{purged, openings, finds_room, answered_of_connection, finds_room_in_replay, answered_in_replay};
+ghost use Rattle.session_model.specs.wire_io.declared.journal.Item.{Item};
+ghost use Rattle.session_model.specs.Serving.{Sound, Served, IsFront};
 ghost use Rattle.session_hub.specs.Parties.{DirectoryEntries, Requester};
 ghost use Rattle.session_hub.specs.Answering.{rules};
 ghost use Rattle.session_hub.specs.Twins.{IsOverTwins};
@@ -32,10 +34,31 @@ pub fn runs_over_twins_are_alike()
 
 /// A connection gets by the steps of all what it gets by its own alone, where it opens once at most and finds room,
 /// and the entries over which each of its messages is answered are twins of those of the beginning. The others may
-/// change what lies in the subtree meanwhile.
+/// change what lies in the subtree meanwhile. So it is where events are replayed; and what a link took of the connection is
+/// a front of what it gets alone.
 pub fn other_sessions_do_not_show()
     ensures exact { (limit : ℕ) (entries : DirectoryEntries) (top : RdnSequence) (number : ℕ) (steps : List Step) → openings number steps ≤ 1 →
         finds_room (rules limit) number (start (rules limit) entries) steps ≡ true →
         AllByRecursion (IsOverTwins entries top) (answered_of_connection (rules limit) number (start (rules limit) entries) steps) →
         (run (rules limit) entries steps).of number ≡ (run (rules limit) entries (purged number steps)).of number }
+    ensures replay { (limit : ℕ) (entries : DirectoryEntries) (top : RdnSequence) (number : ℕ) (events : List Step) → openings number events ≤ 1 →
+        finds_room_in_replay (rules limit) number (start (rules limit) entries) events ≡ true →
+        AllByRecursion (IsOverTwins entries top) (answered_in_replay (rules limit) number (start (rules limit) entries) events) →
+        (replayed (rules limit) entries events).of number ≡ (replayed (rules limit) entries (purged number events)).of number }
+    ensures taken { (limit : ℕ) (entries : DirectoryEntries) (top : RdnSequence) (number : ℕ) (steps : List Step) (journal : List Item) →
+        Sound (rules limit) entries steps journal → openings number steps ≤ 1 →
+        finds_room (rules limit) number (start (rules limit) entries) steps ≡ true →
+        AllByRecursion (IsOverTwins entries top) (answered_of_connection (rules limit) number (start (rules limit) entries) steps) →
+        IsFront journal number ((run (rules limit) entries (purged number steps)).of number) }
+{}
+
+/// A journal that serves its connections over a directory serves them over another, where each message that its steps
+/// answer is answered over twins; with its last block unfinished too. So who sees the journal can't tell which of both it was.
+pub fn a_journal_serves_twins()
+    ensures served { (limit : ℕ) (one other : DirectoryEntries) (top : RdnSequence) (steps : List Step) (journal : List Item) →
+        AllByRecursion (IsOverTwins other top) (answered_of_run (rules limit) (start (rules limit) one) steps) →
+        Served (rules limit) one steps journal → Served (rules limit) other steps journal }
+    ensures sound { (limit : ℕ) (one other : DirectoryEntries) (top : RdnSequence) (steps : List Step) (journal : List Item) →
+        AllByRecursion (IsOverTwins other top) (answered_of_run (rules limit) (start (rules limit) one) steps) →
+        Sound (rules limit) one steps journal → Sound (rules limit) other steps journal }
 {}

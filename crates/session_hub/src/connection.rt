@@ -73,6 +73,20 @@ impl Connection {
         self.closing
     }
 
+    /// Who asks on it.
+    pub fn requester(&self) -> &Requester
+        ensures { result.now ≡ self.now.who }
+    {
+        &self.who
+    }
+
+    /// The octets that are part of no whole message yet.
+    pub fn unread(&self) -> &[u8]
+        ensures { result.now ≡ self.now.rest }
+    {
+        &self.rest
+    }
+
     /// Behind how many of its last octets' messages it was cut, if it was.
     pub fn cut(&self) -> Option<u64>
         ensures { result ≡ self.now.cut }

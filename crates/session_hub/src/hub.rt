@@ -1,21 +1,23 @@
 //! The hub of all sessions.
 
-ghost use Rattle.std.specs.Prelude.{◌≡◌, ◌≤◌, length, IfOk, OnOk, OnErr};
+ghost use Rattle.std.specs.Prelude.{◌≡◌, ◌≤◌, length, option_map, IfOk, OnOk, OnErr};
 ghost use Rattle.dir_tree.specs.tree.Numbered.{entries_of};
 ghost use Rattle.session_model.specs.Run as run;
-ghost use Rattle.session_model.specs.Kept.{queue_of, closing_of, cut_of, taken_off, forgotten};
+ghost use Rattle.session_model.specs.Kept.{kept_of, queue_of, closing_of, cut_of, taken_off, forgotten};
 ghost use Rattle.session_hub.specs.Rooms.{room_of, queued_beside, HearsWithin};
-ghost use Rattle.session_hub.specs.hub.Hubs.{held, no_hub, Hears, HearsAnywhere, OpensOne, IsBounded};
-ghost use Rattle.session_hub.specs.hub.Following.{FollowsStart, FollowsStep, FollowsAnywhere, FollowsTaking, QueuesReply, ClosesWith, CountsHeld};
+ghost use Rattle.session_hub.specs.hub.Hubs.{held, no_hub, Hears, HearsAnywhere, OpensOne, IsBounded, unread_of};
+ghost use Rattle.session_hub.specs.hub.Following.{FollowsStart, FollowsStep, FollowsAnywhere, FollowsTaking, QueuesReply, ClosesWith, RequestsAs, LeavesUnread, CountsHeld};
 ghost use Rattle.session_hub.specs.Event.{step_by};
 ghost use Rattle.session_hub.specs.Twins.{HearsAlike};
 
 use crate::allowance::Allowance;
 use crate::connection::Connection;
 use crate::places::{
-    beside, closing_at, cut_at, end_at, forget_at, hear_at, is_at, queue_at, take_off,
+    beside, closing_at, cut_at, end_at, forget_at, hear_at, is_at, queue_at, requester_at,
+    take_off, unread_at,
 };
 use crate::{Bounds, Event};
+use op_read::acdf_filters::Requester;
 use op_read::directory::Dir;
 use std::alloc::{AllocError, Global};
 use std::marker::Model;
@@ -88,6 +90,23 @@ impl Hub {
         ensures run { ClosesWith conn self.now result }
     {
         closing_at(&self.connections, self.last, conn)
+    }
+
+    /// Who asks on the connection, if it is held; None exactly where it isn't. No memory is taken.
+    pub fn requester(&self, conn: u32) -> Option<&Requester>
+        ensures exact { option_map (λ who. who.now) result ≡ option_map (λ connection. connection.who) (kept_of conn self.now.kept) }
+        ensures run { RequestsAs conn self.now (option_map (λ who. who.now) result) }
+    {
+        requester_at(&self.connections, self.last, conn)
+    }
+
+    /// The octets of the connection that are part of no whole message yet; none for one that isn't held or is closing. No
+    /// memory is taken.
+    pub fn unread(&self, conn: u32) -> &[u8]
+        ensures exact { result.now ≡ unread_of (kept_of conn self.now.kept) }
+        ensures run { LeavesUnread conn self.now result.now }
+    {
+        unread_at(&self.connections, self.last, conn)
     }
 
     /// Behind how many messages of its last octets the connection was cut, if it was.

@@ -1,23 +1,46 @@
 //! The laws of sessions in this server: a function here computes nothing, and what it ensures is a law.
 
-ghost use Rattle.std.specs.Prelude.{◌≡◌, ◌<◌, ◌≤◌, List, ℕ};
+ghost use Rattle.std.specs.Prelude.{◌≡◌, ◌<◌, ◌≤◌, List, ℕ, false, None};
+ghost use Rattle.std.specs.List.{AllByRecursion};
 ghost use Rattle.op_read.specs.aci_item.Rules.{IsGoodTree};
-ghost use Rattle.session_model.specs.Run.{Step, run};
+ghost use Rattle.session_model.specs.Run.{Step, start, run};
+ghost use Rattle.session_model.specs.Kept.{Held};
+ghost use Rattle.session_model.specs.Replaying.{replayed};
+ghost use Rattle.session_model.specs.Purging.{answered_of_connection, answered_in_replay};
+ghost use Rattle.session_model.specs.Places.{places, places_of_replay};
 ghost use Rattle.session_hub.specs.Parties.{DirectoryEntries, Requester};
 ghost use Rattle.session_hub.specs.Answering.{rules, answered};
 ghost use Rattle.session_model.specs.ldap_msg.declared.kinds.Message.{Message};
 ghost use Rattle.session_model.specs.ldap_msg.declared.kinds.Control.{Control};
 ghost use Rattle.session_model.specs.ldap_msg.declared.kinds.SearchRequest.{SearchRequest};
 ghost use Rattle.session_model.specs.ldap_msg.declared.kinds.Request.TheVariants as request;
+ghost use Rattle.session_hub.specs.declared.event.Event.{Event};
+ghost use Rattle.session_hub.specs.Event.{step_of, step_by};
+ghost use Rattle.session_hub.specs.hub.Hubs.{Hears};
 ghost use Rattle.session_hub.specs.Limiting.{limited_message, limited_request, KeepsAsked, entries_among};
 
 use change_laws::laws::{a_good_tree_stays_good, a_good_tree_stays_good_when_changed};
 
-/// What sessions leave of a good tree is a good tree, whatever is asked, by whom and in which order, and whatever the
-/// server's limit on searches is.
+/// What each answer, and so sessions, leave of a good tree is a good tree, whatever is asked, by whom and in which order,
+/// and whatever the server's limit on searches is. So is the tree of each place, and that over which each message of a
+/// connection is answered, where events are replayed too.
 pub fn sessions_keep_a_directory_good()
+    ensures answers { (limit : ℕ) (entries : DirectoryEntries) (who : Requester) (bytes : List ℕ) → IsGoodTree entries
+        → IsGoodTree ((rules limit).answer entries who bytes).tree }
     ensures good { (limit : ℕ) (entries : DirectoryEntries) (steps : List Step) → IsGoodTree entries
         → IsGoodTree (run (rules limit) entries steps).tree }
+    ensures replay { (limit : ℕ) (entries : DirectoryEntries) (events : List Step) → IsGoodTree entries
+        → IsGoodTree (replayed (rules limit) entries events).tree }
+
+    // at each place, and for each message of a connection
+    ensures places { (limit number : ℕ) (entries : DirectoryEntries) (steps : List Step) → IsGoodTree entries
+        → AllByRecursion (λ place. IsGoodTree place.tree) (places (rules limit) number entries steps) }
+    ensures replay_places { (limit number : ℕ) (entries : DirectoryEntries) (events : List Step) → IsGoodTree entries
+        → AllByRecursion (λ place. IsGoodTree place.tree) (places_of_replay (rules limit) number entries events) }
+    ensures messages { (limit number : ℕ) (entries : DirectoryEntries) (steps : List Step) → IsGoodTree entries
+        → AllByRecursion (λ asked. IsGoodTree asked.tree) (answered_of_connection (rules limit) number (start (rules limit) entries) steps) }
+    ensures replay_messages { (limit number : ℕ) (entries : DirectoryEntries) (events : List Step) → IsGoodTree entries
+        → AllByRecursion (λ asked. IsGoodTree asked.tree) (answered_in_replay (rules limit) number (start (rules limit) entries) events) }
 {
     a_good_tree_stays_good();
     a_good_tree_stays_good_when_changed();
@@ -35,4 +58,10 @@ pub fn a_limited_search_sends_no_more_entries()
     ensures exact { (limit : ℕ) (entries : DirectoryEntries) (who : Requester) (controls : List Control)
         (search : SearchRequest) → 0 < limit
         → entries_among (answered entries who controls (limited_request limit (request.Search search))).replies ≤ limit }
+{}
+
+/// An event was heard whole where no connection was cut until after it.
+pub fn an_event_is_heard_whole_where_nothing_was_cut()
+    ensures exact { (limit : ℕ) (came : Event) (old new : Held DirectoryEntries Requester) → Hears limit came old new
+        → new.was_cut ≡ false → step_by came old.kept new.kept ≡ step_of came None }
 {}

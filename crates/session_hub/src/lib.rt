@@ -25,7 +25,10 @@ mod spoken;
 mod stream;
 mod waiting;
 
-pub use alike::{other_sessions_do_not_show, runs_over_twins_are_alike, twins_are_answered_alike};
+pub use alike::{
+    a_journal_serves_twins, other_sessions_do_not_show, runs_over_twins_are_alike,
+    twins_are_answered_alike,
+};
 pub use bounds::Bounds;
 pub use ended::Ended;
 pub use event::Event;

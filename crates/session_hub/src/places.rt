@@ -1,13 +1,14 @@
 //! Where a connection stands among those held.
 
-ghost use Rattle.std.specs.Prelude.{◌≡◌, ◌≤◌, ◌-◌, ◌^◌, min, length, MatchOption, None, true};
+ghost use Rattle.std.specs.Prelude.{◌≡◌, ◌≤◌, ◌-◌, ◌^◌, min, length, option_map, MatchOption, None, true};
 ghost use Rattle.dir_tree.specs.tree.Numbered.{entries_of};
 ghost use Rattle.session_model.specs.Kept.{kept_of, is_kept, queue_of, closing_of, cut_of, forgotten, taken_off, changed, closed};
 ghost use Rattle.session_hub.specs.Rooms.{queued_beside, AnswersWithin};
-ghost use Rattle.session_hub.specs.hub.Hubs.{IsAt, IsBounded, AreDistinct, HearsAt};
+ghost use Rattle.session_hub.specs.hub.Hubs.{IsAt, IsBounded, AreDistinct, HearsAt, unread_of};
 
 use crate::allowance::Allowance;
 use crate::connection::Connection;
+use op_read::acdf_filters::Requester;
 use op_read::directory::Dir;
 use std::alloc::Global;
 
@@ -70,6 +71,28 @@ pub fn closing_at(connections: &[Connection], guess: usize, number: u32) -> bool
     match place_of(connections, guess, number) {
         Some(at) => connections[at].is_closing(),
         None => false,
+    }
+}
+
+/// Who asks on the connection with the number.
+pub fn requester_at(connections: &[Connection], guess: usize, number: u32) -> Option<&Requester>
+    requires { AreDistinct connections.now }
+    ensures { option_map (λ who. who.now) result ≡ option_map (λ connection. connection.who) (kept_of number connections.now) }
+{
+    match place_of(connections, guess, number) {
+        Some(at) => Some(connections[at].requester()),
+        None => None,
+    }
+}
+
+/// The unread octets of the connection with the number.
+pub fn unread_at(connections: &[Connection], guess: usize, number: u32) -> &[u8]
+    requires { AreDistinct connections.now }
+    ensures { result.now ≡ unread_of (kept_of number connections.now) }
+{
+    match place_of(connections, guess, number) {
+        Some(at) => connections[at].unread(),
+        None => &[],
     }
 }
 

@@ -5,7 +5,7 @@ ghost use Rattle.dir_tree.specs.tree.Numbered.{entries_of};
 ghost use Rattle.dir_tree.specs.plain_values.Counts.{NeverFalls};
 ghost use Rattle.session_hub.specs.hub.Hubs.{held, no_hub};
 ghost use Rattle.session_hub.specs.Adding.{stops_with};
-ghost use Rattle.session_hub.specs.serve.Loops.{buffer_length, Serves, PlaysOut, EndsFor, ends_with};
+ghost use Rattle.session_hub.specs.serve.Loops.{buffer_length, Serves, ServesTwins, PlaysOut, EndsFor, ends_with};
 ghost use Rattle.session_hub.specs.serve.Turns.{GoesOn, EndsWith};
 
 use crate::block::serve_event;
@@ -117,7 +117,7 @@ fn serve_in<D: Dir, L: Link>(
 /// those that the journal's steps leave. A search is answered within the bounds' limit. With `NoMemory`
 /// connections may have been cut, for want of memory or since more waited for them than the bounds have
 /// room for, each once, and the last block may be unfinished. `LinkFault` says that the link failed,
-/// which its count of faults shows.
+/// which its count of faults shows. Where nothing was cut the journal serves twins of the directory too.
 pub fn serve_loop<D: Dir, L: Link>(
     alloc: Global,
     dir: &mut D,
@@ -127,6 +127,7 @@ pub fn serve_loop<D: Dir, L: Link>(
 ) -> Ended
     ensures served { Serves bounds.limit (entries_of (D.rows dir.old)) (entries_of (D.rows dir.new))
         turns (L.journal link.old) result (L.journal link.new) }
+    ensures twins { ServesTwins bounds.limit (entries_of (D.rows dir.old)) (L.journal link.old) result (L.journal link.new) }
     ensures plays { PlaysOut turns (L.journal link.old) (L.plan link.old) result (L.journal link.new) (L.plan link.new) }
     ensures cause { EndsFor (L.plan link.old) (L.faults link.old) (L.faults link.new) result }
     ensures lost { NeverFalls (L.lost link.old) (L.lost link.new) }

@@ -66,6 +66,7 @@ fn a_message_that_comes_octet_by_octet_is_answered_once(rt: HostRuntime) -> Resu
             (2, false, NOTHING),
             "the message isn't whole yet"
         );
+        assert_eq!(rt; hub.unread(1), BIND.split_at(at).0);
         let octet = BIND.split_at(at).1.split_at(1).0;
         hear(&mut hub, &mut dir, Event::Bytes(1, octet))?;
     }
@@ -75,6 +76,7 @@ fn a_message_that_comes_octet_by_octet_is_answered_once(rt: HostRuntime) -> Resu
         (2, false, BOUND),
         "the message was read once"
     );
+    assert_eq!(rt; hub.unread(1), NOTHING, "all of it was read");
     assert_eq!(rt;
         held(&hub, 2),
         (2, false, NOTHING),
@@ -92,7 +94,9 @@ fn connections_that_left_or_never_came_hear_nothing(rt: HostRuntime) -> Result<(
     hear(&mut hub, &mut dir, Event::Opened(9))?;
     hear(&mut hub, &mut dir, Event::Ended(9))?;
     assert_eq!(rt; held(&hub, 9), (1, true, NOTHING));
+    assert_eq!(rt; hub.requester(9).is_some(), true, "it is held");
     hub.gone(9);
+    assert_eq!(rt; hub.requester(9).is_some(), false, "it isn't held");
     assert_eq!(rt; held(&hub, 9), (0, false, NOTHING), "it is forgotten");
     Ok(())
 }

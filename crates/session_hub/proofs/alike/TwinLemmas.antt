@@ -31,8 +31,10 @@ use Rattle.session_model.specs.Run.{Step, start, run}
 use Rattle.session_model.specs.Kept.{Held, heard}
 use Rattle.session_model.specs.Replaying.{replayed}
 use Rattle.session_model.specs.AnsweredMessages.{AnsweredMessage, AreAlike, AreOver, IsAnsweredAlike, held_over, answered_of_held, answered_of_run, answered_of_replay}
-use Rattle.session_model.specs.Purging.{purged, openings, finds_room, answered_of_connection}
-use Rattle.session_model.proofs.Theorems.{heard-alike, run-alike, replayed-alike, run-purged}
+use Rattle.session_model.specs.wire_io.declared.journal.Item.{Item}
+use Rattle.session_model.specs.Serving.{Sound, Served, IsFront}
+use Rattle.session_model.specs.Purging.{purged, openings, finds_room, answered_of_connection, finds_room_in_replay, answered_in_replay}
+use Rattle.session_model.proofs.Theorems.{heard-alike, run-alike, replayed-alike, run-purged, replayed-purged, taken-purged, served-alike, sound-alike}
 use Rattle.session_hub.specs.Parties.{DirectoryEntries, Requester}
 use Rattle.session_hub.specs.Controls.{is_refused, subentries_asked, page_asked}
 use Rattle.session_hub.specs.Limiting.{limited_request, limited_read}
@@ -181,3 +183,26 @@ pub run-purged-twins : (limit : ℕ) (entries : DirectoryEntries) (top : RdnSequ
     → (run (rules limit) entries ss).of c ≡ (run (rules limit) entries (purged c ss)).of c
 run-purged-twins limit entries top c ss once room all =
     run-purged (rules limit) entries c ss once room (all_answered limit entries top (answered_of_connection (rules limit) c (start (rules limit) entries) ss) all)
+
+pub replayed-purged-twins : (limit : ℕ) (entries : DirectoryEntries) (top : RdnSequence) (c : ℕ) (ss : List Step) → openings c ss ≤ 1
+    → finds_room_in_replay (rules limit) c (start (rules limit) entries) ss ≡ true → AllByRecursion (IsOverTwins entries top) (answered_in_replay (rules limit) c (start (rules limit) entries) ss)
+    → (replayed (rules limit) entries ss).of c ≡ (replayed (rules limit) entries (purged c ss)).of c
+replayed-purged-twins limit entries top c ss once room all =
+    replayed-purged (rules limit) entries c ss once room (all_answered limit entries top (answered_in_replay (rules limit) c (start (rules limit) entries) ss) all)
+
+pub taken-purged-twins : (limit : ℕ) (entries : DirectoryEntries) (top : RdnSequence) (c : ℕ) (ss : List Step) (journal : List Item) → Sound (rules limit) entries ss journal → openings c ss ≤ 1
+    → finds_room (rules limit) c (start (rules limit) entries) ss ≡ true → AllByRecursion (IsOverTwins entries top) (answered_of_connection (rules limit) c (start (rules limit) entries) ss)
+    → IsFront journal c ((run (rules limit) entries (purged c ss)).of c)
+taken-purged-twins limit entries top c ss journal sound once room all =
+    taken-purged (rules limit) entries c ss journal sound once room (all_answered limit entries top (answered_of_connection (rules limit) c (start (rules limit) entries) ss) all)
+
+-- a journal that serves
+pub served-twins : (limit : ℕ) (one other : DirectoryEntries) (top : RdnSequence) (ss : List Step) (journal : List Item)
+    → AllByRecursion (IsOverTwins other top) (answered_of_run (rules limit) (start (rules limit) one) ss) → Served (rules limit) one ss journal → Served (rules limit) other ss journal
+served-twins limit one other top ss journal all served =
+    served-alike (rules limit) one other ss journal (all_answered limit other top (answered_of_run (rules limit) (start (rules limit) one) ss) all) served
+
+pub sound-twins : (limit : ℕ) (one other : DirectoryEntries) (top : RdnSequence) (ss : List Step) (journal : List Item)
+    → AllByRecursion (IsOverTwins other top) (answered_of_run (rules limit) (start (rules limit) one) ss) → Sound (rules limit) one ss journal → Sound (rules limit) other ss journal
+sound-twins limit one other top ss journal all sound =
+    sound-alike (rules limit) one other ss journal (all_answered limit other top (answered_of_run (rules limit) (start (rules limit) one) ss) all) sound

@@ -1,5 +1,5 @@
 -- What waits for a connection that hears a piece, by the room that it has.
-use Rattle.std.proofs.Common.{◌≡◌, ◌≤◌, ◌+◌, ℕ, Bool, true, false, List, [], ◌++◌, length, drop, set, get_or, Option, Some, None, refl, ap, sym, ◌∙◌, subst, inl, append_assoc, append-nil, length-append, length-drop, arith, true≢false}
+use Rattle.std.proofs.Common.{◌≡◌, ◌≤◌, ◌+◌, ℕ, Bool, true, List, [], ◌++◌, length, drop, set, get_or, Option, Some, None, refl, ap, sym, ◌∙◌, subst, inl, append_assoc, append-nil, length-append, length-drop, arith, true≢false}
 use Rattle.std.proofs.lemmas.List.{drop-append-le}
 use Rattle.session_model.specs.Rules.{Answered}
 use Rattle.session_model.specs.Kept.{Kept, kept_of}

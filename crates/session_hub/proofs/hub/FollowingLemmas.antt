@@ -1,17 +1,20 @@
 -- A hub follows a run of sessions, call by call.
-use Rattle.std.proofs.Common.{◌≡◌, ◌≤◌, ◌+◌, ℕ, Bool, true, false, cond, List, [], length, drop, refl, ap, sym, ◌∙◌, subst, arith, length-drop}
+use Rattle.std.proofs.Common.{◌≡◌, ◌≤◌, ◌+◌, ℕ, Bool, true, false, cond, List, [], length, drop, Option, Some, None, option_map, refl, ap, sym, ◌∙◌, subst, arith, length-drop}
+use Rattle.std.specs.Option.{option_map_or}
+use Rattle.session_model.specs.ldap_msg.Streams.{rest_of}
 use Rattle.session_model.specs.Run.{Session, Sessions, State, Open, Closing, TurnedAway, Away, Unopened, Step, step, is_held, Gone, HungUp}
-use Rattle.session_model.specs.Kept.{Held, heard, queue_of, closing_of, taken_off, forgotten}
+use Rattle.session_model.specs.Kept.{Kept, Held, heard, kept_of, queue_of, closing_of, taken_off, forgotten}
 use Rattle.session_model.specs.Keeping.{more_taken, shown}
 use Rattle.session_model.specs.Replaying.{is_closing}
+use Rattle.session_model.specs.Places.{asker}
 use Rattle.session_model.proofs.Theorems.{Keeps-start, Keeps-step, Keeps-taken, length-kept, queue_in, closing_in, queue_of_is, closing_of_is}
 use Rattle.session_hub.specs.Parties.{DirectoryEntries, Requester}
 use Rattle.session_hub.specs.Answering.{rules}
 use Rattle.session_hub.specs.declared.bounds.Bounds.{Bounds}
 use Rattle.session_hub.specs.declared.event.Event.{Event}
 use Rattle.session_hub.specs.Event.{step_by}
-use Rattle.session_hub.specs.hub.Hubs.{HubState, held, no_hub, left_of, Hears}
-use Rattle.session_hub.specs.hub.Following.{IsHeldOf, FollowsStart, FollowsStep, FollowsAnywhere, FollowsTaking, QueuesReply, ClosesWith, CountsHeld}
+use Rattle.session_hub.specs.hub.Hubs.{HubState, held, no_hub, left_of, unread_of, Hears}
+use Rattle.session_hub.specs.hub.Following.{IsHeldOf, FollowsStart, FollowsStep, FollowsAnywhere, FollowsTaking, QueuesReply, ClosesWith, RequestsAs, LeavesUnread, CountsHeld}
 
 -- a hub that holds nothing is that of no steps
 pub follows_start : (bounds : Bounds) (hub : HubState) → hub ≡ no_hub bounds → FollowsStart hub
@@ -58,6 +61,29 @@ queues_reply c hub queue is entries u taken keeps = is ∙ queue_is c (held entr
 pub closes_with : (c : ℕ) (hub : HubState) (closing : Bool) → closing ≡ closing_of c hub.kept → ClosesWith c hub closing
 unfolding ClosesWith
 closes_with c hub closing is entries u taken keeps = is ∙ closing_of_is c hub.kept ∙ ap closing_in (keeps.each c) ∙ shown_closes (u.of c).state c (taken c) (u.of c)
+
+shown_who : (st : State) (c taken : ℕ) (s : Session Requester) → option_map (λ (k : Kept Requester). k.who) (shown st c taken s) ≡ cond (is_held st) (Some s.who) None
+shown_who Open c taken s = refl
+shown_who Closing c taken s = refl
+shown_who Unopened c taken s = refl
+shown_who TurnedAway c taken s = refl
+shown_who Away c taken s = refl
+
+shown_unread : (st : State) (c taken : ℕ) (s : Session Requester) → unread_of (shown st c taken s) ≡ option_map_or (λ who. rest_of s.stream) (asker st s.who) []
+shown_unread Open c taken s = refl
+shown_unread Closing c taken s = refl
+shown_unread Unopened c taken s = refl
+shown_unread TurnedAway c taken s = refl
+shown_unread Away c taken s = refl
+
+pub requests_as : (c : ℕ) (hub : HubState) (who : Option Requester) → who ≡ option_map (λ (k : Kept Requester). k.who) (kept_of c hub.kept) → RequestsAs c hub who
+unfolding RequestsAs
+requests_as c hub who is entries u taken keeps =
+    is ∙ ap (option_map (λ (k : Kept Requester). k.who)) (keeps.each c) ∙ shown_who (u.of c).state c (taken c) (u.of c)
+
+pub leaves_unread : (c : ℕ) (hub : HubState) (unread : List ℕ) → unread ≡ unread_of (kept_of c hub.kept) → LeavesUnread c hub unread
+unfolding LeavesUnread
+leaves_unread c hub unread is entries u taken keeps = is ∙ ap unread_of (keeps.each c) ∙ shown_unread (u.of c).state c (taken c) (u.of c)
 
 pub counts_held : (hub : HubState) (count : ℕ) → count ≡ length hub.kept → CountsHeld hub count
 unfolding CountsHeld

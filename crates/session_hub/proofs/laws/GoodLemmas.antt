@@ -1,5 +1,5 @@
 -- What answers, and so sessions, leave of a good tree.
-use Rattle.std.proofs.Common.{◌≡◌, ℕ, Bool, true, false, List, Option, Some, None, if◌then◌else◌}
+use Rattle.std.proofs.Common.{ℕ, Bool, true, false, List, Option, Some, None, if◌then◌else◌}
 use Rattle.session_model.specs.ldap_msg.declared.kinds.ModifyRequest.{ModifyRequest}
 use Rattle.session_model.specs.ldap_msg.declared.kinds.RenameRequest.{RenameRequest}
 use Rattle.session_model.specs.ldap_msg.declared.kinds.AddRequest.{AddRequest}
@@ -13,12 +13,11 @@ use Rattle.op_read.specs.aci_item.Rules.{IsGoodTree}
 use Rattle.change_laws.specs.op_add_delete.adding.Updates.{added, deleted}
 use Rattle.change_laws.specs.op_modify.Modifying.{modified}
 use Rattle.change_laws.specs.op_modify.Renames.{renamed}
-use Rattle.session_model.specs.Run.{Step, run}
-use Rattle.session_model.proofs.Theorems.{AnswersKeep, run_claim}
+use Rattle.session_model.specs.Rules.{AnswersKeep}
 use Rattle.session_hub.specs.Parties.{DirectoryEntries, Requester}
 use Rattle.session_hub.specs.Controls.{is_refused}
 use Rattle.session_hub.specs.Limiting.{limited_read}
-use Rattle.session_hub.specs.Answering.{rules, Operated, asking, operated, refused, answered, answer_read}
+use Rattle.session_hub.specs.Answering.{rules, Operated, asking, operated, refused, answer_read}
 
 -- of two operations one is done
 one_good : (first : Bool) (a b : Operated) → IsGoodTree a.entries → IsGoodTree b.entries → IsGoodTree (if first then a else b).entries
@@ -50,9 +49,6 @@ module _
         one_good (is_refused message.request message.controls) (refused entries asks message.request) (operated entries asks message.controls message.request)
         good (operated_good entries asks message.controls message.request good)
 
-    answers_good : (limit : ℕ) → AnswersKeep (rules limit) IsGoodTree
+    pub answers_good : (limit : ℕ) → AnswersKeep (rules limit) IsGoodTree
     unfolding rules
     answers_good limit entries who bytes good = read_good entries who (limited_read limit (message_of bytes)) good
-
-    pub sessions_good : (limit : ℕ) (entries : DirectoryEntries) (steps : List Step) → IsGoodTree entries → IsGoodTree (run (rules limit) entries steps).tree
-    sessions_good limit entries steps good = run_claim (rules limit) IsGoodTree (answers_good limit) entries steps good

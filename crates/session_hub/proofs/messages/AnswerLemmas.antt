@@ -9,7 +9,6 @@ use Rattle.session_model.specs.ldap_msg.declared.kinds.Request.TheVariants as re
 use Rattle.session_model.specs.ldap_msg.declared.kinds.Message.{Message}
 use Rattle.session_model.specs.ldap_msg.Replies.{notice_octets}
 use Rattle.op_read.specs.read_model.SearchReplies.{replies_octets}
-use Rattle.op_read.specs.page_core.Endings.{page_end}
 use Rattle.op_read.specs.page_core.declared.page.Page.{Page}
 use Rattle.op_read.specs.page_core.Pages.{Paged, paged_octets, end_octets, page_replies}
 use Rattle.op_read.specs.read_model.Views.{View}

@@ -1,5 +1,5 @@
 -- A change that is refused leaves the entries as they were.
-use Rattle.std.proofs.Common.{◌≡◌, List, Option, Some, None, refl, sym, ◌∙◌}
+use Rattle.std.proofs.Common.{◌≡◌, Some, None, refl, sym, ◌∙◌}
 use Rattle.session_model.specs.ldap_msg.declared.kinds.ModifyRequest.{ModifyRequest}
 use Rattle.session_model.specs.ldap_msg.declared.kinds.AddRequest.{AddRequest}
 use Rattle.session_model.specs.ldap_msg.declared.kinds.DeleteRequest.{DeleteRequest}

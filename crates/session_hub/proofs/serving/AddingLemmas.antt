@@ -1,5 +1,5 @@
 -- Calls of a loop, one after another.
-use Rattle.std.proofs.Common.{◌≡◌, ◌&&◌, ◌||◌, ℕ, List, [], ◌∷◌, ◌++◌, Option, Some, refl, ap, ap₂, sym, ◌∙◌, subst, append_assoc, append-nil, arith}
+use Rattle.std.proofs.Common.{◌≡◌, ◌||◌, ℕ, List, [], ◌∷◌, ◌++◌, Option, Some, refl, ap, ap₂, sym, ◌∙◌, subst, append_assoc, append-nil, arith}
 use Rattle.dir_tree.proofs.plain_values_proofs.Theorems.{NeverFalls-trans, NeverFalls-refl}
 use Rattle.session_model.specs.wire_io.declared.journal.Item.{Item}
 use Rattle.session_model.specs.wire_io.Journal.{heard, was_stopped}

@@ -1,10 +1,13 @@
 -- A hub follows a run of sessions: it begins with those before any step and, whatever sessions it holds, each call leaves it
 -- those of the next step.
-use Rattle.std.specs.Prelude.{◌≡◌, ℕ, Bool, List, length}
-use Rattle.session_model.specs.Run.{Sessions, Step, start, step, held_numbers}
+use Rattle.std.specs.Prelude.{◌≡◌, ℕ, Bool, cond, List, [], length, Option, Some, None}
+use Rattle.std.specs.Option.{option_map_or}
+use Rattle.session_model.specs.ldap_msg.Streams.{rest_of}
+use Rattle.session_model.specs.Run.{Sessions, Step, start, step, is_held, held_numbers}
 use Rattle.session_model.specs.Kept.{Held}
 use Rattle.session_model.specs.Keeping.{Keeps, IsNew, more_taken}
 use Rattle.session_model.specs.Replaying.{is_closing}
+use Rattle.session_model.specs.Places.{asker_of}
 use Rattle.session_hub.specs.Parties.{DirectoryEntries, Requester}
 use Rattle.session_hub.specs.Answering.{rules}
 use Rattle.session_hub.specs.hub.Hubs.{HubState, held, left_of}
@@ -41,6 +44,18 @@ QueuesReply number hub queue =
 unfoldable pub ClosesWith : ℕ → HubState → Bool → Type 0
 ClosesWith number hub closing =
     (entries : DirectoryEntries) (sessions : Sessions DirectoryEntries Requester) (taken : ℕ → ℕ) → IsHeldOf sessions taken (held entries hub) → closing ≡ is_closing (sessions.of number).state
+
+-- the requester is that of the session, of a connection that is held
+unfoldable pub RequestsAs : ℕ → HubState → Option Requester → Type 0
+RequestsAs number hub who =
+    (entries : DirectoryEntries) (sessions : Sessions DirectoryEntries Requester) (taken : ℕ → ℕ) → IsHeldOf sessions taken (held entries hub) →
+    who ≡ cond (is_held (sessions.of number).state) (Some (sessions.of number).who) None
+
+-- what is unread is the rest of the session's stream, of a connection that is open, and else nothing
+unfoldable pub LeavesUnread : ℕ → HubState → List ℕ → Type 0
+LeavesUnread number hub unread =
+    (entries : DirectoryEntries) (sessions : Sessions DirectoryEntries Requester) (taken : ℕ → ℕ) → IsHeldOf sessions taken (held entries hub) →
+    unread ≡ option_map_or (λ who. rest_of (sessions.of number).stream) (asker_of (sessions.of number)) []
 
 -- as many connections are held as sessions
 unfoldable pub CountsHeld : HubState → ℕ → Type 0

@@ -1,5 +1,5 @@
 -- What a hub holds, and what each step leaves of it.
-use Rattle.std.specs.Prelude.{◌≡◌, ◌<◌, ◌≤◌, ℕ, Bool, false, cond, ◌||◌, List, [], ◌∷◌, ◌++◌, length, take, drop, Some, None, slice_get, slice_set}
+use Rattle.std.specs.Prelude.{◌≡◌, ◌<◌, ◌≤◌, ℕ, Bool, false, cond, ◌||◌, List, [], ◌∷◌, ◌++◌, length, take, drop, Option, Some, None, slice_get, slice_set}
 use Rattle.std.specs.List.{AllByRecursion}
 use Rattle.session_model.specs.Run.{Session, Bytes, is_held, most_held}
 use Rattle.session_model.specs.Kept.{Kept, Held, heard, kept_of, is_kept, cut_of, changed}
@@ -62,6 +62,11 @@ pub record AreHeld (kept : List (Kept Requester)) : Type 0 where
 -- of a session, the reply beyond what was taken, where it is held
 abbrev pub left_of : Session Requester → ℕ → List ℕ
 left_of session taken = cond (is_held session.state) (drop taken session.reply) []
+
+-- the unread octets of a connection, if it is held
+abbrev pub unread_of : Option (Kept Requester) → List ℕ
+unread_of None = []
+unread_of (Some connection) = connection.rest
 
 -- the connection of the number is at this place
 pub record IsAt (number at : ℕ) (kept : List (Kept Requester)) : Type 0 where

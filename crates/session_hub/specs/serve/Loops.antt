@@ -1,19 +1,23 @@
 -- What a loop over a link adds to the link's journal, and what it answers when it ends.
 use Rattle.std.specs.Prelude.{◌≡◌, ◌<◌, ◌≤◌, ℕ, Bool, true, false, cond, List, [], ◌++◌, length, Option, Some, None}
+use Rattle.std.specs.List.{AllByRecursion}
 use Rattle.dir_tree.specs.plain_values.Counts.{Rose, NeverFalls}
+use Rattle.dir_tree.specs.dn_names.name.Names.{RdnSequence}
 use Rattle.session_model.specs.wire_io.declared.journal.Item.{Item}
 use Rattle.session_model.specs.wire_io.Journal.{heard, was_stopped, is_held}
 use Rattle.session_model.specs.wire_io.link.Plan.{Plan}
 use Rattle.session_model.specs.wire_io.Pieces as pieces
 use Rattle.session_model.specs.wire_io.Pieces.{Plays}
-use Rattle.session_model.specs.Run.{run}
+use Rattle.session_model.specs.Run.{start, run}
 use Rattle.session_model.specs.Journaled.{steps_of, all_taken}
 use Rattle.session_model.specs.Serving.{Served, Leads}
 use Rattle.session_model.specs.Replaying.{IsReplay}
+use Rattle.session_model.specs.AnsweredMessages.{answered_of_run}
 use Rattle.session_hub.specs.Parties.{DirectoryEntries}
 use Rattle.session_hub.specs.declared.ended.Ended.{Ended}
 use Rattle.session_hub.specs.declared.ended.Ended.TheVariants.{Stopped, TurnsSpent, LinkFault, NoMemory}
 use Rattle.session_hub.specs.Answering.{rules}
+use Rattle.session_hub.specs.Twins.{IsOverTwins}
 
 -- the length of the loop's buffer
 abbrev pub buffer_length : ℕ
@@ -59,6 +63,14 @@ pub record ServesAll (limit : ℕ) (entries left : DirectoryEntries) (turns : �
 unfoldable pub Serves : ℕ → DirectoryEntries → DirectoryEntries → ℕ → Option (List Item) → Ended → Option (List Item) → Type 0
 Serves limit entries left turns before ended after =
     (begun : List Item) → before ≡ Some begun → (added : List Item) × (after ≡ Some (begun ++ added)) × ServesAll limit entries left turns added ended
+
+-- where nothing was cut, the journal serves its connections over other entries too, where each message that its steps answer is
+-- answered over twins
+abbrev pub ServesTwins : ℕ → DirectoryEntries → Option (List Item) → Ended → Option (List Item) → Type 0
+ServesTwins limit entries before ended after =
+    (begun added : List Item) (other : DirectoryEntries) (top : RdnSequence) → before ≡ Some begun → after ≡ Some (begun ++ added) → (ended ≡ NoMemory → ⊥) →
+    AllByRecursion (IsOverTwins other top) (answered_of_run (rules limit) (start (rules limit) entries) (steps_of added)) →
+    Served (rules limit) other (steps_of added) added
 
 -- a link that plays a plan: the events heard brought the plan on, to its end with Stopped; where no calls are planned
 -- that take nothing, each write took octets and, where no connection was on hold, each event but Stop brought the plan on

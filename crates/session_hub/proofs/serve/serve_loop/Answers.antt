@@ -1,8 +1,11 @@
-use Rattle.std.proofs.Common.{refl, arith}
+use Rattle.std.proofs.Common.{◌≡◌, refl, ap, subst, arith}
+use Rattle.session_hub.specs.hub.Hubs.{HubState}
+use Rattle.session_hub.specs.serve.Loops.{ServesTwins}
 use Rattle.dir_tree.specs.tree.Numbered.{entries_of}
 use Rattle.session_hub.proofs.serve.LoopLemmas.{running_start, running_starved}
 use Rattle.session_hub.proofs.serve.CauseLemmas.{ends_starved}
 use Rattle.session_hub.proofs.serve.PlayLemmas.{playing_start, plays_ended}
+use Rattle.session_hub.proofs.serve.TwinServingLemmas.{serves_twins, starved_twins}
 use Rattle.session_hub.proofs.serve.serve_loop.Goals as goal
 
 -- there was no memory to hold connections
@@ -11,6 +14,9 @@ returns-in_default-clause-served g c = running_starved c.args.bounds.limit (entr
 
 pub returns-in_default-clause-plays : goal.returns-in_default-clause-plays
 returns-in_default-clause-plays g c = plays_ended c.args.turns _ _ _ _ _ (playing_start (g.L.Link.journal c.args.link.now) (g.L.Link.plan c.args.link.now)) (λ h. cc) (λ h. cc)
+
+pub returns-in_default-clause-twins : goal.returns-in_default-clause-twins
+returns-in_default-clause-twins g c = starved_twins _ _ _ _
 
 pub returns-in_default-clause-cause : goal.returns-in_default-clause-cause
 returns-in_default-clause-cause g c = ends_starved _ _ _ refl
@@ -22,6 +28,9 @@ returns-in_default-new-clause-served g c = running_starved c.args.bounds.limit (
 pub returns-in_default-new-clause-plays : goal.returns-in_default-new-clause-plays
 returns-in_default-new-clause-plays g c = plays_ended c.args.turns _ _ _ _ _ (playing_start (g.L.Link.journal c.args.link.now) (g.L.Link.plan c.args.link.now)) (λ h. cc) (λ h. cc)
 
+pub returns-in_default-new-clause-twins : goal.returns-in_default-new-clause-twins
+returns-in_default-new-clause-twins g c = starved_twins _ _ _ _
+
 pub returns-in_default-new-clause-cause : goal.returns-in_default-new-clause-cause
 returns-in_default-new-clause-cause g c = ends_starved _ _ _ refl
 
@@ -32,5 +41,15 @@ returns-in_default-new_buffer-clause-served g c = running_starved c.args.bounds.
 pub returns-in_default-new_buffer-clause-plays : goal.returns-in_default-new_buffer-clause-plays
 returns-in_default-new_buffer-clause-plays g c = plays_ended c.args.turns _ _ _ _ _ (playing_start (g.L.Link.journal c.args.link.now) (g.L.Link.plan c.args.link.now)) (λ h. cc) (λ h. cc)
 
+pub returns-in_default-new_buffer-clause-twins : goal.returns-in_default-new_buffer-clause-twins
+returns-in_default-new_buffer-clause-twins g c = starved_twins _ _ _ _
+
 pub returns-in_default-new_buffer-clause-cause : goal.returns-in_default-new_buffer-clause-cause
 returns-in_default-new_buffer-clause-cause g c = ends_starved _ _ _ refl
+
+-- it was served
+pub returns-clause-twins : goal.returns-clause-twins
+returns-clause-twins g c =
+    let same : c.in-Ok.hub.bounds.limit ≡ c.args.bounds.limit = ap (λ (hub : HubState). hub.bounds.limit) c.in-Ok.ensures.ok in
+    subst (λ limit. ServesTwins limit (entries_of (g.D.Dir.rows c.args.dir.now)) (g.L.Link.journal c.args.link.now) c.serve_in.result (g.L.Link.journal c.serve_in.new.link)) same
+    (serves_twins _ _ _ _ _ _ _ c.serve_in.ensures.served)
