@@ -1,10 +1,19 @@
--- What crates above may cite: what is written is read again, and the types of the table stay as values come.
+-- What crates above may cite: what is written is read again, line by line and whole, how lines between empty ones are
+-- read, and the types of the table stay as values come.
 use Rattle.std.proofs.Common.{◌≡◌, ℕ, ◌==◌, refl, Bool, true, false, List, [], ◌∷◌}
 use Rattle.dir_tree.specs.schema_tables.Attributes.{IsAttrId}
 use Rattle.dir_tree.specs.dn_names.name.Names.{Keyed}
 use Rattle.dir_tree.specs.Entry.{Attribute, EntryInformation, values_of, has_key}
 use Rattle.dir_tree.specs.attributes.Changes.{put_value, with_value}
 use Rattle.ldif_records.specs.writing.Written.{AreInTable}
+pub use Rattle.ldif_records.proofs.content.AfterLemmas.{after_both}
+pub use Rattle.ldif_records.proofs.content.ContentLemmas.{body-later, later-still, IsRead-blank}
+pub use Rattle.ldif_records.proofs.reading.RecordLemmas.{before-blank, before-line, before-nil, after-blank, after-line, after-nil, lines-cons}
+pub use Rattle.ldif_records.proofs.laws.OctetLemmas.{is_inside, list_all-join, keystring-inside, written-inside}
+pub use Rattle.ldif_records.proofs.laws.WrittenLineLemmas.{SaysField, says, attribute-says, name-says, lines-inside, lines-written, IsRow, row-of, filled-of}
+pub use Rattle.ldif_records.proofs.laws.WrittenFileLemmas.{content-read}
+pub use Rattle.ldif_records.proofs.laws.TableNames.{not_changetype-name_of}
+pub use Rattle.ldif_records.proofs.laws.OnLiterals.{ldif_on_literals}
 pub use Rattle.ldif_records.proofs.laws.RereadLemmas.{file-reread, entry-reread, value-reread, decoded-exact}
 pub use Rattle.ldif_records.proofs.laws.KindForms.{IsNext-kinds, is_kind-ascii}
 

@@ -10,8 +10,9 @@ use crate::types::{NoMemory, Position};
 use crate::unfolded::{Unfolded, first_unfolded};
 use std::alloc::Global;
 
-/// The next line, from a place on, that is no comment, if there is one, and the place after it.
-pub(crate) fn next_content(
+/// The next line, from a place on, that is no comment, if there is one, and the place after it. The error comes where
+/// memory is refused.
+pub fn next_content(
     alloc: Global,
     text: &[u8],
     from: Position,
@@ -62,8 +63,8 @@ pub(crate) fn ends(line: &Option<Unfolded<'_>>) -> bool
     }
 }
 
-// The same from a place on; at the start of the file, the line that gives the version is left out.
-fn first_content(
+/// The same from a place on; at the start of the file, the line that gives the version is left out.
+pub fn first_content(
     alloc: Global,
     text: &[u8],
     from: Position,

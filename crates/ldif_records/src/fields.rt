@@ -19,10 +19,10 @@ use std::alloc::{AllocError, Global};
 
 /// A type, and the text of its value, as it stands or in base64.
 #[derive(Clone, Copy)]
-pub(crate) struct Parts<'a> {
-    kind: &'a [u8],
-    coded: bool,
-    text: &'a [u8],
+pub struct Parts<'a> {
+    pub kind: &'a [u8],
+    pub coded: bool,
+    pub text: &'a [u8],
 }
 
 // The octets after the spaces at the front.
@@ -60,8 +60,8 @@ fn field_after<'a>(kind: &'a [u8], after: &'a [u8]) -> Option<Parts<'a>>
     })
 }
 
-// The field of a line that has the form of one.
-fn field(line: &[u8]) -> Option<Parts<'_>>
+/// The field of a line that has the form of one: a type, a colon, and a value that isn't elsewhere.
+pub fn field(line: &[u8]) -> Option<Parts<'_>>
     ensures { option_map field_in result ≡ field_of line.now }
 {
     let colon = position_of(line, b':');
@@ -87,8 +87,9 @@ fn decoded(alloc: Global, text: &[u8]) -> Result<Option<Octets>, NoMemory>
     }
 }
 
-// The octets of the value.
-fn value(alloc: Global, field: Parts<'_>) -> Result<Option<Octets>, NoMemory>
+/// The octets of the value; none where they should be padded base64 (RFC 4648 section 4) with no bits left over, and
+/// aren't. The error comes where memory is refused.
+pub fn value(alloc: Global, field: Parts<'_>) -> Result<Option<Octets>, NoMemory>
     ensures { IfOk result (λ value. value ≡ value_of (field_in field.entry)) }
 {
     if field.coded {
@@ -98,7 +99,7 @@ fn value(alloc: Global, field: Parts<'_>) -> Result<Option<Octets>, NoMemory>
 }
 
 /// What an attribute line says, or why it is bad.
-pub(crate) fn attribute_line(alloc: Global, line: &Unfolded<'_>) -> Result<RecordLine, BadLine>
+pub fn attribute_line(alloc: Global, line: &Unfolded<'_>) -> Result<RecordLine, BadLine>
     ensures { Answers (λ read. read) fault_of result (attribute_line line.now) }
 {
     let number = line.number();
@@ -131,7 +132,7 @@ pub(crate) fn attribute_line(alloc: Global, line: &Unfolded<'_>) -> Result<Recor
 
 /// The name that the first line of a record says, or why the line is bad; `alone` says that the record has no other
 /// line.
-pub(crate) fn name_line(alloc: Global, alone: bool, line: &Unfolded<'_>) -> Result<Octets, BadLine>
+pub fn name_line(alloc: Global, alone: bool, line: &Unfolded<'_>) -> Result<Octets, BadLine>
     ensures { Answers (λ name. name) fault_of result (name_line alone line.now) }
 {
     let number = line.number();

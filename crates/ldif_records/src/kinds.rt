@@ -36,7 +36,7 @@ pub fn is_kind(text: &[u8]) -> bool
 }
 
 /// Whether the type is `changetype`, in any case of letters.
-pub(crate) fn is_changetype(kind: &[u8]) -> bool
+pub fn is_changetype(kind: &[u8]) -> bool
     ensures { result ≡ is_changetype kind.now }
 {
     kind.eq_ignore_ascii_case(b"changetype")

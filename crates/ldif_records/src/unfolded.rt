@@ -10,9 +10,10 @@ use dir_tree::plain_values::Octets;
 use std::alloc::Global;
 use std::marker::Model;
 
-/// A line with its continuations. Contracts see its number and its octets.
+/// A line with its continuations (RFC 2849, notes 2 and 3). Contracts see its number, from 1, and its octets without the
+/// end.
 #[derive(Drop)]
-pub(crate) struct Unfolded<'a> {
+pub struct Unfolded<'a> {
     number: u64,
     first: &'a [u8],
     // the octets with those of the continuations, where there are some
@@ -30,14 +31,14 @@ impl<'a> Model for Unfolded<'a> {
 
 impl Unfolded<'_> {
     /// The number of its first line.
-    pub(crate) fn number(&self) -> u64
+    pub fn number(&self) -> u64
         ensures { result ≡ self.now.number }
     {
         self.number
     }
 
     /// The octets.
-    pub(crate) fn octets(&self) -> &[u8]
+    pub fn octets(&self) -> &[u8]
         ensures { result.now ≡ self.now.octets }
     {
         match &self.joined {
