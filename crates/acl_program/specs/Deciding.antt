@@ -9,6 +9,7 @@ use Rattle.certify.specs.Verifying.{verified}
 use Rattle.certify.specs.declared.fault.CertFault.{CertFault}
 use Rattle.certify.specs.declared.fault.CertFault.TheVariants.{Form, False, NoMemory}
 use Rattle.certify.specs.explanation.NameWords.{who_of, target_of}
+use Rattle.command_files.specs.Outside.{Written}
 use Rattle.acl_program.specs.declared.decisions.Account.{Account}
 use Rattle.acl_program.specs.declared.decisions.Account.TheVariants.{Explanation, Certificate}
 use Rattle.acl_program.specs.declared.rights_table.Party.{Party}
@@ -16,7 +17,6 @@ use Rattle.acl_program.specs.Answering.{valid_text}
 use Rattle.acl_program.specs.Outcomes.{Outcome, BadLine, FalseLine, Answered, OutOfMemory}
 use Rattle.acl_program.specs.declared.status.Status.{Status}
 use Rattle.acl_program.specs.program.Causes.{IsPerformed}
-use Rattle.acl_program.specs.program.Outside.{Written}
 use Rattle.acl_program.specs.program.Playing.{Ends}
 
 -- the command that asks for a decision, told so

@@ -8,13 +8,9 @@ use Rattle.session_hub.specs.serve.Loops.{buffer_length}
 use Rattle.command_files.specs.dir_tree.Entry.{EntryInformation}
 use Rattle.command_files.specs.dir_tree.Points.{access_subentries}
 use Rattle.command_files.specs.declared.loading.SecondFile.{SecondFile}
-use Rattle.command_files.specs.declared.loading.SecondFile.TheVariants as second
-use Rattle.command_files.specs.ldif_records.declared.types.LineCause.{LineCause}
-use Rattle.command_files.specs.ldif_records.declared.types.LineCause.TheVariants.{Syntax, Changetype, Base64}
 use Rattle.command_files.specs.ldif_records.writing.WrittenFile.{written_file}
-use Rattle.command_files.specs.ldif_load.declared.fault.LoadCause.{LoadCause}
-use Rattle.command_files.specs.ldif_load.declared.fault.LoadCause.TheVariants.{Name, Kind, Value, Twice, Order, Rule, Limit}
-use Rattle.command_files.specs.ldif_load.load.DataFile.{FileCause, OfLine, OfRecord}
+use Rattle.command_files.specs.ldif_load.load.DataFile.{FileCause}
+use Rattle.command_files.specs.Troubles.{no_file_text, bad_data_text, bad_line_text}
 use Rattle.acl_program.specs.declared.status.Status.{Status}
 use Rattle.acl_program.specs.declared.status.Status.TheVariants.{Done, Usage, BadData, ShelfFault, SinkFault, LinkFault, TurnsSpent, NoMemory, BadScript, NotProved}
 use Rattle.acl_program.specs.Lines.{replay_text, entries_after}
@@ -39,33 +35,6 @@ pub data Outcome : Type 0 where
   Sampled : (text : List ℕ) → Outcome
   OutOfMemory : Outcome
 
--- the words for what is wrong with a line
-abbrev pub line_cause_text : LineCause → List ℕ
-line_cause_text Syntax = codes "syntax"
-line_cause_text Changetype = codes "changetype"
-line_cause_text Base64 = codes "base64"
-
--- the words for what is wrong with a record
-abbrev pub record_cause_text : LoadCause → List ℕ
-record_cause_text Name = codes "name"
-record_cause_text Kind = codes "type"
-record_cause_text Value = codes "value"
-record_cause_text Twice = codes "twice"
-record_cause_text Order = codes "order"
-record_cause_text (Rule code) = codes "rule " ++ decimal code
-record_cause_text Limit = codes "limit"
-
--- what is wrong with a file
-abbrev pub cause_text : FileCause → List ℕ
-cause_text (OfLine cause) = line_cause_text cause
-cause_text (OfRecord cause) = record_cause_text cause
-
--- what a line of a file that isn't in its form is of
-abbrev pub file_word : SecondFile → List ℕ
-file_word second.Script = codes "script"
-file_word second.Requests = codes "request"
-file_word second.Certificate = codes "certificate"
-
 -- the tree as a data file, where it is asked for
 abbrev pub dump_text : Bool → List EntryInformation → List ℕ
 dump_text true entries = written_file entries
@@ -74,9 +43,9 @@ dump_text false entries = []
 -- what is printed
 unfoldable pub text_of : Outcome → List ℕ
 text_of NoCommand = codes "usage: aclserver (serve|replay|check|dump|explain|sample|ask|prove|verify|rights) WORDS\n"
-text_of NoFile = codes "data fault\n"
-text_of (BadDataLine line cause) = codes "bad data line " ++ (decimal line ++ (codes ": " ++ (cause_text cause ++ codes "\n")))
-text_of (BadLine file line) = codes "bad " ++ (file_word file ++ (codes " line " ++ (decimal line ++ codes "\n")))
+text_of NoFile = no_file_text
+text_of (BadDataLine line cause) = bad_data_text line cause
+text_of (BadLine file line) = bad_line_text file line
 text_of (FalseLine line) = codes "false line " ++ (decimal line ++ codes "\n")
 text_of (Checked entries) = codes "ok " ++ (decimal (length entries) ++ (codes " " ++ (decimal (access_subentries entries) ++ codes "\n")))
 text_of (Dumped entries) = written_file entries

@@ -9,10 +9,11 @@ ghost use Rattle.command_files.specs.dir_tree.tree.Numbered.{entries_of};
 ghost use Rattle.command_files.specs.loading.Loading.{LoadsData};
 ghost use Rattle.command_files.specs.script_text.declared.event.ScriptEvent.{ScriptEvent};
 ghost use Rattle.command_files.specs.wire_io.Scripted.{fresh_link};
+ghost use Rattle.command_files.specs.Outside.{written};
 ghost use Rattle.acl_program.specs.Answering.{asked_text};
 ghost use Rattle.acl_program.specs.Lines.{sent_over};
 ghost use Rattle.acl_program.specs.Outcomes.{Answered};
-ghost use Rattle.acl_program.specs.program.Outside.{Linked, outside, written};
+ghost use Rattle.acl_program.specs.program.Outside.{Linked, outside};
 ghost use Rattle.acl_program.specs.program.Playing.{Ends, Performs};
 
 use crate::connection::{CONNECTION, link_of, serve_link};

@@ -5,8 +5,9 @@ ghost use Rattle.command_words.specs.command.Command.{Check, Dump};
 ghost use Rattle.command_files.specs.dir_tree.Points.{access_subentries};
 ghost use Rattle.command_files.specs.dir_tree.tree.Numbered.{entries_of};
 ghost use Rattle.command_files.specs.aci_item.Rules.{IsGoodTree};
+ghost use Rattle.command_files.specs.Outside.{written};
 ghost use Rattle.acl_program.specs.Outcomes.{Checked, Dumped, status_of, text_of};
-ghost use Rattle.acl_program.specs.program.Outside.{Linked, outside, written};
+ghost use Rattle.acl_program.specs.program.Outside.{Linked, outside};
 ghost use Rattle.acl_program.specs.program.Playing.{Ends, Performs};
 
 use crate::status::Status;

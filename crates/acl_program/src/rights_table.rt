@@ -5,9 +5,10 @@ ghost use Rattle.command_words.specs.command.Command.{Rights};
 ghost use Rattle.command_files.specs.dir_tree.tree.Numbered.{entries_of};
 ghost use Rattle.certify.specs.RightsTable.{rights_at};
 ghost use Rattle.certify.specs.explanation.NameWords.{target_of, who_of};
+ghost use Rattle.command_files.specs.Outside.{written};
 ghost use Rattle.acl_program.specs.Deciding.{SaysParty};
 ghost use Rattle.acl_program.specs.Outcomes.{Answered};
-ghost use Rattle.acl_program.specs.program.Outside.{Linked, outside, written};
+ghost use Rattle.acl_program.specs.program.Outside.{Linked, outside};
 ghost use Rattle.acl_program.specs.program.Playing.{Ends, Performs};
 
 use crate::status::Status;

@@ -11,16 +11,18 @@ ghost use Rattle.sample_input.specs.SampleFile.{sample_file};
 ghost use Rattle.sample_input.specs.SampleEvents.{sample_events};
 ghost use Rattle.command_files.specs.wire_io.Files.{Files};
 ghost use Rattle.command_files.specs.wire_io.Scripted.{fresh_link};
+ghost use Rattle.command_files.specs.Outside.{written};
 ghost use Rattle.acl_program.specs.Outcomes.{Sampled};
-ghost use Rattle.acl_program.specs.program.Outside.{Linked, outside, written};
+ghost use Rattle.acl_program.specs.program.Outside.{Linked, outside};
 ghost use Rattle.acl_program.specs.program.Playing.{Ends, Performs};
 ghost use Rattle.acl_program.specs.Sampling.{sample_text, summary};
 
 use crate::connection::{CONNECTION, link_of, serve_link};
 use crate::status::Status;
-use crate::troubles::print_bad_data;
+use crate::troubles::print_trouble;
 use aci_index::IndexedDir;
 use aci_index::directory::Dir;
+use command_files::Trouble;
 use command_files::data_file::{DataFault, load};
 use command_files::dir_tree::{NoMemory, Tree};
 use command_files::wire_io::{ScriptLink, Sink, write_all};
@@ -38,7 +40,9 @@ pub(crate) fn sample<K: Sink>(alloc: Global, count: u64, out: &mut K) -> Status
     let count = count as u32;
     match load_sample(alloc, count) {
         Ok(tree) => sample_over(alloc, tree, count, out),
-        Err(DataFault::Bad { line, cause }) => print_bad_data(alloc, line, cause, out),
+        Err(DataFault::Bad { line, cause }) => {
+            print_trouble(alloc, Trouble::BadData(line, cause), out)
+        }
         Err(DataFault::NoMemory) => Status::NoMemory,
     }
 }

@@ -4,9 +4,10 @@ ghost use Rattle.std.specs.Prelude.{◌≡◌, IfOk, string_bytes};
 ghost use Rattle.command_words.specs.command.Command.{Serve, serving_view};
 ghost use Rattle.command_files.specs.dir_tree.tree.Numbered.{entries_of};
 ghost use Rattle.command_files.specs.wire_io.Putting.{PutsAll, PutCause};
+ghost use Rattle.command_files.specs.Outside.{Shelved, written};
 ghost use Rattle.acl_program.specs.serve.Listening.{Listens, ListensOn, ServesOpened};
 ghost use Rattle.acl_program.specs.Outcomes.{Served};
-ghost use Rattle.acl_program.specs.program.Outside.{Shelved, beside, linked, outside, written};
+ghost use Rattle.acl_program.specs.program.Outside.{beside, linked, outside};
 ghost use Rattle.acl_program.specs.program.Playing.{Ends, Performs};
 ghost use Rattle.acl_program.specs.serve.Serving.{NotOpened, Opens, ServeAsked, ended_text, listening_text, loop_status, serve_asked};
 

@@ -4,18 +4,19 @@ ghost use Rattle.std.specs.Prelude.{◌≡◌, ℕ, List, Ok, IfOk, string_bytes
 ghost use Rattle.command_words.specs.command.Command.{Verify};
 ghost use Rattle.command_files.specs.dir_tree.tree.Numbered.{entries_of};
 ghost use Rattle.command_files.specs.loading.Loading.{LoadsData};
+ghost use Rattle.command_files.specs.Outside.{written};
 ghost use Rattle.acl_program.specs.Answering.{valid_text};
 ghost use Rattle.acl_program.specs.Deciding.{EndsVerified, outcome_of_fault};
 ghost use Rattle.acl_program.specs.Outcomes.{Answered, FalseLine, status_of, text_of};
-ghost use Rattle.acl_program.specs.program.Outside.{Linked, outside, written};
+ghost use Rattle.acl_program.specs.program.Outside.{Linked, outside};
 ghost use Rattle.acl_program.specs.program.Playing.{Ends, Performs};
 
 use crate::status::Status;
-use crate::troubles::{print_bad_line, print_trouble};
+use crate::troubles::print_trouble;
 use certify::{CertFault, verify};
 use command_files::dir_tree::Tree;
 use command_files::wire_io::{Shelf, Sink, write_all};
-use command_files::{SecondFile, load_certificate, load_data};
+use command_files::{SecondFile, Trouble, load_certificate, load_data};
 use std::alloc::{AllocError, Global};
 
 /// Loads the data file, reads the certificate, and prints whether it is that of the tree. The tree alone is asked, and no
@@ -76,7 +77,9 @@ fn print_fault<K: Sink>(alloc: Global, fault: CertFault, out: &mut K) -> Status
         (written (K.put out.new) (K.faults out.new)) }
 {
     match fault {
-        CertFault::Form { line } => print_bad_line(alloc, SecondFile::Certificate, line, out),
+        CertFault::Form { line } => {
+            print_trouble(alloc, Trouble::BadLine(SecondFile::Certificate, line), out)
+        }
         CertFault::False { line } => print_false_line(alloc, line, out),
         CertFault::NoMemory => Status::NoMemory,
     }

@@ -1,4 +1,7 @@
 pub mod loading
+pub mod Outside
+pub mod Troubles
+pub mod Ending
 -- the words of crates below, handed on
 pub use Rattle.client_core.specs as client_core
 pub use Rattle.data_file.specs as data_file

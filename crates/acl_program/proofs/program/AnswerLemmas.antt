@@ -5,10 +5,11 @@ use Rattle.command_words.specs.command.Command.{CommandView, Explain, Ask, Prove
 use Rattle.command_files.specs.declared.loading.SecondFile.TheVariants as second
 use Rattle.command_files.specs.dir_tree.Entry.{EntryInformation}
 use Rattle.certify.specs.RightsTable.{rights_at}
+use Rattle.command_files.proofs.Theorems.{both_in, one_entries, one_asks, IsTold-weaker}
 use Rattle.acl_program.specs.declared.decisions.Account.{Account}
 use Rattle.acl_program.specs.Answering.{IsGoodCertificate, TellsDecision, TellsRights, TellsValidity, TellsReplies, Tells, account_text, asked_text, valid_text}
 use Rattle.command_files.specs.loading.Accepting.{IsGoodData, IsGoodRequests, HoldsIn, IsTold}
-use Rattle.acl_program.proofs.program.AcceptLemmas.{both_in, one_entries, one_asks, one_granted, IsGoodSecond, IsTold-weaker}
+use Rattle.acl_program.proofs.program.AcceptLemmas.{one_granted, IsGoodSecond}
 use Rattle.acl_program.proofs.program.ReadyLemmas.{IsReady, ReadySample, ready_alone, ready_both}
 
 -- one command has one answer over its files

@@ -11,6 +11,7 @@ use Rattle.command_files.specs.declared.loading.SecondFile.TheVariants as second
 use Rattle.command_files.specs.dir_tree.Entry.{EntryInformation}
 use Rattle.command_files.specs.ldif_load.load.DataFile.{loads}
 use Rattle.sample_input.specs.SampleFile.{sample_file}
+use Rattle.command_files.proofs.Theorems.{both_in, one_events, IsTold-weaker}
 use Rattle.acl_program.specs.Outcomes.{Outcome, NoCommand, NoFile, BadDataLine, BadLine, FalseLine, Checked, Dumped, Replayed, Served, Answered, Sampled, OutOfMemory, status_of}
 use Rattle.acl_program.specs.declared.status.Status.TheVariants.{Done, NoMemory}
 use Rattle.acl_program.specs.program.Outside.{Linked}
@@ -20,7 +21,7 @@ use Rattle.acl_program.specs.serve.Serving.{ServeAsked, ServeEnd, LoopEnded}
 use Rattle.acl_program.proofs.serve.ServeLemmas.{served_done}
 use Rattle.command_files.specs.loading.Accepting.{IsGoodData, IsGoodScript, HoldsIn, IsTold}
 use Rattle.acl_program.specs.program.Causes.{Comes, Links, HearsStop, IsDue}
-use Rattle.acl_program.proofs.program.AcceptLemmas.{both_in, one_events, IsGoodSecond, IsTold-weaker}
+use Rattle.acl_program.proofs.program.AcceptLemmas.{IsGoodSecond}
 use Rattle.acl_program.proofs.program.ReadyLemmas.{IsReady, ReadyData, ReadySecond, ReadySample, OfServe, OfReplay, OfCheck, OfDump, OfAnswer, OfSample, IsDone, tells_kind, same_entries, comes_done, ready_alone, ready_both, Settles, settled_by}
 use Rattle.acl_program.proofs.program.AnswerLemmas.{answer_once, told_ready}
 

@@ -5,6 +5,8 @@ use Rattle.command_files.specs.wire_io.Scripted.{LinkState}
 use Rattle.command_files.proofs.wire_io_proofs.Theorems.{appended-none}
 use Rattle.command_words.specs.command.Command.{CommandView, IsCommand, Replay, Check, Dump}
 use Rattle.command_files.specs.dir_tree.tree.Numbered.{Numbered, entries_of}
+use Rattle.command_files.specs.Outside.{Written, shelved}
+use Rattle.command_files.proofs.Theorems.{HoldsIn-weaker}
 use Rattle.acl_program.specs.declared.status.Status.{Status}
 use Rattle.acl_program.specs.declared.status.Status.TheVariants.{NoMemory}
 use Rattle.command_files.specs.declared.loading.Trouble.{Trouble}
@@ -14,11 +16,10 @@ use Rattle.command_files.specs.loading.Loading.{IsRefused, LoadsData, LoadsScrip
 use Rattle.acl_program.specs.Answering.{Tells}
 use Rattle.acl_program.specs.Outcomes.{Checked, Dumped, Replayed, Answered, OutOfMemory}
 use Rattle.acl_program.specs.program.Causes.{AsksData, Comes, IsBadSecond, Links, RefusesSecond, Second, data_of, second_of}
-use Rattle.acl_program.specs.program.Outside.{Linked, Outside, Written, beside, shelved}
+use Rattle.acl_program.specs.program.Outside.{Linked, Outside, beside}
 use Rattle.acl_program.specs.program.Playing.{Ends, ComesFor, Performs}
 use Rattle.acl_program.specs.Troubles.{outcome_of}
 use Rattle.acl_program.proofs.troubles.EndsLemmas.{Ends-no_memory}
-use Rattle.acl_program.proofs.program.AcceptLemmas.{HoldsIn-weaker}
 
 -- a file that wasn't read after a count stayed
 unread_later : (files : Option Files) (name : List ℕ) (before middle after : ℕ) → middle ≡ before → IsUnread files name middle after → IsUnread files name before after

@@ -9,12 +9,13 @@ use Rattle.command_files.specs.declared.loading.SecondFile.TheVariants as second
 use Rattle.command_files.specs.dir_tree.Entry.{EntryInformation}
 use Rattle.command_files.specs.ldif_load.load.DataFile.{FileCause, loads}
 use Rattle.sample_input.specs.SampleFile.{sample_file}
+use Rattle.command_files.proofs.Theorems.{known_read, both_in, good_not_refused, one_entries}
 use Rattle.acl_program.specs.Outcomes.{Outcome, NoCommand, NoFile, BadDataLine, BadLine, FalseLine, Checked, Dumped, Replayed, Served, Answered, Sampled, OutOfMemory}
 use Rattle.acl_program.specs.Answering.{IsFalseCertificate, Tells}
 use Rattle.acl_program.specs.Sampling.{RefusesSample}
 use Rattle.command_files.specs.loading.Accepting.{IsGoodData, IsBadData, HoldsIn, IsTold}
 use Rattle.acl_program.specs.program.Causes.{IsNoCommand, IsPerformed, AsksData, data_of, Second, second_of, IsBadSecond, Comes, RefusesData}
-use Rattle.acl_program.proofs.program.AcceptLemmas.{known_read, both_in, good_not_refused, one_entries, certificate_not_false, IsGoodSecond, second_not_bad}
+use Rattle.acl_program.proofs.program.AcceptLemmas.{certificate_not_false, IsGoodSecond, second_not_bad}
 
 -- the files of a command, where it has them, are told and accepted
 unfoldable pub ReadyData : Option Files → List EntryInformation → Option (List ℕ) → Type 0

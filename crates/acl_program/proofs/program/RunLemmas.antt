@@ -16,13 +16,14 @@ use Rattle.command_files.specs.dir_tree.Entry.{EntryInformation}
 use Rattle.command_files.specs.dir_tree.tree.Numbered.{Numbered}
 use Rattle.command_files.specs.dir_tree.tree.Numbered.{entries_of}
 use Rattle.command_files.specs.aci_item.Rules.{IsGoodTree}
+use Rattle.command_files.specs.Outside.{Written}
 use Rattle.acl_program.specs.declared.status.Status.{Status}
 use Rattle.acl_program.specs.declared.status.Status.TheVariants.{Done, Usage, BadData, ShelfFault, SinkFault, LinkFault, TurnsSpent, NoMemory, BadScript, NotProved}
 use Rattle.acl_program.specs.Outcomes.{Outcome, NoCommand, Replayed, OutOfMemory, dump_text, text_of, status_of}
 use Rattle.acl_program.specs.Lines.{entries_after}
 use Rattle.acl_program.specs.program.Causes.{IsNoCommand, IsPerformed, AsksServing, Comes, Links, IsDue}
 use Rattle.acl_program.specs.program.Running.{Prints, Puts, EndsAs, IsCause, EndsAtFaults}
-use Rattle.acl_program.specs.program.Outside.{Written, Outside}
+use Rattle.acl_program.specs.program.Outside.{Outside}
 use Rattle.acl_program.specs.program.Playing.{IsSinkCount, Plays, Shows, Ends, Performs, Runs, journal_text}
 use Rattle.command_files.specs.loading.Loading.{LoadsScript, LoadsData}
 use Rattle.acl_program.proofs.troubles.EndsLemmas.{Ends-no_memory}

@@ -19,12 +19,13 @@ use Rattle.command_words.specs.command.Command.{Serve, ServingView}
 use Rattle.command_files.specs.dir_tree.Entry.{EntryInformation}
 use Rattle.command_files.specs.dir_tree.tree.Numbered.{Numbered, entries_of}
 use Rattle.command_files.specs.loading.Loading.{LoadsData}
+use Rattle.command_files.specs.Outside.{Written}
 use Rattle.acl_program.specs.declared.status.Status.{Status}
 use Rattle.acl_program.specs.declared.status.Status.TheVariants.{Done, SinkFault, LinkFault, TurnsSpent, NoMemory}
 use Rattle.acl_program.specs.program.Causes.{Comes, Links, HearsStop}
 use Rattle.acl_program.specs.serve.Listening.{FollowsOpen, Listens, ListensOn, ServesOpened}
 use Rattle.acl_program.specs.Outcomes.{Served, text_of, status_of, settled}
-use Rattle.acl_program.specs.program.Outside.{Written, Linked, Outside, beside}
+use Rattle.acl_program.specs.program.Outside.{Linked, Outside, beside}
 use Rattle.acl_program.specs.program.Playing.{Ends, Performs}
 use Rattle.acl_program.specs.serve.Serving.{ServeAsked, ServeEnd, NotBegun, NotOpened, NotServed, LoopEnded, Opens, ServesUntil, LinkServes, listening_text, ended_text, loop_status, serve_asked, serve_status}
 use Rattle.acl_program.proofs.troubles.EndsLemmas.{Ends-no_memory, Ends-put}

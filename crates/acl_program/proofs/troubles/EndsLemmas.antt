@@ -8,10 +8,14 @@ use Rattle.command_files.specs.wire_io.Putting.{appended, PutsAll, PutCause}
 use Rattle.session_hub.specs.declared.ended.Ended.{Ended}
 use Rattle.session_hub.specs.declared.ended.Ended.TheVariants as ended
 use Rattle.session_hub.specs.serve.Loops.{buffer_length}
+use Rattle.command_files.specs.declared.loading.Trouble.{Trouble}
+use Rattle.command_files.specs.declared.loading.Trouble.TheVariants as trouble
+use Rattle.command_files.specs.Outside.{Written}
+use Rattle.command_files.specs.Troubles.{trouble_text}
 use Rattle.acl_program.specs.declared.status.Status.{Status}
 use Rattle.acl_program.specs.declared.status.Status.TheVariants.{Done, Usage, BadData, ShelfFault, SinkFault, LinkFault, TurnsSpent, NoMemory, BadScript, NotProved}
 use Rattle.acl_program.specs.Outcomes.{Outcome, NoCommand, NoFile, BadDataLine, BadLine, FalseLine, Checked, Dumped, Replayed, Served, Answered, Sampled, OutOfMemory, text_of, status_of, settled}
-use Rattle.acl_program.specs.program.Outside.{Written}
+use Rattle.acl_program.specs.Troubles.{outcome_of}
 use Rattle.acl_program.specs.program.Running.{PutsFront}
 use Rattle.acl_program.specs.serve.Serving.{ServeEnd, NotBegun, NotOpened, NotServed, LoopEnded, serve_status}
 use Rattle.acl_program.specs.program.Playing.{Ends}
@@ -87,3 +91,11 @@ Ends-put outcome before after text answer wanted status is_text is_wanted is_sta
     let P : Status → Type 0 = λ ended. Ends outcome before ended after in
     let Q : List ℕ → Type 0 = λ printed. PutsAll before.put printed answer after.put in
     subst P (sym (is_status ∙ ap (λ to_be. settled answer to_be) is_wanted)) (Ends-settled outcome before after answer (subst Q is_text puts) cause)
+
+-- the line of a file that wasn't read is the text of its outcome
+pub trouble_text-outcome : (why : Trouble) → trouble_text why ≡ text_of (outcome_of why)
+unfolding text_of
+trouble_text-outcome trouble.NoFile = refl
+trouble_text-outcome (trouble.BadData line cause) = refl
+trouble_text-outcome (trouble.BadLine file line) = refl
+trouble_text-outcome trouble.NoMemory = refl

@@ -13,6 +13,7 @@ use Rattle.certify.specs.Form.{cause_of}
 use Rattle.certify.specs.Verifying.{verified}
 use Rattle.certify.specs.declared.fault.CertFault.{CertFault}
 use Rattle.certify.specs.declared.fault.CertFault.TheVariants.{Form, False, NoMemory}
+use Rattle.command_files.proofs.Theorems.{HoldsIn-weaker}
 use Rattle.acl_program.specs.declared.status.Status.{Status}
 use Rattle.acl_program.specs.Answering.{IsBadCertificate, IsFalseCertificate, IsGoodCertificate, TellsValidity, valid_text}
 use Rattle.acl_program.specs.Deciding.{EndsVerified, outcome_verified}
@@ -20,7 +21,6 @@ use Rattle.acl_program.specs.Outcomes.{BadLine, FalseLine, OutOfMemory}
 use Rattle.acl_program.specs.program.Causes.{Comes, IsBadSecond, Links, second_named}
 use Rattle.acl_program.specs.program.Outside.{Outside}
 use Rattle.acl_program.specs.program.Playing.{Ends, Performs}
-use Rattle.acl_program.proofs.program.AcceptLemmas.{HoldsIn-weaker}
 use Rattle.acl_program.proofs.program.PerformLemmas.{Performs-answered}
 
 -- a certificate that is too long is bad

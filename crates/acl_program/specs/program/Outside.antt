@@ -4,16 +4,7 @@ use Rattle.std.specs.Prelude.{ℕ, List, Option}
 use Rattle.command_files.specs.wire_io.declared.journal.Item.{Item}
 use Rattle.command_files.specs.wire_io.Files.{Files}
 use Rattle.command_files.specs.wire_io.link.Plan.{Plan}
-
--- the files of a shelf
-pub record Shelved : Type 0 where
-  pub files : Option Files
-  pub faults : ℕ
-
--- what was put in a sink
-pub record Written : Type 0 where
-  pub put : Option (List ℕ)
-  pub faults : ℕ
+use Rattle.command_files.specs.Outside.{Shelved, Written}
 
 -- what a link did, and what it still has to give
 pub record Linked : Type 0 where
@@ -27,14 +18,6 @@ pub record Outside : Type 0 where
   pub shelf : Shelved
   pub out : Written
   pub link : Linked
-
--- a shelf, by its files and its count
-abbrev pub shelved : Option Files → ℕ → Shelved
-shelved files faults = record { files = files; faults = faults }
-
--- a sink, by what was put and its count
-abbrev pub written : Option (List ℕ) → ℕ → Written
-written put faults = record { put = put; faults = faults }
 
 -- a link, by what it did, what it has to give, and its counts
 abbrev pub linked : Option (List Item) → Option Plan → ℕ → ℕ → Linked

@@ -15,12 +15,13 @@ use Rattle.command_files.specs.dir_tree.Entry.{EntryInformation}
 use Rattle.command_files.specs.dir_tree.tree.Numbered.{Numbered, entries_of}
 use Rattle.command_files.specs.ldif_records.writing.WrittenFile.{written_file}
 use Rattle.command_files.specs.aci_item.Rules.{IsGoodTree}
+use Rattle.command_files.specs.Outside.{Written}
 use Rattle.acl_program.specs.declared.status.Status.{Status}
 use Rattle.acl_program.specs.declared.status.Status.TheVariants.{Done, Usage, BadData, ShelfFault, SinkFault, LinkFault, TurnsSpent, NoMemory, BadScript, NotProved}
 use Rattle.acl_program.specs.Lines.{line_of, replay_text, entries_after}
 use Rattle.acl_program.specs.Outcomes.{Outcome, text_of, status_of}
 use Rattle.acl_program.specs.program.Causes.{Comes, Links}
-use Rattle.acl_program.specs.program.Outside.{Written, Outside}
+use Rattle.acl_program.specs.program.Outside.{Outside}
 use Rattle.acl_program.specs.program.Running.{Puts}
 
 -- the lines that a journal tells, of these connections

@@ -3,8 +3,9 @@ use Rattle.std.specs.Prelude.{◌≡◌, ℕ, List, Result}
 use Rattle.command_files.specs.wire_io.declared.answers.PutFault.{PutFault}
 use Rattle.command_files.specs.wire_io.Putting.{PutsAll, PutCause}
 use Rattle.session_hub.specs.declared.ended.Ended.{Ended}
+use Rattle.command_files.specs.Outside.{Written}
 use Rattle.acl_program.specs.declared.status.Status.{Status}
-use Rattle.acl_program.specs.program.Outside.{Written, Linked, Outside}
+use Rattle.acl_program.specs.program.Outside.{Linked, Outside}
 use Rattle.acl_program.specs.serve.Serving.{ServeAsked, ServeEnd, NotBegun, NotOpened, NotServed, LoopEnded, ServesUntil, LinkServes, ended_text, loop_status}
 use Rattle.acl_program.specs.Outcomes.{Served, settled}
 use Rattle.acl_program.specs.program.Playing.{Ends}

@@ -1,7 +1,7 @@
 use Rattle.std.proofs.Common.{refl, ◌∙◌}
 use Rattle.command_files.specs.dir_tree.tree.Numbered.{entries_of}
+use Rattle.command_files.specs.Outside.{written}
 use Rattle.acl_program.specs.Outcomes.{Checked, status_of}
-use Rattle.acl_program.specs.program.Outside.{written}
 use Rattle.acl_program.proofs.troubles.EndsLemmas.{Ends-put}
 use Rattle.acl_program.proofs.data.print_counts.Goals as goal
 

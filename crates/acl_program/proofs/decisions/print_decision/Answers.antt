@@ -1,9 +1,9 @@
 use Rattle.std.proofs.Common.{refl, ◌∙◌}
 use Rattle.command_files.specs.dir_tree.tree.Numbered.{entries_of}
 use Rattle.certify.specs.explanation.Questions.{question_view}
+use Rattle.command_files.specs.Outside.{written}
 use Rattle.acl_program.specs.Answering.{account_text}
 use Rattle.acl_program.specs.Outcomes.{Answered, text_of, status_of}
-use Rattle.acl_program.specs.program.Outside.{written}
 use Rattle.acl_program.proofs.troubles.EndsLemmas.{Ends-put}
 use Rattle.acl_program.proofs.decisions.print_decision.Goals as goal
 

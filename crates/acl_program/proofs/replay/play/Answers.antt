@@ -1,7 +1,7 @@
 use Rattle.std.proofs.Common.{sym, ap, subst}
 use Rattle.command_files.specs.dir_tree.tree.Numbered.{entries_of}
 use Rattle.command_files.specs.aci_item.Rules.{IsGoodTree}
-use Rattle.acl_program.specs.program.Outside.{written}
+use Rattle.command_files.specs.Outside.{written}
 use Rattle.acl_program.proofs.program.RunLemmas.{Played-nothing, Played-over}
 use Rattle.acl_program.proofs.replay.play.Goals as goal
 

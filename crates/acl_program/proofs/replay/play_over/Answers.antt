@@ -1,8 +1,8 @@
 use Rattle.std.proofs.Common.{sym, ap, ◌∙◌, subst}
 use Rattle.command_files.specs.dir_tree.tree.Numbered.{entries_of}
 use Rattle.command_files.specs.aci_item.Rules.{IsGoodTree}
+use Rattle.command_files.specs.Outside.{written}
 use Rattle.acl_program.specs.Outcomes.{dump_text}
-use Rattle.acl_program.specs.program.Outside.{written}
 use Rattle.acl_program.proofs.program.RunLemmas.{Played-stopped, Played-spent, Played-nothing, no_fault}
 use Rattle.acl_program.proofs.replay.play_over.Goals as goal
 

@@ -1,6 +1,6 @@
 use Rattle.std.proofs.Common.{sym}
+use Rattle.command_files.specs.Outside.{written}
 use Rattle.acl_program.specs.program.Playing.{Shows}
-use Rattle.acl_program.specs.program.Outside.{written}
 use Rattle.acl_program.proofs.troubles.EndsLemmas.{Ends-put}
 use Rattle.acl_program.proofs.replay.show.Goals as goal
 

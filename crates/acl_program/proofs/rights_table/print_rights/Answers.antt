@@ -1,8 +1,8 @@
 use Rattle.std.proofs.Common.{refl, ◌∙◌}
 use Rattle.command_files.specs.dir_tree.tree.Numbered.{entries_of}
 use Rattle.certify.specs.RightsTable.{rights_at}
+use Rattle.command_files.specs.Outside.{written}
 use Rattle.acl_program.specs.Outcomes.{Answered, text_of, status_of}
-use Rattle.acl_program.specs.program.Outside.{written}
 use Rattle.acl_program.proofs.troubles.EndsLemmas.{Ends-put}
 use Rattle.acl_program.proofs.rights_table.print_rights.Goals as goal
 

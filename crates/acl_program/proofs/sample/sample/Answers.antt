@@ -12,7 +12,7 @@ returns-in-Ok g c =
 -- its file isn't accepted
 pub returns-in-Err-Bad : goal.returns-in-Err-Bad
 returns-in-Err-Bad g c =
-    record { performs = λ files faults link. Performs-unsampled _ _ _ (outside files faults _ _ link) (outside files faults _ _ link) _ (rw c.in-Err-Bad.field-0-is at c.in-Err-Bad.ensures.bad) c.print_bad_data.ensures.ends refl refl }
+    record { performs = λ files faults link. Performs-unsampled _ _ _ (outside files faults _ _ link) (outside files faults _ _ link) _ (rw c.in-Err-Bad.field-0-is at c.in-Err-Bad.ensures.bad) c.print_trouble.ensures.ends refl refl }
 
 -- there was no memory for it
 pub returns-in-Err-NoMemory : goal.returns-in-Err-NoMemory

@@ -1,6 +1,7 @@
 use Rattle.std.proofs.Common.{ap}
 use Rattle.command_files.specs.dir_tree.tree.Numbered.{entries_of}
-use Rattle.acl_program.specs.program.Outside.{beside, linked, written}
+use Rattle.command_files.specs.Outside.{written}
+use Rattle.acl_program.specs.program.Outside.{beside, linked}
 use Rattle.acl_program.specs.serve.Serving.{serve_asked}
 use Rattle.acl_program.proofs.serve.ServeLemmas.{Listens-over, Listens-nothing}
 use Rattle.acl_program.proofs.serve.listen.Goals as goal

@@ -1,5 +1,6 @@
 use Rattle.std.proofs.Common.{refl}
-use Rattle.acl_program.specs.program.Outside.{beside, linked, written}
+use Rattle.command_files.specs.Outside.{written}
+use Rattle.acl_program.specs.program.Outside.{beside, linked}
 use Rattle.acl_program.specs.serve.Serving.{serve_asked}
 use Rattle.acl_program.proofs.serve.ServeLemmas.{Listens-opened, Listens-failed, Listens-no_memory}
 use Rattle.acl_program.proofs.serve.listen_on.Goals as goal

@@ -1,6 +1,7 @@
 use Rattle.std.proofs.Common.{refl}
 use Rattle.command_words.specs.command.Command.{Serve, serving_view}
-use Rattle.acl_program.specs.program.Outside.{outside, linked, shelved}
+use Rattle.command_files.specs.Outside.{shelved}
+use Rattle.acl_program.specs.program.Outside.{outside, linked}
 use Rattle.acl_program.specs.serve.Serving.{serve_asked}
 use Rattle.acl_program.proofs.program.PerformLemmas.{Performs-refused}
 use Rattle.acl_program.proofs.serve.ServeLemmas.{Performs-served}

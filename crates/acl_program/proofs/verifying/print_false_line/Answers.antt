@@ -1,6 +1,6 @@
 use Rattle.std.proofs.Common.{refl, ◌∙◌}
+use Rattle.command_files.specs.Outside.{written}
 use Rattle.acl_program.specs.Outcomes.{FalseLine, status_of}
-use Rattle.acl_program.specs.program.Outside.{written}
 use Rattle.acl_program.proofs.troubles.EndsLemmas.{Ends-put}
 use Rattle.acl_program.proofs.verifying.print_false_line.Goals as goal
 

@@ -1,13 +1,13 @@
 use Rattle.std.proofs.Common.{refl}
+use Rattle.command_files.specs.Outside.{written}
 use Rattle.acl_program.specs.Outcomes.{OutOfMemory}
-use Rattle.acl_program.specs.program.Outside.{written}
 use Rattle.acl_program.proofs.troubles.EndsLemmas.{Ends-no_memory}
 use Rattle.command_files.proofs.wire_io_proofs.Theorems.{appended-none}
 use Rattle.acl_program.proofs.verifying.print_fault.Goals as goal
 
 -- each fault has its line
 pub returns-in-Form : goal.returns-in-Form
-returns-in-Form g c = record { ends = rw c.in-Form.is c.print_bad_line.ensures.ends }
+returns-in-Form g c = record { ends = rw c.in-Form.is c.print_trouble.ensures.ends }
 
 pub returns-in-False : goal.returns-in-False
 returns-in-False g c = record { ends = rw c.in-False.is c.print_false_line.ensures.ends }

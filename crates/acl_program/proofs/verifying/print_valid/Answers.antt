@@ -1,7 +1,7 @@
 use Rattle.std.proofs.Common.{refl, ◌∙◌}
+use Rattle.command_files.specs.Outside.{written}
 use Rattle.acl_program.specs.Answering.{valid_text}
 use Rattle.acl_program.specs.Outcomes.{Answered, text_of, status_of}
-use Rattle.acl_program.specs.program.Outside.{written}
 use Rattle.acl_program.proofs.troubles.EndsLemmas.{Ends-put}
 use Rattle.acl_program.proofs.verifying.print_valid.Goals as goal
 

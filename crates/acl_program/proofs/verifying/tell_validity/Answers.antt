@@ -1,6 +1,7 @@
 use Rattle.std.proofs.Common.{refl}
 use Rattle.command_words.specs.command.Command.{Verify}
-use Rattle.acl_program.specs.program.Outside.{outside, written}
+use Rattle.command_files.specs.Outside.{written}
+use Rattle.acl_program.specs.program.Outside.{outside}
 use Rattle.acl_program.proofs.program.PerformLemmas.{Performs-after, Performs-refused}
 use Rattle.acl_program.proofs.verifying.tell_validity.Goals as goal
 

@@ -1,0 +1,23 @@
+-- The definitions, computed on known cases.
+use Rattle.std.proofs.Common.{◌≡◌, codes, refl}
+use Rattle.std.specs.Fmt.{digits}
+use Rattle.data_file.specs.declared.fault.DataCause.TheVariants.{Line, Record}
+use Rattle.data_file.specs.ldif_load.declared.fault.LoadCause.TheVariants.{Rule}
+use Rattle.data_file.specs.ldif_records.declared.types.LineCause.TheVariants.{Changetype}
+use Rattle.command_files.specs.declared.loading.SecondFile.TheVariants.{Requests}
+use Rattle.command_files.specs.declared.loading.Trouble.TheVariants.{BadData, BadLine}
+use Rattle.command_files.specs.Troubles.{trouble_text}
+
+-- a line that isn't in the form of a data file, and a record that breaks a rule
+bad_form : trouble_text (BadData 12 (Line Changetype)) ≡ codes "bad data line 12: changetype\n"
+unfolding digits
+bad_form = refl
+
+bad_record : trouble_text (BadData 7 (Record (Rule 65))) ≡ codes "bad data line 7: rule 65\n"
+unfolding digits
+bad_record = refl
+
+-- a bad line of requests
+bad_request : trouble_text (BadLine Requests 3) ≡ codes "bad request line 3\n"
+unfolding digits
+bad_request = refl
