@@ -119,7 +119,7 @@ def operations(people):
         Operation("a search of an entry that may not be known of", OWN, search(hidden, BASE), missing, 200000),
         Operation("a search of one level with the limit 20", OWN, page, limited, 10000),
         Operation("the same by an administrator", ADMIN, page, limited, 10000),
-        Operation("a search of all for a mail address", OWN, search(SUFFIX, SUBTREE, 0, mail), found, 2000),
+        Operation("a search of all for a mail address", OWN, search(SUFFIX, SUBTREE, 0, mail), found, 200000),
         Operation("a compare", OWN, compare(name, "mail", mail), (COMPARED, COMPARE_TRUE), 200000),
         Operation("a bind with a password in clear", OWN, bind(OWN, "keys"), (BOUND, SUCCESS), 100000),
         Operation("a modify of one's own telephone number", OWN, modify(OWN), (MODIFIED, SUCCESS), 100000),
