@@ -1,0 +1,7 @@
+mod SessionLemmas
+mod FirstLemmas
+mod HubLemmas
+mod WatchLemmas
+mod OctetLemmas
+mod AheadLemmas
+mod FindLemmas
