@@ -1,0 +1,9 @@
+pub mod KindLemmas
+pub mod LineLemmas
+pub mod RowsLemmas
+pub mod ModifyLemmas
+pub mod AddLemmas
+pub mod RecordLemmas
+pub mod FileLemmas
+pub mod CutLemmas
+pub mod KnownLemmas
