@@ -1,7 +1,7 @@
 -- What is answered of a data file, as text: one access control decision (X.501 18.8) explained or certified, a requester's
 -- rights on an entry, whether a certificate is that of the tree, and the replies to requests, or the script that sends them.
 use Rattle.std.specs.Prelude.{◌≡◌, ◌⊎◌, ◌≤◌, ℕ, Bool, true, false, List, length, codes, Some, Ok, Err}
-use Rattle.command_words.specs.command.Command.{CommandView, Explain, Prove, Rights, Verify, Ask, IsCommand}
+use Rattle.command_words.specs.command.Command.{CommandView, Explain, Prove, Rights, Verify, Ask, Help, Version, IsCommand}
 use Rattle.command_files.specs.loading.Accepting.{IsGoodData, IsGoodRequests, IsTooLong, most_second}
 use Rattle.command_files.specs.client_core.declared.types.Asked.{Asked}
 use Rattle.command_files.specs.client_core.ReplyTexts.{replies_text}
@@ -20,6 +20,7 @@ use Rattle.session_hub.specs.Parties.{DirectoryEntries, Requester}
 use Rattle.acl_program.specs.declared.decisions.Account.{Account}
 use Rattle.acl_program.specs.declared.decisions.Account.TheVariants.{Explanation, Certificate}
 use Rattle.acl_program.specs.Lines.{sent_over}
+use Rattle.acl_program.specs.Helping.{help_text, version_text}
 
 -- the text of a decision: filter by filter, or its certificate
 abbrev pub account_text : Account → List EntryInformation → Question → List ℕ
@@ -90,6 +91,8 @@ Tells (Prove data_file who target item permission) holds text = TellsDecision Ce
 Tells (Rights data_file who target) holds text = TellsRights data_file who target holds text
 Tells (Verify data_file certificate) holds text = TellsValidity data_file certificate holds text
 Tells (Ask data_file requests script) holds text = TellsReplies data_file requests script holds text
+Tells Help holds text = text ≡ help_text
+Tells Version holds text = text ≡ version_text
 Tells command holds text = ⊥
 
 -- the words ask for a command that tells this text

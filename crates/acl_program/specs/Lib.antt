@@ -2,6 +2,7 @@
 pub mod program
 pub mod Lines
 pub mod serve
+pub mod Helping
 pub mod Answering
 pub mod Sampling
 pub mod Outcomes

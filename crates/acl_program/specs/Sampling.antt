@@ -1,6 +1,6 @@
 -- The sample: its data file is loaded, its one connection is served, and a summary is put.
 use Rattle.std.specs.Prelude.{◌≡◌, ◌≤◌, ℕ, List, ◌++◌, length, codes, decimal, Ok, Err}
-use Rattle.command_words.specs.command.Command.{CommandView, Serve, Replay, Check, Dump, Explain, Sample, Ask, Prove, Verify, Rights, IsCommand}
+use Rattle.command_words.specs.command.Command.{CommandView, Serve, Replay, Check, Dump, Explain, Sample, Ask, Prove, Verify, Rights, Help, Version, IsCommand}
 use Rattle.command_files.specs.dir_tree.Entry.{EntryInformation}
 use Rattle.command_files.specs.ldif_load.load.DataFile.{FileCause, loads}
 use Rattle.sample_input.specs.SampleFile.{sample_file}
@@ -48,3 +48,5 @@ IsFew (Ask data_file requests script) = Unit {0}
 IsFew (Prove data_file who target item permission) = Unit {0}
 IsFew (Verify data_file certificate) = Unit {0}
 IsFew (Rights data_file who target) = Unit {0}
+IsFew Help = Unit {0}
+IsFew Version = Unit {0}

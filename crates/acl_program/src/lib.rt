@@ -6,6 +6,7 @@ mod asking;
 mod connection;
 mod data;
 mod decisions;
+mod help;
 mod printing;
 mod program;
 mod replay;

@@ -14,6 +14,7 @@ ghost use Rattle.command_words.specs.command.Command.{view};
 use crate::asking::{Asking, tell_replies};
 use crate::data::{check, dump};
 use crate::decisions::{Account, Deciding, tell_decision};
+use crate::help::{print_help, print_version};
 use crate::replay::{Asked, replay};
 use crate::rights_table::{RightsAsked, tell_rights};
 use crate::sample::sample;
@@ -39,7 +40,8 @@ use std::alloc::Global;
 /// connection, and puts the replies; with `--script` it serves nothing, and puts the script that sends the requests.
 /// `sample N` makes a data file of N persons, half of whom access control hides, serves one connection that
 /// searches for each of them, and puts how many entries there are, how many were sent, and how many replies say that there
-/// is no such object. These leave the link as it is.
+/// is no such object. `--help` puts how the program is called, and `--version` which version it is. These leave the link as
+/// it is.
 ///
 /// `serve DATA ADDRESS [--sessions N] [--turns N] [--queues MIB] [--idle SECONDS] [--limit N]` loads the data file, tells
 /// the link after how many seconds of silence a connection ends, opens it at the address, puts `listening ADDRESS`, and
@@ -213,5 +215,7 @@ fn perform<H: Shelf, K: Sink, L: Link>(
         Command::Rights { data, who, target } => {
             tell_rights(alloc, &RightsAsked { data, who, target }, shelf, out)
         }
+        Command::Help => print_help(out),
+        Command::Version => print_version(out),
     }
 }

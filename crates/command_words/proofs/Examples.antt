@@ -10,7 +10,7 @@ use Rattle.command_words.specs.declared.table.CommandName.TheVariants as command
 use Rattle.command_words.specs.Table.{row_of}
 use Rattle.command_words.specs.Number.{number_of, number_within}
 use Rattle.command_words.specs.Address.{is_address, address_of}
-use Rattle.command_words.specs.command.Command.{CommandView, Serve, Replay, Check, Dump, Explain, Sample, Ask, Prove, Verify, Rights}
+use Rattle.command_words.specs.command.Command.{CommandView, Serve, Replay, Check, Dump, Explain, Sample, Ask, Prove, Verify, Rights, Help, Version}
 use Rattle.command_words.specs.parser.Parser.{app_for, id_of}
 use Rattle.command_words.specs.parser.Asked.{command_said, said_by}
 
@@ -220,6 +220,19 @@ all_rights = refl
 rights_as_script : read commands.Rights (codes "d" ∷ codes "anonymous" ∷ codes "dc=t" ∷ codes "--script" ∷ []) ≡ None
 unfolding clap_on_literals command_said said_by
 rights_as_script = refl
+
+-- `--help`, `--version`, and `--help d`
+helped : read commands.Help [] ≡ Some Help
+unfolding clap_on_literals command_said said_by
+helped = refl
+
+versioned : read commands.Version [] ≡ Some Version
+unfolding clap_on_literals command_said said_by
+versioned = refl
+
+help_of_a_file : read commands.Help (codes "d" ∷ []) ≡ None
+unfolding clap_on_literals command_said said_by
+help_of_a_file = refl
 
 -- the least and the greatest port, and what is none
 least_port : is_address (codes "127.0.0.1:00001") ≡ true

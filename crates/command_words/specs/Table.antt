@@ -24,10 +24,12 @@ row_of commands.Ask = record { name = codes "ask"; operands = 2; options = optio
 row_of commands.Prove = record { name = codes "prove"; operands = 5; options = [] }
 row_of commands.Verify = record { name = codes "verify"; operands = 2; options = [] }
 row_of commands.Rights = record { name = codes "rights"; operands = 3; options = [] }
+row_of commands.Help = record { name = codes "--help"; operands = 0; options = [] }
+row_of commands.Version = record { name = codes "--version"; operands = 0; options = [] }
 
 -- all commands
 abbrev pub all_commands : List CommandName
-all_commands = commands.Serve ∷ commands.Replay ∷ commands.Check ∷ commands.Dump ∷ commands.Explain ∷ commands.Sample ∷ commands.Ask ∷ commands.Prove ∷ commands.Verify ∷ commands.Rights ∷ []
+all_commands = commands.Serve ∷ commands.Replay ∷ commands.Check ∷ commands.Dump ∷ commands.Explain ∷ commands.Sample ∷ commands.Ask ∷ commands.Prove ∷ commands.Verify ∷ commands.Rights ∷ commands.Help ∷ commands.Version ∷ []
 
 -- the table of options: what follows the two dashes
 abbrev pub option_word : OptionName → List ℕ

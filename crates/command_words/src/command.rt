@@ -128,6 +128,10 @@ pub enum Command<'a> {
         who: &'a str,
         target: &'a str,
     },
+    /// `--help`: how the program is called.
+    Help,
+    /// `--version`: which version of the program this is.
+    Version,
 }
 
 /// The command that the words after the program's name ask for, or `None` where they ask for none.
@@ -212,6 +216,8 @@ fn read_kept<'a>(command: CommandName, matches: &ArgMatches<'a>) -> Option<Comma
         CommandName::Prove => read_prove(matches),
         CommandName::Verify => read_verify(matches),
         CommandName::Rights => read_rights(matches),
+        CommandName::Help => read_help(matches),
+        CommandName::Version => read_version(matches),
     }
 }
 
@@ -356,4 +362,18 @@ fn read_rights<'a>(matches: &ArgMatches<'a>) -> Option<Command<'a>>
     let who = kept_text(matches, Sought::Operands, 1)?;
     let target = kept_text(matches, Sought::Operands, 2)?;
     Some(Command::Rights { data, who, target })
+}
+
+#[tactic(auto, unfolding(crate::specs::parser::Asked::command_said))]
+fn read_help<'a>(_matches: &ArgMatches<'a>) -> Option<Command<'a>>
+    ensures { option_map view result ≡ kept_said CommandName.Help (kept_in _matches.now) }
+{
+    Some(Command::Help)
+}
+
+#[tactic(auto, unfolding(crate::specs::parser::Asked::command_said))]
+fn read_version<'a>(_matches: &ArgMatches<'a>) -> Option<Command<'a>>
+    ensures { option_map view result ≡ kept_said CommandName.Version (kept_in _matches.now) }
+{
+    Some(Command::Version)
 }

@@ -16,6 +16,8 @@ pub enum CommandName {
     Prove,
     Verify,
     Rights,
+    Help,
+    Version,
 }
 
 /// The options of the program's commands.
@@ -52,6 +54,8 @@ impl CommandName {
             CommandName::Prove,
             CommandName::Verify,
             CommandName::Rights,
+            CommandName::Help,
+            CommandName::Version,
         ]
     }
 
@@ -79,6 +83,8 @@ impl CommandName {
             CommandName::Prove => "prove",
             CommandName::Verify => "verify",
             CommandName::Rights => "rights",
+            CommandName::Help => "--help",
+            CommandName::Version => "--version",
         }
     }
 
@@ -96,6 +102,8 @@ impl CommandName {
             CommandName::Prove => 5,
             CommandName::Verify => 2,
             CommandName::Rights => 3,
+            CommandName::Help => 0,
+            CommandName::Version => 0,
         }
     }
 
@@ -119,6 +127,8 @@ impl CommandName {
             CommandName::Prove => &[],
             CommandName::Verify => &[],
             CommandName::Rights => &[],
+            CommandName::Help => &[],
+            CommandName::Version => &[],
         }
     }
 }

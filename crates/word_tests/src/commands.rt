@@ -84,6 +84,8 @@ fn answer(alloc: Global, words: &[String]) -> Result<String, AllocError> {
         Some(Command::Rights { data, who, target }) => {
             format!(in alloc; "rights [{data}] [{who}] [{target}]")
         }
+        Some(Command::Help) => String::from_str(alloc, "help"),
+        Some(Command::Version) => String::from_str(alloc, "version"),
         None => String::from_str(alloc, "usage"),
     }
 }

@@ -1,7 +1,7 @@
 -- Lemmas on answers: a command has one over files that are told and accepted.
-use Rattle.std.proofs.Common.{◌≡◌, ℕ, Bool, List, Option, Some, refl, sym, ap, ◌∙◌, subst}
+use Rattle.std.proofs.Common.{◌≡◌, ℕ, Bool, List, [], Option, Some, refl, sym, ap, ◌∙◌, subst}
 use Rattle.command_files.specs.wire_io.Files.{Files}
-use Rattle.command_words.specs.command.Command.{CommandView, Explain, Ask, Prove, Verify, Rights}
+use Rattle.command_words.specs.command.Command.{CommandView, Explain, Ask, Prove, Verify, Rights, Help, Version}
 use Rattle.command_files.specs.declared.loading.SecondFile.TheVariants as second
 use Rattle.command_files.specs.dir_tree.Entry.{EntryInformation}
 use Rattle.certify.specs.RightsTable.{rights_at}
@@ -10,7 +10,7 @@ use Rattle.acl_program.specs.declared.decisions.Account.{Account}
 use Rattle.acl_program.specs.Answering.{IsGoodCertificate, TellsDecision, TellsRights, TellsValidity, TellsReplies, Tells, account_text, asked_text, valid_text}
 use Rattle.command_files.specs.loading.Accepting.{IsGoodData, IsGoodRequests, HoldsIn, IsTold}
 use Rattle.acl_program.proofs.program.AcceptLemmas.{one_granted, IsGoodSecond}
-use Rattle.acl_program.proofs.program.ReadyLemmas.{IsReady, ReadySample, ready_alone, ready_both}
+use Rattle.acl_program.proofs.program.ReadyLemmas.{IsReady, ReadySample, ready_alone, ready_both, ReadyData, ReadySecond}
 
 -- one command has one answer over its files
 module _ (files : Option Files) where
@@ -55,11 +55,13 @@ module _ (files : Option Files) where
   answer_once (Rights name who target) text other due found = rights_once name who target text other due found
   answer_once (Verify name certificate) text other due found = validity_once name certificate text other due found
   answer_once (Ask name requests script) text other due found = replies_once name requests script text other due found
+  answer_once Help text other due found = found ∙ sym due
+  answer_once Version text other due found = found ∙ sym due
   answer_once command text other due found = absurd due
 
   -- a command whose answer is told is ready
   pub told_ready : (command : CommandView) (text : List ℕ) → Tells command (IsTold files) text → (entries : List EntryInformation) × IsReady files command entries
-  unfolding ReadySample IsGoodSecond
+  unfolding ReadySample IsGoodSecond ReadyData ReadySecond
   told_ready (Explain name who target item permission) text due =
       (due.entries, ready_alone files (Explain name who target item permission) name due.entries refl refl (due.question, due.asks) tt due.good)
   told_ready (Prove name who target item permission) text due =
@@ -72,4 +74,6 @@ module _ (files : Option Files) where
   told_ready (Ask name requests script) text due =
       let also = IsTold-weaker files requests (IsGoodRequests due.asks) (IsGoodSecond second.Requests due.entries) (λ content good. (due.asks, good)) due.read in
       (due.entries, ready_both files (Ask name requests script) name (record { kind = second.Requests; name = requests }) due.entries refl refl tt tt due.good also)
+  told_ready Help text due = ([], record { performed = tt; data_ready = tt; second_ready = tt; sample_ready = tt })
+  told_ready Version text due = ([], record { performed = tt; data_ready = tt; second_ready = tt; sample_ready = tt })
   told_ready command text due = absurd due

@@ -2,7 +2,7 @@
 use Rattle.std.proofs.Common.{◌≡◌, ℕ, List, Option, Some, None, Ok, Err, refl, sym, ap, ◌∙◌, subst, inl, inr, ◌⊎◌}
 use Rattle.command_files.specs.plain_values.Counts.{Rose}
 use Rattle.command_files.specs.wire_io.Files.{Files}
-use Rattle.command_words.specs.command.Command.{CommandView, Serve, Replay, Check, Dump, Explain, Sample, Ask, Prove, Verify, Rights, IsCommand}
+use Rattle.command_words.specs.command.Command.{CommandView, Serve, Replay, Check, Dump, Explain, Sample, Ask, Prove, Verify, Rights, Help, Version, IsCommand}
 use Rattle.command_words.proofs.Theorems.{IsCommand-unique}
 use Rattle.command_files.specs.declared.loading.SecondFile.{SecondFile}
 use Rattle.command_files.specs.declared.loading.SecondFile.TheVariants as second
@@ -59,6 +59,8 @@ kind_of (Ask data_file requests script) = OfAnswer
 kind_of (Prove data_file who target item permission) = OfAnswer
 kind_of (Verify data_file certificate) = OfAnswer
 kind_of (Rights data_file who target) = OfAnswer
+kind_of Help = OfAnswer
+kind_of Version = OfAnswer
 
 -- work of the kind is done
 abbrev pub IsDone : Kind → Outcome → Type 0
@@ -77,6 +79,8 @@ tells_kind (Prove data_file who target item permission) holds text tells = refl
 tells_kind (Rights data_file who target) holds text tells = refl
 tells_kind (Verify data_file certificate) holds text tells = refl
 tells_kind (Ask data_file requests script) holds text tells = refl
+tells_kind Help holds text tells = refl
+tells_kind Version holds text tells = refl
 tells_kind command holds text tells = absurd tells
 
 -- the words ask for a command that is done: its work is done, but for want of memory

@@ -4,7 +4,7 @@ use Rattle.std.proofs.lemmas.List.{length-map}
 use Rattle.command_words.specs.declared.table.CommandName.{CommandName}
 use Rattle.command_words.specs.declared.table.CommandName.TheVariants as commands
 use Rattle.command_words.specs.command.Line.{Line}
-use Rattle.command_words.specs.command.Command.{CommandView, Serve, Replay, Check, Dump, Explain, Sample, Ask, Prove, Verify, Rights, IsCommand, Says}
+use Rattle.command_words.specs.command.Command.{CommandView, Serve, Replay, Check, Dump, Explain, Sample, Ask, Prove, Verify, Rights, Help, Version, IsCommand, Says}
 use Rattle.command_files.specs.dir_tree.Entry.{EntryInformation}
 use Rattle.command_files.specs.dir_tree.tree.Numbered.{Numbered, entries_of}
 use Rattle.command_files.specs.ldif_load.load.DataFile.{FileCause, loads}
@@ -27,6 +27,8 @@ says_few name line (Ask data_file requests script) says = tt
 says_few name line (Prove data_file who target item permission) says = tt
 says_few name line (Verify data_file certificate) says = tt
 says_few name line (Rights data_file who target) says = tt
+says_few name line Help says = tt
+says_few name line Version says = tt
 says_few commands.Sample line (Sample count) says = says.2.stays_below
 says_few name line (Sample count) says = absurd says
 

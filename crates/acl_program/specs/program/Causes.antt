@@ -8,7 +8,7 @@ use Rattle.command_files.specs.wire_io.Files.{Files}
 use Rattle.command_files.specs.wire_io.Journal.{was_stopped}
 use Rattle.session_hub.specs.declared.ended.Ended.TheVariants as ended
 use Rattle.session_hub.specs.Parties.{Requester}
-use Rattle.command_words.specs.command.Command.{CommandView, ServingView, Serve, Replay, Check, Dump, Explain, Sample, Ask, Prove, Verify, Rights, IsCommand}
+use Rattle.command_words.specs.command.Command.{CommandView, ServingView, Serve, Replay, Check, Dump, Explain, Sample, Ask, Prove, Verify, Rights, Help, Version, IsCommand}
 use Rattle.certify.specs.explanation.Questions.{Question}
 use Rattle.certify.specs.explanation.Reading.{question_of}
 use Rattle.certify.specs.explanation.NameWords.{who_of, target_of}
@@ -36,6 +36,8 @@ IsPerformed (Ask data_file requests script) = Unit {0}
 IsPerformed (Prove data_file who target item permission) = (question : Question) × (question_of who target item permission ≡ Some question)
 IsPerformed (Verify data_file certificate) = Unit {0}
 IsPerformed (Rights data_file who target) = (requester : Requester) × (name : RdnSequence) × (who_of who ≡ Some requester) × (target_of target ≡ Some name)
+IsPerformed Help = Unit {0}
+IsPerformed Version = Unit {0}
 
 -- the words ask for nothing that is done
 unfoldable pub IsNoCommand : List (List ℕ) → Type 0
@@ -53,6 +55,8 @@ data_of (Ask data_file requests script) = Some data_file
 data_of (Prove data_file who target item permission) = Some data_file
 data_of (Verify data_file certificate) = Some data_file
 data_of (Rights data_file who target) = Some data_file
+data_of Help = None
+data_of Version = None
 
 -- a file that is read after the data file: what it is to be, and its name
 pub record Second : Type 0 where
@@ -75,6 +79,8 @@ second_of (Ask data_file requests script) = Some (second_named second.Requests r
 second_of (Prove data_file who target item permission) = None
 second_of (Verify data_file certificate) = Some (second_named second.Certificate certificate)
 second_of (Rights data_file who target) = None
+second_of Help = None
+second_of Version = None
 
 -- the words ask for a command with this data file
 unfoldable pub AsksData : List (List ℕ) → List ℕ → Type 0

@@ -149,3 +149,5 @@ check-passes commands.Ask rows = refl
 check-passes commands.Prove rows = refl
 check-passes commands.Verify rows = refl
 check-passes commands.Rights rows = refl
+check-passes commands.Help rows = refl
+check-passes commands.Version rows = refl

@@ -72,6 +72,8 @@ built-is commands.Ask = refl
 built-is commands.Prove = refl
 built-is commands.Verify = refl
 built-is commands.Rights = refl
+built-is commands.Help = refl
+built-is commands.Version = refl
 
 pub is-simple : (name : CommandName) → is_simple_and_free (app_for (row_of name)) ≡ true
 is-simple commands.Serve = refl
@@ -84,6 +86,8 @@ is-simple commands.Ask = refl
 is-simple commands.Prove = refl
 is-simple commands.Verify = refl
 is-simple commands.Rights = refl
+is-simple commands.Help = refl
+is-simple commands.Version = refl
 
 -- a search among arguments is one among options
 find-option : (test : Rule → Bool) (own : OptionName → Bool) → ((name : OptionName) → test (option name) ≡ own name) → (names : List OptionName) → find test (map option names) ≡ option_map option (find own names)

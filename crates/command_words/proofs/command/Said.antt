@@ -69,3 +69,5 @@ said-same commands.Verify rows line holds =
 said-same commands.Rights rows line holds =
     let own : (index : ℕ) → kept_text (kept_at_end (row_of commands.Rights) rows Operands) index ≡ slice_get (texts_of Operands line) index = λ index. text-same (row_of commands.Rights) rows line Operands index holds refl in
     rw (own 0, own 1, own 2) refl
+said-same commands.Help rows line holds = refl
+said-same commands.Version rows line holds = refl

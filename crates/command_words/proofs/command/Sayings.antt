@@ -11,7 +11,7 @@ use Rattle.command_words.specs.Table.{Row, row_of}
 use Rattle.command_words.specs.command.Line.{Line, texts_of}
 use Rattle.command_words.specs.Number.{number_said, number_within}
 use Rattle.command_words.specs.Address.{address_of}
-use Rattle.command_words.specs.command.Command.{CommandView, ServingView, Serve, Replay, Check, Dump, Explain, Sample, Ask, Prove, Verify, Rights, Says, sessions_range, turns_range, queues_range, idle_range, limit_range}
+use Rattle.command_words.specs.command.Command.{CommandView, ServingView, Serve, Replay, Check, Dump, Explain, Sample, Ask, Prove, Verify, Rights, Help, Version, Says, sessions_range, turns_range, queues_range, idle_range, limit_range}
 use Rattle.command_words.specs.parser.Asked.{command_said, ◌>>=◌}
 use Rattle.command_words.proofs.number.Numbers.{and_then-some, number_said-sound, number_said-complete, number_within-sound, number_within-complete}
 use Rattle.command_words.proofs.address.Addresses.{address_of-sound, address_of-complete}
@@ -243,6 +243,14 @@ file-sound name made line asked one says given =
     let own = alone (texts_of Operands line) one in
     subst (Says name line) (same_Some (made own.0) asked (sym (ap (λ (texts : List (List ℕ)). option_map made (slice_get texts 0)) own.1) ∙ given)) (says own.0 own.1)
 
+-- a command without operands
+nothing : (texts : List (List ℕ)) → length texts ≡ 0 → texts ≡ []
+nothing [] none = refl
+nothing (text ∷ texts) none = absurd (omega (arith, none))
+
+bare-sound : (name : CommandName) (made : CommandView) (line : Line) (asked : CommandView) → Says name line made → Some made ≡ Some asked → Says name line asked
+bare-sound name made line asked says given = subst (Says name line) (same_Some made asked given) says
+
 -- what a line of a command says: one case a command
 pub command_said-sound : (name : CommandName) (line : Line) (asked : CommandView) → Taken (row_of name) line → line_said name line ≡ Some asked → Says name line asked
 unfolding command_said
@@ -256,6 +264,8 @@ command_said-sound commands.Ask line asked is given = ask-sound line asked is gi
 command_said-sound commands.Prove line asked is given = prove-sound line asked is given
 command_said-sound commands.Verify line asked is given = verify-sound line asked is given
 command_said-sound commands.Rights line asked is given = rights-sound line asked is given
+command_said-sound commands.Help line asked is given = bare-sound commands.Help Help line asked (nothing (texts_of Operands line) is.operands) given
+command_said-sound commands.Version line asked is given = bare-sound commands.Version Version line asked (nothing (texts_of Operands line) is.operands) given
 
 pub command_said-complete : (name : CommandName) (line : Line) (asked : CommandView) → Taken (row_of name) line → Says name line asked → line_said name line ≡ Some asked
 unfolding command_said
@@ -269,4 +279,6 @@ command_said-complete commands.Ask line (Ask data_file requests script) is says 
 command_said-complete commands.Prove line (Prove data_file who target item permission) is says = ap prove_said says
 command_said-complete commands.Verify line (Verify data_file certificate) is says = ap verify_said says
 command_said-complete commands.Rights line (Rights data_file who target) is says = ap rights_said says
+command_said-complete commands.Help line Help is says = refl
+command_said-complete commands.Version line Version is says = refl
 command_said-complete name line asked is says = absurd says

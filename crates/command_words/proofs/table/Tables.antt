@@ -98,6 +98,8 @@ option_named-complete commands.Ask name of_row = subst (λ (own : OptionName). o
 option_named-complete commands.Prove name of_row = absurd (none-contained name of_row)
 option_named-complete commands.Verify name of_row = absurd (none-contained name of_row)
 option_named-complete commands.Rights name of_row = absurd (none-contained name of_row)
+option_named-complete commands.Help name of_row = absurd (none-contained name of_row)
+option_named-complete commands.Version name of_row = absurd (none-contained name of_row)
 
 pub command_named-complete : (name : CommandName) → command_named (row_of name).name ≡ Some name
 command_named-complete commands.Serve = refl
@@ -110,6 +112,8 @@ command_named-complete commands.Ask = refl
 command_named-complete commands.Prove = refl
 command_named-complete commands.Verify = refl
 command_named-complete commands.Rights = refl
+command_named-complete commands.Help = refl
+command_named-complete commands.Version = refl
 
 -- all options
 abbrev all_options : List OptionName

@@ -37,6 +37,8 @@ pub data CommandView : Type 0 where
   Prove : (data_file who target item permission : List ℕ) → CommandView
   Verify : (data_file certificate : List ℕ) → CommandView
   Rights : (data_file who target : List ℕ) → CommandView
+  Help : CommandView
+  Version : CommandView
 
 -- serving as it is read, with its texts as octets
 abbrev pub serving_view : Serving → ServingView
@@ -62,6 +64,8 @@ view (command.Ask data_file requests script) = Ask data_file.now requests.now sc
 view (command.Prove data_file who target item permission) = Prove data_file.now who.now target.now item.now permission.now
 view (command.Verify data_file certificate) = Verify data_file.now certificate.now
 view (command.Rights data_file who target) = Rights data_file.now who.now target.now
+view command.Help = Help
+view command.Version = Version
 
 -- after how many connections the serving ends: never, where the words don't say
 abbrev pub sessions_range : NumberRange
@@ -115,6 +119,8 @@ Says commands.Prove line (Prove data_file who target item permission) =
     texts_of Operands line ≡ data_file ∷ who ∷ target ∷ item ∷ permission ∷ []
 Says commands.Verify line (Verify data_file certificate) = texts_of Operands line ≡ data_file ∷ certificate ∷ []
 Says commands.Rights line (Rights data_file who target) = texts_of Operands line ≡ data_file ∷ who ∷ target ∷ []
+Says commands.Help line Help = texts_of Operands line ≡ []
+Says commands.Version line Version = texts_of Operands line ≡ []
 Says name line asked = ⊥
 
 -- the words are a command's name and a line of it that says this command

@@ -12,7 +12,7 @@ use Rattle.command_words.specs.Table.{row_of}
 use Rattle.command_words.specs.command.Line.{Line, IsLine, line_words}
 use Rattle.command_words.specs.Number.{number_said, number_within}
 use Rattle.command_words.specs.Address.{address_of}
-use Rattle.command_words.specs.command.Command.{CommandView, Serve, Replay, Check, Dump, Explain, Sample, Ask, Prove, Verify, Rights, Says, IsCommand, sessions_range, turns_range, queues_range, idle_range, limit_range}
+use Rattle.command_words.specs.command.Command.{CommandView, Serve, Replay, Check, Dump, Explain, Sample, Ask, Prove, Verify, Rights, Help, Version, Says, IsCommand, sessions_range, turns_range, queues_range, idle_range, limit_range}
 use Rattle.command_words.specs.parser.Parser.{kept_in, kept_text, is_set}
 
 -- the command that texts say, and whether it has a flag: one case a command
@@ -73,6 +73,8 @@ command_said commands.Rights text has = do
   who ← text Operands 1
   target ← text Operands 2
   Some (Rights data_file who target)
+command_said commands.Help text has = Some Help
+command_said commands.Version text has = Some Version
 
 -- how many texts are kept
 abbrev pub kept_count : Option (List (List ℕ)) → ℕ

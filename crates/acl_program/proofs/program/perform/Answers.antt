@@ -1,4 +1,8 @@
+use Rattle.std.proofs.Common.{refl}
+use Rattle.command_words.specs.command.Command.{Help, Version}
+use Rattle.acl_program.specs.Helping.{help_text, version_text}
 use Rattle.acl_program.specs.program.Outside.{linked}
+use Rattle.acl_program.proofs.program.PerformLemmas.{Performs-answered}
 use Rattle.acl_program.proofs.program.perform.Goals as goal
 
 -- each command does what it is asked for
@@ -35,3 +39,10 @@ returns-in-Verify-clause-performs g c = rw c.in-Verify.is (c.tell_validity.ensur
 
 pub returns-in-Rights-clause-performs : goal.returns-in-Rights-clause-performs
 returns-in-Rights-clause-performs g c = rw c.in-Rights.is (c.tell_rights.ensures.performs (linked _ _ _ _))
+
+-- what is told without a file
+pub returns-in-Help-clause-performs : goal.returns-in-Help-clause-performs
+returns-in-Help-clause-performs g c = rw c.in-Help.is (Performs-answered Help help_text _ _ _ refl refl c.print_help.ensures.ends refl)
+
+pub returns-in-Version-clause-performs : goal.returns-in-Version-clause-performs
+returns-in-Version-clause-performs g c = rw c.in-Version.is (Performs-answered Version version_text _ _ _ refl refl c.print_version.ensures.ends refl)
