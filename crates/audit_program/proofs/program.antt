@@ -1,0 +1,3 @@
+pub mod PerformLemmas
+pub mod PrintLemmas
+pub mod DueLemmas
