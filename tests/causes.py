@@ -20,7 +20,7 @@ NO_COMMANDS = [
     "check d s",
     "dump d --turns 1",
     "replay d s --turns",
-    "--help",
+    "-h",
 ]
 
 # A script, and what its refusal prints.
@@ -35,6 +35,35 @@ BAD_SCRIPTS = [
 
 # Lines that name a file which is not there.
 NOT_THERE = ["replay d other", "replay other s", "check other", "dump other"]
+
+
+# How the program is called, a line for each command.
+HELP = """usage: aclserver COMMAND
+
+  serve DATA ADDRESS [--sessions N] [--turns N] [--queues MIB] [--idle SECONDS] [--limit N]
+  replay DATA SCRIPT [--dump] [--turns N]
+  check DATA
+  dump DATA
+  explain DATA WHO TARGET ITEM PERMISSION
+  prove DATA WHO TARGET ITEM PERMISSION
+  verify DATA CERTIFICATE
+  rights DATA WHO TARGET
+  ask DATA REQUESTS [--script]
+  sample N
+  --help
+  --version
+"""
+
+
+@test
+def the_program_says_how_it_is_called_and_which_version_it_is():
+    return [
+        Run("--help", HELP),
+        Run("--version", "aclserver 1.0\n"),
+        Run("--help --", HELP, "nothing stands behind the delimiter"),
+        Run("--help check", USAGE, "no operand", Status.USAGE),
+        Run("check d --help", USAGE, "an option that check does not have", Status.USAGE),
+    ]
 
 
 @test

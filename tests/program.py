@@ -1,4 +1,4 @@
-"""What a test of the whole program says: words, files, and what the program then puts and how it ends."""
+"""What a test of a whole program says: words, files, and what the program then puts and how it ends."""
 
 import enum
 import typing
@@ -7,7 +7,7 @@ from trees import TWO_ENTRIES
 
 
 class Status(enum.IntEnum):
-    """How the program ends."""
+    """How a program ends."""
     DONE = 0
     USAGE = 2
     BAD_DATA = 3
@@ -21,13 +21,14 @@ USAGE = "usage: aclserver (serve|replay|check|dump|explain|sample|ask|prove|veri
 
 
 class Run(typing.NamedTuple):
-    """A run on the words of a line, with one space between two, over the files `d` and `s`, what it puts, and what that shows."""
-    line: str
+    """A run of a program on words, or on those of a line, over the files `d` and `s`, what it puts, and what that shows."""
+    line: str | list[str]
     put: str
     what: str = ""
     status: Status = Status.DONE
     data: str = TWO_ENTRIES
     script: str = ""
+    program: str = "aclserver"
 
 
 # The tests: each is a function without arguments that gives runs.

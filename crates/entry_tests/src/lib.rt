@@ -1,20 +1,5 @@
-//! Tests of keys, tables and names, of entries and of the tree that they form, with expected values from the public
-//! standards.
+//! Tests of what names say that no program prints: why a text is none, and what of a name stands below another.
 #![tactic(auto)]
 
 #[cfg(test)]
-mod entries;
-#[cfg(test)]
-mod fixtures;
-#[cfg(test)]
-mod keys;
-#[cfg(test)]
-mod many;
-#[cfg(test)]
 mod names;
-#[cfg(test)]
-mod paths;
-#[cfg(test)]
-mod tables;
-#[cfg(test)]
-mod trees;

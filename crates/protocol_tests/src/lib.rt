@@ -1,27 +1,11 @@
-//! Tests of what stands at the outside: scripts, messages and their pieces, and the forms of files, sinks and links,
-//! with expected values from the public standards.
+//! Tests of what no command shows: links that fail and wait, an output that fails, the pieces of a stream, and the
+//! system's sockets.
 #![tactic(auto)]
 
-#[cfg(test)]
-mod filters;
-#[cfg(test)]
-mod frames;
-#[cfg(test)]
-mod headers;
-#[cfg(test)]
-mod integers;
 #[cfg(test)]
 mod links;
 #[cfg(test)]
 mod pieces;
-#[cfg(test)]
-mod replies;
-#[cfg(test)]
-mod requests;
-#[cfg(test)]
-mod scripts;
-#[cfg(test)]
-mod shelves;
 #[cfg(test)]
 mod sinks;
 #[cfg(test)]

@@ -3,17 +3,9 @@
 #![tactic(auto)]
 
 #[cfg(test)]
-mod bounds;
-#[cfg(test)]
 mod causes;
 #[cfg(test)]
-mod messages;
-#[cfg(test)]
-mod rooms;
-#[cfg(test)]
 mod runs;
-#[cfg(test)]
-mod samples;
 #[cfg(test)]
 mod serves;
 #[cfg(test)]

@@ -3,6 +3,7 @@
 ghost use Rattle.std.specs.Prelude.{◌<◌, length, IfOk};
 ghost use Rattle.wire_io.specs.script_text.script.Script.{OpensOnce, AreFilled};
 
+use crate::loops::serve;
 use crate::messages::{BIND, BOUND};
 use aci_index::IndexedDir;
 use dir_tree::Tree;
@@ -54,14 +55,6 @@ fn losing_link(alloc: Global, gone: u64) -> Result<ScriptLink, AllocError> {
     let events = events(alloc)?;
     let link = ScriptLink::new(alloc, events, Vec::new(alloc), Vec::new(alloc), lost);
     Ok(link)
-}
-
-// Serves the link over a directory without entries.
-fn serve(alloc: Global, link: &mut ScriptLink) -> Ended {
-    let Ok(mut dir) = IndexedDir::new(alloc, Tree::new(alloc)) else {
-        return Ended::NoMemory;
-    };
-    serve_loop(alloc, &mut dir, link, 100, Bounds::NONE)
 }
 
 #[test]
