@@ -16,3 +16,11 @@ pub mod LimitOnly
 pub mod SubtreeOnly
 pub mod ItemOnly
 pub mod RoundTrip
+pub mod SetLemmas
+pub mod KeptLemmas
+pub mod ExclusionLemmas
+pub mod LexemeLemmas
+pub mod ValueLemmas
+pub mod BracesLemmas
+pub mod DepthLemmas
+pub mod DeepLemmas

@@ -1,4 +1,5 @@
-//! The laws of access control items: their sets stand in order, and a printed item is read again as itself.
+//! The laws of access control items: a text is read as its one value, or refused where it is too deep; their sets keep
+//! their members, in order; and a printed item is read again as itself.
 #![tactic(auto)]
 
 pub mod laws;

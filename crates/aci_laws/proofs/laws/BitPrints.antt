@@ -2,16 +2,20 @@
 use Rattle.std.proofs.Common.{◌≡◌, ℕ, suc, Bool, true, false, List, [], ◌∷◌, ◌++◌, refl, sym, ap, ◌∙◌, append_assoc}
 use Rattle.std.proofs.lemmas.List.{append-nil}
 use Rattle.std.proofs.lemmas.List.Folds.{list_any-append}
-use Rattle.std.specs.Prelude.{◌==◌, ◌||◌, find, map, Option, Some}
+use Rattle.std.specs.Prelude.{◌==◌, ◌||◌, find, map, Option, Some, None}
 use Rattle.std.specs.List.{list_any}
 use Rattle.std.specs.Str.{bytes_eq}
 use Rattle.gser_tree.specs.Lexemes.{class_of, is_word}
+use Rattle.gser_tree.specs.looking.Looking.{members_in}
 use Rattle.gser_tree.specs.looking.Shapes.{Shape}
+use Rattle.gser_tree.specs.Reading.{expect, gather, give, ◌>>=◌}
 use Rattle.gser_tree.specs.Writing.{print_word}
 use Rattle.gser_tree.proofs.Theorems.{listed_gathered, AreWritten, IsRead, Prints, none_are_written, more_are_written, braces_are_written, word_is_written}
 use Rattle.aci_item.specs.declared.permission.Permission.{Permission}
 use Rattle.aci_item.specs.declared.permission.Permission.TheVariants.{Add, DiscloseOnError, Read, Remove, Browse, Export, Import, Modify, Rename, ReturnDn, Compare, FilterMatch, Invoke}
+use Rattle.subtree_spec.specs.Parts.{set_of}
 use Rattle.aci_laws.specs.GoodItems.{AreGoodBits}
+use Rattle.aci_laws.proofs.laws.MembersLemmas.{gathered_into}
 use Rattle.aci_item.specs.members.ItemParts.{bit, bits}
 use Rattle.aci_item.specs.ItemPrinted.{bit_name, print_bits}
 use Rattle.aci_item.specs.Permission.{Bit, all_bits, bit_place, in_order, is_among, is_bit, put_bit}
@@ -126,3 +130,17 @@ unfolding bits AreBits
 bits_print most values good =
     braces_are_written most (AreBits values) (IsRead bits values) (map (λ bit. print_word (bit_name bit)) values) (bits_are_written most values)
     (λ members has bad. rw (listed_gathered members) (has [] bad ∙ ap (λ s. Some (record { value = s; bad = bad })) good))
+
+-- bits that are read are all of them, in order
+pub bits-in_order : (shape : Shape) (bad : Option ℕ) → bits shape bad ≡ (set_of bit shape >>= λ all. give (in_order all)) bad
+unfolding bits
+bits-in_order shape bad = inner (members_in shape)
+  where
+    inner : (found : Option (List Shape))
+        → (expect found >>= gather_into put_bit bit []) bad ≡ ((expect found >>= gather bit []) >>= λ (all : List Bit). give (in_order all)) bad
+    inner None = refl
+    inner (Some shapes) = sym (gathered_into put_bit in_order bit (λ seen value. sym (put_bit-next seen value)) [] shapes bad)
+
+-- bits in order are the same bits
+pub is_among-in_order : (all : List Bit) (one : Bit) → is_among (in_order all) one ≡ is_among all one
+is_among-in_order all one = among_filtered (λ place. list_any (λ other. place == bit_place other) all) one
