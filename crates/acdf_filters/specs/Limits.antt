@@ -1,5 +1,5 @@
--- How maxValueCount and restrictedBy limit what a grant lets a requester add (X.501 18.4.2.4 and 18.8.3). X.501 leaves open
--- what they make of a denial: here it stays as it is.
+-- How maxValueCount and restrictedBy limit what a grant lets a requester add (X.501 18.4.2.4 and 18.8.3): X.501 takes away
+-- grants alone by them, so a denial stays as it is.
 use Rattle.std.specs.Prelude.{ℕ, ◌==◌, nat_lt, Bool, false, not, ◌&&◌, ◌||◌, length}
 use Rattle.std.specs.List.{list_any}
 use Rattle.dir_tree.specs.dn_names.name.Names.{Keyed}

@@ -8,8 +8,8 @@ use Rattle.subtree_spec.specs.Subtrees.{Choice, Item, And, Or, Not, Choices, Sub
 use Rattle.subtree_spec.specs.Subtrees as refinement
 use Rattle.subtree_spec.specs.membership.Membership.{holds_below}
 
--- an item is true of an entry that has the class, also as a superclass; the standards leave the empty sets open:
--- here all of none are true, and one of none is not
+-- an item is true of an entry that has the class, also as a superclass; of the empty sets, as X.511 7.8 has it for filters,
+-- all of none are true, and one of none is not
 abbrev mutual
   pub is_true_of : Choice → EntryInformation → Bool
   is_true_of (Item oid) entry = has_class oid entry

@@ -1,6 +1,7 @@
 //! Directories.
 
-ghost use Rattle.std.specs.Prelude.{◌≡◌, ◌≢◌, ◌⊎◌, [], Some, None, IfOk, IfErr, IfSome, OnOk, OnErr, false, map};
+ghost use Rattle.std.specs.Prelude.{◌≡◌, ◌≢◌, ◌⊎◌, [], Some, None, IfOk, IfErr, IfSome, IsSome, OnOk, OnErr, false, map};
+ghost use Rattle.std.specs.List.{AllByRecursion};
 ghost use Rattle.std.specs.Option.{option_map_or};
 ghost use Rattle.dir_tree.specs.Entry.{EntryInformation};
 ghost use Rattle.dir_tree.specs.tree.Numbered.{entry_of, entries_of, entries_at, put_entry, without};
@@ -102,10 +103,12 @@ pub trait Dir {
             AreMemberships (entries_of (rows self.now)) who.now.name known.items) };
 
     /// The numbers of the access control subentries that are in force for the entry of the number (X.501 18.3), which the
-    /// directory keeps.
+    /// directory keeps. Each of them is in use.
     fn in_force(&self, number: EntryNo) -> &[EntryNo]
         ensures exact { (entry : EntryInformation) → entry_of number.0 (rows self.now) ≡ Some entry
-            → entries_at (rows self.now) (map (λ no. no.0) result.now) ≡ in_force (entries_of (rows self.now)) entry };
+            → entries_at (rows self.now) (map (λ no. no.0) result.now) ≡ in_force (entries_of (rows self.now)) entry }
+        ensures live { (entry : EntryInformation) → entry_of number.0 (rows self.now) ≡ Some entry
+            → AllByRecursion (λ id. IsSome (entry_of id (rows self.now))) (map (λ no. no.0) result.now) };
 
     /// Numbers among which each entry is that has a value of the type with the key. There may be others among them, of
     /// entries without the value or in no use, and a number may come twice. None where the directory does not know them, or
