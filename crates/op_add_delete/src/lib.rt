@@ -14,5 +14,5 @@ pub use directory;
 pub use fault::Fault;
 pub use ldif_load::schema_rules;
 pub use read_model;
-pub use reading::{Given, read_attribute};
+pub use reading::{Given, new_entry, read_attribute};
 pub use twice::repeats;

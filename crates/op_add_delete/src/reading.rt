@@ -163,7 +163,7 @@ fn read_attributes(alloc: Global, name: Dn, given: &[KindValues]) -> Result<Entr
 
 /// The entry that the request describes: its attributes in their order, and last the values of its own RDN that they
 /// leave out.
-pub(crate) fn new_entry(alloc: Global, name: Dn, given: &[KindValues]) -> Result<Entry, Fault>
+pub fn new_entry(alloc: Global, name: Dn, given: &[KindValues]) -> Result<Entry, Fault>
     ensures ok { IfOk result (λ entry. IsNewEntry name given.now entry) }
     ensures refused { IfErr result (λ fault. IsFaultOf (cause_of fault) (read_attributes given.now)) }
 {

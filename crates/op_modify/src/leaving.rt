@@ -66,7 +66,7 @@ fn number_above(tree: &Tree, renaming: &Renaming) -> Option<EntryNo>
 }
 
 /// The superior that the entry is to have, if it is an entry.
-pub(crate) fn find_above<'a>(tree: &'a Tree, renaming: &Renaming) -> Option<&'a Entry>
+pub fn find_above<'a>(tree: &'a Tree, renaming: &Renaming) -> Option<&'a Entry>
     ensures exact { option_map (λ entry. entry.now) result ≡ named_in (above renaming.now) (entries_of tree.now) }
 {
     tree.entries_form_a_tree();

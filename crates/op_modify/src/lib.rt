@@ -13,7 +13,9 @@ mod replacing;
 
 pub use acdf_filters::aci_item;
 pub use ldap_msg;
+pub use leaving::find_above;
 pub use modifying::modify;
 pub use op_add_delete;
+pub use reading::read_changes;
 pub use renames::rename;
-pub use renaming::Renaming;
+pub use renaming::{Renaming, read_renaming};

@@ -75,7 +75,7 @@ fn read_each(alloc: Global, given: &[Change]) -> Result<Vec<EntryChange>, Fault>
 
 /// The changes of a modify request, in their order: each is one that may be asked for, and then each is read.
 #[tactic(auto, unfolding(crate::specs::ReadChanges::read_changes))]
-pub(crate) fn read_changes(alloc: Global, given: &[Change]) -> Result<Vec<EntryChange>, Fault>
+pub fn read_changes(alloc: Global, given: &[Change]) -> Result<Vec<EntryChange>, Fault>
     ensures exact { Answers (λ changes. changes.items) cause_of result (read_changes given.now) }
 {
     if any_is_no_change(given) {

@@ -91,10 +91,7 @@ fn new_superior(name: &Dn, given: Option<Dn>) -> Option<Dn>
 
 /// The request, read; None where a name or the new RDN is none. The error comes where memory is wanted.
 #[tactic(auto, unfolding(crate::specs::ReadRenames::read_renaming))]
-pub(crate) fn read_renaming(
-    alloc: Global,
-    request: &RenameRequest,
-) -> Result<Option<Renaming>, NoMemory>
+pub fn read_renaming(alloc: Global, request: &RenameRequest) -> Result<Option<Renaming>, NoMemory>
     ensures ok { IfOk result (λ renaming. renaming ≡ read_renaming request.now) }
 {
     let Some(name) = read_named(alloc, request.name.as_slice())? else {

@@ -39,9 +39,9 @@ module _ (who : Requester) (one other : List EntryInformation) (top : RdnSequenc
   by-twins page (Ok []) = ap unpaged (search_replies-twins who one other top twins request subentries)
   by-twins page (Ok (rdn ∷ rdns)) = from-twins (rdn ∷ rdns) page.size (start_of page.cookie)
 
-  replies-twins : (page : Page) → page_replies (view_of one who) request subentries page ≡ page_replies (view_of other who) request subentries page
+  pub page_replies-twins : (page : Page) → page_replies (view_of one who) request subentries page ≡ page_replies (view_of other who) request subentries page
   unfolding page_replies
-  replies-twins page =
+  page_replies-twins page =
       ap (λ (whole : List Reply). if fits_page request page.size then unpaged whole else page_by (view_of one who) request subentries page (read_name request.base))
       (search_replies-twins who one other top twins request subentries)
       ∙ ap (λ (paged : Paged). if fits_page request page.size then unpaged (search_replies (view_of other who) request subentries) else paged) (by-twins page (read_name request.base))
@@ -51,4 +51,4 @@ pub page_alike : (who : Requester) (entries : List EntryInformation) (id : ℕ) 
     → SendsPageAlike who entries id request subentries page old new
 unfolding SendsPageAlike
 page_alike who entries id request subentries page old new sent other top twins =
-    sent ∙ ap (λ (paged : Paged). old ++ paged_octets id paged) (replies-twins who entries other top twins request subentries page)
+    sent ∙ ap (λ (paged : Paged). old ++ paged_octets id paged) (page_replies-twins who entries other top twins request subentries page)
