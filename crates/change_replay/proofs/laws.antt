@@ -1,0 +1,13 @@
+pub mod StepLemmas
+pub mod GrantLemmas
+pub mod AppliedLemmas
+pub mod ChangedLemmas
+pub mod AttributeLemmas
+pub mod ValueLemmas
+pub mod PlaceLemmas
+pub mod RenamingLemmas
+pub mod NameLemmas
+pub mod GoodLemmas
+pub mod MovedLemmas
+pub mod WritableLemmas
+pub mod RecoveredLemmas

@@ -1,0 +1,69 @@
+//! What is done with the tree.
+
+ghost use Rattle.std.specs.Prelude.{◌≡◌, List, Result, Ok, OnOk, ℕ};
+ghost use Rattle.dir_tree.specs.Entry.{EntryInformation};
+ghost use Rattle.dir_tree.specs.tree.Numbered.{entries_of};
+ghost use Rattle.change_replay.specs.Steps.{TakesOut, Replaces, IsStep, HasName};
+
+use dir_tree::{Entry, EntryNo, NoMemory, Tree};
+use std::alloc::AllocError;
+
+/// What is to be done with a tree.
+#[derive(Drop)]
+pub(crate) enum Step {
+    /// The entry of the number goes.
+    TakeOut(EntryNo),
+    /// The entry comes.
+    PutIn(Entry),
+    /// The entry takes the place of that of the number.
+    Replace(EntryNo, Entry),
+}
+
+// Takes the entry of the number out.
+fn take_out(tree: &mut Tree, number: EntryNo) -> Result<(), NoMemory>
+    ensures ok { OnOk result ((expected : Result (List EntryInformation) ℕ)
+        → TakesOut tree.old number.0 expected → expected ≡ Ok (entries_of tree.new)) }
+{
+    tree.entries_form_a_tree();
+    match tree.remove(number) {
+        Ok(_entry) => Ok(()),
+        Err(_) => Err(AllocError),
+    }
+}
+
+// Puts the entry in.
+fn put_in(tree: &mut Tree, entry: Entry) -> Result<(), NoMemory>
+    requires named { HasName (Step.PutIn entry) }
+    ensures ok { OnOk result ((expected : Result (List EntryInformation) ℕ)
+        → IsStep tree.old (Step.PutIn entry) expected → expected ≡ Ok (entries_of tree.new)) }
+{
+    match tree.insert(entry) {
+        Ok(_number) => Ok(()),
+        Err(_) => Err(AllocError),
+    }
+}
+
+// Puts the entry into the place of that of the number.
+fn replace(tree: &mut Tree, number: EntryNo, entry: Entry) -> Result<(), NoMemory>
+    ensures ok { OnOk result ((expected : Result (List EntryInformation) ℕ)
+        → Replaces tree.old number.0 entry expected → expected ≡ Ok (entries_of tree.new)) }
+{
+    tree.entries_form_a_tree();
+    match tree.replace(number, entry) {
+        Ok(_entry) => Ok(()),
+        Err(_) => Err(AllocError),
+    }
+}
+
+/// Does it. The error comes where memory is wanted: what is to be done was checked.
+pub(crate) fn make(tree: &mut Tree, step: Step) -> Result<(), NoMemory>
+    requires named { HasName step }
+    ensures ok { OnOk result ((expected : Result (List EntryInformation) ℕ)
+        → IsStep tree.old step expected → expected ≡ Ok (entries_of tree.new)) }
+{
+    match step {
+        Step::TakeOut(number) => take_out(tree, number),
+        Step::PutIn(entry) => put_in(tree, entry),
+        Step::Replace(number, entry) => replace(tree, number, entry),
+    }
+}
