@@ -1,2 +1,3 @@
 pub mod SystemLink
 pub mod Cutting
+pub mod Store

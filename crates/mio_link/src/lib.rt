@@ -1,5 +1,5 @@
-//! The link of the system's TCP sockets (RFC 9293), over one poll for all of them. It tells nothing of
-//! what it did: what a socket delivers is the system's.
+//! The link of the system's TCP sockets (RFC 9293), over one poll for all of them, with a file of the system
+//! as its store. It tells nothing of what it did: what a socket delivers and a disk keeps is the system's.
 #![tactic(auto)]
 
 mod connection;
@@ -9,5 +9,6 @@ mod moment;
 mod ready;
 mod server;
 mod sockets;
+mod store;
 
 pub use link::MioLink;

@@ -1,13 +1,16 @@
-//! The link over the system's sockets.
+//! The link over the system's sockets, and a file of the system.
 
 ghost use Rattle.std.specs.Prelude.{◌≡◌, IfOk};
 ghost use Rattle.mio_link.specs.SystemLink.{link_faults, lost_connections};
 
 use crate::sockets::Sockets;
+use crate::store::Store;
 use plain_values::raised;
 use std::alloc::Global;
+use std::fs::File;
 use std::io::ErrorKind;
 use std::net::Net;
+use std::rt::Files;
 use std::time::Clock;
 use wire_io::{Heard, Link, NextFault, NoMemory, Took};
 
@@ -16,11 +19,12 @@ use wire_io::{Heard, Link, NextFault, NoMemory, Took};
 /// another takes the last place, the one whose peer was silent longest is ended for it, of those to which
 /// nothing is due; where there is none such, the other is opened beside them. What is given at once of a
 /// peer's octets makes at most one message whole that is wide, and that is the last; the others are
-/// kept, at most a buffer of them for each connection.
+/// kept, at most a buffer of them for each connection. The store is a file of the system.
 #[derive(Drop)]
 pub struct MioLink<R> {
     rt: R,
     sockets: Sockets,
+    store: Store,
     faults: u64,
     lost: u64,
 }
@@ -33,13 +37,14 @@ impl<R: Net + Drop> MioLink<R> {
         Ok(MioLink {
             rt,
             sockets: Sockets::new(alloc)?,
+            store: Store::Unopened,
             faults: 0,
             lost: 0,
         })
     }
 }
 
-impl<R: Net + Clock> Link for MioLink<R> {
+impl<R: Net + Clock + Files<File = File>> Link for MioLink<R> {
     ghost use Rattle.std.specs.Prelude.{None};
 
     ghost journal = { λ _. None };
@@ -66,6 +71,34 @@ impl<R: Net + Clock> Link for MioLink<R> {
                 Err(NextFault::Failed)
             }
         }
+    }
+
+    /// Opens the file of the name, which keeps its mode, or makes one that its owner alone may read and write
+    /// (mode 0600), and locks it until the link is dropped. `Failed` comes besides where another process has it
+    /// locked, where it has fewer octets than that, where a store was opened before, and always after a fault of
+    /// the store.
+    #[tactic(auto, unfolding(wire_io::specs::link::Telling::StoreOpenTells, wire_io::specs::Answers::LinkCause, wire_io::specs::Answers::IsPlanned))]
+    fn open_store(&mut self, name: &str, length: u64) -> Result<(), NextFault> {
+        match self.store.open(&self.rt, name, length) {
+            Ok(()) => Ok(()),
+            Err(error) if error.kind() == ErrorKind::OutOfMemory => Err(NextFault::NoMemory),
+            Err(_) => {
+                self.faults = raised(self.faults);
+                Err(NextFault::Failed)
+            }
+        }
+    }
+
+    /// Appends the octets, and waits until the disk has them. Want of memory of the system is `Failed` too,
+    /// since a front of the octets may be there. After a fault nothing is written any more, and every later
+    /// call is a fault.
+    #[tactic(auto, unfolding(wire_io::specs::link::Telling::NoteTells, wire_io::specs::Answers::LinkCause, wire_io::specs::Answers::IsPlanned))]
+    fn store(&mut self, octets: &[u8]) -> Result<(), NextFault> {
+        if self.store.append(octets).is_ok() {
+            return Ok(());
+        }
+        self.faults = raised(self.faults);
+        Err(NextFault::Failed)
     }
 
     /// Waits for the next event; Stop once as many connections ended as there were to be sessions.

@@ -1,5 +1,5 @@
 //! Tests of what no command shows: links that fail and wait, an output that fails, the pieces of a stream, and the
-//! system's sockets.
+//! system's sockets and files.
 #![tactic(auto)]
 
 #[cfg(test)]
@@ -10,5 +10,7 @@ mod pieces;
 mod sinks;
 #[cfg(test)]
 mod sockets;
+#[cfg(test)]
+mod stores;
 #[cfg(test)]
 mod values;

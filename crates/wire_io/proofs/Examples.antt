@@ -3,9 +3,9 @@ use Rattle.std.proofs.Common.{◌≡◌, true, false, List, [], ◌∷◌, Some,
 use Rattle.script_text.specs.declared.event.ScriptEvent.TheVariants as script
 use Rattle.wire_io.specs.declared.journal.Event.TheVariants.{Opened, Bytes, Ended, Ready, Stop}
 use Rattle.wire_io.specs.declared.journal.Item.{Item}
-use Rattle.wire_io.specs.declared.journal.Item.TheVariants.{Heard, Taken, Later, Held, Released, HungUp}
+use Rattle.wire_io.specs.declared.journal.Item.TheVariants.{Heard, Taken, Later, Held, Released, HungUp, Stored}
 use Rattle.wire_io.specs.Files.{file_of}
-use Rattle.wire_io.specs.Journal.{heard, opened_by, taken_at, taken_of, hangs_up, is_hung_up, hold_after, hold_after_all, is_held}
+use Rattle.wire_io.specs.Journal.{heard, opened_by, taken_at, taken_of, stored_at, stored_of, hangs_up, is_hung_up, hold_after, hold_after_all, is_held}
 use Rattle.wire_io.specs.Laws.{first_events}
 use Rattle.wire_io.specs.Pieces.{cut, pieces_of, pieces}
 use Rattle.wire_io.specs.Playing.{left_over, first_turn, front_turn, next_turn}
@@ -66,6 +66,11 @@ opened_in_order = refl
 heard_in_order : heard two_connections ≡ Opened 2 ∷ Opened 1 ∷ []
 unfolding two_connections heard
 heard_in_order = refl
+
+-- what was stored between other items
+stored_in_order : stored_of (Stored (48 ∷ 49 ∷ []) ∷ Taken 1 (7 ∷ []) ∷ Stored (50 ∷ []) ∷ Held 1 ∷ []) ≡ 48 ∷ 49 ∷ 50 ∷ []
+unfolding stored_of stored_at
+stored_in_order = refl
 
 -- a hold ends with a release, and with a hang-up
 released : is_held 1 (Held 1 ∷ Released 2 ∷ Released 1 ∷ []) ≡ false

@@ -3,7 +3,7 @@ use Rattle.std.specs.Prelude.{ℕ, ◌==◌, Bool, true, false, ◌||◌, List, 
 use Rattle.wire_io.specs.declared.journal.Event.{Event}
 use Rattle.wire_io.specs.declared.journal.Event.TheVariants.{Opened, Stop}
 use Rattle.wire_io.specs.declared.journal.Item.{Item}
-use Rattle.wire_io.specs.declared.journal.Item.TheVariants.{Heard, Taken, Held, Released, HungUp}
+use Rattle.wire_io.specs.declared.journal.Item.TheVariants.{Heard, Taken, Held, Released, HungUp, Stored}
 
 -- the events heard, in order
 unfoldable pub heard : List Item → List Event
@@ -46,6 +46,16 @@ taken_at conn _ = []
 unfoldable pub taken_of : ℕ → List Item → List ℕ
 taken_of conn [] = []
 taken_of conn (item ∷ journal) = taken_at conn item ++ taken_of conn journal
+
+-- the octets that an item stored
+unfoldable pub stored_at : Item → List ℕ
+stored_at (Stored octets) = octets
+stored_at _ = []
+
+-- all octets that are in the store, in order
+unfoldable pub stored_of : List Item → List ℕ
+stored_of [] = []
+stored_of (item ∷ journal) = stored_at item ++ stored_of journal
 
 -- the item hangs up the connection
 unfoldable pub hangs_up : ℕ → Item → Bool

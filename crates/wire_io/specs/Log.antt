@@ -6,7 +6,7 @@ use Rattle.wire_io.specs.declared.journal.Event.TheVariants as event
 use Rattle.wire_io.specs.declared.journal.Item.{Item}
 use Rattle.wire_io.specs.declared.journal.Item.TheVariants as item
 use Rattle.wire_io.specs.declared.log.Note.{Note}
-use Rattle.wire_io.specs.declared.log.Note.TheVariants.{Came, Ready, Taken, Later, Gone, Held, Released, HungUp, Apart}
+use Rattle.wire_io.specs.declared.log.Note.TheVariants.{Came, Ready, Taken, Later, Gone, Held, Released, HungUp, Stored, Apart}
 use Rattle.wire_io.specs.declared.log.NoteRow.{NoteRow}
 
 -- the items, and for how many rows and octets more there is room
@@ -27,6 +27,7 @@ item_of Gone conn octets = item.Gone conn ∷ []
 item_of Held conn octets = item.Held conn ∷ []
 item_of Released conn octets = item.Released conn ∷ []
 item_of HungUp conn octets = item.HungUp conn ∷ []
+item_of Stored conn octets = item.Stored octets ∷ []
 item_of Apart conn octets = []
 
 -- how many items of a note are kept apart
@@ -39,6 +40,7 @@ apart_in Gone = 0
 apart_in Held = 0
 apart_in Released = 0
 apart_in HungUp = 0
+apart_in Stored = 0
 apart_in Apart = 1
 
 -- the items of the rows
@@ -64,4 +66,5 @@ IsQuietNote Gone = Unit {0}
 IsQuietNote Held = ⊥
 IsQuietNote Released = ⊥
 IsQuietNote HungUp = ⊥
+IsQuietNote Stored = Unit {0}
 IsQuietNote Apart = ⊥

@@ -9,13 +9,13 @@ use Rattle.wire_io.specs.declared.answers.NextFault.TheVariants.{Failed, NoMemor
 use Rattle.wire_io.specs.declared.answers.Took.{Took}
 use Rattle.wire_io.specs.declared.answers.Took.TheVariants as took
 use Rattle.wire_io.specs.declared.journal.Item.{Item}
-use Rattle.wire_io.specs.declared.journal.Item.TheVariants.{OpenedAt, Taken, Later, Gone}
+use Rattle.wire_io.specs.declared.journal.Item.TheVariants.{OpenedAt, Taken, Later, Gone, StoreOpened, Stored}
 use Rattle.wire_io.specs.Journal.{was_opened, was_stopped}
 use Rattle.wire_io.specs.MemoryForms.{is_listed}
 use Rattle.wire_io.specs.link.Plan.{Plan}
 
--- the journal and the plan, how many calls of `open` and `next` and of `write` there were, and the counts
--- of faults and of lost connections
+-- the journal and the plan, how many calls of `open`, `next`, `open_store` and `store` and of `write` there were, and
+-- the counts of faults and of lost connections
 pub record LinkState : Type 0 where
   pub journal : List Item
   pub plan : Plan
@@ -52,6 +52,22 @@ LinkOpens old address sessions (Ok answer) new = (is_listed old.calls old.plan.f
 LinkOpens old address sessions (Err Failed) new = (is_listed old.calls old.plan.failing ≡ true)
     × (new ≡ record (with_item old (OpenedAt address sessions false)) { calls = next_count old.calls; faults = next_count old.faults })
 LinkOpens old address sessions (Err NoMemory) new = new ≡ record old { calls = next_count old.calls }
+
+-- so does `open_store`
+unfoldable pub LinkOpensStore : LinkState → List ℕ → ℕ → Result (Unit {0}) NextFault → LinkState → Type 0
+LinkOpensStore old name length (Ok answer) new = (is_listed old.calls old.plan.failing ≡ false)
+    × (new ≡ record (with_item old (StoreOpened name length true)) { calls = next_count old.calls })
+LinkOpensStore old name length (Err Failed) new = (is_listed old.calls old.plan.failing ≡ true)
+    × (new ≡ record (with_item old (StoreOpened name length false)) { calls = next_count old.calls; faults = next_count old.faults })
+LinkOpensStore old name length (Err NoMemory) new = new ≡ record old { calls = next_count old.calls }
+
+-- `store` fails exactly at a listed call, and then appends nothing; nor after want of memory
+unfoldable pub LinkStores : LinkState → List ℕ → Result (Unit {0}) NextFault → LinkState → Type 0
+LinkStores old octets (Ok answer) new = (is_listed old.calls old.plan.failing ≡ false)
+    × (new ≡ record (with_item old (Stored octets)) { calls = next_count old.calls })
+LinkStores old octets (Err Failed) new = (is_listed old.calls old.plan.failing ≡ true)
+    × (new ≡ record old { calls = next_count old.calls; faults = next_count old.faults })
+LinkStores old octets (Err NoMemory) new = (is_listed old.calls old.plan.failing ≡ false) × (new ≡ record old { calls = next_count old.calls })
 
 -- `next` fails exactly at a listed call, and then nothing else changes; nor after want of memory
 unfoldable pub LinkHears : {T : Type 0} → LinkState → Result T NextFault → LinkState → Type 0

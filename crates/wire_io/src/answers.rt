@@ -37,7 +37,7 @@ pub enum PutFault {
     NoMemory,
 }
 
-/// Why a link did not open, or gave no event.
+/// Why a link did not open, gave no event, or stored nothing that is sure.
 #[derive(Clone, Copy, Debug, PartialEq, Error)]
 pub enum NextFault {
     /// The link failed; its count of faults rose.

@@ -38,4 +38,8 @@ pub enum Item {
     Released(u32),
     /// The connection was hung up.
     HungUp(u32),
+    /// The store of this name was to be opened and cut to so many octets, and was (true) or failed.
+    StoreOpened(Text, u64, bool),
+    /// The octets were appended to the store, and are on the disk.
+    Stored(Octets),
 }

@@ -3,7 +3,7 @@
 ghost use Rattle.std.specs.Prelude.{◌≡◌, ◌<◌, length, IfOk};
 ghost use Rattle.plain_values.specs.Counts.{NeverFalls};
 ghost use Rattle.wire_io.specs.Answers.{HeardFits, TookFits, LinkCause, WriteCause};
-ghost use Rattle.wire_io.specs.link.Telling.{OpenTells, NextTells, TookTells, NoteTells};
+ghost use Rattle.wire_io.specs.link.Telling.{OpenTells, StoreOpenTells, NextTells, TookTells, NoteTells};
 ghost use Rattle.wire_io.specs.Playing.{NextPlays};
 
 use crate::{Heard, Item, NextFault, NoMemory, Took};
@@ -39,6 +39,25 @@ pub trait Link {
     /// after `NoMemory` nothing was done.
     fn open(&mut self, address: &str, sessions: u64) -> Result<(), NextFault>
         ensures tells { OpenTells (journal self.old) address.now sessions result (journal self.new) }
+        ensures cause { LinkCause (plan self.old) (faults self.old) (faults self.new) result }
+        // what stays
+        ensures plan { plan self.new ≡ plan self.old }
+        ensures lost { NeverFalls (lost self.old) (lost self.new) };
+
+    /// From now on `store` appends to the file of this name, which is cut to so many octets; a file that
+    /// isn't there is made. `Failed` is a fault, and is counted; after `NoMemory` nothing was done.
+    fn open_store(&mut self, name: &str, length: u64) -> Result<(), NextFault>
+        ensures tells { StoreOpenTells (journal self.old) name.now length result (journal self.new) }
+        ensures cause { LinkCause (plan self.old) (faults self.old) (faults self.new) result }
+        // what stays
+        ensures plan { plan self.new ≡ plan self.old }
+        ensures lost { NeverFalls (lost self.old) (lost self.new) };
+
+    /// Appends the octets to the store; with Ok all of them are on the disk before the call returns.
+    /// After `Failed`, a fault, which is counted, a front of them may be there; after `NoMemory` nothing
+    /// was done.
+    fn store(&mut self, octets: &[u8]) -> Result<(), NextFault>
+        ensures tells { NoteTells (journal self.old) (Item.Stored octets.now) result (journal self.new) }
         ensures cause { LinkCause (plan self.old) (faults self.old) (faults self.new) result }
         // what stays
         ensures plan { plan self.new ≡ plan self.old }

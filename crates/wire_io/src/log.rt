@@ -20,6 +20,8 @@ pub(crate) enum Note {
     Held,
     Released,
     HungUp,
+    // the row's connection is 0
+    Stored,
     // the item is kept apart, and the row's connection is 0
     Apart,
 }

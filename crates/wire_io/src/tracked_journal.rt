@@ -196,6 +196,20 @@ impl TrackedJournal {
         self.note_apart(Item::OpenedAt(address, sessions, done))
     }
 
+    /// The store was to be opened.
+    pub(crate) fn open_store(
+        &mut self,
+        name: &str,
+        length: u64,
+        done: bool,
+    ) -> Result<(), AllocError>
+        ensures ok { OnOk result (self.new ≡ self.old ++ Item.StoreOpened name.now length done ∷ []) }
+        ensures err { OnErr result (self.new ≡ self.old) }
+    {
+        let name = Text::from_string(String::from_str(self.alloc, name)?);
+        self.note_apart(Item::StoreOpened(name, length, done))
+    }
+
     #[tactic(auto, unfolding(crate::specs::link::Telling::event_of))]
     /// The event was heard, with octets at the front of the buffer.
     pub(crate) fn hear(&mut self, heard: Heard, buf: &[u8]) -> Result<(), AllocError>

@@ -2,8 +2,8 @@
 use Rattle.std.proofs.Common.{◌≡◌, ℕ, Bool, true, false, List, [], ◌∷◌, ◌++◌, ◌||◌, refl, ap, sym, ◌∙◌, append_assoc, append-nil}
 use Rattle.wire_io.specs.declared.journal.Event.TheVariants.{Opened, Bytes, Ended, Ready, Idle, Stop}
 use Rattle.wire_io.specs.declared.journal.Item.{Item}
-use Rattle.wire_io.specs.declared.journal.Item.TheVariants.{Heard, OpenedAt, Taken, Later, Gone, Held, Released, HungUp}
-use Rattle.wire_io.specs.Journal.{opened_by, opens, was_opened, stops, was_stopped, taken_at, taken_of, hangs_up, is_hung_up, hold_after, hold_after_all, is_held}
+use Rattle.wire_io.specs.declared.journal.Item.TheVariants.{Heard, OpenedAt, Taken, Later, Gone, Held, Released, HungUp, StoreOpened, Stored}
+use Rattle.wire_io.specs.Journal.{opened_by, opens, was_opened, stops, was_stopped, taken_at, taken_of, stored_at, stored_of, hangs_up, is_hung_up, hold_after, hold_after_all, is_held}
 
 -- a test of either of two, and then a third
 or_assoc : (first second third : Bool) → (first || second) || third ≡ first || (second || third)
@@ -24,6 +24,13 @@ unfolding taken_of
 taken_of-push conn [] item = append-nil (taken_at conn item)
 taken_of-push conn (first ∷ journal) item =
     ap (λ rest. taken_at conn first ++ rest) (taken_of-push conn journal item) ∙ sym (append_assoc (taken_at conn first) (taken_of conn journal) (taken_at conn item))
+
+-- the octets stored with one more item
+pub stored_of-push : (journal : List Item) (item : Item) → stored_of (journal ++ item ∷ []) ≡ stored_of journal ++ stored_at item
+unfolding stored_of
+stored_of-push [] item = append-nil (stored_at item)
+stored_of-push (first ∷ journal) item =
+    ap (λ rest. stored_at first ++ rest) (stored_of-push journal item) ∙ sym (append_assoc (stored_at first) (stored_of journal) (stored_at item))
 
 -- hung up, with one more item
 pub is_hung_up-push : (conn : ℕ) (journal : List Item) (item : Item) → is_hung_up conn (journal ++ item ∷ []) ≡ is_hung_up conn journal || hangs_up conn item
@@ -75,6 +82,8 @@ opened_by-opened (Gone number ∷ journal) conn = opened_by-opened journal conn
 opened_by-opened (Held number ∷ journal) conn = opened_by-opened journal conn
 opened_by-opened (Released number ∷ journal) conn = opened_by-opened journal conn
 opened_by-opened (HungUp number ∷ journal) conn = opened_by-opened journal conn
+opened_by-opened (StoreOpened name length done ∷ journal) conn = opened_by-opened journal conn
+opened_by-opened (Stored octets ∷ journal) conn = opened_by-opened journal conn
 
 -- the item opens no connection
 pub opened_by-other : (journal : List Item) (item : Item) → opened_by (item ∷ []) ≡ [] → opened_by (journal ++ item ∷ []) ≡ opened_by journal
@@ -93,3 +102,5 @@ opened_by-other (Gone number ∷ journal) item none = opened_by-other journal it
 opened_by-other (Held number ∷ journal) item none = opened_by-other journal item none
 opened_by-other (Released number ∷ journal) item none = opened_by-other journal item none
 opened_by-other (HungUp number ∷ journal) item none = opened_by-other journal item none
+opened_by-other (StoreOpened name length done ∷ journal) item none = opened_by-other journal item none
+opened_by-other (Stored octets ∷ journal) item none = opened_by-other journal item none

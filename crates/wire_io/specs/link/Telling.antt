@@ -9,7 +9,7 @@ use Rattle.wire_io.specs.declared.answers.NextFault.TheVariants.{Failed, NoMemor
 use Rattle.wire_io.specs.declared.journal.Event.{Event}
 use Rattle.wire_io.specs.declared.journal.Event.TheVariants.{Opened, Bytes, Ended, Ready, Idle, Stop}
 use Rattle.wire_io.specs.declared.journal.Item.{Item}
-use Rattle.wire_io.specs.declared.journal.Item.TheVariants.{Heard, OpenedAt, Taken, Later, Gone}
+use Rattle.wire_io.specs.declared.journal.Item.TheVariants.{Heard, OpenedAt, Taken, Later, Gone, StoreOpened}
 use Rattle.wire_io.specs.Journal.{was_opened, was_stopped, is_on_hold}
 
 -- the event of an answer, whose octets stand at the front of the buffer
@@ -31,6 +31,12 @@ unfoldable pub OpenTells : {T : Type 0} → Option (List Item) → List ℕ → 
 OpenTells old address sessions (Ok answer) new = new ≡ noted old (OpenedAt address sessions true)
 OpenTells old address sessions (Err Failed) new = new ≡ noted old (OpenedAt address sessions false)
 OpenTells old address sessions (Err NoMemory) new = new ≡ old
+
+-- so is `open_store`
+unfoldable pub StoreOpenTells : {T : Type 0} → Option (List Item) → List ℕ → ℕ → Result T NextFault → Option (List Item) → Type 0
+StoreOpenTells old name length (Ok answer) new = new ≡ noted old (StoreOpened name length true)
+StoreOpenTells old name length (Err Failed) new = new ≡ noted old (StoreOpened name length false)
+StoreOpenTells old name length (Err NoMemory) new = new ≡ old
 
 -- the event may come after what was done: a number is opened once, no octets come on hold
 unfoldable pub MayCome : List Item → Event → Type 0
