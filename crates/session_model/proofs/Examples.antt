@@ -22,7 +22,7 @@ said : List ℕ → List ℕ
 said message = cond (closes_on message) [] message
 
 echo : Rules (Unit {0}) ℕ
-echo = record { nobody = 7; answer = λ t who message. record { replies = said message; tree = t; who = who; closes = closes_on message } }
+echo = record { nobody = 7; answer = λ t who message. record { replies = said message; changes = []; tree = t; who = who; closes = closes_on message } }
 
 -- the reply and the state of a connection after steps
 reply_after : ℕ → List Step → List ℕ
@@ -70,7 +70,7 @@ unfolding state_after run_from step start held_numbers
 ended_then = refl
 
 -- what a server keeps: the front of a message, and no octets of one that was answered
-kept_front : (heard echo (Bytes 1 (0x30 ∷ 1 ∷ 5 ∷ 0x30 ∷ []) None) (heard echo (Opened 1) (record { tree = tt; kept = []; was_cut = false }))).kept
+kept_front : (heard echo (Bytes 1 (0x30 ∷ 1 ∷ 5 ∷ 0x30 ∷ []) None) (heard echo (Opened 1) (record { tree = tt; kept = []; was_cut = false; unstored = [] }))).kept
     ≡ record { number = 1; rest = 0x30 ∷ []; who = 7; queue = 0x30 ∷ 1 ∷ 5 ∷ []; closing = false; cut = None } ∷ []
 unfolding heard speech echo said closes_on talk whole whole_of frame_at framed header_at length_at is_broken rest_of rest_behind
 kept_front = refl

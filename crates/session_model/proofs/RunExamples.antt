@@ -11,8 +11,8 @@ use Rattle.session_model.specs.Purging.{purged, openings, finds_room, finds_room
 
 answer_of : ℕ → ℕ → List ℕ → Answered ℕ ℕ
 answer_of count who message =
-    cond (length message == 2) (record { replies = []; tree = count + 1; who = who; closes = false })
-    (record { replies = cond (length message == 3) message (count ∷ []); tree = count; who = who; closes = false })
+    cond (length message == 2) (record { replies = []; changes = count ∷ []; tree = count + 1; who = who; closes = false })
+    (record { replies = cond (length message == 3) message (count ∷ []); changes = []; tree = count; who = who; closes = false })
 
 counting : Rules ℕ ℕ
 counting = record { nobody = 0; answer = answer_of }
@@ -56,6 +56,11 @@ told_among_all = refl
 told_alone : ((run counting 7 (purged 2 steps)).of 2).reply ≡ 0x30 ∷ 1 ∷ 5 ∷ 7 ∷ []
 unfolding run_from start step counting answer_of talk whole whole_of frame_at framed header_at length_at is_broken rest_of rest_behind held_numbers
 told_alone = refl
+
+-- the changes of all connections, in their order, and not those behind a cut
+changed_by_all : (run counting 7 (Opened 1 ∷ Opened 2 ∷ Bytes 1 (0x30 ∷ 0 ∷ 0x30 ∷ 0 ∷ []) None ∷ Bytes 2 (0x30 ∷ 0 ∷ 0x30 ∷ 0 ∷ []) (Some 1) ∷ Bytes 1 counts None ∷ [])).changes ≡ 7 ∷ 8 ∷ 9 ∷ 10 ∷ []
+unfolding run_from start step counting answer_of talk whole whole_of frame_at framed header_at length_at is_broken rest_of rest_behind held_numbers
+changed_by_all = refl
 
 -- a message behind a cut isn't answered
 cut_behind : answered_of_run counting (start counting 7) (Opened 1 ∷ Bytes 1 (0x30 ∷ 1 ∷ 5 ∷ 0x30 ∷ 0 ∷ []) (Some 1) ∷ [])

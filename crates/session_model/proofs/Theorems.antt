@@ -9,6 +9,9 @@ pub use Rattle.session_model.proofs.laws.SpeechLemmas.{one_later, speech-whole, 
 pub use Rattle.session_model.proofs.laws.JoinedLemmas.{talk-append, pieces-join}
 -- what each answer keeps true of a tree, through all steps, at each place, and of each message that is answered
 pub use Rattle.session_model.proofs.laws.ClaimLemmas.{step_claim, step_and_hang_up_claim, run_claim, replayed_claim, places_claim, replay_places_claim, connection_claim, replay_connection_claim}
+-- what each answer keeps true of a tree and of all changes so far, and of what octets messages are made
+pub use Rattle.session_model.proofs.laws.ChangesLemmas.{step_extends, run_extends, replayed_extends}
+pub use Rattle.session_model.proofs.laws.OctetsLemmas.{run_brings}
 -- from block to block
 pub use Rattle.session_model.proofs.laws.TrackLemmas.{works_start}
 pub use Rattle.session_model.proofs.laws.EventLemmas.{works_bytes, works_ended, works_idle}
@@ -18,6 +21,7 @@ pub use Rattle.session_model.proofs.laws.ItemLemmas.{works_as, works_taken, work
 pub use Rattle.session_model.proofs.laws.LostLemmas.{lost_leads, lost_hung_up}
 -- what a journal then is
 pub use Rattle.session_model.proofs.laws.ReplayLemmas.{works_leads, works_served, works_free, works_replayed, own_steps, events_of}
+pub use Rattle.session_model.proofs.laws.StoredLemmas.{works_stored, works_stored_front, stored_before, stored_front, changes-step}
 pub use Rattle.session_model.proofs.laws.JournalLemmas.{all_taken-one, was_opened-append, all_taken-both}
 pub use Rattle.session_model.proofs.laws.BytesLemmas.{new_messages-are}
 pub use Rattle.session_model.proofs.laws.StepLemmas.{with_session-same}

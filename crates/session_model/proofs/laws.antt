@@ -27,3 +27,6 @@ pub mod LeftLemmas
 pub mod PieceLemmas
 pub mod NextLemmas
 pub mod OnceLemmas
+pub mod StoredLemmas
+pub mod ChangesLemmas
+pub mod OctetsLemmas

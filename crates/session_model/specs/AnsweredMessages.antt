@@ -16,6 +16,7 @@ pub record AnsweredMessage (T W : Type 0) : Type 0 where
 -- two answers, each over a tree of its own, are the same, and each leaves its tree as it was
 pub record AreAlike {T W : Type 0} (one other : T) (first second : Answered T W) : Type 0 where
   pub replies : first.replies ≡ second.replies
+  pub changes : first.changes ≡ second.changes
   pub who : first.who ≡ second.who
   pub closes : first.closes ≡ second.closes
   pub one_stays : first.tree ≡ one

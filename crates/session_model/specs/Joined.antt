@@ -5,12 +5,13 @@ use Rattle.session_model.specs.Run.{Sessions, Open}
 
 -- what was said, and then, where it doesn't close, what is said next
 abbrev pub and_then : {T W : Type 0} → Answered T W → Answered T W → Answered T W
-and_then first next = cond first.closes first (after_octets first.replies next)
+and_then first next = cond first.closes first (after_octets first.replies first.changes next)
 
 -- two runs leave the same but for the octets heard from one connection that isn't open any more: a piece behind the end of
 -- all answers isn't heard
 pub record LeavesAlike {T W : Type 0} (number : ℕ) (sessions others : Sessions T W) : Type 0 where
   pub tree : sessions.tree ≡ others.tree
+  pub changes : sessions.changes ≡ others.changes
   pub opened : sessions.opened ≡ others.opened
   pub who : (sessions.of number).who ≡ (others.of number).who
   pub reply : (sessions.of number).reply ≡ (others.of number).reply

@@ -57,11 +57,12 @@ abbrev pub forgotten : {W : Type 0} → ℕ → List (Kept W) → List (Kept W)
 forgotten number [] = []
 forgotten number (connection ∷ connections) = cond (connection.number == number) (forgotten number connections) (connection ∷ forgotten number connections)
 
--- the tree, the connections held, and whether any connection was cut so far
+-- the tree, the connections held, whether any connection was cut so far, and the octets of changes that aren't stored yet
 pub record Held (T W : Type 0) : Type 0 where
   pub tree : T
   pub kept : List (Kept W)
   pub was_cut : Bool
+  pub unstored : List ℕ
 
 -- whether there is a cut
 abbrev pub is_cut : Option ℕ → Bool
@@ -99,9 +100,14 @@ module _ {T W : Type 0} (rules : Rules T W) where
   hears_kept (Some connection) number piece cut held =
       let answered = speech cut held.tree connection.who (connection.rest ++ piece) in
       cond connection.closing held
-      (record { tree = answered.tree; kept = changed number (λ _. heard_piece piece cut connection answered) held.kept; was_cut = held.was_cut || is_cut cut })
+      (record {
+        tree = answered.tree;
+        kept = changed number (λ _. heard_piece piece cut connection answered) held.kept;
+        was_cut = held.was_cut || is_cut cut;
+        unstored = held.unstored ++ answered.changes;
+      })
 
-  -- what a step leaves of the connections held, and of the tree
+  -- what a step leaves of the connections held, of the tree, and of what isn't stored
   unfoldable pub heard : Step → Held T W → Held T W
   heard (Opened number) held =
       record held { kept = cond (is_kept (kept_of number held.kept) || not (nat_lt (length held.kept) most_held)) held.kept (held.kept ++ opened_kept number ∷ []) }

@@ -11,6 +11,7 @@ pub mod Working
 pub mod AnsweredMessages
 pub mod Purging
 pub mod Places
+pub mod Hearing
 -- the words of crates below, handed on
 pub use Rattle.wire_io.specs as wire_io
 pub use Rattle.wire_io.specs.script_text as script_text

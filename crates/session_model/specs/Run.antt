@@ -28,9 +28,10 @@ pub record Session (W : Type 0) : Type 0 where
   pub state : State
   pub cut : Option ℕ
 
--- the tree, the numbers opened in their order, and the session of each number
+-- the tree, the octets of all changes so far, the numbers opened in their order, and the session of each number
 pub record Sessions (T W : Type 0) : Type 0 where
   pub tree : T
+  pub changes : List ℕ
   pub opened : List ℕ
   pub of : ℕ → Session W
 
@@ -73,6 +74,7 @@ module _ {T W : Type 0} (rules : Rules T W) where
   unfoldable pub start : T → Sessions T W
   start tree = record {
     tree = tree;
+    changes = [];
     opened = [];
     of = λ _. record { stream = []; who = rules.nobody; reply = []; state = Unopened; cut = None };
   }
@@ -85,6 +87,7 @@ module _ {T W : Type 0} (rules : Rules T W) where
       let answered = said rules cut sessions.tree session.who (new_messages session.stream piece) (is_broken (session.stream ++ piece)) in
       record {
         tree = answered.tree;
+        changes = sessions.changes ++ answered.changes;
         opened = sessions.opened;
         of = with_session number
             (record {

@@ -1,12 +1,13 @@
--- When a link's journal serves its connections: nothing is sent but replies, nothing is left unsent but to a connection
--- on hold that takes no more now, and each connection is hung up in its own block, a block being an event and what is
--- done until the next.
+-- When a link's journal serves its connections: nothing is sent but replies, and none while a change isn't stored; nothing is
+-- left unsent but to a connection on hold that takes no more now, and each connection is hung up in its own block, a block
+-- being an event and what is done until the next.
 use Rattle.std.specs.Prelude.{◌≡◌, ◌≢◌, ℕ, true, false, List, [], ◌∷◌, ◌++◌, drop, length}
 use Rattle.wire_io.specs.declared.journal.Item.{Item}
 use Rattle.wire_io.specs.declared.journal.Item.TheVariants as item
-use Rattle.wire_io.specs.Journal.{taken_of, is_hung_up, is_held}
+use Rattle.wire_io.specs.Journal.{taken_of, stored_of, is_hung_up, is_held}
 use Rattle.session_model.specs.Rules.{Rules}
-use Rattle.session_model.specs.Run.{Session, State, Open, Closing, TurnedAway, Away, Unopened, Step, run}
+use Rattle.session_model.specs.Run.{Session, Sessions, State, Open, Closing, TurnedAway, Away, Unopened, Step, run}
+use Rattle.session_model.specs.Run as session
 use Rattle.session_model.specs.Journaled.{StepsOf, CutOnce, WasLater, AtEachMoment, AtEachItem}
 
 -- what of a session's reply the journal's link hasn't taken
@@ -39,6 +40,25 @@ MayHangUp Unopened journal number session = ⊥
 MayHangUp TurnedAway journal number session = Unit {0}
 MayHangUp Away journal number session = is_hung_up number journal ≡ false
 
+-- a connection that the link is asked to write to, or to put on hold, has a place in the server
+abbrev pub IsServed : {T W : Type 0} → Sessions T W → ℕ → Type 0
+IsServed sessions number = session.is_held (sessions.of number).state ≡ true
+
+-- octets of a reply are taken where every change is stored that was made so far, and where the connection has a place
+pub record MayBeTaken {T W : Type 0} (sessions : Sessions T W) (journal : List Item) (number : ℕ) : Type 0 where
+  pub stored : stored_of journal ≡ sessions.changes
+  pub served : IsServed sessions number
+
+-- what the journal's link stored is a front of the changes
+pub record IsStoredFront {T W : Type 0} (sessions : Sessions T W) (journal : List Item) : Type 0 where
+  pub rest : List ℕ
+  pub joins : sessions.changes ≡ stored_of journal ++ rest
+
+-- octets that are stored are the next of the changes
+pub record MayBeStored {T W : Type 0} (sessions : Sessions T W) (journal : List Item) (octets : List ℕ) : Type 0 where
+  pub rest : List ℕ
+  pub next : sessions.changes ≡ (stored_of journal ++ octets) ++ rest
+
 module _ {T W : Type 0} (rules : Rules T W) (tree : T) where
   -- all that was taken was a reply, in its order
   unfoldable pub AreFronts : List Step → List Item → Type 0
@@ -48,16 +68,19 @@ module _ {T W : Type 0} (rules : Rules T W) (tree : T) where
   unfoldable pub IsSettled : List Step → List Item → Type 0
   IsSettled steps journal = (number : ℕ) → let session = (run rules tree steps).of number in Stands session.state journal number session
 
-  -- an event is heard where all is settled, a connection hung up where it may be, and no address is opened
+  -- an event is heard where all is settled, octets are taken where all changes are stored, a connection is written to and held
+  -- where it has a place and hung up where it may be, what is stored is the next of the changes, and nothing is opened
   unfoldable pub Rightly : List Step → List Item → Item → Type 0
   Rightly steps journal (item.Heard event) = IsSettled steps journal
   Rightly steps journal (item.HungUp number) = let session = (run rules tree steps).of number in MayHangUp session.state journal number session
   Rightly steps journal (item.OpenedAt address count ok) = ⊥
-  Rightly steps journal (item.Taken number octets) = Unit {0}
-  Rightly steps journal (item.Later number) = Unit {0}
-  Rightly steps journal (item.Gone number) = Unit {0}
-  Rightly steps journal (item.Held number) = Unit {0}
+  Rightly steps journal (item.Taken number octets) = MayBeTaken (run rules tree steps) journal number
+  Rightly steps journal (item.Later number) = IsServed (run rules tree steps) number
+  Rightly steps journal (item.Gone number) = IsServed (run rules tree steps) number
+  Rightly steps journal (item.Held number) = IsServed (run rules tree steps) number
   Rightly steps journal (item.Released number) = Unit {0}
+  Rightly steps journal (item.StoreOpened name length ok) = ⊥
+  Rightly steps journal (item.Stored octets) = MayBeStored (run rules tree steps) journal octets
 
   -- the journal serves by these steps, but that its last block may be unfinished
   pub record Sound (steps : List Step) (journal : List Item) : Type 0 where

@@ -2,7 +2,7 @@
 use Rattle.std.specs.Prelude.{◌≡◌, ◌≢◌, ◌≤◌, ℕ, Bool, true, false, cond, not, List, [], ◌∷◌, ◌++◌, length, filter, Option, Some, None}
 use Rattle.wire_io.specs.declared.journal.Item.{Item}
 use Rattle.wire_io.specs.declared.journal.Item.TheVariants as item
-use Rattle.wire_io.specs.Journal.{taken_of, is_hung_up, is_held, was_opened}
+use Rattle.wire_io.specs.Journal.{taken_of, stored_of, is_hung_up, is_held, was_opened}
 use Rattle.session_model.specs.Rules.{Rules}
 use Rattle.session_model.specs.Run.{Session, Sessions, State, Open, Closing, TurnedAway, Away, Unopened, Step}
 use Rattle.session_model.specs.Run as run
@@ -56,10 +56,11 @@ pub record Covers (numbers others : List ℕ) : Type 0 where
   pub covers : (number : ℕ) → is_listed number numbers ≡ false → is_listed number others ≡ false
 
 module _ {T W : Type 0} (rules : Rules T W) (tree : T) where
-  -- the journal is right so far, and what is held is what its sessions show
+  -- the journal is right so far, and what is held is what its sessions show, and what of their changes isn't stored
   pub record Tracks (steps : List Step) (current : Sessions T W) (held : Held T W) (on_hold : List ℕ) (journal : List Item) : Type 0 where
     pub is : run.run rules tree steps ≡ current
     pub keeps : Keeps current (λ number. length (taken_of number journal)) held
+    pub unstored : current.changes ≡ stored_of journal ++ held.unstored
     pub holds : (number : ℕ) → is_held number journal ≡ is_listed number on_hold
     pub opened : (number : ℕ) → was_opened number journal ≡ is_listed number current.opened
     pub fresh : (number : ℕ) → is_listed number current.opened ≡ false → (current.of number).state ≡ Unopened

@@ -3,18 +3,19 @@
 
 ghost use Rattle.std.specs.Prelude.{◌≡◌, ◌≢◌, ◌≤◌, ◌+◌, ◌-◌, ◌++◌, ◌∷◌, [], ℕ, length, take, cond, List, filter, Some, None, Bool, true, false, Option};
 ghost use Rattle.wire_io.specs.declared.journal.Item.{Item};
-ghost use Rattle.wire_io.specs.Journal.{heard as heard_events};
-ghost use Rattle.session_model.specs.Rules.{Rules, talk, said, up_to};
+ghost use Rattle.wire_io.specs.Journal.{heard as heard_events, stored_of};
+ghost use Rattle.session_model.specs.Rules.{Rules, AnswersExtend, talk, said, up_to};
 ghost use Rattle.session_model.specs.ldap_msg.declared.kinds.Frame.TheVariants.{Whole};
 ghost use Rattle.session_model.specs.ldap_msg.Streams.{frame_at};
 ghost use Rattle.session_model.specs.Run.{Sessions, Step, Open, Bytes, step, start, run, new_messages};
 ghost use Rattle.session_model.specs.Kept.{Kept, Held, heard, taken_off, kept_of, closing_of, forgotten};
 ghost use Rattle.session_model.specs.Keeping.{Keeps, IsNew, more_taken};
 ghost use Rattle.session_model.specs.Journaled.{StepsOf, HasNoCut, steps_of, steps_of_events, is_event};
+ghost use Rattle.session_model.specs.Hearing.{BringOnly};
 ghost use Rattle.session_model.specs.Joined.{and_then, LeavesAlike};
 ghost use Rattle.std.specs.List.{AllByRecursion};
 ghost use Rattle.session_model.specs.Replaying.{number_of, replayed, hung_up, step_and_hang_up};
-ghost use Rattle.session_model.specs.Serving.{Sound, Served, IsFront};
+ghost use Rattle.session_model.specs.Serving.{Sound, Served, IsFront, IsStoredFront};
 ghost use Rattle.session_model.specs.AnsweredMessages.{AreAlike, AreOver, AreHeldOver, IsAnsweredAlike, over, held_over, answered_messages, answered_of_step, answered_of_run, answered_of_replay, answered_of_held};
 ghost use Rattle.session_model.specs.Purging.{purged, openings, finds_room, answered_of_connection, finds_room_in_replay, answered_in_replay};
 ghost use Rattle.session_model.specs.Places.{CompletesOne, IsPassing, asker_of, asker_in, passes, places, places_of_replay, places_of_step, standing, standing_behind};
@@ -130,6 +131,49 @@ pub fn a_journal_serves_alike<T, W>()
     ensures sound { (rules : Rules T W) (one other : T) (steps : List Step) (journal : List Item) →
         AllByRecursion (IsAnsweredAlike rules other) (answered_of_run rules (start rules one) steps) →
         Sound rules one steps journal → Sound rules other steps journal }
+{}
+
+/// No octets of a reply leave while a change isn't stored that was made before: wherever they are taken, what was stored is
+/// all changes so far.
+pub fn nothing_is_taken_before_it_is_stored<T, W>()
+    ensures exact { (rules : Rules T W) (tree : T) (steps : List Step) (journal : List Item) → Sound rules tree steps journal →
+        (early late : List Step) (front back : List Item) (number : ℕ) (octets : List ℕ) →
+        steps ≡ early ++ late → journal ≡ front ++ Item.Taken number octets ∷ back → StepsOf front early →
+        stored_of front ≡ (run rules tree early).changes }
+{}
+
+/// At each moment what was stored is a front of the changes so far, in their order and with nothing else in it.
+pub fn what_is_stored_is_a_front_of_the_changes<T, W>()
+    ensures exact { (rules : Rules T W) (tree : T) (steps : List Step) (journal : List Item) → Sound rules tree steps journal →
+        (early late : List Step) (front back : List Item) →
+        steps ≡ early ++ late → journal ≡ front ++ back → StepsOf front early → IsStoredFront (run rules tree early) front }
+{}
+
+/// What a server holds tells at each step which of the changes aren't stored yet.
+pub fn keeps_what_is_not_stored<T, W>()
+    ensures exact { (rules : Rules T W) (sessions : Sessions T W) (taken : ℕ → ℕ) (held : Held T W) (next : Step) (stored : List ℕ) →
+        Keeps sessions taken held → sessions.changes ≡ stored ++ held.unstored →
+        (step rules sessions next).changes ≡ stored ++ (heard rules next held).unstored }
+{}
+
+/// A test of the tree and of all changes so far that each answer keeps, of messages that are allowed, is passed at the end of
+/// a run whose messages are allowed, and where events are replayed.
+pub fn what_answers_keep_of_changes_a_run_keeps<T, W>()
+    ensures run { (rules : Rules T W) (allowed : List ℕ → Bool) (test : T → List ℕ → Bool) (tree : T) (steps : List Step) →
+        AnswersExtend rules (λ message. allowed message ≡ true) (λ left changes. test left changes ≡ true) →
+        AllByRecursion (λ asked. allowed asked.message ≡ true) (answered_of_run rules (start rules tree) steps) →
+        test tree [] ≡ true → test (run rules tree steps).tree (run rules tree steps).changes ≡ true }
+    ensures replay { (rules : Rules T W) (allowed : List ℕ → Bool) (test : T → List ℕ → Bool) (tree : T) (events : List Step) →
+        AnswersExtend rules (λ message. allowed message ≡ true) (λ left changes. test left changes ≡ true) →
+        AllByRecursion (λ asked. allowed asked.message ≡ true) (answered_of_replay rules (start rules tree) events) →
+        test tree [] ≡ true → test (replayed rules tree events).tree (replayed rules tree events).changes ≡ true }
+{}
+
+/// Messages are made of the octets that came: where each of these passes a test, each octet of a message that is answered does.
+pub fn messages_are_made_of_what_came<T, W>()
+    ensures exact { (rules : Rules T W) (test : ℕ → Bool) (tree : T) (steps : List Step) →
+        BringOnly (λ octet. test octet ≡ true) steps →
+        AllByRecursion (λ asked. AllByRecursion (λ octet. test octet ≡ true) asked.message) (answered_of_run rules (start rules tree) steps) }
 {}
 
 /// Where each place of a connection passes tests, it finds room whenever it opens, and each of its messages that is

@@ -26,7 +26,7 @@ module _ {T W : Type 0} (r : Rules T W) where
       where
         by_close : (closing : Bool) → AllByRecursion (IsAnsweredAlike r other) (cond closing [] (answered_messages r h.tree k.who (up_to cut (whole (k.rest ++ piece))))) →
             let hears : T → Held T W = λ t. (let a = speech r cut t k.who (k.rest ++ piece) in
-            record { tree = a.tree; kept = changed c (λ _. heard_piece r piece cut k a) h.kept; was_cut = h.was_cut || is_cut cut }) in
+            record { tree = a.tree; kept = changed c (λ _. heard_piece r piece cut k a) h.kept; was_cut = h.was_cut || is_cut cut; unstored = h.unstored ++ a.changes }) in
             AreHeldOver h.tree other (cond closing h (hears h.tree)) (cond closing (held_over other h) (hears other))
         by_close true none = record { same = refl; one_stays = refl }
         by_close false all =
@@ -34,7 +34,7 @@ module _ {T W : Type 0} (r : Rules T W) where
             let a = speech r cut h.tree k.who stream in
             let b = speech r cut other k.who stream in
             let alike = speech-alike h.tree k.who cut stream all in
-            let after : Answered T W → Held T W = λ x. record { tree = x.tree; kept = changed c (λ _. heard_piece r piece cut k x) h.kept; was_cut = h.was_cut || is_cut cut } in
+            let after : Answered T W → Held T W = λ x. record { tree = x.tree; kept = changed c (λ _. heard_piece r piece cut k x) h.kept; was_cut = h.was_cut || is_cut cut; unstored = h.unstored ++ x.changes } in
             record { same = ap after (AreAlike-over h.tree other a b alike).1; one_stays = alike.one_stays }
 
     pub heard-alike : (h : Held T W) (s : Step) → AllByRecursion (IsAnsweredAlike r other) (answered_of_held r h s)

@@ -23,9 +23,10 @@ pub AreAlike-over : {T W : Type 0} (one other : T) (a b : Answered T W) → AreA
 AreAlike-over one other a b alike = (
   ap (λ t. answer_over t a) alike.one_stays,
   ap (λ octets. record b { replies = octets }) (sym alike.replies)
-      ∙ ap (λ w. record { replies = a.replies; tree = b.tree; who = w; closes = b.closes }) (sym alike.who)
-      ∙ ap (λ c. record { replies = a.replies; tree = b.tree; who = a.who; closes = c }) (sym alike.closes)
-      ∙ ap (λ t. record { replies = a.replies; tree = t; who = a.who; closes = a.closes }) alike.other_stays,
+      ∙ ap (λ octets. record { replies = a.replies; changes = octets; tree = b.tree; who = b.who; closes = b.closes }) (sym alike.changes)
+      ∙ ap (λ w. record { replies = a.replies; changes = a.changes; tree = b.tree; who = w; closes = b.closes }) (sym alike.who)
+      ∙ ap (λ c. record { replies = a.replies; changes = a.changes; tree = b.tree; who = a.who; closes = c }) (sym alike.closes)
+      ∙ ap (λ t. record { replies = a.replies; changes = a.changes; tree = t; who = a.who; closes = a.closes }) alike.other_stays,
 )
 
 -- so what follows from both is alike, where it is over their trees
@@ -39,11 +40,11 @@ module _ {T W : Type 0} (r : Rules T W) (one other : T) where
   pub talk-alike : (w : W) (ms : List (List ℕ)) → AllByRecursion (IsAnsweredAlike r other) (answered_messages r one w ms)
       → AreAlike one other (talk r one w ms) (talk r other w ms)
   unfolding talk answered_messages
-  talk-alike w [] all = record { replies = refl; who = refl; closes = refl; one_stays = refl; other_stays = refl }
+  talk-alike w [] all = record { replies = refl; changes = refl; who = refl; closes = refl; one_stays = refl; other_stays = refl }
   talk-alike w (m ∷ ms) all =
       let a = r.answer one w m in
       let b = r.answer other w m in
-      let then : Answered T W → Answered T W = λ x. cond x.closes x (after_octets x.replies (talk r x.tree x.who ms)) in
+      let then : Answered T W → Answered T W = λ x. cond x.closes x (after_octets x.replies x.changes (talk r x.tree x.who ms)) in
       both_over (λ x y. AreAlike one other (then x) (then y)) one other a b all.0
       (by_close a.closes (λ rest. talk-alike a.who ms rest)
       (subst (λ x. AllByRecursion (IsAnsweredAlike r other) (cond x.closes [] (answered_messages r x.tree x.who ms))) (AreAlike-over one other a b all.0).0 all.1))
@@ -53,14 +54,15 @@ module _ {T W : Type 0} (r : Rules T W) (one other : T) where
           → AllByRecursion (IsAnsweredAlike r other) (cond closes [] (answered_messages r one (r.answer one w m).who ms)) →
           let a = r.answer one w m in
           AreAlike one other
-          (cond closes (record { replies = a.replies; tree = one; who = a.who; closes = closes }) (after_octets a.replies (talk r one a.who ms)))
-          (cond closes (record { replies = a.replies; tree = other; who = a.who; closes = closes }) (after_octets a.replies (talk r other a.who ms)))
-      by_close true later rest = record { replies = refl; who = refl; closes = refl; one_stays = refl; other_stays = refl }
+          (cond closes (record { replies = a.replies; changes = a.changes; tree = one; who = a.who; closes = closes }) (after_octets a.replies a.changes (talk r one a.who ms)))
+          (cond closes (record { replies = a.replies; changes = a.changes; tree = other; who = a.who; closes = closes }) (after_octets a.replies a.changes (talk r other a.who ms)))
+      by_close true later rest = record { replies = refl; changes = refl; who = refl; closes = refl; one_stays = refl; other_stays = refl }
       by_close false talks rest =
           let a = r.answer one w m in
           let later = talks rest in
           record {
             replies = ap (λ octets. a.replies ++ octets) later.replies;
+            changes = ap (λ octets. a.changes ++ octets) later.changes;
             who = later.who;
             closes = later.closes;
             one_stays = later.one_stays;
@@ -72,10 +74,10 @@ module _ {T W : Type 0} (r : Rules T W) (one other : T) where
   ending-alike cut broken a b alike = both_over (λ x y. AreAlike one other (ending cut broken x) (ending cut broken y)) one other a b alike (by_cut cut)
     where
       by_cut : (cut : Option ℕ) → AreAlike one other
-          (ending cut broken (record { replies = a.replies; tree = one; who = a.who; closes = a.closes }))
-          (ending cut broken (record { replies = a.replies; tree = other; who = a.who; closes = a.closes }))
-      by_cut None = record { replies = refl; who = refl; closes = refl; one_stays = refl; other_stays = refl }
-      by_cut (Some count) = record { replies = refl; who = refl; closes = refl; one_stays = refl; other_stays = refl }
+          (ending cut broken (record { replies = a.replies; changes = a.changes; tree = one; who = a.who; closes = a.closes }))
+          (ending cut broken (record { replies = a.replies; changes = a.changes; tree = other; who = a.who; closes = a.closes }))
+      by_cut None = record { replies = refl; changes = refl; who = refl; closes = refl; one_stays = refl; other_stays = refl }
+      by_cut (Some count) = record { replies = refl; changes = refl; who = refl; closes = refl; one_stays = refl; other_stays = refl }
 
   pub said-alike : (w : W) (cut : Option ℕ) (ms : List (List ℕ)) (broken : Bool) → AllByRecursion (IsAnsweredAlike r other) (answered_messages r one w (up_to cut ms))
       → AreAlike one other (said r cut one w ms broken) (said r cut other w ms broken)

@@ -1,5 +1,5 @@
 -- What a server holds stays what its sessions show, as a piece or the end of a connection's octets is heard.
-use Rattle.std.proofs.Common.{◌≡◌, ◌≤◌, ℕ, Bool, true, false, cond, ◌||◌, List, [], ◌++◌, length, drop, Option, Some, option_map, refl, ap, ap₂, sym, ◌∙◌, arith, length-append}
+use Rattle.std.proofs.Common.{◌≡◌, ◌≤◌, ℕ, Bool, true, false, cond, ◌||◌, List, [], ◌++◌, length, drop, Option, Some, option_map, refl, ap, ap₂, sym, ◌∙◌, arith, length-append, append_assoc}
 use Rattle.std.proofs.lemmas.List.{drop-append-le}
 use Rattle.std.proofs.Math.Seq.{drop-append_seam}
 use Rattle.std.proofs.lemmas.Bool.Decides.{nat_tests}
@@ -29,11 +29,11 @@ shown-held TurnedAway c t s k h = cc
 shown-held Away c t s k h = cc
 
 -- one session and what is kept of it change together
-Keeps-one : {T W : Type 0} (u : Sessions T W) (taken : ℕ → ℕ) (h : Held T W) (c : ℕ) (t v : T) (s : Session W) (k : Kept W) (was_cut : Bool) → Keeps u taken h →
+Keeps-one : {T W : Type 0} (u : Sessions T W) (taken : ℕ → ℕ) (h : Held T W) (c : ℕ) (t v : T) (s : Session W) (k : Kept W) (was_cut : Bool) (changes unstored : List ℕ) → Keeps u taken h →
     is_held (u.of c).state ≡ true → is_held s.state ≡ true → k.number ≡ c → shown s.state c (taken c) s ≡ Some k → taken c ≤ length s.reply → v ≡ t →
-    Keeps (record { tree = t; opened = u.opened; of = with_session c s u.of }) taken (record { tree = v; kept = changed c (λ _. k) h.kept; was_cut = was_cut })
+    Keeps (record { tree = t; changes = changes; opened = u.opened; of = with_session c s u.of }) taken (record { tree = v; kept = changed c (λ _. k) h.kept; was_cut = was_cut; unstored = unstored })
 unfolding held_numbers
-Keeps-one u taken h c t v s k was_cut keeps held_before held_now number shows fits same =
+Keeps-one u taken h c t v s k was_cut changes unstored keeps held_before held_now number shows fits same =
     record {
       tree = same;
       numbers = number-changed c (λ _. k) (λ _ _. number) h.kept ∙ keeps.numbers ∙ sym (held_among-same u.of c s (held_now ∙ sym held_before) u.opened);
@@ -101,7 +101,7 @@ module _ {T W : Type 0} (r : Rules T W) where
       let a = said r cut u.tree s.who (new_messages s.stream piece) (is_broken (s.stream ++ piece)) in
       let b = speech r cut h.tree s.who (rest_of s.stream ++ piece) in
       let same : b ≡ a = speech-piece cut u.tree h.tree s.who s.stream piece keeps.tree in
-      Keeps-one u taken h c a.tree b.tree (session_after piece cut s a) (kept_after c (taken c) piece cut s b) (h.was_cut || is_cut cut) keeps
+      Keeps-one u taken h c a.tree b.tree (session_after piece cut s a) (kept_after c (taken c) piece cut s b) (h.was_cut || is_cut cut) (u.changes ++ a.changes) (h.unstored ++ b.changes) keeps
       (ap is_held is_open) (held-after a.closes) refl
       (shown-after c (taken c) piece cut s a (keeps.within c) ∙ ap (λ (x : Answered T W). Some (kept_after c (taken c) piece cut s x)) (sym same))
       (rw length-append (let fits : taken c ≤ length s.reply = keeps.within c in omega arith))
@@ -115,6 +115,25 @@ module _ {T W : Type 0} (r : Rules T W) where
       Keeps (step r u (Bytes c piece cut)) taken (heard r (Bytes c piece cut) h)
   unfolding step heard
   Keeps-bytes u taken h c piece cut keeps = rw (keeps.each c) (bytes_in u taken h c piece cut keeps (u.of c).state refl)
+
+  -- so what isn't stored yet, by the state of the session
+  changes_in : (u : Sessions T W) (taken : ℕ → ℕ) (h : Held T W) (c : ℕ) (piece : List ℕ) (cut : Option ℕ) (stored : List ℕ) → Keeps u taken h → u.changes ≡ stored ++ h.unstored → (st : State) →
+      (hears r st u c piece cut).changes ≡ stored ++ (hears_kept r (shown st c (taken c) (u.of c)) c piece cut h).unstored
+  changes_in u taken h c piece cut stored keeps is Open =
+      let s = u.of c in
+      let a = said r cut u.tree s.who (new_messages s.stream piece) (is_broken (s.stream ++ piece)) in
+      let b = speech r cut h.tree s.who (rest_of s.stream ++ piece) in
+      let same : b ≡ a = speech-piece cut u.tree h.tree s.who s.stream piece keeps.tree in
+      ap₂ (λ xs (x : Answered T W). xs ++ x.changes) is (sym same) ∙ append_assoc stored h.unstored b.changes
+  changes_in u taken h c piece cut stored keeps is Closing = is
+  changes_in u taken h c piece cut stored keeps is Unopened = is
+  changes_in u taken h c piece cut stored keeps is TurnedAway = is
+  changes_in u taken h c piece cut stored keeps is Away = is
+
+  pub changes-bytes : (u : Sessions T W) (taken : ℕ → ℕ) (h : Held T W) (c : ℕ) (piece : List ℕ) (cut : Option ℕ) (stored : List ℕ) → Keeps u taken h → u.changes ≡ stored ++ h.unstored →
+      (step r u (Bytes c piece cut)).changes ≡ stored ++ (heard r (Bytes c piece cut) h).unstored
+  unfolding step heard
+  changes-bytes u taken h c piece cut stored keeps is = rw (keeps.each c) (changes_in u taken h c piece cut stored keeps is (u.of c).state)
 
   -- by the state of the session whose octets end
   ended_in : (u : Sessions T W) (taken : ℕ → ℕ) (h : Held T W) (c : ℕ) → Keeps u taken h → (st : State) → (u.of c).state ≡ st →

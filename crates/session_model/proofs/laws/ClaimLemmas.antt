@@ -13,7 +13,7 @@ use Rattle.session_model.specs.Places.{Place, asker_of, behind_own, behind_other
 
 module _ {T W : Type 0} (r : Rules T W) (P : T → Type 0) (keeps : AnswersKeep r P) where
   -- an answer, and then what is said next unless it closes
-  then_claim : (a b : Answered T W) (closes : Bool) → a.closes ≡ closes → P a.tree → P b.tree → P (cond a.closes a (after_octets a.replies b)).tree
+  then_claim : (a b : Answered T W) (closes : Bool) → a.closes ≡ closes → P a.tree → P b.tree → P (cond a.closes a (after_octets a.replies a.changes b)).tree
   then_claim a b true e first next = rw e first
   then_claim a b false e first next = rw e next
 

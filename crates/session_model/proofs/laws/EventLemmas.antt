@@ -5,7 +5,7 @@ use Rattle.wire_io.specs.declared.journal.Event.{Event}
 use Rattle.wire_io.specs.declared.journal.Event.TheVariants as event
 use Rattle.wire_io.specs.declared.journal.Item.{Item}
 use Rattle.wire_io.specs.declared.journal.Item.TheVariants as item
-use Rattle.wire_io.specs.Journal.{taken_of, is_hung_up, opens}
+use Rattle.wire_io.specs.Journal.{taken_of, stored_of, stored_at, is_hung_up, opens}
 use Rattle.wire_io.proofs.Theorems.{was_opened-quiet}
 use Rattle.session_model.specs.Rules.{Rules}
 use Rattle.session_model.specs.Run.{Session, Sessions, State, Open, Closing, TurnedAway, Away, Unopened, Step, Opened, Bytes, Ended, step, run, start}
@@ -17,12 +17,12 @@ use Rattle.session_model.specs.Journaled.{step_of_event, is_event, uncut, cuts_o
 use Rattle.session_model.specs.Serving.{IsFront, Rightly, Stands}
 use Rattle.session_model.specs.Replaying.{is_away, is_leaving, number_of, hung_up}
 use Rattle.session_model.specs.Working.{Works, Covers, CutsOpen, is_open_in, is_turned, cuts_in}
-use Rattle.session_model.proofs.laws.JournalLemmas.{Still, still-heard, all_taken-front}
+use Rattle.session_model.proofs.laws.JournalLemmas.{Still, still-heard, unstored-still, all_taken-front}
 use Rattle.session_model.proofs.laws.StepLemmas.{Speaks, OpenFor, step-other, bytes-speaks, end-speaks, bytes-opened, end-opened, replayed-more, run_from-one, cuts_of-one, cuts_at-other}
 use Rattle.session_model.proofs.laws.StandLemmas.{at_numbers, Keeps-as, front_as, front_more, stands_free, stands_unleaving}
 use Rattle.session_model.proofs.laws.TrackLemmas.{RightlyNow, tracks_more, tracks_stay, front_now, settled_now}
 use Rattle.session_model.proofs.laws.LeavingLemmas.{unleaving_same, one_left}
-use Rattle.session_model.proofs.laws.BytesLemmas.{Keeps-bytes, Keeps-ended}
+use Rattle.session_model.proofs.laws.BytesLemmas.{Keeps-bytes, Keeps-ended, changes-bytes}
 
 -- who isn't due is another, and isn't among the others that are
 pub not_due : (d c : ℕ) (ws : List ℕ) → is_listed d (c ∷ ws) ≡ false → (d ≢ c) × (is_listed d ws ≡ false)
@@ -64,11 +64,13 @@ module _ {T W : Type 0} (r : Rules T W) (t : T) where
   speaks_works : (h h' : Held T W) (on_hold ws : List ℕ) (journal : List Item) (e : Event) (s : Step) → (works : Works r t [] h on_hold journal) → Covers ws on_hold →
       map uncut (s ∷ []) ≡ step_of_event e → is_event s ≡ true → ((d : ℕ) → opens d (item.Heard e) ≡ false) →
       ((u : Sessions T W) (taken : ℕ → ℕ) → Keeps u taken h → Keeps (step r u s) taken h') →
+      ((u : Sessions T W) (taken : ℕ → ℕ) (stored : List ℕ) → Keeps u taken h → u.changes ≡ stored ++ h.unstored → (step r u s).changes ≡ stored ++ h'.unstored) →
       Speaks (works.now.of (number_of s)) ((step r works.now s).of (number_of s)) (cuts_at (number_of s) s) →
       (step r works.now s).opened ≡ works.now.opened →
       (h'.was_cut ≡ false → (h.was_cut ≡ false) × HasNoCut (s ∷ [])) →
       Works r t (number_of s ∷ ws) h' on_hold (journal ++ item.Heard e ∷ [])
-  speaks_works h h' on_hold ws journal e s works covers are is_one no_opening keeping speaks opened no_cut =
+  unfolding stored_at
+  speaks_works h h' on_hold ws journal e s works covers are is_one no_opening keeping storing speaks opened no_cut =
       let c = number_of s in
       let u = works.now in
       let v = step r u s in
@@ -83,6 +85,7 @@ module _ {T W : Type 0} (r : Rules T W) (t : T) where
           are = are;
           goes = run_from-one r u s;
           keeps = Keeps-as v _ _ h' (λ d. ap length (sym (still d).taken)) (keeping u (λ d. length (taken_of d journal)) works.tracks.keeps);
+          unstored = unstored-still v.changes h'.unstored journal (item.Heard e) refl (storing u (λ d. length (taken_of d journal)) (stored_of journal) works.tracks.keeps works.tracks.unstored);
           holds = λ d. (still d).on_hold ∙ works.tracks.holds d;
           opened = λ d. was_opened-quiet d journal (item.Heard e) (no_opening d) ∙ works.tracks.opened d ∙ ap (is_listed d) (sym opened);
           fresh = at_numbers c (λ d. is_listed d v.opened ≡ false → (v.of d).state ≡ Unopened)
@@ -122,20 +125,21 @@ module _ {T W : Type 0} (r : Rules T W) (t : T) where
   unfolding opens kept.heard
   works_bytes h on_hold ws journal c piece cut works covers fits =
       speaks_works h (kept.heard r (Bytes c piece cut) h) on_hold ws journal (event.Bytes c piece) (Bytes c piece cut) works covers refl refl (λ _. refl)
-      (λ u taken keeps. Keeps-bytes r u taken h c piece cut keeps)
+      (λ u taken keeps. Keeps-bytes r u taken h c piece cut keeps) (λ u taken stored keeps is. changes-bytes r u taken h c piece cut stored keeps is)
       (bytes-speaks r works.now c piece cut (cuts_open works.now _ h c cut works.tracks.keeps fits)) (bytes-opened r works.now c piece cut)
       (λ none. none_cut h.was_cut c piece cut (sym (cut_kept r h c piece cut (kept_of c h.kept) refl fits) ∙ none))
 
   pub works_ended : (h : Held T W) (on_hold ws : List ℕ) (journal : List Item) (c : ℕ) → Works r t [] h on_hold journal → Covers ws on_hold →
       Works r t (c ∷ ws) (kept.heard r (Ended c) h) on_hold (journal ++ item.Heard (event.Ended c) ∷ [])
-  unfolding opens kept.heard
+  unfolding opens kept.heard step
   works_ended h on_hold ws journal c works covers =
       speaks_works h (kept.heard r (Ended c) h) on_hold ws journal (event.Ended c) (Ended c) works covers refl refl (λ _. refl)
-      (λ u taken keeps. Keeps-ended r u taken h c keeps) (end-speaks r works.now c) (end-opened r works.now c) (λ none. (none, refl))
+      (λ u taken keeps. Keeps-ended r u taken h c keeps) (λ u taken stored keeps is. is) (end-speaks r works.now c) (end-opened r works.now c) (λ none. (none, refl))
 
   -- after an event that is no step all that are on hold are due
   pub works_idle : (h : Held T W) (on_hold ws : List ℕ) (journal : List Item) (e : Event) → step_of_event e ≡ [] → ((d : ℕ) → opens d (item.Heard e) ≡ false) → Works r t [] h on_hold journal →
       Covers ws on_hold → Works r t ws h on_hold (journal ++ item.Heard e ∷ [])
+  unfolding stored_at
   works_idle h on_hold ws journal e none no_opening works covers =
       let u = works.now in
       let after = journal ++ item.Heard e ∷ [] in
@@ -146,6 +150,7 @@ module _ {T W : Type 0} (r : Rules T W) (t : T) where
         tracks = tracks_stay r t works.steps u h h on_hold on_hold journal (item.Heard e) works.tracks (record {
           none = none;
           keeps = Keeps-as u _ _ h (λ d. ap length (sym (still d).taken)) works.tracks.keeps;
+          unstored = unstored-still u.changes h.unstored journal (item.Heard e) refl works.tracks.unstored;
           holds = λ d. (still d).on_hold ∙ works.tracks.holds d;
           opens_none = no_opening;
           no_cut = refl;

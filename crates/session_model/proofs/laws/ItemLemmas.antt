@@ -1,10 +1,10 @@
 -- The items of a block: octets are taken of the first that is due, it is refused, held, released, done, or hung up.
-use Rattle.std.proofs.Common.{◌≡◌, ◌≢◌, ◌≤◌, ◌+◌, ℕ, true, false, List, [], ◌∷◌, ◌++◌, length, drop, take, refl, ap, sym, ◌∙◌, arith, subst, true≢false, length-append}
+use Rattle.std.proofs.Common.{◌≡◌, ◌≢◌, ◌≤◌, ◌+◌, ℕ, true, false, List, [], ◌∷◌, ◌++◌, length, drop, take, refl, ap, sym, ◌∙◌, arith, subst, true≢false, length-append, append-nil}
 use Rattle.std.proofs.lemmas.Bool.Decides.{nat_tests}
 use Rattle.std.proofs.lemmas.List.{length-take-le}
 use Rattle.wire_io.specs.declared.journal.Item.{Item}
 use Rattle.wire_io.specs.declared.journal.Item.TheVariants as item
-use Rattle.wire_io.specs.Journal.{taken_of, is_hung_up, is_held}
+use Rattle.wire_io.specs.Journal.{taken_of, stored_of, is_hung_up, is_held}
 use Rattle.wire_io.proofs.Theorems.{was_opened-quiet}
 use Rattle.session_model.specs.Rules.{Rules}
 use Rattle.session_model.specs.Run.{Session, Sessions, State, Away, Unopened, Step, HungUp, step, start, run}
@@ -12,10 +12,10 @@ use Rattle.session_model.specs.Run as session
 use Rattle.session_model.specs.Kept.{Held, queue_of, closing_of, taken_off, forgotten}
 use Rattle.session_model.specs.Keeping.{is_listed, more_taken}
 use Rattle.session_model.specs.Journaled.{cuts_of, all_taken}
-use Rattle.session_model.specs.Serving.{IsFront, unsent, Rightly, Stands, MayHangUp}
+use Rattle.session_model.specs.Serving.{IsFront, unsent, Rightly, Stands, MayHangUp, IsServed, MayBeTaken}
 use Rattle.session_model.specs.Replaying.{is_away, is_leaving}
 use Rattle.session_model.specs.Working.{Tracks, Works, Replays, Refused, Puts, Covers, is_turned, cuts_in}
-use Rattle.session_model.proofs.laws.JournalLemmas.{Still, IsAbout, still-about, still-later, all_taken-front, was_later-more, was_later-now, about-taken, about-later, about-held, about-released, about-hung_up, taken_of-taken, is_hung_up-taken, is_held-taken, taken_of-held, is_hung_up-held, is_held-held, taken_of-released, is_hung_up-released, is_held-released, taken_of-hung_up, is_hung_up-hung_up, is_held-hung_up}
+use Rattle.session_model.proofs.laws.JournalLemmas.{Still, IsAbout, still-about, still-later, unstored-still, all_taken-front, was_later-more, was_later-now, about-taken, about-later, about-held, about-released, about-hung_up, taken_of-taken, is_hung_up-taken, is_held-taken, taken_of-held, is_hung_up-held, is_held-held, taken_of-released, is_hung_up-released, is_held-released, taken_of-hung_up, is_hung_up-hung_up, is_held-hung_up}
 use Rattle.session_model.proofs.laws.StepLemmas.{with_session-same, with_session-other, replayed-stay, run_from-one, cuts_of-one}
 use Rattle.session_model.proofs.laws.StandLemmas.{at_numbers, Keeps-as, front_as, stands_more, stands_held, stands_done, all_sent, may_hang_up, leaving_held, not_unopened, taken_front, taken_fits}
 use Rattle.session_model.proofs.laws.TrackLemmas.{Stays, RightlyNow, tracks_more, tracks_stay, front_now, leaving_now, unsent_now, held_now, cuts_in-one}
@@ -74,10 +74,11 @@ module _ {T W : Type 0} (r : Rules T W) (t : T) where
       }
 
   -- octets of its queue are taken
-  pub works_taken : (c : ℕ) (due : List ℕ) (h : Held T W) (on_hold : List ℕ) (journal : List Item) (n : ℕ) → Works r t (c ∷ due) h on_hold journal → queue_of c h.kept ≢ [] → n ≤ length (queue_of c h.kept) →
+  pub works_taken : (c : ℕ) (due : List ℕ) (h : Held T W) (on_hold : List ℕ) (journal : List Item) (n : ℕ) → Works r t (c ∷ due) h on_hold journal →
+      h.unstored ≡ [] → queue_of c h.kept ≢ [] → n ≤ length (queue_of c h.kept) →
       Works r t (c ∷ due) (record h { kept = taken_off c n h.kept }) on_hold (journal ++ item.Taken c (take n (queue_of c h.kept)) ∷ [])
   unfolding Rightly RightlyNow
-  works_taken c due h on_hold journal n works some fits =
+  works_taken c due h on_hold journal n works stored some fits =
       let u = works.now in
       let q = queue_of c h.kept in
       let piece = take n q in
@@ -97,13 +98,15 @@ module _ {T W : Type 0} (r : Rules T W) (t : T) where
             (grind (arith, nat_tests, ap length own, length-append (taken_of c journal) piece, long))
             (λ d differs. grind (arith, nat_tests, ap length (other d differs))))
             (Keeps-taken u (λ d. length (taken_of d journal)) h c n works.tracks.keeps (taken_fits (u.of c).reply (taken_of c journal) q n (front c) is fits));
+        unstored = unstored-still u.changes h.unstored journal i about.stores works.tracks.unstored;
         holds = λ d. is_held-taken c d journal piece ∙ works.tracks.holds d;
         opens_none = about.opens_none;
         no_cut = refl;
         fronts = at_numbers c (λ d. IsFront after d (u.of d))
             (subst (λ xs. (u.of c).reply ≡ xs ++ drop (length xs) (u.of c).reply) (sym own) (taken_front (u.of c).reply (taken_of c journal) q n (front c) is fits))
             (λ d differs. front_as journal after d (u.of d) (other d differs) (front d));
-        right = λ steps same. tt;
+        right = λ steps same. subst (λ (x : Sessions T W). MayBeTaken x journal c) (sym same)
+            (record { stored = sym (works.tracks.unstored ∙ ap (λ xs. stored_of journal ++ xs) stored ∙ append-nil (stored_of journal)); served = there.0 });
       }) (λ d. is_hung_up-taken c d journal piece)
       (at_numbers c (λ d. session.is_held (u.of d).state ≡ false → taken_of d after ≡ taken_of d journal) (λ unheld. absurd (true≢false (sym there.0 ∙ unheld))) (λ d differs _. other d differs))
 
@@ -118,11 +121,12 @@ module _ {T W : Type 0} (r : Rules T W) (t : T) where
         works = works_item c due h h on_hold on_hold journal (item.Later c) works (about-later c) (record {
           none = refl;
           keeps = Keeps-as u _ _ h (λ d. ap length (sym (still d).taken)) works.tracks.keeps;
+          unstored = unstored-still u.changes h.unstored journal (item.Later c) (about-later c).stores works.tracks.unstored;
           holds = λ d. (still d).on_hold ∙ works.tracks.holds d;
           opens_none = (about-later c).opens_none;
           no_cut = refl;
           fronts = λ d. front_as journal (journal ++ item.Later c ∷ []) d (u.of d) (still d).taken (front_now r t works.steps u h on_hold journal works.tracks d);
-          right = λ steps same. tt;
+          right = λ steps same. subst (λ (x : Sessions T W). IsServed x c) (sym same) (held_now r t works.steps u h on_hold journal works.tracks c some).0;
         }) (λ d. (still d).hung) (λ d _. (still d).taken);
         queued = some;
         later = was_later-now c journal;
@@ -153,12 +157,13 @@ module _ {T W : Type 0} (r : Rules T W) (t : T) where
       let now = works_item c due h h on_hold now_on_hold journal (item.Held c) works about (record {
         none = refl;
         keeps = Keeps-as u _ _ h (λ d. ap length (sym (taken_of-held c d journal))) works.tracks.keeps;
+        unstored = unstored-still u.changes h.unstored journal (item.Held c) about.stores works.tracks.unstored;
         holds = at_numbers c (λ d. is_held d after ≡ is_listed d now_on_hold) (is_held-held c journal ∙ sym puts.own)
             (λ d differs. (still-about c d journal (item.Held c) about differs).on_hold ∙ works.tracks.holds d ∙ sym (puts.others d differs));
         opens_none = about.opens_none;
         no_cut = refl;
         fronts = λ d. front_as journal after d (u.of d) (taken_of-held c d journal) (front_now r t works.steps u h on_hold journal works.tracks d);
-        right = λ steps same. tt;
+        right = λ steps same. subst (λ (x : Sessions T W). IsServed x c) (sym same) (some_unsent c due h on_hold journal works refused.queued).0;
       }) (λ d. is_hung_up-held c d journal) (λ d _. taken_of-held c d journal) in
       let some = some_unsent c due h now_on_hold after now refused.queued in
       works_drop c due h now_on_hold after now
@@ -175,6 +180,7 @@ module _ {T W : Type 0} (r : Rules T W) (t : T) where
       works_item c due h h on_hold now_on_hold journal (item.Released c) works about (record {
         none = refl;
         keeps = Keeps-as u _ _ h (λ d. ap length (sym (taken_of-released c d journal))) works.tracks.keeps;
+        unstored = unstored-still u.changes h.unstored journal (item.Released c) about.stores works.tracks.unstored;
         holds = at_numbers c (λ d. is_held d after ≡ is_listed d now_on_hold) (is_held-released c journal ∙ sym puts.own)
             (λ d differs. (still-about c d journal (item.Released c) about differs).on_hold ∙ works.tracks.holds d ∙ sym (puts.others d differs));
         opens_none = about.opens_none;
@@ -231,6 +237,7 @@ module _ {T W : Type 0} (r : Rules T W) (t : T) where
           are = refl;
           goes = run_from-one r u s;
           keeps = Keeps-as v _ _ _ (λ d. ap length (sym (taken d))) (Keeps-left r u (λ d. length (taken_of d journal)) h c leaves.tracks.keeps);
+          unstored = unstored-still u.changes h.unstored journal i about.stores leaves.tracks.unstored;
           holds = holds;
           opened = λ d. was_opened-quiet d journal i (about.opens_none d) ∙ leaves.tracks.opened d;
           fresh = at_numbers c (λ d. is_listed d v.opened ≡ false → (v.of d).state ≡ Unopened)

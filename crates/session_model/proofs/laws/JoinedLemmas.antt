@@ -13,7 +13,7 @@ use Rattle.session_model.proofs.laws.StepLemmas.{with_session-same, with_session
 then_closed : {T W : Type 0} (a b : Answered T W) → a.closes ≡ true → and_then a b ≡ a
 then_closed a b e = rw e refl
 
-then_open : {T W : Type 0} (a b : Answered T W) → a.closes ≡ false → and_then a b ≡ after_octets a.replies b
+then_open : {T W : Type 0} (a b : Answered T W) → a.closes ≡ false → and_then a b ≡ after_octets a.replies a.changes b
 then_open a b e = rw e refl
 
 -- what is said after what was said after the first
@@ -23,12 +23,13 @@ then_then a b c = by_first a.closes refl b.closes refl
     by_first : (x : Bool) → a.closes ≡ x → (y : Bool) → b.closes ≡ y → and_then a (and_then b c) ≡ and_then (and_then a b) c
     by_first true e y f = then_closed a (and_then b c) e ∙ sym (ap (λ z. and_then z c) (then_closed a b e) ∙ then_closed a c e)
     by_first false e true f =
-        then_open a (and_then b c) e ∙ ap (after_octets a.replies) (then_closed b c f)
-        ∙ sym (ap (λ z. and_then z c) (then_open a b e) ∙ then_closed (after_octets a.replies b) c f)
+        then_open a (and_then b c) e ∙ ap (after_octets a.replies a.changes) (then_closed b c f)
+        ∙ sym (ap (λ z. and_then z c) (then_open a b e) ∙ then_closed (after_octets a.replies a.changes b) c f)
     by_first false e false f =
-        then_open a (and_then b c) e ∙ ap (after_octets a.replies) (then_open b c f)
-        ∙ ap (λ xs. record { replies = xs; tree = c.tree; who = c.who; closes = c.closes }) (sym (append_assoc a.replies b.replies c.replies))
-        ∙ sym (ap (λ z. and_then z c) (then_open a b e) ∙ then_open (after_octets a.replies b) c f)
+        then_open a (and_then b c) e ∙ ap (after_octets a.replies a.changes) (then_open b c f)
+        ∙ ap₂ (λ xs ys. record { replies = xs; changes = ys; tree = c.tree; who = c.who; closes = c.closes })
+        (sym (append_assoc a.replies b.replies c.replies)) (sym (append_assoc a.changes b.changes c.changes))
+        ∙ sym (ap (λ z. and_then z c) (then_open a b e) ∙ then_open (after_octets a.replies a.changes b) c f)
 
 -- the messages of two pieces are those of the first and then those of the second
 pub new_messages-join : (s p q : List ℕ) → new_messages s (p ++ q) ≡ new_messages s p ++ new_messages (s ++ p) q
@@ -68,25 +69,26 @@ ends_closed {T} {W} a b e x y =
 -- what says nothing and leaves all as it was
 pub record IsSilent {T W : Type 0} (a b : Answered T W) : Type 0 where
   pub replies : b.replies ≡ []
+  pub changes : b.changes ≡ []
   pub tree : b.tree ≡ a.tree
   pub who : b.who ≡ a.who
   pub closes : b.closes ≡ false
 
-ends_broken : {T W : Type 0} (a b : Answered T W) → a.closes ≡ false → IsSilent a b → ending None true (after_octets a.replies b) ≡ ending None true a
-ends_broken a b e silent = rw (silent.replies, silent.tree, silent.who, silent.closes, e, append-nil a.replies) refl
+ends_broken : {T W : Type 0} (a b : Answered T W) → a.closes ≡ false → IsSilent a b → ending None true (after_octets a.replies a.changes b) ≡ ending None true a
+ends_broken a b e silent = rw (silent.replies, silent.changes, silent.tree, silent.who, silent.closes, e, append-nil a.replies, append-nil a.changes) refl
 
 ends_open : {T W : Type 0} (a b : Answered T W) → a.closes ≡ false → (x y : Bool) → (x ≡ true → (y ≡ true) × IsSilent a b) →
     ending None y (and_then a b) ≡ and_then (ending None x a) (ending None y b)
 ends_open a b e true y broken =
     let shut : (ending None true a).closes ≡ true = rw e refl in
-    ap (ending None y) (then_open a b e) ∙ ap (λ z. ending None z (after_octets a.replies b)) (broken refl).0 ∙ ends_broken a b e (broken refl).1
+    ap (ending None y) (then_open a b e) ∙ ap (λ z. ending None z (after_octets a.replies a.changes b)) (broken refl).0 ∙ ends_broken a b e (broken refl).1
     ∙ sym (then_closed (ending None true a) (ending None y b) shut)
 ends_open a b e false y broken =
     let still : (ending None false a).closes ≡ false = rw e refl in
     let said_so : (ending None false a).replies ≡ a.replies = rw e (append-nil a.replies) in
     ap (ending None y) (then_open a b e)
-    ∙ ap (λ xs. record { replies = xs; tree = b.tree; who = b.who; closes = b.closes || (not b.closes && y) }) (append_assoc a.replies b.replies (notice_if (not b.closes && y)))
-    ∙ sym (then_open (ending None false a) (ending None y b) still ∙ ap (λ xs. after_octets xs (ending None y b)) said_so)
+    ∙ ap (λ xs. record { replies = xs; changes = a.changes ++ b.changes; tree = b.tree; who = b.who; closes = b.closes || (not b.closes && y) }) (append_assoc a.replies b.replies (notice_if (not b.closes && y)))
+    ∙ sym (then_open (ending None false a) (ending None y b) still ∙ ap (λ xs. after_octets xs a.changes (ending None y b)) said_so)
 
 ends_then : {T W : Type 0} (a b : Answered T W) (x y : Bool) → (x ≡ true → (y ≡ true) × IsSilent a b) → ending None y (and_then a b) ≡ and_then (ending None x a) (ending None y b)
 ends_then a b x y broken = by_first a.closes refl
@@ -137,15 +139,15 @@ module _ {T W : Type 0} (r : Rules T W) where
       ∙ ends_then first next (is_broken (s ++ p)) (is_broken ((s ++ p) ++ q)) (λ broken. (stays_broken (s ++ p) q broken, silent first broken))
     where
       silent : (a : Answered T W) → is_broken (s ++ p) ≡ true → IsSilent a (talk r a.tree a.who (new_messages (s ++ p) q))
-      silent a broken = rw (no_more (s ++ p) q broken) (record { replies = refl; tree = refl; who = refl; closes = refl })
+      silent a broken = rw (no_more (s ++ p) q broken) (record { replies = refl; changes = refl; tree = refl; who = refl; closes = refl })
 
   -- what a piece leaves of an open session, given by another name
   heard_open : (u : Sessions T W) (c : ℕ) (q : List ℕ) (s : Session W) → u.of c ≡ s →
       let b = said r None u.tree s.who (new_messages s.stream q) (is_broken (s.stream ++ q)) in
-      ((hears r Open u c q None).tree ≡ b.tree) × ((hears r Open u c q None).of c ≡ after_piece s q b)
+      ((hears r Open u c q None).tree ≡ b.tree) × ((hears r Open u c q None).of c ≡ after_piece s q b) × ((hears r Open u c q None).changes ≡ u.changes ++ b.changes)
   heard_open u c q s is =
-      subst (λ x. let b = said r None u.tree x.who (new_messages x.stream q) (is_broken (x.stream ++ q)) in ((hears r Open u c q None).tree ≡ b.tree) × ((hears r Open u c q None).of c ≡ after_piece x q b)) is
-      (refl, with_session-same c _ u.of)
+      subst (λ x. let b = said r None u.tree x.who (new_messages x.stream q) (is_broken (x.stream ++ q)) in ((hears r Open u c q None).tree ≡ b.tree) × ((hears r Open u c q None).of c ≡ after_piece x q b) × ((hears r Open u c q None).changes ≡ u.changes ++ b.changes)) is
+      (refl, with_session-same c _ u.of, refl)
 
   -- a session that isn't open hears nothing
   hears_shut : (st : State) (u : Sessions T W) (c : ℕ) (q : List ℕ) → (st ≡ Open → ⊥) → hears r st u c q None ≡ u
@@ -158,7 +160,7 @@ module _ {T W : Type 0} (r : Rules T W) where
   alike_same : (c : ℕ) (u v w : Sessions T W) → v ≡ u → w ≡ u → LeavesAlike c v w
   alike_same c u v w e f =
       subst (λ x. LeavesAlike c x w) (sym e) (subst (λ x. LeavesAlike c u x) (sym f)
-      (record { tree = refl; opened = refl; who = refl; reply = refl; state = refl; cut = refl; stream = λ _. refl; rest = λ d _. refl }))
+      (record { tree = refl; changes = refl; opened = refl; who = refl; reply = refl; state = refl; cut = refl; stream = λ _. refl; rest = λ d _. refl }))
 
   -- an open session hears two pieces
   open_join : (u : Sessions T W) (c : ℕ) (p q : List ℕ) → let first = hears r Open u c p None in (closes : Bool) →
@@ -173,6 +175,7 @@ module _ {T W : Type 0} (r : Rules T W) where
       let both = (heard_open u c (p ++ q) s refl).1 in
       record {
         tree = ap (λ (x : Answered T W). x.tree) (sym all);
+        changes = ap (λ (x : Answered T W). u.changes ++ x.changes) (sym all);
         opened = refl;
         who = ap (λ (x : Session W). x.who) is ∙ ap (λ (x : Answered T W). x.who) (sym all) ∙ ap (λ (x : Session W). x.who) (sym both);
         reply = ap (λ (x : Session W). x.reply) is ∙ ap (λ (x : Answered T W). s.reply ++ x.replies) (sym all) ∙ ap (λ (x : Session W). x.reply) (sym both);
@@ -186,11 +189,12 @@ module _ {T W : Type 0} (r : Rules T W) where
       let first = hears r Open u c p None in
       let a = said r None u.tree s.who (new_messages s.stream p) (is_broken (s.stream ++ p)) in
       let b = said r None a.tree a.who (new_messages (s.stream ++ p) q) (is_broken ((s.stream ++ p) ++ q)) in
-      let all : said r None u.tree s.who (new_messages s.stream (p ++ q)) (is_broken (s.stream ++ (p ++ q))) ≡ after_octets a.replies b = said-join u.tree s.who s.stream p q ∙ then_open a b e in
+      let all : said r None u.tree s.who (new_messages s.stream (p ++ q)) (is_broken (s.stream ++ (p ++ q))) ≡ after_octets a.replies a.changes b = said-join u.tree s.who s.stream p q ∙ then_open a b e in
       let is = heard_open first c q (after_piece s p a) (heard_open u c p s refl).1 in
       let both = (heard_open u c (p ++ q) s refl).1 in
       record {
         tree = is.0 ∙ ap (λ (x : Answered T W). x.tree) (sym all);
+        changes = is.2 ∙ append_assoc u.changes a.changes b.changes ∙ ap (λ (x : Answered T W). u.changes ++ x.changes) (sym all);
         opened = refl;
         who = ap (λ (x : Session W). x.who) is.1 ∙ ap (λ (x : Answered T W). x.who) (sym all) ∙ ap (λ (x : Session W). x.who) (sym both);
         reply = ap (λ (x : Session W). x.reply) is.1 ∙ append_assoc s.reply a.replies b.replies ∙ ap (λ (x : Answered T W). s.reply ++ x.replies) (sym all) ∙ ap (λ (x : Session W). x.reply) (sym both);

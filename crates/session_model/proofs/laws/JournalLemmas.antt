@@ -5,8 +5,8 @@ use Rattle.std.proofs.lemmas.Bool.{and_parts}
 use Rattle.wire_io.specs.declared.journal.Event.{Event}
 use Rattle.wire_io.specs.declared.journal.Item.{Item}
 use Rattle.wire_io.specs.declared.journal.Item.TheVariants as item
-use Rattle.wire_io.specs.Journal.{heard, taken_of, taken_at, is_hung_up, hangs_up, is_held, hold_after, was_opened, opens}
-use Rattle.wire_io.proofs.Theorems.{heard-append, taken_of-push, is_held-push}
+use Rattle.wire_io.specs.Journal.{heard, taken_of, taken_at, stored_of, stored_at, is_hung_up, hangs_up, is_held, hold_after, was_opened, opens}
+use Rattle.wire_io.proofs.Theorems.{heard-append, taken_of-push, stored_of-push, is_held-push}
 use Rattle.session_model.specs.Journaled.{steps_of, step_of_item, all_taken, is_no_refusal, WasLater}
 
 pub steps_of-append : (j k : List Item) → steps_of (j ++ k) ≡ steps_of j ++ steps_of k
@@ -80,16 +80,21 @@ pub record Still (d : ℕ) (before after : List Item) : Type 0 where
   pub hung : is_hung_up d after ≡ is_hung_up d before
   pub on_hold : is_held d after ≡ is_held d before
 
--- an item is no event, and says nothing of any connection but one
+-- an item is no event, stores nothing, and says nothing of any connection but one
 pub record IsAbout (c : ℕ) (i : Item) : Type 0 where
   pub taken : (d : ℕ) → d ≢ c → taken_at d i ≡ []
   pub hangs : (d : ℕ) → d ≢ c → hangs_up d i ≡ false
   pub holds : (d : ℕ) (b : Bool) → d ≢ c → hold_after d b i ≡ b
   pub opens_none : (d : ℕ) → opens d i ≡ false
+  pub stores : stored_at i ≡ []
   pub events : heard (i ∷ []) ≡ []
 
 pub taken_of-still : (d : ℕ) (j : List Item) (i : Item) → taken_at d i ≡ [] → taken_of d (j ++ i ∷ []) ≡ taken_of d j
 taken_of-still d j i none = taken_of-push d j i ∙ ap (λ xs. taken_of d j ++ xs) none ∙ append-nil (taken_of d j)
+
+-- an item that stores nothing leaves what isn't stored
+pub unstored-still : (changes unstored : List ℕ) (j : List Item) (i : Item) → stored_at i ≡ [] → changes ≡ stored_of j ++ unstored → changes ≡ stored_of (j ++ i ∷ []) ++ unstored
+unstored-still changes unstored j i none is = is ∙ ap (λ xs. xs ++ unstored) (sym (stored_of-push j i ∙ ap (λ xs. stored_of j ++ xs) none ∙ append-nil (stored_of j)))
 
 pub is_hung_up-still : (d : ℕ) (j : List Item) (i : Item) → hangs_up d i ≡ false → is_hung_up d (j ++ i ∷ []) ≡ is_hung_up d j
 is_hung_up-still d j i none = is_hung_up-one d j i ∙ rw none (grind arith)
@@ -118,38 +123,44 @@ still-gone c d j =
     record { taken = taken_of-still d j (item.Gone c) refl; hung = is_hung_up-still d j (item.Gone c) refl; on_hold = is_held-push d j (item.Gone c) }
 
 pub about-taken : (c : ℕ) (x : List ℕ) → IsAbout c (item.Taken c x)
-unfolding taken_at hangs_up hold_after opens heard
+unfolding taken_at stored_at hangs_up hold_after opens heard
 about-taken c x =
-    record { taken = λ d differs. grind (arith, nat_tests); hangs = λ d differs. refl; holds = λ d b differs. refl; opens_none = λ d. refl; events = refl }
+    record { taken = λ d differs. grind (arith, nat_tests); hangs = λ d differs. refl; holds = λ d b differs. refl; opens_none = λ d. refl; stores = refl; events = refl }
 
 pub about-later : (c : ℕ) → IsAbout c (item.Later c)
-unfolding taken_at hangs_up hold_after opens heard
-about-later c = record { taken = λ d differs. refl; hangs = λ d differs. refl; holds = λ d b differs. refl; opens_none = λ d. refl; events = refl }
+unfolding taken_at stored_at hangs_up hold_after opens heard
+about-later c = record { taken = λ d differs. refl; hangs = λ d differs. refl; holds = λ d b differs. refl; opens_none = λ d. refl; stores = refl; events = refl }
 
 pub about-gone : (c : ℕ) → IsAbout c (item.Gone c)
-unfolding taken_at hangs_up hold_after opens heard
-about-gone c = record { taken = λ d differs. refl; hangs = λ d differs. refl; holds = λ d b differs. refl; opens_none = λ d. refl; events = refl }
+unfolding taken_at stored_at hangs_up hold_after opens heard
+about-gone c = record { taken = λ d differs. refl; hangs = λ d differs. refl; holds = λ d b differs. refl; opens_none = λ d. refl; stores = refl; events = refl }
 
 pub about-held : (c : ℕ) → IsAbout c (item.Held c)
-unfolding taken_at hangs_up hold_after opens heard
+unfolding taken_at stored_at hangs_up hold_after opens heard
 about-held c =
-    record { taken = λ d differs. refl; hangs = λ d differs. refl; holds = λ d b differs. grind (arith, nat_tests); opens_none = λ d. refl; events = refl }
+    record { taken = λ d differs. refl; hangs = λ d differs. refl; holds = λ d b differs. grind (arith, nat_tests); opens_none = λ d. refl; stores = refl; events = refl }
 
 pub about-released : (c : ℕ) → IsAbout c (item.Released c)
-unfolding taken_at hangs_up hold_after opens heard
+unfolding taken_at stored_at hangs_up hold_after opens heard
 about-released c =
-    record { taken = λ d differs. refl; hangs = λ d differs. refl; holds = λ d b differs. grind (arith, nat_tests); opens_none = λ d. refl; events = refl }
+    record { taken = λ d differs. refl; hangs = λ d differs. refl; holds = λ d b differs. grind (arith, nat_tests); opens_none = λ d. refl; stores = refl; events = refl }
 
 pub about-hung_up : (c : ℕ) → IsAbout c (item.HungUp c)
-unfolding taken_at hangs_up hold_after opens heard
+unfolding taken_at stored_at hangs_up hold_after opens heard
 about-hung_up c =
     record {
       taken = λ d differs. refl;
       hangs = λ d differs. grind (arith, nat_tests);
       holds = λ d b differs. grind (arith, nat_tests);
       opens_none = λ d. refl;
+      stores = refl;
       events = refl;
     }
+
+pub still-stored : (d : ℕ) (j : List Item) (x : List ℕ) → Still d j (j ++ item.Stored x ∷ [])
+unfolding taken_at hangs_up hold_after
+still-stored d j x =
+    record { taken = taken_of-still d j (item.Stored x) refl; hung = is_hung_up-still d j (item.Stored x) refl; on_hold = is_held-push d j (item.Stored x) }
 
 -- what an item says of its own connection
 pub taken_of-taken : (c : ℕ) (j : List Item) (x : List ℕ) → taken_of c (j ++ item.Taken c x ∷ []) ≡ taken_of c j ++ x

@@ -16,7 +16,7 @@ left_goes s leaving = rw leaving refl
 
 -- other sessions in place of these
 of_same : {T W : Type 0} (u : Sessions T W) (f g : ℕ → Session W) → ((d : ℕ) → f d ≡ g d) → ◌≡◌ {A = Sessions T W} (record u { of = f }) (record u { of = g })
-of_same {T} {W} u f g same = ap (λ of. let v : Sessions T W = record { tree = u.tree; opened = u.opened; of = of } in v) (fun_ext same)
+of_same {T} {W} u f g same = ap (λ of. let v : Sessions T W = record { tree = u.tree; changes = u.changes; opened = u.opened; of = of } in v) (fun_ext same)
 
 -- where nobody is to be hung up nothing changes
 pub unleaving_same : {T W : Type 0} (u : Sessions T W) → ((d : ℕ) → is_leaving (u.of d).state ≡ false) → all_left u ≡ u

@@ -114,6 +114,7 @@ hung_up-left {T} {W} r c u v alike =
         let other = with_session-same c (away (v.of c)) v.of in
         record {
           tree = alike.tree;
+          changes = alike.changes;
           opened = alike.opened;
           who = ap (λ (x : Session W). x.who) one ∙ alike.who ∙ ap (λ (x : Session W). x.who) (sym other);
           reply = ap (λ (x : Session W). x.reply) one ∙ alike.reply ∙ ap (λ (x : Session W). x.reply) (sym other);

@@ -11,10 +11,10 @@ use Rattle.session_model.specs.Run as session
 use Rattle.session_model.specs.Kept.{Kept, Held, queue_of, forgotten}
 use Rattle.session_model.specs.Keeping.{is_listed}
 use Rattle.session_model.specs.Journaled.{cuts_of, all_taken}
-use Rattle.session_model.specs.Serving.{IsFront, Rightly, Stands, MayHangUp, Leads}
+use Rattle.session_model.specs.Serving.{IsFront, Rightly, Stands, MayHangUp, Leads, IsServed}
 use Rattle.session_model.specs.Replaying.{is_away}
 use Rattle.session_model.specs.Working.{Tracks, Works, Lost, Puts, is_turned, cuts_in}
-use Rattle.session_model.proofs.laws.JournalLemmas.{Still, still-gone, all_taken-one, was_later-more, about-gone}
+use Rattle.session_model.proofs.laws.JournalLemmas.{Still, still-gone, unstored-still, all_taken-one, was_later-more, about-gone}
 use Rattle.session_model.proofs.laws.StepLemmas.{with_session-same, with_session-other, run_from-one, cuts_of-one}
 use Rattle.session_model.proofs.laws.StandLemmas.{at_numbers, Keeps-as, front_as, stands_more, not_unopened, held_not_away}
 use Rattle.session_model.proofs.laws.TrackLemmas.{RightlyNow, tracks_more, front_now, held_now, cuts_in-one}
@@ -28,10 +28,10 @@ forgotten_twice c (k ∷ ks) = grind (arith, nat_tests, forgotten_twice c ks)
 
 module _ {T W : Type 0} (r : Rules T W) (t : T) where
   -- what is tracked once it was found lost
-  tracks_gone : (c : ℕ) (steps : List Step) (u : Sessions T W) (h : Held T W) (on_hold : List ℕ) (journal : List Item) → Tracks r t steps u h on_hold journal → (u.of c).state ≢ Unopened →
+  tracks_gone : (c : ℕ) (steps : List Step) (u : Sessions T W) (h : Held T W) (on_hold : List ℕ) (journal : List Item) → Tracks r t steps u h on_hold journal → session.is_held (u.of c).state ≡ true →
       Tracks r t (steps ++ Gone c ∷ []) (step r u (Gone c)) (record h { kept = forgotten c h.kept }) on_hold (journal ++ item.Gone c ∷ [])
   unfolding step Rightly RightlyNow
-  tracks_gone c steps u h on_hold journal tracks opened =
+  tracks_gone c steps u h on_hold journal tracks there =
       let s = Gone c in
       let i = item.Gone c in
       let v = step r u s in
@@ -45,10 +45,11 @@ module _ {T W : Type 0} (r : Rules T W) (t : T) where
         are = refl;
         goes = run_from-one r u s;
         keeps = Keeps-as v _ _ _ (λ d. ap length (sym (still d).taken)) (Keeps-left r u (λ d. length (taken_of d journal)) h c tracks.keeps);
+        unstored = unstored-still u.changes h.unstored journal i (about-gone c).stores tracks.unstored;
         holds = λ d. (still d).on_hold ∙ tracks.holds d;
         opened = λ d. was_opened-quiet d journal i ((about-gone c).opens_none d) ∙ tracks.opened d;
         fresh = at_numbers c (λ d. is_listed d v.opened ≡ false → (v.of d).state ≡ Unopened)
-            (λ unlisted. absurd (opened (tracks.fresh c unlisted)))
+            (λ unlisted. absurd (not_unopened (u.of c).state there (tracks.fresh c unlisted)))
             (λ d differs unlisted. ap (λ (x : Session W). x.state) (other d differs) ∙ tracks.fresh d unlisted);
         cuts = λ d. subst (λ n. n ≤ cuts_in (v.of d).state) (sym (cuts_of-one d steps s)) (at_numbers c (λ e. cuts_of e steps + 0 ≤ cuts_in (v.of e).state)
             (rw is (let a : cuts_of c steps ≤ cuts_in (u.of c).state = tracks.cuts c in let b = cuts_in-one (u.of c).state in omega arith))
@@ -57,7 +58,7 @@ module _ {T W : Type 0} (r : Rules T W) (t : T) where
         fronts = at_numbers c (λ d. IsFront after d (v.of d))
             (subst (λ (x : Session W). IsFront after c x) (sym is) (front_as journal after c (u.of c) (still c).taken (front c)))
             (λ d differs. subst (λ (x : Session W). IsFront after d x) (sym (other d differs)) (front_as journal after d (u.of d) (still d).taken (front d)));
-        right = λ others same. tt;
+        right = λ others same. subst (λ (x : Sessions T W). IsServed x c) (sym same) there;
       })
 
   -- of a connection with octets queued
@@ -69,7 +70,7 @@ module _ {T W : Type 0} (r : Rules T W) (t : T) where
   pub lost_leads : (c : ℕ) (due : List ℕ) (h : Held T W) (on_hold : List ℕ) (journal : List Item) → Lost r t c due h on_hold journal → Leads r t h.tree journal
   lost_leads c due h on_hold journal lost =
       let works = lost.works in
-      let tracks = tracks_gone c works.steps works.now h on_hold lost.before works.tracks (not_unopened (works.now.of c).state (lost_opened c due h on_hold lost.before works lost.queued)) in
+      let tracks = tracks_gone c works.steps works.now h on_hold lost.before works.tracks (lost_opened c due h on_hold lost.before works lost.queued) in
       subst (Leads r t h.tree) (sym lost.last)
       (record { steps = works.steps ++ Gone c ∷ []; sound = tracks.sound; tree_left = tracks.keeps.tree ∙ ap (λ (x : Sessions T W). x.tree) (sym tracks.is) })
 
@@ -102,7 +103,7 @@ module _ {T W : Type 0} (r : Rules T W) (t : T) where
           let still : (d : ℕ) → Still d journal after = λ d. still-gone c d journal in
           let there = lost_opened c due h on_hold journal works some in
           leaves_works r t c due (works.steps ++ Gone c ∷ []) v (record h { kept = forgotten c h.kept }) on_hold now_on_hold after (record {
-            tracks = tracks_gone c works.steps u h on_hold journal works.tracks (not_unopened (u.of c).state there);
+            tracks = tracks_gone c works.steps u h on_hold journal works.tracks there;
             opened = λ e. away_opened (ap (λ (x : Session W). x.state) (sym is) ∙ e);
             may = subst (λ (x : Session W). MayHangUp x.state after c x) (sym is) ((still c).hung ∙ works.hung c ∙ held_not_away (u.of c).state there);
             hung = λ d differs. (still d).hung ∙ works.hung d ∙ ap (λ (x : Session W). is_away x.state) (sym (other d differs));

@@ -42,6 +42,8 @@ events_of (item.Gone c ∷ j) = events_of j
 events_of (item.Held c ∷ j) = events_of j
 events_of (item.Released c ∷ j) = events_of j
 events_of (item.HungUp c ∷ j) = events_of j
+events_of (item.StoreOpened n l ok ∷ j) = events_of j
+events_of (item.Stored x ∷ j) = events_of j
 
 module _ {T W : Type 0} (r : Rules T W) (t : T) where
   pub works_leads : (due : List ℕ) (h : Held T W) (on_hold : List ℕ) (journal : List Item) → Works r t due h on_hold journal → Leads r t h.tree journal

@@ -21,6 +21,7 @@ module _ {T W : Type 0} (r : Rules T W) (other : T) where
       let alike = said-alike r u.tree other s.who cut ms broken all in
       let after : Answered T W → Sessions T W = λ x. record {
         tree = x.tree;
+        changes = u.changes ++ x.changes;
         opened = u.opened;
         of = with_session c (record { stream = s.stream ++ piece; who = x.who; reply = s.reply ++ x.replies; state = cond x.closes Closing Open; cut = cut }) u.of;
       } in

@@ -41,7 +41,7 @@ Keeps-step r u taken h (Gone c) new keeps = Keeps-left r u taken h c keeps
 Keeps-step r u taken h (HungUp c) new keeps = Keeps-left r u taken h c keeps
 
 -- nothing is held before any step
-pub Keeps-start : {T W : Type 0} (r : Rules T W) (t : T) (taken : ℕ → ℕ) → ((c : ℕ) → taken c ≡ 0) → Keeps (start r t) taken (record { tree = t; kept = []; was_cut = false })
+pub Keeps-start : {T W : Type 0} (r : Rules T W) (t : T) (taken : ℕ → ℕ) → ((c : ℕ) → taken c ≡ 0) → Keeps (start r t) taken (record { tree = t; kept = []; was_cut = false; unstored = [] })
 unfolding start held_numbers
 Keeps-start r t taken none =
     record { tree = refl; numbers = refl; each = λ c. refl; within = λ c. (let zero_c : taken c ≡ 0 = none c in omega arith); unopened = λ c _. (refl, refl) }

@@ -2,7 +2,7 @@
 use Rattle.std.proofs.Common.{◌≡◌, ◌≢◌, ◌≤◌, ℕ, Bool, true, false, cond, List, [], ◌∷◌, ◌++◌, length, map, refl, ap, sym, ◌∙◌, append-nil, arith, subst, ap₂}
 use Rattle.std.proofs.lemmas.List.{map-append}
 use Rattle.wire_io.specs.declared.journal.Item.{Item}
-use Rattle.wire_io.specs.Journal.{taken_of, is_hung_up, is_held, hold_after_all, was_opened, opens}
+use Rattle.wire_io.specs.Journal.{taken_of, stored_of, is_hung_up, is_held, hold_after_all, was_opened, opens}
 use Rattle.wire_io.proofs.Theorems.{was_opened-quiet}
 use Rattle.session_model.specs.Rules.{Rules}
 use Rattle.session_model.specs.Run.{Session, Sessions, State, Open, Closing, TurnedAway, Away, Unopened, Step, step, run, run_from, start, held_numbers}
@@ -36,6 +36,7 @@ module _ {T W : Type 0} (r : Rules T W) (t : T) where
     pub are : map uncut more ≡ step_of_item i
     pub goes : run_from r u more ≡ v
     pub keeps : Keeps v (λ d. length (taken_of d (journal ++ i ∷ []))) h'
+    pub unstored : v.changes ≡ stored_of (journal ++ i ∷ []) ++ h'.unstored
     pub holds : (d : ℕ) → is_held d (journal ++ i ∷ []) ≡ is_listed d on_hold
     pub opened : (d : ℕ) → was_opened d (journal ++ i ∷ []) ≡ is_listed d v.opened
     pub fresh : (d : ℕ) → is_listed d v.opened ≡ false → (v.of d).state ≡ Unopened
@@ -55,6 +56,7 @@ module _ {T W : Type 0} (r : Rules T W) (t : T) where
       record {
         is = is;
         keeps = goes.keeps;
+        unstored = goes.unstored;
         holds = goes.holds;
         opened = goes.opened;
         fresh = goes.fresh;
@@ -73,6 +75,7 @@ module _ {T W : Type 0} (r : Rules T W) (t : T) where
   pub record Stays (u : Sessions T W) (h h' : Held T W) (on_hold : List ℕ) (journal : List Item) (i : Item) : Type 0 where
     pub none : step_of_item i ≡ []
     pub keeps : Keeps u (λ d. length (taken_of d (journal ++ i ∷ []))) h'
+    pub unstored : u.changes ≡ stored_of (journal ++ i ∷ []) ++ h'.unstored
     pub holds : (d : ℕ) → is_held d (journal ++ i ∷ []) ≡ is_listed d on_hold
     pub opens_none : (d : ℕ) → opens d i ≡ false
     pub no_cut : h'.was_cut ≡ h.was_cut
@@ -89,6 +92,7 @@ module _ {T W : Type 0} (r : Rules T W) (t : T) where
         are = sym stays.none;
         goes = refl;
         keeps = stays.keeps;
+        unstored = stays.unstored;
         holds = stays.holds;
         opened = λ d. was_opened-quiet d journal i (stays.opens_none d) ∙ tracks.opened d;
         fresh = tracks.fresh;
@@ -136,12 +140,13 @@ module _ {T W : Type 0} (r : Rules T W) (t : T) where
       by_held false there = absurd (some (queue_now steps u h on_hold journal tracks c ∙ ap (λ b. cond b (unsent journal c (u.of c)) []) there))
 
   -- before anything is heard
-  pub tracks_start : Tracks r t [] (start r t) (record { tree = t; kept = []; was_cut = false }) [] []
-  unfolding start run_from steps_of AreFronts AtEachMoment AtEachItem taken_of is_hung_up is_held hold_after_all was_opened held_numbers cuts_of CutOnce
+  pub tracks_start : Tracks r t [] (start r t) (record { tree = t; kept = []; was_cut = false; unstored = [] }) [] []
+  unfolding start run_from steps_of AreFronts AtEachMoment AtEachItem taken_of stored_of is_hung_up is_held hold_after_all was_opened held_numbers cuts_of CutOnce
   tracks_start =
       record {
         is = refl;
         keeps = record { tree = refl; numbers = refl; each = λ c. refl; within = λ c. omega arith; unopened = λ c _. (refl, refl) };
+        unstored = refl;
         holds = λ c. refl;
         opened = λ c. refl;
         fresh = λ c _. refl;
@@ -160,7 +165,7 @@ module _ {T W : Type 0} (r : Rules T W) (t : T) where
           subst (λ xs. AreFronts r t xs front) (sym (nothing_joined early late es)) (subst (AreFronts r t []) (sym (nothing_joined front back eb)) (λ c. refl))
 
   -- nobody is due
-  pub works_start : Works r t [] (record { tree = t; kept = []; was_cut = false }) [] []
+  pub works_start : Works r t [] (record { tree = t; kept = []; was_cut = false; unstored = [] }) [] []
   unfolding start is_held hold_after_all replayed_from taken_of is_hung_up
   works_start =
       record {

@@ -4,7 +4,7 @@ use Rattle.std.proofs.lemmas.Bool.Decides.{nat_tests}
 use Rattle.wire_io.specs.declared.journal.Event.TheVariants as event
 use Rattle.wire_io.specs.declared.journal.Item.{Item}
 use Rattle.wire_io.specs.declared.journal.Item.TheVariants as item
-use Rattle.wire_io.specs.Journal.{taken_of, is_hung_up, was_opened, opens}
+use Rattle.wire_io.specs.Journal.{taken_of, stored_at, is_hung_up, was_opened, opens}
 use Rattle.session_model.specs.Rules.{Rules}
 use Rattle.session_model.specs.Run.{Session, Sessions, Open, TurnedAway, Unopened, Step, Opened, step, start, held_numbers, most_held, newcomer}
 use Rattle.session_model.specs.Run as session
@@ -15,7 +15,7 @@ use Rattle.session_model.specs.Journaled.{cuts_of, all_taken}
 use Rattle.session_model.specs.Serving.{IsFront, Rightly, Stands, MayHangUp, Leads}
 use Rattle.session_model.specs.Replaying.{is_away, is_leaving, hung_up}
 use Rattle.session_model.specs.Working.{Tracks, Works, Replays, Covers, is_turned, cuts_in}
-use Rattle.session_model.proofs.laws.JournalLemmas.{Still, still-heard, was_opened-one, all_taken-front}
+use Rattle.session_model.proofs.laws.JournalLemmas.{Still, still-heard, unstored-still, was_opened-one, all_taken-front}
 use Rattle.session_model.proofs.laws.HeldLemmas.{is_listed-append}
 use Rattle.session_model.proofs.laws.StepLemmas.{with_session-same, with_session-other, replayed-more, run_from-one, cuts_of-one}
 use Rattle.session_model.proofs.laws.StandLemmas.{at_numbers, Keeps-as, front_as, front_more, stands_free, stands_unleaving}
@@ -41,7 +41,7 @@ module _ {T W : Type 0} (r : Rules T W) (t : T) where
 
   opened_tracks : (h : Held T W) (on_hold : List ℕ) (journal : List Item) (c : ℕ) → was_opened c journal ≡ false → (works : Works r t [] h on_hold journal) →
       HasOpened c (nat_lt (length h.kept) most_held) h on_hold journal works.steps works.now (step r works.now (Opened c))
-  unfolding step opens Rightly RightlyNow kept.heard
+  unfolding step opens stored_at Rightly RightlyNow kept.heard
   opened_tracks h on_hold journal c new works =
       let u = works.now in
       let i = item.Heard (event.Opened c) in
@@ -65,6 +65,7 @@ module _ {T W : Type 0} (r : Rules T W) (t : T) where
           are = refl;
           goes = run_from-one r u (Opened c);
           keeps = Keeps-as v _ _ (kept.heard r (Opened c) h) (λ d. ap length (sym (still d).taken)) (Keeps-opened r u (λ d. length (taken_of d journal)) h c works.tracks.keeps unlisted);
+          unstored = unstored-still u.changes h.unstored journal i refl works.tracks.unstored;
           holds = λ d. (still d).on_hold ∙ works.tracks.holds d;
           opened = λ d. was_opened-one d journal i ∙ (let before : was_opened d journal ≡ is_listed d u.opened = works.tracks.opened d in grind (arith, nat_tests, is_listed-append d u.opened c));
           fresh = at_numbers c (λ d. is_listed d v.opened ≡ false → (v.of d).state ≡ Unopened)
