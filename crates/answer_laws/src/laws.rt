@@ -17,19 +17,19 @@ ghost use Rattle.read_model.specs.CompareReplies.{compare_result};
 /// A message with a search whose base the requester may know of is answered by the octets of entries, or of none, and of
 /// an end with success or with sizeLimitExceeded, where no control of it is refused (RFC 4511 4.1.11 and 4.5.2).
 pub fn a_message_with_a_search_of_a_known_base_succeeds()
-    ensures exact { (entries : List EntryInformation) (who : Requester) (message : Message)
+    ensures exact { (keeps : Bool) (entries : List EntryInformation) (who : Requester) (message : Message)
         (request : SearchRequest) → AsksSearch message request → HasKnownBase entries who request
-        → (IsSearchedWith code.Success message.id (answer_read entries who (Some message)).replies)
-        ⊎ (IsSearchedWith code.SizeLimitExceeded message.id (answer_read entries who (Some message)).replies) }
+        → (IsSearchedWith code.Success message.id (answer_read keeps entries who (Some message)).replies)
+        ⊎ (IsSearchedWith code.SizeLimitExceeded message.id (answer_read keeps entries who (Some message)).replies) }
 {}
 
 /// A message with a compare of an attribute that an entry has, where the entry may be read and the type compared, is
 /// answered by compareTrue or compareFalse, where no control of it is refused (RFC 4511 4.1.11 and 4.10).
 pub fn a_message_with_a_compare_that_is_granted_is_done()
-    ensures exact { (entries : List EntryInformation) (who : Requester) (message : Message)
+    ensures exact { (keeps : Bool) (entries : List EntryInformation) (who : Requester) (message : Message)
         (request : CompareRequest) → AsksCompare message request → IsComparable entries who request
-        → (IsComparedWith code.CompareTrue message.id (answer_read entries who (Some message)).replies)
-        ⊎ (IsComparedWith code.CompareFalse message.id (answer_read entries who (Some message)).replies) }
+        → (IsComparedWith code.CompareTrue message.id (answer_read keeps entries who (Some message)).replies)
+        ⊎ (IsComparedWith code.CompareFalse message.id (answer_read keeps entries who (Some message)).replies) }
 {}
 
 /// A search whose base is an entry that the requester may know of sends entries, or none, and ends with success or with

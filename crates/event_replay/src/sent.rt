@@ -8,6 +8,7 @@ ghost use Rattle.session_hub.specs.session_model.script_text.declared.event.Scri
 ghost use Rattle.session_hub.specs.session_model.script_text.script.Script.{OpensOnce, AreFilled};
 ghost use Rattle.session_hub.specs.session_model.wire_io.Journal.{taken_of};
 ghost use Rattle.session_hub.specs.session_model.wire_io.Scripted.{fresh_link};
+ghost use Rattle.session_hub.specs.Terms.{no_terms};
 ghost use Rattle.event_replay.specs.Played.{played_steps, ArePlayed};
 
 use aci_index::IndexedDir;
@@ -33,11 +34,13 @@ fn link_of(alloc: Global, events: Vec<ScriptEvent>) -> ScriptLink
 fn serve_link(alloc: Global, dir: &mut IndexedDir, link: &mut ScriptLink) -> Result<(), NoMemory>
     ensures sends { (events : List ScriptEvent) → ArePlayed events → link.old ≡ fresh_link events [] [] []
         → OnOk result ((number : ℕ) → taken_of number link.new.journal
-        ≡ ((replayed (rules 0) (entries_of dir.old) (played_steps events)).of number).reply) }
+        ≡ ((replayed (rules no_terms) (entries_of dir.old) (played_steps events)).of number).reply) }
 {
     match serve_loop(alloc, dir, link, TURNS, Bounds::NONE) {
         Ended::Stopped => Ok(()),
-        Ended::TurnsSpent | Ended::LinkFault | Ended::NoMemory => Err(AllocError),
+        Ended::TurnsSpent | Ended::LinkFault | Ended::StoreFault | Ended::NoMemory => {
+            Err(AllocError)
+        }
     }
 }
 
@@ -51,7 +54,7 @@ pub fn sent_to(
 ) -> Result<Vec<u8>, NoMemory>
     requires played { ArePlayed events.items }
     ensures ok { IfOk result (λ sent. sent.items
-        ≡ ((replayed (rules 0) (entries_of tree) (played_steps events.items)).of number).reply) }
+        ≡ ((replayed (rules no_terms) (entries_of tree) (played_steps events.items)).of number).reply) }
 {
     let mut dir = IndexedDir::new(alloc, tree)?;
     let mut link = link_of(alloc, events);

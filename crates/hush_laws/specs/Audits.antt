@@ -7,6 +7,7 @@ use Rattle.session_hub.specs.session_model.Run.{Step}
 use Rattle.session_hub.specs.session_model.Replaying.{replayed}
 use Rattle.session_hub.specs.session_model.Purging.{purged}
 use Rattle.session_hub.specs.Parties.{DirectoryEntries}
+use Rattle.session_hub.specs.declared.bounds.Terms.{Terms}
 use Rattle.session_hub.specs.Answering.{rules}
 use Rattle.hush_laws.specs.declared.part.Part.{Part}
 use Rattle.hush_laws.specs.declared.part.Part.TheVariants.{Suffix, Others, Governs, Shown, Groups, Change, Bind, TurnedAway}
@@ -25,13 +26,13 @@ abbrev pub first_difference : List ℕ → List ℕ → Option ℕ
 first_difference one other = if bytes_eq one other then None else Some (common_front one other)
 
 -- what a connection is sent while events are replayed
-abbrev pub reply_to : ℕ → DirectoryEntries → List Step → ℕ → List ℕ
-reply_to limit entries events number = ((replayed (rules limit) entries events).of number).reply
+abbrev pub reply_to : Terms → DirectoryEntries → List Step → ℕ → List ℕ
+reply_to terms entries events number = ((replayed (rules terms) entries events).of number).reply
 
 -- an audit of a connection over entries, events of all connections and the name of a subtree
-pub record IsAudit (limit : ℕ) (entries : DirectoryEntries) (events : List Step) (number : ℕ) (top : RdnSequence) (audited : Audited) : Type 0 where
-  pub fault : audited.fault ≡ hush_of_replay limit entries events number top
-  pub differs : audited.differs ≡ first_difference (reply_to limit entries events number) (reply_to limit entries (purged number events) number)
+pub record IsAudit (terms : Terms) (entries : DirectoryEntries) (events : List Step) (number : ℕ) (top : RdnSequence) (audited : Audited) : Type 0 where
+  pub fault : audited.fault ≡ hush_of_replay terms entries events number top
+  pub differs : audited.differs ≡ first_difference (reply_to terms entries events number) (reply_to terms entries (purged number events) number)
 
 -- the number by which a part is told
 abbrev pub part_number : Part → ℕ

@@ -12,6 +12,7 @@ use Rattle.session_hub.specs.session_model.Places.{Place, places, places_of_repl
 use Rattle.session_hub.specs.Parties.{DirectoryEntries, Requester}
 use Rattle.session_hub.specs.Answering.{rules}
 use Rattle.session_hub.specs.Twins.{reads_outside}
+use Rattle.session_hub.specs.declared.bounds.Terms.{Terms}
 use Rattle.hush_laws.specs.declared.part.Part.{Part}
 use Rattle.hush_laws.specs.declared.part.Part.TheVariants.{Suffix, TurnedAway}
 use Rattle.hush_laws.specs.declared.fault.Fault.{Fault}
@@ -48,12 +49,12 @@ hush before places top =
     if is_below_suffix top before then first_fault (fault_at top before) places else Some (record { heard = 0; part = Suffix })
 
 -- so of a connection in a run of all steps
-unfoldable pub hush_of_run : ℕ → DirectoryEntries → List Step → ℕ → RdnSequence → Option Fault
-hush_of_run limit before steps number top = hush before (places (rules limit) number before steps) top
+unfoldable pub hush_of_run : Terms → DirectoryEntries → List Step → ℕ → RdnSequence → Option Fault
+hush_of_run terms before steps number top = hush before (places (rules terms) number before steps) top
 
 -- and where all events are replayed, each connection that closes being hung up at once
-unfoldable pub hush_of_replay : ℕ → DirectoryEntries → List Step → ℕ → RdnSequence → Option Fault
-hush_of_replay limit before events number top = hush before (places_of_replay (rules limit) number before events) top
+unfoldable pub hush_of_replay : Terms → DirectoryEntries → List Step → ℕ → RdnSequence → Option Fault
+hush_of_replay terms before events number top = hush before (places_of_replay (rules terms) number before events) top
 
 -- octets are no message, or ask for no change and are no bind with a name at or below this one
 abbrev pub IsReadOutside : RdnSequence → List ℕ → Type 0

@@ -16,6 +16,7 @@ ghost use Rattle.session_hub.specs.session_model.Replaying.{replayed};
 ghost use Rattle.session_hub.specs.session_model.Purging.{purged, openings};
 ghost use Rattle.session_hub.specs.session_model.Places.{places, places_of_replay};
 ghost use Rattle.session_hub.specs.Parties.{DirectoryEntries};
+ghost use Rattle.session_hub.specs.declared.bounds.Terms.{Terms};
 ghost use Rattle.session_hub.specs.Answering.{rules};
 ghost use Rattle.session_hub.specs.Twins.{reads_outside};
 ghost use Rattle.hush_laws.specs.declared.audited.Audited.{Audited};
@@ -58,12 +59,12 @@ pub fn a_request_reads_outside_where_it_asks_for_neither()
 /// Nothing breaks a hush exactly where the name is below the suffix and each place is hushed: in a run, and where events are
 /// replayed.
 pub fn nothing_breaks_a_hush_where_each_place_is_hushed()
-    ensures run { (limit : ℕ) (entries : DirectoryEntries) (steps : List Step) (number : ℕ) (top : RdnSequence)
-        → IsGoodTree entries → (hush_of_run limit entries steps number top ≡ None)
-        ↔ IsHushed entries (places (rules limit) number entries steps) top }
-    ensures replay { (limit : ℕ) (entries : DirectoryEntries) (events : List Step) (number : ℕ) (top : RdnSequence)
-        → IsGoodTree entries → (hush_of_replay limit entries events number top ≡ None)
-        ↔ IsHushed entries (places_of_replay (rules limit) number entries events) top }
+    ensures run { (terms : Terms) (entries : DirectoryEntries) (steps : List Step) (number : ℕ) (top : RdnSequence)
+        → IsGoodTree entries → (hush_of_run terms entries steps number top ≡ None)
+        ↔ IsHushed entries (places (rules terms) number entries steps) top }
+    ensures replay { (terms : Terms) (entries : DirectoryEntries) (events : List Step) (number : ℕ) (top : RdnSequence)
+        → IsGoodTree entries → (hush_of_replay terms entries events number top ≡ None)
+        ↔ IsHushed entries (places_of_replay (rules terms) number entries events) top }
 {
     sessions_keep_a_directory_good();
 }
@@ -72,17 +73,17 @@ pub fn nothing_breaks_a_hush_where_each_place_is_hushed()
 /// alone, and so it is where events are replayed; what a link took of it is a front of what it gets alone. What others do in
 /// the subtree meanwhile is theirs.
 pub fn what_is_hushed_does_not_show()
-    ensures run { (limit : ℕ) (entries : DirectoryEntries) (steps : List Step) (number : ℕ) (top : RdnSequence)
-        → IsGoodTree entries → openings number steps ≤ 1 → hush_of_run limit entries steps number top ≡ None
-        → (run (rules limit) entries steps).of number ≡ (run (rules limit) entries (purged number steps)).of number }
-    ensures replay { (limit : ℕ) (entries : DirectoryEntries) (events : List Step) (number : ℕ) (top : RdnSequence)
-        → IsGoodTree entries → openings number events ≤ 1 → hush_of_replay limit entries events number top ≡ None
-        → (replayed (rules limit) entries events).of number
-        ≡ (replayed (rules limit) entries (purged number events)).of number }
-    ensures taken { (limit : ℕ) (entries : DirectoryEntries) (steps : List Step) (number : ℕ) (top : RdnSequence)
-        (journal : List Item) → Sound (rules limit) entries steps journal
-        → IsGoodTree entries → openings number steps ≤ 1 → hush_of_run limit entries steps number top ≡ None
-        → IsFront journal number ((run (rules limit) entries (purged number steps)).of number) }
+    ensures run { (terms : Terms) (entries : DirectoryEntries) (steps : List Step) (number : ℕ) (top : RdnSequence)
+        → IsGoodTree entries → openings number steps ≤ 1 → hush_of_run terms entries steps number top ≡ None
+        → (run (rules terms) entries steps).of number ≡ (run (rules terms) entries (purged number steps)).of number }
+    ensures replay { (terms : Terms) (entries : DirectoryEntries) (events : List Step) (number : ℕ) (top : RdnSequence)
+        → IsGoodTree entries → openings number events ≤ 1 → hush_of_replay terms entries events number top ≡ None
+        → (replayed (rules terms) entries events).of number
+        ≡ (replayed (rules terms) entries (purged number events)).of number }
+    ensures taken { (terms : Terms) (entries : DirectoryEntries) (steps : List Step) (number : ℕ) (top : RdnSequence)
+        (journal : List Item) → Sound (rules terms) entries steps journal
+        → IsGoodTree entries → openings number steps ≤ 1 → hush_of_run terms entries steps number top ≡ None
+        → IsFront journal number ((run (rules terms) entries (purged number steps)).of number) }
 {
     sessions_keep_a_directory_good();
     other_sessions_do_not_show();
@@ -90,9 +91,9 @@ pub fn what_is_hushed_does_not_show()
 
 /// An audit that finds the hush kept finds no difference.
 pub fn an_audit_finds_no_difference_under_a_hush()
-    ensures exact { (limit : ℕ) (entries : DirectoryEntries) (events : List Step) (number : ℕ) (top : RdnSequence)
+    ensures exact { (terms : Terms) (entries : DirectoryEntries) (events : List Step) (number : ℕ) (top : RdnSequence)
         (audited : Audited) → IsGoodTree entries → openings number events ≤ 1
-        → IsAudit limit entries events number top audited → audited.fault ≡ None → audited.differs ≡ None }
+        → IsAudit terms entries events number top audited → audited.fault ≡ None → audited.differs ≡ None }
 {
     what_is_hushed_does_not_show();
 }

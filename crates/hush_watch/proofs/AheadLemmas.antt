@@ -12,6 +12,7 @@ use Rattle.session_hub.specs.session_model.Purging.{openings}
 use Rattle.session_hub.specs.session_model.Places.{places_of_step, places_from}
 use Rattle.session_hub.proofs.session_model_proofs.Theorems.{replay-new}
 use Rattle.session_hub.specs.Parties.{DirectoryEntries}
+use Rattle.session_hub.specs.Terms.{no_terms}
 use Rattle.session_hub.specs.Answering.{rules}
 use Rattle.hush_laws.specs.declared.part.Part.{Part}
 use Rattle.hush_laws.specs.declared.fault.Fault.{Fault}
@@ -33,47 +34,47 @@ played-event (script.Ended n) = refl
 
 module _ (c : ℕ) (top : RdnSequence) (before : DirectoryEntries) where
   abbrev fault_here : ℕ → ServedSessions → List Step → Option Fault
-  fault_here h u steps = first_fault (fault_at top before) (places_from (rules 0) (step_and_hang_up (rules 0)) c h u steps)
+  fault_here h u steps = first_fault (fault_at top before) (places_from (rules no_terms) (step_and_hang_up (rules no_terms)) c h u steps)
 
   -- a step that is an event, and those behind it
   shown-then : (h : ℕ) (u : ServedSessions) (next : Step) (late : List Step) → is_event next ≡ true
-      → fault_here h u (next ∷ late) ≡ option_or (shown_by c top before (h + 1) u next) (fault_here (h + 1) (step_and_hang_up (rules 0) u next) late)
+      → fault_here h u (next ∷ late) ≡ option_or (shown_by c top before (h + 1) u next) (fault_here (h + 1) (step_and_hang_up (rules no_terms) u next) late)
   unfolding places_from
   shown-then h u next late event =
-      ap (λ k. first_fault (fault_at top before) (places_of_step (rules 0) (step_and_hang_up (rules 0)) c k u next ++ places_from (rules 0) (step_and_hang_up (rules 0)) c k (step_and_hang_up (rules 0) u next) late))
+      ap (λ k. first_fault (fault_at top before) (places_of_step (rules no_terms) (step_and_hang_up (rules no_terms)) c k u next ++ places_from (rules no_terms) (step_and_hang_up (rules no_terms)) c k (step_and_hang_up (rules no_terms) u next) late))
       (ap (λ (b : Bool). h + (if b then 1 else 0)) event)
-      ∙ first_fault-append (fault_at top before) (places_of_step (rules 0) (step_and_hang_up (rules 0)) c (h + 1) u next) (places_from (rules 0) (step_and_hang_up (rules 0)) c (h + 1) (step_and_hang_up (rules 0) u next) late)
+      ∙ first_fault-append (fault_at top before) (places_of_step (rules no_terms) (step_and_hang_up (rules no_terms)) c (h + 1) u next) (places_from (rules no_terms) (step_and_hang_up (rules no_terms)) c (h + 1) (step_and_hang_up (rules no_terms) u next) late)
 
   -- before any event all are left
-  pub ahead-start : (steps : List Step) (held : ServedHeld) → IsWatched c top before (start (rules 0) before) held → IsAhead c top before [] steps held
+  pub ahead-start : (steps : List Step) (held : ServedHeld) → IsWatched c top before (start (rules no_terms) before) held → IsAhead c top before [] steps held
   unfolding replayed_from
   ahead-start steps held watched = record { watched = watched; places = refl }
 
   module _ (early late : List Step) (next : Step) (old : ServedHeld) (event : is_event next ≡ true) (once : openings (number_of next) (early ++ next ∷ late) ≤ 1)
       (ahead : IsAhead c top before early (next ∷ late) old) where
     -- an event shows a part
-    pub ahead-found : (new : ServedHeld) (part : Part) → Shows c top before (step_and_hang_up (rules 0)) next old (Some part) new
+    pub ahead-found : (new : ServedHeld) (part : Part) → Shows c top before (step_and_hang_up (rules no_terms)) next old (Some part) new
         → first_shown c top before (early ++ next ∷ late) ≡ Some (record { heard = length early + 1; part = part })
     unfolding Shows
     ahead-found new part shows =
-        let u = replayed (rules 0) before early in
-        let shown = shows u (replay-new (rules 0) before early late next once) ahead.watched in
+        let u = replayed (rules no_terms) before early in
+        let shown = shows u (replay-new (rules no_terms) before early late next once) ahead.watched in
         ahead.places ∙ shown-then (length early) u next late event
-        ∙ ap (λ fault. option_or fault (fault_here (length early + 1) (step_and_hang_up (rules 0) u next) late)) (shown.part (length early + 1))
+        ∙ ap (λ fault. option_or fault (fault_here (length early + 1) (step_and_hang_up (rules no_terms) u next) late)) (shown.part (length early + 1))
 
     -- or none
-    pub ahead-on : (new : ServedHeld) → Shows c top before (step_and_hang_up (rules 0)) next old None new → IsAhead c top before (early ++ next ∷ []) late new
+    pub ahead-on : (new : ServedHeld) → Shows c top before (step_and_hang_up (rules no_terms)) next old None new → IsAhead c top before (early ++ next ∷ []) late new
     unfolding Shows
     ahead-on new shows =
-        let u = replayed (rules 0) before early in
-        let shown = shows u (replay-new (rules 0) before early late next once) ahead.watched in
-        let leads : replayed (rules 0) before (early ++ next ∷ []) ≡ step_and_hang_up (rules 0) u next = replayed-more (rules 0) (start (rules 0) before) early next in
+        let u = replayed (rules no_terms) before early in
+        let shown = shows u (replay-new (rules no_terms) before early late next once) ahead.watched in
+        let leads : replayed (rules no_terms) before (early ++ next ∷ []) ≡ step_and_hang_up (rules no_terms) u next = replayed-more (rules no_terms) (start (rules no_terms) before) early next in
         let more : length (early ++ next ∷ []) ≡ length early + 1 = length_push early next in
         record {
           watched = subst (λ v. IsWatched c top before v new) (sym leads) (shown.goes_on refl);
           places =
               ap (first_shown c top before) (append_assoc early (next ∷ []) late) ∙ ahead.places ∙ shown-then (length early) u next late event
-              ∙ ap (λ fault. option_or fault (fault_here (length early + 1) (step_and_hang_up (rules 0) u next) late)) (shown.part (length early + 1))
+              ∙ ap (λ fault. option_or fault (fault_here (length early + 1) (step_and_hang_up (rules no_terms) u next) late)) (shown.part (length early + 1))
               ∙ sym (ap₂ (λ h v. fault_here h v late) more leads);
         }
 
@@ -109,7 +110,7 @@ module _ (c : ℕ) (top : RdnSequence) (before : DirectoryEntries) where
       (ahead : IsAhead c top before (played_steps (take index events)) (played_steps (drop index events)) old) where
     -- the event at a place shows a part
     pub event-found : (event : ScriptEvent) (heard : ℕ) (new : ServedHeld) (part : Part) → index < length events → event ≡ get_or events index event → heard ≡ index + 1
-        → Shows c top before (step_and_hang_up (rules 0)) (step_of event) old (Some part) new
+        → Shows c top before (step_and_hang_up (rules no_terms)) (step_of event) old (Some part) new
         → Some (record { heard = heard; part = part }) ≡ first_shown c top before (played_steps events)
     event-found event heard new part within is counted shows =
         let here = turn events index event within is in
@@ -121,7 +122,7 @@ module _ (c : ℕ) (top : RdnSequence) (before : DirectoryEntries) where
 
     -- or none
     pub event-on : (event : ScriptEvent) (new : ServedHeld) → index < length events → event ≡ get_or events index event
-        → Shows c top before (step_and_hang_up (rules 0)) (step_of event) old None new
+        → Shows c top before (step_and_hang_up (rules no_terms)) (step_of event) old None new
         → IsAhead c top before (played_steps (take (index + 1) events)) (played_steps (drop (index + 1) events)) new
     event-on event new within is shows =
         let here = turn events index event within is in

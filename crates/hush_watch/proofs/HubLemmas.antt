@@ -11,6 +11,8 @@ use Rattle.session_hub.specs.session_model.Purging.{has_room}
 use Rattle.session_hub.specs.session_model.Places.{CompletesOne, asker_in}
 use Rattle.session_hub.proofs.session_model_proofs.Theorems.{closing_in, closing_of_is, Keeps-hung_up, completes_next, completes_none, none_asks}
 use Rattle.session_hub.specs.Parties.{DirectoryEntries, Requester}
+use Rattle.session_hub.specs.declared.bounds.Terms.{Terms}
+use Rattle.session_hub.specs.Terms.{no_terms}
 use Rattle.session_hub.specs.Answering.{rules}
 use Rattle.session_hub.specs.declared.event.Event.{Event}
 use Rattle.session_hub.specs.Event.{step_of, step_by}
@@ -21,22 +23,22 @@ use Rattle.hush_watch.specs.declared.next_message.NextMessage.{NextMessage}
 use Rattle.hush_watch.specs.NextMessages.{IsNextIn, ShowsNext, is_open_in}
 
 -- before any event
-pub holds-start : (hub : HubState) (entries : DirectoryEntries) → hub.bounds.limit ≡ 0 → FollowsStart hub → Holds (start (rules 0) entries) (held entries hub)
+pub holds-start : (hub : HubState) (entries : DirectoryEntries) → hub.bounds.terms ≡ no_terms → FollowsStart hub → Holds (start (rules no_terms) entries) (held entries hub)
 unfolding FollowsStart
 holds-start hub entries none follows = record {
   taken = λ number. 0;
-  keeps = subst (λ limit. Keeps (start (rules limit) entries) (λ number. 0) (held entries hub)) none (follows entries);
+  keeps = subst (λ terms. Keeps (start (rules terms) entries) (λ number. 0) (held entries hub)) none (follows entries);
 }
 
 -- an event of which nothing was cut
-pub hears-whole : (limit : ℕ) (came : Event) (old new : ServedHeld) → limit ≡ 0 → step_by came old.kept new.kept ≡ step_of came None
-    → FollowsStep limit (step_by came old.kept new.kept) old new → Hears (step_of came None) old new
+pub hears-whole : (terms : Terms) (came : Event) (old new : ServedHeld) → terms ≡ no_terms → step_by came old.kept new.kept ≡ step_of came None
+    → FollowsStep terms (step_by came old.kept new.kept) old new → Hears (step_of came None) old new
 unfolding FollowsStep Hears
-hears-whole limit came old new none whole follows u fresh holds = record {
+hears-whole terms came old new none whole follows u fresh holds = record {
   taken = holds.taken;
   keeps =
-      subst (λ limit. Keeps (step (rules limit) u (step_of came None)) holds.taken new) none
-      (subst (λ next. Keeps (step (rules limit) u next) holds.taken new) whole (follows u holds.taken (subst (IsNew u) (sym whole) fresh) holds.keeps));
+      subst (λ terms. Keeps (step (rules terms) u (step_of came None)) holds.taken new) none
+      (subst (λ next. Keeps (step (rules terms) u next) holds.taken new) whole (follows u holds.taken (subst (IsNew u) (sym whole) fresh) holds.keeps));
 }
 
 -- what waits was taken, and a connection that is closing is forgotten
@@ -46,9 +48,9 @@ unfolding FollowsTaking HangsUp
 hangs-up number count entries old mid new closes follows closing is u holds = record {
   taken = more_taken number count holds.taken;
   keeps =
-      subst (λ (hub : HubState). Keeps (hung_up (rules 0) number u) (more_taken number count holds.taken) (held entries hub)) (sym is)
-      (subst (λ b. Keeps (hung_up (rules 0) number u) (more_taken number count holds.taken) (record (held entries mid) { kept = cond b (forgotten number mid.kept) mid.kept })) (sym closing)
-      (Keeps-hung_up (rules 0) number u (more_taken number count holds.taken) (held entries mid) (follows entries u holds.taken holds.keeps)));
+      subst (λ (hub : HubState). Keeps (hung_up (rules no_terms) number u) (more_taken number count holds.taken) (held entries hub)) (sym is)
+      (subst (λ b. Keeps (hung_up (rules no_terms) number u) (more_taken number count holds.taken) (record (held entries mid) { kept = cond b (forgotten number mid.kept) mid.kept })) (sym closing)
+      (Keeps-hung_up (rules no_terms) number u (more_taken number count holds.taken) (held entries mid) (follows entries u holds.taken holds.keeps)));
 }
 
 -- the room that is seen is that of the sessions

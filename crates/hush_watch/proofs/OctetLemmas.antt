@@ -11,6 +11,7 @@ use Rattle.session_hub.specs.session_model.Joined.{LeavesAlike}
 use Rattle.session_hub.specs.session_model.Places.{CompletesOne, standing, standing_behind, places_of_step}
 use Rattle.session_hub.proofs.session_model_proofs.Theorems.{replay-piece, places-none, places-closed, Keeps-alike, pieces-join}
 use Rattle.session_hub.specs.Parties.{DirectoryEntries}
+use Rattle.session_hub.specs.Terms.{no_terms}
 use Rattle.session_hub.specs.Answering.{rules}
 use Rattle.hush_laws.specs.declared.part.Part.{Part}
 use Rattle.hush_laws.specs.Requests.{failing_request}
@@ -36,10 +37,10 @@ module _ (c : ℕ) (top : RdnSequence) (before : DirectoryEntries) where
       → ShowsMessage c top before other piece message old (option_or looked asked) new
   unfolding ShowsMessage Hears
   shows-message other piece message old new looked asked hears looks asks u watched completes =
-      let after = step (rules 0) u (Bytes other piece None) in
+      let after = step (rules no_terms) u (Bytes other piece None) in
       let holds = hears u tt watched.holds in
       let is : fails after ≡ looked = by_due (is_due (other == c) message) looks
-      (λ e. none-fails top before c u after (message-stays 0 c other u piece message completes e) watched.passes) (fails-held c top before after new holds) in
+      (λ e. none-fails top before c u after (message-stays no_terms c other u piece message completes e) watched.passes) (fails-held c top before after new holds) in
       record {
         part = λ h. ap₂ (λ x y. option_or x (option_or y None)) is (sym asks) ∙ ap (option_or looked) (no_more asked);
         goes_on = λ none. record { holds = holds; passes = is ∙ first_none looked asked none };
@@ -60,14 +61,14 @@ module _ (c : ℕ) (top : RdnSequence) (before : DirectoryEntries) where
   -- at the beginning all of a piece is left
   pub leads-none : (n : ℕ) (piece : List ℕ) (old : ServedHeld) → Leads c top before n piece old piece old
   unfolding Leads
-  leads-none n piece old u watched = record { sessions = u; watched = watched; places = λ h. refl; alike = alike_self n (step (rules 0) u (Bytes n piece None)) }
+  leads-none n piece old u watched = record { sessions = u; watched = watched; places = λ h. refl; alike = alike_self n (step (rules no_terms) u (Bytes n piece None)) }
 
   -- the places of what is left are the one behind its first message and then the others
   shown-piece : (h n : ℕ) (u : ServedSessions) (front more message : List ℕ) → CompletesOne u n front message
       → shown_by c top before h u (Bytes n (front ++ more) None)
-      ≡ option_or (fault_of h (broken_part top before (standing_behind c h n message (step (rules 0) u (Bytes n front None)))))
-      (shown_by c top before h (step (rules 0) u (Bytes n front None)) (Bytes n more None))
-  shown-piece h n u front more message completes = ap (first_fault (fault_at top before)) (replay-piece (rules 0) c h n u front more message completes)
+      ≡ option_or (fault_of h (broken_part top before (standing_behind c h n message (step (rules no_terms) u (Bytes n front None)))))
+      (shown_by c top before h (step (rules no_terms) u (Bytes n front None)) (Bytes n more None))
+  shown-piece h n u front more message completes = ap (first_fault (fault_at top before)) (replay-piece (rules no_terms) c h n u front more message completes)
 
   -- a message behind which nothing is broken
   pub leads-on : (n : ℕ) (piece rest front more message : List ℕ) (old mid new : ServedHeld) → rest ≡ front ++ more → Leads c top before n piece old rest mid
@@ -77,7 +78,7 @@ module _ (c : ℕ) (top : RdnSequence) (before : DirectoryEntries) where
   leads-on n piece rest front more message old mid new joins leads next shows first watched =
       let led = leads first watched in
       let u = led.sessions in
-      let after = step (rules 0) u (Bytes n front None) in
+      let after = step (rules no_terms) u (Bytes n front None) in
       let completes = next u led.watched.holds in
       let shown = shows u led.watched completes in
       record {
@@ -85,19 +86,19 @@ module _ (c : ℕ) (top : RdnSequence) (before : DirectoryEntries) where
         watched = shown.goes_on refl;
         places = λ h. led.places h ∙ ap (λ xs. shown_by c top before h u (Bytes n xs None)) joins ∙ shown-piece h n u front more message completes
             ∙ ap (λ part. option_or (fault_of h part) (shown_by c top before h after (Bytes n more None))) (shown.part h);
-        alike = alike_then n (step (rules 0) after (Bytes n more None)) (step (rules 0) u (Bytes n rest None)) (step (rules 0) first (Bytes n piece None))
-            (subst (λ xs. LeavesAlike n (step (rules 0) after (Bytes n more None)) (step (rules 0) u (Bytes n xs None))) (sym joins) (pieces-join (rules 0) u n front more)) led.alike;
+        alike = alike_then n (step (rules no_terms) after (Bytes n more None)) (step (rules no_terms) u (Bytes n rest None)) (step (rules no_terms) first (Bytes n piece None))
+            (subst (λ xs. LeavesAlike n (step (rules no_terms) after (Bytes n more None)) (step (rules no_terms) u (Bytes n xs None))) (sym joins) (pieces-join (rules no_terms) u n front more)) led.alike;
       }
 
   -- a message behind which something is
   pub shows-broken : (n : ℕ) (piece rest front more message : List ℕ) (old mid new : ServedHeld) (part : Part) → rest ≡ front ++ more → Leads c top before n piece old rest mid
       → ((u : ServedSessions) → Holds u mid → CompletesOne u n front message) → ShowsMessage c top before n front message mid (Some part) new
-      → Shows c top before (step (rules 0)) (Bytes n piece None) old (Some part) new
+      → Shows c top before (step (rules no_terms)) (Bytes n piece None) old (Some part) new
   unfolding Leads ShowsMessage Shows
   shows-broken n piece rest front more message old mid new part joins leads next shows first fresh watched =
       let led = leads first watched in
       let u = led.sessions in
-      let after = step (rules 0) u (Bytes n front None) in
+      let after = step (rules no_terms) u (Bytes n front None) in
       let completes = next u led.watched.holds in
       let shown = shows u led.watched completes in
       record {
@@ -108,24 +109,24 @@ module _ (c : ℕ) (top : RdnSequence) (before : DirectoryEntries) where
 
   -- what is left completes no message of an open connection
   one_place-rest : (h n : ℕ) (u : ServedSessions) (rest : List ℕ) → (new_messages (u.of n).stream rest ≡ []) ⊎ ((u.of n).state ≢ Open)
-      → places_of_step (rules 0) (step_and_hang_up (rules 0)) c h u (Bytes n rest None) ≡ standing c h (step_and_hang_up (rules 0) u (Bytes n rest None)) ∷ []
-  one_place-rest h n u rest (inl none) = places-none (rules 0) (step_and_hang_up (rules 0)) c h n u rest none
-  one_place-rest h n u rest (inr shut) = places-closed (rules 0) (step_and_hang_up (rules 0)) c h n u rest shut
+      → places_of_step (rules no_terms) (step_and_hang_up (rules no_terms)) c h u (Bytes n rest None) ≡ standing c h (step_and_hang_up (rules no_terms) u (Bytes n rest None)) ∷ []
+  one_place-rest h n u rest (inl none) = places-none (rules no_terms) (step_and_hang_up (rules no_terms)) c h n u rest none
+  one_place-rest h n u rest (inr shut) = places-closed (rules no_terms) (step_and_hang_up (rules no_terms)) c h n u rest shut
 
-  rest-stays : (n : ℕ) (u : ServedSessions) (rest : List ℕ) → (new_messages (u.of n).stream rest ≡ []) ⊎ ((u.of n).state ≢ Open) → StaysShown c u (step (rules 0) u (Bytes n rest None))
-  rest-stays n u rest (inl none) = none-stays 0 c n u rest none
-  rest-stays n u rest (inr shut) = closed-stays 0 c n u rest shut
+  rest-stays : (n : ℕ) (u : ServedSessions) (rest : List ℕ) → (new_messages (u.of n).stream rest ≡ []) ⊎ ((u.of n).state ≢ Open) → StaysShown c u (step (rules no_terms) u (Bytes n rest None))
+  rest-stays n u rest (inl none) = none-stays no_terms c n u rest none
+  rest-stays n u rest (inr shut) = closed-stays no_terms c n u rest shut
 
   pub shows-rest : (n : ℕ) (piece rest : List ℕ) (old mid new : ServedHeld) → Leads c top before n piece old rest mid
       → ((u : ServedSessions) → Holds u mid → (new_messages (u.of n).stream rest ≡ []) ⊎ ((u.of n).state ≢ Open))
-      → Hears (Bytes n rest None) mid new → Shows c top before (step (rules 0)) (Bytes n piece None) old None new
+      → Hears (Bytes n rest None) mid new → Shows c top before (step (rules no_terms)) (Bytes n piece None) old None new
   unfolding Leads Shows Hears
   shows-rest n piece rest old mid new leads none hears first fresh watched =
       let led = leads first watched in
       let u = led.sessions in
       let completes = none u led.watched.holds in
-      let last = step (rules 0) u (Bytes n rest None) in
-      let all = step (rules 0) first (Bytes n piece None) in
+      let last = step (rules no_terms) u (Bytes n rest None) in
+      let all = step (rules no_terms) first (Bytes n piece None) in
       let passes : fails last ≡ None = none-fails top before c u last (rest-stays n u rest completes) led.watched.passes in
       let held = hears u tt led.watched.holds in
       let holds : Holds all new = record { taken = held.taken; keeps = Keeps-alike n last all held.taken new led.alike held.keeps } in

@@ -12,6 +12,7 @@ use Rattle.session_hub.specs.session_model.Places.{asker, asker_of}
 pub alike_then : {T W : Type 0} (c : ℕ) (u v w : Sessions T W) → LeavesAlike c u v → LeavesAlike c v w → LeavesAlike c u w
 alike_then c u v w first second = record {
   tree = first.tree ∙ second.tree;
+  changes = first.changes ∙ second.changes;
   opened = first.opened ∙ second.opened;
   who = first.who ∙ second.who;
   reply = first.reply ∙ second.reply;
@@ -22,7 +23,7 @@ alike_then c u v w first second = record {
 }
 
 pub alike_self : {T W : Type 0} (c : ℕ) (u : Sessions T W) → LeavesAlike c u u
-alike_self c u = record { tree = refl; opened = refl; who = refl; reply = refl; state = refl; cut = refl; stream = λ is_open. refl; rest = λ other differs. refl }
+alike_self c u = record { tree = refl; changes = refl; opened = refl; who = refl; reply = refl; state = refl; cut = refl; stream = λ is_open. refl; rest = λ other differs. refl }
 
 -- who asks on one connection, where the session of a number is another one
 asks_with : {W : Type 0} (n c : ℕ) (session : Session W) (of : ℕ → Session W) → (c ≡ n → asker_of session ≡ asker_of (of c)) → asker_of (with_session n session of c) ≡ asker_of (of c)

@@ -5,6 +5,7 @@ use Rattle.session_hub.specs.session_model.Kept.{Held}
 use Rattle.session_hub.specs.session_model.Keeping.{Keeps, IsNew}
 use Rattle.session_hub.specs.session_model.Replaying.{hung_up}
 use Rattle.session_hub.specs.Parties.{DirectoryEntries, Requester}
+use Rattle.session_hub.specs.Terms.{no_terms}
 use Rattle.session_hub.specs.Answering.{rules}
 
 -- sessions over the entries of a directory
@@ -22,8 +23,8 @@ pub record Holds (sessions : ServedSessions) (held : ServedHeld) : Type 0 where
 
 -- a step that opens no number twice was heard whole: what is held is that of the sessions to which it leads
 unfoldable pub Hears : Step → ServedHeld → ServedHeld → Type 0
-Hears next old new = (sessions : ServedSessions) → IsNew sessions next → Holds sessions old → Holds (step (rules 0) sessions next) new
+Hears next old new = (sessions : ServedSessions) → IsNew sessions next → Holds sessions old → Holds (step (rules no_terms) sessions next) new
 
 -- a connection was let go where it is to be hung up
 unfoldable pub HangsUp : ℕ → ServedHeld → ServedHeld → Type 0
-HangsUp number old new = (sessions : ServedSessions) → Holds sessions old → Holds (hung_up (rules 0) number sessions) new
+HangsUp number old new = (sessions : ServedSessions) → Holds sessions old → Holds (hung_up (rules no_terms) number sessions) new

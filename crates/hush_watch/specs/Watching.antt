@@ -7,6 +7,7 @@ use Rattle.session_hub.specs.session_model.Replaying.{step_and_hang_up, replayed
 use Rattle.session_hub.specs.session_model.Joined.{LeavesAlike}
 use Rattle.session_hub.specs.session_model.Places.{CompletesOne, standing_behind, places_of_step, places_from}
 use Rattle.session_hub.specs.Parties.{DirectoryEntries}
+use Rattle.session_hub.specs.Terms.{no_terms}
 use Rattle.session_hub.specs.Answering.{rules}
 use Rattle.hush_laws.specs.declared.part.Part.{Part}
 use Rattle.hush_laws.specs.declared.fault.Fault.{Fault}
@@ -31,7 +32,7 @@ module _ (number : ℕ) (top : RdnSequence) (before : DirectoryEntries) where
 
   -- what breaks the hush first among the places of a step
   abbrev pub shown_by : ℕ → ServedSessions → Step → Option Fault
-  shown_by heard sessions next = first_fault (fault_at top before) (places_of_step (rules 0) (step_and_hang_up (rules 0)) number heard sessions next)
+  shown_by heard sessions next = first_fault (fault_at top before) (places_of_step (rules no_terms) (step_and_hang_up (rules no_terms)) number heard sessions next)
 
   -- a step shows this part first; and where it shows none, the sessions to which it leads are held then, and watched
   pub record IsShown (after : ServedSessions → Step → ServedSessions) (sessions : ServedSessions) (next : Step) (found : Option Part) (new : ServedHeld) : Type 0 where
@@ -52,14 +53,14 @@ module _ (number : ℕ) (top : RdnSequence) (before : DirectoryEntries) where
   unfoldable pub ShowsMessage : ℕ → List ℕ → List ℕ → ServedHeld → Option Part → ServedHeld → Type 0
   ShowsMessage other piece message old found new =
       (sessions : ServedSessions) → IsWatched sessions old → CompletesOne sessions other piece message →
-      IsShownBehind other message (step (rules 0) sessions (Bytes other piece None)) found new
+      IsShownBehind other message (step (rules no_terms) sessions (Bytes other piece None)) found new
 
   -- what is left of a piece of octets shows what the whole of it does, and leaves the sessions alike
   pub record IsLed (other : ℕ) (piece : List ℕ) (first : ServedSessions) (rest : List ℕ) (new : ServedHeld) : Type 0 where
     pub sessions : ServedSessions
     pub watched : IsWatched sessions new
     pub places : (heard : ℕ) → shown_by heard first (Bytes other piece None) ≡ shown_by heard sessions (Bytes other rest None)
-    pub alike : LeavesAlike other (step (rules 0) sessions (Bytes other rest None)) (step (rules 0) first (Bytes other piece None))
+    pub alike : LeavesAlike other (step (rules no_terms) sessions (Bytes other rest None)) (step (rules no_terms) first (Bytes other piece None))
 
   -- so whatever sessions were watched before the piece
   unfoldable pub Leads : ℕ → List ℕ → ServedHeld → List ℕ → ServedHeld → Type 0
@@ -67,10 +68,10 @@ module _ (number : ℕ) (top : RdnSequence) (before : DirectoryEntries) where
 
   -- what breaks the hush first in a replay of events behind its beginning
   abbrev pub first_shown : List Step → Option Fault
-  first_shown steps = first_fault (fault_at top before) (places_from (rules 0) (step_and_hang_up (rules 0)) number 0 (start (rules 0) before) steps)
+  first_shown steps = first_fault (fault_at top before) (places_from (rules no_terms) (step_and_hang_up (rules no_terms)) number 0 (start (rules no_terms) before) steps)
 
   -- the sessions that events lead to are held and watched, and those that are left show what all do
   pub record IsAhead (early late : List Step) (held : ServedHeld) : Type 0 where
-    pub watched : IsWatched (replayed (rules 0) before early) held
+    pub watched : IsWatched (replayed (rules no_terms) before early) held
     pub places : first_shown (early ++ late)
-        ≡ first_fault (fault_at top before) (places_from (rules 0) (step_and_hang_up (rules 0)) number (length early) (replayed (rules 0) before early) late)
+        ≡ first_fault (fault_at top before) (places_from (rules no_terms) (step_and_hang_up (rules no_terms)) number (length early) (replayed (rules no_terms) before early) late)

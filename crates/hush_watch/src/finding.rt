@@ -4,6 +4,7 @@ ghost use Rattle.std.specs.Prelude.{◌≡◌, IfOk};
 ghost use Rattle.dir_tree.specs.tree.Numbered.{entries_of};
 ghost use Rattle.event_replay.specs.Played.{ArePlayed, played_steps};
 ghost use Rattle.hush_laws.specs.Hush.{hush_of_replay};
+ghost use Rattle.session_hub.specs.Terms.{no_terms};
 
 use crate::watch::Watch;
 use crate::watched::Watched;
@@ -28,7 +29,7 @@ pub fn find_fault(
     requires same { entries_of before ≡ entries_of tree }
     requires played { ArePlayed events.now }
     ensures ok { IfOk result (λ fault. fault
-        ≡ hush_of_replay 0 (entries_of tree) (played_steps events.now) number top.now) }
+        ≡ hush_of_replay no_terms (entries_of tree) (played_steps events.now) number top.now) }
 {
     if !is_below_suffix(&before, top) {
         return Ok(Some(Fault {

@@ -5,6 +5,7 @@ ghost use Rattle.dir_tree.specs.tree.Numbered.{entries_of};
 ghost use Rattle.session_hub.specs.session_model.Run.{Opened, Bytes, Ended, step, start};
 ghost use Rattle.session_hub.specs.session_model.Replaying.{number_of as number_in, step_and_hang_up};
 ghost use Rattle.session_hub.specs.Answering.{rules};
+ghost use Rattle.session_hub.specs.Terms.{no_terms};
 ghost use Rattle.event_replay.specs.Played.{ArePlayed, played_steps, step_of};
 ghost use Rattle.hush_laws.specs.Requests.{failing_request as failing_octets};
 ghost use Rattle.hush_laws.specs.TwinParts.{IsBeginning};
@@ -106,7 +107,7 @@ impl<'a> Watch<'a> {
         requires { IsWatchedOfSome self.now.number self.now.top.now (entries_of self.now.before.now) watched.old }
         ensures ok { IfOk result (λ part.
             Shows self.now.number self.now.top.now (entries_of self.now.before.now)
-            (step (rules 0)) (Bytes conn octets.now None) watched.old part watched.new) }
+            (step (rules no_terms)) (Bytes conn octets.now None) watched.old part watched.new) }
     {
         let mut rest = octets;
         while let Some(next) = watched.next_of(self.alloc, conn, rest)? {
@@ -124,7 +125,7 @@ impl<'a> Watch<'a> {
     fn watch_opening(&self, watched: &mut Watched, conn: u32) -> Result<Option<Part>, NoMemory>
         ensures ok { IfOk result (λ part.
             Shows self.now.number self.now.top.now (entries_of self.now.before.now)
-            (step (rules 0)) (Opened conn) watched.old part watched.new) }
+            (step (rules no_terms)) (Opened conn) watched.old part watched.new) }
     {
         let has_room = watched.has_room();
         watched.hear(Event::Opened(conn))?;
@@ -142,7 +143,7 @@ impl<'a> Watch<'a> {
     fn watch_end(&self, watched: &mut Watched, conn: u32) -> Result<Option<Part>, NoMemory>
         ensures ok { IfOk result (λ part.
             Shows self.now.number self.now.top.now (entries_of self.now.before.now)
-            (step (rules 0)) (Ended conn) watched.old part watched.new) }
+            (step (rules no_terms)) (Ended conn) watched.old part watched.new) }
     {
         watched.hear(Event::Ended(conn))?;
         Ok(None)
@@ -157,7 +158,7 @@ impl<'a> Watch<'a> {
         requires { IsWatchedOfSome self.now.number self.now.top.now (entries_of self.now.before.now) watched.old }
         ensures ok { IfOk result (λ part.
             Shows self.now.number self.now.top.now (entries_of self.now.before.now)
-            (step (rules 0)) (step_of event.now) watched.old part watched.new) }
+            (step (rules no_terms)) (step_of event.now) watched.old part watched.new) }
     {
         match event {
             ScriptEvent::Opened(conn) => self.watch_opening(watched, *conn),
@@ -179,7 +180,7 @@ impl<'a> Watch<'a> {
         requires { IsWatchedOfSome self.now.number self.now.top.now (entries_of self.now.before.now) watched.old }
         ensures ok { IfOk result (λ part.
             Shows self.now.number self.now.top.now (entries_of self.now.before.now)
-            (step_and_hang_up (rules 0)) (step_of event.now) watched.old part watched.new) }
+            (step_and_hang_up (rules no_terms)) (step_of event.now) watched.old part watched.new) }
     {
         let found = self.hear_event(watched, event)?;
         watched.let_go(number_of(event));
@@ -194,7 +195,7 @@ impl<'a> Watch<'a> {
         events: &[ScriptEvent],
     ) -> Result<Option<Fault>, NoMemory>
         requires begins { IsWatched self.now.number self.now.top.now (entries_of self.now.before.now)
-            (start (rules 0) (entries_of self.now.before.now)) watched.old }
+            (start (rules no_terms) (entries_of self.now.before.now)) watched.old }
         requires played { ArePlayed events.now }
         ensures ok { IfOk result (λ fault. fault
             ≡ first_among self.now.number self.now.top.now (entries_of self.now.before.now) (played_steps events.now)) }

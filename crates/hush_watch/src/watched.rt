@@ -6,6 +6,7 @@ ghost use Rattle.session_hub.specs.session_model.Run.{start, most_held};
 ghost use Rattle.session_hub.specs.session_model.Kept.{kept_of};
 ghost use Rattle.session_hub.specs.Answering.{rules};
 ghost use Rattle.session_hub.specs.Event.{step_of};
+ghost use Rattle.session_hub.specs.Terms.{no_terms};
 ghost use Rattle.hush_watch.specs.Served.{Holds, Hears, HangsUp};
 ghost use Rattle.hush_watch.specs.NextMessages.{is_open_in, ShowsNext};
 
@@ -28,19 +29,20 @@ impl Model for Watched {
     ghost use Rattle.std.specs.Prelude.{◌≡◌};
     ghost use Rattle.dir_tree.specs.tree.Numbered.{entries_of};
     ghost use Rattle.session_hub.specs.hub.Hubs.{held};
+    ghost use Rattle.session_hub.specs.Terms.{no_terms};
     ghost use Rattle.hush_watch.specs.Served.{ServedHeld};
 
     ghost Value = { ServedHeld };
 
     ghost view = { λ watched. held (entries_of watched.dir) watched.hub };
 
-    ghost invariant = { λ watched. watched.hub.bounds.limit ≡ 0 };
+    ghost invariant = { λ watched. watched.hub.bounds.terms ≡ no_terms };
 }
 
 impl Watched {
     /// Before any event. The error comes where memory is wanted.
     pub(crate) fn new(alloc: Global, tree: Tree) -> Result<Watched, NoMemory>
-        ensures ok { IfOk result (Holds (start (rules 0) (entries_of tree))) }
+        ensures ok { IfOk result (Holds (start (rules no_terms) (entries_of tree))) }
     {
         let hub = Hub::new(alloc, Bounds::NONE)?;
         let dir = IndexedDir::new(alloc, tree)?;

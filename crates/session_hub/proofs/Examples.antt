@@ -28,11 +28,13 @@ use Rattle.op_read.specs.aci_item.declared.level.Level.TheVariants as level
 use Rattle.op_read.specs.read_model.Views.{result_of}
 use Rattle.op_bind.specs.Binds.{bind_answer}
 use Rattle.change_laws.specs.op_add_delete.adding.Updates.{added, deleted}
+use Rattle.change_records.specs.Written.{record_text}
 use Rattle.session_model.specs.Rules.{talk}
 use Rattle.session_model.specs.Kept.{speech}
 use Rattle.session_hub.specs.Parties.{Requester, nobody}
+use Rattle.session_hub.specs.Terms.{no_terms}
 use Rattle.session_hub.specs.Controls.{subentries_asked, page_asked}
-use Rattle.session_hub.specs.Answering.{rules, answered}
+use Rattle.session_hub.specs.Answering.{rules, recorded, kept_changes, answered}
 use Rattle.session_hub.specs.WhoAmI.{authz_id}
 use Rattle.session_hub.specs.Limiting.{lesser_limit}
 use Rattle.session_hub.specs.Rooms.{room_of, queued_beside}
@@ -50,32 +52,32 @@ abbrev other_kind : List ℕ
 other_kind = codes "1.2.3"
 
 version_two : answered [] somebody [] (request.Bind (record { version = 2; name = []; auth = Simple [] }))
-    ≡ record { replies = reply.Bind (result_of code.ProtocolError) ∷ []; cookie = None; entries = []; who = nobody }
+    ≡ record { replies = reply.Bind (result_of code.ProtocolError) ∷ []; cookie = None; changes = []; entries = []; who = nobody }
 unfolding bind_answer
 version_two = refl
 
 another_method : answered [] somebody [] (request.Bind (record { version = 3; name = []; auth = Other 3 }))
-    ≡ record { replies = reply.Bind (result_of code.AuthMethodNotSupported) ∷ []; cookie = None; entries = []; who = nobody }
+    ≡ record { replies = reply.Bind (result_of code.AuthMethodNotSupported) ∷ []; cookie = None; changes = []; entries = []; who = nobody }
 unfolding bind_answer
 another_method = refl
 
 critical_bind : answered [] somebody (record { kind = other_kind; critical = true; value = None } ∷ []) (request.Bind (record { version = 3; name = []; auth = Simple [] }))
-    ≡ record { replies = reply.Bind (result_of code.UnavailableCriticalExtension) ∷ []; cookie = None; entries = []; who = nobody }
+    ≡ record { replies = reply.Bind (result_of code.UnavailableCriticalExtension) ∷ []; cookie = None; changes = []; entries = []; who = nobody }
 critical_bind = refl
 
 -- a control of subentries is known in a search alone
 critical_delete : answered [] somebody (record { kind = codes "1.3.6.1.4.1.4203.1.10.1"; critical = true; value = None } ∷ []) (request.Delete (record { name = [] }))
-    ≡ record { replies = reply.Delete (result_of code.UnavailableCriticalExtension) ∷ []; cookie = None; entries = []; who = somebody }
+    ≡ record { replies = reply.Delete (result_of code.UnavailableCriticalExtension) ∷ []; cookie = None; changes = []; entries = []; who = somebody }
 critical_delete = refl
 
 uncritical_delete : answered [] somebody (record { kind = other_kind; critical = false; value = None } ∷ []) (request.Delete (record { name = [] }))
-    ≡ record { replies = reply.Delete (result_of code.UnwillingToPerform) ∷ []; cookie = None; entries = []; who = somebody }
+    ≡ record { replies = reply.Delete (result_of code.UnwillingToPerform) ∷ []; cookie = None; changes = []; entries = []; who = somebody }
 unfolding deleted read_name text_fault resolve written_of
 uncritical_delete = refl
 
 -- the root is no entry, and isn't added either
 add_root : answered [] somebody [] (request.Add (record { name = []; attributes = [] }))
-    ≡ record { replies = reply.Add (result_of code.UnwillingToPerform) ∷ []; cookie = None; entries = []; who = somebody }
+    ≡ record { replies = reply.Add (result_of code.UnwillingToPerform) ∷ []; cookie = None; changes = []; entries = []; who = somebody }
 unfolding added read_name text_fault resolve written_of
 add_root = refl
 
@@ -85,7 +87,7 @@ abbrev who_am_i : List ℕ
 who_am_i = codes "1.3.6.1.4.1.4203.1.11.3"
 
 who_is_nobody : answered [] nobody [] (request.Extended who_am_i None)
-    ≡ record { replies = reply.Extended (result_of code.Success) None (Some []) ∷ []; cookie = None; entries = []; who = nobody }
+    ≡ record { replies = reply.Extended (result_of code.Success) None (Some []) ∷ []; cookie = None; changes = []; entries = []; who = nobody }
 who_is_nobody = refl
 
 who_is_unit : authz_id (record { name = Some ((record { kind = 9; value = record { octets = codes "B, C"; key = codes "b, c" } } ∷ []) ∷ []); level = level.Simple })
@@ -94,16 +96,16 @@ unfolding attributes print_name print_by print_value class_of
 who_is_unit = refl
 
 who_with_value : answered [] somebody [] (request.Extended who_am_i (Some []))
-    ≡ record { replies = reply.Extended (result_of code.ProtocolError) None None ∷ []; cookie = None; entries = []; who = somebody }
+    ≡ record { replies = reply.Extended (result_of code.ProtocolError) None None ∷ []; cookie = None; changes = []; entries = []; who = somebody }
 who_with_value = refl
 
 another_operation : answered [] somebody [] (request.Extended [] None)
-    ≡ record { replies = reply.Extended (result_of code.ProtocolError) None None ∷ []; cookie = None; entries = []; who = somebody }
+    ≡ record { replies = reply.Extended (result_of code.ProtocolError) None None ∷ []; cookie = None; changes = []; entries = []; who = somebody }
 another_operation = refl
 
 -- an abandon is silent, and nobody looks at its controls
 
-abandon : answered [] somebody (record { kind = other_kind; critical = true; value = None } ∷ []) (request.Abandon 5) ≡ record { replies = []; cookie = None; entries = []; who = somebody }
+abandon : answered [] somebody (record { kind = other_kind; critical = true; value = None } ∷ []) (request.Abandon 5) ≡ record { replies = []; cookie = None; changes = []; entries = []; who = somebody }
 abandon = refl
 
 -- a control of subentries with this value
@@ -150,11 +152,11 @@ abbrev a_search : SearchRequest
 a_search = record { base = []; scope = 0; size = 0; kinds_only = false; filter = Present []; selection = [] }
 
 critical_search : answered [] nobody (record { kind = other_kind; critical = true; value = None } ∷ []) (request.Search a_search)
-    ≡ record { replies = reply.Done (result_of code.UnavailableCriticalExtension) ∷ []; cookie = None; entries = []; who = nobody }
+    ≡ record { replies = reply.Done (result_of code.UnavailableCriticalExtension) ∷ []; cookie = None; changes = []; entries = []; who = nobody }
 critical_search = refl
 
 search_twice : answered [] nobody (subentries_with None ∷ subentries_with None ∷ []) (request.Search a_search)
-    ≡ record { replies = reply.Done (result_of code.ProtocolError) ∷ []; cookie = None; entries = []; who = nobody }
+    ≡ record { replies = reply.Done (result_of code.ProtocolError) ∷ []; cookie = None; changes = []; entries = []; who = nobody }
 search_twice = refl
 
 -- so is one with two controls of pages, or with one without a value; none asks for no page
@@ -162,7 +164,7 @@ abbrev page_with : Option (List ℕ) → Control
 page_with value = record { kind = codes "1.2.840.113556.1.4.319"; critical = false; value = value }
 
 page_twice : answered [] nobody (page_with None ∷ page_with None ∷ []) (request.Search a_search)
-    ≡ record { replies = reply.Done (result_of code.ProtocolError) ∷ []; cookie = None; entries = []; who = nobody }
+    ≡ record { replies = reply.Done (result_of code.ProtocolError) ∷ []; cookie = None; changes = []; entries = []; who = nobody }
 page_twice = refl
 
 page_absent : page_asked (page_with None ∷ []) ≡ None
@@ -172,29 +174,29 @@ no_page : page_asked (subentries_with None ∷ []) ≡ Some None
 no_page = refl
 
 -- an anonymous bind, as octets, and its reply
-one_bind : (said_to 0 None [] nobody (0x30 ∷ 12 ∷ 2 ∷ 1 ∷ 1 ∷ 0x60 ∷ 7 ∷ 2 ∷ 1 ∷ 3 ∷ 4 ∷ 0 ∷ 0x80 ∷ 0 ∷ [])).replies
+one_bind : (said_to no_terms None [] nobody (0x30 ∷ 12 ∷ 2 ∷ 1 ∷ 1 ∷ 0x60 ∷ 7 ∷ 2 ∷ 1 ∷ 3 ∷ 4 ∷ 0 ∷ 0x80 ∷ 0 ∷ [])).replies
     ≡ 0x30 ∷ 12 ∷ 2 ∷ 1 ∷ 1 ∷ 0x61 ∷ 7 ∷ 10 ∷ 1 ∷ 0 ∷ 4 ∷ 0 ∷ 4 ∷ 0 ∷ []
 unfolding speech rules talk whole whole_of rest_of rest_behind is_broken frame_at framed message_of message_in reads_into any_of required_of optional_of marked_of each_from each_of tagged_at piece_at piece_of number_in are_pieces pieces_of header_at length_at int_at int_octets length_octets element_octets reply_octets bind_answer read_name text_fault resolve written_of
 one_bind = refl
 
 -- the same asked as octets, and its reply
-one_whoami : (said_to 0 None [] nobody (0x30 ∷ 30 ∷ 2 ∷ 1 ∷ 2 ∷ 0x77 ∷ 25 ∷ 0x80 ∷ 23 ∷ who_am_i)).replies
+one_whoami : (said_to no_terms None [] nobody (0x30 ∷ 30 ∷ 2 ∷ 1 ∷ 2 ∷ 0x77 ∷ 25 ∷ 0x80 ∷ 23 ∷ who_am_i)).replies
     ≡ 0x30 ∷ 14 ∷ 2 ∷ 1 ∷ 2 ∷ 0x78 ∷ 9 ∷ 10 ∷ 1 ∷ 0 ∷ 4 ∷ 0 ∷ 4 ∷ 0 ∷ 0x8b ∷ 0 ∷ []
 unfolding speech rules talk whole whole_of rest_of rest_behind is_broken frame_at framed message_of message_in reads_into any_of required_of optional_of marked_of each_from each_of tagged_at piece_at piece_of number_in are_pieces pieces_of header_at length_at int_at int_octets length_octets element_octets reply_octets
 one_whoami = refl
 
 -- an unbind closes in silence, and what follows it is not answered
-one_unbind : (said_to 0 None [] nobody (0x30 ∷ 5 ∷ 2 ∷ 1 ∷ 2 ∷ 0x42 ∷ 0 ∷ 0x31 ∷ [])).replies ≡ []
+one_unbind : (said_to no_terms None [] nobody (0x30 ∷ 5 ∷ 2 ∷ 1 ∷ 2 ∷ 0x42 ∷ 0 ∷ 0x31 ∷ [])).replies ≡ []
 unfolding speech rules talk whole whole_of rest_of rest_behind is_broken frame_at framed message_of message_in reads_into any_of required_of optional_of marked_of each_from each_of tagged_at piece_at piece_of number_in are_pieces pieces_of header_at length_at int_at
 one_unbind = refl
 
 -- messageID 0 is no message: the notice, and the connection closes
-unreadable : (said_to 0 None [] nobody (0x30 ∷ 5 ∷ 2 ∷ 1 ∷ 0 ∷ 0x42 ∷ 0 ∷ [])).closes ≡ true
+unreadable : (said_to no_terms None [] nobody (0x30 ∷ 5 ∷ 2 ∷ 1 ∷ 0 ∷ 0x42 ∷ 0 ∷ [])).closes ≡ true
 unfolding speech rules talk whole whole_of rest_of rest_behind is_broken frame_at framed message_of message_in reads_into any_of required_of optional_of marked_of each_from each_of tagged_at piece_at piece_of number_in are_pieces pieces_of header_at length_at int_at
 unreadable = refl
 
 -- a cut says nothing of the messages behind it, and closes
-cut_away : said_to 0 (Some 0) [] nobody (0x30 ∷ 5 ∷ 2 ∷ 1 ∷ 2 ∷ 0x42 ∷ 0 ∷ []) ≡ record { replies = []; tree = []; who = nobody; closes = true }
+cut_away : said_to no_terms (Some 0) [] nobody (0x30 ∷ 5 ∷ 2 ∷ 1 ∷ 2 ∷ 0x42 ∷ 0 ∷ []) ≡ record { replies = []; changes = []; tree = []; who = nobody; closes = true }
 unfolding speech talk whole whole_of frame_at framed header_at length_at
 cut_away = refl
 
@@ -233,3 +235,18 @@ queues_beside : queued_beside 1
     (record { number = 1; rest = []; who = nobody; queue = 7 ∷ 7 ∷ 7 ∷ []; closing = false; cut = None }
     ∷ record { number = 2; rest = []; who = nobody; queue = 7 ∷ 7 ∷ []; closing = false; cut = None } ∷ []) ≡ 2
 queues_beside = refl
+
+-- the record of a delete that nothing refuses, and none of one that is refused, nor of a search; and none is to be stored
+-- where no changes are kept
+recorded_delete : recorded None (request.Delete (record { name = codes "o=A" })) ≡ record_text (request.Delete (record { name = codes "o=A" }))
+recorded_delete = refl
+
+refused_delete : recorded (Some (result_of code.NoSuchObject)) (request.Delete (record { name = codes "o=A" })) ≡ []
+refused_delete = refl
+
+recorded_search : recorded None (request.Search a_search) ≡ []
+unfolding record_text
+recorded_search = refl
+
+unkept_delete : kept_changes false (codes "dn: o=A\n") ≡ []
+unkept_delete = refl

@@ -1,2 +1,3 @@
 pub mod FollowingLemmas
 pub mod HubLemmas
+pub mod UnkeptLemmas

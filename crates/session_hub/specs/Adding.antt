@@ -1,13 +1,16 @@
 -- What one call within a loop adds to a link's journal, for the loop's own functions alone.
 use Rattle.std.specs.Prelude.{◌≡◌, ◌≤◌, ℕ, Bool, true, false, List, [], ◌∷◌, ◌++◌, length, Option, Some, Result, Ok, Err}
-use Rattle.dir_tree.specs.plain_values.Counts.{NeverFalls}
+use Rattle.dir_tree.specs.plain_values.Counts.{Rose, NeverFalls}
 use Rattle.session_model.specs.wire_io.declared.answers.Heard.{Heard as Answer}
 use Rattle.session_model.specs.wire_io.declared.answers.Heard.TheVariants as answer
+use Rattle.session_model.specs.wire_io.declared.answers.NextFault.{NextFault}
+use Rattle.session_model.specs.wire_io.declared.answers.NextFault.TheVariants.{Failed, NoMemory}
 use Rattle.session_model.specs.wire_io.declared.journal.Event.{Event}
 use Rattle.session_model.specs.wire_io.declared.journal.Event.TheVariants as event
 use Rattle.session_model.specs.wire_io.declared.journal.Item.{Item}
 use Rattle.session_model.specs.wire_io.declared.journal.Item.TheVariants as item
 use Rattle.session_model.specs.wire_io.Journal.{heard, was_opened, was_stopped}
+use Rattle.session_model.specs.wire_io.Answers.{IsPlanned}
 use Rattle.session_model.specs.wire_io.link.Plan.{Plan}
 use Rattle.session_model.specs.Run.{Opened, most_held}
 use Rattle.session_model.specs.Kept as model
@@ -17,6 +20,7 @@ use Rattle.session_model.specs.Journaled.{all_taken}
 use Rattle.session_model.specs.Serving.{Leads}
 use Rattle.session_model.specs.Working.{Works, Refused, Lost}
 use Rattle.session_hub.specs.Parties.{DirectoryEntries, Requester}
+use Rattle.session_hub.specs.Terms.{Terms}
 use Rattle.session_hub.specs.declared.sent.Sent.{Sent}
 use Rattle.session_hub.specs.declared.sent.Sent.TheVariants as sent
 use Rattle.session_hub.specs.Answering.{rules}
@@ -39,49 +43,55 @@ pub record OnlyServes (plan_old plan_new : Option Plan) (faults_old faults_new l
   pub faults : faults_new ≡ faults_old
   pub lost : NeverFalls lost_old lost_new
 
+-- when each answer of a call that stores and serves comes: a fault is the link's, where there was something to be stored
+abbrev pub StoreCause : {X : Type 0} → Type 0 → Option Plan → ℕ → ℕ → Result X NextFault → Type 0
+StoreCause stores plan before after (Ok value) = after ≡ before
+StoreCause stores plan before after (Err Failed) = Rose before after × IsPlanned (λ plan. plan.failing) plan × stores
+StoreCause stores plan before after (Err NoMemory) = after ≡ before
+
 -- these are still due, and all others stand as they have to
-abbrev pub IsServing : ℕ → DirectoryEntries → List ℕ → Held DirectoryEntries Requester → List ℕ → List Item → Type 0
-IsServing limit entries due held on_hold added = Works (rules limit) entries due held on_hold added
+abbrev pub IsServing : Terms → DirectoryEntries → List ℕ → Held DirectoryEntries Requester → List ℕ → List Item → Type 0
+IsServing terms entries due held on_hold added = Works (rules terms) entries due held on_hold added
 
 -- the first that is due has nothing left to be sent
-pub record IsSent (limit : ℕ) (entries : DirectoryEntries) (number : ℕ) (due : List ℕ) (held : Held DirectoryEntries Requester) (on_hold : List ℕ) (added : List Item) : Type 0 where
-  pub serving : IsServing limit entries (number ∷ due) held on_hold added
+pub record IsSent (terms : Terms) (entries : DirectoryEntries) (number : ℕ) (due : List ℕ) (held : Held DirectoryEntries Requester) (on_hold : List ℕ) (added : List Item) : Type 0 where
+  pub serving : IsServing terms entries (number ∷ due) held on_hold added
   pub empty : queue_of number held.kept ≡ []
 
 -- and it isn't on hold
-pub record IsFree (limit : ℕ) (entries : DirectoryEntries) (number : ℕ) (due : List ℕ) (held : Held DirectoryEntries Requester) (on_hold : List ℕ) (added : List Item) : Type 0 where
-  pub sent : IsSent limit entries number due held on_hold added
+pub record IsFree (terms : Terms) (entries : DirectoryEntries) (number : ℕ) (due : List ℕ) (held : Held DirectoryEntries Requester) (on_hold : List ℕ) (added : List Item) : Type 0 where
+  pub sent : IsSent terms entries number due held on_hold added
   pub free : is_listed number on_hold ≡ false
 
 -- the claim where a call had memory; and where it had none the journal is right so far
-abbrev pub After : {X E : Type 0} → ℕ → Result X E → DirectoryEntries → DirectoryEntries → (List Item → Type 0) → List Item → Type 0
-After limit (Ok value) entries left claim added = claim added
-After limit (Err fault) entries left claim added = Leads (rules limit) entries left added
+abbrev pub After : {X E : Type 0} → Terms → Result X E → DirectoryEntries → DirectoryEntries → (List Item → Type 0) → List Item → Type 0
+After terms (Ok value) entries left claim added = claim added
+After terms (Err fault) entries left claim added = Leads (rules terms) entries left added
 
 -- what a queue's sending came to
-abbrev pub SentIs : ℕ → Sent → DirectoryEntries → ℕ → List ℕ → Held DirectoryEntries Requester → List ℕ → List Item → Type 0
-SentIs limit sent.All entries number due held on_hold added = IsSent limit entries number due held on_hold added
-SentIs limit sent.Later entries number due held on_hold added = Refused (rules limit) entries number due held on_hold added
-SentIs limit sent.Gone entries number due held on_hold added = Lost (rules limit) entries number due held on_hold added
+abbrev pub SentIs : Terms → Sent → DirectoryEntries → ℕ → List ℕ → Held DirectoryEntries Requester → List ℕ → List Item → Type 0
+SentIs terms sent.All entries number due held on_hold added = IsSent terms entries number due held on_hold added
+SentIs terms sent.Later entries number due held on_hold added = Refused (rules terms) entries number due held on_hold added
+SentIs terms sent.Gone entries number due held on_hold added = Lost (rules terms) entries number due held on_hold added
 
 -- the same of its answer
-abbrev pub SentAs : {E : Type 0} → ℕ → Result Sent E → DirectoryEntries → ℕ → List ℕ → Held DirectoryEntries Requester → List ℕ → List Item → Type 0
-SentAs limit (Ok came) entries number due held on_hold added = SentIs limit came entries number due held on_hold added
-SentAs limit (Err fault) entries number due held on_hold added = Leads (rules limit) entries held.tree added
+abbrev pub SentAs : {E : Type 0} → Terms → Result Sent E → DirectoryEntries → ℕ → List ℕ → Held DirectoryEntries Requester → List ℕ → List Item → Type 0
+SentAs terms (Ok came) entries number due held on_hold added = SentIs terms came entries number due held on_hold added
+SentAs terms (Err fault) entries number due held on_hold added = Leads (rules terms) entries held.tree added
 
 -- an event was heard last, which may come, and before it nobody was due
-pub record IsHeard (limit : ℕ) (entries : DirectoryEntries) (held : Held DirectoryEntries Requester) (on_hold : List ℕ) (last_event : Event) (added : List Item) : Type 0 where
+pub record IsHeard (terms : Terms) (entries : DirectoryEntries) (held : Held DirectoryEntries Requester) (on_hold : List ℕ) (last_event : Event) (added : List Item) : Type 0 where
   pub before : List Item
   pub last : added ≡ before ++ item.Heard last_event ∷ []
   pub opens : (number : ℕ) → last_event ≡ event.Opened number → was_opened number before ≡ false
-  pub works : IsServing limit entries [] held on_hold before
+  pub works : IsServing terms entries [] held on_hold before
 
 -- a connection opened for which there was no room, and the hub doesn't hold it
-pub record IsTurnedAway (limit : ℕ) (entries : DirectoryEntries) (number : ℕ) (now : Held DirectoryEntries Requester) (on_hold : List ℕ) (added : List Item) : Type 0 where
+pub record IsTurnedAway (terms : Terms) (entries : DirectoryEntries) (number : ℕ) (now : Held DirectoryEntries Requester) (on_hold : List ℕ) (added : List Item) : Type 0 where
   pub old : Held DirectoryEntries Requester
-  pub heard : IsHeard limit entries old on_hold (event.Opened number) added
+  pub heard : IsHeard terms entries old on_hold (event.Opened number) added
   pub full : most_held ≤ length old.kept
-  pub same : now ≡ model.heard (rules limit) (Opened number) old
+  pub same : now ≡ model.heard (rules terms) (Opened number) old
 
 -- whether an answer of a link is Stop
 abbrev pub stops_with : Answer → Bool

@@ -24,8 +24,10 @@ use Rattle.op_bind.specs.Binds.{bind_answer}
 use Rattle.change_laws.specs.op_add_delete.adding.Updates.{Changed, unless, added, deleted}
 use Rattle.change_laws.specs.op_modify.Modifying.{modified}
 use Rattle.change_laws.specs.op_modify.Renames.{renamed}
+use Rattle.change_records.specs.Written.{record_text}
 use Rattle.session_model.specs.Rules.{Rules, Answered}
 use Rattle.session_hub.specs.Parties.{DirectoryEntries, Requester, nobody}
+use Rattle.session_hub.specs.Terms.{Terms}
 use Rattle.session_hub.specs.Controls.{is_refused, subentries_asked, page_asked}
 use Rattle.session_hub.specs.Limiting.{limited_read}
 use Rattle.session_hub.specs.WhoAmI.{extended_replies}
@@ -72,27 +74,29 @@ searched view search (Some subentries) None = ended code.ProtocolError
 searched view search (Some subentries) (Some None) = unpaged (search_replies view search subentries)
 searched view search (Some subentries) (Some (Some page)) = page_replies view search subentries page
 
--- what an operation comes to: the replies, the cookie of a page that ends them, the entries that it leaves, and who the
--- requester is from then on
+-- what an operation comes to: the replies, the cookie of a page that ends them, the record of the change that was made, the
+-- entries that it leaves, and who the requester is from then on
 pub record Operated : Type 0 where
   pub replies : List Reply
   pub cookie : Option (List ℕ)
+  pub changes : List ℕ
   pub entries : DirectoryEntries
   pub who : Requester
 
 -- these replies, and the entries and the requester stay
 abbrev pub replying : DirectoryEntries → Requester → List Reply → Operated
-replying entries who replies = record { replies = replies; cookie = None; entries = entries; who = who }
+replying entries who replies = record { replies = replies; cookie = None; changes = []; entries = entries; who = who }
 
 -- the same of the replies of a page
 abbrev pub paging : DirectoryEntries → Requester → Paged → Operated
-paging entries who paged = record { replies = paged.replies; cookie = paged.cookie; entries = entries; who = who }
+paging entries who paged = record { replies = paged.replies; cookie = paged.cookie; changes = []; entries = entries; who = who }
 
 -- a bind over the entries
 abbrev pub bound : DirectoryEntries → BindRequest → Operated
 bound entries bind = record {
   replies = reply.Bind (result_of (bind_answer entries bind).code) ∷ [];
   cookie = None;
+  changes = [];
   entries = entries;
   who = (bind_answer entries bind).who;
 }
@@ -102,10 +106,20 @@ abbrev pub change_result : Option LdapResult → LdapResult
 change_result None = result_of code.Success
 change_result (Some refusal) = refusal
 
+-- the record of a change that nothing refuses (RFC 2849, ldif-change-record), and none of one that is refused
+abbrev pub recorded : Option LdapResult → Request → List ℕ
+recorded None asked = record_text asked
+recorded (Some refusal) asked = []
+
 -- a change of the entries that a request asks for
 abbrev pub changing : Requester → Request → Changed → Operated
-changing who asked changed =
-    record { replies = replies_in (response_to asked (change_result changed.refusal)); cookie = None; entries = changed.entries; who = who }
+changing who asked changed = record {
+  replies = replies_in (response_to asked (change_result changed.refusal));
+  cookie = None;
+  changes = recorded changed.refusal asked;
+  entries = changed.entries;
+  who = who;
+}
 
 -- the change that a request asks for; the entries stay where it asks for none
 abbrev pub change_of : DirectoryEntries → Requester → Request → Changed
@@ -167,19 +181,27 @@ sent_octets id replies (Some cookie) = replies_octets id replies ++ page_end id 
 abbrev pub answer_octets : ℕ → Paged → List ℕ
 answer_octets id paged = sent_octets id paged.replies paged.cookie
 
--- the answer to a message, or to octets that are none, which get the notice of disconnection and close
-abbrev pub answer_read : DirectoryEntries → Requester → Option Message → Answered DirectoryEntries Requester
-answer_read entries who None = record { replies = notice_octets; tree = entries; who = who; closes = true }
-answer_read entries who (Some message) =
+-- of records of changes those that are to be stored: all, where changes are kept, and else none
+abbrev pub kept_changes : Bool → List ℕ → List ℕ
+kept_changes keeps changes = if keeps then changes else []
+
+-- the answer to a message, or to octets that are none, which get the notice of disconnection and close; changes are kept or not
+abbrev pub answer_read : Bool → DirectoryEntries → Requester → Option Message → Answered DirectoryEntries Requester
+answer_read keeps entries who None = record { replies = notice_octets; changes = []; tree = entries; who = who; closes = true }
+answer_read keeps entries who (Some message) =
     let came = answered entries who message.controls message.request in
     record {
       replies = sent_octets message.id came.replies came.cookie;
+      changes = kept_changes keeps came.changes;
       tree = came.entries;
       who = came.who;
       closes = is_unbind message.request;
     }
 
 -- the rules of this server, over the entries of its directory: what was read is answered with the server's limit on searches,
--- where 0 is none
-unfoldable pub rules : ℕ → Rules DirectoryEntries Requester
-rules limit = record { nobody = nobody; answer = λ tree who bytes. answer_read tree who (limited_read limit (message_of bytes)) }
+-- where 0 is none, and the record of each change that is made is to be stored where changes are kept
+unfoldable pub rules : Terms → Rules DirectoryEntries Requester
+rules terms = record {
+  nobody = nobody;
+  answer = λ tree who bytes. answer_read terms.keeps tree who (limited_read terms.limit (message_of bytes));
+}

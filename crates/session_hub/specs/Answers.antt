@@ -5,15 +5,19 @@ use Rattle.session_model.specs.ldap_msg.Replies.{notice_octets}
 use Rattle.session_model.specs.Rules.{Answered, after_octets}
 use Rattle.session_model.specs.Kept.{speech}
 use Rattle.session_hub.specs.Parties.{DirectoryEntries, Requester}
+use Rattle.session_hub.specs.Terms.{Terms}
 use Rattle.session_hub.specs.declared.spoken.Spoken.{Spoken}
 use Rattle.session_hub.specs.declared.spoken.SpeechEnd.{SpeechEnd}
 use Rattle.session_hub.specs.declared.spoken.SpeechEnd.TheVariants.{StaysOpen, Closes, IsCut, IsFull}
+use Rattle.session_hub.specs.Outgoing.{Put}
 use Rattle.session_hub.specs.Answering.{rules, Operated, sent_octets}
 use Rattle.session_hub.specs.Rooms.{HasRoom, queued_after}
 
--- the octets sent, the entries and the requester left, and whether the connection closes are those of the answer
-pub record Gives (answered : Answered DirectoryEntries Requester) (old new : List ℕ) (entries : DirectoryEntries) (who : Requester) (closes : Bool) : Type 0 where
-  pub said : new ≡ old ++ answered.replies
+-- the octets put of replies and of changes, the entries and the requester left, and whether the connection closes are those of
+-- the answer
+pub record Gives (answered : Answered DirectoryEntries Requester) (old new : Put) (entries : DirectoryEntries) (who : Requester) (closes : Bool) : Type 0 where
+  pub said : new.replies ≡ old.replies ++ answered.replies
+  pub recorded : new.changes ≡ old.changes ++ answered.changes
   pub left : entries ≡ answered.tree
   pub asker : who ≡ answered.who
   pub closed : closes ≡ answered.closes
@@ -26,8 +30,8 @@ pub record Sends (id : ℕ) (came : Operated) (old new : List ℕ) (entries : Di
   pub asker : who ≡ came.who
 
 -- what is said to a stream by this server, up to a cut
-abbrev pub said_to : ℕ → Option ℕ → DirectoryEntries → Requester → List ℕ → Answered DirectoryEntries Requester
-said_to limit cut entries who stream = speech (rules limit) cut entries who stream
+abbrev pub said_to : Terms → Option ℕ → DirectoryEntries → Requester → List ℕ → Answered DirectoryEntries Requester
+said_to terms cut entries who stream = speech (rules terms) cut entries who stream
 
 -- whether a stream's connection closes at its end
 abbrev pub closes_at : SpeechEnd → Bool
@@ -47,15 +51,15 @@ cut_at IsFull answered = Some answered
 -- many octets were read, and a cut behind all of its messages would leave the same and close; where it ends since the queue
 -- is full, the queue is longer than the room, and it never was before a message that was answered, but for the first; behind
 -- the answers to so many messages there is nothing but, it may be, a notice
-pub record Speaks (limit room : ℕ) (before : DirectoryEntries) (asks : Requester) (stream old new : List ℕ) (entries : DirectoryEntries) (who : Requester) (spoken : Spoken) : Type 0 where
-  pub gives : Gives (said_to limit (cut_at spoken.end spoken.answered) before asks stream) old new entries who (closes_at spoken.end)
+pub record Speaks (terms : Terms) (room : ℕ) (before : DirectoryEntries) (asks : Requester) (stream : List ℕ) (old new : Put) (entries : DirectoryEntries) (who : Requester) (spoken : Spoken) : Type 0 where
+  pub gives : Gives (said_to terms (cut_at spoken.end spoken.answered) before asks stream) old new entries who (closes_at spoken.end)
   pub within : spoken.read ≤ length stream
   pub unread : spoken.end ≡ StaysOpen → drop spoken.read stream ≡ rest_of stream
-  pub cuts : spoken.end ≡ StaysOpen → Gives (said_to limit (Some spoken.answered) before asks stream) old new entries who true
-  pub full : spoken.end ≡ IsFull → room < length new
-  pub spare : HasRoom limit room before asks stream old spoken.answered
+  pub cuts : spoken.end ≡ StaysOpen → Gives (said_to terms (Some spoken.answered) before asks stream) old new entries who true
+  pub full : spoken.end ≡ IsFull → room < length new.replies
+  pub spare : HasRoom terms room before asks stream old.replies spoken.answered
   pub ending : List ℕ
-  pub queued : new ≡ queued_after limit before asks stream old spoken.answered ++ ending
+  pub queued : new.replies ≡ queued_after terms before asks stream old.replies spoken.answered ++ ending
   pub notice : (ending ≡ []) ⊎ (ending ≡ notice_octets)
 
 -- a cut so many messages later
@@ -65,11 +69,12 @@ behind answered (Some count) = Some (answered + count)
 
 -- how far a stream was answered: whatever cut may follow, what was said so far and what is said to the rest is what is
 -- said to the stream
-pub record SaysSoFar (limit room : ℕ) (before : DirectoryEntries) (asks : Requester) (stream old now : List ℕ) (entries : DirectoryEntries) (who : Requester) (read answered : ℕ) : Type 0 where
-  pub more : List ℕ
-  pub grows : now ≡ old ++ more
+pub record SaysSoFar (terms : Terms) (room : ℕ) (before : DirectoryEntries) (asks : Requester) (stream : List ℕ) (old now : Put) (entries : DirectoryEntries) (who : Requester) (read answered : ℕ) : Type 0 where
+  pub more : Put
+  pub said_more : now.replies ≡ old.replies ++ more.replies
+  pub recorded_more : now.changes ≡ old.changes ++ more.changes
   pub within : read ≤ length stream
   pub counts : answered ≤ read
   pub rest : rest_of (drop read stream) ≡ rest_of stream
-  pub said : (cut : Option ℕ) → said_to limit (behind answered cut) before asks stream ≡ after_octets more (said_to limit cut entries who (drop read stream))
-  pub spare : HasRoom limit room before asks stream old answered
+  pub said : (cut : Option ℕ) → said_to terms (behind answered cut) before asks stream ≡ after_octets more.replies more.changes (said_to terms cut entries who (drop read stream))
+  pub spare : HasRoom terms room before asks stream old.replies answered

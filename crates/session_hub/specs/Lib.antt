@@ -1,5 +1,6 @@
 -- what public clauses cite
 pub mod Parties
+pub mod Terms
 pub mod Controls
 pub mod Limiting
 pub mod WhoAmI
@@ -11,6 +12,7 @@ pub mod Event
 pub mod Twins
 pub mod serve
 -- for the inside of the crate alone
+pub mod Outgoing
 pub mod Answers
 pub mod SimpleBinds
 pub mod Telling

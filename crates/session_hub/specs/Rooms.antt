@@ -6,6 +6,7 @@ use Rattle.session_hub.specs.declared.bounds.Bounds.{Bounds}
 use Rattle.session_hub.specs.declared.event.Event.{Event}
 use Rattle.session_hub.specs.declared.event.Event.TheVariants as event
 use Rattle.session_hub.specs.Parties.{DirectoryEntries, Requester}
+use Rattle.session_hub.specs.Terms.{Terms}
 use Rattle.session_hub.specs.Answering.{rules}
 
 -- what each connection has room for, whatever waits for the others
@@ -25,32 +26,32 @@ abbrev pub queued_beside : ℕ → List (Kept Requester) → ℕ
 queued_beside number connections = sum_by (queued_unless number) connections
 
 -- what waits behind a queue once so many messages of a stream were answered
-abbrev pub queued_after : ℕ → DirectoryEntries → Requester → List ℕ → List ℕ → ℕ → List ℕ
-queued_after limit entries who stream queue answered = queue ++ (speech (rules limit) (Some answered) entries who stream).replies
+abbrev pub queued_after : Terms → DirectoryEntries → Requester → List ℕ → List ℕ → ℕ → List ℕ
+queued_after terms entries who stream queue answered = queue ++ (speech (rules terms) (Some answered) entries who stream).replies
 
 -- before each of so many messages but the first, no more waited than there is room for
-abbrev pub HasRoom : ℕ → ℕ → DirectoryEntries → Requester → List ℕ → List ℕ → ℕ → Type 0
-HasRoom limit room entries who stream queue answered =
-    (count : ℕ) → 0 < count → count < answered → length (queued_after limit entries who stream queue count) ≤ room
+abbrev pub HasRoom : Terms → ℕ → DirectoryEntries → Requester → List ℕ → List ℕ → ℕ → Type 0
+HasRoom terms room entries who stream queue answered =
+    (count : ℕ) → 0 < count → count < answered → length (queued_after terms entries who stream queue count) ≤ room
 
 -- a piece is answered within the room: so many messages of its stream were answered, before each of which but the first no
 -- more waited than there is room for, and behind their answers nothing waits but, it may be, a notice of disconnection
-pub record StaysWithin (limit room : ℕ) (piece : List ℕ) (entries : DirectoryEntries) (old new : Kept Requester) : Type 0 where
+pub record StaysWithin (terms : Terms) (room : ℕ) (piece : List ℕ) (entries : DirectoryEntries) (old new : Kept Requester) : Type 0 where
   pub answered : ℕ
   pub ending : List ℕ
-  pub spare : HasRoom limit room entries old.who (old.rest ++ piece) old.queue answered
-  pub queued : new.queue ≡ queued_after limit entries old.who (old.rest ++ piece) old.queue answered ++ ending
+  pub spare : HasRoom terms room entries old.who (old.rest ++ piece) old.queue answered
+  pub queued : new.queue ≡ queued_after terms entries old.who (old.rest ++ piece) old.queue answered ++ ending
   pub notice : (ending ≡ []) ⊎ (ending ≡ notice_octets)
 
 -- so it is of the connection of a number, if it is held and open
-abbrev pub AnswersWithin : ℕ → ℕ → ℕ → List ℕ → DirectoryEntries → List (Kept Requester) → List (Kept Requester) → Type 0
-AnswersWithin limit room number piece entries old new =
+abbrev pub AnswersWithin : Terms → ℕ → ℕ → List ℕ → DirectoryEntries → List (Kept Requester) → List (Kept Requester) → Type 0
+AnswersWithin terms room number piece entries old new =
     (connection : Kept Requester) → kept_of number old ≡ Some connection → connection.closing ≡ false →
-    (now : Kept Requester) × (kept_of number new ≡ Some now) × StaysWithin limit room piece entries connection now
+    (now : Kept Requester) × (kept_of number new ≡ Some now) × StaysWithin terms room piece entries connection now
 
 -- the octets of an event are answered within what the queues of the others leave
 abbrev pub HearsWithin : Event → Bounds → DirectoryEntries → List (Kept Requester) → List (Kept Requester) → Type 0
 HearsWithin (event.Opened number) bounds entries old new = Unit {0}
 HearsWithin (event.Bytes number octets) bounds entries old new =
-    AnswersWithin bounds.limit (room_of bounds.queues (queued_beside number old)) number octets.now entries old new
+    AnswersWithin bounds.terms (room_of bounds.queues (queued_beside number old)) number octets.now entries old new
 HearsWithin (event.Ended number) bounds entries old new = Unit {0}

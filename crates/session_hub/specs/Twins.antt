@@ -15,6 +15,7 @@ use Rattle.session_model.specs.Run.{Step}
 use Rattle.session_model.specs.Kept.{Held, heard}
 use Rattle.session_model.specs.AnsweredMessages.{AnsweredMessage, held_over, answered_of_held}
 use Rattle.session_hub.specs.Parties.{DirectoryEntries, Requester}
+use Rattle.session_hub.specs.Terms.{Terms}
 use Rattle.session_hub.specs.Answering.{rules}
 use Rattle.session_hub.specs.hub.Following.{FollowsStep}
 
@@ -44,13 +45,13 @@ pub record IsOverTwins (other : DirectoryEntries) (top : RdnSequence) (asked : A
 
 -- what is held is what the step leaves over the other entries too, but for the entries, which stay; and so the step of a
 -- run over the others is followed
-pub record IsHeardOver (limit : ℕ) (next : Step) (other : DirectoryEntries) (old new : Held DirectoryEntries Requester) : Type 0 where
-  pub same : held_over other new ≡ heard (rules limit) next (held_over other old)
+pub record IsHeardOver (terms : Terms) (next : Step) (other : DirectoryEntries) (old new : Held DirectoryEntries Requester) : Type 0 where
+  pub same : held_over other new ≡ heard (rules terms) next (held_over other old)
   pub entries : new.tree ≡ old.tree
-  pub run : FollowsStep limit next (held_over other old) (held_over other new)
+  pub run : FollowsStep terms next (held_over other old) (held_over other new)
 
 -- so it is over all entries and names for which each message that the step answers is answered over twins
-unfoldable pub HearsAlike : ℕ → Step → Held DirectoryEntries Requester → Held DirectoryEntries Requester → Type 0
-HearsAlike limit next old new =
-    (other : DirectoryEntries) (top : RdnSequence) → AllByRecursion (IsOverTwins other top) (answered_of_held (rules limit) old next) →
-    IsHeardOver limit next other old new
+unfoldable pub HearsAlike : Terms → Step → Held DirectoryEntries Requester → Held DirectoryEntries Requester → Type 0
+HearsAlike terms next old new =
+    (other : DirectoryEntries) (top : RdnSequence) → AllByRecursion (IsOverTwins other top) (answered_of_held (rules terms) old next) →
+    IsHeardOver terms next other old new

@@ -1,6 +1,6 @@
 //! Binds answered.
 
-ghost use Rattle.std.specs.Prelude.{◌≡◌, ◌++◌, [], ◌∷◌, IfOk, OnOk, OnErr, Some};
+ghost use Rattle.std.specs.Prelude.{◌≡◌, ◌++◌, ℕ, Bool, List, [], ◌∷◌, IfOk, OnOk, OnErr, Some};
 ghost use Rattle.dir_tree.specs.tree.Numbered.{entries_of};
 ghost use Rattle.session_model.specs.ldap_msg.declared.kinds.Reply.TheVariants as reply;
 ghost use Rattle.op_read.specs.read_model.Views.{result_of as result_with};
@@ -63,8 +63,10 @@ pub fn answer_simple_bind<D: Dir>(
     out: &mut Vec<u8>,
 ) -> Result<bool, AllocError>
     ensures ok { IfOk result (λ closes.
-        Gives (answer_read (entries_of (D.rows dir.now)) who.old (Some (message_for request.now)))
-        out.old.items out.new.items (entries_of (D.rows dir.now)) who.new closes) }
+        (keeps : Bool) (changes : List ℕ) →
+        Gives (answer_read keeps (entries_of (D.rows dir.now)) who.old (Some (message_for request.now)))
+        (record { replies = out.old.items; changes = changes }) (record { replies = out.new.items; changes = changes })
+        (entries_of (D.rows dir.now)) who.new closes) }
     ensures err { OnErr result (out.new.items ≡ out.old.items) }
     ensures kept { OnErr result (who.new ≡ who.old) }
 {

@@ -8,8 +8,10 @@ ghost use Rattle.session_hub.specs.Answers.{Speaks, closes_at, cut_at};
 ghost use Rattle.session_hub.specs.Rooms.{StaysWithin};
 ghost use Rattle.session_hub.specs.connection.Connections.{HearsPiece, KeepsRest};
 ghost use Rattle.session_hub.specs.connection.Limits.{most_unread};
+ghost use Rattle.session_hub.specs.Terms.{Terms};
 
 use crate::allowance::Allowance;
+use crate::outgoing::Outgoing;
 use crate::requester::anonymous;
 use crate::spoken::{SpeechEnd, Spoken};
 use crate::stream::speak;
@@ -17,6 +19,7 @@ use op_read::acdf_filters::Requester;
 use op_read::directory::Dir;
 use std::alloc::Global;
 use std::marker::Model;
+use std::mem::replace;
 
 /// The most octets that a buffer keeps room for while it is empty.
 const MOST_SPARE: usize = 65_536;
@@ -48,7 +51,7 @@ impl Model for Connection {
 impl Connection {
     /// A connection that has just opened.
     pub fn new(alloc: Global, number: u32) -> Connection
-        ensures { (limit : ℕ) → result ≡ opened_kept (rules limit) number }
+        ensures { (terms : Terms) → result ≡ opened_kept (rules terms) number }
     {
         Connection {
             number,
@@ -124,43 +127,75 @@ impl Connection {
     /// Hears a piece of an open connection: its whole messages are answered, and what is left is
     /// kept unless the connection closes now. Where there is no memory, or more waits for it than
     /// there is room for, it is cut, which closes it.
-    pub fn hear<D: Dir>(&mut self, alloc: Global, dir: &mut D, piece: &[u8], allowed: Allowance)
-        ensures exact { HearsPiece allowed.limit piece.now
-            (entries_of (D.rows dir.old)) self.old (entries_of (D.rows dir.new)) self.new }
+    pub fn hear<D: Dir>(
+        &mut self,
+        alloc: Global,
+        dir: &mut D,
+        piece: &[u8],
+        allowed: Allowance,
+        changes: &mut Vec<u8>,
+    )
+        ensures exact { HearsPiece allowed.terms piece.now
+            (entries_of (D.rows dir.old)) self.old changes.old.items
+            (entries_of (D.rows dir.new)) self.new changes.new.items }
         ensures bounded { length self.new.rest ≤ most_unread }
-        ensures room { StaysWithin allowed.limit allowed.room piece.now (entries_of (D.rows dir.old)) self.old self.new }
+        ensures room { StaysWithin allowed.terms allowed.room piece.now (entries_of (D.rows dir.old)) self.old self.new }
     {
         if self.rest.is_empty() {
-            self.hear_alone(alloc, dir, piece, allowed);
+            self.hear_alone(alloc, dir, piece, allowed, changes);
         } else {
-            self.hear_behind(alloc, dir, piece, allowed);
+            self.hear_behind(alloc, dir, piece, allowed, changes);
         }
     }
 
     /// Hears a piece where nothing is unread: it is read where it lies.
-    fn hear_alone<D: Dir>(&mut self, alloc: Global, dir: &mut D, piece: &[u8], allowed: Allowance)
+    fn hear_alone<D: Dir>(
+        &mut self,
+        alloc: Global,
+        dir: &mut D,
+        piece: &[u8],
+        allowed: Allowance,
+        changes: &mut Vec<u8>,
+    )
         requires { self.old.rest ≡ [] }
-        ensures exact { HearsPiece allowed.limit piece.now
-            (entries_of (D.rows dir.old)) self.old (entries_of (D.rows dir.new)) self.new }
+        ensures exact { HearsPiece allowed.terms piece.now
+            (entries_of (D.rows dir.old)) self.old changes.old.items
+            (entries_of (D.rows dir.new)) self.new changes.new.items }
         ensures bounded { length self.new.rest ≤ most_unread }
-        ensures room { StaysWithin allowed.limit allowed.room piece.now (entries_of (D.rows dir.old)) self.old self.new }
+        ensures room { StaysWithin allowed.terms allowed.room piece.now (entries_of (D.rows dir.old)) self.old self.new }
     {
         let inside = Allowance {
-            limit: allowed.limit,
+            terms: allowed.terms,
             room: room_behind(allowed.room, self.taken),
         };
-        let spoken = speak_and_fit(alloc, dir, &mut self.who, piece, inside, &mut self.out);
+        let spoken = speak_and_fit(
+            alloc,
+            dir,
+            &mut self.who,
+            piece,
+            inside,
+            &mut self.out,
+            changes,
+        );
         let end = keep_unread(&mut self.rest, piece, spoken);
         self.closing = closes(end);
         self.cut = cut_behind(end, spoken.answered);
     }
 
     /// Hears a piece behind what is unread.
-    fn hear_behind<D: Dir>(&mut self, alloc: Global, dir: &mut D, piece: &[u8], allowed: Allowance)
-        ensures exact { HearsPiece allowed.limit piece.now
-            (entries_of (D.rows dir.old)) self.old (entries_of (D.rows dir.new)) self.new }
+    fn hear_behind<D: Dir>(
+        &mut self,
+        alloc: Global,
+        dir: &mut D,
+        piece: &[u8],
+        allowed: Allowance,
+        changes: &mut Vec<u8>,
+    )
+        ensures exact { HearsPiece allowed.terms piece.now
+            (entries_of (D.rows dir.old)) self.old changes.old.items
+            (entries_of (D.rows dir.new)) self.new changes.new.items }
         ensures bounded { length self.new.rest ≤ most_unread }
-        ensures room { StaysWithin allowed.limit allowed.room piece.now (entries_of (D.rows dir.old)) self.old self.new }
+        ensures room { StaysWithin allowed.terms allowed.room piece.now (entries_of (D.rows dir.old)) self.old self.new }
     {
         match self.rest.extend_from_slice(piece) {
             Err(_) => {
@@ -170,7 +205,7 @@ impl Connection {
             }
             Ok(()) => {
                 let inside = Allowance {
-                    limit: allowed.limit,
+                    terms: allowed.terms,
                     room: room_behind(allowed.room, self.taken),
                 };
                 let spoken = speak_and_fit(
@@ -180,6 +215,7 @@ impl Connection {
                     &self.rest,
                     inside,
                     &mut self.out,
+                    changes,
                 );
                 let end = leave_unread(&mut self.rest, spoken);
                 self.closing = closes(end);
@@ -196,20 +232,33 @@ fn room_behind(room: usize, taken: usize) -> usize
     room.saturating_add(taken)
 }
 
-/// Answers a stream, as `speak` does, and leaves the queue no more room than it needs.
+/// Answers a stream, as `speak` does, behind a queue and the changes so far, and leaves the queue no more room than it needs.
 fn speak_and_fit<D: Dir>(
     alloc: Global,
     dir: &mut D,
     who: &mut Requester,
     stream: &[u8],
     allowed: Allowance,
-    out: &mut Vec<u8>,
+    queue: &mut Vec<u8>,
+    changes: &mut Vec<u8>,
 ) -> Spoken
-    ensures { Speaks allowed.limit allowed.room (entries_of (D.rows dir.old)) who.old stream.now
-        out.old.items out.new.items (entries_of (D.rows dir.new)) who.new result }
+    ensures { Speaks allowed.terms allowed.room (entries_of (D.rows dir.old)) who.old stream.now
+        (record { replies = queue.old.items; changes = changes.old.items })
+        (record { replies = queue.new.items; changes = changes.new.items })
+        (entries_of (D.rows dir.new)) who.new result }
 {
-    let spoken = speak(alloc, dir, who, stream, allowed, out);
-    fit(out);
+    let mut out = Outgoing {
+        replies: replace(queue, Vec::new(alloc)),
+        changes: replace(changes, Vec::new(alloc)),
+    };
+    let spoken = speak(alloc, dir, who, stream, allowed, &mut out);
+    let Outgoing {
+        replies: queued,
+        changes: changed,
+    } = out;
+    *queue = queued;
+    *changes = changed;
+    fit(queue);
     spoken
 }
 
@@ -227,7 +276,7 @@ fn is_loose(room: usize, length: usize) -> bool {
 }
 
 /// Gives back most of the room that a buffer doesn't need. An eighth stays, so that what is appended next is seldom copied.
-fn fit(octets: &mut Vec<u8>)
+pub fn fit(octets: &mut Vec<u8>)
     ensures { octets.new.items ≡ octets.old.items }
 {
     let length = octets.len();

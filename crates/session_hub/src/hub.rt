@@ -1,6 +1,6 @@
 //! The hub of all sessions.
 
-ghost use Rattle.std.specs.Prelude.{◌≡◌, ◌≤◌, length, option_map, IfOk, OnOk, OnErr};
+ghost use Rattle.std.specs.Prelude.{◌≡◌, ◌≤◌, [], length, option_map, IfOk, OnOk, OnErr};
 ghost use Rattle.dir_tree.specs.tree.Numbered.{entries_of};
 ghost use Rattle.session_model.specs.Run as run;
 ghost use Rattle.session_model.specs.Kept.{kept_of, queue_of, closing_of, cut_of, taken_off, forgotten};
@@ -11,7 +11,7 @@ ghost use Rattle.session_hub.specs.Event.{step_by};
 ghost use Rattle.session_hub.specs.Twins.{HearsAlike};
 
 use crate::allowance::Allowance;
-use crate::connection::Connection;
+use crate::connection::{Connection, fit};
 use crate::places::{
     beside, closing_at, cut_at, end_at, forget_at, hear_at, is_at, queue_at, requester_at,
     take_off, unread_at,
@@ -29,13 +29,14 @@ pub const MAX_CONNECTIONS: usize = 256;
 const LEAST_ROOM: usize = 1_048_576;
 
 /// All sessions: what of each connection is unread, and what is still to be sent to it. Contracts
-/// see the list of the connections held, in the order in which they opened, whether any was cut, and
-/// what is bounded, which stays.
+/// see the list of the connections held, in the order in which they opened, whether any was cut, what
+/// of the changes isn't stored yet, and what is bounded, which stays.
 #[derive(Drop)]
 pub struct Hub {
     alloc: Global,
     connections: Vec<Connection>,
     was_cut: bool,
+    unstored: Vec<u8>,
     bounds: Bounds,
     // the place of the connection that was heard last, where the next is looked for first
     last: usize,
@@ -46,7 +47,7 @@ impl Model for Hub {
 
     ghost Value = { HubState };
 
-    ghost view = { λ hub. record { kept = hub.connections.items; was_cut = hub.was_cut; bounds = hub.bounds } };
+    ghost view = { λ hub. record { kept = hub.connections.items; was_cut = hub.was_cut; unstored = hub.unstored.items; bounds = hub.bounds } };
 
     ghost invariant = { λ hub. AreHeld hub.connections.items };
 }
@@ -62,6 +63,7 @@ impl Hub {
             alloc,
             connections: Vec::with_capacity(alloc, MAX_CONNECTIONS)?,
             was_cut: false,
+            unstored: Vec::new(alloc),
             bounds,
             last: 0,
         })
@@ -123,6 +125,22 @@ impl Hub {
         self.was_cut
     }
 
+    /// The records of accepted changes that aren't stored yet (RFC 2849), in their order, each with an empty line behind it;
+    /// none where the bounds' terms have none kept.
+    pub fn unstored(&self) -> &[u8]
+        ensures { result.now ≡ self.now.unstored }
+    {
+        &self.unstored
+    }
+
+    /// All changes were stored. No memory is taken.
+    pub fn stored(&mut self)
+        ensures { self.new ≡ record self.old { unstored = [] } }
+    {
+        self.unstored.clear();
+        fit(&mut self.unstored);
+    }
+
     /// The first `count` octets of the connection's queue, which has as many, were taken. No memory is
     /// taken.
     pub fn took(&mut self, conn: u32, count: usize)
@@ -136,16 +154,17 @@ impl Hub {
     /// Hears an event (RFC 4511 5): a connection that opens is held where there is room, the
     /// whole messages of octets are answered, and the end of a peer's octets closes. Nothing is
     /// changed by the events of connections that aren't held, nor by the opening of one that is.
-    /// A search is answered within the bounds' limit. Where there is no memory for an answer, or more
+    /// A search is answered within the bounds' limit, and each accepted change is recorded as `unstored`
+    /// where the bounds' terms say so. Where there is no memory for an answer, or more
     /// waits for the connection than it has room for, that connection alone is cut, which closes it, and
     /// `cut` tells where. `AllocError` comes where a connection is to be held and there is no memory;
     /// all is then as it was. Over twins of the directory the same is answered to requests that read.
     pub fn hear<D: Dir>(&mut self, dir: &mut D, event: Event<'_>) -> Result<(), AllocError>
-        ensures exact { OnOk result (Hears self.old.bounds.limit event.entry
+        ensures exact { OnOk result (Hears self.old.bounds.terms event.entry
             (held (entries_of (D.rows dir.old)) self.old) (held (entries_of (D.rows dir.new)) self.new)) }
-        ensures run { OnOk result (FollowsStep self.old.bounds.limit (step_by event.entry self.old.kept self.new.kept)
+        ensures run { OnOk result (FollowsStep self.old.bounds.terms (step_by event.entry self.old.kept self.new.kept)
             (held (entries_of (D.rows dir.old)) self.old) (held (entries_of (D.rows dir.new)) self.new)) }
-        ensures twins { OnOk result (HearsAlike self.old.bounds.limit (step_by event.entry self.old.kept self.new.kept)
+        ensures twins { OnOk result (HearsAlike self.old.bounds.terms (step_by event.entry self.old.kept self.new.kept)
             (held (entries_of (D.rows dir.old)) self.old) (held (entries_of (D.rows dir.new)) self.new)) }
         ensures cause { OnErr result (OpensOne event.entry self.old.kept) }
         ensures kept { OnErr result
@@ -176,7 +195,7 @@ impl Hub {
     }
 
     fn hear_event<D: Dir>(&mut self, dir: &mut D, event: Event<'_>) -> Result<(), AllocError>
-        ensures ok { OnOk result (Hears self.old.bounds.limit event.entry
+        ensures ok { OnOk result (Hears self.old.bounds.terms event.entry
             (held (entries_of (D.rows dir.old)) self.old) (held (entries_of (D.rows dir.new)) self.new)) }
         ensures cause { OnErr result (OpensOne event.entry self.old.kept) }
         ensures kept { OnErr result
@@ -222,7 +241,7 @@ impl Hub {
     }
 
     fn hear_piece<D: Dir>(&mut self, dir: &mut D, conn: u32, piece: &[u8])
-        ensures heard { Hears self.old.bounds.limit (Event.Bytes conn piece.entry)
+        ensures heard { Hears self.old.bounds.terms (Event.Bytes conn piece.entry)
             (held (entries_of (D.rows dir.old)) self.old) (held (entries_of (D.rows dir.new)) self.new) }
         ensures room { HearsWithin (Event.Bytes conn piece.entry) self.old.bounds
             (entries_of (D.rows dir.old)) self.old.kept self.new.kept }
@@ -238,18 +257,19 @@ impl Hub {
             conn,
             piece,
             allowed,
+            &mut self.unstored,
         );
         self.was_cut |= cut;
     }
 
     /// What the connection is allowed now, by what waits for the others.
     fn allowance(&self, conn: u32) -> Allowance
-        ensures limit { result.limit ≡ self.now.bounds.limit }
+        ensures terms { result.terms ≡ self.now.bounds.terms }
         ensures room { result.room ≡ room_of self.now.bounds.queues (queued_beside conn self.now.kept) }
     {
         let others = beside(&self.connections, conn);
         Allowance {
-            limit: self.bounds.limit,
+            terms: self.bounds.terms,
             room: room_beside(self.bounds.queues, others),
         }
     }

@@ -9,6 +9,7 @@ ghost use Rattle.session_model.specs.Replaying.{replayed};
 ghost use Rattle.session_model.specs.Purging.{answered_of_connection, answered_in_replay};
 ghost use Rattle.session_model.specs.Places.{places, places_of_replay};
 ghost use Rattle.session_hub.specs.Parties.{DirectoryEntries, Requester};
+ghost use Rattle.session_hub.specs.Terms.{Terms};
 ghost use Rattle.session_hub.specs.Answering.{rules, answered};
 ghost use Rattle.session_model.specs.ldap_msg.declared.kinds.Message.{Message};
 ghost use Rattle.session_model.specs.ldap_msg.declared.kinds.Control.{Control};
@@ -22,25 +23,25 @@ ghost use Rattle.session_hub.specs.Limiting.{limited_message, limited_request, K
 use change_laws::laws::{a_good_tree_stays_good, a_good_tree_stays_good_when_changed};
 
 /// What each answer, and so sessions, leave of a good tree is a good tree, whatever is asked, by whom and in which order,
-/// and whatever the server's limit on searches is. So is the tree of each place, and that over which each message of a
+/// and on whichever terms the server answers. So is the tree of each place, and that over which each message of a
 /// connection is answered, where events are replayed too.
 pub fn sessions_keep_a_directory_good()
-    ensures answers { (limit : ℕ) (entries : DirectoryEntries) (who : Requester) (bytes : List ℕ) → IsGoodTree entries
-        → IsGoodTree ((rules limit).answer entries who bytes).tree }
-    ensures good { (limit : ℕ) (entries : DirectoryEntries) (steps : List Step) → IsGoodTree entries
-        → IsGoodTree (run (rules limit) entries steps).tree }
-    ensures replay { (limit : ℕ) (entries : DirectoryEntries) (events : List Step) → IsGoodTree entries
-        → IsGoodTree (replayed (rules limit) entries events).tree }
+    ensures answers { (terms : Terms) (entries : DirectoryEntries) (who : Requester) (bytes : List ℕ) → IsGoodTree entries
+        → IsGoodTree ((rules terms).answer entries who bytes).tree }
+    ensures good { (terms : Terms) (entries : DirectoryEntries) (steps : List Step) → IsGoodTree entries
+        → IsGoodTree (run (rules terms) entries steps).tree }
+    ensures replay { (terms : Terms) (entries : DirectoryEntries) (events : List Step) → IsGoodTree entries
+        → IsGoodTree (replayed (rules terms) entries events).tree }
 
     // at each place, and for each message of a connection
-    ensures places { (limit number : ℕ) (entries : DirectoryEntries) (steps : List Step) → IsGoodTree entries
-        → AllByRecursion (λ place. IsGoodTree place.tree) (places (rules limit) number entries steps) }
-    ensures replay_places { (limit number : ℕ) (entries : DirectoryEntries) (events : List Step) → IsGoodTree entries
-        → AllByRecursion (λ place. IsGoodTree place.tree) (places_of_replay (rules limit) number entries events) }
-    ensures messages { (limit number : ℕ) (entries : DirectoryEntries) (steps : List Step) → IsGoodTree entries
-        → AllByRecursion (λ asked. IsGoodTree asked.tree) (answered_of_connection (rules limit) number (start (rules limit) entries) steps) }
-    ensures replay_messages { (limit number : ℕ) (entries : DirectoryEntries) (events : List Step) → IsGoodTree entries
-        → AllByRecursion (λ asked. IsGoodTree asked.tree) (answered_in_replay (rules limit) number (start (rules limit) entries) events) }
+    ensures places { (terms : Terms) (number : ℕ) (entries : DirectoryEntries) (steps : List Step) → IsGoodTree entries
+        → AllByRecursion (λ place. IsGoodTree place.tree) (places (rules terms) number entries steps) }
+    ensures replay_places { (terms : Terms) (number : ℕ) (entries : DirectoryEntries) (events : List Step) → IsGoodTree entries
+        → AllByRecursion (λ place. IsGoodTree place.tree) (places_of_replay (rules terms) number entries events) }
+    ensures messages { (terms : Terms) (number : ℕ) (entries : DirectoryEntries) (steps : List Step) → IsGoodTree entries
+        → AllByRecursion (λ asked. IsGoodTree asked.tree) (answered_of_connection (rules terms) number (start (rules terms) entries) steps) }
+    ensures replay_messages { (terms : Terms) (number : ℕ) (entries : DirectoryEntries) (events : List Step) → IsGoodTree entries
+        → AllByRecursion (λ asked. IsGoodTree asked.tree) (answered_in_replay (rules terms) number (start (rules terms) entries) events) }
 {
     a_good_tree_stays_good();
     a_good_tree_stays_good_when_changed();
@@ -62,6 +63,6 @@ pub fn a_limited_search_sends_no_more_entries()
 
 /// An event was heard whole where no connection was cut until after it.
 pub fn an_event_is_heard_whole_where_nothing_was_cut()
-    ensures exact { (limit : ℕ) (came : Event) (old new : Held DirectoryEntries Requester) → Hears limit came old new
+    ensures exact { (terms : Terms) (came : Event) (old new : Held DirectoryEntries Requester) → Hears terms came old new
         → new.was_cut ≡ false → step_by came old.kept new.kept ≡ step_of came None }
 {}

@@ -14,6 +14,7 @@ mod extended;
 mod hub;
 pub mod laws;
 mod messages;
+mod outgoing;
 mod places;
 mod requester;
 mod results;
@@ -29,7 +30,7 @@ pub use alike::{
     a_journal_serves_twins, other_sessions_do_not_show, runs_over_twins_are_alike,
     twins_are_answered_alike,
 };
-pub use bounds::Bounds;
+pub use bounds::{Bounds, Terms};
 pub use ended::Ended;
 pub use event::Event;
 pub use hub::{Hub, MAX_CONNECTIONS};

@@ -1,6 +1,6 @@
 //! The answer to one message.
 
-ghost use Rattle.std.specs.Prelude.{◌≡◌, ◌≤◌, ◌++◌, [], ◌∷◌, length, take, vec_len, IfOk, OnOk, OnErr, Some, None};
+ghost use Rattle.std.specs.Prelude.{◌≡◌, ◌≤◌, ◌++◌, ℕ, Bool, List, [], ◌∷◌, length, take, vec_len, IfOk, OnOk, OnErr, Some, None};
 ghost use Rattle.dir_tree.specs.tree.Numbered.{entries_of};
 ghost use Rattle.session_model.specs.ldap_msg.Streams.{frame_at};
 ghost use Rattle.session_model.specs.ldap_msg.declared.operations.ResultCode.TheVariants as code;
@@ -9,10 +9,12 @@ ghost use Rattle.op_read.specs.read_model.SearchReplies.{replies_octets};
 ghost use Rattle.op_read.specs.read_model.CompareReplies.{compare_result};
 ghost use Rattle.session_model.specs.ldap_msg.declared.kinds.Reply.TheVariants as reply;
 ghost use Rattle.change_laws.specs.op_add_delete.adding.Updates.{IsChanged};
+ghost use Rattle.change_records.specs.Written.{record_text};
 ghost use Rattle.session_hub.specs.Parties.{DirectoryEntries, Requester};
 ghost use Rattle.op_read.specs.page_core.Pages.{ended as unread};
 ghost use Rattle.session_hub.specs.Controls.{subentries_asked, page_asked};
-ghost use Rattle.session_hub.specs.Answering.{rules, response_to as response_of, replies_in, ended_with, asking, searched, answer_octets, change_of, changing, operated, answered, is_unbind, answer_read};
+ghost use Rattle.session_hub.specs.Answering.{rules, response_to as response_of, replies_in, ended_with, asking, searched, answer_octets, change_of, changing, kept_changes, operated, answered, is_unbind, answer_read};
+ghost use Rattle.session_hub.specs.Outgoing.{put_in};
 ghost use Rattle.session_hub.specs.Answers.{Gives, Sends};
 ghost use Rattle.session_hub.specs.Limiting.{limited_message, lesser_limit};
 
@@ -20,12 +22,14 @@ use crate::allowance::Allowance;
 use crate::binds::{answer_bind, answer_simple_bind};
 use crate::controls::{is_refused, page_asked, subentries_asked};
 use crate::extended::answer_extended;
+use crate::outgoing::Outgoing;
 use crate::requester::anonymous;
 use crate::results::result_of;
 use crate::simple::simple_bind;
 use change_laws::laws::{a_refusal_leaves_the_entries, a_refused_change_leaves_the_entries};
 use change_laws::op_add_delete::{add, delete};
 use change_laws::op_modify::{modify, rename};
+use change_records::put_record;
 use op_read::acdf_filters::Requester;
 use op_read::directory::Dir;
 use op_read::{compare, search, search_page};
@@ -75,22 +79,6 @@ fn put_ended(
     ensures err { OnErr result (out.new.items ≡ out.old.items) }
 {
     put_response(message, result_of(alloc, code), out)
-}
-
-/// Puts the response with this result in the place of all that stands behind the first octets.
-fn put_instead(
-    message: &Message,
-    ended: LdapResult,
-    first: usize,
-    out: &mut Vec<u8>,
-) -> Result<(), AllocError>
-    requires within { first ≤ vec_len out.old }
-    ensures ok { OnOk result (out.new.items ≡ take first out.old.items
-        ++ replies_octets message.now.id (replies_in (response_of message.now.request ended))) }
-    ensures err { OnErr result (out.new.items ≡ take first out.old.items) }
-{
-    out.truncate(first);
-    put_response(message, ended, out)
 }
 
 /// A bind makes the requester anonymous before anything else; no other request changes it.
@@ -207,32 +195,97 @@ fn change<D: Dir>(
     }
 }
 
-/// Changes the entries, and appends the reply, for which there is room before the directory changes.
-/// After `AllocError` all is as it was.
+/// Appends the record of a change, where changes are kept. After `AllocError` nothing was appended.
+fn put_kept(keeps: bool, request: &Request, changes: &mut Vec<u8>) -> Result<(), AllocError>
+    ensures ok { OnOk result (changes.new.items ≡ changes.old.items ++ kept_changes keeps (record_text request.now)) }
+    ensures err { OnErr result (changes.new.items ≡ changes.old.items) }
+{
+    if keeps {
+        put_record(changes, request)
+    } else {
+        Ok(())
+    }
+}
+
+/// Appends what an accepted change has appended: its record and its reply. After `AllocError` nothing was appended.
+fn put_accepted(
+    alloc: Global,
+    message: &Message,
+    keeps: bool,
+    out: &mut Outgoing,
+) -> Result<(), AllocError>
+    ensures ok { OnOk result (out.new.replies.items ≡ out.old.replies.items
+        ++ replies_octets message.now.id (ended_with code.Success message.now.request)) }
+    ensures recorded { OnOk result (out.new.changes.items ≡ out.old.changes.items
+        ++ kept_changes keeps (record_text message.now.request)) }
+    ensures err { OnErr result (out.new.replies.items ≡ out.old.replies.items) }
+    ensures unrecorded { OnErr result (out.new.changes.items ≡ out.old.changes.items) }
+{
+    let before = out.changes.len();
+    put_kept(keeps, &message.request, &mut out.changes)?;
+    match put_ended(alloc, message, ResultCode::Success, &mut out.replies) {
+        Ok(()) => Ok(()),
+        Err(fault) => {
+            out.changes.truncate(before);
+            Err(fault)
+        }
+    }
+}
+
+/// Puts the response with a refusal in the place of all replies behind the first octets, and takes back all changes behind
+/// those that were kept. After `AllocError` all is taken back.
+fn put_refusal(
+    message: &Message,
+    refusal: LdapResult,
+    first: usize,
+    kept: usize,
+    out: &mut Outgoing,
+) -> Result<(), AllocError>
+    requires replies { first ≤ vec_len out.old.replies }
+    requires changes { kept ≤ vec_len out.old.changes }
+    ensures ok { OnOk result (out.new.replies.items ≡ take first out.old.replies.items
+        ++ replies_octets message.now.id (replies_in (response_of message.now.request refusal))) }
+    ensures err { OnErr result (out.new.replies.items ≡ take first out.old.replies.items) }
+    ensures unrecorded { out.new.changes.items ≡ take kept out.old.changes.items }
+{
+    out.replies.truncate(first);
+    out.changes.truncate(kept);
+    put_response(message, refusal, &mut out.replies)
+}
+
+/// Changes the entries, and appends the record of the change and the reply, for which there is room before the directory
+/// changes. Of a change that is refused nothing is recorded. After `AllocError` all is as it was.
 #[inline(never)] // what it needs is not to be cleared for each bind
 fn put_change<D: Dir>(
     alloc: Global,
     dir: &mut D,
     who: &Requester,
     message: &Message,
-    out: &mut Vec<u8>,
+    keeps: bool,
+    out: &mut Outgoing,
 ) -> Result<(), AllocError>
     ensures ok { OnOk result (Sends message.now.id
         (changing who.now message.now.request
         (change_of (entries_of (D.rows dir.old)) who.now message.now.request))
-        out.old.items out.new.items (entries_of (D.rows dir.new)) who.now) }
-    ensures err { OnErr result (out.new.items ≡ out.old.items) }
+        out.old.replies.items out.new.replies.items (entries_of (D.rows dir.new)) who.now) }
+    ensures recorded { OnOk result (out.new.changes.items ≡ out.old.changes.items ++ kept_changes keeps
+        (changing who.now message.now.request
+        (change_of (entries_of (D.rows dir.old)) who.now message.now.request)).changes) }
+    ensures err { OnErr result (out.new.replies.items ≡ out.old.replies.items) }
+    ensures unrecorded { OnErr result (out.new.changes.items ≡ out.old.changes.items) }
     ensures entries { OnErr result (entries_of (D.rows dir.new) ≡ entries_of (D.rows dir.old)) }
 {
     a_refusal_leaves_the_entries();
     a_refused_change_leaves_the_entries();
-    let before = out.len();
-    put_ended(alloc, message, ResultCode::Success, out)?;
+    let before = out.replies.len();
+    let unchanged = out.changes.len();
+    put_accepted(alloc, message, keeps, out)?;
     match change(alloc, dir, who, &message.request) {
         Ok(None) => Ok(()),
-        Ok(Some(refusal)) => put_instead(message, refusal, before, out),
+        Ok(Some(refusal)) => put_refusal(message, refusal, before, unchanged, out),
         Err(fault) => {
-            out.truncate(before);
+            out.changes.truncate(unchanged);
+            out.replies.truncate(before);
             Err(fault)
         }
     }
@@ -244,27 +297,46 @@ fn operate<D: Dir>(
     dir: &mut D,
     who: &mut Requester,
     message: &Message,
-    room: usize,
-    out: &mut Vec<u8>,
+    allowed: Allowance,
+    out: &mut Outgoing,
 ) -> Result<(), AllocError>
     ensures ok { OnOk result (Sends message.now.id
         (operated (entries_of (D.rows dir.old)) (asking who.old message.now.request)
         message.now.controls message.now.request)
-        out.old.items out.new.items (entries_of (D.rows dir.new)) who.new) }
-    ensures err { OnErr result (out.new.items ≡ out.old.items) }
+        out.old.replies.items out.new.replies.items (entries_of (D.rows dir.new)) who.new) }
+    ensures recorded { OnOk result (out.new.changes.items ≡ out.old.changes.items ++ kept_changes allowed.terms.keeps
+        (operated (entries_of (D.rows dir.old)) (asking who.old message.now.request)
+        message.now.controls message.now.request).changes) }
+    ensures err { OnErr result (out.new.replies.items ≡ out.old.replies.items) }
+    ensures unrecorded { OnErr result (out.new.changes.items ≡ out.old.changes.items) }
     ensures kept { OnErr result (who.new ≡ who.old) }
     ensures entries { OnErr result (entries_of (D.rows dir.new) ≡ entries_of (D.rows dir.old)) }
 {
     match &message.request {
-        Request::Bind(bind) => answer_bind(alloc, dir, who, message.id, bind, out),
-        Request::Search(search) => put_search(alloc, dir, who, message, search, room, out),
-        Request::Compare(compare) => put_compare(alloc, dir, who, message.id, compare, out),
+        Request::Bind(bind) => answer_bind(alloc, dir, who, message.id, bind, &mut out.replies),
+        Request::Search(search) => put_search(
+            alloc,
+            dir,
+            who,
+            message,
+            search,
+            allowed.room,
+            &mut out.replies,
+        ),
+        Request::Compare(compare) => put_compare(
+            alloc,
+            dir,
+            who,
+            message.id,
+            compare,
+            &mut out.replies,
+        ),
         Request::Unbind | Request::Abandon(_) => Ok(()),
         Request::Extended(name, value) => {
-            answer_extended(alloc, who, message.id, name, value, out)
+            answer_extended(alloc, who, message.id, name, value, &mut out.replies)
         }
         Request::Modify(_) | Request::Add(_) | Request::Delete(_) | Request::Rename(_) => {
-            put_change(alloc, dir, who, message, out)
+            put_change(alloc, dir, who, message, allowed.terms.keeps, out)
         }
     }
 }
@@ -298,20 +370,23 @@ fn answer_request<D: Dir>(
     dir: &mut D,
     who: &mut Requester,
     message: &Message,
-    room: usize,
-    out: &mut Vec<u8>,
+    allowed: Allowance,
+    out: &mut Outgoing,
 ) -> Result<(), AllocError>
     ensures ok { OnOk result (Sends message.now.id
         (answered (entries_of (D.rows dir.old)) who.old message.now.controls message.now.request)
-        out.old.items out.new.items (entries_of (D.rows dir.new)) who.new) }
-    ensures err { OnErr result (out.new.items ≡ out.old.items) }
+        out.old.replies.items out.new.replies.items (entries_of (D.rows dir.new)) who.new) }
+    ensures recorded { OnOk result (out.new.changes.items ≡ out.old.changes.items ++ kept_changes allowed.terms.keeps
+        (answered (entries_of (D.rows dir.old)) who.old message.now.controls message.now.request).changes) }
+    ensures err { OnErr result (out.new.replies.items ≡ out.old.replies.items) }
+    ensures unrecorded { OnErr result (out.new.changes.items ≡ out.old.changes.items) }
     ensures kept { OnErr result (who.new ≡ who.old) }
     ensures entries { OnErr result (entries_of (D.rows dir.new) ≡ entries_of (D.rows dir.old)) }
 {
     if is_refused(&message.request, message.controls.as_slice()) {
-        refuse(alloc, who, message, out)
+        refuse(alloc, who, message, &mut out.replies)
     } else {
-        operate(alloc, dir, who, message, room, out)
+        operate(alloc, dir, who, message, allowed, out)
     }
 }
 
@@ -327,24 +402,26 @@ fn answer_message<D: Dir>(
     dir: &mut D,
     who: &mut Requester,
     message: &Message,
-    room: usize,
-    out: &mut Vec<u8>,
+    allowed: Allowance,
+    out: &mut Outgoing,
 ) -> Result<bool, AllocError>
     ensures ok { IfOk result (λ closes.
-        Gives (answer_read (entries_of (D.rows dir.old)) who.old (Some message.now))
-        out.old.items out.new.items (entries_of (D.rows dir.new)) who.new closes) }
-    ensures err { OnErr result (out.new.items ≡ out.old.items) }
+        Gives (answer_read allowed.terms.keeps (entries_of (D.rows dir.old)) who.old (Some message.now))
+        (put_in out.old) (put_in out.new) (entries_of (D.rows dir.new)) who.new closes) }
+    ensures err { OnErr result (out.new.replies.items ≡ out.old.replies.items) }
+    ensures unrecorded { OnErr result (out.new.changes.items ≡ out.old.changes.items) }
     ensures kept { OnErr result (who.new ≡ who.old) }
     ensures entries { OnErr result (entries_of (D.rows dir.new) ≡ entries_of (D.rows dir.old)) }
 {
-    answer_request(alloc, dir, who, message, room, out)?;
+    answer_request(alloc, dir, who, message, allowed, out)?;
     Ok(closes_after(&message.request))
 }
 
 #[tactic(auto, unfolding(crate::specs::Answering::rules))]
 fn refuse_octets(out: &mut Vec<u8>) -> Result<bool, AllocError>
-    ensures ok { IfOk result (λ closes. (entries : DirectoryEntries) (who : Requester) →
-        Gives (answer_read entries who None) out.old.items out.new.items entries who closes) }
+    ensures ok { IfOk result (λ closes. (keeps : Bool) (changes : List ℕ) (entries : DirectoryEntries) (who : Requester) →
+        Gives (answer_read keeps entries who None) (record { replies = out.old.items; changes = changes })
+        (record { replies = out.new.items; changes = changes }) entries who closes) }
     ensures err { OnErr result (out.new.items ≡ out.old.items) }
 {
     put_notice(out)?;
@@ -381,21 +458,22 @@ fn answer_any<D: Dir>(
     who: &mut Requester,
     bytes: &[u8],
     allowed: Allowance,
-    out: &mut Vec<u8>,
+    out: &mut Outgoing,
 ) -> Result<bool, AllocError>
-    ensures ok { IfOk result (λ closes. Gives ((rules allowed.limit).answer (entries_of (D.rows dir.old)) who.old bytes.now)
-        out.old.items out.new.items (entries_of (D.rows dir.new)) who.new closes) }
-    ensures err { OnErr result (out.new.items ≡ out.old.items) }
+    ensures ok { IfOk result (λ closes. Gives ((rules allowed.terms).answer (entries_of (D.rows dir.old)) who.old bytes.now)
+        (put_in out.old) (put_in out.new) (entries_of (D.rows dir.new)) who.new closes) }
+    ensures err { OnErr result (out.new.replies.items ≡ out.old.replies.items) }
+    ensures unrecorded { OnErr result (out.new.changes.items ≡ out.old.changes.items) }
     ensures asker { OnErr result (who.new ≡ who.old) }
     ensures entries { OnErr result (entries_of (D.rows dir.new) ≡ entries_of (D.rows dir.old)) }
 {
     match read_request(alloc, bytes) {
         Ok(mut message) => {
-            limit_message(&mut message, allowed.limit);
-            answer_message(alloc, dir, who, &message, allowed.room, out)
+            limit_message(&mut message, allowed.terms.limit);
+            answer_message(alloc, dir, who, &message, allowed, out)
         }
         Err(ReadFault::NoMemory) => Err(AllocError),
-        Err(ReadFault::BadMessage) => refuse_octets(out),
+        Err(ReadFault::BadMessage) => refuse_octets(&mut out.replies),
     }
 }
 
@@ -409,17 +487,18 @@ pub fn answer<D: Dir>(
     who: &mut Requester,
     bytes: &[u8],
     allowed: Allowance,
-    out: &mut Vec<u8>,
+    out: &mut Outgoing,
 ) -> Result<bool, AllocError>
     requires { frame_at bytes.now ≡ Frame.Whole (length bytes.now) }
-    ensures ok { IfOk result (λ closes. Gives ((rules allowed.limit).answer (entries_of (D.rows dir.old)) who.old bytes.now)
-        out.old.items out.new.items (entries_of (D.rows dir.new)) who.new closes) }
-    ensures err { OnErr result (out.new.items ≡ out.old.items) }
+    ensures ok { IfOk result (λ closes. Gives ((rules allowed.terms).answer (entries_of (D.rows dir.old)) who.old bytes.now)
+        (put_in out.old) (put_in out.new) (entries_of (D.rows dir.new)) who.new closes) }
+    ensures err { OnErr result (out.new.replies.items ≡ out.old.replies.items) }
+    ensures unrecorded { OnErr result (out.new.changes.items ≡ out.old.changes.items) }
     ensures asker { OnErr result (who.new ≡ who.old) }
     ensures entries { OnErr result (entries_of (D.rows dir.new) ≡ entries_of (D.rows dir.old)) }
 {
     match simple_bind(bytes) {
-        Some(request) => answer_simple_bind(alloc, dir, who, &request, out),
+        Some(request) => answer_simple_bind(alloc, dir, who, &request, &mut out.replies),
         None => answer_any(alloc, dir, who, bytes, allowed, out),
     }
 }

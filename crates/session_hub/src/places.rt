@@ -140,13 +140,15 @@ pub fn hear_at<D: Dir>(
     number: u32,
     piece: &[u8],
     allowed: Allowance,
+    changes: &mut Vec<u8>,
 ) -> bool
     requires { AreDistinct connections.old }
-    ensures exact { HearsAt allowed.limit number piece.now
-        (entries_of (D.rows dir.old)) connections.old (entries_of (D.rows dir.new)) connections.new result }
+    ensures exact { HearsAt allowed.terms number piece.now
+        (entries_of (D.rows dir.old)) connections.old changes.old.items
+        (entries_of (D.rows dir.new)) connections.new changes.new.items result }
     ensures bounded { IsBounded connections.old → IsBounded connections.new }
     ensures distinct { AreDistinct connections.new }
-    ensures room { AnswersWithin allowed.limit allowed.room number piece.now
+    ensures room { AnswersWithin allowed.terms allowed.room number piece.now
         (entries_of (D.rows dir.old)) connections.old connections.new }
 {
     match place_of(connections, *place, number) {
@@ -157,7 +159,7 @@ pub fn hear_at<D: Dir>(
             if connection.is_closing() {
                 return false;
             }
-            connection.hear(alloc, dir, piece, allowed);
+            connection.hear(alloc, dir, piece, allowed, changes);
             connection.cut().is_some()
         }
     }

@@ -50,18 +50,20 @@ fn take_turn<D: Dir, L: Link>(
     link: &mut L,
     buffer: &mut [u8],
 ) -> Option<Ended>
+    requires stored { hub.old.unstored ≡ [] }
     requires long { length buffer.old ≡ buffer_length }
-    ensures none { IfNone result (GoesOn hub.old.bounds.limit
+    ensures none { IfNone result (GoesOn hub.old.bounds.terms
         (L.journal link.old) (L.plan link.old)
         (held (entries_of (D.rows dir.old)) hub.old) waiting.old.on_hold.items
         (L.journal link.new) (L.plan link.new)
         (held (entries_of (D.rows dir.new)) hub.new) waiting.new.on_hold.items) }
-    ensures some { IfSome result (λ ended. EndsWith hub.old.bounds.limit
+    ensures some { IfSome result (λ ended. EndsWith hub.old.bounds.terms
         (L.journal link.old) (L.plan link.old)
         (held (entries_of (D.rows dir.old)) hub.old) waiting.old.on_hold.items
         ended (entries_of (D.rows dir.new)) (L.journal link.new) (L.plan link.new)) }
     ensures faults { IfNone result (L.faults link.new ≡ L.faults link.old) }
-    ensures cause { IfSome result (λ ended. EndsFor (L.plan link.old) (L.faults link.old) (L.faults link.new) ended) }
+    ensures stored { IfNone result (hub.new.unstored ≡ []) }
+    ensures cause { IfSome result (λ ended. EndsFor hub.old.bounds.terms.keeps (L.plan link.old) (L.faults link.old) (L.faults link.new) ended) }
     ensures lost { NeverFalls (L.lost link.old) (L.lost link.new) }
     ensures bounds { hub.new.bounds ≡ hub.old.bounds }
 {
@@ -69,7 +71,8 @@ fn take_turn<D: Dir, L: Link>(
         Err(NextFault::Failed) => Some(end_of(hub, Ended::LinkFault)),
         Err(NextFault::NoMemory) => Some(Ended::NoMemory),
         Ok(heard) => match serve_event(hub, dir, waiting, link, buffer, heard) {
-            Err(_) => Some(Ended::NoMemory),
+            Err(NextFault::Failed) => Some(Ended::StoreFault),
+            Err(NextFault::NoMemory) => Some(Ended::NoMemory),
             Ok(()) => {
                 if is_stop(heard) {
                     Some(end_of(hub, Ended::Stopped))
@@ -93,10 +96,10 @@ fn serve_in<D: Dir, L: Link>(
     requires empty { hub ≡ no_hub hub.bounds }
     requires free { waiting.on_hold.items ≡ [] }
     requires long { length buffer.old ≡ buffer_length }
-    ensures served { Serves hub.bounds.limit (entries_of (D.rows dir.old)) (entries_of (D.rows dir.new))
+    ensures served { Serves hub.bounds.terms (entries_of (D.rows dir.old)) (entries_of (D.rows dir.new))
         turns (L.journal link.old) result (L.journal link.new) }
     ensures plays { PlaysOut turns (L.journal link.old) (L.plan link.old) result (L.journal link.new) (L.plan link.new) }
-    ensures cause { EndsFor (L.plan link.old) (L.faults link.old) (L.faults link.new) result }
+    ensures cause { EndsFor hub.bounds.terms.keeps (L.plan link.old) (L.faults link.old) (L.faults link.new) result }
     ensures lost { NeverFalls (L.lost link.old) (L.lost link.new) }
 {
     let mut hub = hub;
@@ -114,10 +117,13 @@ fn serve_in<D: Dir, L: Link>(
 /// and says why it ended (RFC 4511 5.3). Where the link tells its journal, the journal then serves
 /// them: nothing is sent but replies, nothing is left unsent but to connections that take no more
 /// now and are on hold, and each connection is hung up in its own block; the directory's entries are
-/// those that the journal's steps leave. A search is answered within the bounds' limit. With `NoMemory`
-/// connections may have been cut, for want of memory or since more waited for them than the bounds have
-/// room for, each once, and the last block may be unfinished. `LinkFault` says that the link failed,
-/// which its count of faults shows. Where nothing was cut the journal serves twins of the directory too.
+/// those that the journal's steps leave. A search is answered within the bounds' limit. Where the bounds'
+/// terms say so, the record of each accepted change is stored before any reply is taken that may show it.
+/// With `NoMemory` connections may have been cut, for want of memory or since more waited for them than the
+/// bounds have room for, each once, and the last block may be unfinished. `LinkFault` says that the link
+/// failed to give an event, and `StoreFault` that it failed to store changes, which its count of faults
+/// shows; the last block is then unfinished. Where nothing was cut the journal serves twins of the
+/// directory too.
 pub fn serve_loop<D: Dir, L: Link>(
     alloc: Global,
     dir: &mut D,
@@ -125,11 +131,11 @@ pub fn serve_loop<D: Dir, L: Link>(
     turns: u64,
     bounds: Bounds,
 ) -> Ended
-    ensures served { Serves bounds.limit (entries_of (D.rows dir.old)) (entries_of (D.rows dir.new))
+    ensures served { Serves bounds.terms (entries_of (D.rows dir.old)) (entries_of (D.rows dir.new))
         turns (L.journal link.old) result (L.journal link.new) }
-    ensures twins { ServesTwins bounds.limit (entries_of (D.rows dir.old)) (L.journal link.old) result (L.journal link.new) }
+    ensures twins { ServesTwins bounds.terms (entries_of (D.rows dir.old)) (L.journal link.old) result (L.journal link.new) }
     ensures plays { PlaysOut turns (L.journal link.old) (L.plan link.old) result (L.journal link.new) (L.plan link.new) }
-    ensures cause { EndsFor (L.plan link.old) (L.faults link.old) (L.faults link.new) result }
+    ensures cause { EndsFor bounds.terms.keeps (L.plan link.old) (L.faults link.old) (L.faults link.new) result }
     ensures lost { NeverFalls (L.lost link.old) (L.lost link.new) }
 {
     let Ok(hub) = Hub::new(alloc, bounds) else {

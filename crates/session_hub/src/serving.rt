@@ -6,6 +6,7 @@ ghost use Rattle.session_model.specs.Kept.{Held};
 ghost use Rattle.session_model.specs.Serving.{Leads};
 ghost use Rattle.session_model.specs.Working.{Refused, Lost};
 ghost use Rattle.session_hub.specs.Parties.{DirectoryEntries, Requester};
+ghost use Rattle.session_hub.specs.Terms.{Terms};
 ghost use Rattle.session_hub.specs.Answering.{rules};
 ghost use Rattle.session_hub.specs.hub.Hubs.{held};
 ghost use Rattle.session_hub.specs.Adding.{Adds, OnlyServes, IsServing, IsSent, IsFree, SentAs, After};
@@ -18,11 +19,13 @@ use std::alloc::AllocError;
 
 /// Sends the connection's queue as far as the link takes it.
 pub fn send_queue<L: Link>(hub: &mut Hub, link: &mut L, conn: u32) -> Result<Sent, AllocError>
-    ensures adds { (limit : ℕ) (start tree : DirectoryEntries) (due on_hold : List ℕ) → Adds (L.plan link.old)
-        (IsServing limit start (conn ∷ due) (held tree hub.old) on_hold)
-        (SentAs limit result start conn due (held tree hub.new) on_hold) (L.journal link.old) (L.journal link.new) }
+    requires { hub.old.unstored ≡ [] }
+    ensures adds { (terms : Terms) (start tree : DirectoryEntries) (due on_hold : List ℕ) → Adds (L.plan link.old)
+        (IsServing terms start (conn ∷ due) (held tree hub.old) on_hold)
+        (SentAs terms result start conn due (held tree hub.new) on_hold) (L.journal link.old) (L.journal link.new) }
     ensures serves { OnlyServes (L.plan link.old) (L.plan link.new) (L.faults link.old) (L.faults link.new) (L.lost link.old) (L.lost link.new) }
     ensures bounds { hub.new.bounds ≡ hub.old.bounds }
+    ensures unstored { hub.new.unstored ≡ hub.old.unstored }
 {
     'sending: loop {
         let queue = hub.queue(conn);
@@ -45,13 +48,14 @@ fn drop_lost<L: Link>(
     link: &mut L,
     conn: u32,
 ) -> Result<(), AllocError>
-    ensures adds { (limit : ℕ) (start tree : DirectoryEntries) (due : List ℕ) → Adds (L.plan link.old)
-        (Lost (rules limit) start conn due (held tree hub.old) waiting.old.on_hold.items)
-        (After limit result start tree (IsServing limit start due (held tree hub.new) waiting.new.on_hold.items))
+    ensures adds { (terms : Terms) (start tree : DirectoryEntries) (due : List ℕ) → Adds (L.plan link.old)
+        (Lost (rules terms) start conn due (held tree hub.old) waiting.old.on_hold.items)
+        (After terms result start tree (IsServing terms start due (held tree hub.new) waiting.new.on_hold.items))
         (L.journal link.old) (L.journal link.new) }
     ensures due { waiting.new.due.items ≡ waiting.old.due.items }
     ensures serves { OnlyServes (L.plan link.old) (L.plan link.new) (L.faults link.old) (L.faults link.new) (L.lost link.old) (L.lost link.new) }
     ensures bounds { hub.new.bounds ≡ hub.old.bounds }
+    ensures unstored { hub.new.unstored ≡ hub.old.unstored }
 {
     hub.gone(conn);
     match link.hang_up(conn) {
@@ -65,9 +69,9 @@ fn drop_lost<L: Link>(
 
 /// Puts a connection on hold that takes no more now, unless it is on hold already.
 fn hold_back<L: Link>(waiting: &mut Waiting, link: &mut L, conn: u32) -> Result<(), AllocError>
-    ensures adds { (limit : ℕ) (start : DirectoryEntries) (due : List ℕ) (hub : Held DirectoryEntries Requester) → Adds (L.plan link.old)
-        (Refused (rules limit) start conn due hub waiting.old.on_hold.items)
-        (After limit result start hub.tree (IsServing limit start due hub waiting.new.on_hold.items))
+    ensures adds { (terms : Terms) (start : DirectoryEntries) (due : List ℕ) (hub : Held DirectoryEntries Requester) → Adds (L.plan link.old)
+        (Refused (rules terms) start conn due hub waiting.old.on_hold.items)
+        (After terms result start hub.tree (IsServing terms start due hub waiting.new.on_hold.items))
         (L.journal link.old) (L.journal link.new) }
     ensures due { waiting.new.due.items ≡ waiting.old.due.items }
     ensures serves { OnlyServes (L.plan link.old) (L.plan link.new) (L.faults link.old) (L.faults link.new) (L.lost link.old) (L.lost link.new) }
@@ -83,9 +87,9 @@ fn hold_back<L: Link>(waiting: &mut Waiting, link: &mut L, conn: u32) -> Result<
 
 /// Releases a connection to which nothing is left to be sent, if it is on hold.
 fn let_go<L: Link>(waiting: &mut Waiting, link: &mut L, conn: u32) -> Result<(), AllocError>
-    ensures adds { (limit : ℕ) (start : DirectoryEntries) (due : List ℕ) (hub : Held DirectoryEntries Requester) → Adds (L.plan link.old)
-        (IsSent limit start conn due hub waiting.old.on_hold.items)
-        (After limit result start hub.tree (IsFree limit start conn due hub waiting.new.on_hold.items))
+    ensures adds { (terms : Terms) (start : DirectoryEntries) (due : List ℕ) (hub : Held DirectoryEntries Requester) → Adds (L.plan link.old)
+        (IsSent terms start conn due hub waiting.old.on_hold.items)
+        (After terms result start hub.tree (IsFree terms start conn due hub waiting.new.on_hold.items))
         (L.journal link.old) (L.journal link.new) }
     ensures due { waiting.new.due.items ≡ waiting.old.due.items }
     ensures serves { OnlyServes (L.plan link.old) (L.plan link.new) (L.faults link.old) (L.faults link.new) (L.lost link.old) (L.lost link.new) }
@@ -104,12 +108,13 @@ fn let_go<L: Link>(waiting: &mut Waiting, link: &mut L, conn: u32) -> Result<(),
 
 /// Hangs up a connection to which nothing is left to be sent, if it is closing.
 fn hang_up_closing<L: Link>(hub: &mut Hub, link: &mut L, conn: u32) -> Result<(), AllocError>
-    ensures adds { (limit : ℕ) (start tree : DirectoryEntries) (due on_hold : List ℕ) → Adds (L.plan link.old)
-        (IsFree limit start conn due (held tree hub.old) on_hold)
-        (After limit result start tree (IsServing limit start due (held tree hub.new) on_hold))
+    ensures adds { (terms : Terms) (start tree : DirectoryEntries) (due on_hold : List ℕ) → Adds (L.plan link.old)
+        (IsFree terms start conn due (held tree hub.old) on_hold)
+        (After terms result start tree (IsServing terms start due (held tree hub.new) on_hold))
         (L.journal link.old) (L.journal link.new) }
     ensures serves { OnlyServes (L.plan link.old) (L.plan link.new) (L.faults link.old) (L.faults link.new) (L.lost link.old) (L.lost link.new) }
     ensures bounds { hub.new.bounds ≡ hub.old.bounds }
+    ensures unstored { hub.new.unstored ≡ hub.old.unstored }
 {
     if !hub.closing(conn) {
         return Ok(());
@@ -130,13 +135,14 @@ fn finish<L: Link>(
     link: &mut L,
     conn: u32,
 ) -> Result<(), AllocError>
-    ensures adds { (limit : ℕ) (start tree : DirectoryEntries) (due : List ℕ) → Adds (L.plan link.old)
-        (IsSent limit start conn due (held tree hub.old) waiting.old.on_hold.items)
-        (After limit result start tree (IsServing limit start due (held tree hub.new) waiting.new.on_hold.items))
+    ensures adds { (terms : Terms) (start tree : DirectoryEntries) (due : List ℕ) → Adds (L.plan link.old)
+        (IsSent terms start conn due (held tree hub.old) waiting.old.on_hold.items)
+        (After terms result start tree (IsServing terms start due (held tree hub.new) waiting.new.on_hold.items))
         (L.journal link.old) (L.journal link.new) }
     ensures due { waiting.new.due.items ≡ waiting.old.due.items }
     ensures serves { OnlyServes (L.plan link.old) (L.plan link.new) (L.faults link.old) (L.faults link.new) (L.lost link.old) (L.lost link.new) }
     ensures bounds { hub.new.bounds ≡ hub.old.bounds }
+    ensures unstored { hub.new.unstored ≡ hub.old.unstored }
 {
     match let_go(waiting, link, conn) {
         Ok(()) => hang_up_closing(hub, link, conn),
@@ -152,13 +158,15 @@ pub fn settle<L: Link>(
     link: &mut L,
     conn: u32,
 ) -> Result<(), AllocError>
-    ensures adds { (limit : ℕ) (start tree : DirectoryEntries) (due : List ℕ) → Adds (L.plan link.old)
-        (IsServing limit start (conn ∷ due) (held tree hub.old) waiting.old.on_hold.items)
-        (After limit result start tree (IsServing limit start due (held tree hub.new) waiting.new.on_hold.items))
+    requires { hub.old.unstored ≡ [] }
+    ensures adds { (terms : Terms) (start tree : DirectoryEntries) (due : List ℕ) → Adds (L.plan link.old)
+        (IsServing terms start (conn ∷ due) (held tree hub.old) waiting.old.on_hold.items)
+        (After terms result start tree (IsServing terms start due (held tree hub.new) waiting.new.on_hold.items))
         (L.journal link.old) (L.journal link.new) }
     ensures due { waiting.new.due.items ≡ waiting.old.due.items }
     ensures serves { OnlyServes (L.plan link.old) (L.plan link.new) (L.faults link.old) (L.faults link.new) (L.lost link.old) (L.lost link.new) }
     ensures bounds { hub.new.bounds ≡ hub.old.bounds }
+    ensures unstored { hub.new.unstored ≡ hub.old.unstored }
 {
     match send_queue(hub, link, conn) {
         Ok(Sent::All) => finish(hub, waiting, link, conn),
@@ -174,12 +182,14 @@ pub fn settle_all<L: Link>(
     waiting: &mut Waiting,
     link: &mut L,
 ) -> Result<(), AllocError>
-    ensures adds { (limit : ℕ) (start tree : DirectoryEntries) → Adds (L.plan link.old)
-        (IsServing limit start waiting.old.due.items (held tree hub.old) waiting.old.on_hold.items)
-        (After limit result start tree (IsServing limit start [] (held tree hub.new) waiting.new.on_hold.items))
+    requires { hub.old.unstored ≡ [] }
+    ensures adds { (terms : Terms) (start tree : DirectoryEntries) → Adds (L.plan link.old)
+        (IsServing terms start waiting.old.due.items (held tree hub.old) waiting.old.on_hold.items)
+        (After terms result start tree (IsServing terms start [] (held tree hub.new) waiting.new.on_hold.items))
         (L.journal link.old) (L.journal link.new) }
     ensures serves { OnlyServes (L.plan link.old) (L.plan link.new) (L.faults link.old) (L.faults link.new) (L.lost link.old) (L.lost link.new) }
     ensures bounds { hub.new.bounds ≡ hub.old.bounds }
+    ensures unstored { hub.new.unstored ≡ hub.old.unstored }
 {
     'settling: while let Some(conn) = waiting.next_due() {
         match settle(hub, waiting, link, conn) {

@@ -2,10 +2,12 @@
 
 ghost use Rattle.std.specs.Prelude.{◌≡◌, ◌<◌, ◌≤◌, length, true, false};
 ghost use Rattle.dir_tree.specs.tree.Numbered.{entries_of};
+ghost use Rattle.session_hub.specs.Outgoing.{put_in};
 ghost use Rattle.session_hub.specs.Answers.{Speaks};
 
 use crate::allowance::Allowance;
 use crate::messages::answer;
+use crate::outgoing::Outgoing;
 use crate::spoken::{SpeechEnd, Spoken};
 use op_read::acdf_filters::Requester;
 use op_read::directory::Dir;
@@ -13,27 +15,27 @@ use session_model::ldap_msg::{Frame, frame, put_notice};
 use std::alloc::Global;
 
 /// Whether more is queued than there is room for, behind the first message.
-fn is_full(answered: u64, out: &Vec<u8>, room: usize) -> bool
-    ensures full { result ≡ true → room < length out.now.items }
-    ensures spare { result ≡ false → 0 < answered → length out.now.items ≤ room }
+fn is_full(answered: u64, replies: &Vec<u8>, room: usize) -> bool
+    ensures full { result ≡ true → room < length replies.now.items }
+    ensures spare { result ≡ false → 0 < answered → length replies.now.items ≤ room }
 {
-    answered > 0 && out.len() > room
+    answered > 0 && replies.len() > room
 }
 
 /// Answers the whole messages of a stream in their order until one closes, where they lie, and
 /// sends the notice where none of them does and the stream can't go on (RFC 4511 4.4.1, 5). Where
 /// there is no memory for an answer the stream is cut there, and so it is behind the first message where
-/// `out` holds more octets than there is room for and another message is to be answered.
+/// the replies are more octets than there is room for and another message is to be answered.
 pub fn speak<D: Dir>(
     alloc: Global,
     dir: &mut D,
     who: &mut Requester,
     stream: &[u8],
     allowed: Allowance,
-    out: &mut Vec<u8>,
+    out: &mut Outgoing,
 ) -> Spoken
-    ensures { Speaks allowed.limit allowed.room (entries_of (D.rows dir.old)) who.old stream.now
-        out.old.items out.new.items (entries_of (D.rows dir.new)) who.new result }
+    ensures { Speaks allowed.terms allowed.room (entries_of (D.rows dir.old)) who.old stream.now
+        (put_in out.old) (put_in out.new) (entries_of (D.rows dir.new)) who.new result }
 {
     let mut read = 0;
     let mut answered = 0;
@@ -48,7 +50,7 @@ pub fn speak<D: Dir>(
                 };
             }
             Frame::Bad => {
-                let end = match put_notice(out) {
+                let end = match put_notice(&mut out.replies) {
                     Ok(()) => SpeechEnd::Closes,
                     Err(_) => SpeechEnd::IsCut,
                 };
@@ -59,7 +61,7 @@ pub fn speak<D: Dir>(
                 };
             }
             Frame::Whole(length) => {
-                if is_full(answered, out, allowed.room) {
+                if is_full(answered, &out.replies, allowed.room) {
                     return Spoken {
                         read,
                         answered,

@@ -74,7 +74,13 @@ fn flooded(
     queues: u64,
     beside: u32,
 ) -> Result<Hub, AllocError> {
-    let mut hub = Hub::new(alloc, Bounds { limit: 0, queues })?;
+    let mut hub = Hub::new(
+        alloc,
+        Bounds {
+            terms: Bounds::NONE.terms,
+            queues,
+        },
+    )?;
     hear(&mut hub, dir, Event::Opened(1))?;
     hear(&mut hub, dir, Event::Opened(2))?;
     let (before, piece) = (binds(alloc, beside)?, binds(alloc, 80_000)?);

@@ -11,4 +11,6 @@ mod messages;
 #[cfg(test)]
 mod slow;
 #[cfg(test)]
+mod stores;
+#[cfg(test)]
 mod updates;

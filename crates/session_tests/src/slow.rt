@@ -128,6 +128,16 @@ impl Link for HalfSlow {
         Ok(())
     }
 
+    #[tactic(auto, unfolding(wire_io::specs::link::Telling::StoreOpenTells, wire_io::specs::Answers::LinkCause, wire_io::specs::Answers::IsPlanned))]
+    fn open_store(&mut self, _name: &str, _length: u64) -> Result<(), NextFault> {
+        Ok(())
+    }
+
+    #[tactic(auto, unfolding(wire_io::specs::link::Telling::NoteTells, wire_io::specs::Answers::LinkCause, wire_io::specs::Answers::IsPlanned))]
+    fn store(&mut self, _octets: &[u8]) -> Result<(), NextFault> {
+        Ok(())
+    }
+
     #[tactic(auto, unfolding(wire_io::specs::link::Telling::NextTells, wire_io::specs::Playing::NextPlays, wire_io::specs::Answers::LinkCause, wire_io::specs::Answers::IsPlanned))]
     fn next(&mut self, buf: &mut [u8]) -> Result<Heard, NextFault> {
         let turn = self.given;

@@ -28,7 +28,8 @@ const SITE: &str = "\
     objectClass: device\n\
     cn: d\n";
 
-fn site(alloc: Global) -> Result<IndexedDir, Fail> {
+/// A directory of the site.
+pub fn site(alloc: Global) -> Result<IndexedDir, Fail> {
     let tree = load(alloc, SITE.as_bytes())?;
     let dir = IndexedDir::new(alloc, tree)?;
     Ok(dir)
@@ -52,12 +53,12 @@ fn entries(dir: &IndexedDir) -> usize {
 }
 
 // An add with messageID 2 and a delete with messageID 3, of one entry, and their answers where they are made.
-const ADD: &[u8] =
+pub const ADD: &[u8] =
     b"\x30\x2b\x02\x01\x02\x68\x26\x04\x09cn=e,dc=w\x30\x19\x30\x17\x04\x0bobjectClass\x31\x08\x04\x06device";
 
 const ADDED: &[u8] = b"\x30\x0c\x02\x01\x02\x69\x07\x0a\x01\x00\x04\x00\x04\x00";
 
-const DELETE: &[u8] = b"\x30\x0e\x02\x01\x03\x4a\x09cn=e,dc=w";
+pub const DELETE: &[u8] = b"\x30\x0e\x02\x01\x03\x4a\x09cn=e,dc=w";
 
 const DELETED: &[u8] = b"\x30\x0c\x02\x01\x03\x6b\x07\x0a\x01\x00\x04\x00\x04\x00";
 

@@ -46,11 +46,11 @@ searched-with : (code : ResultCode) (id : ℕ) (octets : List ℕ) (wanted : Lis
     → IsSearchedWith code id octets
 searched-with code id octets wanted e ends = record { replies = wanted; ends = ends; written = e }
 
-pub answer_read-searched : (entries : List EntryInformation) (who : Requester) (message : Message) (search : SearchRequest)
+pub answer_read-searched : (keeps : Bool) (entries : List EntryInformation) (who : Requester) (message : Message) (search : SearchRequest)
     → AsksSearch message search → HasKnownBase entries who search
-    → (IsSearchedWith code.Success message.id (answer_read entries who (Some message)).replies)
-    ⊎ (IsSearchedWith code.SizeLimitExceeded message.id (answer_read entries who (Some message)).replies)
-answer_read-searched entries who message search asks known =
+    → (IsSearchedWith code.Success message.id (answer_read keeps entries who (Some message)).replies)
+    ⊎ (IsSearchedWith code.SizeLimitExceeded message.id (answer_read keeps entries who (Some message)).replies)
+answer_read-searched keeps entries who message search asks known =
     let same = searched-replies message.id entries who message.controls message.request search asks.subentries asks.asks asks.accepted asks.readable asks.whole in
     elim (search_replies-succeed entries who search asks.subentries known) [
       | inl ends ↦ inl (searched-with code.Success message.id _ _ same ends)
@@ -62,11 +62,11 @@ compared-with : (code : ResultCode) (id : ℕ) (octets : List ℕ) (result : Lda
     → result ≡ result_of code → IsComparedWith code id octets
 compared-with code id octets result e f = e ∙ ap (λ result. replies_octets id (reply.Compare result ∷ [])) f
 
-pub answer_read-compared : (entries : List EntryInformation) (who : Requester) (message : Message) (compare : CompareRequest)
+pub answer_read-compared : (keeps : Bool) (entries : List EntryInformation) (who : Requester) (message : Message) (compare : CompareRequest)
     → AsksCompare message compare → IsComparable entries who compare
-    → (IsComparedWith code.CompareTrue message.id (answer_read entries who (Some message)).replies)
-    ⊎ (IsComparedWith code.CompareFalse message.id (answer_read entries who (Some message)).replies)
-answer_read-compared entries who message compare asks granted =
+    → (IsComparedWith code.CompareTrue message.id (answer_read keeps entries who (Some message)).replies)
+    ⊎ (IsComparedWith code.CompareFalse message.id (answer_read keeps entries who (Some message)).replies)
+answer_read-compared keeps entries who message compare asks granted =
     let same = compared-replies message.id entries who message.controls message.request compare asks.asks asks.accepted in
     elim (compare_result-granted entries who compare granted) [
       | inl is ↦ inl (compared-with code.CompareTrue message.id _ _ same is)

@@ -4,6 +4,7 @@ use Rattle.std.specs.List.{AllByRecursion}
 use Rattle.std.proofs.lemmas.List.{take_all, drop_all}
 use Rattle.session_hub.specs.Answering.{rules}
 use Rattle.session_hub.specs.Parties.{DirectoryEntries}
+use Rattle.session_hub.specs.Terms.{no_terms}
 use Rattle.session_hub.specs.declared.ended.Ended.TheVariants as ended
 use Rattle.session_hub.specs.serve.Loops.{buffer_length, Serves, PlaysOut}
 use Rattle.session_hub.specs.session_model.Journaled.{steps_of as journal_steps, steps_of_events}
@@ -63,22 +64,22 @@ heard-all planned left heard plays none = sym (plays ∙ ap (λ left. steps_of h
 
 -- what is sent to each connection
 pub record AreSent (entries : DirectoryEntries) (events : List ScriptEvent) (journal : List Item) : Type 0 where
-  pub sent : (number : ℕ) → taken_of number journal ≡ ((replayed (rules 0) entries (played_steps events)).of number).reply
+  pub sent : (number : ℕ) → taken_of number journal ≡ ((replayed (rules no_terms) entries (played_steps events)).of number).reply
 
 -- a journal that heard all events
-sent-heard : (entries : DirectoryEntries) (events : List ScriptEvent) (journal : List Item) → ArePlayed events → IsReplay (rules 0) entries (journal_steps journal) journal
+sent-heard : (entries : DirectoryEntries) (events : List ScriptEvent) (journal : List Item) → ArePlayed events → IsReplay (rules no_terms) entries (journal_steps journal) journal
     → steps_of (heard journal) ≡ pieces buffer_length events → AreSent entries events journal
 sent-heard entries events journal played replay all = record {
   sent = λ number. replay.taken number
       ∙ ap (λ sessions. (sessions.of number).reply)
-      (replay.same ∙ ap (λ steps. replayed (rules 0) entries steps)
+      (replay.same ∙ ap (λ steps. replayed (rules no_terms) entries steps)
       (events_of journal ∙ sym (steps_of_events-steps (heard journal)) ∙ ap steps_of_events (all ∙ pieces-short events played.short) ∙ steps-events events));
 }
 
 -- the loop over a link that has only these events, which heard Stop
 sent-served : (entries left : DirectoryEntries) (events : List ScriptEvent) (turns : ℕ) (journal : List Item) (plan after : Plan) → ArePlayed events
     → plan ≡ record { to_come = events; failing = []; later = []; gone = [] }
-    → Serves 0 entries left turns (Some []) ended.Stopped (Some journal) → PlaysOut turns (Some []) (Some plan) ended.Stopped (Some journal) (Some after) → AreSent entries events journal
+    → Serves no_terms entries left turns (Some []) ended.Stopped (Some journal) → PlaysOut turns (Some []) (Some plan) ended.Stopped (Some journal) (Some after) → AreSent entries events journal
 unfolding Serves PlaysOut
 sent-served entries left events turns journal plan after events_played is serves plays =
     let serves = serves [] refl in
@@ -91,10 +92,10 @@ sent-served entries left events turns journal plan after events_played is serves
     subst P (sym same) (sent-heard entries events known events_played replay (all ∙ ap (λ plan. pieces buffer_length plan.to_come) is))
 
 pub sent-link : (entries left : DirectoryEntries) (events : List ScriptEvent) (turns : ℕ) (old new : LinkState) → ArePlayed events → old ≡ fresh_link events [] [] []
-    → Serves 0 entries left turns (Some old.journal) ended.Stopped (Some new.journal) → PlaysOut turns (Some old.journal) (Some old.plan) ended.Stopped (Some new.journal) (Some new.plan)
-    → (number : ℕ) → taken_of number new.journal ≡ ((replayed (rules 0) entries (played_steps events)).of number).reply
+    → Serves no_terms entries left turns (Some old.journal) ended.Stopped (Some new.journal) → PlaysOut turns (Some old.journal) (Some old.plan) ended.Stopped (Some new.journal) (Some new.plan)
+    → (number : ℕ) → taken_of number new.journal ≡ ((replayed (rules no_terms) entries (played_steps events)).of number).reply
 sent-link entries left events turns old new played fresh serves plays =
     let none : old.journal ≡ [] = ap (λ link. link.journal) fresh in
-    let P : List Item → Type 0 = λ journal. Serves 0 entries left turns (Some journal) ended.Stopped (Some new.journal) in
+    let P : List Item → Type 0 = λ journal. Serves no_terms entries left turns (Some journal) ended.Stopped (Some new.journal) in
     let Q : List Item → Type 0 = λ journal. PlaysOut turns (Some journal) (Some old.plan) ended.Stopped (Some new.journal) (Some new.plan) in
     (sent-served entries left events turns new.journal old.plan new.plan played (ap (λ link. link.plan) fresh) (subst P none serves) (subst Q none plays)).sent

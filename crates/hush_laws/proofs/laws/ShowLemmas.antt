@@ -15,6 +15,7 @@ use Rattle.session_hub.specs.session_model.Purging.{finds_room, answered_of_conn
 use Rattle.session_hub.specs.session_model.Places.{places, places_of_replay, passes, IsPassing}
 use Rattle.session_hub.proofs.session_model_proofs.Theorems.{run-meets, replay-meets}
 use Rattle.session_hub.specs.Parties.{DirectoryEntries, Requester}
+use Rattle.session_hub.specs.declared.bounds.Terms.{Terms}
 use Rattle.session_hub.specs.Answering.{rules}
 use Rattle.session_hub.specs.Twins.{reads_outside, IsOverTwins}
 use Rattle.hush_laws.specs.TwinParts.{failing_twins}
@@ -64,27 +65,27 @@ module _ (top : RdnSequence) (before : DirectoryEntries) where
     all-twins below asked passing.1 good.1,
   )
 
-module _ (limit : ℕ) (entries : DirectoryEntries) (steps : List Step) (number : ℕ) (top : RdnSequence) where
-  pub run-hushed : AllByRecursion (λ place. IsGoodTree place.tree) (places (rules limit) number entries steps)
-      → AllByRecursion (λ message. IsGoodTree message.tree) (answered_of_connection (rules limit) number (start (rules limit) entries) steps)
-      → hush_of_run limit entries steps number top ≡ None
-      → (finds_room (rules limit) number (start (rules limit) entries) steps ≡ true)
-      × AllByRecursion (IsOverTwins entries top) (answered_of_connection (rules limit) number (start (rules limit) entries) steps)
+module _ (terms : Terms) (entries : DirectoryEntries) (steps : List Step) (number : ℕ) (top : RdnSequence) where
+  pub run-hushed : AllByRecursion (λ place. IsGoodTree place.tree) (places (rules terms) number entries steps)
+      → AllByRecursion (λ message. IsGoodTree message.tree) (answered_of_connection (rules terms) number (start (rules terms) entries) steps)
+      → hush_of_run terms entries steps number top ≡ None
+      → (finds_room (rules terms) number (start (rules terms) entries) steps ≡ true)
+      × AllByRecursion (IsOverTwins entries top) (answered_of_connection (rules terms) number (start (rules terms) entries) steps)
   unfolding hush_of_run
   run-hushed good messages none =
-      let hushed = hushed-from_none top entries (places (rules limit) number entries steps) good none in
-      let meets = run-meets (rules limit) (allows top entries) (reads top entries) number entries steps
-      (all-pass top entries (places (rules limit) number entries steps) hushed.each) in
-      (meets.0, all-twins top entries hushed.below (answered_of_connection (rules limit) number (start (rules limit) entries) steps) meets.1 messages)
+      let hushed = hushed-from_none top entries (places (rules terms) number entries steps) good none in
+      let meets = run-meets (rules terms) (allows top entries) (reads top entries) number entries steps
+      (all-pass top entries (places (rules terms) number entries steps) hushed.each) in
+      (meets.0, all-twins top entries hushed.below (answered_of_connection (rules terms) number (start (rules terms) entries) steps) meets.1 messages)
 
-  pub replay-hushed : AllByRecursion (λ place. IsGoodTree place.tree) (places_of_replay (rules limit) number entries steps)
-      → AllByRecursion (λ message. IsGoodTree message.tree) (answered_in_replay (rules limit) number (start (rules limit) entries) steps)
-      → hush_of_replay limit entries steps number top ≡ None
-      → (finds_room_in_replay (rules limit) number (start (rules limit) entries) steps ≡ true)
-      × AllByRecursion (IsOverTwins entries top) (answered_in_replay (rules limit) number (start (rules limit) entries) steps)
+  pub replay-hushed : AllByRecursion (λ place. IsGoodTree place.tree) (places_of_replay (rules terms) number entries steps)
+      → AllByRecursion (λ message. IsGoodTree message.tree) (answered_in_replay (rules terms) number (start (rules terms) entries) steps)
+      → hush_of_replay terms entries steps number top ≡ None
+      → (finds_room_in_replay (rules terms) number (start (rules terms) entries) steps ≡ true)
+      × AllByRecursion (IsOverTwins entries top) (answered_in_replay (rules terms) number (start (rules terms) entries) steps)
   unfolding hush_of_replay
   replay-hushed good messages none =
-      let hushed = hushed-from_none top entries (places_of_replay (rules limit) number entries steps) good none in
-      let meets = replay-meets (rules limit) (allows top entries) (reads top entries) number entries steps
-      (all-pass top entries (places_of_replay (rules limit) number entries steps) hushed.each) in
-      (meets.0, all-twins top entries hushed.below (answered_in_replay (rules limit) number (start (rules limit) entries) steps) meets.1 messages)
+      let hushed = hushed-from_none top entries (places_of_replay (rules terms) number entries steps) good none in
+      let meets = replay-meets (rules terms) (allows top entries) (reads top entries) number entries steps
+      (all-pass top entries (places_of_replay (rules terms) number entries steps) hushed.each) in
+      (meets.0, all-twins top entries hushed.below (answered_in_replay (rules terms) number (start (rules terms) entries) steps) meets.1 messages)

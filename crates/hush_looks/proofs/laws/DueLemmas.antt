@@ -9,6 +9,7 @@ use Rattle.session_hub.specs.session_model.ldap_msg.declared.kinds.Request.{Requ
 use Rattle.session_hub.specs.session_model.ldap_msg.declared.kinds.Request.TheVariants as request
 use Rattle.session_hub.specs.session_model.ldap_msg.reading.Messages.{message_of}
 use Rattle.session_hub.specs.Parties.{DirectoryEntries, Requester}
+use Rattle.session_hub.specs.declared.bounds.Terms.{Terms}
 use Rattle.session_hub.specs.Controls.{is_refused}
 use Rattle.session_hub.specs.Limiting.{limited, limited_request, limited_read}
 use Rattle.session_hub.specs.Answering.{Operated, asking, refused, operated, answered, answer_read, rules}
@@ -86,30 +87,30 @@ asked-none top (request.Abandon id) none = refl
 asked-none top (request.Extended name value) none = refl
 
 -- so of what octets are read as
-read-tree : (limit : ℕ) (own : Bool) (tree : DirectoryEntries) (who : Requester) (read : Option Message)
-    → option_map_or (λ message. is_due_asked own message.request) read false ≡ false → (answer_read tree who (limited_read limit read)).tree ≡ tree
-read-tree limit own tree who None none = refl
-read-tree limit own tree who (Some message) none = asked-tree limit own tree who message.controls message.request none
+read-tree : (keeps : Bool) (limit : ℕ) (own : Bool) (tree : DirectoryEntries) (who : Requester) (read : Option Message)
+    → option_map_or (λ message. is_due_asked own message.request) read false ≡ false → (answer_read keeps tree who (limited_read limit read)).tree ≡ tree
+read-tree keeps limit own tree who None none = refl
+read-tree keeps limit own tree who (Some message) none = asked-tree limit own tree who message.controls message.request none
 
-read-who : (limit : ℕ) (tree : DirectoryEntries) (who : Requester) (read : Option Message)
-    → option_map_or (λ message. is_due_asked true message.request) read false ≡ false → (answer_read tree who (limited_read limit read)).who ≡ who
-read-who limit tree who None none = refl
-read-who limit tree who (Some message) none = asked-who limit tree who message.controls message.request none
+read-who : (keeps : Bool) (limit : ℕ) (tree : DirectoryEntries) (who : Requester) (read : Option Message)
+    → option_map_or (λ message. is_due_asked true message.request) read false ≡ false → (answer_read keeps tree who (limited_read limit read)).who ≡ who
+read-who keeps limit tree who None none = refl
+read-who keeps limit tree who (Some message) none = asked-who limit tree who message.controls message.request none
 
 read-none : (top : RdnSequence) (read : Option Message) → option_map_or (λ message. is_due_asked true message.request) read false ≡ false
     → option_and_then (λ message. failing_asked top message.request) read ≡ None
 read-none top None none = refl
 read-none top (Some message) none = asked-none top message.request none
 
-pub answer-tree : (limit : ℕ) (own : Bool) (tree : DirectoryEntries) (who : Requester) (octets : List ℕ)
-    → is_due own octets ≡ false → ((rules limit).answer tree who octets).tree ≡ tree
+pub answer-tree : (terms : Terms) (own : Bool) (tree : DirectoryEntries) (who : Requester) (octets : List ℕ)
+    → is_due own octets ≡ false → ((rules terms).answer tree who octets).tree ≡ tree
 unfolding rules
-answer-tree limit own tree who octets none = read-tree limit own tree who (message_of octets) none
+answer-tree terms own tree who octets none = read-tree terms.keeps terms.limit own tree who (message_of octets) none
 
-pub answer-who : (limit : ℕ) (tree : DirectoryEntries) (who : Requester) (octets : List ℕ)
-    → is_due true octets ≡ false → ((rules limit).answer tree who octets).who ≡ who
+pub answer-who : (terms : Terms) (tree : DirectoryEntries) (who : Requester) (octets : List ℕ)
+    → is_due true octets ≡ false → ((rules terms).answer tree who octets).who ≡ who
 unfolding rules
-answer-who limit tree who octets none = read-who limit tree who (message_of octets) none
+answer-who terms tree who octets none = read-who terms.keeps terms.limit tree who (message_of octets) none
 
 pub request-none : (top : RdnSequence) (octets : List ℕ) → is_due true octets ≡ false → failing_request top octets ≡ None
 request-none top octets none = read-none top (message_of octets) none

@@ -7,6 +7,7 @@ use Rattle.session_hub.specs.session_model.Run.{Sessions, Open, Opened, Bytes, E
 use Rattle.session_hub.specs.session_model.Replaying.{hung_up}
 use Rattle.session_hub.specs.session_model.Places.{CompletesOne, asker_of}
 use Rattle.session_hub.specs.Parties.{DirectoryEntries, Requester}
+use Rattle.session_hub.specs.declared.bounds.Terms.{Terms}
 use Rattle.session_hub.specs.Answering.{rules}
 use Rattle.hush_laws.specs.TwinParts.{failing_twins}
 use Rattle.hush_looks.specs.Due.{is_due}
@@ -14,31 +15,31 @@ use Rattle.hush_looks.specs.Looks.{AsksStill, StaysShown, failing_standing}
 use Rattle.hush_looks.proofs.laws.DueLemmas.{answer-tree, answer-who}
 use Rattle.hush_looks.proofs.laws.StepLemmas.{one-stays, none-shows, closed-shows, opened-shows, ended-shows, hung_up-shows}
 
-pub message-stays : (limit number other : ℕ) (sessions : Sessions DirectoryEntries Requester) (piece message : List ℕ)
-    → CompletesOne sessions other piece message → is_due (other == number) message ≡ false → StaysShown number sessions (step (rules limit) sessions (Bytes other piece None))
-message-stays limit number other sessions piece message completes none =
+pub message-stays : (terms : Terms) (number other : ℕ) (sessions : Sessions DirectoryEntries Requester) (piece message : List ℕ)
+    → CompletesOne sessions other piece message → is_due (other == number) message ≡ false → StaysShown number sessions (step (rules terms) sessions (Bytes other piece None))
+message-stays terms number other sessions piece message completes none =
     let who = (sessions.of other).who in
-    one-stays (rules limit) sessions number other piece message completes (answer-tree limit (other == number) sessions.tree who message none)
+    one-stays (rules terms) sessions number other piece message completes (answer-tree terms (other == number) sessions.tree who message none)
     (λ same. let own : (other == number) ≡ true = (Decides-eqb other number).1 (sym same) in
-    answer-who limit sessions.tree who message (ap (λ b. is_due b message) (sym own) ∙ none))
+    answer-who terms sessions.tree who message (ap (λ b. is_due b message) (sym own) ∙ none))
 
-pub none-stays : (limit number other : ℕ) (sessions : Sessions DirectoryEntries Requester) (piece : List ℕ)
-    → new_messages (sessions.of other).stream piece ≡ [] → StaysShown number sessions (step (rules limit) sessions (Bytes other piece None))
-none-stays limit number other sessions piece none = none-shows (rules limit) sessions number other piece none
+pub none-stays : (terms : Terms) (number other : ℕ) (sessions : Sessions DirectoryEntries Requester) (piece : List ℕ)
+    → new_messages (sessions.of other).stream piece ≡ [] → StaysShown number sessions (step (rules terms) sessions (Bytes other piece None))
+none-stays terms number other sessions piece none = none-shows (rules terms) sessions number other piece none
 
-pub closed-stays : (limit number other : ℕ) (sessions : Sessions DirectoryEntries Requester) (piece : List ℕ)
-    → (sessions.of other).state ≢ Open → StaysShown number sessions (step (rules limit) sessions (Bytes other piece None))
-closed-stays limit number other sessions piece shut = closed-shows (rules limit) sessions number other piece shut
+pub closed-stays : (terms : Terms) (number other : ℕ) (sessions : Sessions DirectoryEntries Requester) (piece : List ℕ)
+    → (sessions.of other).state ≢ Open → StaysShown number sessions (step (rules terms) sessions (Bytes other piece None))
+closed-stays terms number other sessions piece shut = closed-shows (rules terms) sessions number other piece shut
 
-pub opened-stays : (limit number other : ℕ) (sessions : Sessions DirectoryEntries Requester) → other ≢ number → StaysShown number sessions (step (rules limit) sessions (Opened other))
-opened-stays limit number other sessions differs = opened-shows (rules limit) sessions number other differs
+pub opened-stays : (terms : Terms) (number other : ℕ) (sessions : Sessions DirectoryEntries Requester) → other ≢ number → StaysShown number sessions (step (rules terms) sessions (Opened other))
+opened-stays terms number other sessions differs = opened-shows (rules terms) sessions number other differs
 
-pub ended-stays : (limit number other : ℕ) (sessions : Sessions DirectoryEntries Requester) → StaysShown number sessions (step (rules limit) sessions (Ended other))
-ended-stays limit number other sessions = ended-shows (rules limit) sessions number other
+pub ended-stays : (terms : Terms) (number other : ℕ) (sessions : Sessions DirectoryEntries Requester) → StaysShown number sessions (step (rules terms) sessions (Ended other))
+ended-stays terms number other sessions = ended-shows (rules terms) sessions number other
 
-pub hung_up-stays : (limit number other : ℕ) (sessions after : Sessions DirectoryEntries Requester) → StaysShown number sessions after
-    → StaysShown number sessions (hung_up (rules limit) other after)
-hung_up-stays limit number other sessions after stays = hung_up-shows (rules limit) sessions after number other stays
+pub hung_up-stays : (terms : Terms) (number other : ℕ) (sessions after : Sessions DirectoryEntries Requester) → StaysShown number sessions after
+    → StaysShown number sessions (hung_up (rules terms) other after)
+hung_up-stays terms number other sessions after stays = hung_up-shows (rules terms) sessions after number other stays
 
 -- by who asks then
 module _ (top : RdnSequence) (before : DirectoryEntries) where

@@ -38,11 +38,11 @@ ended-asks Away s = inl refl
 
 module _ {T W : Type 0} (r : Rules T W) where
   -- an answer, and what is said next unless it closes
-  then-tree : (a b : Answered T W) (closes : Bool) → b.tree ≡ a.tree → (cond closes a (after_octets a.replies b)).tree ≡ a.tree
+  then-tree : (a b : Answered T W) (closes : Bool) → b.tree ≡ a.tree → (cond closes a (after_octets a.replies a.changes b)).tree ≡ a.tree
   then-tree a b true same = refl
   then-tree a b false same = same
 
-  then-who : (a b : Answered T W) (closes : Bool) → b.who ≡ a.who → (cond closes a (after_octets a.replies b)).who ≡ a.who
+  then-who : (a b : Answered T W) (closes : Bool) → b.who ≡ a.who → (cond closes a (after_octets a.replies a.changes b)).who ≡ a.who
   then-who a b true same = refl
   then-who a b false same = same
 

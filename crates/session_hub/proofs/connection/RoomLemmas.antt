@@ -5,7 +5,9 @@ use Rattle.session_model.specs.Rules.{Answered}
 use Rattle.session_model.specs.Kept.{Kept, kept_of}
 use Rattle.session_model.proofs.Theorems.{speech-cut}
 use Rattle.session_hub.specs.Parties.{DirectoryEntries, Requester}
+use Rattle.session_hub.specs.Terms.{Terms}
 use Rattle.session_hub.specs.declared.spoken.Spoken.{Spoken}
+use Rattle.session_hub.specs.Outgoing.{Put}
 use Rattle.session_hub.specs.Answering.{rules}
 use Rattle.session_hub.specs.Answers.{Speaks, said_to}
 use Rattle.session_hub.specs.Rooms.{HasRoom, StaysWithin, AnswersWithin, queued_after}
@@ -13,10 +15,10 @@ use Rattle.session_hub.specs.hub.Hubs.{IsAt}
 use Rattle.session_hub.proofs.places.PlaceLemmas.{kept_at_is, changed_at, kept_changed}
 
 -- the room of a buffer is that of its queue, and what was taken of it
-room_inside : (limit inside room taken : ℕ) (t : DirectoryEntries) (w : Requester) (stream old : List ℕ) (answered : ℕ) → taken ≤ length old → inside ≤ room + taken →
-    HasRoom limit inside t w stream old answered → HasRoom limit room t w stream (drop taken old) answered
-room_inside limit inside room taken t w stream old answered fits within spare = λ count some below.
-    let said = (said_to limit (Some count) t w stream).replies in
+room_inside : (terms : Terms) (inside room taken : ℕ) (t : DirectoryEntries) (w : Requester) (stream old : List ℕ) (answered : ℕ) → taken ≤ length old → inside ≤ room + taken →
+    HasRoom terms inside t w stream old answered → HasRoom terms room t w stream (drop taken old) answered
+room_inside terms inside room taken t w stream old answered fits within spare = λ count some below.
+    let said = (said_to terms (Some count) t w stream).replies in
     let before : length (old ++ said) ≤ inside = spare count some below in
     let all : length (old ++ said) ≡ length old + length said = length-append old said in
     let left : length (drop taken old ++ said) ≡ length (drop taken old) + length said = length-append (drop taken old) said in
@@ -28,52 +30,52 @@ queued_inside taken old said ending new fits is =
     ap (drop taken) (is ∙ append_assoc old said ending) ∙ drop-append-le taken old (said ++ ending) fits ∙ sym (append_assoc (drop taken old) said ending)
 
 -- a stream that was answered stays within the room
-pub stays_within : (limit inside room : ℕ) (piece stream : List ℕ) (t u : DirectoryEntries) (k now : Kept Requester) (old new rest : List ℕ) (taken : ℕ) (y : Requester) (spoken : Spoken) (closing : Bool) (cut : Option ℕ) →
-    k ≡ now → stream ≡ k.rest ++ piece → Speaks limit inside t k.who stream old new u y spoken → k.queue ≡ drop taken old → taken ≤ length old → inside ≤ room + taken →
-    StaysWithin limit room piece t now (record { number = k.number; rest = rest; who = y; queue = drop taken new; closing = closing; cut = cut })
-stays_within limit inside room piece stream t u k now old new rest taken y spoken closing cut same is speaks queued fits within =
-    subst (λ x. StaysWithin limit room piece t x (record { number = k.number; rest = rest; who = y; queue = drop taken new; closing = closing; cut = cut })) same
+pub stays_within : (terms : Terms) (inside room : ℕ) (piece stream : List ℕ) (t u : DirectoryEntries) (k now : Kept Requester) (old new : Put) (rest : List ℕ) (taken : ℕ) (y : Requester) (spoken : Spoken) (closing : Bool) (cut : Option ℕ) →
+    k ≡ now → stream ≡ k.rest ++ piece → Speaks terms inside t k.who stream old new u y spoken → k.queue ≡ drop taken old.replies → taken ≤ length old.replies → inside ≤ room + taken →
+    StaysWithin terms room piece t now (record { number = k.number; rest = rest; who = y; queue = drop taken new.replies; closing = closing; cut = cut })
+stays_within terms inside room piece stream t u k now old new rest taken y spoken closing cut same is speaks queued fits within =
+    subst (λ x. StaysWithin terms room piece t x (record { number = k.number; rest = rest; who = y; queue = drop taken new.replies; closing = closing; cut = cut })) same
     (record {
       answered = spoken.answered;
       ending = speaks.ending;
-      spare = subst (λ xs. HasRoom limit room t k.who (k.rest ++ piece) xs spoken.answered) (sym queued)
-          (subst (λ s. HasRoom limit room t k.who s (drop taken old) spoken.answered) is (room_inside limit inside room taken t k.who stream old spoken.answered fits within speaks.spare));
-      queued = subst (λ xs. drop taken new ≡ queued_after limit t k.who (k.rest ++ piece) xs spoken.answered ++ speaks.ending) (sym queued)
-          (subst (λ s. drop taken new ≡ queued_after limit t k.who s (drop taken old) spoken.answered ++ speaks.ending) is
-          (queued_inside taken old (said_to limit (Some spoken.answered) t k.who stream).replies speaks.ending new fits speaks.queued));
+      spare = subst (λ xs. HasRoom terms room t k.who (k.rest ++ piece) xs spoken.answered) (sym queued)
+          (subst (λ s. HasRoom terms room t k.who s (drop taken old.replies) spoken.answered) is (room_inside terms inside room taken t k.who stream old.replies spoken.answered fits within speaks.spare));
+      queued = subst (λ xs. drop taken new.replies ≡ queued_after terms t k.who (k.rest ++ piece) xs spoken.answered ++ speaks.ending) (sym queued)
+          (subst (λ s. drop taken new.replies ≡ queued_after terms t k.who s (drop taken old.replies) spoken.answered ++ speaks.ending) is
+          (queued_inside taken old.replies (said_to terms (Some spoken.answered) t k.who stream).replies speaks.ending new.replies fits speaks.queued));
       notice = speaks.notice;
     })
 
 -- and so does one for which there was no memory
-pub stays_starved : (limit room : ℕ) (piece : List ℕ) (t : DirectoryEntries) (k now : Kept Requester) (rest : List ℕ) → k ≡ now → StaysWithin limit room piece t now (record k { rest = rest; closing = true; cut = Some 0 })
-stays_starved limit room piece t k now rest same =
-    subst (λ x. StaysWithin limit room piece t x (record k { rest = rest; closing = true; cut = Some 0 })) same
+pub stays_starved : (terms : Terms) (room : ℕ) (piece : List ℕ) (t : DirectoryEntries) (k now : Kept Requester) (rest : List ℕ) → k ≡ now → StaysWithin terms room piece t now (record k { rest = rest; closing = true; cut = Some 0 })
+stays_starved terms room piece t k now rest same =
+    subst (λ x. StaysWithin terms room piece t x (record k { rest = rest; closing = true; cut = Some 0 })) same
     (record {
       answered = 0;
       ending = [];
       spare = λ count some below. absurd (omega arith);
-      queued = sym (append-nil k.queue) ∙ ap (λ (x : Answered DirectoryEntries Requester). k.queue ++ x.replies) (sym (speech-cut (rules limit) t k.who (k.rest ++ piece)))
-          ∙ sym (append-nil (queued_after limit t k.who (k.rest ++ piece) k.queue 0));
+      queued = sym (append-nil k.queue) ∙ ap (λ (x : Answered DirectoryEntries Requester). k.queue ++ x.replies) (sym (speech-cut (rules terms) t k.who (k.rest ++ piece)))
+          ∙ sym (append-nil (queued_after terms t k.who (k.rest ++ piece) k.queue 0));
       notice = inl refl;
     })
 
 -- a piece for a connection that isn't held, for one that is closing, and for one that is open
-pub answers_nowhere : (limit room c : ℕ) (piece : List ℕ) (t : DirectoryEntries) (ks now : List (Kept Requester)) → kept_of c ks ≡ None → AnswersWithin limit room c piece t ks now
-answers_nowhere limit room c piece t ks now none = λ connection there still. absurd (let e : None ≡ Some connection = sym none ∙ there in cc)
+pub answers_nowhere : (terms : Terms) (room c : ℕ) (piece : List ℕ) (t : DirectoryEntries) (ks now : List (Kept Requester)) → kept_of c ks ≡ None → AnswersWithin terms room c piece t ks now
+answers_nowhere terms room c piece t ks now none = λ connection there still. absurd (let e : None ≡ Some connection = sym none ∙ there in cc)
 
-pub answers_closing : (limit room c at : ℕ) (piece : List ℕ) (t : DirectoryEntries) (ks now : List (Kept Requester)) (k : Kept Requester) → IsAt c at ks → k ≡ get_or ks at k → k.closing ≡ true →
-    AnswersWithin limit room c piece t ks now
-answers_closing limit room c at piece t ks now k place is shut = λ connection there still.
+pub answers_closing : (terms : Terms) (room c at : ℕ) (piece : List ℕ) (t : DirectoryEntries) (ks now : List (Kept Requester)) (k : Kept Requester) → IsAt c at ks → k ≡ get_or ks at k → k.closing ≡ true →
+    AnswersWithin terms room c piece t ks now
+answers_closing terms room c at piece t ks now k place is shut = λ connection there still.
     let found : Some k ≡ Some connection = sym (kept_at_is c at ks k place is) ∙ there in
     let same : k ≡ connection = cc in
     absurd (true≢false (sym shut ∙ ap (λ (x : Kept Requester). x.closing) same ∙ still))
 
-pub answers_open : (limit room c at : ℕ) (piece : List ℕ) (t : DirectoryEntries) (ks : List (Kept Requester)) (k now : Kept Requester) → IsAt c at ks → k ≡ get_or ks at k → now.number ≡ k.number →
-    StaysWithin limit room piece t k now → AnswersWithin limit room c piece t ks (set ks at now)
-answers_open limit room c at piece t ks k now place is number stays = λ connection there still.
+pub answers_open : (terms : Terms) (room c at : ℕ) (piece : List ℕ) (t : DirectoryEntries) (ks : List (Kept Requester)) (k now : Kept Requester) → IsAt c at ks → k ≡ get_or ks at k → now.number ≡ k.number →
+    StaysWithin terms room piece t k now → AnswersWithin terms room c piece t ks (set ks at now)
+answers_open terms room c at piece t ks k now place is number stays = λ connection there still.
     let found : Some k ≡ Some connection = sym (kept_at_is c at ks k place is) ∙ there in
     let same : k ≡ connection = cc in (
       now,
       ap (kept_of c) (sym (changed_at c at (λ _. now) ks k place is)) ∙ kept_changed c at (λ _. now) ks k place is number,
-      subst (λ x. StaysWithin limit room piece t x now) same stays,
+      subst (λ x. StaysWithin terms room piece t x now) same stays,
     )

@@ -9,6 +9,7 @@ use Rattle.session_model.specs.Replaying.{is_closing}
 use Rattle.session_model.specs.Places.{asker}
 use Rattle.session_model.proofs.Theorems.{Keeps-start, Keeps-step, Keeps-taken, length-kept, queue_in, closing_in, queue_of_is, closing_of_is}
 use Rattle.session_hub.specs.Parties.{DirectoryEntries, Requester}
+use Rattle.session_hub.specs.Terms.{Terms}
 use Rattle.session_hub.specs.Answering.{rules}
 use Rattle.session_hub.specs.declared.bounds.Bounds.{Bounds}
 use Rattle.session_hub.specs.declared.event.Event.{Event}
@@ -19,22 +20,22 @@ use Rattle.session_hub.specs.hub.Following.{IsHeldOf, FollowsStart, FollowsStep,
 -- a hub that holds nothing is that of no steps
 pub follows_start : (bounds : Bounds) (hub : HubState) → hub ≡ no_hub bounds → FollowsStart hub
 unfolding FollowsStart
-follows_start bounds hub none = subst (λ h. FollowsStart h) (sym none) (λ entries. Keeps-start (rules bounds.limit) entries (λ c. 0) (λ c. refl))
+follows_start bounds hub none = subst (λ h. FollowsStart h) (sym none) (λ entries. Keeps-start (rules bounds.terms) entries (λ c. 0) (λ c. refl))
 
-pub follows_step : (limit : ℕ) (s : Step) (old new : Held DirectoryEntries Requester) → new ≡ heard (rules limit) s old → FollowsStep limit s old new
+pub follows_step : (terms : Terms) (s : Step) (old new : Held DirectoryEntries Requester) → new ≡ heard (rules terms) s old → FollowsStep terms s old new
 unfolding FollowsStep
-follows_step limit s old new is u taken fresh keeps = subst (λ h. IsHeldOf (step (rules limit) u s) taken h) (sym is) (Keeps-step (rules limit) u taken old s fresh keeps)
+follows_step terms s old new is u taken fresh keeps = subst (λ h. IsHeldOf (step (rules terms) u s) taken h) (sym is) (Keeps-step (rules terms) u taken old s fresh keeps)
 
-pub follows_event : (limit : ℕ) (e : Event) (old new : Held DirectoryEntries Requester) → Hears limit e old new → FollowsStep limit (step_by e old.kept new.kept) old new
-follows_event limit e old new hears = follows_step limit (step_by e old.kept new.kept) old new hears.same
+pub follows_event : (terms : Terms) (e : Event) (old new : Held DirectoryEntries Requester) → Hears terms e old new → FollowsStep terms (step_by e old.kept new.kept) old new
+follows_event terms e old new hears = follows_step terms (step_by e old.kept new.kept) old new hears.same
 
 pub follows_gone : (c : ℕ) (old new : HubState) → new ≡ record old { kept = forgotten c old.kept } → FollowsAnywhere (Gone c) old new
 unfolding heard
-follows_gone c old new is = λ entries. follows_step old.bounds.limit (Gone c) (held entries old) (held entries new) (ap (held entries) is)
+follows_gone c old new is = λ entries. follows_step old.bounds.terms (Gone c) (held entries old) (held entries new) (ap (held entries) is)
 
 pub follows_hung_up : (c : ℕ) (old new : HubState) → new ≡ record old { kept = forgotten c old.kept } → FollowsAnywhere (HungUp c) old new
 unfolding heard
-follows_hung_up c old new is = λ entries. follows_step old.bounds.limit (HungUp c) (held entries old) (held entries new) (ap (held entries) is)
+follows_hung_up c old new is = λ entries. follows_step old.bounds.terms (HungUp c) (held entries old) (held entries new) (ap (held entries) is)
 
 -- what is shown of a session, by its parts
 shown_left : {W : Type 0} (st : State) (c taken : ℕ) (s : Session W) → queue_in (shown st c taken s) ≡ cond (is_held st) (drop taken s.reply) []
@@ -87,7 +88,7 @@ leaves_unread c hub unread is entries u taken keeps = is ∙ ap unread_of (keeps
 
 pub counts_held : (hub : HubState) (count : ℕ) → count ≡ length hub.kept → CountsHeld hub count
 unfolding CountsHeld
-counts_held hub count is entries u taken keeps = is ∙ length-kept (rules hub.bounds.limit) u taken (held entries hub) keeps
+counts_held hub count is entries u taken keeps = is ∙ length-kept (rules hub.bounds.terms) u taken (held entries hub) keeps
 
 -- octets that the queue has are within the reply
 taken_within : (b : Bool) (reply q : List ℕ) (taken n : ℕ) → q ≡ cond b (drop taken reply) [] → taken ≤ length reply → n ≤ length q → taken + n ≤ length reply

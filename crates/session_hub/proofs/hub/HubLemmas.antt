@@ -6,6 +6,7 @@ use Rattle.session_model.proofs.Theorems.{kept_of-number}
 use Rattle.session_model.specs.Run.{most_held}
 use Rattle.session_model.specs.Kept.{Kept, kept_of, is_kept, changed, closed, without_front, taken_off, forgotten, heard, opened_kept}
 use Rattle.session_hub.specs.Parties.{Requester}
+use Rattle.session_hub.specs.Terms.{Terms}
 use Rattle.session_hub.specs.declared.event.Event.TheVariants as came
 use Rattle.session_hub.specs.Answering.{rules}
 use Rattle.session_hub.proofs.places.PlaceLemmas.{absent_at}
@@ -95,8 +96,8 @@ bounded_append : (new : Kept Requester) (ks : List (Kept Requester)) → IsBound
 bounded_append new [] bounded empty = (rw empty (omega arith), tt)
 bounded_append new (k ∷ ks) bounded empty = (bounded.0, bounded_append new ks bounded.1 empty)
 
-pub held_opened : (limit c : ℕ) (ks : List (Kept Requester)) → AreHeld ks → is_kept (kept_of c ks) ≡ false → AreHeld (ks ++ opened_kept (rules limit) c ∷ [])
-held_opened limit c ks held absent = record { bounded = bounded_append (opened_kept (rules limit) c) ks held.bounded refl; distinct = distinct_append (opened_kept (rules limit) c) ks held.distinct (none_kept (kept_of c ks) absent) }
+pub held_opened : (terms : Terms) (c : ℕ) (ks : List (Kept Requester)) → AreHeld ks → is_kept (kept_of c ks) ≡ false → AreHeld (ks ++ opened_kept (rules terms) c ∷ [])
+held_opened terms c ks held absent = record { bounded = bounded_append (opened_kept (rules terms) c) ks held.bounded refl; distinct = distinct_append (opened_kept (rules terms) c) ks held.distinct (none_kept (kept_of c ks) absent) }
   where
     none_kept : (o : Option (Kept Requester)) → is_kept o ≡ false → o ≡ None
     none_kept None e = refl
@@ -109,12 +110,12 @@ opens_held c hub there = λ entries. record { same = rw there refl }
 
 pub opens_full : (c : ℕ) (hub : HubState) → most_held ≤ length hub.kept → HearsAnywhere (came.Opened c) hub hub
 unfolding heard
-opens_full c hub full = λ entries. record { same = ap (λ ks. record { tree = entries; kept = ks; was_cut = hub.was_cut }) (grind (arith, nat_tests)) }
+opens_full c hub full = λ entries. record { same = ap (λ ks. record { tree = entries; kept = ks; was_cut = hub.was_cut; unstored = hub.unstored }) (grind (arith, nat_tests)) }
 
-pub opens_new : (c : ℕ) (hub now : HubState) → is_kept (kept_of c hub.kept) ≡ false → length hub.kept < most_held → now ≡ record hub { kept = hub.kept ++ opened_kept (rules hub.bounds.limit) c ∷ [] } →
+pub opens_new : (c : ℕ) (hub now : HubState) → is_kept (kept_of c hub.kept) ≡ false → length hub.kept < most_held → now ≡ record hub { kept = hub.kept ++ opened_kept (rules hub.bounds.terms) c ∷ [] } →
     HearsAnywhere (came.Opened c) hub now
 unfolding heard
-opens_new c hub now absent room is = λ entries. record { same = rw is (ap (λ ks. record { tree = entries; kept = ks; was_cut = hub.was_cut }) (rw absent (grind (arith, nat_tests)))) }
+opens_new c hub now absent room is = λ entries. record { same = rw is (ap (λ ks. record { tree = entries; kept = ks; was_cut = hub.was_cut; unstored = hub.unstored }) (rw absent (grind (arith, nat_tests)))) }
 
 pub ends : (c : ℕ) (hub now : HubState) → now ≡ record hub { kept = changed c closed hub.kept } → HearsAnywhere (came.Ended c) hub now
 unfolding heard

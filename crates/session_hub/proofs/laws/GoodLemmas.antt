@@ -15,6 +15,7 @@ use Rattle.change_laws.specs.op_modify.Modifying.{modified}
 use Rattle.change_laws.specs.op_modify.Renames.{renamed}
 use Rattle.session_model.specs.Rules.{AnswersKeep}
 use Rattle.session_hub.specs.Parties.{DirectoryEntries, Requester}
+use Rattle.session_hub.specs.Terms.{Terms}
 use Rattle.session_hub.specs.Controls.{is_refused}
 use Rattle.session_hub.specs.Limiting.{limited_read}
 use Rattle.session_hub.specs.Answering.{rules, Operated, asking, operated, refused, answer_read}
@@ -42,13 +43,13 @@ module _
     operated_good entries who controls (request.Abandon id) good = good
     operated_good entries who controls (request.Extended name value) good = good
 
-    read_good : (entries : DirectoryEntries) (who : Requester) (message : Option Message) → IsGoodTree entries → IsGoodTree (answer_read entries who message).tree
-    read_good entries who None good = good
-    read_good entries who (Some message) good =
+    read_good : (keeps : Bool) (entries : DirectoryEntries) (who : Requester) (message : Option Message) → IsGoodTree entries → IsGoodTree (answer_read keeps entries who message).tree
+    read_good keeps entries who None good = good
+    read_good keeps entries who (Some message) good =
         let asks = asking who message.request in
         one_good (is_refused message.request message.controls) (refused entries asks message.request) (operated entries asks message.controls message.request)
         good (operated_good entries asks message.controls message.request good)
 
-    pub answers_good : (limit : ℕ) → AnswersKeep (rules limit) IsGoodTree
+    pub answers_good : (terms : Terms) → AnswersKeep (rules terms) IsGoodTree
     unfolding rules
-    answers_good limit entries who bytes good = read_good entries who (limited_read limit (message_of bytes)) good
+    answers_good terms entries who bytes good = read_good terms.keeps entries who (limited_read terms.limit (message_of bytes)) good

@@ -17,26 +17,42 @@ use Rattle.session_model.specs.ldap_msg.declared.kinds.Reply.{Reply}
 use Rattle.session_hub.specs.Controls.{is_refused}
 use Rattle.session_model.specs.ldap_msg.reading.Messages.{message_of}
 use Rattle.session_hub.specs.Parties.{DirectoryEntries, Requester}
+use Rattle.session_hub.specs.Terms.{Terms}
+use Rattle.session_hub.specs.Outgoing.{Put}
 use Rattle.session_hub.specs.Answers.{Gives}
 use Rattle.session_hub.specs.Limiting.{limited_read}
 use Rattle.session_hub.specs.Answering.{searched, sent_octets, answer_octets, answered, is_unbind, answer_read, rules}
 
 -- a message, or octets that are none, answered by the rules
-pub answered_as : {E : Type 0} (limit : ℕ) (r : Result Bool E) (o now : Option Message) (entries left : DirectoryEntries) (who after : Requester) (bytes old new : List ℕ) → message_of bytes ≡ o → now ≡ limited_read limit o →
-    IfOk r (λ closes. Gives (answer_read entries who now) old new left after closes) →
-    IfOk r (λ closes. Gives ((rules limit).answer entries who bytes) old new left after closes)
+pub answered_as : {E : Type 0} (terms : Terms) (r : Result Bool E) (o now : Option Message) (entries left : DirectoryEntries) (who after : Requester) (bytes : List ℕ) (old new : Put) → message_of bytes ≡ o → now ≡ limited_read terms.limit o →
+    IfOk r (λ closes. Gives (answer_read terms.keeps entries who now) old new left after closes) →
+    IfOk r (λ closes. Gives ((rules terms).answer entries who bytes) old new left after closes)
 unfolding rules
-answered_as limit r o now entries left who after bytes old new is is_now h =
-    IfOk-weaker r (λ closes. Gives (answer_read entries who now) old new left after closes) (λ closes. Gives ((rules limit).answer entries who bytes) old new left after closes)
-    (λ closes gives. subst (λ m. Gives (answer_read entries who m) old new left after closes) (is_now ∙ ap (limited_read limit) (sym is)) gives) h
+answered_as terms r o now entries left who after bytes old new is is_now h =
+    IfOk-weaker r (λ closes. Gives (answer_read terms.keeps entries who now) old new left after closes) (λ closes. Gives ((rules terms).answer entries who bytes) old new left after closes)
+    (λ closes gives. subst (λ m. Gives (answer_read terms.keeps entries who m) old new left after closes) (is_now ∙ ap (limited_read terms.limit) (sym is)) gives) h
 
-pub refused_as : {E : Type 0} (limit : ℕ) (r : Result Bool E) (entries : DirectoryEntries) (who : Requester) (bytes old new : List ℕ) → message_of bytes ≡ None →
-    IfOk r (λ closes. (others : DirectoryEntries) (asks : Requester) → Gives (answer_read others asks None) old new others asks closes) →
-    IfOk r (λ closes. Gives ((rules limit).answer entries who bytes) old new entries who closes)
+-- what is appended to replies alone, whatever changes there are
+pub alone_as : {E : Type 0} (keeps : Bool) (changes : List ℕ) (r : Result Bool E) (read : Option Message) (entries left : DirectoryEntries) (who after : Requester) (old new : List ℕ) →
+    IfOk r (λ closes. (k : Bool) (before : List ℕ) → Gives (answer_read k entries who read) (record { replies = old; changes = before }) (record { replies = new; changes = before }) left after closes) →
+    IfOk r (λ closes. Gives (answer_read keeps entries who read) (record { replies = old; changes = changes }) (record { replies = new; changes = changes }) left after closes)
+alone_as keeps changes r read entries left who after old new h =
+    IfOk-weaker r (λ closes. (k : Bool) (before : List ℕ) → Gives (answer_read k entries who read) (record { replies = old; changes = before }) (record { replies = new; changes = before }) left after closes)
+    (λ closes. Gives (answer_read keeps entries who read) (record { replies = old; changes = changes }) (record { replies = new; changes = changes }) left after closes)
+    (λ closes gives. gives keeps changes) h
+
+pub refused_as : {E : Type 0} (terms : Terms) (r : Result Bool E) (entries : DirectoryEntries) (who : Requester) (bytes old new changes : List ℕ) → message_of bytes ≡ None →
+    IfOk r (λ closes. (keeps : Bool) (before : List ℕ) (others : DirectoryEntries) (asks : Requester) →
+    Gives (answer_read keeps others asks None) (record { replies = old; changes = before }) (record { replies = new; changes = before }) others asks closes) →
+    IfOk r (λ closes. Gives ((rules terms).answer entries who bytes) (record { replies = old; changes = changes }) (record { replies = new; changes = changes }) entries who closes)
 unfolding rules
-refused_as limit r entries who bytes old new is h =
-    IfOk-weaker r (λ closes. (others : DirectoryEntries) (asks : Requester) → Gives (answer_read others asks None) old new others asks closes) (λ closes. Gives ((rules limit).answer entries who bytes) old new entries who closes)
-    (λ closes gives. subst (λ m. Gives (answer_read entries who m) old new entries who closes) (ap (limited_read limit) (sym is)) (gives entries who)) h
+refused_as terms r entries who bytes old new changes is h =
+    IfOk-weaker r
+    (λ closes. (keeps : Bool) (before : List ℕ) (others : DirectoryEntries) (asks : Requester) →
+    Gives (answer_read keeps others asks None) (record { replies = old; changes = before }) (record { replies = new; changes = before }) others asks closes)
+    (λ closes. Gives ((rules terms).answer entries who bytes) (record { replies = old; changes = changes }) (record { replies = new; changes = changes }) entries who closes)
+    (λ closes gives. subst (λ m. Gives (answer_read terms.keeps entries who m) (record { replies = old; changes = changes }) (record { replies = new; changes = changes }) entries who closes)
+    (ap (limited_read terms.limit) (sym is)) (gives terms.keeps changes entries who)) h
 
 -- what holds anyway holds where there is a refusal
 pub refused_anyway : {A E : Type 0} (r : Result A E) (P : Type 0) → P → OnErr r P
@@ -57,16 +73,16 @@ unbind_says id controls entries who (request.Compare compare) h = absurd (true�
 unbind_says id controls entries who (request.Abandon number) h = absurd (true≢false (sym h))
 unbind_says id controls entries who (request.Extended name value) h = absurd (true≢false (sym h))
 
-closing_says : (entries : DirectoryEntries) (who : Requester) (read : Option Message) → (answer_read entries who read).closes ≡ true →
-    ((answer_read entries who read).replies ≡ []) ⊎ ((answer_read entries who read).replies ≡ notice_octets)
-closing_says entries who None h = inr refl
-closing_says entries who (Some message) h = inl (unbind_says message.id message.controls entries who message.request h)
+closing_says : (keeps : Bool) (entries : DirectoryEntries) (who : Requester) (read : Option Message) → (answer_read keeps entries who read).closes ≡ true →
+    ((answer_read keeps entries who read).replies ≡ []) ⊎ ((answer_read keeps entries who read).replies ≡ notice_octets)
+closing_says keeps entries who None h = inr refl
+closing_says keeps entries who (Some message) h = inl (unbind_says message.id message.controls entries who message.request h)
 
 -- what closes a connection says nothing, or gives the notice
-pub closes_says : (limit : ℕ) (entries : DirectoryEntries) (who : Requester) (bytes : List ℕ) → ((rules limit).answer entries who bytes).closes ≡ true →
-    (((rules limit).answer entries who bytes).replies ≡ []) ⊎ (((rules limit).answer entries who bytes).replies ≡ notice_octets)
+pub closes_says : (terms : Terms) (entries : DirectoryEntries) (who : Requester) (bytes : List ℕ) → ((rules terms).answer entries who bytes).closes ≡ true →
+    (((rules terms).answer entries who bytes).replies ≡ []) ⊎ (((rules terms).answer entries who bytes).replies ≡ notice_octets)
 unfolding rules
-closes_says limit entries who bytes h = closing_says entries who (limited_read limit (message_of bytes)) h
+closes_says terms entries who bytes h = closing_says terms.keeps entries who (limited_read terms.limit (message_of bytes)) h
 
 -- the octets of a page are those of what is answered, with its end or without
 octets_by : (id : ℕ) (replies : List Reply) (cookie : Option (List ℕ)) → replies_octets id replies ++ end_octets id cookie ≡ sent_octets id replies cookie

@@ -8,6 +8,7 @@ use Rattle.session_model.specs.wire_io.link.Plan.{Plan}
 use Rattle.session_hub.specs.declared.ended.Ended.{Ended}
 use Rattle.session_hub.specs.declared.ended.Ended.TheVariants as ended
 use Rattle.session_hub.specs.serve.Loops.{EndsFor, MayFail, ends_with}
+use Rattle.session_hub.specs.Adding.{StoreCause}
 use Rattle.session_hub.specs.serve.Turns.{failing_of}
 
 -- what a plan with no failing calls says of a fault
@@ -20,24 +21,29 @@ never_falls : (before after : ℕ) → after ≡ before → NeverFalls before af
 never_falls before after same = record { never_falls = omega arith }
 
 -- the cause of each end, where a connection was cut or not
-pub ends_failed : (plan : Option Plan) (before after : ℕ) (was_cut : Bool) → LinkCause {T = Answer} plan before after (Err fault.Failed) → EndsFor plan before after (ends_with was_cut ended.LinkFault)
+pub ends_failed : (keeps : Bool) (plan : Option Plan) (before after : ℕ) (was_cut : Bool) → LinkCause {T = Answer} plan before after (Err fault.Failed) → EndsFor keeps plan before after (ends_with was_cut ended.LinkFault)
 unfolding EndsFor LinkCause
-ends_failed plan before after true cause = record { never_falls = cause.0.never_falls }
-ends_failed plan before after false cause = (cause.0, may_fail plan cause.1)
+ends_failed keeps plan before after true cause = record { never_falls = cause.0.never_falls }
+ends_failed keeps plan before after false cause = (cause.0, may_fail plan cause.1)
 
-pub ends_stopped : (plan : Option Plan) (before after : ℕ) (was_cut : Bool) → after ≡ before → EndsFor plan before after (ends_with was_cut ended.Stopped)
+pub ends_stopped : (keeps : Bool) (plan : Option Plan) (before after : ℕ) (was_cut : Bool) → after ≡ before → EndsFor keeps plan before after (ends_with was_cut ended.Stopped)
 unfolding EndsFor
-ends_stopped plan before after true kept = never_falls before after kept
-ends_stopped plan before after false kept = kept
+ends_stopped keeps plan before after true kept = never_falls before after kept
+ends_stopped keeps plan before after false kept = kept
 
-pub ends_spent : (plan : Option Plan) (before after : ℕ) (was_cut : Bool) → after ≡ before → EndsFor plan before after (ends_with was_cut ended.TurnsSpent)
+pub ends_spent : (keeps : Bool) (plan : Option Plan) (before after : ℕ) (was_cut : Bool) → after ≡ before → EndsFor keeps plan before after (ends_with was_cut ended.TurnsSpent)
 unfolding EndsFor
-ends_spent plan before after true kept = never_falls before after kept
-ends_spent plan before after false kept = kept
+ends_spent keeps plan before after true kept = never_falls before after kept
+ends_spent keeps plan before after false kept = kept
 
-pub ends_starved : (plan : Option Plan) (before after : ℕ) → after ≡ before → EndsFor plan before after ended.NoMemory
+pub ends_starved : (keeps : Bool) (plan : Option Plan) (before after : ℕ) → after ≡ before → EndsFor keeps plan before after ended.NoMemory
 unfolding EndsFor
-ends_starved plan before after kept = never_falls before after kept
+ends_starved keeps plan before after kept = never_falls before after kept
+
+-- the store failed
+pub ends_unstored : (keeps : Bool) (plan : Option Plan) (before after : ℕ) → StoreCause {X = Unit {0}} (keeps ≡ true) plan before after (Err fault.Failed) → EndsFor keeps plan before after ended.StoreFault
+unfolding EndsFor
+ends_unstored keeps plan before after cause = (cause.0, may_fail plan cause.1, cause.2)
 
 -- what a plan with no failing calls says of a loop says the same of the plan that it came to
 MayFail-came : (plan now : Option Plan) → failing_of now ≡ failing_of plan → MayFail now → MayFail plan
@@ -46,13 +52,18 @@ MayFail-came (Some plan) None same fails = cc
 MayFail-came (Some plan) (Some now) same fails = λ none. fails (let is : now.failing ≡ plan.failing = cc in is ∙ none)
 
 -- the cause of a loop's end is that of its last turn
-pub EndsFor-came : (plan now : Option Plan) (first before after : ℕ) (end : Ended) → failing_of now ≡ failing_of plan → before ≡ first → EndsFor now before after end → EndsFor plan first after end
+pub EndsFor-came : (keeps : Bool) (plan now : Option Plan) (first before after : ℕ) (end : Ended) → failing_of now ≡ failing_of plan → before ≡ first → EndsFor keeps now before after end → EndsFor keeps plan first after end
 unfolding EndsFor
-EndsFor-came plan now first before after ended.LinkFault same kept cause = (subst (λ count. Rose count after) kept cause.0, MayFail-came plan now same cause.1)
-EndsFor-came plan now first before after ended.Stopped same kept cause = cause ∙ kept
-EndsFor-came plan now first before after ended.TurnsSpent same kept cause = cause ∙ kept
-EndsFor-came plan now first before after ended.NoMemory same kept cause = subst (λ count. NeverFalls count after) kept cause
+EndsFor-came keeps plan now first before after ended.LinkFault same kept cause = (subst (λ count. Rose count after) kept cause.0, MayFail-came plan now same cause.1)
+EndsFor-came keeps plan now first before after ended.StoreFault same kept cause = (subst (λ count. Rose count after) kept cause.0, MayFail-came plan now same cause.1, cause.2)
+EndsFor-came keeps plan now first before after ended.Stopped same kept cause = cause ∙ kept
+EndsFor-came keeps plan now first before after ended.TurnsSpent same kept cause = cause ∙ kept
+EndsFor-came keeps plan now first before after ended.NoMemory same kept cause = subst (λ count. NeverFalls count after) kept cause
 
 -- an end given by another name
-pub ends_as : (plan : Option Plan) (before after : ℕ) (end other : Ended) → end ≡ other → EndsFor plan before after other → EndsFor plan before after end
-ends_as plan before after end other is cause = subst (EndsFor plan before after) (sym is) cause
+pub ends_as : (keeps : Bool) (plan : Option Plan) (before after : ℕ) (end other : Ended) → end ≡ other → EndsFor keeps plan before after other → EndsFor keeps plan before after end
+ends_as keeps plan before after end other is cause = subst (EndsFor keeps plan before after) (sym is) cause
+
+-- changes that are kept or not, told by another name
+pub ends_at : (keeps same : Bool) (plan : Option Plan) (before after : ℕ) (end : Ended) → keeps ≡ same → EndsFor keeps plan before after end → EndsFor same plan before after end
+ends_at keeps same plan before after end is cause = subst (λ b. EndsFor b plan before after end) is cause

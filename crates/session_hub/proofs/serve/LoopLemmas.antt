@@ -19,6 +19,7 @@ use Rattle.session_model.specs.Serving.{Leads, Served}
 use Rattle.session_model.specs.Replaying.{IsReplay}
 use Rattle.session_model.proofs.Theorems.{was_opened-append, works_start, works_served, works_replayed, works_leads, own_steps}
 use Rattle.session_hub.specs.Parties.{DirectoryEntries, Requester}
+use Rattle.session_hub.specs.Terms.{Terms}
 use Rattle.session_hub.specs.declared.bounds.Bounds.{Bounds}
 use Rattle.session_hub.specs.declared.ended.Ended.{Ended}
 use Rattle.session_hub.specs.declared.ended.Ended.TheVariants as ended
@@ -74,9 +75,9 @@ comes begun added buf given before after is tells =
     }
 
 -- an event heard before its block
-heard_now : (limit : ℕ) (entries : DirectoryEntries) (begun added : List Item) (e : Event) (after : Option (List Item)) (hub : Held DirectoryEntries Requester) (on_hold : List ℕ) → Comes begun added e after →
-    IsServing limit entries [] hub on_hold added → IsHeard limit entries hub on_hold e (added ++ item.Heard e ∷ [])
-heard_now limit entries begun added e after hub on_hold came works = record { before = added; last = refl; opens = came.opens; works = works }
+heard_now : (terms : Terms) (entries : DirectoryEntries) (begun added : List Item) (e : Event) (after : Option (List Item)) (hub : Held DirectoryEntries Requester) (on_hold : List ℕ) → Comes begun added e after →
+    IsServing terms entries [] hub on_hold added → IsHeard terms entries hub on_hold e (added ++ item.Heard e ∷ [])
+heard_now terms entries begun added e after hub on_hold came works = record { before = added; last = refl; opens = came.opens; works = works }
 
 -- as many events as heard, and one more
 heard_more : (added more : List Item) (e : Event) (n : ℕ) → length (heard added) ≡ n → heard more ≡ [] → length (heard ((added ++ item.Heard e ∷ []) ++ more)) ≡ n + 1
@@ -97,11 +98,11 @@ pub record Served_on (entries : DirectoryEntries) (n : ℕ) (stop : Bool) (Q : L
   pub counts : length (heard added) ≡ n + 1
   pub holds : Q added
 
-serve_on : (limit : ℕ) (entries : DirectoryEntries) (n : ℕ) (stop : Bool) (plan : Option Plan) (before a b after : Option (List Item)) (hub : Held DirectoryEntries Requester) (on_hold : List ℕ) (Q : List Item → Type 0) (buf : List ℕ) (given : Answer) →
-    Running limit entries n before a hub on_hold → NextTells {E = NextFault} a buf (Ok given) b → is_stop (event_of buf given) ≡ stop → Adds plan (IsHeard limit entries hub on_hold (event_of buf given)) Q b after →
+serve_on : (terms : Terms) (entries : DirectoryEntries) (n : ℕ) (stop : Bool) (plan : Option Plan) (before a b after : Option (List Item)) (hub : Held DirectoryEntries Requester) (on_hold : List ℕ) (Q : List Item → Type 0) (buf : List ℕ) (given : Answer) →
+    Running terms entries n before a hub on_hold → NextTells {E = NextFault} a buf (Ok given) b → is_stop (event_of buf given) ≡ stop → Adds plan (IsHeard terms entries hub on_hold (event_of buf given)) Q b after →
     (begun : List Item) → before ≡ Some begun → (added : List Item) × (after ≡ Some (begun ++ added)) × Served_on entries n stop Q added
 unfolding Running Adds
-serve_on limit entries n stop plan before a b after hub on_hold Q buf given running tells is_one adds begun is =
+serve_on terms entries n stop plan before a b after hub on_hold Q buf given running tells is_one adds begun is =
     let so = running begun is in
     let added = so.0 in
     let e = event_of buf given in
@@ -112,107 +113,120 @@ serve_on limit entries n stop plan before a b after hub on_hold Q buf given runn
       record {
         ends = stopped_more added block.0 e stop so.2.goes_on is_one block.2.stops;
         counts = heard_more added block.0 e n so.2.counts block.2.events;
-        holds = block.3 (heard_now limit entries begun added e b hub on_hold came so.2.works);
+        holds = block.3 (heard_now terms entries begun added e b hub on_hold came so.2.works);
       },
     )
 
 -- nothing is heard yet
-pub running_start : (limit : ℕ) (bounds : Bounds) (entries : DirectoryEntries) (journal : Option (List Item)) → Running limit entries 0 journal journal (held entries (no_hub bounds)) []
+pub running_start : (terms : Terms) (bounds : Bounds) (entries : DirectoryEntries) (journal : Option (List Item)) → Running terms entries 0 journal journal (held entries (no_hub bounds)) []
 unfolding Running was_stopped heard
-running_start limit bounds entries journal begun is = ([], is ∙ ap (λ x. Some x) (sym (append-nil begun)), record { goes_on = refl; counts = refl; works = works_start (rules limit) entries })
+running_start terms bounds entries journal begun is = ([], is ∙ ap (λ x. Some x) (sym (append-nil begun)), record { goes_on = refl; counts = refl; works = works_start (rules terms) entries })
 
 -- an event that isn't Stop is heard and served
-pub running_on : (limit : ℕ) (entries : DirectoryEntries) (n : ℕ) (plan : Option Plan) (before a b after : Option (List Item)) (hub now : Held DirectoryEntries Requester) (on_hold held_now : List ℕ) (buf : List ℕ) (given : Answer) →
-    Running limit entries n before a hub on_hold → NextTells {E = NextFault} a buf (Ok given) b → is_stop (event_of buf given) ≡ false →
-    Adds plan (IsHeard limit entries hub on_hold (event_of buf given)) (IsServing limit entries [] now held_now) b after → Running limit entries (n + 1) before after now held_now
+pub running_on : (terms : Terms) (entries : DirectoryEntries) (n : ℕ) (plan : Option Plan) (before a b after : Option (List Item)) (hub now : Held DirectoryEntries Requester) (on_hold held_now : List ℕ) (buf : List ℕ) (given : Answer) →
+    Running terms entries n before a hub on_hold → NextTells {E = NextFault} a buf (Ok given) b → is_stop (event_of buf given) ≡ false →
+    Adds plan (IsHeard terms entries hub on_hold (event_of buf given)) (IsServing terms entries [] now held_now) b after → Running terms entries (n + 1) before after now held_now
 unfolding Running
-running_on limit entries n plan before a b after hub now on_hold held_now buf given running tells goes_on adds begun is =
-    let so = serve_on limit entries n false plan before a b after hub on_hold (IsServing limit entries [] now held_now) buf given running tells goes_on adds begun is in
+running_on terms entries n plan before a b after hub now on_hold held_now buf given running tells goes_on adds begun is =
+    let so = serve_on terms entries n false plan before a b after hub on_hold (IsServing terms entries [] now held_now) buf given running tells goes_on adds begun is in
     (so.0, so.1, record { goes_on = so.2.ends; counts = so.2.counts; works = so.2.holds })
 
 -- what nobody is due in serves, where nothing was cut
-is_served : (limit : ℕ) (entries : DirectoryEntries) (hub : Held DirectoryEntries Requester) (on_hold : List ℕ) (added : List Item) → hub.was_cut ≡ false → IsServing limit entries [] hub on_hold added → IsServed limit entries hub.tree added
-is_served limit entries hub on_hold added none works =
+is_served : (terms : Terms) (entries : DirectoryEntries) (hub : Held DirectoryEntries Requester) (on_hold : List ℕ) (added : List Item) → hub.was_cut ≡ false → IsServing terms entries [] hub on_hold added → IsServed terms entries hub.tree added
+is_served terms entries hub on_hold added none works =
     let own = own_steps added works.steps works.tracks.sound.are (works.tracks.no_cut none) in
     record {
-      served = subst (λ xs. Served (rules limit) entries xs added) own (works_served (rules limit) entries hub on_hold added works);
-      entries_left = works.tracks.keeps.tree ∙ ap (λ u. u.tree) (sym works.tracks.is) ∙ ap (λ xs. (run (rules limit) entries xs).tree) own;
+      served = subst (λ xs. Served (rules terms) entries xs added) own (works_served (rules terms) entries hub on_hold added works);
+      entries_left = works.tracks.keeps.tree ∙ ap (λ u. u.tree) (sym works.tracks.is) ∙ ap (λ xs. (run (rules terms) entries xs).tree) own;
     }
 
-is_replay : (limit : ℕ) (entries : DirectoryEntries) (hub : Held DirectoryEntries Requester) (on_hold : List ℕ) (added : List Item) → hub.was_cut ≡ false → IsServing limit entries [] hub on_hold added → all_taken added ≡ true →
-    IsReplay (rules limit) entries (steps_of added) added
-is_replay limit entries hub on_hold added none works all =
-    subst (λ xs. IsReplay (rules limit) entries xs added) (own_steps added works.steps works.tracks.sound.are (works.tracks.no_cut none)) (works_replayed (rules limit) entries hub on_hold added works all)
+is_replay : (terms : Terms) (entries : DirectoryEntries) (hub : Held DirectoryEntries Requester) (on_hold : List ℕ) (added : List Item) → hub.was_cut ≡ false → IsServing terms entries [] hub on_hold added → all_taken added ≡ true →
+    IsReplay (rules terms) entries (steps_of added) added
+is_replay terms entries hub on_hold added none works all =
+    subst (λ xs. IsReplay (rules terms) entries xs added) (own_steps added works.steps works.tracks.sound.are (works.tracks.no_cut none)) (works_replayed (rules terms) entries hub on_hold added works all)
 
 -- an end of the loop that counts so many events, cut or not
 Ends : ℕ → List Item → Ended → Type 0
 Ends turns added end = EndsAt turns added end × (length (heard added) ≤ turns)
 
-serves_stopped : (limit : ℕ) (entries : DirectoryEntries) (turns : ℕ) (hub : Held DirectoryEntries Requester) (on_hold : List ℕ) (added : List Item) → was_stopped added ≡ true → length (heard added) ≤ turns →
-    IsServing limit entries [] hub on_hold added → (b : Bool) → hub.was_cut ≡ b → ServesAll limit entries hub.tree turns added (ends_with b ended.Stopped)
-serves_stopped limit entries turns hub on_hold added stops fits works true cut = record { ends = fits; served = works_leads (rules limit) entries [] hub on_hold added works; replayed = λ _. tt }
-serves_stopped limit entries turns hub on_hold added stops fits works false none =
-    record { ends = (stops, fits); served = is_served limit entries hub on_hold added none works; replayed = is_replay limit entries hub on_hold added none works }
+serves_stopped : (terms : Terms) (entries : DirectoryEntries) (turns : ℕ) (hub : Held DirectoryEntries Requester) (on_hold : List ℕ) (added : List Item) → was_stopped added ≡ true → length (heard added) ≤ turns →
+    IsServing terms entries [] hub on_hold added → (b : Bool) → hub.was_cut ≡ b → ServesAll terms entries hub.tree turns added (ends_with b ended.Stopped)
+serves_stopped terms entries turns hub on_hold added stops fits works true cut = record { ends = fits; served = works_leads (rules terms) entries [] hub on_hold added works; replayed = λ _. tt }
+serves_stopped terms entries turns hub on_hold added stops fits works false none =
+    record { ends = (stops, fits); served = is_served terms entries hub on_hold added none works; replayed = is_replay terms entries hub on_hold added none works }
 
-serves_spent : (limit : ℕ) (entries : DirectoryEntries) (turns : ℕ) (hub : Held DirectoryEntries Requester) (on_hold : List ℕ) (added : List Item) → Ran limit entries turns hub on_hold added → (b : Bool) → hub.was_cut ≡ b →
-    ServesAll limit entries hub.tree turns added (ends_with b ended.TurnsSpent)
-serves_spent limit entries turns hub on_hold added ran true cut =
-    record { ends = (let n : length (heard added) ≡ turns = ran.counts in omega arith); served = works_leads (rules limit) entries [] hub on_hold added ran.works; replayed = λ _. tt }
-serves_spent limit entries turns hub on_hold added ran false none =
-    record { ends = (ran.goes_on, ran.counts); served = is_served limit entries hub on_hold added none ran.works; replayed = is_replay limit entries hub on_hold added none ran.works }
+serves_spent : (terms : Terms) (entries : DirectoryEntries) (turns : ℕ) (hub : Held DirectoryEntries Requester) (on_hold : List ℕ) (added : List Item) → Ran terms entries turns hub on_hold added → (b : Bool) → hub.was_cut ≡ b →
+    ServesAll terms entries hub.tree turns added (ends_with b ended.TurnsSpent)
+serves_spent terms entries turns hub on_hold added ran true cut =
+    record { ends = (let n : length (heard added) ≡ turns = ran.counts in omega arith); served = works_leads (rules terms) entries [] hub on_hold added ran.works; replayed = λ _. tt }
+serves_spent terms entries turns hub on_hold added ran false none =
+    record { ends = (ran.goes_on, ran.counts); served = is_served terms entries hub on_hold added none ran.works; replayed = is_replay terms entries hub on_hold added none ran.works }
 
-serves_failed : (limit : ℕ) (entries : DirectoryEntries) (n turns : ℕ) (hub : Held DirectoryEntries Requester) (on_hold : List ℕ) (added : List Item) → Ran limit entries n hub on_hold added → n < turns → (b : Bool) → hub.was_cut ≡ b →
-    ServesAll limit entries hub.tree turns added (ends_with b ended.LinkFault)
-serves_failed limit entries n turns hub on_hold added ran below true cut =
-    record { ends = (let m : length (heard added) ≡ n = ran.counts in omega arith); served = works_leads (rules limit) entries [] hub on_hold added ran.works; replayed = λ _. tt }
-serves_failed limit entries n turns hub on_hold added ran below false none =
+serves_failed : (terms : Terms) (entries : DirectoryEntries) (n turns : ℕ) (hub : Held DirectoryEntries Requester) (on_hold : List ℕ) (added : List Item) → Ran terms entries n hub on_hold added → n < turns → (b : Bool) → hub.was_cut ≡ b →
+    ServesAll terms entries hub.tree turns added (ends_with b ended.LinkFault)
+serves_failed terms entries n turns hub on_hold added ran below true cut =
+    record { ends = (let m : length (heard added) ≡ n = ran.counts in omega arith); served = works_leads (rules terms) entries [] hub on_hold added ran.works; replayed = λ _. tt }
+serves_failed terms entries n turns hub on_hold added ran below false none =
     record {
       ends = (ran.goes_on, let m : length (heard added) ≡ n = ran.counts in omega arith);
-      served = is_served limit entries hub on_hold added none ran.works;
-      replayed = is_replay limit entries hub on_hold added none ran.works;
+      served = is_served terms entries hub on_hold added none ran.works;
+      replayed = is_replay terms entries hub on_hold added none ran.works;
     }
 
 -- the turns are spent
-pub running_spent : (limit : ℕ) (entries : DirectoryEntries) (turns : ℕ) (before now : Option (List Item)) (hub : Held DirectoryEntries Requester) (on_hold : List ℕ) → Running limit entries turns before now hub on_hold →
-    Serves limit entries hub.tree turns before (ends_with hub.was_cut ended.TurnsSpent) now
+pub running_spent : (terms : Terms) (entries : DirectoryEntries) (turns : ℕ) (before now : Option (List Item)) (hub : Held DirectoryEntries Requester) (on_hold : List ℕ) → Running terms entries turns before now hub on_hold →
+    Serves terms entries hub.tree turns before (ends_with hub.was_cut ended.TurnsSpent) now
 unfolding Running Serves
-running_spent limit entries turns before now hub on_hold running begun is = let so = running begun is in (so.0, so.1, serves_spent limit entries turns hub on_hold so.0 so.2 hub.was_cut refl)
+running_spent terms entries turns before now hub on_hold running begun is = let so = running begun is in (so.0, so.1, serves_spent terms entries turns hub on_hold so.0 so.2 hub.was_cut refl)
 
 -- the link failed, or there was no memory for an event
-pub running_failed : (limit : ℕ) (entries : DirectoryEntries) (n turns : ℕ) (before a now : Option (List Item)) (hub : Held DirectoryEntries Requester) (on_hold : List ℕ) → Running limit entries n before a hub on_hold → now ≡ a → n < turns →
-    Serves limit entries hub.tree turns before (ends_with hub.was_cut ended.LinkFault) now
+pub running_failed : (terms : Terms) (entries : DirectoryEntries) (n turns : ℕ) (before a now : Option (List Item)) (hub : Held DirectoryEntries Requester) (on_hold : List ℕ) → Running terms entries n before a hub on_hold → now ≡ a → n < turns →
+    Serves terms entries hub.tree turns before (ends_with hub.was_cut ended.LinkFault) now
 unfolding Running Serves
-running_failed limit entries n turns before a now hub on_hold running same below begun is =
-    let so = running begun is in (so.0, same ∙ so.1, serves_failed limit entries n turns hub on_hold so.0 so.2 below hub.was_cut refl)
+running_failed terms entries n turns before a now hub on_hold running same below begun is =
+    let so = running begun is in (so.0, same ∙ so.1, serves_failed terms entries n turns hub on_hold so.0 so.2 below hub.was_cut refl)
 
-pub running_starved : (limit : ℕ) (entries : DirectoryEntries) (n turns : ℕ) (before a now : Option (List Item)) (hub : Held DirectoryEntries Requester) (on_hold : List ℕ) → Running limit entries n before a hub on_hold → now ≡ a → n ≤ turns →
-    Serves limit entries hub.tree turns before ended.NoMemory now
+pub running_starved : (terms : Terms) (entries : DirectoryEntries) (n turns : ℕ) (before a now : Option (List Item)) (hub : Held DirectoryEntries Requester) (on_hold : List ℕ) → Running terms entries n before a hub on_hold → now ≡ a → n ≤ turns →
+    Serves terms entries hub.tree turns before ended.NoMemory now
 unfolding Running Serves
-running_starved limit entries n turns before a now hub on_hold running same below begun is =
+running_starved terms entries n turns before a now hub on_hold running same below begun is =
     let so = running begun is in
-    (so.0, same ∙ so.1, record { ends = (let m : length (heard so.0) ≡ n = so.2.counts in omega arith); served = works_leads (rules limit) entries [] hub on_hold so.0 so.2.works; replayed = λ _. tt })
+    (so.0, same ∙ so.1, record { ends = (let m : length (heard so.0) ≡ n = so.2.counts in omega arith); served = works_leads (rules terms) entries [] hub on_hold so.0 so.2.works; replayed = λ _. tt })
 
--- there was no memory within a block
-pub running_cut : (limit : ℕ) (entries left : DirectoryEntries) (n turns : ℕ) (plan : Option Plan) (before a b after : Option (List Item)) (hub : Held DirectoryEntries Requester) (on_hold : List ℕ) (buf : List ℕ) (given : Answer) →
-    Running limit entries n before a hub on_hold → NextTells {E = NextFault} a buf (Ok given) b → Adds plan (IsHeard limit entries hub on_hold (event_of buf given)) (Leads (rules limit) entries left) b after → n < turns →
-    Serves limit entries left turns before ended.NoMemory after
+-- the answers of a loop whose last block may be unfinished
+pub record IsUnfinished (terms : Terms) (entries left : DirectoryEntries) (turns : ℕ) (end : Ended) : Type 0 where
+  pub serves : (added : List Item) → length (heard added) ≤ turns → Leads (rules terms) entries left added → ServesAll terms entries left turns added end
+  pub spends : end ≡ ended.TurnsSpent → ⊥
+  pub stops : end ≡ ended.Stopped → ⊥
+
+pub unfinished_starved : (terms : Terms) (entries left : DirectoryEntries) (turns : ℕ) → IsUnfinished terms entries left turns ended.NoMemory
+unfinished_starved terms entries left turns = record { serves = λ added fits leads. record { ends = fits; served = leads; replayed = λ _. tt }; spends = λ h. cc; stops = λ h. cc }
+
+pub unfinished_unstored : (terms : Terms) (entries left : DirectoryEntries) (turns : ℕ) → IsUnfinished terms entries left turns ended.StoreFault
+unfinished_unstored terms entries left turns = record { serves = λ added fits leads. record { ends = fits; served = leads; replayed = λ _. tt }; spends = λ h. cc; stops = λ h. cc }
+
+-- there was no memory within a block, or what changed could not be stored
+pub running_cut : (terms : Terms) (entries left : DirectoryEntries) (n turns : ℕ) (end : Ended) (plan : Option Plan) (before a b after : Option (List Item)) (hub : Held DirectoryEntries Requester) (on_hold : List ℕ) (buf : List ℕ) (given : Answer) →
+    IsUnfinished terms entries left turns end →
+    Running terms entries n before a hub on_hold → NextTells {E = NextFault} a buf (Ok given) b → Adds plan (IsHeard terms entries hub on_hold (event_of buf given)) (Leads (rules terms) entries left) b after → n < turns →
+    Serves terms entries left turns before end after
 unfolding Serves
-running_cut limit entries left n turns plan before a b after hub on_hold buf given running tells adds below begun is =
-    let so = serve_on limit entries n (is_stop (event_of buf given)) plan before a b after hub on_hold (Leads (rules limit) entries left) buf given running tells refl adds begun is in
-    (so.0, so.1, record { ends = (let m : length (heard so.0) ≡ n + 1 = so.2.counts in omega arith); served = so.2.holds; replayed = λ _. tt })
+running_cut terms entries left n turns end plan before a b after hub on_hold buf given unfinished running tells adds below begun is =
+    let so = serve_on terms entries n (is_stop (event_of buf given)) plan before a b after hub on_hold (Leads (rules terms) entries left) buf given running tells refl adds begun is in
+    (so.0, so.1, unfinished.serves so.0 (let m : length (heard so.0) ≡ n + 1 = so.2.counts in omega arith) so.2.holds)
 
 is_stop_stop : is_stop event.Stop ≡ true
 unfolding is_stop
 is_stop_stop = refl
 
 -- Stop is heard and its block done
-pub running_stopped : (limit : ℕ) (entries : DirectoryEntries) (n turns : ℕ) (plan : Option Plan) (before a b after : Option (List Item)) (hub now : Held DirectoryEntries Requester) (on_hold held_now : List ℕ) (buf : List ℕ) (given : Answer) →
-    Running limit entries n before a hub on_hold → NextTells {E = NextFault} a buf (Ok given) b → event_of buf given ≡ event.Stop →
-    Adds plan (IsHeard limit entries hub on_hold (event_of buf given)) (IsServing limit entries [] now held_now) b after → n < turns → Serves limit entries now.tree turns before (ends_with now.was_cut ended.Stopped) after
+pub running_stopped : (terms : Terms) (entries : DirectoryEntries) (n turns : ℕ) (plan : Option Plan) (before a b after : Option (List Item)) (hub now : Held DirectoryEntries Requester) (on_hold held_now : List ℕ) (buf : List ℕ) (given : Answer) →
+    Running terms entries n before a hub on_hold → NextTells {E = NextFault} a buf (Ok given) b → event_of buf given ≡ event.Stop →
+    Adds plan (IsHeard terms entries hub on_hold (event_of buf given)) (IsServing terms entries [] now held_now) b after → n < turns → Serves terms entries now.tree turns before (ends_with now.was_cut ended.Stopped) after
 unfolding Serves
-running_stopped limit entries n turns plan before a b after hub now on_hold held_now buf given running tells stop adds below begun is =
-    let so = serve_on limit entries n true plan before a b after hub on_hold (IsServing limit entries [] now held_now) buf given running tells (ap is_stop stop ∙ is_stop_stop) adds begun is in
-    (so.0, so.1, serves_stopped limit entries turns now held_now so.0 so.2.ends (let m : length (heard so.0) ≡ n + 1 = so.2.counts in omega arith) so.2.holds now.was_cut refl)
+running_stopped terms entries n turns plan before a b after hub now on_hold held_now buf given running tells stop adds below begun is =
+    let so = serve_on terms entries n true plan before a b after hub on_hold (IsServing terms entries [] now held_now) buf given running tells (ap is_stop stop ∙ is_stop_stop) adds begun is in
+    (so.0, so.1, serves_stopped terms entries turns now held_now so.0 so.2.ends (let m : length (heard so.0) ≡ n + 1 = so.2.counts in omega arith) so.2.holds now.was_cut refl)
 
 pub next_fails : (E : Type 0) (journal new : Option (List Item)) (buf : List ℕ) (f : E) → NextTells {E = E} journal buf (Err f) new → new ≡ journal
 unfolding NextTells

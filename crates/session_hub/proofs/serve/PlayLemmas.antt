@@ -19,6 +19,7 @@ use Rattle.session_model.specs.Kept.{Held}
 use Rattle.session_model.specs.Journaled.{all_taken}
 use Rattle.session_model.proofs.Theorems.{all_taken-one, works_free, all_taken-both}
 use Rattle.session_hub.specs.Parties.{DirectoryEntries, Requester}
+use Rattle.session_hub.specs.Terms.{Terms}
 use Rattle.session_hub.specs.declared.ended.Ended.{Ended}
 use Rattle.session_hub.specs.declared.ended.Ended.TheVariants as ended
 use Rattle.session_hub.specs.Answering.{rules}
@@ -97,11 +98,11 @@ played_more begun added more plan left after buf given so long plays goes_on blo
     }
 
 -- one more event of the plan, in a loop
-pub playing_on : (limit : ℕ) (entries : DirectoryEntries) (n : ℕ) (hub : Held DirectoryEntries Requester) (on_hold : List ℕ) (before a b after : Option (List Item)) (plan_before pa pb plan_after : Option Plan) (P Q : List Item → Type 0) (buf : List ℕ) (given : Answer) →
-    Running limit entries n before a hub on_hold → Playing before plan_before a pa → length buf ≡ buffer_length → NextTells {E = NextFault} a buf (Ok given) b → NextPlays {E = NextFault} a pa buf (Ok given) pb →
+pub playing_on : (terms : Terms) (entries : DirectoryEntries) (n : ℕ) (hub : Held DirectoryEntries Requester) (on_hold : List ℕ) (before a b after : Option (List Item)) (plan_before pa pb plan_after : Option Plan) (P Q : List Item → Type 0) (buf : List ℕ) (given : Answer) →
+    Running terms entries n before a hub on_hold → Playing before plan_before a pa → length buf ≡ buffer_length → NextTells {E = NextFault} a buf (Ok given) b → NextPlays {E = NextFault} a pa buf (Ok given) pb →
     is_stop (event_of buf given) ≡ false → Adds pb P Q b after → plan_after ≡ pb → Playing before plan_before after plan_after
 unfolding Playing Adds Running
-playing_on limit entries n hub on_hold before a b after plan_before pa pb plan_after P Q buf given running playing long tells plays goes_on adds kept begun plan is planned =
+playing_on terms entries n hub on_hold before a b after plan_before pa pb plan_after P Q buf given running playing long tells plays goes_on adds kept begun plan is planned =
     let so = playing begun plan is planned in
     let added = so.0 in
     let left = so.1 in
@@ -112,7 +113,7 @@ playing_on limit entries n hub on_hold before a b after plan_before pa pb plan_a
     let ran = running begun is in
     let same : ran.0 ≡ added = append_cancel_left begun ran.0 added (same_Some (begun ++ ran.0) (begun ++ added) (sym ran.1 ∙ so.2)) in
     let free : all_taken added ≡ true → (c : ℕ) → is_held c added ≡ false =
-    subst (λ x. all_taken x ≡ true → (c : ℕ) → is_held c x ≡ false) same (λ all. works_free (rules limit) entries hub on_hold ran.0 ran.2.works all) in
+    subst (λ x. all_taken x ≡ true → (c : ℕ) → is_held c x ≡ false) same (λ all. works_free (rules terms) entries hub on_hold ran.0 ran.2.works all) in
     let block = adds begun (added ++ item.Heard (event_of buf given) ∷ []) came.noted in (
       (added ++ item.Heard (event_of buf given) ∷ []) ++ block.0,
       next.0,
@@ -143,10 +144,10 @@ plays_ended turns before now plan_before plan_now end playing goes_on unspent be
     (so.1, so.3, played_to turns begun added plan so.1 end (subst (λ x. PlayedSoFar begun x plan so.1) same so.4) goes_on (λ spent. absurd (unspent spent)))
 
 -- the turns are spent
-pub plays_spent : (limit : ℕ) (entries : DirectoryEntries) (turns : ℕ) (before now : Option (List Item)) (plan_before plan_now : Option Plan) (hub : Held DirectoryEntries Requester) (on_hold : List ℕ) (end : Ended) →
-    (end ≡ ended.Stopped → ⊥) → Playing before plan_before now plan_now → Running limit entries turns before now hub on_hold → PlaysOut turns before plan_before end now plan_now
+pub plays_spent : (terms : Terms) (entries : DirectoryEntries) (turns : ℕ) (before now : Option (List Item)) (plan_before plan_now : Option Plan) (hub : Held DirectoryEntries Requester) (on_hold : List ℕ) (end : Ended) →
+    (end ≡ ended.Stopped → ⊥) → Playing before plan_before now plan_now → Running terms entries turns before now hub on_hold → PlaysOut turns before plan_before end now plan_now
 unfolding Playing PlaysOut Running
-plays_spent limit entries turns before now plan_before plan_now hub on_hold end goes_on playing running begun added plan is is_now planned =
+plays_spent terms entries turns before now plan_before plan_now hub on_hold end goes_on playing running begun added plan is is_now planned =
     let so = playing begun plan is planned in
     let run = running begun is in
     let same : so.0 ≡ added = append_cancel_left begun so.0 added (same_Some (begun ++ so.0) (begun ++ added) (sym so.2 ∙ is_now)) in

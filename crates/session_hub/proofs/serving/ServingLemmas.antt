@@ -16,6 +16,7 @@ use Rattle.session_model.specs.Serving.{Leads}
 use Rattle.session_model.specs.Working.{Refused, Lost, Puts, Covers}
 use Rattle.session_model.proofs.Theorems.{works_taken, works_refused, refused_stands, refused_held, works_released, works_sent, works_hung_up, works_leads, works_as, lost_leads, lost_hung_up}
 use Rattle.session_hub.specs.Parties.{DirectoryEntries, Requester}
+use Rattle.session_hub.specs.Terms.{Terms}
 use Rattle.session_hub.specs.Answering.{rules}
 use Rattle.session_hub.specs.hub.Hubs.{HubState, held}
 use Rattle.session_hub.specs.declared.sent.Sent.{Sent}
@@ -39,6 +40,10 @@ block_released plan c = record { events = refl; stops = refl; taken = λ _ _ _ _
 pub block_hung_up : (plan : Option Plan) (c : ℕ) → IsBlock plan (item.HungUp c ∷ [])
 unfolding heard was_stopped stops all_taken
 block_hung_up plan c = record { events = refl; stops = refl; taken = λ _ _ _ _. refl }
+
+pub block_stored : (plan : Option Plan) (octets : List ℕ) → IsBlock plan (item.Stored octets ∷ [])
+unfolding heard was_stopped stops all_taken
+block_stored plan octets = record { events = refl; stops = refl; taken = λ _ _ _ _. refl }
 
 block_later : (plan : Option Plan) (c lost now : ℕ) → WriteCause plan lost now took.Later → IsBlock plan (item.Later c ∷ [])
 unfolding heard was_stopped stops
@@ -71,153 +76,153 @@ some_queued [] h e = cc
 some_queued (x ∷ xs) h e = cc
 
 -- octets of the queue were taken
-pub took_goes : (limit : ℕ) (plan : Option Plan) (start tree : DirectoryEntries) (c n : ℕ) (due on_hold : List ℕ) (hub now : HubState) (octets : List ℕ) (before after : Option (List Item)) →
-    TookTells before c octets (took.Took n) after → octets ≡ queue_of c hub.kept → octets ≢ [] → n ≤ length octets → now ≡ record hub { kept = taken_off c n hub.kept } →
-    Adds plan (IsServing limit start (c ∷ due) (held tree hub) on_hold) (IsServing limit start (c ∷ due) (held tree now) on_hold) before after
+pub took_goes : (terms : Terms) (plan : Option Plan) (start tree : DirectoryEntries) (c n : ℕ) (due on_hold : List ℕ) (hub now : HubState) (octets : List ℕ) (before after : Option (List Item)) →
+    TookTells before c octets (took.Took n) after → octets ≡ queue_of c hub.kept → hub.unstored ≡ [] → octets ≢ [] → n ≤ length octets → now ≡ record hub { kept = taken_off c n hub.kept } →
+    Adds plan (IsServing terms start (c ∷ due) (held tree hub) on_hold) (IsServing terms start (c ∷ due) (held tree now) on_hold) before after
 unfolding TookTells
-took_goes limit plan start tree c n due on_hold hub now octets before after tells is some fits same =
-    subst (λ h. Adds plan (IsServing limit start (c ∷ due) (held tree hub) on_hold) (IsServing limit start (c ∷ due) (held tree h) on_hold) before after) (sym same)
-    (adds_one plan (IsServing limit start (c ∷ due) (held tree hub) on_hold) (IsServing limit start (c ∷ due) (held tree (record hub { kept = taken_off c n hub.kept })) on_hold) before after (item.Taken c (take n octets)) tells
+took_goes terms plan start tree c n due on_hold hub now octets before after tells is stored some fits same =
+    subst (λ h. Adds plan (IsServing terms start (c ∷ due) (held tree hub) on_hold) (IsServing terms start (c ∷ due) (held tree h) on_hold) before after) (sym same)
+    (adds_one plan (IsServing terms start (c ∷ due) (held tree hub) on_hold) (IsServing terms start (c ∷ due) (held tree (record hub { kept = taken_off c n hub.kept })) on_hold) before after (item.Taken c (take n octets)) tells
     (block_taken plan c (take n octets))
-    (λ added works. subst (λ xs. IsServing limit start (c ∷ due) (held tree (record hub { kept = taken_off c n hub.kept })) on_hold (added ++ item.Taken c (take n xs) ∷ [])) (sym is)
-    (works_taken (rules limit) start c due (held tree hub) on_hold added n works (subst (λ xs. xs ≢ []) is some) (subst (λ xs. n ≤ length xs) is fits))))
+    (λ added works. subst (λ xs. IsServing terms start (c ∷ due) (held tree (record hub { kept = taken_off c n hub.kept })) on_hold (added ++ item.Taken c (take n xs) ∷ [])) (sym is)
+    (works_taken (rules terms) start c due (held tree hub) on_hold added n works stored (subst (λ xs. xs ≢ []) is some) (subst (λ xs. n ≤ length xs) is fits))))
 
 -- nothing was taken now
-pub later_goes : (limit : ℕ) (plan : Option Plan) (start tree : DirectoryEntries) (c lost since : ℕ) (due on_hold : List ℕ) (hub : HubState) (octets : List ℕ) (before after : Option (List Item)) →
+pub later_goes : (terms : Terms) (plan : Option Plan) (start tree : DirectoryEntries) (c lost since : ℕ) (due on_hold : List ℕ) (hub : HubState) (octets : List ℕ) (before after : Option (List Item)) →
     TookTells before c octets took.Later after → WriteCause plan lost since took.Later → octets ≡ queue_of c hub.kept → octets ≢ [] →
-    Adds plan (IsServing limit start (c ∷ due) (held tree hub) on_hold) (Refused (rules limit) start c due (held tree hub) on_hold) before after
+    Adds plan (IsServing terms start (c ∷ due) (held tree hub) on_hold) (Refused (rules terms) start c due (held tree hub) on_hold) before after
 unfolding TookTells
-later_goes limit plan start tree c lost since due on_hold hub octets before after tells cause is some =
-    adds_one plan (IsServing limit start (c ∷ due) (held tree hub) on_hold) (Refused (rules limit) start c due (held tree hub) on_hold) before after (item.Later c) tells (block_later plan c lost since cause)
-    (λ added works. works_refused (rules limit) start c due (held tree hub) on_hold added works (subst (λ xs. xs ≢ []) is some))
+later_goes terms plan start tree c lost since due on_hold hub octets before after tells cause is some =
+    adds_one plan (IsServing terms start (c ∷ due) (held tree hub) on_hold) (Refused (rules terms) start c due (held tree hub) on_hold) before after (item.Later c) tells (block_later plan c lost since cause)
+    (λ added works. works_refused (rules terms) start c due (held tree hub) on_hold added works (subst (λ xs. xs ≢ []) is some))
 
 -- the connection was found lost
-pub gone_goes : (limit : ℕ) (plan : Option Plan) (start tree : DirectoryEntries) (c lost since : ℕ) (due on_hold : List ℕ) (hub : HubState) (octets : List ℕ) (before after : Option (List Item)) →
+pub gone_goes : (terms : Terms) (plan : Option Plan) (start tree : DirectoryEntries) (c lost since : ℕ) (due on_hold : List ℕ) (hub : HubState) (octets : List ℕ) (before after : Option (List Item)) →
     TookTells before c octets took.Gone after → WriteCause plan lost since took.Gone → octets ≡ queue_of c hub.kept → octets ≢ [] →
-    Adds plan (IsServing limit start (c ∷ due) (held tree hub) on_hold) (Lost (rules limit) start c due (held tree hub) on_hold) before after
+    Adds plan (IsServing terms start (c ∷ due) (held tree hub) on_hold) (Lost (rules terms) start c due (held tree hub) on_hold) before after
 unfolding TookTells
-gone_goes limit plan start tree c lost since due on_hold hub octets before after tells cause is some =
-    adds_one plan (IsServing limit start (c ∷ due) (held tree hub) on_hold) (Lost (rules limit) start c due (held tree hub) on_hold) before after (item.Gone c) tells (block_gone plan c lost since cause)
+gone_goes terms plan start tree c lost since due on_hold hub octets before after tells cause is some =
+    adds_one plan (IsServing terms start (c ∷ due) (held tree hub) on_hold) (Lost (rules terms) start c due (held tree hub) on_hold) before after (item.Gone c) tells (block_gone plan c lost since cause)
     (λ added works. record { before = added; last = refl; works = works; queued = subst (λ xs. xs ≢ []) is some })
 
 -- there was no memory, and nothing was done
-pub starved_goes : (limit : ℕ) (plan : Option Plan) (start : DirectoryEntries) (due on_hold : List ℕ) (hub : Held DirectoryEntries Requester) (c : ℕ) (octets : List ℕ) (before after : Option (List Item)) →
-    TookTells before c octets took.NoMemory after → Adds plan (IsServing limit start due hub on_hold) (Leads (rules limit) start hub.tree) before after
+pub starved_goes : (terms : Terms) (plan : Option Plan) (start : DirectoryEntries) (due on_hold : List ℕ) (hub : Held DirectoryEntries Requester) (c : ℕ) (octets : List ℕ) (before after : Option (List Item)) →
+    TookTells before c octets took.NoMemory after → Adds plan (IsServing terms start due hub on_hold) (Leads (rules terms) start hub.tree) before after
 unfolding TookTells
-starved_goes limit plan start due on_hold hub c octets before after tells =
-    adds_nothing plan (IsServing limit start due hub on_hold) (Leads (rules limit) start hub.tree) before after tells (λ added works. works_leads (rules limit) start due hub on_hold added works)
+starved_goes terms plan start due on_hold hub c octets before after tells =
+    adds_nothing plan (IsServing terms start due hub on_hold) (Leads (rules terms) start hub.tree) before after tells (λ added works. works_leads (rules terms) start due hub on_hold added works)
 
 -- a connection that takes no more is put on hold, or is already
-pub stays_held : (limit : ℕ) (plan : Option Plan) (start : DirectoryEntries) (c : ℕ) (due on_hold : List ℕ) (hub : Held DirectoryEntries Requester) (journal : Option (List Item)) → is_listed c on_hold ≡ true →
-    Adds plan (Refused (rules limit) start c due hub on_hold) (IsServing limit start due hub on_hold) journal journal
-stays_held limit plan start c due on_hold hub journal listed =
-    adds_nothing plan (Refused (rules limit) start c due hub on_hold) (IsServing limit start due hub on_hold) journal journal refl (λ added refused. refused_stands (rules limit) start c due hub on_hold added refused listed)
+pub stays_held : (terms : Terms) (plan : Option Plan) (start : DirectoryEntries) (c : ℕ) (due on_hold : List ℕ) (hub : Held DirectoryEntries Requester) (journal : Option (List Item)) → is_listed c on_hold ≡ true →
+    Adds plan (Refused (rules terms) start c due hub on_hold) (IsServing terms start due hub on_hold) journal journal
+stays_held terms plan start c due on_hold hub journal listed =
+    adds_nothing plan (Refused (rules terms) start c due hub on_hold) (IsServing terms start due hub on_hold) journal journal refl (λ added refused. refused_stands (rules terms) start c due hub on_hold added refused listed)
 
-pub holds_back : {E : Type 0} (limit : ℕ) (plan : Option Plan) (start : DirectoryEntries) (c : ℕ) (due on_hold now : List ℕ) (hub : Held DirectoryEntries Requester) (before after : Option (List Item)) (result : Result (Unit {0}) E) →
+pub holds_back : {E : Type 0} (terms : Terms) (plan : Option Plan) (start : DirectoryEntries) (c : ℕ) (due on_hold now : List ℕ) (hub : Held DirectoryEntries Requester) (before after : Option (List Item)) (result : Result (Unit {0}) E) →
     NoteTells before (item.Held c) result after → Puts c true on_hold now →
-    Adds plan (Refused (rules limit) start c due hub on_hold) (After limit result start hub.tree (IsServing limit start due hub now)) before after
+    Adds plan (Refused (rules terms) start c due hub on_hold) (After terms result start hub.tree (IsServing terms start due hub now)) before after
 unfolding NoteTells
-holds_back limit plan start c due on_hold now hub before after (Ok done) tells puts =
-    adds_one plan (Refused (rules limit) start c due hub on_hold) (IsServing limit start due hub now) before after (item.Held c) tells (block_held plan c)
-    (λ added refused. refused_held (rules limit) start c due hub on_hold now added refused puts)
-holds_back limit plan start c due on_hold now hub before after (Err fault) tells puts =
-    adds_nothing plan (Refused (rules limit) start c due hub on_hold) (Leads (rules limit) start hub.tree) before after tells (λ added refused. works_leads (rules limit) start (c ∷ due) hub on_hold added refused.works)
+holds_back terms plan start c due on_hold now hub before after (Ok done) tells puts =
+    adds_one plan (Refused (rules terms) start c due hub on_hold) (IsServing terms start due hub now) before after (item.Held c) tells (block_held plan c)
+    (λ added refused. refused_held (rules terms) start c due hub on_hold now added refused puts)
+holds_back terms plan start c due on_hold now hub before after (Err fault) tells puts =
+    adds_nothing plan (Refused (rules terms) start c due hub on_hold) (Leads (rules terms) start hub.tree) before after tells (λ added refused. works_leads (rules terms) start (c ∷ due) hub on_hold added refused.works)
 
-pub not_held_back : (limit : ℕ) (plan : Option Plan) (start : DirectoryEntries) (c : ℕ) (due on_hold : List ℕ) (hub : Held DirectoryEntries Requester) (journal : Option (List Item)) →
-    Adds plan (Refused (rules limit) start c due hub on_hold) (Leads (rules limit) start hub.tree) journal journal
-not_held_back limit plan start c due on_hold hub journal =
-    adds_nothing plan (Refused (rules limit) start c due hub on_hold) (Leads (rules limit) start hub.tree) journal journal refl (λ added refused. works_leads (rules limit) start (c ∷ due) hub on_hold added refused.works)
+pub not_held_back : (terms : Terms) (plan : Option Plan) (start : DirectoryEntries) (c : ℕ) (due on_hold : List ℕ) (hub : Held DirectoryEntries Requester) (journal : Option (List Item)) →
+    Adds plan (Refused (rules terms) start c due hub on_hold) (Leads (rules terms) start hub.tree) journal journal
+not_held_back terms plan start c due on_hold hub journal =
+    adds_nothing plan (Refused (rules terms) start c due hub on_hold) (Leads (rules terms) start hub.tree) journal journal refl (λ added refused. works_leads (rules terms) start (c ∷ due) hub on_hold added refused.works)
 
 -- one to which nothing is left to be sent isn't on hold, or is released
-pub stays_free : (limit : ℕ) (plan : Option Plan) (start : DirectoryEntries) (c : ℕ) (due on_hold : List ℕ) (hub : Held DirectoryEntries Requester) (journal : Option (List Item)) → is_listed c on_hold ≡ false →
-    Adds plan (IsSent limit start c due hub on_hold) (IsFree limit start c due hub on_hold) journal journal
-stays_free limit plan start c due on_hold hub journal free =
-    adds_nothing plan (IsSent limit start c due hub on_hold) (IsFree limit start c due hub on_hold) journal journal refl (λ added sent. record { sent = sent; free = free })
+pub stays_free : (terms : Terms) (plan : Option Plan) (start : DirectoryEntries) (c : ℕ) (due on_hold : List ℕ) (hub : Held DirectoryEntries Requester) (journal : Option (List Item)) → is_listed c on_hold ≡ false →
+    Adds plan (IsSent terms start c due hub on_hold) (IsFree terms start c due hub on_hold) journal journal
+stays_free terms plan start c due on_hold hub journal free =
+    adds_nothing plan (IsSent terms start c due hub on_hold) (IsFree terms start c due hub on_hold) journal journal refl (λ added sent. record { sent = sent; free = free })
 
-pub lets_go : (limit : ℕ) (E : Type 0) (plan : Option Plan) (start : DirectoryEntries) (c : ℕ) (due on_hold now : List ℕ) (hub : Held DirectoryEntries Requester) (before after : Option (List Item)) (done : Unit {0}) →
+pub lets_go : (terms : Terms) (E : Type 0) (plan : Option Plan) (start : DirectoryEntries) (c : ℕ) (due on_hold now : List ℕ) (hub : Held DirectoryEntries Requester) (before after : Option (List Item)) (done : Unit {0}) →
     NoteTells {T = Unit {0}} {E = E} before (item.Released c) (Ok done) after → Puts c false on_hold now →
-    Adds plan (IsSent limit start c due hub on_hold) (IsFree limit start c due hub now) before after
+    Adds plan (IsSent terms start c due hub on_hold) (IsFree terms start c due hub now) before after
 unfolding NoteTells
-lets_go limit E plan start c due on_hold now hub before after done tells puts =
-    adds_one plan (IsSent limit start c due hub on_hold) (IsFree limit start c due hub now) before after (item.Released c) tells (block_released plan c)
-    (λ added sent. record { sent = record { serving = works_released (rules limit) start c due hub on_hold now added sent.serving puts; empty = sent.empty }; free = puts.own })
+lets_go terms E plan start c due on_hold now hub before after done tells puts =
+    adds_one plan (IsSent terms start c due hub on_hold) (IsFree terms start c due hub now) before after (item.Released c) tells (block_released plan c)
+    (λ added sent. record { sent = record { serving = works_released (rules terms) start c due hub on_hold now added sent.serving puts; empty = sent.empty }; free = puts.own })
 
-pub not_let_go : {E : Type 0} (limit : ℕ) (plan : Option Plan) (start : DirectoryEntries) (c : ℕ) (due on_hold : List ℕ) (hub : Held DirectoryEntries Requester) (i : Item) (before after : Option (List Item)) (fault : E) →
-    NoteTells {T = Unit {0}} {E = E} before i (Err fault) after → Adds plan (IsSent limit start c due hub on_hold) (Leads (rules limit) start hub.tree) before after
+pub not_let_go : {E : Type 0} (terms : Terms) (plan : Option Plan) (start : DirectoryEntries) (c : ℕ) (due on_hold : List ℕ) (hub : Held DirectoryEntries Requester) (i : Item) (before after : Option (List Item)) (fault : E) →
+    NoteTells {T = Unit {0}} {E = E} before i (Err fault) after → Adds plan (IsSent terms start c due hub on_hold) (Leads (rules terms) start hub.tree) before after
 unfolding NoteTells
-not_let_go limit plan start c due on_hold hub i before after fault tells =
-    adds_nothing plan (IsSent limit start c due hub on_hold) (Leads (rules limit) start hub.tree) before after tells (λ added sent. works_leads (rules limit) start (c ∷ due) hub on_hold added sent.serving)
+not_let_go terms plan start c due on_hold hub i before after fault tells =
+    adds_nothing plan (IsSent terms start c due hub on_hold) (Leads (rules terms) start hub.tree) before after tells (λ added sent. works_leads (rules terms) start (c ∷ due) hub on_hold added sent.serving)
 
 -- one that isn't closing goes on, and one that is is hung up
-pub goes_on : (limit : ℕ) (plan : Option Plan) (start tree : DirectoryEntries) (c : ℕ) (due on_hold : List ℕ) (hub : HubState) (journal : Option (List Item)) → closing_of c hub.kept ≡ false →
-    Adds plan (IsFree limit start c due (held tree hub) on_hold) (IsServing limit start due (held tree hub) on_hold) journal journal
-goes_on limit plan start tree c due on_hold hub journal still =
-    adds_nothing plan (IsFree limit start c due (held tree hub) on_hold) (IsServing limit start due (held tree hub) on_hold) journal journal refl
-    (λ added free. works_sent (rules limit) start c due (held tree hub) on_hold added free.sent.serving free.sent.empty free.free still)
+pub goes_on : (terms : Terms) (plan : Option Plan) (start tree : DirectoryEntries) (c : ℕ) (due on_hold : List ℕ) (hub : HubState) (journal : Option (List Item)) → closing_of c hub.kept ≡ false →
+    Adds plan (IsFree terms start c due (held tree hub) on_hold) (IsServing terms start due (held tree hub) on_hold) journal journal
+goes_on terms plan start tree c due on_hold hub journal still =
+    adds_nothing plan (IsFree terms start c due (held tree hub) on_hold) (IsServing terms start due (held tree hub) on_hold) journal journal refl
+    (λ added free. works_sent (rules terms) start c due (held tree hub) on_hold added free.sent.serving free.sent.empty free.free still)
 
-pub hangs_up : (limit : ℕ) (E : Type 0) (plan : Option Plan) (start tree : DirectoryEntries) (c : ℕ) (due on_hold : List ℕ) (hub now : HubState) (before after : Option (List Item)) (done : Unit {0}) →
+pub hangs_up : (terms : Terms) (E : Type 0) (plan : Option Plan) (start tree : DirectoryEntries) (c : ℕ) (due on_hold : List ℕ) (hub now : HubState) (before after : Option (List Item)) (done : Unit {0}) →
     NoteTells {T = Unit {0}} {E = E} before (item.HungUp c) (Ok done) after → closing_of c hub.kept ≡ true → now ≡ record hub { kept = forgotten c hub.kept } →
-    Adds plan (IsFree limit start c due (held tree hub) on_hold) (IsServing limit start due (held tree now) on_hold) before after
+    Adds plan (IsFree terms start c due (held tree hub) on_hold) (IsServing terms start due (held tree now) on_hold) before after
 unfolding NoteTells
-hangs_up limit E plan start tree c due on_hold hub now before after done tells closing is =
-    subst (λ h. Adds plan (IsFree limit start c due (held tree hub) on_hold) (IsServing limit start due (held tree h) on_hold) before after) (sym is)
-    (adds_one plan (IsFree limit start c due (held tree hub) on_hold) (IsServing limit start due (held tree (record hub { kept = forgotten c hub.kept })) on_hold) before after (item.HungUp c) tells (block_hung_up plan c)
-    (λ added free. works_hung_up (rules limit) start c due (held tree hub) on_hold added free.sent.serving free.sent.empty free.free closing))
+hangs_up terms E plan start tree c due on_hold hub now before after done tells closing is =
+    subst (λ h. Adds plan (IsFree terms start c due (held tree hub) on_hold) (IsServing terms start due (held tree h) on_hold) before after) (sym is)
+    (adds_one plan (IsFree terms start c due (held tree hub) on_hold) (IsServing terms start due (held tree (record hub { kept = forgotten c hub.kept })) on_hold) before after (item.HungUp c) tells (block_hung_up plan c)
+    (λ added free. works_hung_up (rules terms) start c due (held tree hub) on_hold added free.sent.serving free.sent.empty free.free closing))
 
-pub not_hung_up : {E : Type 0} (limit : ℕ) (plan : Option Plan) (start : DirectoryEntries) (c : ℕ) (due on_hold : List ℕ) (hub : Held DirectoryEntries Requester) (before after : Option (List Item)) (fault : E) →
-    NoteTells {T = Unit {0}} {E = E} before (item.HungUp c) (Err fault) after → Adds plan (IsFree limit start c due hub on_hold) (Leads (rules limit) start hub.tree) before after
+pub not_hung_up : {E : Type 0} (terms : Terms) (plan : Option Plan) (start : DirectoryEntries) (c : ℕ) (due on_hold : List ℕ) (hub : Held DirectoryEntries Requester) (before after : Option (List Item)) (fault : E) →
+    NoteTells {T = Unit {0}} {E = E} before (item.HungUp c) (Err fault) after → Adds plan (IsFree terms start c due hub on_hold) (Leads (rules terms) start hub.tree) before after
 unfolding NoteTells
-not_hung_up limit plan start c due on_hold hub before after fault tells =
-    adds_nothing plan (IsFree limit start c due hub on_hold) (Leads (rules limit) start hub.tree) before after tells (λ added free. works_leads (rules limit) start (c ∷ due) hub on_hold added free.sent.serving)
+not_hung_up terms plan start c due on_hold hub before after fault tells =
+    adds_nothing plan (IsFree terms start c due hub on_hold) (Leads (rules terms) start hub.tree) before after tells (λ added free. works_leads (rules terms) start (c ∷ due) hub on_hold added free.sent.serving)
 
 -- one that was found lost is hung up
-pub drops : (limit : ℕ) (E : Type 0) (plan : Option Plan) (start tree : DirectoryEntries) (c : ℕ) (due on_hold now : List ℕ) (hub left : HubState) (before after : Option (List Item)) (done : Unit {0}) →
+pub drops : (terms : Terms) (E : Type 0) (plan : Option Plan) (start tree : DirectoryEntries) (c : ℕ) (due on_hold now : List ℕ) (hub left : HubState) (before after : Option (List Item)) (done : Unit {0}) →
     NoteTells {T = Unit {0}} {E = E} before (item.HungUp c) (Ok done) after → Puts c false on_hold now → left ≡ record hub { kept = forgotten c hub.kept } →
-    Adds plan (Lost (rules limit) start c due (held tree hub) on_hold) (IsServing limit start due (held tree left) now) before after
+    Adds plan (Lost (rules terms) start c due (held tree hub) on_hold) (IsServing terms start due (held tree left) now) before after
 unfolding NoteTells
-drops limit E plan start tree c due on_hold now hub left before after done tells puts is =
-    subst (λ h. Adds plan (Lost (rules limit) start c due (held tree hub) on_hold) (IsServing limit start due (held tree h) now) before after) (sym is)
-    (adds_one plan (Lost (rules limit) start c due (held tree hub) on_hold) (IsServing limit start due (held tree (record hub { kept = forgotten c hub.kept })) now) before after (item.HungUp c) tells (block_hung_up plan c)
-    (λ added lost. lost_hung_up (rules limit) start c due (held tree hub) on_hold now added lost puts))
+drops terms E plan start tree c due on_hold now hub left before after done tells puts is =
+    subst (λ h. Adds plan (Lost (rules terms) start c due (held tree hub) on_hold) (IsServing terms start due (held tree h) now) before after) (sym is)
+    (adds_one plan (Lost (rules terms) start c due (held tree hub) on_hold) (IsServing terms start due (held tree (record hub { kept = forgotten c hub.kept })) now) before after (item.HungUp c) tells (block_hung_up plan c)
+    (λ added lost. lost_hung_up (rules terms) start c due (held tree hub) on_hold now added lost puts))
 
-pub not_dropped : {E : Type 0} (limit : ℕ) (plan : Option Plan) (start : DirectoryEntries) (c : ℕ) (due on_hold : List ℕ) (hub : Held DirectoryEntries Requester) (before after : Option (List Item)) (fault : E) →
-    NoteTells {T = Unit {0}} {E = E} before (item.HungUp c) (Err fault) after → Adds plan (Lost (rules limit) start c due hub on_hold) (Leads (rules limit) start hub.tree) before after
+pub not_dropped : {E : Type 0} (terms : Terms) (plan : Option Plan) (start : DirectoryEntries) (c : ℕ) (due on_hold : List ℕ) (hub : Held DirectoryEntries Requester) (before after : Option (List Item)) (fault : E) →
+    NoteTells {T = Unit {0}} {E = E} before (item.HungUp c) (Err fault) after → Adds plan (Lost (rules terms) start c due hub on_hold) (Leads (rules terms) start hub.tree) before after
 unfolding NoteTells
-not_dropped limit plan start c due on_hold hub before after fault tells =
-    adds_nothing plan (Lost (rules limit) start c due hub on_hold) (Leads (rules limit) start hub.tree) before after tells (λ added lost. lost_leads (rules limit) start c due hub on_hold added lost)
+not_dropped terms plan start c due on_hold hub before after fault tells =
+    adds_nothing plan (Lost (rules terms) start c due hub on_hold) (Leads (rules terms) start hub.tree) before after tells (λ added lost. lost_leads (rules terms) start c due hub on_hold added lost)
 
 -- what the sending of a queue came to, by its answer
-pub sent_all : (limit : ℕ) (plan : Option Plan) (start : DirectoryEntries) (c : ℕ) (due on_hold : List ℕ) (hub : Held DirectoryEntries Requester) (P : List Item → Type 0) (a b : Option (List Item)) (s : Sent) → s ≡ sent.All →
-    Adds plan P (SentIs limit s start c due hub on_hold) a b → Adds plan P (IsSent limit start c due hub on_hold) a b
-sent_all limit plan start c due on_hold hub P a b s is adds = subst (λ x. Adds plan P (SentIs limit x start c due hub on_hold) a b) is adds
+pub sent_all : (terms : Terms) (plan : Option Plan) (start : DirectoryEntries) (c : ℕ) (due on_hold : List ℕ) (hub : Held DirectoryEntries Requester) (P : List Item → Type 0) (a b : Option (List Item)) (s : Sent) → s ≡ sent.All →
+    Adds plan P (SentIs terms s start c due hub on_hold) a b → Adds plan P (IsSent terms start c due hub on_hold) a b
+sent_all terms plan start c due on_hold hub P a b s is adds = subst (λ x. Adds plan P (SentIs terms x start c due hub on_hold) a b) is adds
 
-pub sent_later : (limit : ℕ) (plan : Option Plan) (start : DirectoryEntries) (c : ℕ) (due on_hold : List ℕ) (hub : Held DirectoryEntries Requester) (P : List Item → Type 0) (a b : Option (List Item)) (s : Sent) → s ≡ sent.Later →
-    Adds plan P (SentIs limit s start c due hub on_hold) a b → Adds plan P (Refused (rules limit) start c due hub on_hold) a b
-sent_later limit plan start c due on_hold hub P a b s is adds = subst (λ x. Adds plan P (SentIs limit x start c due hub on_hold) a b) is adds
+pub sent_later : (terms : Terms) (plan : Option Plan) (start : DirectoryEntries) (c : ℕ) (due on_hold : List ℕ) (hub : Held DirectoryEntries Requester) (P : List Item → Type 0) (a b : Option (List Item)) (s : Sent) → s ≡ sent.Later →
+    Adds plan P (SentIs terms s start c due hub on_hold) a b → Adds plan P (Refused (rules terms) start c due hub on_hold) a b
+sent_later terms plan start c due on_hold hub P a b s is adds = subst (λ x. Adds plan P (SentIs terms x start c due hub on_hold) a b) is adds
 
-pub sent_gone : (limit : ℕ) (plan : Option Plan) (start : DirectoryEntries) (c : ℕ) (due on_hold : List ℕ) (hub : Held DirectoryEntries Requester) (P : List Item → Type 0) (a b : Option (List Item)) (s : Sent) → s ≡ sent.Gone →
-    Adds plan P (SentIs limit s start c due hub on_hold) a b → Adds plan P (Lost (rules limit) start c due hub on_hold) a b
-sent_gone limit plan start c due on_hold hub P a b s is adds = subst (λ x. Adds plan P (SentIs limit x start c due hub on_hold) a b) is adds
+pub sent_gone : (terms : Terms) (plan : Option Plan) (start : DirectoryEntries) (c : ℕ) (due on_hold : List ℕ) (hub : Held DirectoryEntries Requester) (P : List Item → Type 0) (a b : Option (List Item)) (s : Sent) → s ≡ sent.Gone →
+    Adds plan P (SentIs terms s start c due hub on_hold) a b → Adds plan P (Lost (rules terms) start c due hub on_hold) a b
+sent_gone terms plan start c due on_hold hub P a b s is adds = subst (λ x. Adds plan P (SentIs terms x start c due hub on_hold) a b) is adds
 
 -- a list of those that are due, given by another
-pub due_as : (limit : ℕ) (plan : Option Plan) (start : DirectoryEntries) (due now on_hold : List ℕ) (hub : Held DirectoryEntries Requester) (P : List Item → Type 0) (a b : Option (List Item)) → Covers now due →
-    Adds plan P (IsServing limit start due hub on_hold) a b → Adds plan P (IsServing limit start now hub on_hold) a b
-due_as limit plan start due now on_hold hub P a b covers adds =
-    adds_as plan P P (IsServing limit start due hub on_hold) (IsServing limit start now hub on_hold) a b (λ _ holds. holds) (λ added works. works_as (rules limit) start due now hub on_hold added covers works) adds
+pub due_as : (terms : Terms) (plan : Option Plan) (start : DirectoryEntries) (due now on_hold : List ℕ) (hub : Held DirectoryEntries Requester) (P : List Item → Type 0) (a b : Option (List Item)) → Covers now due →
+    Adds plan P (IsServing terms start due hub on_hold) a b → Adds plan P (IsServing terms start now hub on_hold) a b
+due_as terms plan start due now on_hold hub P a b covers adds =
+    adds_as plan P P (IsServing terms start due hub on_hold) (IsServing terms start now hub on_hold) a b (λ _ holds. holds) (λ added works. works_as (rules terms) start due now hub on_hold added covers works) adds
 
 -- what serves the next that is due, by the lists of those that are
-pub next_goes : (limit : ℕ) (plan mid : Option Plan) (start : DirectoryEntries) (c : ℕ) (due rest on_hold held_next : List ℕ) (hub : Held DirectoryEntries Requester) (P R : List Item → Type 0) (a b d : Option (List Item)) → mid ≡ plan →
-    Covers (c ∷ rest) due → held_next ≡ on_hold → Adds plan P (IsServing limit start due hub on_hold) a b → Adds mid (IsServing limit start (c ∷ rest) hub held_next) R b d → Adds plan P R a d
-next_goes limit plan mid start c due rest on_hold held_next hub P R a b d same covers stays first second =
-    adds_after plan mid P (IsServing limit start (c ∷ rest) hub held_next) R a b d same
-    (subst (λ xs. Adds plan P (IsServing limit start (c ∷ rest) hub xs) a b) (sym stays) (due_as limit plan start due (c ∷ rest) on_hold hub P a b covers first)) second
+pub next_goes : (terms : Terms) (plan mid : Option Plan) (start : DirectoryEntries) (c : ℕ) (due rest on_hold held_next : List ℕ) (hub : Held DirectoryEntries Requester) (P R : List Item → Type 0) (a b d : Option (List Item)) → mid ≡ plan →
+    Covers (c ∷ rest) due → held_next ≡ on_hold → Adds plan P (IsServing terms start due hub on_hold) a b → Adds mid (IsServing terms start (c ∷ rest) hub held_next) R b d → Adds plan P R a d
+next_goes terms plan mid start c due rest on_hold held_next hub P R a b d same covers stays first second =
+    adds_after plan mid P (IsServing terms start (c ∷ rest) hub held_next) R a b d same
+    (subst (λ xs. Adds plan P (IsServing terms start (c ∷ rest) hub xs) a b) (sym stays) (due_as terms plan start due (c ∷ rest) on_hold hub P a b covers first)) second
 
-pub left_due : (limit : ℕ) (plan : Option Plan) (start : DirectoryEntries) (rest left on_hold : List ℕ) (hub : Held DirectoryEntries Requester) (P : List Item → Type 0) (a b : Option (List Item)) → left ≡ rest →
-    Adds plan P (IsServing limit start rest hub on_hold) a b → Adds plan P (IsServing limit start left hub on_hold) a b
-left_due limit plan start rest left on_hold hub P a b is adds = subst (λ xs. Adds plan P (IsServing limit start xs hub on_hold) a b) (sym is) adds
+pub left_due : (terms : Terms) (plan : Option Plan) (start : DirectoryEntries) (rest left on_hold : List ℕ) (hub : Held DirectoryEntries Requester) (P : List Item → Type 0) (a b : Option (List Item)) → left ≡ rest →
+    Adds plan P (IsServing terms start rest hub on_hold) a b → Adds plan P (IsServing terms start left hub on_hold) a b
+left_due terms plan start rest left on_hold hub P a b is adds = subst (λ xs. Adds plan P (IsServing terms start xs hub on_hold) a b) (sym is) adds
 
 -- nobody is due any more
-pub none_due : (limit : ℕ) (plan : Option Plan) (start : DirectoryEntries) (due on_hold now : List ℕ) (hub : Held DirectoryEntries Requester) (P : List Item → Type 0) (a b : Option (List Item)) → due ≡ [] → now ≡ on_hold →
-    Adds plan P (IsServing limit start due hub on_hold) a b → Adds plan P (IsServing limit start [] hub now) a b
-none_due limit plan start due on_hold now hub P a b none stays adds =
-    subst (λ xs. Adds plan P (IsServing limit start [] hub xs) a b) (sym stays) (subst (λ xs. Adds plan P (IsServing limit start xs hub on_hold) a b) none adds)
+pub none_due : (terms : Terms) (plan : Option Plan) (start : DirectoryEntries) (due on_hold now : List ℕ) (hub : Held DirectoryEntries Requester) (P : List Item → Type 0) (a b : Option (List Item)) → due ≡ [] → now ≡ on_hold →
+    Adds plan P (IsServing terms start due hub on_hold) a b → Adds plan P (IsServing terms start [] hub now) a b
+none_due terms plan start due on_hold now hub P a b none stays adds =
+    subst (λ xs. Adds plan P (IsServing terms start [] hub xs) a b) (sym stays) (subst (λ xs. Adds plan P (IsServing terms start xs hub on_hold) a b) none adds)

@@ -2,15 +2,19 @@
 use Rattle.std.specs.Prelude.{◌≡◌, ◌⊎◌, ℕ, List, [], ◌++◌}
 use Rattle.session_model.specs.Kept.{Kept, heard_piece}
 use Rattle.session_hub.specs.Parties.{DirectoryEntries, Requester}
+use Rattle.session_hub.specs.Terms.{Terms}
 use Rattle.session_hub.specs.declared.spoken.SpeechEnd.{SpeechEnd}
 use Rattle.session_hub.specs.declared.spoken.SpeechEnd.TheVariants.{StaysOpen, Closes, IsCut, IsFull}
 use Rattle.session_hub.specs.Answering.{rules}
 use Rattle.session_hub.specs.Answers.{said_to}
 
--- what is said to an open connection's unread octets and a piece, up to where it was then cut, is queued and done
-pub record HearsPiece (limit : ℕ) (piece : List ℕ) (before : DirectoryEntries) (old : Kept Requester) (after : DirectoryEntries) (new : Kept Requester) : Type 0 where
-  pub kept : new ≡ heard_piece (rules limit) piece new.cut old (said_to limit new.cut before old.who (old.rest ++ piece))
-  pub entries : after ≡ (said_to limit new.cut before old.who (old.rest ++ piece)).tree
+-- what is said to an open connection's unread octets and a piece, up to where it was then cut, is queued and done, and the
+-- changes are recorded behind those that aren't stored yet
+pub record HearsPiece (terms : Terms) (piece : List ℕ) (before : DirectoryEntries) (old : Kept Requester) (unstored : List ℕ)
+    (after : DirectoryEntries) (new : Kept Requester) (unstored_after : List ℕ) : Type 0 where
+  pub kept : new ≡ heard_piece (rules terms) piece new.cut old (said_to terms new.cut before old.who (old.rest ++ piece))
+  pub changes : unstored_after ≡ unstored ++ (said_to terms new.cut before old.who (old.rest ++ piece)).changes
+  pub entries : after ≡ (said_to terms new.cut before old.who (old.rest ++ piece)).tree
 
 -- what was unread stays where the connection does, and else nothing; where there is no room for it the connection is cut
 abbrev pub KeepsRest : SpeechEnd → List ℕ → List ℕ → SpeechEnd → Type 0

@@ -9,6 +9,7 @@ use Rattle.session_model.specs.Keeping.{Keeps, IsNew, more_taken}
 use Rattle.session_model.specs.Replaying.{is_closing}
 use Rattle.session_model.specs.Places.{asker_of}
 use Rattle.session_hub.specs.Parties.{DirectoryEntries, Requester}
+use Rattle.session_hub.specs.Terms.{Terms}
 use Rattle.session_hub.specs.Answering.{rules}
 use Rattle.session_hub.specs.hub.Hubs.{HubState, held, left_of}
 
@@ -18,16 +19,16 @@ IsHeldOf sessions taken kept = Keeps sessions taken kept
 
 -- the sessions before any step, of whose replies nothing was taken
 unfoldable pub FollowsStart : HubState → Type 0
-FollowsStart hub = (entries : DirectoryEntries) → IsHeldOf (start (rules hub.bounds.limit) entries) (λ number. 0) (held entries hub)
+FollowsStart hub = (entries : DirectoryEntries) → IsHeldOf (start (rules hub.bounds.terms) entries) (λ number. 0) (held entries hub)
 
 -- a step that opens no number twice leaves the sessions of a run after it, with as much taken as before
-unfoldable pub FollowsStep : ℕ → Step → Held DirectoryEntries Requester → Held DirectoryEntries Requester → Type 0
-FollowsStep limit next old new =
-    (sessions : Sessions DirectoryEntries Requester) (taken : ℕ → ℕ) → IsNew sessions next → IsHeldOf sessions taken old → IsHeldOf (step (rules limit) sessions next) taken new
+unfoldable pub FollowsStep : Terms → Step → Held DirectoryEntries Requester → Held DirectoryEntries Requester → Type 0
+FollowsStep terms next old new =
+    (sessions : Sessions DirectoryEntries Requester) (taken : ℕ → ℕ) → IsNew sessions next → IsHeldOf sessions taken old → IsHeldOf (step (rules terms) sessions next) taken new
 
 -- the same, whatever the entries are
 abbrev pub FollowsAnywhere : Step → HubState → HubState → Type 0
-FollowsAnywhere next old new = (entries : DirectoryEntries) → FollowsStep old.bounds.limit next (held entries old) (held entries new)
+FollowsAnywhere next old new = (entries : DirectoryEntries) → FollowsStep old.bounds.terms next (held entries old) (held entries new)
 
 -- so many more octets of one connection's reply were taken, of the same sessions
 unfoldable pub FollowsTaking : ℕ → ℕ → HubState → HubState → Type 0

@@ -4,6 +4,7 @@ use Rattle.std.specs.List.{AllByRecursion}
 use Rattle.session_model.specs.Run.{Session, Bytes, is_held, most_held}
 use Rattle.session_model.specs.Kept.{Kept, Held, heard, kept_of, is_kept, cut_of, changed}
 use Rattle.session_hub.specs.Parties.{DirectoryEntries, Requester}
+use Rattle.session_hub.specs.Terms.{Terms}
 use Rattle.session_hub.specs.declared.bounds.Bounds.{Bounds}
 use Rattle.session_hub.specs.declared.event.Event.{Event}
 use Rattle.session_hub.specs.declared.event.Event.TheVariants as event
@@ -11,33 +12,37 @@ use Rattle.session_hub.specs.Answering.{rules}
 use Rattle.session_hub.specs.Event.{step_by, new_cut}
 use Rattle.session_hub.specs.connection.Limits.{most_unread}
 
--- the connections held, whether any connection was cut so far, and what is bounded, which stays
+-- the connections held, whether any connection was cut so far, the octets of the changes that aren't stored yet, and what is
+-- bounded, which stays
 pub record HubState : Type 0 where
   pub kept : List (Kept Requester)
   pub was_cut : Bool
+  pub unstored : List ℕ
   pub bounds : Bounds
 
 -- what a hub holds, with the entries of the directory
 abbrev pub held : DirectoryEntries → HubState → Held DirectoryEntries Requester
-held entries hub = record { tree = entries; kept = hub.kept; was_cut = hub.was_cut }
+held entries hub = record { tree = entries; kept = hub.kept; was_cut = hub.was_cut; unstored = hub.unstored }
 
 -- a hub that holds nothing, with these bounds
 abbrev pub no_hub : Bounds → HubState
-no_hub bounds = record { kept = []; was_cut = false; bounds = bounds }
+no_hub bounds = record { kept = []; was_cut = false; unstored = []; bounds = bounds }
 
 -- an event was heard: what is held is what the event's step leaves, cut where the hub tells it
-pub record Hears (limit : ℕ) (came : Event) (old new : Held DirectoryEntries Requester) : Type 0 where
-  pub same : new ≡ heard (rules limit) (step_by came old.kept new.kept) old
+pub record Hears (terms : Terms) (came : Event) (old new : Held DirectoryEntries Requester) : Type 0 where
+  pub same : new ≡ heard (rules terms) (step_by came old.kept new.kept) old
 
 -- the same, whatever the entries are, which stay
 abbrev pub HearsAnywhere : Event → HubState → HubState → Type 0
-HearsAnywhere came old new = (entries : DirectoryEntries) → Hears old.bounds.limit came (held entries old) (held entries new)
+HearsAnywhere came old new = (entries : DirectoryEntries) → Hears old.bounds.terms came (held entries old) (held entries new)
 
 -- a piece was heard by the connection of a number, if it is held and open; whether it was cut is told
-pub record HearsAt (limit : ℕ) (number : ℕ) (piece : List ℕ) (before : DirectoryEntries) (old : List (Kept Requester)) (after : DirectoryEntries) (new : List (Kept Requester)) (was_cut : Bool) : Type 0 where
+pub record HearsAt (terms : Terms) (number : ℕ) (piece : List ℕ) (before : DirectoryEntries) (old : List (Kept Requester)) (unstored : List ℕ)
+    (after : DirectoryEntries) (new : List (Kept Requester)) (unstored_after : List ℕ) (was_cut : Bool) : Type 0 where
   pub same : (cut_before : Bool) →
       let cut = new_cut (kept_of number old) (cut_of number new) in
-      record { tree = after; kept = new; was_cut = cut_before || was_cut } ≡ heard (rules limit) (Bytes number piece cut) (record { tree = before; kept = old; was_cut = cut_before })
+      record { tree = after; kept = new; was_cut = cut_before || was_cut; unstored = unstored_after }
+      ≡ heard (rules terms) (Bytes number piece cut) (record { tree = before; kept = old; was_cut = cut_before; unstored = unstored })
 
 -- the event opens a connection that is then held
 abbrev pub OpensOne : Event → List (Kept Requester) → Type 0

@@ -14,8 +14,9 @@ use Rattle.session_model.specs.Serving.{Served, Leads}
 use Rattle.session_model.specs.Replaying.{IsReplay}
 use Rattle.session_model.specs.AnsweredMessages.{answered_of_run}
 use Rattle.session_hub.specs.Parties.{DirectoryEntries}
+use Rattle.session_hub.specs.Terms.{Terms}
 use Rattle.session_hub.specs.declared.ended.Ended.{Ended}
-use Rattle.session_hub.specs.declared.ended.Ended.TheVariants.{Stopped, TurnsSpent, LinkFault, NoMemory}
+use Rattle.session_hub.specs.declared.ended.Ended.TheVariants.{Stopped, TurnsSpent, LinkFault, StoreFault, NoMemory}
 use Rattle.session_hub.specs.Answering.{rules}
 use Rattle.session_hub.specs.Twins.{IsOverTwins}
 
@@ -29,48 +30,52 @@ abbrev pub EndsAt : ℕ → List Item → Ended → Type 0
 EndsAt turns added Stopped = (was_stopped added ≡ true) × (length (heard added) ≤ turns)
 EndsAt turns added TurnsSpent = (was_stopped added ≡ false) × (length (heard added) ≡ turns)
 EndsAt turns added LinkFault = (was_stopped added ≡ false) × (length (heard added) < turns)
+EndsAt turns added StoreFault = length (heard added) ≤ turns
 EndsAt turns added NoMemory = length (heard added) ≤ turns
 
 -- the journal serves its connections by its own steps from nothing and from these entries, and those left are what the
 -- steps leave
-pub record IsServed (limit : ℕ) (entries left : DirectoryEntries) (added : List Item) : Type 0 where
-  pub served : Served (rules limit) entries (steps_of added) added
-  pub entries_left : left ≡ (run (rules limit) entries (steps_of added)).tree
+pub record IsServed (terms : Terms) (entries left : DirectoryEntries) (added : List Item) : Type 0 where
+  pub served : Served (rules terms) entries (steps_of added) added
+  pub entries_left : left ≡ (run (rules terms) entries (steps_of added)).tree
 
 -- nothing was cut; with NoMemory connections may have been, each once, for want of memory or since more waited for them than
--- they have room for, and the last block may be unfinished
-abbrev pub ServedAs : ℕ → DirectoryEntries → DirectoryEntries → List Item → Ended → Type 0
-ServedAs limit entries left added Stopped = IsServed limit entries left added
-ServedAs limit entries left added TurnsSpent = IsServed limit entries left added
-ServedAs limit entries left added LinkFault = IsServed limit entries left added
-ServedAs limit entries left added NoMemory = Leads (rules limit) entries left added
+-- they have room for, and the last block may be unfinished; so it is with StoreFault
+abbrev pub ServedAs : Terms → DirectoryEntries → DirectoryEntries → List Item → Ended → Type 0
+ServedAs terms entries left added Stopped = IsServed terms entries left added
+ServedAs terms entries left added TurnsSpent = IsServed terms entries left added
+ServedAs terms entries left added LinkFault = IsServed terms entries left added
+ServedAs terms entries left added StoreFault = Leads (rules terms) entries left added
+ServedAs terms entries left added NoMemory = Leads (rules terms) entries left added
 
 -- the journal is that of its events replayed
-abbrev pub ReplayedAs : ℕ → DirectoryEntries → List Item → Ended → Type 0
-ReplayedAs limit entries added Stopped = IsReplay (rules limit) entries (steps_of added) added
-ReplayedAs limit entries added TurnsSpent = IsReplay (rules limit) entries (steps_of added) added
-ReplayedAs limit entries added LinkFault = IsReplay (rules limit) entries (steps_of added) added
-ReplayedAs limit entries added NoMemory = Unit {0}
+abbrev pub ReplayedAs : Terms → DirectoryEntries → List Item → Ended → Type 0
+ReplayedAs terms entries added Stopped = IsReplay (rules terms) entries (steps_of added) added
+ReplayedAs terms entries added TurnsSpent = IsReplay (rules terms) entries (steps_of added) added
+ReplayedAs terms entries added LinkFault = IsReplay (rules terms) entries (steps_of added) added
+ReplayedAs terms entries added StoreFault = Unit {0}
+ReplayedAs terms entries added NoMemory = Unit {0}
 
 -- what a link added in a loop of so many turns: the answer is one that its events have, and its connections were served;
 -- where each write took octets, that is its events replayed
-pub record ServesAll (limit : ℕ) (entries left : DirectoryEntries) (turns : ℕ) (added : List Item) (ended : Ended) : Type 0 where
+pub record ServesAll (terms : Terms) (entries left : DirectoryEntries) (turns : ℕ) (added : List Item) (ended : Ended) : Type 0 where
   pub ends : EndsAt turns added ended
-  pub served : ServedAs limit entries left added ended
-  pub replayed : all_taken added ≡ true → ReplayedAs limit entries added ended
+  pub served : ServedAs terms entries left added ended
+  pub replayed : all_taken added ≡ true → ReplayedAs terms entries added ended
 
 -- the same of any journal that the link tells
-unfoldable pub Serves : ℕ → DirectoryEntries → DirectoryEntries → ℕ → Option (List Item) → Ended → Option (List Item) → Type 0
-Serves limit entries left turns before ended after =
-    (begun : List Item) → before ≡ Some begun → (added : List Item) × (after ≡ Some (begun ++ added)) × ServesAll limit entries left turns added ended
+unfoldable pub Serves : Terms → DirectoryEntries → DirectoryEntries → ℕ → Option (List Item) → Ended → Option (List Item) → Type 0
+Serves terms entries left turns before ended after =
+    (begun : List Item) → before ≡ Some begun → (added : List Item) × (after ≡ Some (begun ++ added)) × ServesAll terms entries left turns added ended
 
 -- where nothing was cut, the journal serves its connections over other entries too, where each message that its steps answer is
 -- answered over twins
-abbrev pub ServesTwins : ℕ → DirectoryEntries → Option (List Item) → Ended → Option (List Item) → Type 0
-ServesTwins limit entries before ended after =
-    (begun added : List Item) (other : DirectoryEntries) (top : RdnSequence) → before ≡ Some begun → after ≡ Some (begun ++ added) → (ended ≡ NoMemory → ⊥) →
-    AllByRecursion (IsOverTwins other top) (answered_of_run (rules limit) (start (rules limit) entries) (steps_of added)) →
-    Served (rules limit) other (steps_of added) added
+abbrev pub ServesTwins : Terms → DirectoryEntries → Option (List Item) → Ended → Option (List Item) → Type 0
+ServesTwins terms entries before ended after =
+    (begun added : List Item) (other : DirectoryEntries) (top : RdnSequence) → before ≡ Some begun → after ≡ Some (begun ++ added) →
+    (ended ≡ NoMemory → ⊥) → (ended ≡ StoreFault → ⊥) →
+    AllByRecursion (IsOverTwins other top) (answered_of_run (rules terms) (start (rules terms) entries) (steps_of added)) →
+    Served (rules terms) other (steps_of added) added
 
 -- a link that plays a plan: the events heard brought the plan on, to its end with Stopped; where no calls are planned
 -- that take nothing, each write took octets and, where no connection was on hold, each event but Stop brought the plan on
@@ -91,13 +96,14 @@ abbrev pub MayFail : Option Plan → Type 0
 MayFail None = Unit {0}
 MayFail (Some plan) = plan.failing ≡ [] → ⊥
 
--- a fault of the link comes exactly where its count of faults rose, and never where a plan has no failing calls; with want
--- of memory it may have come as well
-unfoldable pub EndsFor : Option Plan → ℕ → ℕ → Ended → Type 0
-EndsFor plan before after LinkFault = Rose before after × MayFail plan
-EndsFor plan before after Stopped = after ≡ before
-EndsFor plan before after TurnsSpent = after ≡ before
-EndsFor plan before after NoMemory = NeverFalls before after
+-- a fault of the link comes exactly where its count of faults rose, and never where a plan has no failing calls, and one of
+-- its store where changes are kept alone; with want of memory it may have come as well
+unfoldable pub EndsFor : Bool → Option Plan → ℕ → ℕ → Ended → Type 0
+EndsFor keeps plan before after LinkFault = Rose before after × MayFail plan
+EndsFor keeps plan before after StoreFault = Rose before after × MayFail plan × (keeps ≡ true)
+EndsFor keeps plan before after Stopped = after ≡ before
+EndsFor keeps plan before after TurnsSpent = after ≡ before
+EndsFor keeps plan before after NoMemory = NeverFalls before after
 
 -- the answer of a loop in which a connection was cut
 abbrev pub ends_with : Bool → Ended → Ended

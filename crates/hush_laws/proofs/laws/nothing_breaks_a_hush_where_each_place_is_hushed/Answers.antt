@@ -8,12 +8,12 @@ use Rattle.hush_laws.proofs.laws.nothing_breaks_a_hush_where_each_place_is_hushe
 pub returns : goal.returns
 unfolding hush_of_run hush_of_replay
 returns c = record {
-  run = λ limit entries steps number top good. (
-    hushed-from_none top entries (places (rules limit) number entries steps) (c.sessions_keep_a_directory_good.ensures.places limit number entries steps good),
-    none-from_hushed top entries (places (rules limit) number entries steps),
+  run = λ terms entries steps number top good. (
+    hushed-from_none top entries (places (rules terms) number entries steps) (c.sessions_keep_a_directory_good.ensures.places terms number entries steps good),
+    none-from_hushed top entries (places (rules terms) number entries steps),
   );
-  replay = λ limit entries events number top good. (
-    hushed-from_none top entries (places_of_replay (rules limit) number entries events) (c.sessions_keep_a_directory_good.ensures.replay_places limit number entries events good),
-    none-from_hushed top entries (places_of_replay (rules limit) number entries events),
+  replay = λ terms entries events number top good. (
+    hushed-from_none top entries (places_of_replay (rules terms) number entries events) (c.sessions_keep_a_directory_good.ensures.replay_places terms number entries events good),
+    none-from_hushed top entries (places_of_replay (rules terms) number entries events),
   );
 }

@@ -10,33 +10,33 @@ use Rattle.session_hub.proofs.block.begin_block.Goals as goal
 -- a connection opened
 pub returns-in-Opened-clause-adds : goal.returns-in-Opened-clause-adds
 unfolding event_of
-returns-in-Opened-clause-adds g c = λ start. as_heard c.args.hub.now.bounds.limit _ start _ _ _ _ _ _ _ (ap (event_of c.args.buffer.now) c.in-Opened.is) (c.greet.ensures.adds start)
+returns-in-Opened-clause-adds g c = λ start. as_heard c.args.hub.now.bounds.terms _ start _ _ _ _ _ _ _ (ap (event_of c.args.buffer.now) c.in-Opened.is) (c.greet.ensures.adds start)
 
 -- octets came
 pub returns-in-Bytes-clause-adds : goal.returns-in-Bytes-clause-adds
 unfolding event_of
 returns-in-Bytes-clause-adds g c = λ start.
-    as_heard c.args.hub.now.bounds.limit _ start _ _ _ _ _ _ _ (ap (event_of c.args.buffer.now) c.in-Bytes.is ∙ ap (λ octets. event.Bytes c.in-Bytes.conn octets) (sym c.split_at.ensures.front))
+    as_heard c.args.hub.now.bounds.terms _ start _ _ _ _ _ _ _ (ap (event_of c.args.buffer.now) c.in-Bytes.is ∙ ap (λ octets. event.Bytes c.in-Bytes.conn octets) (sym c.split_at.ensures.front))
     (adds_nothing _ _ _ _ _ refl (c.hear_on.ensures.leads start))
 
 -- the peer sends no more
 pub returns-in-Ended-clause-adds : goal.returns-in-Ended-clause-adds
 unfolding event_of
-returns-in-Ended-clause-adds g c = λ start. as_heard c.args.hub.now.bounds.limit _ start _ _ _ _ _ _ _ (ap (event_of c.args.buffer.now) c.in-Ended.is) (adds_nothing _ _ _ _ _ refl (c.hear_on-in-Ended.ensures.leads start))
+returns-in-Ended-clause-adds g c = λ start. as_heard c.args.hub.now.bounds.terms _ start _ _ _ _ _ _ _ (ap (event_of c.args.buffer.now) c.in-Ended.is) (adds_nothing _ _ _ _ _ refl (c.hear_on-in-Ended.ensures.leads start))
 
 -- events that are no step of a session
 pub returns-in-Ready-clause-adds : goal.returns-in-Ready-clause-adds
 unfolding event_of
 returns-in-Ready-clause-adds g c = λ start.
-    idle_goes c.args.hub.now.bounds.limit _ c.begin.result start (event.Ready c.in-Ready.field-0) _ (held (entries_of (g.D.Dir.rows c.args.dir.now)) c.args.hub.now) _ _ _ _ (ap (event_of c.args.buffer.now) c.in-Ready.is) refl (opens_none-ready c.in-Ready.field-0)
+    idle_goes c.args.hub.now.bounds.terms _ c.begin.result start (event.Ready c.in-Ready.field-0) _ (held (entries_of (g.D.Dir.rows c.args.dir.now)) c.args.hub.now) _ _ _ _ (ap (event_of c.args.buffer.now) c.in-Ready.is) refl (opens_none-ready c.in-Ready.field-0)
     c.begin.ensures.on_hold c.begin.ensures.ok
 
 pub returns-in-Idle-clause-adds : goal.returns-in-Idle-clause-adds
 unfolding event_of
 returns-in-Idle-clause-adds g c = λ start.
-    idle_goes c.args.hub.now.bounds.limit _ c.begin-in-Idle.result start event.Idle _ (held (entries_of (g.D.Dir.rows c.args.dir.now)) c.args.hub.now) _ _ _ _ (ap (event_of c.args.buffer.now) c.in-Idle.is) refl opens_none-idle c.begin-in-Idle.ensures.on_hold c.begin-in-Idle.ensures.ok
+    idle_goes c.args.hub.now.bounds.terms _ c.begin-in-Idle.result start event.Idle _ (held (entries_of (g.D.Dir.rows c.args.dir.now)) c.args.hub.now) _ _ _ _ (ap (event_of c.args.buffer.now) c.in-Idle.is) refl opens_none-idle c.begin-in-Idle.ensures.on_hold c.begin-in-Idle.ensures.ok
 
 pub returns-in-Stop-clause-adds : goal.returns-in-Stop-clause-adds
 unfolding event_of
 returns-in-Stop-clause-adds g c = λ start.
-    idle_goes c.args.hub.now.bounds.limit _ c.begin-in-Stop.result start event.Stop _ (held (entries_of (g.D.Dir.rows c.args.dir.now)) c.args.hub.now) _ _ _ _ (ap (event_of c.args.buffer.now) c.in-Stop.is) refl opens_none-stop c.begin-in-Stop.ensures.on_hold c.begin-in-Stop.ensures.ok
+    idle_goes c.args.hub.now.bounds.terms _ c.begin-in-Stop.result start event.Stop _ (held (entries_of (g.D.Dir.rows c.args.dir.now)) c.args.hub.now) _ _ _ _ (ap (event_of c.args.buffer.now) c.in-Stop.is) refl opens_none-stop c.begin-in-Stop.ensures.on_hold c.begin-in-Stop.ensures.ok

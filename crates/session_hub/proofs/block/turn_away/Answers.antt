@@ -3,8 +3,8 @@ use Rattle.session_hub.proofs.block.turn_away.Goals as goal
 
 -- it is hung up
 pub returns-in-Ok-clause-adds : goal.returns-in-Ok-clause-adds
-returns-in-Ok-clause-adds g c = λ limit start tree. turned_goes limit _ _ c.begin.result start tree c.args.conn c.args.hub.now _ _ _ _ _ _ _ c.in-Ok.ensures.tells c.drop_conn.ensures.exact c.begin.ensures.on_hold c.begin.ensures.ok
+returns-in-Ok-clause-adds g c = λ terms start tree. turned_goes terms _ _ c.begin.result start tree c.args.conn c.args.hub.now _ _ _ _ _ _ _ c.in-Ok.ensures.tells c.drop_conn.ensures.exact c.begin.ensures.on_hold c.begin.ensures.ok
 
 -- there was no memory
 pub returns-in-Err-clause-adds : goal.returns-in-Err-clause-adds
-returns-in-Err-clause-adds g c = λ limit start tree. not_turned limit _ start tree c.args.conn c.args.hub.now _ _ _ _ c.in-Err.ensures.tells
+returns-in-Err-clause-adds g c = λ terms start tree. not_turned terms _ start tree c.args.conn c.args.hub.now _ _ _ _ c.in-Err.ensures.tells

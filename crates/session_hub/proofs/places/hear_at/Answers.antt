@@ -13,15 +13,15 @@ use Rattle.session_hub.proofs.places.hear_at.Goals as goal
 
 -- the connection isn't held
 pub returns-in-None-clause-exact : goal.returns-in-None-clause-exact
-returns-in-None-clause-exact g c = hears_nowhere c.args.allowed.limit c.args.number c.args.piece.now (entries_of (g.D.Dir.rows c.args.dir.now)) c.args.connections.now c.in-None.ensures
+returns-in-None-clause-exact g c = hears_nowhere c.args.allowed.terms c.args.number c.args.piece.now (entries_of (g.D.Dir.rows c.args.dir.now)) c.args.connections.now c.args.changes.now.items c.in-None.ensures
 
 -- it is closing
 pub returns-then-is_closing-clause-exact : goal.returns-then-is_closing-clause-exact
 returns-then-is_closing-clause-exact g c =
     let at = c.in-Some.at in
     let k = c.index-connections-at.result in
-    subst (λ ks. HearsAt c.args.allowed.limit c.args.number c.args.piece.now (entries_of (g.D.Dir.rows c.args.dir.now)) c.args.connections.now (entries_of (g.D.Dir.rows c.args.dir.now)) ks _) (sym (set-get_or c.args.connections.now at k))
-    (hears_closing c.args.allowed.limit c.args.number at c.args.piece.now (entries_of (g.D.Dir.rows c.args.dir.now)) c.args.connections.now k c.in-Some.ensures c.index-connections-at.is
+    subst (λ ks. HearsAt c.args.allowed.terms c.args.number c.args.piece.now (entries_of (g.D.Dir.rows c.args.dir.now)) c.args.connections.now c.args.changes.now.items (entries_of (g.D.Dir.rows c.args.dir.now)) ks c.args.changes.now.items _) (sym (set-get_or c.args.connections.now at k))
+    (hears_closing c.args.allowed.terms c.args.number at c.args.piece.now (entries_of (g.D.Dir.rows c.args.dir.now)) c.args.connections.now c.args.changes.now.items k c.in-Some.ensures c.index-connections-at.is
     (ap (λ (x : Kept Requester). x.closing) c.index-connections-at.is ∙ sym c.is_closing.ensures ∙ c.if-is_closing.true))
 
 -- it is open
@@ -29,9 +29,9 @@ pub returns-else-is_closing-clause-exact : goal.returns-else-is_closing-clause-e
 returns-else-is_closing-clause-exact g c =
     let at = c.in-Some.at in
     let k = c.index-connections-at.result in
-    hears_open c.args.allowed.limit c.args.number at c.args.piece.now (entries_of (g.D.Dir.rows c.args.dir.now)) _ c.args.connections.now k c.hear.new.self _ c.in-Some.ensures c.index-connections-at.is
+    hears_open c.args.allowed.terms c.args.number at c.args.piece.now (entries_of (g.D.Dir.rows c.args.dir.now)) _ c.args.connections.now k c.hear.new.self c.args.changes.now.items _ _ c.in-Some.ensures c.index-connections-at.is
     (ap (λ (x : Kept Requester). x.closing) c.index-connections-at.is ∙ sym c.is_closing.ensures ∙ c.if-is_closing.false)
-    (subst (λ x. HearsPiece c.args.allowed.limit c.args.piece.now (entries_of (g.D.Dir.rows c.args.dir.now)) x (entries_of (g.D.Dir.rows c.hear.new.dir)) c.hear.new.self) (sym c.index-connections-at.is) c.hear.ensures.exact)
+    (subst (λ x. HearsPiece c.args.allowed.terms c.args.piece.now (entries_of (g.D.Dir.rows c.args.dir.now)) x c.args.changes.now.items (entries_of (g.D.Dir.rows c.hear.new.dir)) c.hear.new.self c.hear.new.changes.items) (sym c.index-connections-at.is) c.hear.ensures.exact)
     (c.is_some.ensures ∙ is_some_cut c.cut.result ∙ ap is_cut c.cut.ensures)
 
 -- the connection that was looked at is as it was
@@ -50,15 +50,15 @@ returns-else-is_closing-clause-distinct g c =
 
 -- the piece is answered within the room, if the connection is held and open
 pub returns-in-None-clause-room : goal.returns-in-None-clause-room
-returns-in-None-clause-room g c = answers_nowhere c.args.allowed.limit c.args.allowed.room c.args.number c.args.piece.now (entries_of (g.D.Dir.rows c.args.dir.now)) c.args.connections.now c.args.connections.now c.in-None.ensures
+returns-in-None-clause-room g c = answers_nowhere c.args.allowed.terms c.args.allowed.room c.args.number c.args.piece.now (entries_of (g.D.Dir.rows c.args.dir.now)) c.args.connections.now c.args.connections.now c.in-None.ensures
 
 pub returns-then-is_closing-clause-room : goal.returns-then-is_closing-clause-room
 returns-then-is_closing-clause-room g c =
-    answers_closing c.args.allowed.limit c.args.allowed.room c.args.number c.in-Some.at c.args.piece.now (entries_of (g.D.Dir.rows c.args.dir.now)) c.args.connections.now _ c.index-connections-at.result c.in-Some.ensures c.index-connections-at.is
+    answers_closing c.args.allowed.terms c.args.allowed.room c.args.number c.in-Some.at c.args.piece.now (entries_of (g.D.Dir.rows c.args.dir.now)) c.args.connections.now _ c.index-connections-at.result c.in-Some.ensures c.index-connections-at.is
     (ap (λ (x : Kept Requester). x.closing) c.index-connections-at.is ∙ sym c.is_closing.ensures ∙ c.if-is_closing.true)
 
 pub returns-else-is_closing-clause-room : goal.returns-else-is_closing-clause-room
 returns-else-is_closing-clause-room g c =
-    answers_open c.args.allowed.limit c.args.allowed.room c.args.number c.in-Some.at c.args.piece.now (entries_of (g.D.Dir.rows c.args.dir.now)) c.args.connections.now c.index-connections-at.result c.hear.new.self c.in-Some.ensures c.index-connections-at.is
+    answers_open c.args.allowed.terms c.args.allowed.room c.args.number c.in-Some.at c.args.piece.now (entries_of (g.D.Dir.rows c.args.dir.now)) c.args.connections.now c.index-connections-at.result c.hear.new.self c.in-Some.ensures c.index-connections-at.is
     (ap (λ (x : Kept Requester). x.number) c.hear.ensures.exact.kept ∙ ap (λ (x : Kept Requester). x.number) (sym c.index-connections-at.is))
-    (subst (λ x. StaysWithin c.args.allowed.limit c.args.allowed.room c.args.piece.now (entries_of (g.D.Dir.rows c.args.dir.now)) x c.hear.new.self) (sym c.index-connections-at.is) c.hear.ensures.room)
+    (subst (λ x. StaysWithin c.args.allowed.terms c.args.allowed.room c.args.piece.now (entries_of (g.D.Dir.rows c.args.dir.now)) x c.hear.new.self) (sym c.index-connections-at.is) c.hear.ensures.room)

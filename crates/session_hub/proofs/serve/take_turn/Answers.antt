@@ -1,51 +1,64 @@
 use Rattle.std.proofs.Common.{sym, ◌∙◌}
 use Rattle.session_model.proofs.wire_io_proofs.Theorems.{LinkCause-given, LinkCause-starved}
 use Rattle.session_hub.specs.hub.Hubs.{held}
-use Rattle.session_hub.proofs.serve.CauseLemmas.{ends_failed, ends_stopped, ends_starved, ends_as}
+use Rattle.session_hub.specs.declared.ended.Ended.TheVariants as ended
+use Rattle.session_hub.proofs.serve.CauseLemmas.{ends_failed, ends_stopped, ends_starved, ends_unstored, ends_as, EndsFor-came}
+use Rattle.session_hub.proofs.serve.LoopLemmas.{unfinished_starved, unfinished_unstored, failing_kept}
 use Rattle.session_hub.proofs.serve.TurnLemmas.{turn_served, turn_cut, turn_stopped, turn_failed, turn_starved}
 use Rattle.session_hub.proofs.serve.take_turn.Goals as goal
 
 -- the link failed
 pub returns-in-Err-Failed-clause-some : goal.returns-in-Err-Failed-clause-some
 returns-in-Err-Failed-clause-some g c =
-    turn_failed c.args.hub.now.bounds.limit _ _ _ _ _ c.args.hub.now _ c.next.new.buf _ _ (rw c.in-Err-Failed.field-0-is at c.in-Err-Failed.ensures.tells) (rw c.in-Err-Failed.field-0-is at c.in-Err-Failed.ensures.plays) c.end_of.ensures
+    turn_failed c.args.hub.now.bounds.terms _ _ _ _ _ c.args.hub.now _ c.next.new.buf _ _ (rw c.in-Err-Failed.field-0-is at c.in-Err-Failed.ensures.tells) (rw c.in-Err-Failed.field-0-is at c.in-Err-Failed.ensures.plays) c.end_of.ensures
 
 pub returns-in-Err-Failed-clause-cause : goal.returns-in-Err-Failed-clause-cause
 returns-in-Err-Failed-clause-cause g c =
-    ends_as _ _ _ _ _ c.end_of.ensures (ends_failed _ _ _ c.args.hub.now.was_cut (rw c.in-Err-Failed.field-0-is at c.in-Err-Failed.ensures.cause))
+    ends_as _ _ _ _ _ _ c.end_of.ensures (ends_failed _ _ _ _ c.args.hub.now.was_cut (rw c.in-Err-Failed.field-0-is at c.in-Err-Failed.ensures.cause))
 
 -- the link had no memory for an event
 pub returns-in-Err-NoMemory-clause-some : goal.returns-in-Err-NoMemory-clause-some
 returns-in-Err-NoMemory-clause-some g c =
-    turn_starved c.args.hub.now.bounds.limit _ _ _ _ (held _ c.args.hub.now) _ c.next.new.buf _ (rw c.in-Err-NoMemory.field-0-is at c.in-Err-NoMemory.ensures.tells) (rw c.in-Err-NoMemory.field-0-is at c.in-Err-NoMemory.ensures.plays)
+    turn_starved c.args.hub.now.bounds.terms _ _ _ _ (held _ c.args.hub.now) _ c.next.new.buf _ (rw c.in-Err-NoMemory.field-0-is at c.in-Err-NoMemory.ensures.tells) (rw c.in-Err-NoMemory.field-0-is at c.in-Err-NoMemory.ensures.plays)
 
 pub returns-in-Err-NoMemory-clause-cause : goal.returns-in-Err-NoMemory-clause-cause
-returns-in-Err-NoMemory-clause-cause g c = ends_starved _ _ _ (LinkCause-starved _ _ _ _ (rw c.in-Err-NoMemory.field-0-is at c.in-Err-NoMemory.ensures.cause))
+returns-in-Err-NoMemory-clause-cause g c = ends_starved _ _ _ _ (LinkCause-starved _ _ _ _ (rw c.in-Err-NoMemory.field-0-is at c.in-Err-NoMemory.ensures.cause))
+
+-- what changed could not be stored
+pub returns-in-Err-Failed-serve_event-clause-some : goal.returns-in-Err-Failed-serve_event-clause-some
+returns-in-Err-Failed-serve_event-clause-some g c =
+    turn_cut c.args.hub.now.bounds.terms ended.StoreFault _ _ _ _ _ _ _ _ _ c.next.new.buf c.in-Ok.heard (λ entries turns. unfinished_unstored c.args.hub.now.bounds.terms entries _ turns)
+    (record { long = c.next.auto.buf ∙ c.requires.long; tells = c.in-Ok.ensures.tells; plays = c.in-Ok.ensures.plays }) (λ start. c.in-Err-Failed-serve_event.ensures.adds start) c.in-Err-Failed-serve_event.ensures.plan
+
+pub returns-in-Err-Failed-serve_event-clause-cause : goal.returns-in-Err-Failed-serve_event-clause-cause
+returns-in-Err-Failed-serve_event-clause-cause g c =
+    EndsFor-came c.args.hub.now.bounds.terms.keeps _ _ _ _ _ ended.StoreFault (failing_kept _ _ _ c.next.new.buf c.in-Ok.heard c.in-Ok.ensures.plays) (LinkCause-given _ _ _ _ c.in-Ok.ensures.cause)
+    (ends_unstored _ _ _ _ (rw c.in-Err-Failed-serve_event.field-0-is at c.in-Err-Failed-serve_event.ensures.cause))
 
 -- there was no memory in the event's block
-pub returns-in-Err-clause-some : goal.returns-in-Err-clause-some
-returns-in-Err-clause-some g c =
-    turn_cut c.args.hub.now.bounds.limit _ _ _ _ _ _ _ _ _ c.next.new.buf c.in-Ok.heard (record { long = c.next.auto.buf ∙ c.requires.long; tells = c.in-Ok.ensures.tells; plays = c.in-Ok.ensures.plays })
-    (λ start. c.in-Err.ensures.adds start) c.in-Err.ensures.serves.plan
+pub returns-in-Err-NoMemory-serve_event-clause-some : goal.returns-in-Err-NoMemory-serve_event-clause-some
+returns-in-Err-NoMemory-serve_event-clause-some g c =
+    turn_cut c.args.hub.now.bounds.terms ended.NoMemory _ _ _ _ _ _ _ _ _ c.next.new.buf c.in-Ok.heard (λ entries turns. unfinished_starved c.args.hub.now.bounds.terms entries _ turns)
+    (record { long = c.next.auto.buf ∙ c.requires.long; tells = c.in-Ok.ensures.tells; plays = c.in-Ok.ensures.plays }) (λ start. c.in-Err-NoMemory-serve_event.ensures.adds start) c.in-Err-NoMemory-serve_event.ensures.plan
 
-pub returns-in-Err-clause-cause : goal.returns-in-Err-clause-cause
-returns-in-Err-clause-cause g c = ends_starved _ _ _ (c.in-Err.ensures.serves.faults ∙ LinkCause-given _ _ _ _ c.in-Ok.ensures.cause)
+pub returns-in-Err-NoMemory-serve_event-clause-cause : goal.returns-in-Err-NoMemory-serve_event-clause-cause
+returns-in-Err-NoMemory-serve_event-clause-cause g c = ends_starved _ _ _ _ ((rw c.in-Err-NoMemory-serve_event.field-0-is at c.in-Err-NoMemory-serve_event.ensures.cause) ∙ LinkCause-given _ _ _ _ c.in-Ok.ensures.cause)
 
 -- the event is Stop
 pub returns-then-is_stop-clause-some : goal.returns-then-is_stop-clause-some
 returns-then-is_stop-clause-some g c =
-    turn_stopped c.args.hub.now.bounds.limit _ _ _ _ _ _ _ _ c.serve_event.new.hub _ _ c.next.new.buf c.in-Ok.heard _ (record { long = c.next.auto.buf ∙ c.requires.long; tells = c.in-Ok.ensures.tells; plays = c.in-Ok.ensures.plays })
-    (sym c.is_stop.ensures ∙ c.if-is_stop.true) (λ start. c.in-Ok-serve_event.ensures.adds start) c.in-Ok-serve_event.ensures.serves.plan c.end_of-then-is_stop.ensures
+    turn_stopped c.args.hub.now.bounds.terms _ _ _ _ _ _ _ _ c.serve_event.new.hub _ _ c.next.new.buf c.in-Ok.heard _ (record { long = c.next.auto.buf ∙ c.requires.long; tells = c.in-Ok.ensures.tells; plays = c.in-Ok.ensures.plays })
+    (sym c.is_stop.ensures ∙ c.if-is_stop.true) (λ start. c.in-Ok-serve_event.ensures.adds start) c.in-Ok-serve_event.ensures.plan c.end_of-then-is_stop.ensures
 
 pub returns-then-is_stop-clause-cause : goal.returns-then-is_stop-clause-cause
 returns-then-is_stop-clause-cause g c =
-    ends_as _ _ _ _ _ c.end_of-then-is_stop.ensures (ends_stopped _ _ _ c.serve_event.new.hub.was_cut (c.in-Ok-serve_event.ensures.serves.faults ∙ LinkCause-given _ _ _ _ c.in-Ok.ensures.cause))
+    ends_as _ _ _ _ _ _ c.end_of-then-is_stop.ensures (ends_stopped _ _ _ _ c.serve_event.new.hub.was_cut (c.in-Ok-serve_event.ensures.cause ∙ LinkCause-given _ _ _ _ c.in-Ok.ensures.cause))
 
 -- the loop goes on
 pub returns-else-is_stop-clause-none : goal.returns-else-is_stop-clause-none
 returns-else-is_stop-clause-none g c =
-    turn_served c.args.hub.now.bounds.limit _ _ _ _ _ _ _ _ _ _ c.next.new.buf c.in-Ok.heard (record { long = c.next.auto.buf ∙ c.requires.long; tells = c.in-Ok.ensures.tells; plays = c.in-Ok.ensures.plays })
-    (sym c.is_stop.ensures ∙ c.if-is_stop.false) (λ start. c.in-Ok-serve_event.ensures.adds start) c.in-Ok-serve_event.ensures.serves.plan
+    turn_served c.args.hub.now.bounds.terms _ _ _ _ _ _ _ _ _ _ c.next.new.buf c.in-Ok.heard (record { long = c.next.auto.buf ∙ c.requires.long; tells = c.in-Ok.ensures.tells; plays = c.in-Ok.ensures.plays })
+    (sym c.is_stop.ensures ∙ c.if-is_stop.false) (λ start. c.in-Ok-serve_event.ensures.adds start) c.in-Ok-serve_event.ensures.plan
 
 pub returns-else-is_stop-clause-faults : goal.returns-else-is_stop-clause-faults
-returns-else-is_stop-clause-faults g c = c.in-Ok-serve_event.ensures.serves.faults ∙ LinkCause-given _ _ _ _ c.in-Ok.ensures.cause
+returns-else-is_stop-clause-faults g c = c.in-Ok-serve_event.ensures.cause ∙ LinkCause-given _ _ _ _ c.in-Ok.ensures.cause

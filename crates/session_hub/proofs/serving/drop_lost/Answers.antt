@@ -3,7 +3,7 @@ use Rattle.session_hub.proofs.serving.ServingLemmas.{drops, not_dropped}
 use Rattle.session_hub.proofs.serving.drop_lost.Goals as goal
 
 pub returns-in-Ok-clause-adds : goal.returns-in-Ok-clause-adds
-returns-in-Ok-clause-adds g c = λ limit start tree due. drops limit _ _ start tree c.args.conn due _ _ _ _ _ _ _ c.in-Ok.ensures.tells c.release.ensures.released c.gone.ensures.exact
+returns-in-Ok-clause-adds g c = λ terms start tree due. drops terms _ _ start tree c.args.conn due _ _ _ _ _ _ _ c.in-Ok.ensures.tells c.release.ensures.released c.gone.ensures.exact
 
 pub returns-in-Err-clause-adds : goal.returns-in-Err-clause-adds
-returns-in-Err-clause-adds g c = λ limit start tree due. not_dropped limit _ start c.args.conn due _ (held tree c.args.hub.now) _ _ _ c.in-Err.ensures.tells
+returns-in-Err-clause-adds g c = λ terms start tree due. not_dropped terms _ start c.args.conn due _ (held tree c.args.hub.now) _ _ _ c.in-Err.ensures.tells

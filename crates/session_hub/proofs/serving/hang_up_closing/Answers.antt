@@ -5,12 +5,12 @@ use Rattle.session_hub.proofs.serving.hang_up_closing.Goals as goal
 
 -- it goes on
 pub returns-then-not-closing-clause-adds : goal.returns-then-not-closing-clause-adds
-returns-then-not-closing-clause-adds g c = λ limit start tree due on_hold. goes_on limit _ start tree c.args.conn due on_hold c.args.hub.now _ (sym c.closing.ensures.exact ∙ c.if-not-closing.true)
+returns-then-not-closing-clause-adds g c = λ terms start tree due on_hold. goes_on terms _ start tree c.args.conn due on_hold c.args.hub.now _ (sym c.closing.ensures.exact ∙ c.if-not-closing.true)
 
 -- it is hung up
 pub returns-in-Ok-clause-adds : goal.returns-in-Ok-clause-adds
-returns-in-Ok-clause-adds g c = λ limit start tree due on_hold. hangs_up limit _ _ start tree c.args.conn due on_hold _ _ _ _ _ c.in-Ok.ensures.tells (sym c.closing.ensures.exact ∙ c.if-not-closing.false) c.drop_conn.ensures.exact
+returns-in-Ok-clause-adds g c = λ terms start tree due on_hold. hangs_up terms _ _ start tree c.args.conn due on_hold _ _ _ _ _ c.in-Ok.ensures.tells (sym c.closing.ensures.exact ∙ c.if-not-closing.false) c.drop_conn.ensures.exact
 
 -- there was no memory
 pub returns-in-Err-clause-adds : goal.returns-in-Err-clause-adds
-returns-in-Err-clause-adds g c = λ limit start tree due on_hold. not_hung_up limit _ start c.args.conn due on_hold (held tree c.args.hub.now) _ _ _ c.in-Err.ensures.tells
+returns-in-Err-clause-adds g c = λ terms start tree due on_hold. not_hung_up terms _ start c.args.conn due on_hold (held tree c.args.hub.now) _ _ _ c.in-Err.ensures.tells

@@ -4,12 +4,12 @@ use Rattle.session_hub.proofs.serving.let_go.Goals as goal
 
 -- it isn't on hold
 pub returns-then-not-is_on_hold-clause-adds : goal.returns-then-not-is_on_hold-clause-adds
-returns-then-not-is_on_hold-clause-adds g c = λ limit start due hub. stays_free limit _ start c.args.conn due _ hub _ (sym c.is_on_hold.ensures ∙ c.if-not-is_on_hold.true)
+returns-then-not-is_on_hold-clause-adds g c = λ terms start due hub. stays_free terms _ start c.args.conn due _ hub _ (sym c.is_on_hold.ensures ∙ c.if-not-is_on_hold.true)
 
 -- it is released
 pub returns-in-Ok-clause-adds : goal.returns-in-Ok-clause-adds
-returns-in-Ok-clause-adds g c = λ limit start due hub. lets_go limit _ _ start c.args.conn due _ _ hub _ _ _ c.in-Ok.ensures.tells c.release-in-Ok.ensures.released
+returns-in-Ok-clause-adds g c = λ terms start due hub. lets_go terms _ _ start c.args.conn due _ _ hub _ _ _ c.in-Ok.ensures.tells c.release-in-Ok.ensures.released
 
 -- there was no memory
 pub returns-in-Err-clause-adds : goal.returns-in-Err-clause-adds
-returns-in-Err-clause-adds g c = λ limit start due hub. not_let_go limit _ start c.args.conn due _ hub _ _ _ _ c.in-Err.ensures.tells
+returns-in-Err-clause-adds g c = λ terms start due hub. not_let_go terms _ start c.args.conn due _ hub _ _ _ _ c.in-Err.ensures.tells

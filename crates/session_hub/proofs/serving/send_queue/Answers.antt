@@ -7,25 +7,26 @@ use Rattle.session_hub.proofs.serving.send_queue.Goals as goal
 
 -- nothing was sent yet
 pub sending-init : goal.sending-init
-sending-init g c = record { adds = λ limit start tree due on_hold. adds_nothing _ _ _ _ _ refl (λ _ holds. holds); serves = serves_none _ _ _; bounds = refl }
+sending-init g c = record { adds = λ terms start tree due on_hold. adds_nothing _ _ _ _ _ refl (λ _ holds. holds); serves = serves_none _ _ _; bounds = refl; unstored = refl }
 
 -- nothing is left
 pub returns-then-is_empty-clause-adds : goal.returns-then-is_empty-clause-adds
-returns-then-is_empty-clause-adds g c = λ limit start tree due on_hold.
+returns-then-is_empty-clause-adds g c = λ terms start tree due on_hold.
     adds_as _ _ _ _ _ _ _ (λ _ holds. holds)
     (λ added works. record { serving = works; empty = sym c.queue-queue.ensures.exact ∙ emptied c.queue-queue.result.now (sym c.if-is_empty.true ∙ c.is_empty.ensures) })
-    (c.sending.invariant.adds limit start tree due on_hold)
+    (c.sending.invariant.adds terms start tree due on_hold)
 
 -- octets were taken
 pub sending-preserved : goal.sending-preserved
 sending-preserved g c =
     record {
-      adds = λ limit start tree due on_hold.
-          adds_after _ _ _ _ _ _ _ _ c.sending.invariant.serves.plan (c.sending.invariant.adds limit start tree due on_hold)
-          (took_goes limit _ start tree c.args.conn c.in-Took.count due on_hold c.sending.hub c.took.new.self c.queue-queue.result.now _ _ c.in-Took.ensures.tells c.queue-queue.ensures.exact
+      adds = λ terms start tree due on_hold.
+          adds_after _ _ _ _ _ _ _ _ c.sending.invariant.serves.plan (c.sending.invariant.adds terms start tree due on_hold)
+          (took_goes terms _ start tree c.args.conn c.in-Took.count due on_hold c.sending.hub c.took.new.self c.queue-queue.result.now _ _ c.in-Took.ensures.tells c.queue-queue.ensures.exact (c.sending.invariant.unstored ∙ c.requires)
           (some_queued c.queue-queue.result.now (sym c.if-is_empty.false ∙ c.is_empty.ensures)) c.in-Took.ensures.fits.1 c.took.ensures.exact);
       serves = serves_then _ _ _ _ _ _ _ _ _ c.sending.invariant.serves (record { plan = c.in-Took.ensures.plan; faults = c.in-Took.ensures.faults; lost = WriteCause-never_falls _ _ _ _ c.in-Took.ensures.cause });
       bounds = ap (λ (h : HubState). h.bounds) c.took.ensures.exact ∙ c.sending.invariant.bounds;
+      unstored = ap (λ (h : HubState). h.unstored) c.took.ensures.exact ∙ c.sending.invariant.unstored;
     }
 
 pub sending-smaller : goal.sending-smaller
@@ -35,9 +36,9 @@ sending-smaller g c =
 
 -- none were taken now
 pub returns-in-Later-clause-adds : goal.returns-in-Later-clause-adds
-returns-in-Later-clause-adds g c = λ limit start tree due on_hold.
-    adds_after _ _ _ _ _ _ _ _ c.sending.invariant.serves.plan (c.sending.invariant.adds limit start tree due on_hold)
-    (later_goes limit _ start tree c.args.conn _ _ due on_hold c.sending.hub c.queue-queue.result.now _ _ c.in-Later.ensures.tells c.in-Later.ensures.cause c.queue-queue.ensures.exact
+returns-in-Later-clause-adds g c = λ terms start tree due on_hold.
+    adds_after _ _ _ _ _ _ _ _ c.sending.invariant.serves.plan (c.sending.invariant.adds terms start tree due on_hold)
+    (later_goes terms _ start tree c.args.conn _ _ due on_hold c.sending.hub c.queue-queue.result.now _ _ c.in-Later.ensures.tells c.in-Later.ensures.cause c.queue-queue.ensures.exact
     (some_queued c.queue-queue.result.now (sym c.if-is_empty.false ∙ c.is_empty.ensures)))
 
 pub returns-in-Later-clause-serves : goal.returns-in-Later-clause-serves
@@ -46,9 +47,9 @@ returns-in-Later-clause-serves g c =
 
 -- the connection was found lost
 pub returns-in-Gone-clause-adds : goal.returns-in-Gone-clause-adds
-returns-in-Gone-clause-adds g c = λ limit start tree due on_hold.
-    adds_after _ _ _ _ _ _ _ _ c.sending.invariant.serves.plan (c.sending.invariant.adds limit start tree due on_hold)
-    (gone_goes limit _ start tree c.args.conn _ _ due on_hold c.sending.hub c.queue-queue.result.now _ _ c.in-Gone.ensures.tells c.in-Gone.ensures.cause c.queue-queue.ensures.exact
+returns-in-Gone-clause-adds g c = λ terms start tree due on_hold.
+    adds_after _ _ _ _ _ _ _ _ c.sending.invariant.serves.plan (c.sending.invariant.adds terms start tree due on_hold)
+    (gone_goes terms _ start tree c.args.conn _ _ due on_hold c.sending.hub c.queue-queue.result.now _ _ c.in-Gone.ensures.tells c.in-Gone.ensures.cause c.queue-queue.ensures.exact
     (some_queued c.queue-queue.result.now (sym c.if-is_empty.false ∙ c.is_empty.ensures)))
 
 pub returns-in-Gone-clause-serves : goal.returns-in-Gone-clause-serves
@@ -57,9 +58,9 @@ returns-in-Gone-clause-serves g c =
 
 -- there was no memory
 pub returns-in-NoMemory-clause-adds : goal.returns-in-NoMemory-clause-adds
-returns-in-NoMemory-clause-adds g c = λ limit start tree due on_hold.
-    adds_after _ _ _ _ _ _ _ _ c.sending.invariant.serves.plan (c.sending.invariant.adds limit start tree due on_hold)
-    (starved_goes limit _ start _ on_hold (held tree c.sending.hub) c.args.conn c.queue-queue.result.now _ _ c.in-NoMemory.ensures.tells)
+returns-in-NoMemory-clause-adds g c = λ terms start tree due on_hold.
+    adds_after _ _ _ _ _ _ _ _ c.sending.invariant.serves.plan (c.sending.invariant.adds terms start tree due on_hold)
+    (starved_goes terms _ start _ on_hold (held tree c.sending.hub) c.args.conn c.queue-queue.result.now _ _ c.in-NoMemory.ensures.tells)
 
 pub returns-in-NoMemory-clause-serves : goal.returns-in-NoMemory-clause-serves
 returns-in-NoMemory-clause-serves g c =

@@ -5,23 +5,23 @@ use Rattle.session_hub.proofs.serving.settle.Goals as goal
 
 -- all of its queue was sent
 pub returns-in-Ok-All-clause-adds : goal.returns-in-Ok-All-clause-adds
-returns-in-Ok-All-clause-adds g c = λ limit start tree due.
-    adds_after _ _ _ _ _ _ _ _ c.in-Ok-All.ensures.serves.plan (sent_all limit _ start c.args.conn due _ _ _ _ _ _ c.in-Ok-All.field-0-is (c.in-Ok-All.ensures.adds limit start tree due _)) (c.finish.ensures.adds limit start tree due)
+returns-in-Ok-All-clause-adds g c = λ terms start tree due.
+    adds_after _ _ _ _ _ _ _ _ c.in-Ok-All.ensures.serves.plan (sent_all terms _ start c.args.conn due _ _ _ _ _ _ c.in-Ok-All.field-0-is (c.in-Ok-All.ensures.adds terms start tree due _)) (c.finish.ensures.adds terms start tree due)
 
 -- it takes no more now
 pub returns-in-Ok-Later-clause-adds : goal.returns-in-Ok-Later-clause-adds
-returns-in-Ok-Later-clause-adds g c = λ limit start tree due.
-    adds_after _ _ _ _ _ _ _ _ c.in-Ok-Later.ensures.serves.plan (sent_later limit _ start c.args.conn due _ _ _ _ _ _ c.in-Ok-Later.field-0-is (c.in-Ok-Later.ensures.adds limit start tree due _))
-    (c.hold_back.ensures.adds limit start due (held tree c.send_queue.new.hub))
+returns-in-Ok-Later-clause-adds g c = λ terms start tree due.
+    adds_after _ _ _ _ _ _ _ _ c.in-Ok-Later.ensures.serves.plan (sent_later terms _ start c.args.conn due _ _ _ _ _ _ c.in-Ok-Later.field-0-is (c.in-Ok-Later.ensures.adds terms start tree due _))
+    (c.hold_back.ensures.adds terms start due (held tree c.send_queue.new.hub))
 
 -- it was found lost
 pub returns-in-Ok-Gone-clause-adds : goal.returns-in-Ok-Gone-clause-adds
-returns-in-Ok-Gone-clause-adds g c = λ limit start tree due.
-    adds_after _ _ _ _ _ _ _ _ c.in-Ok-Gone.ensures.serves.plan (sent_gone limit _ start c.args.conn due _ _ _ _ _ _ c.in-Ok-Gone.field-0-is (c.in-Ok-Gone.ensures.adds limit start tree due _)) (c.drop_lost.ensures.adds limit start tree due)
+returns-in-Ok-Gone-clause-adds g c = λ terms start tree due.
+    adds_after _ _ _ _ _ _ _ _ c.in-Ok-Gone.ensures.serves.plan (sent_gone terms _ start c.args.conn due _ _ _ _ _ _ c.in-Ok-Gone.field-0-is (c.in-Ok-Gone.ensures.adds terms start tree due _)) (c.drop_lost.ensures.adds terms start tree due)
 
 -- there was no memory
 pub returns-in-Err-clause-adds : goal.returns-in-Err-clause-adds
-returns-in-Err-clause-adds g c = λ limit start tree due. c.in-Err.ensures.adds limit start tree due _
+returns-in-Err-clause-adds g c = λ terms start tree due. c.in-Err.ensures.adds terms start tree due _
 
 pub returns-in-Ok-All-clause-serves : goal.returns-in-Ok-All-clause-serves
 returns-in-Ok-All-clause-serves g c = serves_then _ _ _ _ _ _ _ _ _ c.in-Ok-All.ensures.serves c.finish.ensures.serves

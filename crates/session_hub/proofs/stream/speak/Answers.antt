@@ -4,26 +4,29 @@ use Rattle.session_model.specs.ldap_msg.declared.kinds.Frame.TheVariants.{Whole}
 use Rattle.session_model.specs.ldap_msg.Streams.{frame_at}
 use Rattle.session_model.proofs.ldap_msg_proofs.Theorems.{whole_alone}
 use Rattle.session_hub.specs.Answering.{rules}
+use Rattle.session_hub.specs.Outgoing.{put_in}
 use Rattle.session_hub.specs.Answers.{Gives}
+use Rattle.session_hub.proofs.messages.KeepLemmas.{put_same}
 use Rattle.session_hub.proofs.stream.StreamLemmas.{so_far_start, so_far_whole, so_far_closed, so_far_more, so_far_bad, so_far_cut, so_far_full}
 use Rattle.session_hub.proofs.stream.speak.Goals as goal
 
 -- nothing was answered yet
 pub messages-init : goal.messages-init
-messages-init g c = so_far_start c.args.allowed.limit c.args.allowed.room _ _ _ _
+messages-init g c = so_far_start c.args.allowed.terms c.args.allowed.room _ _ _ _
 
 -- less than a message is left
 pub returns-in-More : goal.returns-in-More
 returns-in-More g c =
-    so_far_more c.args.allowed.limit c.args.allowed.room _ _ _ _ _ _ _ _ _ c.messages.invariant (ap frame_at (sym c.split_at.ensures.back) ∙ sym c.in-More.ensures.exact)
+    so_far_more c.args.allowed.terms c.args.allowed.room _ _ _ _ _ _ _ _ _ c.messages.invariant (ap frame_at (sym c.split_at.ensures.back) ∙ sym c.in-More.ensures.exact)
 
 -- what is left is no message
 pub returns-in-Ok : goal.returns-in-Ok
 returns-in-Ok g c =
-    so_far_bad c.args.allowed.limit c.args.allowed.room _ _ _ _ _ _ _ _ _ _ c.messages.invariant (ap frame_at (sym c.split_at.ensures.back) ∙ sym c.in-Bad.ensures.exact) c.in-Ok.ensures.ok
+    so_far_bad c.args.allowed.terms c.args.allowed.room _ _ _ _ _ _ _ _ _ _ c.messages.invariant (ap frame_at (sym c.split_at.ensures.back) ∙ sym c.in-Bad.ensures.exact) c.in-Ok.ensures.ok refl
 
 pub returns-in-Err : goal.returns-in-Err
-returns-in-Err g c = so_far_cut c.args.allowed.limit c.args.allowed.room _ _ _ _ _ _ _ _ _ _ _ _ c.messages.invariant c.in-Err.ensures.err refl refl
+returns-in-Err g c = so_far_cut c.args.allowed.terms c.args.allowed.room _ _ _ _ _ _ _ _ _ _ _ _ c.messages.invariant
+    (ap (λ xs. record { replies = xs; changes = c.messages.out.changes.items }) c.in-Err.ensures.err) refl refl
 
 -- a whole message is one by itself
 pub answer-requires : goal.answer-requires
@@ -33,7 +36,8 @@ answer-requires g c =
 
 -- there was no memory for its answer
 pub returns-in-Err-answer : goal.returns-in-Err-answer
-returns-in-Err-answer g c = so_far_cut c.args.allowed.limit c.args.allowed.room _ _ _ _ _ _ _ _ _ _ _ _ c.messages.invariant c.in-Err-answer.ensures.err c.in-Err-answer.ensures.entries c.in-Err-answer.ensures.asker
+returns-in-Err-answer g c = so_far_cut c.args.allowed.terms c.args.allowed.room _ _ _ _ _ _ _ _ _ _ _ _ c.messages.invariant
+    (put_same _ _ _ _ c.in-Err-answer.ensures.err c.in-Err-answer.ensures.unrecorded) c.in-Err-answer.ensures.entries c.in-Err-answer.ensures.asker
 
 -- the message closes
 pub returns-in-Ok-true : goal.returns-in-Ok-true
@@ -41,17 +45,17 @@ returns-in-Ok-true g c =
     let rest = drop c.messages.read c.args.stream.now in
     let is : frame_at rest ≡ Whole c.in-Whole.length = ap frame_at (sym c.split_at.ensures.back) ∙ sym c.in-Whole.ensures.exact in
     let same : c.split_at-in-Whole.result.0.now ≡ take c.in-Whole.length rest = c.split_at-in-Whole.ensures.front ∙ ap (take c.in-Whole.length) c.split_at.ensures.back in
-    so_far_closed c.args.allowed.limit c.args.allowed.room _ _ _ _ c.messages.out.items _ _ _ _ _ _ _ c.in-Whole.length c.messages.invariant is
-    (subst (λ bytes. Gives ((rules c.args.allowed.limit).answer (entries_of (g.D.Dir.rows c.messages.dir)) c.messages.who bytes) c.messages.out.items c.answer.new.out.items (entries_of (g.D.Dir.rows c.answer.new.dir)) c.answer.new.who true) same (rw c.in-Ok-true.field-0-test at c.in-Ok-true.ensures.ok))
+    so_far_closed c.args.allowed.terms c.args.allowed.room _ _ _ _ (put_in c.messages.out) _ _ _ _ _ _ _ c.in-Whole.length c.messages.invariant is
+    (subst (λ bytes. Gives ((rules c.args.allowed.terms).answer (entries_of (g.D.Dir.rows c.messages.dir)) c.messages.who bytes) (put_in c.messages.out) (put_in c.answer.new.out) (entries_of (g.D.Dir.rows c.answer.new.dir)) c.answer.new.who true) same (rw c.in-Ok-true.field-0-test at c.in-Ok-true.ensures.ok))
 
 pub messages-preserved : goal.messages-preserved
 messages-preserved g c =
     let rest = drop c.messages.read c.args.stream.now in
     let is : frame_at rest ≡ Whole c.in-Whole.length = ap frame_at (sym c.split_at.ensures.back) ∙ sym c.in-Whole.ensures.exact in
     let same : c.split_at-in-Whole.result.0.now ≡ take c.in-Whole.length rest = c.split_at-in-Whole.ensures.front ∙ ap (take c.in-Whole.length) c.split_at.ensures.back in
-    so_far_whole c.args.allowed.limit c.args.allowed.room _ _ _ _ c.messages.out.items _ _ _ _ _ _ _ c.in-Whole.length c.messages.invariant is
-    (subst (λ bytes. Gives ((rules c.args.allowed.limit).answer (entries_of (g.D.Dir.rows c.messages.dir)) c.messages.who bytes) c.messages.out.items c.answer.new.out.items (entries_of (g.D.Dir.rows c.answer.new.dir)) c.answer.new.who false) same (rw c.in-Ok-false.field-0-test at c.in-Ok-false.ensures.ok)) (c.is_full.ensures.spare c.if-is_full.false)
+    so_far_whole c.args.allowed.terms c.args.allowed.room _ _ _ _ (put_in c.messages.out) _ _ _ _ _ _ _ c.in-Whole.length c.messages.invariant is
+    (subst (λ bytes. Gives ((rules c.args.allowed.terms).answer (entries_of (g.D.Dir.rows c.messages.dir)) c.messages.who bytes) (put_in c.messages.out) (put_in c.answer.new.out) (entries_of (g.D.Dir.rows c.answer.new.dir)) c.answer.new.who false) same (rw c.in-Ok-false.field-0-test at c.in-Ok-false.ensures.ok)) (c.is_full.ensures.spare c.if-is_full.false)
 
 -- the queue is full
 pub returns-then-is_full : goal.returns-then-is_full
-returns-then-is_full g c = so_far_full c.args.allowed.limit c.args.allowed.room _ _ _ _ _ _ _ _ _ c.messages.invariant (c.is_full.ensures.full c.if-is_full.true)
+returns-then-is_full g c = so_far_full c.args.allowed.terms c.args.allowed.room _ _ _ _ _ _ _ _ _ c.messages.invariant (c.is_full.ensures.full c.if-is_full.true)

@@ -2,6 +2,7 @@ use Rattle.std.proofs.Common.{◌<◌, ◌≤◌, ◌+◌, length, refl, ap, sub
 use Rattle.dir_tree.specs.tree.Numbered.{entries_of}
 use Rattle.session_hub.specs.session_model.Replaying.{step_and_hang_up}
 use Rattle.session_hub.specs.Answering.{rules}
+use Rattle.session_hub.specs.Terms.{no_terms}
 use Rattle.event_replay.specs.Played.{step_of, played_steps}
 use Rattle.hush_watch.specs.Watching.{Shows}
 use Rattle.hush_watch.proofs.AheadLemmas.{ahead-start, event-found, event-on, events-done}
@@ -23,7 +24,7 @@ loop-event-preserved c =
       ahead =
           event-on c.args.self.now.number c.args.self.now.top.now (entries_of c.args.self.now.before.now) c.args.events.now c.requires.played c.loop-event.event-index c.loop-event.watched c.loop-event.invariant.ahead
           c.event-item.result c.watch_event.new.watched within c.event-item.is
-          (subst (λ part. Shows c.args.self.now.number c.args.self.now.top.now (entries_of c.args.self.now.before.now) (step_and_hang_up (rules 0)) (step_of c.event-item.result) c.loop-event.watched part c.watch_event.new.watched)
+          (subst (λ part. Shows c.args.self.now.number c.args.self.now.top.now (entries_of c.args.self.now.before.now) (step_and_hang_up (rules no_terms)) (step_of c.event-item.result) c.loop-event.watched part c.watch_event.new.watched)
           c.in_default.is c.in_ok-part.ensures.ok);
     }
 
@@ -35,7 +36,7 @@ returns-in-Some c =
       ok =
           event-found c.args.self.now.number c.args.self.now.top.now (entries_of c.args.self.now.before.now) c.args.events.now c.requires.played c.loop-event.event-index c.loop-event.watched c.loop-event.invariant.ahead
           c.event-item.result (c.loop-event.heard + 1) c.watch_event.new.watched c.in-Some.part within c.event-item.is (ap (λ n. n + 1) c.loop-event.invariant.counted)
-          (subst (λ part. Shows c.args.self.now.number c.args.self.now.top.now (entries_of c.args.self.now.before.now) (step_and_hang_up (rules 0)) (step_of c.event-item.result) c.loop-event.watched part c.watch_event.new.watched)
+          (subst (λ part. Shows c.args.self.now.number c.args.self.now.top.now (entries_of c.args.self.now.before.now) (step_and_hang_up (rules no_terms)) (step_of c.event-item.result) c.loop-event.watched part c.watch_event.new.watched)
           c.in-Some.is c.in_ok-part.ensures.ok);
     }
 

@@ -11,6 +11,6 @@ pub returns : goal.returns
 returns c = record {
   ok =
       subst (λ old. Hears (step_of c.args.event None) old (held (entries_of c.hear.new.dir) c.hear.new.self)) c.self.view_is
-      (hears-whole c.self.inside.hub.bounds.limit c.args.event (held (entries_of c.self.inside.dir) c.self.inside.hub) (held (entries_of c.hear.new.dir) c.hear.new.self) c.self.invariant
+      (hears-whole c.self.inside.hub.bounds.terms c.args.event (held (entries_of c.self.inside.dir) c.self.inside.hub) (held (entries_of c.hear.new.dir) c.hear.new.self) c.self.invariant
       (c.an_event_is_heard_whole_where_nothing_was_cut.ensures.exact _ _ _ _ c.in_ok-hear.ensures.exact (sym c.was_cut.ensures ∙ c.if-was_cut.false)) c.in_ok-hear.ensures.run);
 }

@@ -16,5 +16,5 @@ invariant_of-self c = subst AreHeld (sym (written c)) (held_closed c.args.conn c
 pub returns-clause-ended : goal.returns-clause-ended
 returns-clause-ended c =
     ends c.args.conn c.args.self.now _
-    (ap (λ ks. let h : HubState = record { kept = ks; was_cut = c.self.inside.was_cut; bounds = c.self.inside.bounds } in h) (written c)
+    (ap (λ ks. let h : HubState = record { kept = ks; was_cut = c.self.inside.was_cut; unstored = c.self.inside.unstored.items; bounds = c.self.inside.bounds } in h) (written c)
     ∙ ap (λ (h : HubState). let now : HubState = record h { kept = changed c.args.conn closed h.kept } in now) c.self.view_is)

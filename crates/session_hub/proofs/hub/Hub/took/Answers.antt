@@ -16,11 +16,11 @@ invariant_of-self c = subst AreHeld (sym (written c)) (held_taken c.args.conn c.
 
 pub returns-clause-exact : goal.returns-clause-exact
 returns-clause-exact c =
-    ap (λ ks. let h : HubState = record { kept = ks; was_cut = c.self.inside.was_cut; bounds = c.self.inside.bounds } in h) (written c)
+    ap (λ ks. let h : HubState = record { kept = ks; was_cut = c.self.inside.was_cut; unstored = c.self.inside.unstored.items; bounds = c.self.inside.bounds } in h) (written c)
     ∙ ap (λ (h : HubState). let now : HubState = record h { kept = taken_off c.args.conn c.args.count h.kept } in now) c.self.view_is
 
 pub returns-clause-run : goal.returns-clause-run
 returns-clause-run c =
     follows_taking c.args.conn c.args.count c.args.self.now _
-    (ap (λ ks. let h : HubState = record { kept = ks; was_cut = c.self.inside.was_cut; bounds = c.self.inside.bounds } in h) (written c)
+    (ap (λ ks. let h : HubState = record { kept = ks; was_cut = c.self.inside.was_cut; unstored = c.self.inside.unstored.items; bounds = c.self.inside.bounds } in h) (written c)
     ∙ ap (λ (h : HubState). let now : HubState = record h { kept = taken_off c.args.conn c.args.count h.kept } in now) c.self.view_is) c.requires
