@@ -17,6 +17,7 @@ use Rattle.session_hub.specs.session_model.Run.{Step}
 use Rattle.session_hub.specs.session_model.Journaled.{steps_of_events}
 use Rattle.session_hub.specs.serve.Loops.{buffer_length}
 use Rattle.session_hub.specs.Parties.{DirectoryEntries}
+use Rattle.session_hub.specs.Terms.{no_terms}
 use Rattle.hush_laws.specs.declared.audited.Audited.{Audited}
 use Rattle.hush_laws.specs.Audits.{IsAudit, audit_text}
 use Rattle.audit_program.specs.declared.status.AuditStatus.{AuditStatus}
@@ -30,7 +31,7 @@ script_steps events = steps_of_events (pieces buffer_length events)
 
 -- an audit over entries and a script's events; where the hush was kept, nothing differs
 pub record IsSoundAudit (entries : DirectoryEntries) (events : List ScriptEvent) (number : ℕ) (top : RdnSequence) (audited : Audited) : Type 0 where
-  pub audit : IsAudit 0 entries (script_steps events) number top audited
+  pub audit : IsAudit no_terms entries (script_steps events) number top audited
   pub hushed : audited.fault ≡ None → audited.differs ≡ None
 
 -- the words ask for an audit, both of whose files are accepted, and this is its answer

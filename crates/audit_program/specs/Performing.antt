@@ -7,6 +7,7 @@ use Rattle.command_files.specs.Outside.{Written}
 use Rattle.session_hub.specs.session_model.Run.{Step}
 use Rattle.session_hub.specs.session_model.Purging.{purged}
 use Rattle.session_hub.specs.Parties.{DirectoryEntries}
+use Rattle.session_hub.specs.Terms.{no_terms}
 use Rattle.hush_laws.specs.declared.audited.Audited.{Audited}
 use Rattle.hush_laws.specs.Audits.{audit_text, first_difference, reply_to}
 use Rattle.audit_program.specs.declared.status.AuditStatus.{AuditStatus}
@@ -17,7 +18,7 @@ use Rattle.audit_program.specs.Words.{AuditView, IsAsked}
 
 -- after how many octets what a connection is sent differs from what its own events alone get it
 unfoldable pub difference_of : DirectoryEntries → List Step → ℕ → Option ℕ
-difference_of entries events number = first_difference (reply_to 0 entries events number) (reply_to 0 entries (purged number events) number)
+difference_of entries events number = first_difference (reply_to no_terms entries events number) (reply_to no_terms entries (purged number events) number)
 
 -- an audit of these entries and events was to be put; or there was no memory for it, and nothing was
 unfoldable pub Tells : DirectoryEntries → List ScriptEvent → ℕ → RdnSequence → Written → AuditStatus → Written → Type 0

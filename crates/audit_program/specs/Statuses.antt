@@ -25,6 +25,7 @@ abbrev pub trouble_status : Trouble → AuditStatus
 trouble_status trouble.NoFile = ShelfFault
 trouble_status (trouble.BadData line cause) = BadData
 trouble_status (trouble.BadLine file line) = BadScript
+trouble_status (trouble.BadChanges line cause) = BadData
 trouble_status trouble.NoMemory = NoMemory
 
 -- the line on how to call the program

@@ -9,6 +9,7 @@ ghost use Rattle.hush_laws.specs.Audits.{IsAudit, first_difference};
 ghost use Rattle.hush_laws.specs.Hush.{hush_of_replay};
 ghost use Rattle.audit_program.specs.Auditing.{script_steps};
 ghost use Rattle.audit_program.specs.Performing.{difference_of};
+ghost use Rattle.session_hub.specs.Terms.{no_terms};
 
 use command_files::dir_tree::{NoMemory, Tree};
 use command_files::dn_names::Dn;
@@ -34,7 +35,7 @@ pub fn audit_script(
     requires fresh { link ≡ fresh_link link.plan.to_come [] [] [] }
     requires good { IsGoodTree (entries_of tree) }
     ensures ok { IfOk result (λ audited.
-        IsAudit 0 (entries_of tree) (script_steps link.plan.to_come) number top.now audited) }
+        IsAudit no_terms (entries_of tree) (script_steps link.plan.to_come) number top.now audited) }
     ensures hushed { IfOk result (λ audited. audited.fault ≡ None → audited.differs ≡ None) }
 {
     let events = played_events(alloc, link)?;
@@ -55,7 +56,7 @@ fn first_fault(
 ) -> Result<Option<Fault>, NoMemory>
     requires played { ArePlayed events.now }
     ensures ok { IfOk result (λ fault.
-        fault ≡ hush_of_replay 0 (entries_of tree.now) (played_steps events.now) number top.now) }
+        fault ≡ hush_of_replay no_terms (entries_of tree.now) (played_steps events.now) number top.now) }
 {
     let before = copied_tree(alloc, tree)?;
     let now = copied_tree(alloc, tree)?;

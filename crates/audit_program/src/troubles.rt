@@ -38,6 +38,7 @@ fn trouble_status(trouble: Trouble) -> AuditStatus
         Trouble::NoFile => AuditStatus::ShelfFault,
         Trouble::BadData(_, _) => AuditStatus::BadData,
         Trouble::BadLine(_, _) => AuditStatus::BadScript,
+        Trouble::BadChanges(_, _) => AuditStatus::BadData,
         Trouble::NoMemory => AuditStatus::NoMemory,
     }
 }

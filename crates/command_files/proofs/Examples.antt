@@ -4,8 +4,9 @@ use Rattle.std.specs.Fmt.{digits}
 use Rattle.data_file.specs.declared.fault.DataCause.TheVariants.{Line, Record}
 use Rattle.data_file.specs.ldif_load.declared.fault.LoadCause.TheVariants.{Rule}
 use Rattle.data_file.specs.ldif_records.declared.types.LineCause.TheVariants.{Changetype}
+use Rattle.command_files.specs.declared.changing.ChangesCause.TheVariants as changes
 use Rattle.command_files.specs.declared.loading.SecondFile.TheVariants.{Requests}
-use Rattle.command_files.specs.declared.loading.Trouble.TheVariants.{BadData, BadLine}
+use Rattle.command_files.specs.declared.loading.Trouble.TheVariants.{BadChanges, BadData, BadLine}
 use Rattle.command_files.specs.Troubles.{trouble_text}
 
 -- a line that isn't in the form of a data file, and a record that breaks a rule
@@ -21,3 +22,16 @@ bad_record = refl
 bad_request : trouble_text (BadLine Requests 3) ≡ codes "bad request line 3\n"
 unfolding digits
 bad_request = refl
+
+-- a line of changes of no form that may stand there, another data file, and a change that can't be applied
+bad_change : trouble_text (BadChanges 6 (changes.Line Changetype)) ≡ codes "bad changes line 6: changetype\n"
+unfolding digits
+bad_change = refl
+
+other_data : trouble_text (BadChanges 2 changes.Digest) ≡ codes "bad changes line 2: digest\n"
+unfolding digits
+other_data = refl
+
+refused_change : trouble_text (BadChanges 4 (changes.Code 68)) ≡ codes "bad changes line 4: code 68\n"
+unfolding digits
+refused_change = refl

@@ -1,2 +1,4 @@
 pub mod LoadLemmas
+pub mod ChangeLemmas
 pub mod AcceptLemmas
+pub mod BesideLemmas

@@ -6,6 +6,8 @@ use Rattle.data_file.specs.ldif_load.declared.fault.LoadCause.TheVariants.{Name,
 use Rattle.data_file.specs.ldif_load.load.DataFile.{FileCause, OfLine, OfRecord}
 use Rattle.data_file.specs.ldif_records.declared.types.LineCause.{LineCause}
 use Rattle.data_file.specs.ldif_records.declared.types.LineCause.TheVariants.{Syntax, Changetype, Base64}
+use Rattle.command_files.specs.declared.changing.ChangesCause.{ChangesCause}
+use Rattle.command_files.specs.declared.changing.ChangesCause.TheVariants as changes
 use Rattle.command_files.specs.declared.loading.SecondFile.{SecondFile}
 use Rattle.command_files.specs.declared.loading.SecondFile.TheVariants as second
 use Rattle.command_files.specs.declared.loading.Trouble.{Trouble}
@@ -32,6 +34,13 @@ abbrev pub cause_text : FileCause → List ℕ
 cause_text (OfLine cause) = line_cause_text cause
 cause_text (OfRecord cause) = record_cause_text cause
 
+-- what is wrong with a file of changes
+abbrev pub changes_cause_text : ChangesCause → List ℕ
+changes_cause_text (changes.Line cause) = line_cause_text cause
+changes_cause_text changes.Digest = codes "digest"
+changes_cause_text (changes.Code code) = codes "code " ++ decimal code
+changes_cause_text changes.Limit = codes "limit"
+
 -- what a line of a file that isn't in its form is of
 abbrev pub file_word : SecondFile → List ℕ
 file_word second.Script = codes "script"
@@ -50,9 +59,14 @@ bad_data_text line cause = codes "bad data line " ++ (decimal line ++ (codes ": 
 abbrev pub bad_line_text : SecondFile → ℕ → List ℕ
 bad_line_text file line = codes "bad " ++ (file_word file ++ (codes " line " ++ (decimal line ++ codes "\n")))
 
+-- the first line at which a file of changes isn't accepted, and why
+abbrev pub bad_changes_text : ℕ → ChangesCause → List ℕ
+bad_changes_text line cause = codes "bad changes line " ++ (decimal line ++ (codes ": " ++ (changes_cause_text cause ++ codes "\n")))
+
 -- the line of each trouble; none where there was no memory
 abbrev pub trouble_text : Trouble → List ℕ
 trouble_text trouble.NoFile = no_file_text
 trouble_text (trouble.BadData line cause) = bad_data_text line (cause_of cause)
 trouble_text (trouble.BadLine file line) = bad_line_text file line
+trouble_text (trouble.BadChanges line cause) = bad_changes_text line cause
 trouble_text trouble.NoMemory = []

@@ -1,9 +1,12 @@
-//! Reading a data file, and a script, requests or a certificate, from a shelf.
+//! Reading a data file, and a script, requests, a certificate or changes of its entries, from a shelf.
 
-ghost use Rattle.std.specs.Prelude.{◌≡◌, ◌≤◌, length};
+ghost use Rattle.std.specs.Prelude.{◌≡◌, ◌≤◌, Some, None, length, option_copied};
+ghost use Rattle.change_replay.specs.aci_item.Rules.{IsGoodTree};
+ghost use Rattle.dir_tree.specs.tree.Numbered.{entries_of};
 ghost use Rattle.command_files.specs.loading.Accepting.{most_data, most_second};
-ghost use Rattle.command_files.specs.loading.Loading.{LoadsCertificate, LoadsRequests, LoadsScript, LoadsData, ReadsRequests, ReadsScript, ReadsData, data_trouble_of_file, trouble_of_asks, trouble_of_data, trouble_of_file, trouble_of_script};
+ghost use Rattle.command_files.specs.loading.Loading.{LoadsBeside, LoadsCertificate, LoadsChanges, LoadsRequests, LoadsScript, LoadsData, LoadsTree, ReadsChanges, ReadsRequests, ReadsScript, ReadsData, changes_trouble_of_file, data_trouble_of_file, trouble_of_asks, trouble_of_changes, trouble_of_data, trouble_of_file, trouble_of_script};
 
+use crate::changing::{ChangesCause, ChangesFault, Loaded, change_tree};
 use client_core::{AskFault, Asked, read_asks};
 use data_file::ldif_load::LoadCause;
 use data_file::{DataCause, DataFault, load};
@@ -14,6 +17,9 @@ use wire_io::{ReadFault, ScriptLink, Shelf, read_all};
 
 /// The most octets that a data file may have.
 const MOST_DATA: u64 = 67_108_864;
+
+/// The most octets that a file of changes may have.
+const MOST_CHANGES: u64 = 1_073_741_824;
 
 /// The most octets that the file that is read after it may have.
 const MOST_SECOND: u64 = 67_108_864;
@@ -38,6 +44,8 @@ pub enum Trouble {
     BadData(u64, DataCause),
     /// The first bad line of the file that is read after it, or the line where that becomes too long.
     BadLine(SecondFile, u64),
+    /// The first line at which a file of changes isn't accepted and its cause, or the line where it becomes too long.
+    BadChanges(u64, ChangesCause),
     /// There was no memory.
     NoMemory,
 }
@@ -81,6 +89,119 @@ fn misread_data(fault: DataFault) -> Trouble
     match fault {
         DataFault::Bad { line, cause } => Trouble::BadData(line, cause),
         DataFault::NoMemory => Trouble::NoMemory,
+    }
+}
+
+/// The tree of the data file, with the changes of the second file applied as far as that is whole, where one is named. The
+/// data file's own faults come first; `NoFile` comes for either.
+pub fn load_tree<H: Shelf>(
+    alloc: Global,
+    shelf: &mut H,
+    name: &str,
+    changes: Option<&str>,
+) -> Result<Loaded, Trouble>
+    ensures exact { LoadsTree (H.files shelf.old) name.now (option_copied changes.entry) (H.faults shelf.old) (H.faults shelf.new) result }
+    ensures kept { H.files shelf.new ≡ H.files shelf.old }
+{
+    match changes {
+        Some(changes) => load_changed(alloc, shelf, name, changes),
+        None => load_unchanged(alloc, shelf, name),
+    }
+}
+
+/// The tree of the data file alone.
+fn load_unchanged<H: Shelf>(alloc: Global, shelf: &mut H, name: &str) -> Result<Loaded, Trouble>
+    ensures exact { LoadsTree (H.files shelf.old) name.now None (H.faults shelf.old) (H.faults shelf.new) result }
+    ensures kept { H.files shelf.new ≡ H.files shelf.old }
+{
+    match load_data(alloc, shelf, name) {
+        Ok(tree) => Ok(Loaded {
+            tree,
+            applied: None,
+        }),
+        Err(trouble) => Err(trouble),
+    }
+}
+
+/// The tree of the data file, with the changes applied.
+fn load_changed<H: Shelf>(
+    alloc: Global,
+    shelf: &mut H,
+    name: &str,
+    changes: &str,
+) -> Result<Loaded, Trouble>
+    ensures exact { LoadsTree (H.files shelf.old) name.now (Some changes.now) (H.faults shelf.old) (H.faults shelf.new) result }
+    ensures kept { H.files shelf.new ≡ H.files shelf.old }
+{
+    match read_all(alloc, shelf, name, MOST_DATA) {
+        Ok(content) => load_beside(alloc, shelf, content.as_slice(), changes),
+        Err(fault) => Err(unread_data(fault)),
+    }
+}
+
+/// The same with the content of the data file.
+fn load_beside<H: Shelf>(
+    alloc: Global,
+    shelf: &mut H,
+    content: &[u8],
+    changes: &str,
+) -> Result<Loaded, Trouble>
+    requires { length content.now ≤ most_data }
+    ensures exact { LoadsBeside content.now (H.files shelf.old) changes.now (H.faults shelf.old) (H.faults shelf.new) result }
+    ensures kept { H.files shelf.new ≡ H.files shelf.old }
+{
+    match read_data(alloc, content) {
+        Ok(tree) => load_changes(alloc, shelf, tree, content, changes),
+        Err(trouble) => Err(trouble),
+    }
+}
+
+/// The tree of the data file of this content, with the changes of the file applied.
+fn load_changes<H: Shelf>(
+    alloc: Global,
+    shelf: &mut H,
+    tree: Tree,
+    content: &[u8],
+    name: &str,
+) -> Result<Loaded, Trouble>
+    requires good { IsGoodTree (entries_of tree) }
+    ensures exact { LoadsChanges (entries_of tree) content.now (H.files shelf.old) name.now (H.faults shelf.old) (H.faults shelf.new) result }
+    ensures kept { H.files shelf.new ≡ H.files shelf.old }
+{
+    match read_all(alloc, shelf, name, MOST_CHANGES) {
+        Ok(text) => read_changes(alloc, tree, content, text.as_slice()),
+        Err(fault) => Err(unread_changes(fault)),
+    }
+}
+
+/// The same with the changes of the text.
+fn read_changes(alloc: Global, tree: Tree, content: &[u8], text: &[u8]) -> Result<Loaded, Trouble>
+    requires good { IsGoodTree (entries_of tree) }
+    ensures exact { ReadsChanges (entries_of tree) content.now text.now result }
+{
+    match change_tree(alloc, tree, content, text) {
+        Ok(loaded) => Ok(loaded),
+        Err(fault) => Err(misread_changes(fault)),
+    }
+}
+
+fn unread_changes(fault: ReadFault) -> Trouble
+    ensures exact { result ≡ changes_trouble_of_file fault }
+{
+    match fault {
+        ReadFault::Absent => Trouble::NoFile,
+        ReadFault::Failed => Trouble::NoFile,
+        ReadFault::TooLong { line } => Trouble::BadChanges(line, ChangesCause::Limit),
+        ReadFault::NoMemory => Trouble::NoMemory,
+    }
+}
+
+fn misread_changes(fault: ChangesFault) -> Trouble
+    ensures exact { result ≡ trouble_of_changes fault }
+{
+    match fault {
+        ChangesFault::Bad { line, cause } => Trouble::BadChanges(line, cause),
+        ChangesFault::NoMemory => Trouble::NoMemory,
     }
 }
 

@@ -56,6 +56,7 @@ Performs-refused asked before after status trouble.NoFile loads ends =
 Performs-refused asked before after status (trouble.BadData line cause) loads ends =
     (BadData, bad_data_text line (cause_of cause), (λ words is. (line, cause_of cause, record { asked = asked; asks = is; bad = loads.0 }, refl, loads.1)), ends)
 Performs-refused asked before after status (trouble.BadLine file line) loads ends = absurd loads
+Performs-refused asked before after status (trouble.BadChanges line cause) loads ends = absurd loads
 Performs-refused asked before after status trouble.NoMemory loads ends = (NoMemory, [], (λ words is. (refl, loads)), ends)
 
 -- a file that wasn't read after a count stayed
@@ -90,6 +91,7 @@ Performs-script_refused asked before after middle status rows (trouble.BadLine f
   (λ words is. (line, record { asked = asked; entries = entries_of rows; asks = is; good_data = loads.0; bad = refused.1 }, ap (λ kind. bad_line_text kind line) refused.0, refused.2 ∙ loads.2)),
   ends,
 )
+Performs-script_refused asked before after middle status rows (trouble.BadChanges line cause) loads refused ends = absurd refused
 Performs-script_refused asked before after middle status rows trouble.NoMemory loads refused ends = (NoMemory, [], (λ words is. (refl, refused ∙ loads.2)), ends)
 
 -- both files were accepted, and an audit was to be put

@@ -31,7 +31,7 @@ use Rattle.command_files.specs.loading.Accepting.{HoldsOf, HoldsIn, IsUnread, Is
 use Rattle.command_files.specs.loading.Loading.{IsRefused, IsMisread, LoadsCertificate, LoadsRequests, LoadsScript, LoadsData, ReadsRequests, ReadsScript, ReadsData, data_trouble_of_file, trouble_of_asks, trouble_of_data, trouble_of_file, trouble_of_script}
 
 -- what holds of the content that was given holds of the file, where the shelf tells
-HoldsIn-given : (files : Option Files) (name content : List ℕ) (P : List ℕ → Type 0) → GivesFile files name content → P content → HoldsIn files name P
+pub HoldsIn-given : (files : Option Files) (name content : List ℕ) (P : List ℕ → Type 0) → GivesFile files name content → P content → HoldsIn files name P
 unfolding HoldsIn GivesFile
 HoldsIn-given None name content P gives holds = tt
 HoldsIn-given (Some files) name content P gives holds = let Q : Option (List ℕ) → Type 0 = λ file. HoldsOf P file in subst Q (sym gives) holds
@@ -43,6 +43,7 @@ module _ (kind : SecondFile) (bad : ℕ → List ℕ → Type 0) (files : Option
   IsRefused-given content trouble.NoFile gives stays misread = absurd misread
   IsRefused-given content (trouble.BadData line cause) gives stays misread = absurd misread
   IsRefused-given content (trouble.BadLine other line) gives stays misread = (misread.0, HoldsIn-given files name content (bad line) gives misread.1, stays)
+  IsRefused-given content (trouble.BadChanges line cause) gives stays misread = absurd misread
   IsRefused-given content trouble.NoMemory gives stays misread = stays
 
   -- a file that is too long is bad
@@ -146,6 +147,7 @@ data_given files name content before after (Ok rows) gives stays reads = (HoldsI
 data_given files name content before after (Err trouble.NoFile) gives stays reads = absurd reads
 data_given files name content before after (Err (trouble.BadData line cause)) gives stays reads = (HoldsIn-given files name content (IsBadData line (cause_of cause)) gives reads, stays)
 data_given files name content before after (Err (trouble.BadLine kind line)) gives stays reads = absurd reads
+data_given files name content before after (Err (trouble.BadChanges line cause)) gives stays reads = absurd reads
 data_given files name content before after (Err trouble.NoMemory) gives stays reads = stays
 
 pub LoadsData-read :

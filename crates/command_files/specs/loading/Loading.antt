@@ -1,5 +1,5 @@
 -- What reading the files of a command gives, and why it gives nothing.
-use Rattle.std.specs.Prelude.{◌≡◌, ℕ, List, [], Option, Result, Ok, Err, Vec}
+use Rattle.std.specs.Prelude.{◌≡◌, ◌⊎◌, ℕ, List, [], Option, Result, Ok, Err, Vec}
 use Rattle.std.specs.Global.{Global}
 use Rattle.wire_io.specs.script_text.declared.event.ScriptFault.{ScriptFault}
 use Rattle.wire_io.specs.script_text.declared.event.ScriptFault.TheVariants as script
@@ -7,8 +7,9 @@ use Rattle.wire_io.specs.declared.answers.ReadFault.{ReadFault}
 use Rattle.wire_io.specs.declared.answers.ReadFault.TheVariants as read
 use Rattle.wire_io.specs.Files.{Files}
 use Rattle.wire_io.specs.Scripted.{LinkState, fresh_link}
+use Rattle.dir_tree.specs.Entry.{EntryInformation}
 use Rattle.dir_tree.specs.tree.Numbered.{Numbered, entries_of}
-use Rattle.aci_item.specs.Rules.{IsGoodTree}
+use Rattle.change_replay.specs.aci_item.Rules.{IsGoodTree}
 use Rattle.data_file.specs.ldif_load.declared.fault.LoadCause.TheVariants.{Limit}
 use Rattle.data_file.specs.declared.fault.DataCause.TheVariants as DataCause
 use Rattle.data_file.specs.declared.fault.DataFault.{DataFault}
@@ -22,7 +23,12 @@ use Rattle.command_files.specs.declared.loading.SecondFile.{SecondFile}
 use Rattle.command_files.specs.declared.loading.SecondFile.TheVariants as second
 use Rattle.command_files.specs.declared.loading.Trouble.{Trouble}
 use Rattle.command_files.specs.declared.loading.Trouble.TheVariants as trouble
-use Rattle.command_files.specs.loading.Accepting.{IsUnread, HoldsIn, IsBadData, IsGoodData, IsTooLong, IsBadScript, IsGoodScript, IsBadRequests, IsGoodRequests, IsContent}
+use Rattle.command_files.specs.declared.changing.Loaded.{Loaded}
+use Rattle.command_files.specs.declared.changing.ChangesCause.TheVariants as changes_cause
+use Rattle.command_files.specs.declared.changing.ChangesFault.{ChangesFault}
+use Rattle.command_files.specs.declared.changing.ChangesFault.TheVariants as changing
+use Rattle.command_files.specs.loading.Changing.{changed_by, left_of}
+use Rattle.command_files.specs.loading.Accepting.{IsUnread, HoldsIn, IsBadBeside, IsBadChanges, IsBadData, IsGoodChanges, IsGoodData, IsLoaded, IsUnreadBeside, IsTooLong, IsBadScript, IsGoodScript, IsBadRequests, IsGoodRequests, IsContent}
 
 -- the data file of the name was loaded, or why not
 unfoldable pub LoadsData : Option Files → List ℕ → ℕ → ℕ → Result (List Numbered) Trouble → Type 0
@@ -30,6 +36,7 @@ LoadsData files name before after (Ok rows) = HoldsIn files name (IsGoodData (en
 LoadsData files name before after (Err trouble.NoFile) = IsUnread files name before after
 LoadsData files name before after (Err (trouble.BadData line cause)) = HoldsIn files name (IsBadData line (cause_of cause)) × (after ≡ before)
 LoadsData files name before after (Err (trouble.BadLine kind line)) = ⊥
+LoadsData files name before after (Err (trouble.BadChanges line cause)) = ⊥
 LoadsData files name before after (Err trouble.NoMemory) = after ≡ before
 
 -- the data file was loaded, or is bad at this line
@@ -38,6 +45,7 @@ ReadsData content (Ok rows) = IsGoodData (entries_of rows) content × IsGoodTree
 ReadsData content (Err trouble.NoFile) = ⊥
 ReadsData content (Err (trouble.BadData line cause)) = IsBadData line (cause_of cause) content
 ReadsData content (Err (trouble.BadLine kind line)) = ⊥
+ReadsData content (Err (trouble.BadChanges line cause)) = ⊥
 ReadsData content (Err trouble.NoMemory) = Unit {0}
 
 -- why a file that is read after the data file isn't taken, where a line of it is bad in this sense
@@ -45,6 +53,7 @@ unfoldable pub IsRefused : SecondFile → (ℕ → List ℕ → Type 0) → Opti
 IsRefused kind bad files name before after trouble.NoFile = IsUnread files name before after
 IsRefused kind bad files name before after (trouble.BadData line cause) = ⊥
 IsRefused kind bad files name before after (trouble.BadLine other line) = (other ≡ kind) × HoldsIn files name (bad line) × (after ≡ before)
+IsRefused kind bad files name before after (trouble.BadChanges line cause) = ⊥
 IsRefused kind bad files name before after trouble.NoMemory = after ≡ before
 
 -- the same of its content
@@ -52,6 +61,7 @@ unfoldable pub IsMisread : SecondFile → (ℕ → List ℕ → Type 0) → List
 IsMisread kind bad content trouble.NoFile = ⊥
 IsMisread kind bad content (trouble.BadData line cause) = ⊥
 IsMisread kind bad content (trouble.BadLine other line) = (other ≡ kind) × bad line content
+IsMisread kind bad content (trouble.BadChanges line cause) = ⊥
 IsMisread kind bad content trouble.NoMemory = Unit {0}
 
 -- the script of the name was read, or why not
@@ -79,6 +89,51 @@ unfoldable pub LoadsCertificate : Option Files → List ℕ → ℕ → ℕ → 
 LoadsCertificate files name before after (Ok octets) = HoldsIn files name (IsContent octets.items) × (after ≡ before)
 LoadsCertificate files name before after (Err why) = IsRefused second.Certificate IsTooLong files name before after why
 
+-- the changes of a text were applied to the entries of the data file of this content, or a line of it isn't accepted; the
+-- tree that is left is good
+unfoldable pub ReadsChanges : List EntryInformation → List ℕ → List ℕ → Result Loaded Trouble → Type 0
+ReadsChanges entries content text (Ok loaded) = (changed_by entries content text ≡ Ok (left_of loaded)) × IsGoodTree (entries_of loaded.tree)
+ReadsChanges entries content text (Err trouble.NoFile) = ⊥
+ReadsChanges entries content text (Err (trouble.BadData line cause)) = ⊥
+ReadsChanges entries content text (Err (trouble.BadLine kind line)) = ⊥
+ReadsChanges entries content text (Err (trouble.BadChanges line cause)) = changed_by entries content text ≡ Err (record { line = line; cause = cause })
+ReadsChanges entries content text (Err trouble.NoMemory) = Unit {0}
+
+-- the same of the file of the name
+unfoldable pub LoadsChanges : List EntryInformation → List ℕ → Option Files → List ℕ → ℕ → ℕ → Result Loaded Trouble → Type 0
+LoadsChanges entries content files name before after (Ok loaded) =
+    HoldsIn files name (IsGoodChanges entries (left_of loaded) content) × IsGoodTree (entries_of loaded.tree) × (after ≡ before)
+LoadsChanges entries content files name before after (Err trouble.NoFile) = IsUnread files name before after
+LoadsChanges entries content files name before after (Err (trouble.BadData line cause)) = ⊥
+LoadsChanges entries content files name before after (Err (trouble.BadLine kind line)) = ⊥
+LoadsChanges entries content files name before after (Err (trouble.BadChanges line cause)) =
+    HoldsIn files name (IsBadChanges entries line cause content) × (after ≡ before)
+LoadsChanges entries content files name before after (Err trouble.NoMemory) = after ≡ before
+
+-- the data file of this content was loaded, and the changes of the file of the name were applied, or why not
+unfoldable pub LoadsBeside : List ℕ → Option Files → List ℕ → ℕ → ℕ → Result Loaded Trouble → Type 0
+LoadsBeside content files name before after (Ok loaded) =
+    (entries : List EntryInformation) × IsGoodData entries content × LoadsChanges entries content files name before after (Ok loaded)
+LoadsBeside content files name before after (Err trouble.NoFile) =
+    (entries : List EntryInformation) × IsGoodData entries content × IsUnread files name before after
+LoadsBeside content files name before after (Err (trouble.BadData line cause)) = IsBadData line (cause_of cause) content × (after ≡ before)
+LoadsBeside content files name before after (Err (trouble.BadLine kind line)) = ⊥
+LoadsBeside content files name before after (Err (trouble.BadChanges line cause)) =
+    (entries : List EntryInformation) × IsGoodData entries content × LoadsChanges entries content files name before after (Err (trouble.BadChanges line cause))
+LoadsBeside content files name before after (Err trouble.NoMemory) = after ≡ before
+
+-- the tree of the data file of the name was loaded, and the changes of the second file were applied, where one is named, or
+-- why not: the data file's own faults come first
+unfoldable pub LoadsTree : Option Files → List ℕ → Option (List ℕ) → ℕ → ℕ → Result Loaded Trouble → Type 0
+LoadsTree files name changes before after (Ok loaded) =
+    IsLoaded (HoldsIn files) name changes (left_of loaded) × IsGoodTree (entries_of loaded.tree) × (after ≡ before)
+LoadsTree files name changes before after (Err trouble.NoFile) =
+    IsUnread files name before after ⊎ IsUnreadBeside files name before after changes
+LoadsTree files name changes before after (Err (trouble.BadData line cause)) = HoldsIn files name (IsBadData line (cause_of cause)) × (after ≡ before)
+LoadsTree files name changes before after (Err (trouble.BadLine kind line)) = ⊥
+LoadsTree files name changes before after (Err (trouble.BadChanges line cause)) = IsBadBeside files name line cause changes × (after ≡ before)
+LoadsTree files name changes before after (Err trouble.NoMemory) = after ≡ before
+
 -- why a data file wasn't read, by the fault of reading the file
 abbrev pub data_trouble_of_file : ReadFault → Trouble
 data_trouble_of_file read.Absent = trouble.NoFile
@@ -97,6 +152,18 @@ trouble_of_file kind read.Absent = trouble.NoFile
 trouble_of_file kind read.Failed = trouble.NoFile
 trouble_of_file kind (read.TooLong line) = trouble.BadLine kind line
 trouble_of_file kind read.NoMemory = trouble.NoMemory
+
+-- why a file of changes wasn't read, by the fault of reading the file
+abbrev pub changes_trouble_of_file : ReadFault → Trouble
+changes_trouble_of_file read.Absent = trouble.NoFile
+changes_trouble_of_file read.Failed = trouble.NoFile
+changes_trouble_of_file (read.TooLong line) = trouble.BadChanges line changes_cause.Limit
+changes_trouble_of_file read.NoMemory = trouble.NoMemory
+
+-- why its changes weren't applied
+abbrev pub trouble_of_changes : ChangesFault → Trouble
+trouble_of_changes (changing.Bad line cause) = trouble.BadChanges line cause
+trouble_of_changes changing.NoMemory = trouble.NoMemory
 
 -- why a script file isn't accepted, by the fault of reading its text
 abbrev pub trouble_of_script : ScriptFault → Trouble

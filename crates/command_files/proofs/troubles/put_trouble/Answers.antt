@@ -8,6 +8,9 @@ returns-in-NoFile-clause-tells g c = rw c.in-NoFile.is c.write_all.ensures.tells
 pub returns-in-BadData-clause-tells : goal.returns-in-BadData-clause-tells
 returns-in-BadData-clause-tells g c = rw c.in-BadData.is c.put_bad_data.ensures.tells
 
+pub returns-in-BadChanges-clause-tells : goal.returns-in-BadChanges-clause-tells
+returns-in-BadChanges-clause-tells g c = rw c.in-BadChanges.is c.put_bad_changes.ensures.tells
+
 pub returns-in-BadLine-clause-tells : goal.returns-in-BadLine-clause-tells
 returns-in-BadLine-clause-tells g c = rw c.in-BadLine.is c.put_bad_line.ensures.tells
 
