@@ -13,8 +13,10 @@ use Rattle.session_hub.specs.Answering.{rules}
 use Rattle.session_hub.specs.declared.ended.Ended.TheVariants as ended
 use Rattle.acl_program.specs.declared.status.Status.TheVariants.{Done, TurnsSpent, LinkFault}
 use Rattle.acl_program.specs.Lines.{line_of, lines_of, replay_text}
+use Rattle.command_files.specs.declared.changing.ChangesCause.TheVariants.{Digest}
+use Rattle.command_files.specs.loading.Changing.{changed, unchanged}
 use Rattle.command_files.specs.declared.loading.SecondFile.TheVariants.{Script, Requests, Certificate}
-use Rattle.acl_program.specs.Outcomes.{BadLine, FalseLine, Replayed, Served, text_of, status_of}
+use Rattle.acl_program.specs.Outcomes.{BadChangesLine, BadLine, Checked, FalseLine, Replayed, Served, text_of, status_of}
 use Rattle.acl_program.specs.serve.Serving.{ServeAsked, NotOpened, LoopEnded, serve_asked}
 
 -- a line with octets, with none, and of a connection that was hung up
@@ -42,6 +44,19 @@ bad_request = refl
 bad_certificate : text_of (BadLine Certificate 13) ≡ codes "bad certificate line 13\n"
 unfolding text_of digits
 bad_certificate = refl
+
+bad_changes : text_of (BadChangesLine 2 Digest) ≡ codes "bad changes line 2: digest\n"
+unfolding text_of digits
+bad_changes = refl
+
+-- a tree without entries, and one to which three changes were applied before a torn end of 17 octets
+checked : text_of (Checked (unchanged [])) ≡ codes "ok 0 0\n"
+unfolding text_of digits
+checked = refl
+
+checked_changed : text_of (Checked (changed [] 3 17)) ≡ codes "ok 0 0\nchanges 3 torn 17\n"
+unfolding text_of digits
+checked_changed = refl
 
 -- and one that is false
 false_line : text_of (FalseLine 9) ≡ codes "false line 9\n"

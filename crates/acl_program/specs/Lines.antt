@@ -12,6 +12,7 @@ use Rattle.session_hub.specs.session_model.Journaled.{steps_of_events}
 use Rattle.session_hub.specs.Parties.{DirectoryEntries, Requester}
 use Rattle.session_hub.specs.Answering.{rules}
 use Rattle.session_hub.specs.serve.Loops.{buffer_length}
+use Rattle.session_hub.specs.Terms.{no_terms}
 
 -- octets in hexadecimal with lower-case letters, or `-` where there are none
 abbrev pub shown : List ℕ → List ℕ
@@ -38,11 +39,11 @@ heard_of events turns = take turns (pieces buffer_length events)
 -- the sessions after those events over these entries, where each connection that closes is hung up at once, and searches
 -- have no limit but their own
 abbrev pub replay_of : DirectoryEntries → List ScriptEvent → ℕ → Sessions DirectoryEntries Requester
-replay_of entries events turns = replayed (rules 0) entries (steps_of_events (heard_of events turns))
+replay_of entries events turns = replayed (rules no_terms) entries (steps_of_events (heard_of events turns))
 
 -- all that is sent to connection 1 over these entries where all of these events are heard
 unfoldable pub sent_over : DirectoryEntries → List ScriptEvent → List ℕ
-sent_over entries events = ((replayed (rules 0) entries (steps_of_events (pieces buffer_length events))).of 1).reply
+sent_over entries events = ((replayed (rules no_terms) entries (steps_of_events (pieces buffer_length events))).of 1).reply
 
 -- the text of a replay: the lines after them
 unfoldable pub replay_text : DirectoryEntries → List ScriptEvent → ℕ → List ℕ

@@ -1,5 +1,5 @@
 -- What the program comes to: one row an outcome, with the text that it prints and how it ends.
-use Rattle.std.specs.Prelude.{ℕ, Bool, true, false, ◌++◌, nat_lt, List, [], length, codes, decimal, if◌then◌else◌, Result, Ok, Err}
+use Rattle.std.specs.Prelude.{ℕ, Bool, true, false, ◌++◌, nat_lt, List, [], length, codes, decimal, if◌then◌else◌, Option, Some, None, Result, Ok, Err}
 use Rattle.command_files.specs.script_text.declared.event.ScriptEvent.{ScriptEvent}
 use Rattle.command_files.specs.wire_io.declared.answers.PutFault.{PutFault}
 use Rattle.command_files.specs.wire_io.declared.answers.PutFault.TheVariants as put
@@ -7,28 +7,33 @@ use Rattle.command_files.specs.wire_io.Pieces.{pieces}
 use Rattle.session_hub.specs.serve.Loops.{buffer_length}
 use Rattle.command_files.specs.dir_tree.Entry.{EntryInformation}
 use Rattle.command_files.specs.dir_tree.Points.{access_subentries}
+use Rattle.command_files.specs.declared.changing.Applied.{Applied}
+use Rattle.command_files.specs.declared.changing.ChangesCause.{ChangesCause}
 use Rattle.command_files.specs.declared.loading.SecondFile.{SecondFile}
+use Rattle.command_files.specs.loading.Changing.{Left}
 use Rattle.command_files.specs.ldif_records.writing.WrittenFile.{written_file}
 use Rattle.command_files.specs.ldif_load.load.DataFile.{FileCause}
-use Rattle.command_files.specs.Troubles.{no_file_text, bad_data_text, bad_line_text}
+use Rattle.command_files.specs.Troubles.{no_file_text, bad_data_text, bad_changes_text, bad_line_text}
 use Rattle.acl_program.specs.declared.status.Status.{Status}
 use Rattle.acl_program.specs.declared.status.Status.TheVariants.{Done, Usage, BadData, ShelfFault, SinkFault, LinkFault, TurnsSpent, NoMemory, BadScript, NotProved}
 use Rattle.acl_program.specs.Lines.{replay_text, entries_after}
 use Rattle.acl_program.specs.serve.Serving.{ServeAsked, ServeEnd, serve_text, serve_status}
 
--- no command is asked for; a file wasn't read; the data file's first bad line, and why; the first bad line of a script, of
--- requests or of a certificate; the first line of a certificate that isn't that of the loaded tree; a data file was checked,
--- or put again; a script was replayed for so many turns, and the tree put after it if that was asked for; a data file was
--- served over the link; what was asked of a data file was answered by this text; a sample was made and served; memory ran
--- out before anything was printed
+-- no command is asked for; a file wasn't read; the data file's first bad line, and why; the first line at which a file of
+-- changes isn't accepted, and why; the first bad line of a script, of requests or of a certificate; the first line of a
+-- certificate that isn't that of the loaded tree; a data file, or what changes leave of it, was checked, or put again; a
+-- script was replayed for so many turns, and the tree put after it if that was asked for; a data file was served over the
+-- link; what was asked of a data file was answered by this text; a sample was made and served; memory ran out before
+-- anything was printed
 pub data Outcome : Type 0 where
   NoCommand : Outcome
   NoFile : Outcome
   BadDataLine : (line : ℕ) (cause : FileCause) → Outcome
+  BadChangesLine : (line : ℕ) (cause : ChangesCause) → Outcome
   BadLine : (file : SecondFile) (line : ℕ) → Outcome
   FalseLine : (line : ℕ) → Outcome
-  Checked : (entries : List EntryInformation) → Outcome
-  Dumped : (entries : List EntryInformation) → Outcome
+  Checked : (left : Left) → Outcome
+  Dumped : (left : Left) → Outcome
   Replayed : (events : List ScriptEvent) (turns : ℕ) (dump : Bool) (entries : List EntryInformation) → Outcome
   Served : (asked : ServeAsked) (end : ServeEnd) → Outcome
   Answered : (text : List ℕ) → Outcome
@@ -40,15 +45,22 @@ abbrev pub dump_text : Bool → List EntryInformation → List ℕ
 dump_text true entries = written_file entries
 dump_text false entries = []
 
+-- what was applied of a file of changes, where there is one
+abbrev pub applied_text : Option Applied → List ℕ
+applied_text None = []
+applied_text (Some applied) = codes "changes " ++ (decimal applied.count ++ (codes " torn " ++ (decimal applied.torn ++ codes "\n")))
+
 -- what is printed
 unfoldable pub text_of : Outcome → List ℕ
 text_of NoCommand = codes "usage: aclserver (serve|replay|check|dump|explain|sample|ask|prove|verify|rights) WORDS\n"
 text_of NoFile = no_file_text
 text_of (BadDataLine line cause) = bad_data_text line cause
+text_of (BadChangesLine line cause) = bad_changes_text line cause
 text_of (BadLine file line) = bad_line_text file line
 text_of (FalseLine line) = codes "false line " ++ (decimal line ++ codes "\n")
-text_of (Checked entries) = codes "ok " ++ (decimal (length entries) ++ (codes " " ++ (decimal (access_subentries entries) ++ codes "\n")))
-text_of (Dumped entries) = written_file entries
+text_of (Checked left) =
+    codes "ok " ++ (decimal (length left.entries) ++ (codes " " ++ (decimal (access_subentries left.entries) ++ (codes "\n" ++ applied_text left.applied))))
+text_of (Dumped left) = written_file left.entries
 text_of (Replayed events turns dump entries) = replay_text entries events turns ++ dump_text dump (entries_after entries events turns)
 text_of (Served asked end) = serve_text asked.serving.address end
 text_of (Answered text) = text
@@ -60,10 +72,11 @@ unfoldable pub status_of : Outcome → Status
 status_of NoCommand = Usage
 status_of NoFile = ShelfFault
 status_of (BadDataLine line cause) = BadData
+status_of (BadChangesLine line cause) = BadData
 status_of (BadLine file line) = BadScript
 status_of (FalseLine line) = NotProved
-status_of (Checked entries) = Done
-status_of (Dumped entries) = Done
+status_of (Checked left) = Done
+status_of (Dumped left) = Done
 status_of (Replayed events turns dump entries) = if nat_lt (length (pieces buffer_length events)) turns then Done else TurnsSpent
 status_of (Served asked end) = serve_status end
 status_of (Answered text) = Done

@@ -40,8 +40,8 @@ pub record RefusesSample (words : List (List ℕ)) (line : ℕ) (cause : FileCau
 abbrev pub IsFew : CommandView → Type 0
 IsFew (Serve serving) = Unit {0}
 IsFew (Replay data_file script turns dump) = Unit {0}
-IsFew (Check data_file) = Unit {0}
-IsFew (Dump data_file) = Unit {0}
+IsFew (Check data_file changes) = Unit {0}
+IsFew (Dump data_file changes) = Unit {0}
 IsFew (Explain data_file who target item permission) = Unit {0}
 IsFew (Sample count) = count ≤ 20000
 IsFew (Ask data_file requests script) = Unit {0}

@@ -42,6 +42,8 @@ pub(crate) fn serve_link(
 {
     match serve_loop(alloc, dir, link, TURNS, Bounds::NONE) {
         Ended::Stopped => Ok(()),
-        Ended::TurnsSpent | Ended::LinkFault | Ended::NoMemory => Err(AllocError),
+        Ended::TurnsSpent | Ended::LinkFault | Ended::StoreFault | Ended::NoMemory => {
+            Err(AllocError)
+        },
     }
 }

@@ -1,12 +1,14 @@
-//! The commands `check` and `dump`: a data file loaded, and counted or put again.
+//! The commands `check` and `dump`: a data file loaded, and its changes applied where there are some; and the tree that is
+//! left counted, or put as a data file.
 
-ghost use Rattle.std.specs.Prelude.{◌≡◌, IfOk, string_bytes};
+ghost use Rattle.std.specs.Prelude.{◌≡◌, IfOk, option_copied, string_bytes};
 ghost use Rattle.command_words.specs.command.Command.{Check, Dump};
 ghost use Rattle.command_files.specs.dir_tree.Points.{access_subentries};
 ghost use Rattle.command_files.specs.dir_tree.tree.Numbered.{entries_of};
 ghost use Rattle.command_files.specs.aci_item.Rules.{IsGoodTree};
+ghost use Rattle.command_files.specs.loading.Changing.{left_of};
 ghost use Rattle.command_files.specs.Outside.{written};
-ghost use Rattle.acl_program.specs.Outcomes.{Checked, Dumped, status_of, text_of};
+ghost use Rattle.acl_program.specs.Outcomes.{Checked, Dumped, applied_text, status_of, text_of};
 ghost use Rattle.acl_program.specs.program.Outside.{Linked, outside};
 ghost use Rattle.acl_program.specs.program.Playing.{Ends, Performs};
 
@@ -14,35 +16,37 @@ use crate::status::Status;
 use crate::troubles::print_trouble;
 use command_files::data_file::put_tree;
 use command_files::dir_tree::Tree;
-use command_files::load_data;
 use command_files::wire_io::{Shelf, Sink, write_all};
+use command_files::{Applied, Loaded, load_tree};
 use std::alloc::{AllocError, Global};
 
-/// Loads the data file, and prints how many entries and access control subentries it has.
+/// Loads the data file, applies the changes where there are some, and prints how many entries and access control subentries
+/// are left, and how many changes were applied.
 pub(crate) fn check<H: Shelf, K: Sink>(
     alloc: Global,
     name: &str,
+    changes: Option<&str>,
     shelf: &mut H,
     out: &mut K,
 ) -> Status
-    ensures performs { (link : Linked) → Performs (Check name.now)
+    ensures performs { (link : Linked) → Performs (Check name.now (option_copied changes.entry))
         (outside (H.files shelf.old) (H.faults shelf.old) (K.put out.old) (K.faults out.old) link) result
         (outside (H.files shelf.new) (H.faults shelf.new) (K.put out.new) (K.faults out.new) link) }
     ensures kept { H.files shelf.new ≡ H.files shelf.old }
 {
-    match load_data(alloc, shelf, name) {
-        Ok(tree) => print_counts(alloc, &tree, out),
+    match load_tree(alloc, shelf, name, changes) {
+        Ok(loaded) => print_counts(alloc, &loaded, out),
         Err(trouble) => print_trouble(alloc, trouble, out),
     }
 }
 
-/// Prints how many entries and access control subentries the tree has.
+/// Prints how many entries and access control subentries the tree has, and how many changes were applied.
 #[tactic(auto, unfolding(crate::specs::Outcomes::text_of, crate::specs::Outcomes::status_of))]
-fn print_counts<K: Sink>(alloc: Global, tree: &Tree, out: &mut K) -> Status
-    ensures ends { Ends (Checked (entries_of tree.now)) (written (K.put out.old) (K.faults out.old)) result
+fn print_counts<K: Sink>(alloc: Global, loaded: &Loaded, out: &mut K) -> Status
+    ensures ends { Ends (Checked (left_of loaded.now)) (written (K.put out.old) (K.faults out.old)) result
         (written (K.put out.new) (K.faults out.new)) }
 {
-    let Ok(text) = counts(alloc, tree) else {
+    let Ok(text) = counts(alloc, loaded) else {
         return Status::NoMemory;
     };
     let put = write_all(out, text.as_bytes());
@@ -50,12 +54,23 @@ fn print_counts<K: Sink>(alloc: Global, tree: &Tree, out: &mut K) -> Status
 }
 
 #[tactic(auto, unfolding(crate::specs::Outcomes::text_of))]
-fn counts(alloc: Global, tree: &Tree) -> Result<String, AllocError>
-    ensures { IfOk result (λ text. string_bytes text ≡ text_of (Checked (entries_of tree.now))) }
+fn counts(alloc: Global, loaded: &Loaded) -> Result<String, AllocError>
+    ensures { IfOk result (λ text. string_bytes text ≡ text_of (Checked (left_of loaded.now))) }
 {
-    let entries = tree.len();
-    let subentries = count_subentries(tree);
-    format!(in alloc; "ok {entries} {subentries}\n")
+    let entries = loaded.tree.len();
+    let subentries = count_subentries(&loaded.tree);
+    let applied = applied_text(alloc, loaded.applied)?;
+    format!(in alloc; "ok {entries} {subentries}\n{applied}")
+}
+
+/// How many changes were applied, and how many octets are torn, where there is a file of changes.
+fn applied_text(alloc: Global, applied: Option<Applied>) -> Result<String, AllocError>
+    ensures { IfOk result (λ text. string_bytes text ≡ applied_text applied) }
+{
+    match applied {
+        Some(Applied { count, torn }) => format!(in alloc; "changes {count} torn {torn}\n"),
+        None => String::from_str(alloc, ""),
+    }
 }
 
 // How many access control subentries the tree has.
@@ -65,31 +80,32 @@ fn count_subentries(tree: &Tree) -> usize
     tree.access_subentries().len()
 }
 
-/// Loads the data file, and prints the tree as a data file.
+/// Loads the data file, applies the changes where there are some, and prints the tree that is left as a data file.
 pub(crate) fn dump<H: Shelf, K: Sink>(
     alloc: Global,
     name: &str,
+    changes: Option<&str>,
     shelf: &mut H,
     out: &mut K,
 ) -> Status
-    ensures performs { (link : Linked) → Performs (Dump name.now)
+    ensures performs { (link : Linked) → Performs (Dump name.now (option_copied changes.entry))
         (outside (H.files shelf.old) (H.faults shelf.old) (K.put out.old) (K.faults out.old) link) result
         (outside (H.files shelf.new) (H.faults shelf.new) (K.put out.new) (K.faults out.new) link) }
     ensures kept { H.files shelf.new ≡ H.files shelf.old }
 {
-    match load_data(alloc, shelf, name) {
-        Ok(tree) => print_tree(alloc, &tree, out),
+    match load_tree(alloc, shelf, name, changes) {
+        Ok(loaded) => print_tree(alloc, &loaded, out),
         Err(trouble) => print_trouble(alloc, trouble, out),
     }
 }
 
 /// Prints the tree as a data file.
 #[tactic(auto, unfolding(crate::specs::Outcomes::text_of, crate::specs::Outcomes::status_of))]
-fn print_tree<K: Sink>(alloc: Global, tree: &Tree, out: &mut K) -> Status
-    requires { IsGoodTree (entries_of tree.now) }
-    ensures ends { Ends (Dumped (entries_of tree.now)) (written (K.put out.old) (K.faults out.old)) result
+fn print_tree<K: Sink>(alloc: Global, loaded: &Loaded, out: &mut K) -> Status
+    requires { IsGoodTree (entries_of loaded.now.tree) }
+    ensures ends { Ends (Dumped (left_of loaded.now)) (written (K.put out.old) (K.faults out.old)) result
         (written (K.put out.new) (K.faults out.new)) }
 {
-    let put = put_tree(alloc, tree, out);
+    let put = put_tree(alloc, &loaded.tree, out);
     Status::Done.after(put)
 }

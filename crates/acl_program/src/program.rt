@@ -28,17 +28,20 @@ use std::alloc::Global;
 
 /// Does what the words after the program's name ask for, and says how it ended.
 ///
-/// `check DATA` loads the data file and puts `ok E S`: E counts its entries, and S its access control subentries.
-/// `dump DATA` puts the loaded tree as a data file. `replay DATA SCRIPT [--dump] [--turns N]` loads the data file, reads
-/// the script file, serves its events as those of a link's connections, at most N of them, and puts one line for each
-/// connection: its number, what was sent to it, and whether it was hung up; with `--dump` the tree follows as a data
-/// file. `explain DATA WHO TARGET ITEM PERMISSION` loads the data file and puts one access control decision over it, filter
-/// by filter. `prove DATA WHO TARGET ITEM PERMISSION` puts the same decision as a certificate, and `verify DATA CERTIFICATE`
-/// loads the data file, reads the certificate, and puts `valid granted` or `valid refused` where it is that of the loaded
-/// tree, and else its first line that isn't, as `false line L`. `rights DATA WHO TARGET` puts all decisions on one entry and
-/// what it holds. `ask DATA REQUESTS [--script]` loads the data file, reads the requests, serves them as those of one
-/// connection, and puts the replies; with `--script` it serves nothing, and puts the script that sends the requests.
-/// `sample N` makes a data file of N persons, half of whom access control hides, serves one connection that
+/// `check DATA [--changes FILE]` loads the data file and puts `ok E S`: E counts its entries, and S its access control
+/// subentries. With `--changes` the changes of the file, change records (RFC 2849) whose head has the SHA-256 of the data
+/// file, are applied first, in their order and without asking for permission; E and S count what is left, and a line
+/// `changes N torn M` follows: N changes were applied, and M octets stand behind the last whole record.
+/// `dump DATA [--changes FILE]` puts the tree that is left as a data file. `replay DATA SCRIPT [--dump] [--turns N]` loads
+/// the data file, reads the script file, serves its events as those of a link's connections, at most N of them, and puts
+/// one line for each connection: its number, what was sent to it, and whether it was hung up; with `--dump` the tree
+/// follows as a data file. `explain DATA WHO TARGET ITEM PERMISSION` loads the data file and puts one access control
+/// decision over it, filter by filter. `prove DATA WHO TARGET ITEM PERMISSION` puts the same decision as a certificate, and
+/// `verify DATA CERTIFICATE` loads the data file, reads the certificate, and puts `valid granted` or `valid refused` where
+/// it is that of the loaded tree, and else its first line that isn't, as `false line L`. `rights DATA WHO TARGET` puts all
+/// decisions on one entry and what it holds. `ask DATA REQUESTS [--script]` loads the data file, reads the requests, serves
+/// them as those of one connection, and puts the replies; with `--script` it serves nothing, and puts the script that sends
+/// the requests. `sample N` makes a data file of N persons, half of whom access control hides, serves one connection that
 /// searches for each of them, and puts how many entries there are, how many were sent, and how many replies say that there
 /// is no such object. `--help` puts how the program is called, and `--version` which version it is. These leave the link as
 /// it is.
@@ -50,7 +53,8 @@ use std::alloc::Global;
 /// puts `link fault`, and where the turns are spent `turns spent`. Other words put a line on how to call the program.
 ///
 /// The data file is read before any other. A file that isn't there, or that the shelf can't read, puts `data fault`; a
-/// file that isn't accepted puts its first bad line.
+/// file that isn't accepted puts its first bad line. A file of changes puts the line of its digest where that is of another
+/// data file, and the first line of the record that can't be applied, with the number of the LDAP result code.
 pub fn run<H: Shelf, K: Sink, L: Link>(
     alloc: Global,
     words: &[String],
@@ -154,8 +158,8 @@ fn perform<H: Shelf, K: Sink, L: Link>(
             shelf,
             out,
         ),
-        Command::Check { data } => check(alloc, data, shelf, out),
-        Command::Dump { data } => dump(alloc, data, shelf, out),
+        Command::Check { data, changes } => check(alloc, data, changes, shelf, out),
+        Command::Dump { data, changes } => dump(alloc, data, changes, shelf, out),
         Command::Explain {
             data,
             who,

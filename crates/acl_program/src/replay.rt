@@ -133,6 +133,7 @@ fn play_over<K: Sink>(
             out,
         ),
         Ended::LinkFault => Status::LinkFault,
+        Ended::StoreFault => Status::LinkFault,
         Ended::NoMemory => Status::NoMemory,
     }
 }

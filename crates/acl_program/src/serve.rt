@@ -9,7 +9,7 @@ ghost use Rattle.acl_program.specs.serve.Listening.{Listens, ListensOn, ServesOp
 ghost use Rattle.acl_program.specs.Outcomes.{Served};
 ghost use Rattle.acl_program.specs.program.Outside.{beside, linked, outside};
 ghost use Rattle.acl_program.specs.program.Playing.{Ends, Performs};
-ghost use Rattle.acl_program.specs.serve.Serving.{NotOpened, Opens, ServeAsked, ended_text, listening_text, loop_status, serve_asked};
+ghost use Rattle.acl_program.specs.serve.Serving.{NotOpened, Opens, ServeAsked, ended_text, listening_text, loop_status, serve_asked, terms_of};
 
 use crate::status::Status;
 use crate::troubles::print_trouble;
@@ -18,7 +18,7 @@ use command_files::dir_tree::Tree;
 use command_files::load_data;
 use command_files::wire_io::{Link, NextFault, PutFault, Shelf, Sink, write_all};
 use command_words::Serving;
-use session_hub::{Bounds, Ended, serve_loop};
+use session_hub::{Bounds, Ended, Terms, serve_loop};
 use std::alloc::{AllocError, Global};
 
 /// Loads the data file, opens the link, prints that it listens, and serves the tree until the link gives Stop or so many
@@ -156,10 +156,13 @@ fn serve_events<K: Sink, L: Link>(
 
 /// What queues may have, in octets, and what one search is given.
 fn bounds_of(asked: &Serving<'_>) -> Bounds
-    ensures limit { result.limit ≡ asked.now.limit }
+    ensures terms { result.terms ≡ terms_of (serving_view asked.now) }
 {
     Bounds {
-        limit: asked.limit,
+        terms: Terms {
+            limit: asked.limit,
+            keeps: false,
+        },
         queues: asked.queues.saturating_mul(1_048_576),
     }
 }
@@ -172,6 +175,7 @@ fn ended_text(ended: Ended) -> &'static str
         Ended::Stopped | Ended::NoMemory => "",
         Ended::TurnsSpent => "turns spent\n",
         Ended::LinkFault => "link fault\n",
+        Ended::StoreFault => "store fault\n",
     }
 }
 
@@ -182,7 +186,7 @@ fn loop_status(ended: Ended) -> Status
     match ended {
         Ended::Stopped => Status::Done,
         Ended::TurnsSpent => Status::TurnsSpent,
-        Ended::LinkFault => Status::LinkFault,
+        Ended::LinkFault | Ended::StoreFault => Status::LinkFault,
         Ended::NoMemory => Status::NoMemory,
     }
 }

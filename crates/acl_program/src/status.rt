@@ -12,7 +12,7 @@ pub enum Status {
     Done,
     /// The words are no command.
     Usage,
-    /// The data file isn't accepted.
+    /// The data file isn't accepted, or the file of changes isn't.
     BadData,
     /// A file could not be read, or the shelf knows its files and has none of this name.
     ShelfFault,

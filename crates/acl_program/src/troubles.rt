@@ -41,6 +41,7 @@ fn trouble_status(trouble: Trouble) -> Status
     match trouble {
         Trouble::NoFile => Status::ShelfFault,
         Trouble::BadData(_, _) => Status::BadData,
+        Trouble::BadChanges(_, _) => Status::BadData,
         Trouble::BadLine(_, _) => Status::BadScript,
         Trouble::NoMemory => Status::NoMemory,
     }

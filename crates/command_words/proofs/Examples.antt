@@ -94,12 +94,12 @@ unfolding clap_on_literals command_said said_by
 dump_for_turns = refl
 
 -- `check d`
-checked : read commands.Check (codes "d" ∷ []) ≡ Some (Check (codes "d"))
+checked : read commands.Check (codes "d" ∷ []) ≡ Some (Check (codes "d") None)
 unfolding clap_on_literals command_said said_by
 checked = refl
 
 -- `check -- -d`
-checked_after : read commands.Check (codes "--" ∷ codes "-d" ∷ []) ≡ Some (Check (codes "-d"))
+checked_after : read commands.Check (codes "--" ∷ codes "-d" ∷ []) ≡ Some (Check (codes "-d") None)
 unfolding clap_on_literals command_said said_by
 checked_after = refl
 
@@ -113,10 +113,45 @@ check_dumped : read commands.Check (codes "d" ∷ codes "--dump" ∷ []) ≡ Non
 unfolding clap_on_literals command_said said_by
 check_dumped = refl
 
+-- `check d --changes c`
+checked_with_changes : read commands.Check (codes "d" ∷ codes "--changes" ∷ codes "c" ∷ []) ≡ Some (Check (codes "d") (Some (codes "c")))
+unfolding clap_on_literals command_said said_by
+checked_with_changes = refl
+
+-- `check --changes=-c d`, whose file of changes begins with `-`
+checked_before : read commands.Check (codes "--changes=-c" ∷ codes "d" ∷ []) ≡ Some (Check (codes "d") (Some (codes "-c")))
+unfolding clap_on_literals command_said said_by
+checked_before = refl
+
+-- `check d --changes -`, and `check d --changes --changes`, where no name follows
+checked_with_dash : read commands.Check (codes "d" ∷ codes "--changes" ∷ codes "-" ∷ []) ≡ Some (Check (codes "d") (Some (codes "-")))
+unfolding clap_on_literals command_said said_by
+checked_with_dash = refl
+
+-- an option is no name of a file
+check_without_name : read commands.Check (codes "d" ∷ codes "--changes" ∷ codes "--changes" ∷ []) ≡ None
+unfolding clap_on_literals command_said said_by
+check_without_name = refl
+
+-- `check d --changes c --changes c`
+check_changed_twice : read commands.Check (codes "d" ∷ codes "--changes" ∷ codes "c" ∷ codes "--changes" ∷ codes "c" ∷ []) ≡ None
+unfolding clap_on_literals command_said said_by
+check_changed_twice = refl
+
 -- `dump d`
-dump_command : read commands.Dump (codes "d" ∷ []) ≡ Some (Dump (codes "d"))
+dump_command : read commands.Dump (codes "d" ∷ []) ≡ Some (Dump (codes "d") None)
 unfolding clap_on_literals command_said said_by
 dump_command = refl
+
+-- `dump d --changes=c`
+dump_with_changes : read commands.Dump (codes "d" ∷ codes "--changes=c" ∷ []) ≡ Some (Dump (codes "d") (Some (codes "c")))
+unfolding clap_on_literals command_said said_by
+dump_with_changes = refl
+
+-- `dump d --dump`, whose option is none of the command
+dump_dumped : read commands.Dump (codes "d" ∷ codes "--dump" ∷ []) ≡ None
+unfolding clap_on_literals command_said said_by
+dump_dumped = refl
 
 -- `dump`
 dump_of_nothing : read commands.Dump [] ≡ None

@@ -11,5 +11,4 @@ pub mod Complete
 pub mod Sayings
 pub mod Defaults
 pub mod Said
-pub mod Strict
 pub mod Commands

@@ -80,13 +80,15 @@ pub enum Command<'a> {
         turns: u64,
         dump: bool,
     },
-    /// `check DATA`: the name of the file.
+    /// `check DATA [--changes FILE]`: the name of the file, and that of the file of its changes where there is one.
     Check {
         data: &'a str,
+        changes: Option<&'a str>,
     },
-    /// `dump DATA`: the name of the file.
+    /// `dump DATA [--changes FILE]`: the name of the file, and that of the file of its changes where there is one.
     Dump {
         data: &'a str,
+        changes: Option<&'a str>,
     },
     /// `explain DATA WHO TARGET ITEM PERMISSION`: the name of the file, and the texts that ask for one
     /// decision, as they stand.
@@ -140,7 +142,7 @@ pub enum Command<'a> {
 /// at most once, as `--name text`, `--name=text` or, for one without an argument, `--name`; words after
 /// `--` are operands, and so is `-` alone (POSIX.1, Utility Syntax Guidelines; GNU's long options).
 /// A number stands in one to twenty decimal digits, and is in the range of its option; an address is `127.0.0.1:` and a port
-/// in one to five decimal digits, from 1 to 65,535. An `AllocError` comes where memory is wanted, and says
+/// in one to five decimal digits, from 1 to 65,535; the name of a file is any text. An `AllocError` comes where memory is wanted, and says
 /// nothing of the words.
 pub fn read_words<'a>(alloc: Global, words: &'a [String]) -> Result<Option<Command<'a>>, AllocError>
     ensures found { IfOk result (λ read. IfSome read (λ command.
@@ -275,7 +277,8 @@ fn read_check<'a>(matches: &ArgMatches<'a>) -> Option<Command<'a>>
     ensures { option_map view result ≡ kept_said CommandName.Check (kept_in matches.now) }
 {
     let data = kept_text(matches, Sought::Operands, 0)?;
-    Some(Command::Check { data })
+    let changes = kept_text(matches, Sought::Arguments(OptionName::Changes), 0);
+    Some(Command::Check { data, changes })
 }
 
 #[tactic(auto, unfolding(crate::specs::parser::Asked::command_said))]
@@ -283,7 +286,8 @@ fn read_dump<'a>(matches: &ArgMatches<'a>) -> Option<Command<'a>>
     ensures { option_map view result ≡ kept_said CommandName.Dump (kept_in matches.now) }
 {
     let data = kept_text(matches, Sought::Operands, 0)?;
-    Some(Command::Dump { data })
+    let changes = kept_text(matches, Sought::Arguments(OptionName::Changes), 0);
+    Some(Command::Dump { data, changes })
 }
 
 #[tactic(auto, unfolding(crate::specs::parser::Asked::command_said))]

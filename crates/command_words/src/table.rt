@@ -30,6 +30,7 @@ pub enum OptionName {
     Limit,
     Dump,
     Script,
+    Changes,
 }
 
 /// What a line is read for: its operands, or the arguments of an option.
@@ -119,8 +120,8 @@ impl CommandName {
                 OptionName::Limit,
             ],
             CommandName::Replay => &[OptionName::Dump, OptionName::Turns],
-            CommandName::Check => &[],
-            CommandName::Dump => &[],
+            CommandName::Check => &[OptionName::Changes],
+            CommandName::Dump => &[OptionName::Changes],
             CommandName::Explain => &[],
             CommandName::Sample => &[],
             CommandName::Ask => &[OptionName::Script],
@@ -146,6 +147,7 @@ impl OptionName {
             OptionName::Limit => "limit",
             OptionName::Dump => "dump",
             OptionName::Script => "script",
+            OptionName::Changes => "changes",
         }
     }
 
@@ -160,6 +162,7 @@ impl OptionName {
             OptionName::Limit => true,
             OptionName::Dump => false,
             OptionName::Script => false,
+            OptionName::Changes => true,
         }
     }
 }

@@ -32,6 +32,19 @@ fn serving_text(alloc: Global, serving: Serving<'_>) -> Result<String, AllocErro
     }
 }
 
+// A command of a data file, with its file of changes, if it has one.
+fn changed_text(
+    alloc: Global,
+    command: &str,
+    data: &str,
+    changes: Option<&str>,
+) -> Result<String, AllocError> {
+    match changes {
+        Some(changes) => format!(in alloc; "{command} [{data}] [{changes}]"),
+        None => format!(in alloc; "{command} [{data}]"),
+    }
+}
+
 // What words ask for, in one line: each text between brackets.
 fn answer(alloc: Global, words: &[String]) -> Result<String, AllocError> {
     match read_words(alloc, words)? {
@@ -47,8 +60,8 @@ fn answer(alloc: Global, words: &[String]) -> Result<String, AllocError> {
             "[{data}] [{script}] {turns}{}",
             if dump { " dump" } else { "" }
         ),
-        Some(Command::Check { data }) => format!(in alloc; "check [{data}]"),
-        Some(Command::Dump { data }) => format!(in alloc; "dump [{data}]"),
+        Some(Command::Check { data, changes }) => changed_text(alloc, "check", data, changes),
+        Some(Command::Dump { data, changes }) => changed_text(alloc, "dump", data, changes),
         Some(
             Command::Explain {
                 data,
@@ -96,7 +109,7 @@ fn asked(alloc: Global, line: &str) -> Result<String, AllocError> {
     answer(alloc, words.as_slice())
 }
 
-static READ: [(&str, &str); 92] = [
+static READ: [(&str, &str); 99] = [
     // a replay
     ("replay d s", "[d] [s] 1000000000000"),
     ("replay d s --turns 5", "[d] [s] 5"),
@@ -159,6 +172,13 @@ static READ: [(&str, &str); 92] = [
     ("check ", "check []"),
     ("check check", "check [check]"),
     ("check caf\u{e9}", "check [caf\u{e9}]"),
+    ("check d --changes c", "check [d] [c]"),
+    ("check --changes=c d", "check [d] [c]"),
+    ("check d --changes=", "check [d] []"),
+    ("check d --changes -", "check [d] [-]"),
+    ("check d --changes=-c", "check [d] [-c]"),
+    ("dump d --changes c", "dump [d] [c]"),
+    ("dump --changes=c -- d", "dump [d] [c]"),
     ("dump d", "dump [d]"),
     ("dump -- d", "dump [d]"),
     ("dump d --", "dump [d]"),
@@ -293,7 +313,18 @@ fn each_way_of_writing_a_command_is_read(rt: HostRuntime) -> Result<(), Fail> {
     Ok(())
 }
 
-static REFUSED: [&str; 213] = [
+static REFUSED: [&str; 223] = [
+    // a file of changes
+    "check d --changes",
+    "check d --changes -c",
+    "check d --changes --why",
+    "check d --changes c --changes c",
+    "check d --why",
+    "check d --why --why",
+    "check d --why=yes",
+    "dump d --why",
+    "replay d s --changes c",
+    "explain d anonymous dc=example entry Read --changes c",
     // other words
     "",
     "Replay d s",

@@ -10,7 +10,7 @@ use Rattle.acl_program.specs.declared.decisions.Account.{Account}
 use Rattle.acl_program.specs.Answering.{IsGoodCertificate, TellsDecision, TellsRights, TellsValidity, TellsReplies, Tells, account_text, asked_text, valid_text}
 use Rattle.command_files.specs.loading.Accepting.{IsGoodData, IsGoodRequests, HoldsIn, IsTold}
 use Rattle.acl_program.proofs.program.AcceptLemmas.{one_granted, IsGoodSecond}
-use Rattle.acl_program.proofs.program.ReadyLemmas.{IsReady, ReadySample, ready_alone, ready_both, ReadyData, ReadySecond}
+use Rattle.acl_program.proofs.program.ReadyLemmas.{IsReady, ReadySample, ready_alone, ready_both, ReadyChanges, ReadyData, ReadySecond}
 
 -- one command has one answer over its files
 module _ (files : Option Files) where
@@ -61,19 +61,19 @@ module _ (files : Option Files) where
 
   -- a command whose answer is told is ready
   pub told_ready : (command : CommandView) (text : List ℕ) → Tells command (IsTold files) text → (entries : List EntryInformation) × IsReady files command entries
-  unfolding ReadySample IsGoodSecond ReadyData ReadySecond
+  unfolding ReadySample IsGoodSecond ReadyChanges ReadyData ReadySecond
   told_ready (Explain name who target item permission) text due =
-      (due.entries, ready_alone files (Explain name who target item permission) name due.entries refl refl (due.question, due.asks) tt due.good)
+      (due.entries, ready_alone files (Explain name who target item permission) name due.entries refl refl refl (due.question, due.asks) tt due.good)
   told_ready (Prove name who target item permission) text due =
-      (due.entries, ready_alone files (Prove name who target item permission) name due.entries refl refl (due.question, due.asks) tt due.good)
+      (due.entries, ready_alone files (Prove name who target item permission) name due.entries refl refl refl (due.question, due.asks) tt due.good)
   told_ready (Rights name who target) text due =
-      (due.entries, ready_alone files (Rights name who target) name due.entries refl refl (due.requester, due.name, due.says_who, due.says_target) tt due.good)
+      (due.entries, ready_alone files (Rights name who target) name due.entries refl refl refl (due.requester, due.name, due.says_who, due.says_target) tt due.good)
   told_ready (Verify name certificate) text due =
       let also = IsTold-weaker files certificate (IsGoodCertificate due.entries due.granted) (IsGoodSecond second.Certificate due.entries) (λ content good. (due.granted, good)) due.valid in
-      (due.entries, ready_both files (Verify name certificate) name (record { kind = second.Certificate; name = certificate }) due.entries refl refl tt tt due.good also)
+      (due.entries, ready_both files (Verify name certificate) name (record { kind = second.Certificate; name = certificate }) due.entries refl refl refl tt tt due.good also)
   told_ready (Ask name requests script) text due =
       let also = IsTold-weaker files requests (IsGoodRequests due.asks) (IsGoodSecond second.Requests due.entries) (λ content good. (due.asks, good)) due.read in
-      (due.entries, ready_both files (Ask name requests script) name (record { kind = second.Requests; name = requests }) due.entries refl refl tt tt due.good also)
-  told_ready Help text due = ([], record { performed = tt; data_ready = tt; second_ready = tt; sample_ready = tt })
-  told_ready Version text due = ([], record { performed = tt; data_ready = tt; second_ready = tt; sample_ready = tt })
+      (due.entries, ready_both files (Ask name requests script) name (record { kind = second.Requests; name = requests }) due.entries refl refl refl tt tt due.good also)
+  told_ready Help text due = ([], record { performed = tt; data_ready = tt; second_ready = tt; changes_ready = tt; sample_ready = tt })
+  told_ready Version text due = ([], record { performed = tt; data_ready = tt; second_ready = tt; changes_ready = tt; sample_ready = tt })
   told_ready command text due = absurd due

@@ -1,6 +1,6 @@
 -- Where the words are a command, and its files are known and accepted, its outcome is due: no other comes, but for want of
 -- memory.
-use Rattle.std.proofs.Common.{◌≡◌, ℕ, Bool, false, List, [], Option, Ok, refl, sym, ap, ◌∙◌, subst, inl, inr, ◌⊎◌}
+use Rattle.std.proofs.Common.{◌≡◌, ℕ, Bool, false, List, [], Option, Some, Ok, refl, sym, ap, ◌∙◌, subst, inl, inr, ◌⊎◌}
 use Rattle.command_files.specs.plain_values.Counts.{Rose}
 use Rattle.command_files.specs.script_text.declared.event.ScriptEvent.{ScriptEvent}
 use Rattle.command_files.specs.wire_io.Files.{Files}
@@ -11,50 +11,63 @@ use Rattle.command_files.specs.declared.loading.SecondFile.TheVariants as second
 use Rattle.command_files.specs.dir_tree.Entry.{EntryInformation}
 use Rattle.command_files.specs.ldif_load.load.DataFile.{loads}
 use Rattle.sample_input.specs.SampleFile.{sample_file}
-use Rattle.command_files.proofs.Theorems.{both_in, one_events, IsTold-weaker}
-use Rattle.acl_program.specs.Outcomes.{Outcome, NoCommand, NoFile, BadDataLine, BadLine, FalseLine, Checked, Dumped, Replayed, Served, Answered, Sampled, OutOfMemory, status_of}
+use Rattle.command_files.proofs.Theorems.{both_in, one_events, IsTold-weaker, one_left}
+use Rattle.acl_program.specs.Outcomes.{Outcome, NoCommand, NoFile, BadDataLine, BadChangesLine, BadLine, FalseLine, Checked, Dumped, Replayed, Served, Answered, Sampled, OutOfMemory, status_of}
 use Rattle.acl_program.specs.declared.status.Status.TheVariants.{Done, NoMemory}
 use Rattle.acl_program.specs.program.Outside.{Linked}
 use Rattle.acl_program.specs.Answering.{Tells, AsksAnswer}
 use Rattle.acl_program.specs.Sampling.{Samples, sample_text}
 use Rattle.acl_program.specs.serve.Serving.{ServeAsked, ServeEnd, LoopEnded}
 use Rattle.acl_program.proofs.serve.ServeLemmas.{served_done}
-use Rattle.command_files.specs.loading.Accepting.{IsGoodData, IsGoodScript, HoldsIn, IsTold}
-use Rattle.acl_program.specs.program.Causes.{Comes, Links, HearsStop, IsDue}
+use Rattle.command_files.specs.loading.Accepting.{IsGoodData, IsGoodScript, IsLoaded, HoldsIn, IsTold}
+use Rattle.command_files.specs.loading.Changing.{Left}
+use Rattle.acl_program.specs.program.Causes.{AsksLoaded, Comes, Links, HearsStop, IsDue, changes_of, data_of}
 use Rattle.acl_program.proofs.program.AcceptLemmas.{IsGoodSecond}
-use Rattle.acl_program.proofs.program.ReadyLemmas.{IsReady, ReadyData, ReadySecond, ReadySample, OfServe, OfReplay, OfCheck, OfDump, OfAnswer, OfSample, IsDone, tells_kind, same_entries, comes_done, ready_alone, ready_both, Settles, settled_by}
+use Rattle.acl_program.proofs.program.ReadyLemmas.{IsReady, ReadyChanges, ReadyData, ReadySecond, ReadySample, OfServe, OfReplay, OfCheck, OfDump, OfAnswer, OfSample, IsDone, tells_kind, same_entries, comes_done, ready_alone, ready_both, ready_loaded, Settles, settled_by}
 use Rattle.acl_program.proofs.program.AnswerLemmas.{answer_once, told_ready}
 
--- a data file was to be checked, or put again
-module _ (words : List (List ℕ)) (files : Option Files) (before after : ℕ) (name : List ℕ) (entries : List EntryInformation)
-    (known : IsTold files name (IsGoodData entries)) (still : Rose before after → ⊥) where
-  check_ready : IsReady files (Check name) entries
-  unfolding ReadySample
-  check_ready = ready_alone files (Check name) name entries refl refl tt tt known
+-- a tree was to be checked, or put again
+module _ (words : List (List ℕ)) (files : Option Files) (before after : ℕ) (name : List ℕ) (changes : Option (List ℕ)) (left : Left)
+    (known : IsLoaded (IsTold files) name changes left) (still : Rose before after → ⊥) where
+  -- what was found to be left is left
+  same_left :
+      (command : List ℕ → Option (List ℕ) → CommandView) → ((file : List ℕ) (also : Option (List ℕ)) → data_of (command file also) ≡ Some file) → ((file : List ℕ) (also : Option (List ℕ)) → changes_of (command file also) ≡ also)
+      → IsCommand words (command name changes) → (found : Left) → AsksLoaded command words (HoldsIn files) found → found ≡ left
+  same_left command data_is changes_is is found own =
+      let same : command own.data_file own.changes ≡ command name changes = IsCommand-unique words (command own.data_file own.changes) (command name changes) own.asked is in
+      let names : Some own.data_file ≡ Some name = sym (data_is own.data_file own.changes) ∙ ap data_of same ∙ data_is name changes in
+      let same_name : own.data_file ≡ name = cc (names) in
+      let same_changes : own.changes ≡ changes = sym (changes_is own.data_file own.changes) ∙ ap changes_of same ∙ changes_is name changes in
+      one_left files name changes left found known
+      (subst (λ also. IsLoaded (HoldsIn files) name also found) same_changes (subst (λ file. IsLoaded (HoldsIn files) file own.changes found) same_name own.good))
 
-  check_own : IsCommand words (Check name) → (outcome : Outcome) → Comes words files before after outcome → IsDone OfCheck outcome → outcome ≡ Checked entries
+  check_ready : (entries : List EntryInformation) × IsReady files (Check name changes) entries
+  unfolding ReadySample
+  check_ready = ready_loaded files (Check name changes) name changes left refl refl refl tt tt known
+
+  check_own : IsCommand words (Check name changes) → (outcome : Outcome) → Comes words files before after outcome → IsDone OfCheck outcome → outcome ≡ Checked left
   unfolding Comes
-  check_own is (Checked found) comes done =
-      ap Checked (same_entries words files before after (Check name) is entries check_ready still found (Check comes.0.data_file) comes.0.data_file comes.0.asked refl comes.0.good)
+  check_own is (Checked found) comes done = ap Checked (same_left Check (λ file also. refl) (λ file also. refl) is found comes.0)
   check_own is outcome comes done = absurd done
 
-  check_due : IsCommand words (Check name) → (outcome : Outcome) → Comes words files before after outcome → (outcome ≡ OutOfMemory) ⊎ (outcome ≡ Checked entries)
+  check_due : IsCommand words (Check name changes) → (outcome : Outcome) → Comes words files before after outcome → (outcome ≡ OutOfMemory) ⊎ (outcome ≡ Checked left)
   unfolding Settles
-  check_due is outcome comes = settled_by OfCheck (Checked entries) outcome (check_own is outcome comes) (comes_done words files before after (Check name) is entries check_ready still outcome comes)
+  check_due is outcome comes =
+      settled_by OfCheck (Checked left) outcome (check_own is outcome comes) (comes_done words files before after (Check name changes) is check_ready.0 check_ready.1 still outcome comes)
 
-  dump_ready : IsReady files (Dump name) entries
+  dump_ready : (entries : List EntryInformation) × IsReady files (Dump name changes) entries
   unfolding ReadySample
-  dump_ready = ready_alone files (Dump name) name entries refl refl tt tt known
+  dump_ready = ready_loaded files (Dump name changes) name changes left refl refl refl tt tt known
 
-  dump_own : IsCommand words (Dump name) → (outcome : Outcome) → Comes words files before after outcome → IsDone OfDump outcome → outcome ≡ Dumped entries
+  dump_own : IsCommand words (Dump name changes) → (outcome : Outcome) → Comes words files before after outcome → IsDone OfDump outcome → outcome ≡ Dumped left
   unfolding Comes
-  dump_own is (Dumped found) comes done =
-      ap Dumped (same_entries words files before after (Dump name) is entries dump_ready still found (Dump comes.0.data_file) comes.0.data_file comes.0.asked refl comes.0.good)
+  dump_own is (Dumped found) comes done = ap Dumped (same_left Dump (λ file also. refl) (λ file also. refl) is found comes.0)
   dump_own is outcome comes done = absurd done
 
-  dump_due : IsCommand words (Dump name) → (outcome : Outcome) → Comes words files before after outcome → (outcome ≡ OutOfMemory) ⊎ (outcome ≡ Dumped entries)
+  dump_due : IsCommand words (Dump name changes) → (outcome : Outcome) → Comes words files before after outcome → (outcome ≡ OutOfMemory) ⊎ (outcome ≡ Dumped left)
   unfolding Settles
-  dump_due is outcome comes = settled_by OfDump (Dumped entries) outcome (dump_own is outcome comes) (comes_done words files before after (Dump name) is entries dump_ready still outcome comes)
+  dump_due is outcome comes =
+      settled_by OfDump (Dumped left) outcome (dump_own is outcome comes) (comes_done words files before after (Dump name changes) is dump_ready.0 dump_ready.1 still outcome comes)
 
 -- the parts of a replay
 script_of : CommandView → List ℕ
@@ -77,7 +90,7 @@ module _ (words : List (List ℕ)) (files : Option Files) (before after : ℕ) (
 
   replay_ready : IsReady files replay entries
   unfolding ReadySample IsGoodSecond
-  replay_ready = ready_both files replay name (record { kind = second.Script; name = script }) entries refl refl tt tt known
+  replay_ready = ready_both files replay name (record { kind = second.Script; name = script }) entries refl refl refl tt tt known
       (IsTold-weaker files script (IsGoodScript events) (IsGoodSecond second.Script entries) (λ content good. (events, good)) scripted)
 
   replay_own : (outcome : Outcome) → Comes words files before after outcome → IsDone OfReplay outcome → outcome ≡ Replayed events turns dump entries
@@ -114,7 +127,7 @@ module _ (words : List (List ℕ)) (files : Option Files) (before after : ℕ) (
     (no_fault : Rose old.faults new.faults → ⊥) (hears : HearsStop old.journal new.journal) where
   serve_ready : IsReady files (Serve asks.serving) asks.entries
   unfolding ReadySample
-  serve_ready = ready_alone files (Serve asks.serving) asks.serving.data_file asks.entries refl refl tt tt known
+  serve_ready = ready_alone files (Serve asks.serving) asks.serving.data_file asks.entries refl refl refl tt tt known
 
   serve_own : (outcome : Outcome) → Links outcome old new → IsDone OfServe outcome → (status_of outcome ≡ NoMemory) ⊎ (status_of outcome ≡ Done)
   unfolding Links status_of
@@ -153,8 +166,8 @@ count_of asked = 0
 -- a sample was to be made
 module _ (words : List (List ℕ)) (files : Option Files) (before after : ℕ) (text : List ℕ) (due : Samples words text) (still : Rose before after → ⊥) where
   sample_ready : IsReady files (Sample due.count) due.entries
-  unfolding ReadyData ReadySecond ReadySample
-  sample_ready = record { performed = tt; data_ready = tt; second_ready = tt; sample_ready = (due.entries, due.loaded) }
+  unfolding ReadyChanges ReadyData ReadySecond ReadySample
+  sample_ready = record { performed = tt; data_ready = tt; second_ready = tt; changes_ready = tt; sample_ready = (due.entries, due.loaded) }
 
   -- a sample of so many persons has one text
   sample_own : (outcome : Outcome) → Comes words files before after outcome → IsDone OfSample outcome → outcome ≡ Sampled text
@@ -184,12 +197,13 @@ unfolding IsDue
 due_comes words files before after old new outcome NoCommand is still comes links = absurd is
 due_comes words files before after old new outcome NoFile is still comes links = absurd is
 due_comes words files before after old new outcome (BadDataLine line cause) is still comes links = absurd is
+due_comes words files before after old new outcome (BadChangesLine line cause) is still comes links = absurd is
 due_comes words files before after old new outcome (BadLine file line) is still comes links = absurd is
 due_comes words files before after old new outcome (FalseLine line) is still comes links = absurd is
-due_comes words files before after old new outcome (Checked entries) is still comes links =
-    as_status outcome (Checked entries) (check_due words files before after is.0 entries is.2 still is.1 outcome comes)
-due_comes words files before after old new outcome (Dumped entries) is still comes links =
-    as_status outcome (Dumped entries) (dump_due words files before after is.0 entries is.2 still is.1 outcome comes)
+due_comes words files before after old new outcome (Checked left) is still comes links =
+    as_status outcome (Checked left) (check_due words files before after is.data_file is.changes left is.good still is.asked outcome comes)
+due_comes words files before after old new outcome (Dumped left) is still comes links =
+    as_status outcome (Dumped left) (dump_due words files before after is.data_file is.changes left is.good still is.asked outcome comes)
 due_comes words files before after old new outcome (Replayed events turns dump entries) is still comes links =
     as_status outcome (Replayed events turns dump entries) (replay_due words files before after is.0 is.1 turns dump entries events is.2 is.3 is.4 still outcome comes)
 due_comes words files before after old new outcome (Served asks end) is still comes links =

@@ -12,10 +12,12 @@ use Rattle.acl_program.specs.declared.status.Status.TheVariants.{NoMemory}
 use Rattle.command_files.specs.declared.loading.Trouble.{Trouble}
 use Rattle.command_files.specs.declared.loading.Trouble.TheVariants as trouble
 use Rattle.command_files.specs.loading.Accepting.{IsUnread, HoldsIn}
-use Rattle.command_files.specs.loading.Loading.{IsRefused, LoadsData, LoadsScript}
+use Rattle.command_files.specs.declared.changing.Loaded.{Loaded}
+use Rattle.command_files.specs.loading.Changing.{left_of}
+use Rattle.command_files.specs.loading.Loading.{IsRefused, LoadsData, LoadsScript, LoadsTree}
 use Rattle.acl_program.specs.Answering.{Tells}
 use Rattle.acl_program.specs.Outcomes.{Checked, Dumped, Replayed, Answered, OutOfMemory}
-use Rattle.acl_program.specs.program.Causes.{AsksData, Comes, IsBadSecond, Links, RefusesSecond, Second, data_of, second_of}
+use Rattle.acl_program.specs.program.Causes.{AsksData, Comes, IsBadSecond, Links, RefusesSecond, Second, data_of, changes_of, second_of}
 use Rattle.acl_program.specs.program.Outside.{Linked, Outside, beside}
 use Rattle.acl_program.specs.program.Playing.{Ends, ComesFor, Performs}
 use Rattle.acl_program.specs.Troubles.{outcome_of}
@@ -35,6 +37,7 @@ data_refused asked name files before after trouble.NoFile names loads =
 data_refused asked name files before after (trouble.BadData line cause) names loads =
     λ words is. (inl (record { data_file = name; asked = (asked, is, names); bad = loads.0 }), loads.1)
 data_refused asked name files before after (trouble.BadLine file line) names loads = absurd loads
+data_refused asked name files before after (trouble.BadChanges line cause) names loads = absurd loads
 data_refused asked name files before after trouble.NoMemory names loads = λ words is. loads
 
 -- a file that wasn't read leaves the link as it is
@@ -43,6 +46,7 @@ unfolding Links
 links_refused trouble.NoFile before after stays = stays
 links_refused (trouble.BadData line cause) before after stays = stays
 links_refused (trouble.BadLine file line) before after stays = stays
+links_refused (trouble.BadChanges line cause) before after stays = stays
 links_refused trouble.NoMemory before after stays = stays
 
 pub Performs-refused :
@@ -57,22 +61,50 @@ Performs-refused asked name before after status why names loads ends stays = (
   links_refused why before.link after.link stays,
 )
 
--- a data file that was checked, or put again
+-- a data file with its changes, of which one wasn't taken
+tree_refused :
+    (asked : CommandView) (name : List ℕ) (files : Option Files) (before after : ℕ) (why : Trouble)
+    → data_of asked ≡ Some name → LoadsTree files name (changes_of asked) before after (Err why) → ComesFor asked files before after (outcome_of why)
+unfolding LoadsTree Comes AsksData
+tree_refused asked name files before after trouble.NoFile names (inl unread) =
+    λ words is. inl (record { data_file = name; asked = (asked, is, names); unread = unread })
+tree_refused asked name files before after trouble.NoFile names (inr unread) =
+    λ words is. inr (inr (record { command = asked; data_file = name; asked = is; has_data = names; unread = unread }))
+tree_refused asked name files before after (trouble.BadData line cause) names loads =
+    λ words is. (inl (record { data_file = name; asked = (asked, is, names); bad = loads.0 }), loads.1)
+tree_refused asked name files before after (trouble.BadLine file line) names loads = absurd loads
+tree_refused asked name files before after (trouble.BadChanges line cause) names loads =
+    λ words is. (record { command = asked; data_file = name; asked = is; has_data = names; bad = loads.0 }, loads.1)
+tree_refused asked name files before after trouble.NoMemory names loads = λ words is. loads
+
+pub Performs-tree_refused :
+    (asked : CommandView) (name : List ℕ) (before after : Outside) (status : Status) (why : Trouble)
+    → data_of asked ≡ Some name → LoadsTree before.shelf.files name (changes_of asked) before.shelf.faults after.shelf.faults (Err why) → Ends (outcome_of why) before.out status after.out
+    → after.link ≡ before.link → Performs asked before status after
+unfolding Performs
+Performs-tree_refused asked name before after status why names loads ends stays = (
+  outcome_of why,
+  tree_refused asked name before.shelf.files before.shelf.faults after.shelf.faults why names loads,
+  ends,
+  links_refused why before.link after.link stays,
+)
+
+-- a tree that was checked, or put again
 pub Performs-checked :
-    (name : List ℕ) (before after : Outside) (status : Status) (rows : List Numbered)
-    → LoadsData before.shelf.files name before.shelf.faults after.shelf.faults (Ok rows) → Ends (Checked (entries_of rows)) before.out status after.out
-    → after.link ≡ before.link → Performs (Check name) before status after
-unfolding Performs LoadsData Comes Links
-Performs-checked name before after status rows loads ends stays =
-    (Checked (entries_of rows), (λ words is. (record { data_file = name; asked = is; good = loads.0 }, loads.2)), ends, stays)
+    (name : List ℕ) (changes : Option (List ℕ)) (before after : Outside) (status : Status) (loaded : Loaded)
+    → LoadsTree before.shelf.files name changes before.shelf.faults after.shelf.faults (Ok loaded) → Ends (Checked (left_of loaded)) before.out status after.out
+    → after.link ≡ before.link → Performs (Check name changes) before status after
+unfolding Performs LoadsTree Comes Links
+Performs-checked name changes before after status loaded loads ends stays =
+    (Checked (left_of loaded), (λ words is. (record { data_file = name; changes = changes; asked = is; good = loads.0 }, loads.2)), ends, stays)
 
 pub Performs-dumped :
-    (name : List ℕ) (before after : Outside) (status : Status) (rows : List Numbered)
-    → LoadsData before.shelf.files name before.shelf.faults after.shelf.faults (Ok rows) → Ends (Dumped (entries_of rows)) before.out status after.out
-    → after.link ≡ before.link → Performs (Dump name) before status after
-unfolding Performs LoadsData Comes Links
-Performs-dumped name before after status rows loads ends stays =
-    (Dumped (entries_of rows), (λ words is. (record { data_file = name; asked = is; good = loads.0 }, loads.2)), ends, stays)
+    (name : List ℕ) (changes : Option (List ℕ)) (before after : Outside) (status : Status) (loaded : Loaded)
+    → LoadsTree before.shelf.files name changes before.shelf.faults after.shelf.faults (Ok loaded) → Ends (Dumped (left_of loaded)) before.out status after.out
+    → after.link ≡ before.link → Performs (Dump name changes) before status after
+unfolding Performs LoadsTree Comes Links
+Performs-dumped name changes before after status loaded loads ends stays =
+    (Dumped (left_of loaded), (λ words is. (record { data_file = name; changes = changes; asked = is; good = loads.0 }, loads.2)), ends, stays)
 
 -- a second file that isn't taken, after the data file was loaded
 second_refused :
@@ -81,12 +113,12 @@ second_refused :
     → LoadsData files name before middle (Ok rows) → IsRefused read.kind bad files read.name middle after why → ComesFor asked files before after (outcome_of why)
 unfolding LoadsData IsRefused Comes
 second_refused asked name read rows bad files before middle after trouble.NoFile has_data has_second is_bad loads refused =
-    λ words is. inr (record {
+    λ words is. inr (inl (record {
       read = read;
       entries = entries_of rows;
       asked = record { command = asked; data_file = name; asked = is; has_data = has_data; has_second = has_second; good = loads.0 };
       unread = unread_later files read.name before middle after loads.2 refused;
-    })
+    }))
 second_refused asked name read rows bad files before middle after (trouble.BadData line cause) has_data has_second is_bad loads refused = absurd refused
 second_refused asked name read rows bad files before middle after (trouble.BadLine file line) has_data has_second is_bad loads refused =
     let refuses : (words : List (List ℕ)) → IsCommand words asked → RefusesSecond words files read.kind line = λ words is. record {
@@ -96,6 +128,7 @@ second_refused asked name read rows bad files before middle after (trouble.BadLi
       bad = HoldsIn-weaker files read.name (bad line) (IsBadSecond read.kind (entries_of rows) line) (is_bad line) refused.1;
     } in
     λ words is. (subst (λ kind. RefusesSecond words files kind line) (sym refused.0) (refuses words is), refused.2 ∙ loads.2)
+second_refused asked name read rows bad files before middle after (trouble.BadChanges line cause) has_data has_second is_bad loads refused = absurd refused
 second_refused asked name read rows bad files before middle after trouble.NoMemory has_data has_second is_bad loads refused = λ words is. refused ∙ loads.2
 
 pub Performs-second_refused :

@@ -25,7 +25,8 @@ use Rattle.acl_program.specs.program.Causes.{IsNoCommand, IsPerformed, AsksServi
 use Rattle.acl_program.specs.program.Running.{Prints, Puts, EndsAs, IsCause, EndsAtFaults}
 use Rattle.acl_program.specs.program.Outside.{Outside}
 use Rattle.acl_program.specs.program.Playing.{IsSinkCount, Plays, Shows, Ends, Performs, Runs, journal_text}
-use Rattle.command_files.specs.loading.Loading.{LoadsScript, LoadsData}
+use Rattle.command_files.specs.declared.changing.Loaded.{Loaded}
+use Rattle.command_files.specs.loading.Loading.{LoadsScript, LoadsData, LoadsTree}
 use Rattle.acl_program.proofs.troubles.EndsLemmas.{Ends-no_memory}
 use Rattle.acl_program.proofs.status.OutcomeLemmas.{usage_comes, cause_comes, faults_end, link_stays}
 use Rattle.acl_program.proofs.program.DueLemmas.{due_comes}
@@ -64,6 +65,11 @@ pub no_fault : (entries left : List EntryInformation) (events : List ScriptEvent
 unfolding Plays
 no_fault entries left events turns journal plays = plays
 
+-- and has no store that may
+pub no_store_fault : (entries left : List EntryInformation) (events : List ScriptEvent) (turns : ℕ) (journal : List Item) → Plays entries left events turns ended.StoreFault journal → ⊥
+unfolding Plays
+no_store_fault entries left events turns journal plays = plays
+
 -- nothing was put for want of memory
 pub Played-nothing : (entries : List EntryInformation) (events : List ScriptEvent) (turns : ℕ) (dump : Bool) (before : Written) → Ends (Replayed events turns dump entries) before NoMemory before
 Played-nothing entries events turns dump before = Ends-no_memory (Replayed events turns dump entries) before before 0 (appended-none before.put) refl
@@ -83,6 +89,10 @@ LoadsScript-fresh files name before after link loads = loads.1
 pub LoadsData-good : (files : Option Files) (name : List ℕ) (before after : ℕ) (rows : List Numbered) → LoadsData files name before after (Ok rows) → IsGoodTree (entries_of rows)
 unfolding LoadsData
 LoadsData-good files name before after rows loads = loads.1
+
+pub LoadsTree-good : (files : Option Files) (name : List ℕ) (changes : Option (List ℕ)) (before after : ℕ) (loaded : Loaded) → LoadsTree files name changes before after (Ok loaded) → IsGoodTree (entries_of loaded.tree)
+unfolding LoadsTree
+LoadsTree-good files name changes before after loaded loads = loads.1
 
 -- the words ask for this command
 pub Runs-performed :

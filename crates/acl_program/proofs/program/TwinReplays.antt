@@ -12,6 +12,7 @@ use Rattle.session_hub.specs.session_model.AnsweredMessages.{over}
 use Rattle.session_hub.specs.Parties.{DirectoryEntries, Requester}
 use Rattle.session_hub.specs.Twins.{IsOverTwins}
 use Rattle.session_hub.proofs.Theorems.{replayed-twins}
+use Rattle.session_hub.specs.Terms.{no_terms}
 use Rattle.acl_program.specs.declared.status.Status.{Status}
 use Rattle.acl_program.specs.declared.status.Status.TheVariants.{Done, ShelfFault, TurnsSpent, NoMemory}
 use Rattle.acl_program.specs.Lines.{lines_of, heard_of, replay_of, replay_text}
@@ -32,7 +33,7 @@ replay_text-twins : (one other : DirectoryEntries) (top : RdnSequence) (events :
     → AllByRecursion (IsOverTwins other top) (answered_of_script one events turns) → replay_text one events turns ≡ replay_text other events turns
 unfolding replay_text
 replay_text-twins one other top events turns all =
-    let alike = replayed-twins 0 one other top (steps_of_events (heard_of events turns)) all in
+    let alike = replayed-twins no_terms one other top (steps_of_events (heard_of events turns)) all in
     sym (lines_of-over other (replay_of one events turns)) ∙ ap lines_of (sym alike.same)
 
 -- an outcome whose status isn't that of a file that wasn't read leaves the shelf's count as it was, whatever that is

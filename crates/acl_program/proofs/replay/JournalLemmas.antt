@@ -12,6 +12,7 @@ use Rattle.session_hub.specs.session_model.Run.{Sessions, State, Open, Closing, 
 use Rattle.session_hub.specs.session_model.Replaying.{is_away, IsReplay}
 use Rattle.session_hub.specs.Parties.{DirectoryEntries, Requester}
 use Rattle.session_hub.specs.Answering.{rules}
+use Rattle.session_hub.specs.Terms.{no_terms}
 use Rattle.acl_program.specs.Lines.{line_of, lines_of}
 use Rattle.acl_program.specs.program.Playing.{journal_text}
 
@@ -25,7 +26,7 @@ opened_in (Gone c ∷ steps) = opened_in steps
 opened_in (HungUp c ∷ steps) = opened_in steps
 
 -- octets open nothing
-opened-hears : (state : State) (u : Sessions DirectoryEntries Requester) (c : ℕ) (piece : List ℕ) (cut : Option ℕ) → (hears (rules 0) state u c piece cut).opened ≡ u.opened
+opened-hears : (state : State) (u : Sessions DirectoryEntries Requester) (c : ℕ) (piece : List ℕ) (cut : Option ℕ) → (hears (rules no_terms) state u c piece cut).opened ≡ u.opened
 opened-hears Open u c piece cut = refl
 opened-hears Closing u c piece cut = refl
 opened-hears TurnedAway u c piece cut = refl
@@ -33,14 +34,14 @@ opened-hears Away u c piece cut = refl
 opened-hears Unopened u c piece cut = refl
 
 -- the numbers opened after steps
-opened-run_from : (u : Sessions DirectoryEntries Requester) (steps : List Step) → (run_from (rules 0) u steps).opened ≡ u.opened ++ opened_in steps
+opened-run_from : (u : Sessions DirectoryEntries Requester) (steps : List Step) → (run_from (rules no_terms) u steps).opened ≡ u.opened ++ opened_in steps
 unfolding run_from step
 opened-run_from u [] = sym (append-nil u.opened)
-opened-run_from u (Opened c ∷ steps) = opened-run_from (step (rules 0) u (Opened c)) steps ∙ append_assoc u.opened (c ∷ []) (opened_in steps)
-opened-run_from u (Bytes c piece cut ∷ steps) = opened-run_from (step (rules 0) u (Bytes c piece cut)) steps ∙ ap (λ front. front ++ opened_in steps) (opened-hears (u.of c).state u c piece cut)
-opened-run_from u (Ended c ∷ steps) = opened-run_from (step (rules 0) u (Ended c)) steps
-opened-run_from u (Gone c ∷ steps) = opened-run_from (step (rules 0) u (Gone c)) steps
-opened-run_from u (HungUp c ∷ steps) = opened-run_from (step (rules 0) u (HungUp c)) steps
+opened-run_from u (Opened c ∷ steps) = opened-run_from (step (rules no_terms) u (Opened c)) steps ∙ append_assoc u.opened (c ∷ []) (opened_in steps)
+opened-run_from u (Bytes c piece cut ∷ steps) = opened-run_from (step (rules no_terms) u (Bytes c piece cut)) steps ∙ ap (λ front. front ++ opened_in steps) (opened-hears (u.of c).state u c piece cut)
+opened-run_from u (Ended c ∷ steps) = opened-run_from (step (rules no_terms) u (Ended c)) steps
+opened-run_from u (Gone c ∷ steps) = opened-run_from (step (rules no_terms) u (Gone c)) steps
+opened-run_from u (HungUp c ∷ steps) = opened-run_from (step (rules no_terms) u (HungUp c)) steps
 
 -- the numbers that a journal opens are those of its steps
 opened_by-steps : (journal : List Item) → opened_in (journal_steps journal) ≡ opened_by journal
@@ -59,11 +60,13 @@ opened_by-steps (item.Gone c ∷ journal) = opened_by-steps journal
 opened_by-steps (item.Held c ∷ journal) = opened_by-steps journal
 opened_by-steps (item.Released c ∷ journal) = opened_by-steps journal
 opened_by-steps (item.HungUp c ∷ journal) = opened_by-steps journal
+opened_by-steps (item.StoreOpened name length done ∷ journal) = opened_by-steps journal
+opened_by-steps (item.Stored octets ∷ journal) = opened_by-steps journal
 
 -- the numbers opened in the sessions of a journal
-opened-sessions : (t : DirectoryEntries) (journal : List Item) → (run (rules 0) t (journal_steps journal)).opened ≡ opened_by journal
+opened-sessions : (t : DirectoryEntries) (journal : List Item) → (run (rules no_terms) t (journal_steps journal)).opened ≡ opened_by journal
 unfolding start
-opened-sessions t journal = opened-run_from (start (rules 0) t) (journal_steps journal) ∙ opened_by-steps journal
+opened-sessions t journal = opened-run_from (start (rules no_terms) t) (journal_steps journal) ∙ opened_by-steps journal
 
 -- pieces that are the same one by one are the same together
 flat_map-same : (f g : ℕ → List ℕ) (xs : List ℕ) → ((x : ℕ) → f x ≡ g x) → flat_map f xs ≡ flat_map g xs
@@ -71,16 +74,16 @@ flat_map-same f g [] same = refl
 flat_map-same f g (x ∷ xs) same = ap (λ front. front ++ flat_map f xs) (same x) ∙ ap (λ rest. g x ++ rest) (flat_map-same f g xs same)
 
 -- the line of a connection whose reply was taken
-line-taken : (t : DirectoryEntries) (journal : List Item) → IsReplay (rules 0) t (journal_steps journal) journal → (c : ℕ)
-    → line_of c (taken_of c journal) (is_hung_up c journal) ≡ line_of c ((run (rules 0) t (journal_steps journal)).of c).reply (is_away ((run (rules 0) t (journal_steps journal)).of c).state)
+line-taken : (t : DirectoryEntries) (journal : List Item) → IsReplay (rules no_terms) t (journal_steps journal) journal → (c : ℕ)
+    → line_of c (taken_of c journal) (is_hung_up c journal) ≡ line_of c ((run (rules no_terms) t (journal_steps journal)).of c).reply (is_away ((run (rules no_terms) t (journal_steps journal)).of c).state)
 line-taken t journal replay c =
-    ap (λ sent. line_of c sent (is_hung_up c journal)) (replay.taken c) ∙ ap (λ gone. line_of c ((run (rules 0) t (journal_steps journal)).of c).reply gone) (replay.hung_up c)
+    ap (λ sent. line_of c sent (is_hung_up c journal)) (replay.taken c) ∙ ap (λ gone. line_of c ((run (rules no_terms) t (journal_steps journal)).of c).reply gone) (replay.hung_up c)
 
 -- the lines that a replay's journal tells are those of its sessions
-pub journal_text-sessions : (t : DirectoryEntries) (journal : List Item) → IsReplay (rules 0) t (journal_steps journal) journal → journal_text journal ≡ lines_of (run (rules 0) t (journal_steps journal))
+pub journal_text-sessions : (t : DirectoryEntries) (journal : List Item) → IsReplay (rules no_terms) t (journal_steps journal) journal → journal_text journal ≡ lines_of (run (rules no_terms) t (journal_steps journal))
 unfolding journal_text lines_of
 journal_text-sessions t journal replay =
-    let u = run (rules 0) t (journal_steps journal) in
+    let u = run (rules no_terms) t (journal_steps journal) in
     let line : ℕ → List ℕ = λ c. line_of c (u.of c).reply (is_away (u.of c).state) in
     flat_map-same (λ c. line_of c (taken_of c journal) (is_hung_up c journal)) line (rising (opened_by journal)) (line-taken t journal replay)
     ∙ ap (λ conns. flat_map line (rising conns)) (sym (opened-sessions t journal))
@@ -124,3 +127,5 @@ length-stopped (item.Gone c ∷ journal) is = length-stopped journal is
 length-stopped (item.Held c ∷ journal) is = length-stopped journal is
 length-stopped (item.Released c ∷ journal) is = length-stopped journal is
 length-stopped (item.HungUp c ∷ journal) is = length-stopped journal is
+length-stopped (item.StoreOpened name count done ∷ journal) is = length-stopped journal is
+length-stopped (item.Stored octets ∷ journal) is = length-stopped journal is

@@ -20,8 +20,8 @@ use Rattle.acl_program.specs.Sampling.{IsFew, sample_replies, summary, sample_te
 says_few : (name : CommandName) (line : Line) (asked : CommandView) → Says name line asked → IsFew asked
 says_few name line (Serve serving) says = tt
 says_few name line (Replay data_file script turns dump) says = tt
-says_few name line (Check data_file) says = tt
-says_few name line (Dump data_file) says = tt
+says_few name line (Check data_file changes) says = tt
+says_few name line (Dump data_file changes) says = tt
 says_few name line (Explain data_file who target item permission) says = tt
 says_few name line (Ask data_file requests script) says = tt
 says_few name line (Prove data_file who target item permission) says = tt

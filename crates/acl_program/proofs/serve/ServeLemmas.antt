@@ -39,6 +39,7 @@ serve_not wanted NotServed is not_done not_spent not_fault not_memory = not_memo
 serve_not wanted (LoopEnded ended.Stopped) is not_done not_spent not_fault not_memory = not_done is
 serve_not wanted (LoopEnded ended.TurnsSpent) is not_done not_spent not_fault not_memory = not_spent is
 serve_not wanted (LoopEnded ended.LinkFault) is not_done not_spent not_fault not_memory = not_fault is
+serve_not wanted (LoopEnded ended.StoreFault) is not_done not_spent not_fault not_memory = not_fault is
 serve_not wanted (LoopEnded ended.NoMemory) is not_done not_spent not_fault not_memory = not_memory is
 
 module _ (asked : ServeAsked) (before after : Linked) where
@@ -51,6 +52,7 @@ module _ (asked : ServeAsked) (before after : Linked) where
   fault_rose (LoopEnded ended.Stopped) is serves = absurd (cc)
   fault_rose (LoopEnded ended.TurnsSpent) is serves = absurd (cc)
   fault_rose (LoopEnded ended.LinkFault) is serves = subst (λ count. Rose count after.faults) serves.1.cause serves.2.cause.0
+  fault_rose (LoopEnded ended.StoreFault) is serves = subst (λ count. Rose count after.faults) serves.1.cause serves.2.cause.0
   fault_rose (LoopEnded ended.NoMemory) is serves = absurd (cc)
 
   -- the count stays where no fault is answered, and memory was there
@@ -63,6 +65,7 @@ module _ (asked : ServeAsked) (before after : Linked) where
   serve_count_stays (LoopEnded ended.Stopped) status is not_fault not_memory serves = serves.2.cause ∙ serves.1.cause
   serve_count_stays (LoopEnded ended.TurnsSpent) status is not_fault not_memory serves = serves.2.cause ∙ serves.1.cause
   serve_count_stays (LoopEnded ended.LinkFault) status is not_fault not_memory serves = absurd (not_fault is)
+  serve_count_stays (LoopEnded ended.StoreFault) status is not_fault not_memory serves = absurd (not_fault is)
   serve_count_stays (LoopEnded ended.NoMemory) status is not_fault not_memory serves = absurd (not_memory is)
 
 -- `open` is not Stop
@@ -107,6 +110,7 @@ served_done asked NotServed before after still hears serves = inl refl
 served_done asked (LoopEnded ended.Stopped) before after still hears serves = inr refl
 served_done asked (LoopEnded ended.TurnsSpent) before after still hears serves = absurd (not_spent asked before serves.0 after hears serves.1 serves.2)
 served_done asked (LoopEnded ended.LinkFault) before after still hears serves = absurd (still (fault_rose asked before after (LoopEnded ended.LinkFault) refl serves))
+served_done asked (LoopEnded ended.StoreFault) before after still hears serves = absurd (still (fault_rose asked before after (LoopEnded ended.StoreFault) refl serves))
 served_done asked (LoopEnded ended.NoMemory) before after still hears serves = inl refl
 
 -- what follows `open`

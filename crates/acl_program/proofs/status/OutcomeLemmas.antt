@@ -6,13 +6,14 @@ use Rattle.command_files.specs.wire_io.Files.{Files}
 use Rattle.command_files.specs.wire_io.Pieces.{pieces}
 use Rattle.session_hub.specs.serve.Loops.{buffer_length}
 use Rattle.command_files.specs.dir_tree.Entry.{EntryInformation}
+use Rattle.command_files.specs.declared.changing.ChangesCause.{ChangesCause}
 use Rattle.command_files.specs.declared.loading.SecondFile.{SecondFile}
 use Rattle.command_files.specs.ldif_load.load.DataFile.{FileCause}
 use Rattle.acl_program.specs.declared.status.Status.{Status}
 use Rattle.acl_program.specs.declared.status.Status.TheVariants.{Done, Usage, BadData, ShelfFault, SinkFault, LinkFault, TurnsSpent, NoMemory, BadScript, NotProved}
 use Rattle.acl_program.specs.program.Outside.{Linked, Outside}
-use Rattle.acl_program.specs.Outcomes.{Outcome, NoCommand, NoFile, BadDataLine, BadLine, FalseLine, Checked, Dumped, Replayed, Served, Answered, Sampled, OutOfMemory, status_of}
-use Rattle.acl_program.specs.program.Causes.{IsNoCommand, AsksServing, AsksServe, LacksData, LacksSecond, RefusesData, RefusesSecond, RefutesCertificate, Comes, Links}
+use Rattle.acl_program.specs.Outcomes.{Outcome, NoCommand, NoFile, BadDataLine, BadChangesLine, BadLine, FalseLine, Checked, Dumped, Replayed, Served, Answered, Sampled, OutOfMemory, status_of}
+use Rattle.acl_program.specs.program.Causes.{IsNoCommand, AsksServing, AsksServe, LacksChanges, LacksData, LacksSecond, RefusesChanges, RefusesData, RefusesSecond, RefutesCertificate, Comes, Links}
 use Rattle.acl_program.specs.Sampling.{RefusesSample}
 use Rattle.acl_program.specs.program.Running.{Puts, IsCause, EndsAtFaults}
 use Rattle.acl_program.specs.program.Playing.{Ends}
@@ -41,10 +42,11 @@ unfolding status_of Comes
 usage_comes words files before after NoCommand is comes = comes.0
 usage_comes words files before after NoFile is comes = absurd (cc)
 usage_comes words files before after (BadDataLine line cause) is comes = absurd (cc)
+usage_comes words files before after (BadChangesLine line cause) is comes = absurd (cc)
 usage_comes words files before after (BadLine file line) is comes = absurd (cc)
 usage_comes words files before after (FalseLine line) is comes = absurd (cc)
-usage_comes words files before after (Checked entries) is comes = absurd (cc)
-usage_comes words files before after (Dumped entries) is comes = absurd (cc)
+usage_comes words files before after (Checked left) is comes = absurd (cc)
+usage_comes words files before after (Dumped left) is comes = absurd (cc)
 usage_comes words files before after (Replayed events turns dump entries) is comes = absurd (not_replayed Usage events turns dump entries is (λ e. cc) (λ e. cc))
 usage_comes words files before after (Served asked end) is comes = absurd (serve_not Usage end is (λ e. cc) (λ e. cc) (λ e. cc) (λ e. cc))
 usage_comes words files before after (Answered text) is comes = absurd (cc)
@@ -54,15 +56,16 @@ usage_comes words files before after OutOfMemory is comes = absurd (cc)
 -- what came, by the status of the outcome
 data_cause : (words : List (List ℕ)) (files : Option Files) (before after : ℕ) (outcome : Outcome)
     → BadData ≡ status_of outcome → Comes words files before after outcome
-    → (line : ℕ) × (cause : FileCause) × (RefusesData words files line cause ⊎ RefusesSample words line cause)
+    → ((line : ℕ) × (cause : FileCause) × (RefusesData words files line cause ⊎ RefusesSample words line cause)) ⊎ ((line : ℕ) × (cause : ChangesCause) × RefusesChanges words files line cause)
 unfolding status_of Comes
 data_cause words files before after NoCommand is comes = absurd (cc)
 data_cause words files before after NoFile is comes = absurd (cc)
-data_cause words files before after (BadDataLine line cause) is comes = (line, cause, comes.0)
+data_cause words files before after (BadDataLine line cause) is comes = inl (line, cause, comes.0)
+data_cause words files before after (BadChangesLine line cause) is comes = inr (line, cause, comes.0)
 data_cause words files before after (BadLine file line) is comes = absurd (cc)
 data_cause words files before after (FalseLine line) is comes = absurd (cc)
-data_cause words files before after (Checked entries) is comes = absurd (cc)
-data_cause words files before after (Dumped entries) is comes = absurd (cc)
+data_cause words files before after (Checked left) is comes = absurd (cc)
+data_cause words files before after (Dumped left) is comes = absurd (cc)
 data_cause words files before after (Replayed events turns dump entries) is comes = absurd (not_replayed BadData events turns dump entries is (λ e. cc) (λ e. cc))
 data_cause words files before after (Served asked end) is comes = absurd (serve_not BadData end is (λ e. cc) (λ e. cc) (λ e. cc) (λ e. cc))
 data_cause words files before after (Answered text) is comes = absurd (cc)
@@ -70,15 +73,16 @@ data_cause words files before after (Sampled text) is comes = absurd (cc)
 data_cause words files before after OutOfMemory is comes = absurd (cc)
 
 shelf_cause : (words : List (List ℕ)) (files : Option Files) (before after : ℕ) (outcome : Outcome)
-    → ShelfFault ≡ status_of outcome → Comes words files before after outcome → LacksData words files before after ⊎ LacksSecond words files before after
+    → ShelfFault ≡ status_of outcome → Comes words files before after outcome → LacksData words files before after ⊎ (LacksSecond words files before after ⊎ LacksChanges words files before after)
 unfolding status_of Comes
 shelf_cause words files before after NoCommand is comes = absurd (cc)
 shelf_cause words files before after NoFile is comes = comes
 shelf_cause words files before after (BadDataLine line cause) is comes = absurd (cc)
+shelf_cause words files before after (BadChangesLine line cause) is comes = absurd (cc)
 shelf_cause words files before after (BadLine file line) is comes = absurd (cc)
 shelf_cause words files before after (FalseLine line) is comes = absurd (cc)
-shelf_cause words files before after (Checked entries) is comes = absurd (cc)
-shelf_cause words files before after (Dumped entries) is comes = absurd (cc)
+shelf_cause words files before after (Checked left) is comes = absurd (cc)
+shelf_cause words files before after (Dumped left) is comes = absurd (cc)
 shelf_cause words files before after (Replayed events turns dump entries) is comes = absurd (not_replayed ShelfFault events turns dump entries is (λ e. cc) (λ e. cc))
 shelf_cause words files before after (Served asked end) is comes = absurd (serve_not ShelfFault end is (λ e. cc) (λ e. cc) (λ e. cc) (λ e. cc))
 shelf_cause words files before after (Answered text) is comes = absurd (cc)
@@ -91,10 +95,11 @@ unfolding status_of Comes
 script_cause words files before after NoCommand is comes = absurd (cc)
 script_cause words files before after NoFile is comes = absurd (cc)
 script_cause words files before after (BadDataLine line cause) is comes = absurd (cc)
+script_cause words files before after (BadChangesLine line cause) is comes = absurd (cc)
 script_cause words files before after (BadLine file line) is comes = (file, line, comes.0)
 script_cause words files before after (FalseLine line) is comes = absurd (cc)
-script_cause words files before after (Checked entries) is comes = absurd (cc)
-script_cause words files before after (Dumped entries) is comes = absurd (cc)
+script_cause words files before after (Checked left) is comes = absurd (cc)
+script_cause words files before after (Dumped left) is comes = absurd (cc)
 script_cause words files before after (Replayed events turns dump entries) is comes = absurd (not_replayed BadScript events turns dump entries is (λ e. cc) (λ e. cc))
 script_cause words files before after (Served asked end) is comes = absurd (serve_not BadScript end is (λ e. cc) (λ e. cc) (λ e. cc) (λ e. cc))
 script_cause words files before after (Answered text) is comes = absurd (cc)
@@ -107,10 +112,11 @@ unfolding status_of Comes
 false_cause words files before after NoCommand is comes = absurd (cc)
 false_cause words files before after NoFile is comes = absurd (cc)
 false_cause words files before after (BadDataLine line cause) is comes = absurd (cc)
+false_cause words files before after (BadChangesLine line cause) is comes = absurd (cc)
 false_cause words files before after (BadLine file line) is comes = absurd (cc)
 false_cause words files before after (FalseLine line) is comes = (line, comes.0)
-false_cause words files before after (Checked entries) is comes = absurd (cc)
-false_cause words files before after (Dumped entries) is comes = absurd (cc)
+false_cause words files before after (Checked left) is comes = absurd (cc)
+false_cause words files before after (Dumped left) is comes = absurd (cc)
 false_cause words files before after (Replayed events turns dump entries) is comes = absurd (not_replayed NotProved events turns dump entries is (λ e. cc) (λ e. cc))
 false_cause words files before after (Served asked end) is comes = absurd (serve_not NotProved end is (λ e. cc) (λ e. cc) (λ e. cc) (λ e. cc))
 false_cause words files before after (Answered text) is comes = absurd (cc)
@@ -129,10 +135,11 @@ unfolding status_of Comes Links
 link_cause words files before after old new NoCommand is comes links = absurd (cc)
 link_cause words files before after old new NoFile is comes links = absurd (cc)
 link_cause words files before after old new (BadDataLine line cause) is comes links = absurd (cc)
+link_cause words files before after old new (BadChangesLine line cause) is comes links = absurd (cc)
 link_cause words files before after old new (BadLine file line) is comes links = absurd (cc)
 link_cause words files before after old new (FalseLine line) is comes links = absurd (cc)
-link_cause words files before after old new (Checked entries) is comes links = absurd (cc)
-link_cause words files before after old new (Dumped entries) is comes links = absurd (cc)
+link_cause words files before after old new (Checked left) is comes links = absurd (cc)
+link_cause words files before after old new (Dumped left) is comes links = absurd (cc)
 link_cause words files before after old new (Replayed events turns dump entries) is comes links = absurd (not_replayed LinkFault events turns dump entries is (λ e. cc) (λ e. cc))
 link_cause words files before after old new (Served asked end) is comes links = (serving_asked words files asked comes.0, fault_rose asked old new end is links)
 link_cause words files before after old new (Answered text) is comes links = absurd (cc)
@@ -146,10 +153,11 @@ unfolding Comes Links
 link_stays words files before after old new NoCommand other comes links = links
 link_stays words files before after old new NoFile other comes links = links
 link_stays words files before after old new (BadDataLine line cause) other comes links = links
+link_stays words files before after old new (BadChangesLine line cause) other comes links = links
 link_stays words files before after old new (BadLine file line) other comes links = links
 link_stays words files before after old new (FalseLine line) other comes links = links
-link_stays words files before after old new (Checked entries) other comes links = links
-link_stays words files before after old new (Dumped entries) other comes links = links
+link_stays words files before after old new (Checked left) other comes links = links
+link_stays words files before after old new (Dumped left) other comes links = links
 link_stays words files before after old new (Replayed events turns dump entries) other comes links = links
 link_stays words files before after old new (Served asked end) other comes links = absurd (other (serving_asked words files asked comes.0))
 link_stays words files before after old new (Answered text) other comes links = links
@@ -180,10 +188,11 @@ unfolding status_of Comes
 count_stays words files before after NoCommand status is other comes = comes.1
 count_stays words files before after NoFile status is other comes = absurd (other is)
 count_stays words files before after (BadDataLine line cause) status is other comes = comes.1
+count_stays words files before after (BadChangesLine line cause) status is other comes = comes.1
 count_stays words files before after (BadLine file line) status is other comes = comes.1
 count_stays words files before after (FalseLine line) status is other comes = comes.1
-count_stays words files before after (Checked entries) status is other comes = comes.1
-count_stays words files before after (Dumped entries) status is other comes = comes.1
+count_stays words files before after (Checked left) status is other comes = comes.1
+count_stays words files before after (Dumped left) status is other comes = comes.1
 count_stays words files before after (Replayed events turns dump entries) status is other comes = comes.1
 count_stays words files before after (Served asked end) status is other comes = comes.1
 count_stays words files before after (Answered text) status is other comes = comes.1
@@ -197,10 +206,11 @@ unfolding status_of Links
 link_count_stays NoCommand old new status is not_fault not_memory links = ap (λ link. link.faults) links
 link_count_stays NoFile old new status is not_fault not_memory links = ap (λ link. link.faults) links
 link_count_stays (BadDataLine line cause) old new status is not_fault not_memory links = ap (λ link. link.faults) links
+link_count_stays (BadChangesLine line cause) old new status is not_fault not_memory links = ap (λ link. link.faults) links
 link_count_stays (BadLine file line) old new status is not_fault not_memory links = ap (λ link. link.faults) links
 link_count_stays (FalseLine line) old new status is not_fault not_memory links = ap (λ link. link.faults) links
-link_count_stays (Checked entries) old new status is not_fault not_memory links = ap (λ link. link.faults) links
-link_count_stays (Dumped entries) old new status is not_fault not_memory links = ap (λ link. link.faults) links
+link_count_stays (Checked left) old new status is not_fault not_memory links = ap (λ link. link.faults) links
+link_count_stays (Dumped left) old new status is not_fault not_memory links = ap (λ link. link.faults) links
 link_count_stays (Replayed events turns dump entries) old new status is not_fault not_memory links = ap (λ link. link.faults) links
 link_count_stays (Served asked end) old new status is not_fault not_memory links = serve_count_stays asked old new end status is not_fault not_memory links
 link_count_stays (Answered text) old new status is not_fault not_memory links = ap (λ link. link.faults) links

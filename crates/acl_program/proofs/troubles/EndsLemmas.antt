@@ -14,7 +14,7 @@ use Rattle.command_files.specs.Outside.{Written}
 use Rattle.command_files.specs.Troubles.{trouble_text}
 use Rattle.acl_program.specs.declared.status.Status.{Status}
 use Rattle.acl_program.specs.declared.status.Status.TheVariants.{Done, Usage, BadData, ShelfFault, SinkFault, LinkFault, TurnsSpent, NoMemory, BadScript, NotProved}
-use Rattle.acl_program.specs.Outcomes.{Outcome, NoCommand, NoFile, BadDataLine, BadLine, FalseLine, Checked, Dumped, Replayed, Served, Answered, Sampled, OutOfMemory, text_of, status_of, settled}
+use Rattle.acl_program.specs.Outcomes.{Outcome, NoCommand, NoFile, BadDataLine, BadChangesLine, BadLine, FalseLine, Checked, Dumped, Replayed, Served, Answered, Sampled, OutOfMemory, text_of, status_of, settled}
 use Rattle.acl_program.specs.Troubles.{outcome_of}
 use Rattle.acl_program.specs.program.Running.{PutsFront}
 use Rattle.acl_program.specs.serve.Serving.{ServeEnd, NotBegun, NotOpened, NotServed, LoopEnded, serve_status}
@@ -32,6 +32,7 @@ serve-not_sink NotServed is = cc
 serve-not_sink (LoopEnded ended.Stopped) is = cc
 serve-not_sink (LoopEnded ended.TurnsSpent) is = cc
 serve-not_sink (LoopEnded ended.LinkFault) is = cc
+serve-not_sink (LoopEnded ended.StoreFault) is = cc
 serve-not_sink (LoopEnded ended.NoMemory) is = cc
 
 status_of-not_sink : (outcome : Outcome) → SinkFault ≡ status_of outcome → ⊥
@@ -39,10 +40,11 @@ unfolding status_of
 status_of-not_sink NoCommand is = cc
 status_of-not_sink NoFile is = cc
 status_of-not_sink (BadDataLine line cause) is = cc
+status_of-not_sink (BadChangesLine line cause) is = cc
 status_of-not_sink (BadLine file line) is = cc
 status_of-not_sink (FalseLine line) is = cc
-status_of-not_sink (Checked entries) is = cc
-status_of-not_sink (Dumped entries) is = cc
+status_of-not_sink (Checked left) is = cc
+status_of-not_sink (Dumped left) is = cc
 status_of-not_sink (Replayed events turns dump entries) is = done_or_spent-not_sink (nat_lt (length (pieces buffer_length events)) turns) is
 status_of-not_sink (Served asked end) is = serve-not_sink end is
 status_of-not_sink (Answered text) is = cc
@@ -98,4 +100,5 @@ unfolding text_of
 trouble_text-outcome trouble.NoFile = refl
 trouble_text-outcome (trouble.BadData line cause) = refl
 trouble_text-outcome (trouble.BadLine file line) = refl
+trouble_text-outcome (trouble.BadChanges line cause) = refl
 trouble_text-outcome trouble.NoMemory = refl

@@ -12,13 +12,15 @@ use Rattle.command_words.specs.command.Command.{CommandView, ServingView, Serve,
 use Rattle.certify.specs.explanation.Questions.{Question}
 use Rattle.certify.specs.explanation.Reading.{question_of}
 use Rattle.certify.specs.explanation.NameWords.{who_of, target_of}
+use Rattle.command_files.specs.declared.changing.ChangesCause.{ChangesCause}
+use Rattle.command_files.specs.loading.Changing.{Left}
 use Rattle.command_files.specs.declared.loading.SecondFile.{SecondFile}
 use Rattle.command_files.specs.declared.loading.SecondFile.TheVariants as second
 use Rattle.command_files.specs.dir_tree.Entry.{EntryInformation}
 use Rattle.command_files.specs.dn_names.name.Names.{RdnSequence}
 use Rattle.command_files.specs.ldif_load.load.DataFile.{FileCause}
-use Rattle.command_files.specs.loading.Accepting.{IsUnread, HoldsIn, IsTold, IsGoodData, IsBadData, IsGoodScript, IsBadScript, IsBadRequests}
-use Rattle.acl_program.specs.Outcomes.{Outcome, NoCommand, NoFile, BadDataLine, BadLine, FalseLine, Checked, Dumped, Replayed, Served, Answered, Sampled, OutOfMemory}
+use Rattle.command_files.specs.loading.Accepting.{IsUnread, IsUnreadBeside, IsBadBeside, IsLoaded, HoldsIn, IsTold, IsGoodData, IsBadData, IsGoodScript, IsBadScript, IsBadRequests}
+use Rattle.acl_program.specs.Outcomes.{Outcome, NoCommand, NoFile, BadDataLine, BadChangesLine, BadLine, FalseLine, Checked, Dumped, Replayed, Served, Answered, Sampled, OutOfMemory}
 use Rattle.acl_program.specs.program.Outside.{Linked}
 use Rattle.acl_program.specs.Answering.{IsBadCertificate, IsFalseCertificate, AsksAnswer}
 use Rattle.acl_program.specs.Sampling.{Samples, RefusesSample}
@@ -28,8 +30,8 @@ use Rattle.acl_program.specs.serve.Serving.{ServeAsked, LoopEnded, LinkServes}
 abbrev pub IsPerformed : CommandView → Type 0
 IsPerformed (Serve serving) = Unit {0}
 IsPerformed (Replay data_file script turns dump) = Unit {0}
-IsPerformed (Check data_file) = Unit {0}
-IsPerformed (Dump data_file) = Unit {0}
+IsPerformed (Check data_file changes) = Unit {0}
+IsPerformed (Dump data_file changes) = Unit {0}
 IsPerformed (Explain data_file who target item permission) = (question : Question) × (question_of who target item permission ≡ Some question)
 IsPerformed (Sample count) = Unit {0}
 IsPerformed (Ask data_file requests script) = Unit {0}
@@ -47,8 +49,8 @@ IsNoCommand words = (asked : CommandView) → IsCommand words asked → IsPerfor
 abbrev pub data_of : CommandView → Option (List ℕ)
 data_of (Serve serving) = Some serving.data_file
 data_of (Replay data_file script turns dump) = Some data_file
-data_of (Check data_file) = Some data_file
-data_of (Dump data_file) = Some data_file
+data_of (Check data_file changes) = Some data_file
+data_of (Dump data_file changes) = Some data_file
 data_of (Explain data_file who target item permission) = Some data_file
 data_of (Sample count) = None
 data_of (Ask data_file requests script) = Some data_file
@@ -71,8 +73,8 @@ second_named kind name = record { kind = kind; name = name }
 abbrev pub second_of : CommandView → Option Second
 second_of (Serve serving) = None
 second_of (Replay data_file script turns dump) = Some (second_named second.Script script)
-second_of (Check data_file) = None
-second_of (Dump data_file) = None
+second_of (Check data_file changes) = None
+second_of (Dump data_file changes) = None
 second_of (Explain data_file who target item permission) = None
 second_of (Sample count) = None
 second_of (Ask data_file requests script) = Some (second_named second.Requests requests)
@@ -81,6 +83,21 @@ second_of (Verify data_file certificate) = Some (second_named second.Certificate
 second_of (Rights data_file who target) = None
 second_of Help = None
 second_of Version = None
+
+-- the file of changes of a command, where it has one
+abbrev pub changes_of : CommandView → Option (List ℕ)
+changes_of (Serve serving) = None
+changes_of (Replay data_file script turns dump) = None
+changes_of (Check data_file changes) = changes
+changes_of (Dump data_file changes) = changes
+changes_of (Explain data_file who target item permission) = None
+changes_of (Sample count) = None
+changes_of (Ask data_file requests script) = None
+changes_of (Prove data_file who target item permission) = None
+changes_of (Verify data_file certificate) = None
+changes_of (Rights data_file who target) = None
+changes_of Help = None
+changes_of Version = None
 
 -- the words ask for a command with this data file
 unfoldable pub AsksData : List (List ℕ) → List ℕ → Type 0
@@ -114,11 +131,27 @@ pub record LacksSecond (words : List (List ℕ)) (files : Option Files) (before 
   pub asked : AsksSecond words files read entries
   pub unread : IsUnread files read.name before after
 
+-- the data file was accepted, and the file of changes wasn't read
+pub record LacksChanges (words : List (List ℕ)) (files : Option Files) (before after : ℕ) : Type 0 where
+  pub command : CommandView
+  pub data_file : List ℕ
+  pub asked : IsCommand words command
+  pub has_data : data_of command ≡ Some data_file
+  pub unread : IsUnreadBeside files data_file before after (changes_of command)
+
 -- the data file is refused
 pub record RefusesData (words : List (List ℕ)) (files : Option Files) (line : ℕ) (cause : FileCause) : Type 0 where
   pub data_file : List ℕ
   pub asked : AsksData words data_file
   pub bad : HoldsIn files data_file (IsBadData line cause)
+
+-- the data file was accepted, and the file of changes is refused
+pub record RefusesChanges (words : List (List ℕ)) (files : Option Files) (line : ℕ) (cause : ChangesCause) : Type 0 where
+  pub command : CommandView
+  pub data_file : List ℕ
+  pub asked : IsCommand words command
+  pub has_data : data_of command ≡ Some data_file
+  pub bad : IsBadBeside files data_file line cause (changes_of command)
 
 -- the line of a second file at which it is refused: it isn't a script or requests, or isn't in a certificate's form
 abbrev pub IsBadSecond : SecondFile → List EntryInformation → ℕ → List ℕ → Type 0
@@ -142,11 +175,13 @@ pub record RefutesCertificate (words : List (List ℕ)) (files : Option Files) (
   pub good : HoldsIn files data_file (IsGoodData entries)
   pub refuted : HoldsIn files certificate (IsFalseCertificate entries line)
 
--- a command of a data file alone, which is accepted
-pub record AsksAlone (command : List ℕ → CommandView) (words : List (List ℕ)) (files : Option Files) (entries : List EntryInformation) : Type 0 where
+-- a command of a data file and perhaps of a file of changes, of which what is known says that they are accepted and leave
+-- this
+pub record AsksLoaded (command : List ℕ → Option (List ℕ) → CommandView) (words : List (List ℕ)) (holds : List ℕ → (List ℕ → Type 0) → Type 0) (left : Left) : Type 0 where
   pub data_file : List ℕ
-  pub asked : IsCommand words (command data_file)
-  pub good : HoldsIn files data_file (IsGoodData entries)
+  pub changes : Option (List ℕ)
+  pub asked : IsCommand words (command data_file changes)
+  pub good : IsLoaded holds data_file changes left
 
 -- a replay, both of whose files are accepted
 pub record AsksBoth (words : List (List ℕ)) (files : Option Files) (events : List ScriptEvent) (turns : ℕ) (dump : Bool) (entries : List EntryInformation) : Type 0 where
@@ -167,12 +202,13 @@ pub record AsksServe (words : List (List ℕ)) (files : Option Files) (asks : Se
 -- is as it was but where a file wasn't read
 unfoldable pub Comes : List (List ℕ) → Option Files → ℕ → ℕ → Outcome → Type 0
 Comes words files before after NoCommand = IsNoCommand words × (after ≡ before)
-Comes words files before after NoFile = LacksData words files before after ⊎ LacksSecond words files before after
+Comes words files before after NoFile = LacksData words files before after ⊎ (LacksSecond words files before after ⊎ LacksChanges words files before after)
 Comes words files before after (BadDataLine line cause) = (RefusesData words files line cause ⊎ RefusesSample words line cause) × (after ≡ before)
+Comes words files before after (BadChangesLine line cause) = RefusesChanges words files line cause × (after ≡ before)
 Comes words files before after (BadLine file line) = RefusesSecond words files file line × (after ≡ before)
 Comes words files before after (FalseLine line) = RefutesCertificate words files line × (after ≡ before)
-Comes words files before after (Checked entries) = AsksAlone Check words files entries × (after ≡ before)
-Comes words files before after (Dumped entries) = AsksAlone Dump words files entries × (after ≡ before)
+Comes words files before after (Checked left) = AsksLoaded Check words (HoldsIn files) left × (after ≡ before)
+Comes words files before after (Dumped left) = AsksLoaded Dump words (HoldsIn files) left × (after ≡ before)
 Comes words files before after (Replayed events turns dump entries) = AsksBoth words files events turns dump entries × (after ≡ before)
 Comes words files before after (Served asks end) = AsksServe words files asks × (after ≡ before)
 Comes words files before after (Answered text) = AsksAnswer words (HoldsIn files) text × (after ≡ before)
@@ -184,10 +220,11 @@ unfoldable pub Links : Outcome → Linked → Linked → Type 0
 Links NoCommand before after = after ≡ before
 Links NoFile before after = after ≡ before
 Links (BadDataLine line cause) before after = after ≡ before
+Links (BadChangesLine line cause) before after = after ≡ before
 Links (BadLine file line) before after = after ≡ before
 Links (FalseLine line) before after = after ≡ before
-Links (Checked entries) before after = after ≡ before
-Links (Dumped entries) before after = after ≡ before
+Links (Checked left) before after = after ≡ before
+Links (Dumped left) before after = after ≡ before
 Links (Replayed events turns dump entries) before after = after ≡ before
 Links (Served asks end) before after = LinkServes asks end before after
 Links (Answered text) before after = after ≡ before
@@ -204,10 +241,11 @@ unfoldable pub IsDue : List (List ℕ) → Option Files → Linked → Linked �
 IsDue words files old new NoCommand = ⊥
 IsDue words files old new NoFile = ⊥
 IsDue words files old new (BadDataLine line cause) = ⊥
+IsDue words files old new (BadChangesLine line cause) = ⊥
 IsDue words files old new (BadLine file line) = ⊥
 IsDue words files old new (FalseLine line) = ⊥
-IsDue words files old new (Checked entries) = (data_file : List ℕ) × IsCommand words (Check data_file) × IsTold files data_file (IsGoodData entries)
-IsDue words files old new (Dumped entries) = (data_file : List ℕ) × IsCommand words (Dump data_file) × IsTold files data_file (IsGoodData entries)
+IsDue words files old new (Checked left) = AsksLoaded Check words (IsTold files) left
+IsDue words files old new (Dumped left) = AsksLoaded Dump words (IsTold files) left
 IsDue words files old new (Replayed events turns dump entries) =
     (data_file : List ℕ) × (script : List ℕ) × IsCommand words (Replay data_file script turns dump)
     × IsTold files data_file (IsGoodData entries) × IsTold files script (IsGoodScript events)

@@ -50,6 +50,7 @@ Plays entries left events turns ended.Stopped journal =
 Plays entries left events turns ended.TurnsSpent journal =
     (journal_text journal ≡ replay_text entries events turns) × (left ≡ entries_after entries events turns) × (turns ≤ length (pieces buffer_length events))
 Plays entries left events turns ended.LinkFault journal = ⊥
+Plays entries left events turns ended.StoreFault journal = ⊥
 Plays entries left events turns ended.NoMemory journal = Unit {0}
 
 -- the sink's count rose where it is to blame, and is otherwise as it was

@@ -6,9 +6,10 @@ use Rattle.acl_program.specs.declared.status.Status.{Status}
 use Rattle.acl_program.specs.declared.status.Status.TheVariants.{Done, Usage, BadData, ShelfFault, SinkFault, LinkFault, TurnsSpent, NoMemory, BadScript, NotProved}
 use Rattle.acl_program.specs.program.Outside.{Outside}
 use Rattle.acl_program.specs.Outcomes.{Outcome, text_of, status_of}
+use Rattle.command_files.specs.declared.changing.ChangesCause.{ChangesCause}
 use Rattle.command_files.specs.declared.loading.SecondFile.{SecondFile}
 use Rattle.command_files.specs.ldif_load.load.DataFile.{FileCause}
-use Rattle.acl_program.specs.program.Causes.{Comes, Links, AsksServing, LacksData, LacksSecond, RefusesData, RefusesSecond, RefutesCertificate}
+use Rattle.acl_program.specs.program.Causes.{Comes, Links, AsksServing, LacksChanges, LacksData, LacksSecond, RefusesChanges, RefusesData, RefusesSecond, RefutesCertificate}
 use Rattle.acl_program.specs.Sampling.{RefusesSample}
 
 -- a front of the text was put
@@ -34,8 +35,12 @@ EndsAs outcome status = (status ≡ NoMemory) ⊎ (status ≡ status_of outcome)
 
 -- what came where it ended with one of these statuses
 unfoldable pub IsCause : List (List ℕ) → Outside → Outside → Status → Type 0
-IsCause words before after BadData = (line : ℕ) × (cause : FileCause) × (RefusesData words before.shelf.files line cause ⊎ RefusesSample words line cause)
-IsCause words before after ShelfFault = LacksData words before.shelf.files before.shelf.faults after.shelf.faults ⊎ LacksSecond words before.shelf.files before.shelf.faults after.shelf.faults
+IsCause words before after BadData =
+    ((line : ℕ) × (cause : FileCause) × (RefusesData words before.shelf.files line cause ⊎ RefusesSample words line cause))
+    ⊎ ((line : ℕ) × (cause : ChangesCause) × RefusesChanges words before.shelf.files line cause)
+IsCause words before after ShelfFault =
+    LacksData words before.shelf.files before.shelf.faults after.shelf.faults
+    ⊎ (LacksSecond words before.shelf.files before.shelf.faults after.shelf.faults ⊎ LacksChanges words before.shelf.files before.shelf.faults after.shelf.faults)
 IsCause words before after BadScript = (file : SecondFile) × (line : ℕ) × RefusesSecond words before.shelf.files file line
 IsCause words before after NotProved = (line : ℕ) × RefutesCertificate words before.shelf.files line
 IsCause words before after Done = Unit {0}

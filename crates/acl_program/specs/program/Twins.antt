@@ -12,6 +12,7 @@ use Rattle.session_hub.specs.session_model.AnsweredMessages.{AnsweredMessage, an
 use Rattle.session_hub.specs.Parties.{DirectoryEntries, Requester}
 use Rattle.session_hub.specs.Answering.{rules}
 use Rattle.session_hub.specs.Twins.{IsOverTwins}
+use Rattle.session_hub.specs.Terms.{no_terms}
 use Rattle.command_words.specs.command.Command.{Replay, IsCommand}
 use Rattle.command_files.specs.loading.Accepting.{IsTold, IsGoodData, IsGoodScript}
 use Rattle.acl_program.specs.declared.status.Status.{Status}
@@ -21,7 +22,7 @@ use Rattle.acl_program.specs.program.Outside.{Outside}
 
 -- the messages that a replay answers
 abbrev pub answered_of_script : DirectoryEntries → List ScriptEvent → ℕ → List (AnsweredMessage DirectoryEntries Requester)
-answered_of_script entries events turns = answered_of_replay (rules 0) (start (rules 0) entries) (steps_of_events (heard_of events turns))
+answered_of_script entries events turns = answered_of_replay (rules no_terms) (start (rules no_terms) entries) (steps_of_events (heard_of events turns))
 
 -- the words ask for a replay without the tree at its end, whose files are told and accepted
 pub record AsksLines (words : List (List ℕ)) (files : Option Files) (events : List ScriptEvent) (turns : ℕ) (entries : DirectoryEntries) : Type 0 where

@@ -1,5 +1,5 @@
 -- Serving over a link (RFC 4511 5.3): it is opened at an address, a line says so, and then the loop serves its connections.
-use Rattle.std.specs.Prelude.{◌≡◌, ℕ, List, [], ◌++◌, Option, Result, Ok, Err, codes}
+use Rattle.std.specs.Prelude.{◌≡◌, ℕ, false, List, [], ◌++◌, Option, Result, Ok, Err, codes}
 use Rattle.command_files.specs.plain_values.Counts.{NeverFalls}
 use Rattle.command_files.specs.wire_io.declared.answers.NextFault.{NextFault}
 use Rattle.command_files.specs.wire_io.declared.answers.NextFault.TheVariants as next
@@ -7,6 +7,7 @@ use Rattle.command_files.specs.wire_io.Answers.{LinkCause}
 use Rattle.command_files.specs.wire_io.link.Telling.{OpenTells}
 use Rattle.session_hub.specs.declared.ended.Ended.{Ended}
 use Rattle.session_hub.specs.declared.ended.Ended.TheVariants as ended
+use Rattle.session_hub.specs.declared.bounds.Terms.{Terms}
 use Rattle.session_hub.specs.serve.Loops.{Serves, PlaysOut, EndsFor}
 use Rattle.command_words.specs.command.Command.{ServingView}
 use Rattle.command_files.specs.dir_tree.Entry.{EntryInformation}
@@ -40,6 +41,7 @@ abbrev pub ended_text : Ended → List ℕ
 ended_text ended.Stopped = []
 ended_text ended.TurnsSpent = codes "turns spent\n"
 ended_text ended.LinkFault = codes "link fault\n"
+ended_text ended.StoreFault = codes "store fault\n"
 ended_text ended.NoMemory = []
 
 -- all that is printed
@@ -54,6 +56,7 @@ abbrev pub loop_status : Ended → Status
 loop_status ended.Stopped = Done
 loop_status ended.TurnsSpent = TurnsSpent
 loop_status ended.LinkFault = LinkFault
+loop_status ended.StoreFault = LinkFault
 loop_status ended.NoMemory = NoMemory
 
 -- how the program ends; a fault of the sink aside, a line that wasn't put whole wanted memory
@@ -70,12 +73,16 @@ pub record Opens (serving : ServingView) (answer : Result (Unit {0}) NextFault) 
   pub plan : after.plan ≡ before.plan
   pub lost : NeverFalls before.lost after.lost
 
--- the open link was served over the entries, by rules with the limit that the words ask for, and the loop ended so
+-- the terms that the words ask for: a limit on searches, and changes are kept in memory alone
+abbrev pub terms_of : ServingView → Terms
+terms_of serving = record { limit = serving.limit; keeps = false }
+
+-- the open link was served over the entries, by rules of the terms that the words ask for, and the loop ended so
 pub record ServesUntil (asked : ServeAsked) (how : Ended) (before after : Linked) : Type 0 where
   pub left : List EntryInformation
-  pub served : Serves asked.serving.limit asked.entries left asked.serving.turns before.journal how after.journal
+  pub served : Serves (terms_of asked.serving) asked.entries left asked.serving.turns before.journal how after.journal
   pub plays : PlaysOut asked.serving.turns before.journal before.plan how after.journal after.plan
-  pub cause : EndsFor before.plan before.faults after.faults how
+  pub cause : EndsFor false before.plan before.faults after.faults how
   pub lost : NeverFalls before.lost after.lost
 
 -- what was done with the link: one `open`, and where that was answered Ok and the line was put, what the loop did

@@ -36,7 +36,6 @@ use Rattle.command_words.proofs.command.Sound.{sound}
 use Rattle.command_words.proofs.command.Complete.{complete}
 use Rattle.command_words.proofs.command.Sayings.{Taken, command_said-sound, command_said-complete}
 use Rattle.command_words.proofs.command.Defaults.{all-defaults-pass, check-passes, defaulted}
-use Rattle.command_words.proofs.command.Strict.{said-items}
 use Rattle.command_words.proofs.command.Said.{count-same, kept_at_end, said-same}
 
 -- the rows that a walk over a command's words leaves, and its fault
@@ -65,7 +64,7 @@ matches-are name words = ap {B = Sought → Option (List Text)} (λ (own : App) 
 
 -- the rows of the table
 rows-readable : (name : CommandName) → IsReadable (row_of name)
-rows-readable name = record { named = option_named-complete name }
+rows-readable name = record { named = option_named-complete (row_of name) }
 
 -- a fact of each, of some, and of one
 each : {X : Type 0} (P : X → Type 0) (xs : List X) → ((x : X) → P x) → AllByRecursion P xs
@@ -109,7 +108,7 @@ kept-found name words asked utf8 none given =
     record {
       line = line;
       words_are = lined.words_are;
-      is_line = record { items = said-items name line asked lined.are says; operands = taken.operands; once = taken.once };
+      is_line = record { items = lined.are; operands = taken.operands; once = taken.once };
       says = says;
     }
 

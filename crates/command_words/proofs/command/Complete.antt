@@ -12,7 +12,7 @@ use Rattle.command_words.specs.declared.table.OptionName.{OptionName}
 use Rattle.command_words.specs.declared.table.Sought.{Sought}
 use Rattle.command_words.specs.declared.table.Sought.TheVariants.{Arguments}
 use Rattle.command_words.specs.Table.{Row, option_word}
-use Rattle.command_words.specs.command.Line.{Item, Operand, Flag, Joined, Apart, Line, IsItem, begins_with_dash, is_operand, item_texts, item_words, line_words, long, texts_of}
+use Rattle.command_words.specs.command.Line.{Item, Operand, Flag, Joined, Apart, Line, IsItem, item_texts, item_words, line_words, long, texts_of}
 use Rattle.command_words.proofs.table.Tables.{same_option}
 use Rattle.command_words.proofs.command.Rules.{option_by}
 use Rattle.command_words.proofs.command.Steps.{Pending, Turns, at, free, owed, settle, awaited-turn, delimiter-turn, flag-turn, joined-turn, operand-turn, option-turn}
@@ -96,9 +96,6 @@ no-items row (Some words) after_operand rows pending given none holds once =
     passed-more row _ _ (codes "--") words _ _ (delimiter-turn row waiting rows pending) refl
     (record { none = trailing-passes row words waiting rows pending none; holds = trailing-holds row words waiting rows pending given holds })
 
-not-dashed : (word : Text) → begins_with_dash word ≡ false → is_operand word ≡ true
-not-dashed word undashed = rw undashed refl
-
 module _ (row : Row) (readable : IsReadable row) (items : List Item) (rest : Option (List Text)) (later : Complete row items rest) where
   abbrev line : Line
   line = record { items = items; rest = rest }
@@ -138,7 +135,7 @@ module _ (row : Row) (readable : IsReadable row) (items : List Item) (rest : Opt
       let pending_none : owed row base (Some (id, value ∷ [])) ≡ [] = ap (λ (rule : Option Rule). option_map_or (λ (one : Rule). use_fault false one (value ∷ []) base) rule []) found ∙ value-passes id value base absent in
       let pending_holds : Holds (settle row base (Some (id, value ∷ []))) (with_item (Apart name value) given) =
       subst (λ (rule : Option Rule). Holds (used_by_id rule (value ∷ []) base) (with_item (Apart name value) given)) (sym found) (value-holds base given name value (Apart name value) is.1 (apart-gives name value) holds absent) in
-      let bare = operand-bare value (not-dashed value is.2) in
+      let bare = operand-bare value is.2 in
       from-item _ (Apart name value) given (passed-more row _ _ (long name) _ _ _ (long-turn row (free after_operand) rows pending name own) none
       (passed-more row _ _ value _ _ _ (awaited-turn row id base value bare found) refl
       (later false base (Some (id, value ∷ [])) (with_item (Apart name value) given) pending_none pending_holds (once-put row given (Apart name value) line once))))

@@ -70,6 +70,7 @@ option-default options.Idle sought rows written = ap (all_of (id_of sought)) (va
 option-default options.Limit sought rows written = ap (all_of (id_of sought)) (value-default (option_word options.Limit) rows)
 option-default options.Dump sought rows written = flag-default (option_word options.Dump) (id_of sought) rows (flag-differs options.Dump sought refl written)
 option-default options.Script sought rows written = flag-default (option_word options.Script) (id_of sought) rows (flag-differs options.Script sought refl written)
+option-default options.Changes sought rows written = ap (all_of (id_of sought)) (value-default (option_word options.Changes) rows)
 
 options-default : (names : List OptionName) (sought : Sought) (rows : List Kept) → IsWritten sought → all_of (id_of sought) (fold with_default rows (map option names)) ≡ all_of (id_of sought) rows
 options-default [] sought rows written = refl
@@ -123,6 +124,7 @@ default-passes options.Idle rows = rw (or-true (has_row (option_word options.Idl
 default-passes options.Limit rows = rw (or-true (has_row (option_word options.Limit) rows)) refl
 default-passes options.Dump rows = plain-passes (has_row (option_word options.Dump) rows || false) [] refl
 default-passes options.Script rows = plain-passes (has_row (option_word options.Script) rows || false) [] refl
+default-passes options.Changes rows = rw (or-true (has_row (option_word options.Changes) rows)) refl
 
 defaults-pass : (names : List OptionName) (rows : List Kept) → defaults_fault rows (map option names) ≡ []
 unfolding defaults_fault

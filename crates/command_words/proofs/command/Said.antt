@@ -51,8 +51,12 @@ said-same commands.Serve rows line holds =
 said-same commands.Replay rows line holds =
     let own : (sought : Sought) (index : ℕ) → IsWritten sought → kept_text (kept_at_end (row_of commands.Replay) rows sought) index ≡ slice_get (texts_of sought line) index = λ sought index written. text-same (row_of commands.Replay) rows line sought index holds written in
     rw (own Operands 0 refl, own Operands 1 refl, own (Arguments options.Turns) 0 refl, dump-same rows line holds) refl
-said-same commands.Check rows line holds = rw (text-same (row_of commands.Check) rows line Operands 0 holds refl) refl
-said-same commands.Dump rows line holds = rw (text-same (row_of commands.Dump) rows line Operands 0 holds refl) refl
+said-same commands.Check rows line holds =
+    let own : (sought : Sought) → IsWritten sought → kept_text (kept_at_end (row_of commands.Check) rows sought) 0 ≡ slice_get (texts_of sought line) 0 = λ sought written. text-same (row_of commands.Check) rows line sought 0 holds written in
+    rw (own Operands refl, own (Arguments options.Changes) refl) refl
+said-same commands.Dump rows line holds =
+    let own : (sought : Sought) → IsWritten sought → kept_text (kept_at_end (row_of commands.Dump) rows sought) 0 ≡ slice_get (texts_of sought line) 0 = λ sought written. text-same (row_of commands.Dump) rows line sought 0 holds written in
+    rw (own Operands refl, own (Arguments options.Changes) refl) refl
 said-same commands.Explain rows line holds =
     let own : (index : ℕ) → kept_text (kept_at_end (row_of commands.Explain) rows Operands) index ≡ slice_get (texts_of Operands line) index = λ index. text-same (row_of commands.Explain) rows line Operands index holds refl in
     rw (own 0, own 1, own 2, own 3, own 4) refl

@@ -1,5 +1,5 @@
 -- What a line of each command says: the function against the relation.
-use Rattle.std.proofs.Common.{◌≡◌, ℕ, ◌≤◌, Bool, eqb, List, [], ◌∷◌, length, Option, Some, option_map, is_some, sym, refl, ap, subst, ◌∙◌, arith}
+use Rattle.std.proofs.Common.{◌≡◌, ℕ, ◌≤◌, Bool, eqb, List, [], ◌∷◌, length, Option, Some, is_some, sym, refl, ap, subst, ◌∙◌, arith}
 use Rattle.std.specs.Prelude.{slice_get}
 use Rattle.std.specs.List.{AllByRecursion}
 use Rattle.std.proofs.lemmas.Option.{same_Some}
@@ -11,7 +11,7 @@ use Rattle.command_words.specs.Table.{Row, row_of}
 use Rattle.command_words.specs.command.Line.{Line, texts_of}
 use Rattle.command_words.specs.Number.{number_said, number_within}
 use Rattle.command_words.specs.Address.{address_of}
-use Rattle.command_words.specs.command.Command.{CommandView, ServingView, Serve, Replay, Check, Dump, Explain, Sample, Ask, Prove, Verify, Rights, Help, Version, Says, sessions_range, turns_range, queues_range, idle_range, limit_range}
+use Rattle.command_words.specs.command.Command.{CommandView, ServingView, Serve, Replay, Check, Dump, Explain, Sample, Ask, Prove, Verify, Rights, Help, Version, Says, SaysText, sessions_range, turns_range, queues_range, idle_range, limit_range}
 use Rattle.command_words.specs.parser.Asked.{command_said, ◌>>=◌}
 use Rattle.command_words.proofs.number.Numbers.{and_then-some, number_said-sound, number_said-complete, number_within-sound, number_within-complete}
 use Rattle.command_words.proofs.address.Addresses.{address_of-sound, address_of-complete}
@@ -95,6 +95,16 @@ replay_said operands turns dump = do
   script ← slice_get operands 1
   events ← number_said turns_range (slice_get turns 0)
   Some (Replay data_file script events dump)
+
+abbrev check_said : List (List ℕ) → Option (List ℕ) → Option CommandView
+check_said operands changes = do
+  data_file ← slice_get operands 0
+  Some (Check data_file changes)
+
+abbrev dump_said : List (List ℕ) → Option (List ℕ) → Option CommandView
+dump_said operands changes = do
+  data_file ← slice_get operands 0
+  Some (Dump data_file changes)
 
 abbrev explain_said : List (List ℕ) → Option CommandView
 explain_said operands = do
@@ -237,11 +247,40 @@ sample-complete : (line : Line) (count : ℕ) → Says commands.Sample line (Sam
 sample-complete line count says =
     ap sample_said says.1 ∙ ap (λ (found : Option ℕ). found >>= (λ (own : ℕ). Some (Sample own))) (number_within-complete 20 1 20000 says.0 count says.2)
 
--- a command of one file
-file-sound : (name : CommandName) (made : List ℕ → CommandView) (line : Line) (asked : CommandView) → length (texts_of Operands line) ≡ 1 → ((data_file : List ℕ) → texts_of Operands line ≡ data_file ∷ [] → Says name line (made data_file)) → option_map made (slice_get (texts_of Operands line) 0) ≡ Some asked → Says name line asked
-file-sound name made line asked one says given =
-    let own = alone (texts_of Operands line) one in
-    subst (Says name line) (same_Some (made own.0) asked (sym (ap (λ (texts : List (List ℕ)). option_map made (slice_get texts 0)) own.1) ∙ given)) (says own.0 own.1)
+-- a file of changes at most: where it is given once, it is the first argument
+text-sound : (texts : List (List ℕ)) → length texts ≤ 1 → SaysText texts (slice_get texts 0)
+text-sound [] once = refl
+text-sound (text ∷ []) once = refl
+text-sound (text ∷ again ∷ more) once = absurd (omega (arith, once))
+
+text-complete : (texts : List (List ℕ)) (said : Option (List ℕ)) → SaysText texts said → slice_get texts 0 ≡ said
+text-complete [] said says = sym says
+text-complete (text ∷ []) said says = sym says
+text-complete (text ∷ again ∷ more) said says = absurd says
+
+check-sound : (line : Line) (asked : CommandView) → Taken (row_of commands.Check) line → check_said (texts_of Operands line) (slice_get (texts_of (Arguments options.Changes) line) 0) ≡ Some asked → Says commands.Check line asked
+check-sound line asked is given =
+    let changes = texts_of (Arguments options.Changes) line in
+    let own = alone (texts_of Operands line) is.operands in
+    subst (Says commands.Check line) (same_Some (Check own.0 (slice_get changes 0)) asked (sym (ap (λ (operands : List (List ℕ)). check_said operands (slice_get changes 0)) own.1) ∙ given)) (own.1, text-sound changes is.once.0)
+
+check-complete : (line : Line) (data_file : List ℕ) (changes : Option (List ℕ)) → Says commands.Check line (Check data_file changes) → check_said (texts_of Operands line) (slice_get (texts_of (Arguments options.Changes) line) 0) ≡ Some (Check data_file changes)
+check-complete line data_file changes says =
+    let given = texts_of (Arguments options.Changes) line in
+    ap (λ (operands : List (List ℕ)). check_said operands (slice_get given 0)) says.0
+    ∙ ap (λ (own : Option (List ℕ)). Some (Check data_file own)) (text-complete given changes says.1)
+
+dump-sound : (line : Line) (asked : CommandView) → Taken (row_of commands.Dump) line → dump_said (texts_of Operands line) (slice_get (texts_of (Arguments options.Changes) line) 0) ≡ Some asked → Says commands.Dump line asked
+dump-sound line asked is given =
+    let changes = texts_of (Arguments options.Changes) line in
+    let own = alone (texts_of Operands line) is.operands in
+    subst (Says commands.Dump line) (same_Some (Dump own.0 (slice_get changes 0)) asked (sym (ap (λ (operands : List (List ℕ)). dump_said operands (slice_get changes 0)) own.1) ∙ given)) (own.1, text-sound changes is.once.0)
+
+dump-complete : (line : Line) (data_file : List ℕ) (changes : Option (List ℕ)) → Says commands.Dump line (Dump data_file changes) → dump_said (texts_of Operands line) (slice_get (texts_of (Arguments options.Changes) line) 0) ≡ Some (Dump data_file changes)
+dump-complete line data_file changes says =
+    let given = texts_of (Arguments options.Changes) line in
+    ap (λ (operands : List (List ℕ)). dump_said operands (slice_get given 0)) says.0
+    ∙ ap (λ (own : Option (List ℕ)). Some (Dump data_file own)) (text-complete given changes says.1)
 
 -- a command without operands
 nothing : (texts : List (List ℕ)) → length texts ≡ 0 → texts ≡ []
@@ -256,8 +295,8 @@ pub command_said-sound : (name : CommandName) (line : Line) (asked : CommandView
 unfolding command_said
 command_said-sound commands.Serve line asked is given = serve-sound line asked is given
 command_said-sound commands.Replay line asked is given = replay-sound line asked is given
-command_said-sound commands.Check line asked is given = file-sound commands.Check Check line asked is.operands (λ data_file are. are) given
-command_said-sound commands.Dump line asked is given = file-sound commands.Dump Dump line asked is.operands (λ data_file are. are) given
+command_said-sound commands.Check line asked is given = check-sound line asked is given
+command_said-sound commands.Dump line asked is given = dump-sound line asked is given
 command_said-sound commands.Explain line asked is given = explain-sound line asked is given
 command_said-sound commands.Sample line asked is given = sample-sound line asked is given
 command_said-sound commands.Ask line asked is given = ask-sound line asked is given
@@ -271,8 +310,8 @@ pub command_said-complete : (name : CommandName) (line : Line) (asked : CommandV
 unfolding command_said
 command_said-complete commands.Serve line (Serve serving) is says = serve-complete line serving says
 command_said-complete commands.Replay line (Replay data_file script events dump) is says = replay-complete line data_file script events dump is says
-command_said-complete commands.Check line (Check data_file) is says = ap (λ (texts : List (List ℕ)). option_map Check (slice_get texts 0)) says
-command_said-complete commands.Dump line (Dump data_file) is says = ap (λ (texts : List (List ℕ)). option_map Dump (slice_get texts 0)) says
+command_said-complete commands.Check line (Check data_file changes) is says = check-complete line data_file changes says
+command_said-complete commands.Dump line (Dump data_file changes) is says = dump-complete line data_file changes says
 command_said-complete commands.Explain line (Explain data_file who target item permission) is says = ap explain_said says
 command_said-complete commands.Sample line (Sample count) is says = sample-complete line count says
 command_said-complete commands.Ask line (Ask data_file requests script) is says = ask-complete line data_file requests script is says

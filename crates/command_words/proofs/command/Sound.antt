@@ -1,14 +1,14 @@
--- Words without a fault are a line, of which the rows keep the texts. An option's value may be `-` there.
+-- Words without a fault are a line, of which the rows keep the texts.
 use Rattle.std.proofs.Common.{◌≡◌, ◌∙◌, ℕ, Bool, true, false, List, [], ◌∷◌, ◌++◌, Option, Some, None, refl, sym, ap, subst}
-use Rattle.std.specs.Prelude.{Contains, codes}
+use Rattle.std.specs.Prelude.{codes}
 use Rattle.std.specs.List.{AllByRecursion}
 use Rattle.std.specs.Str.{IsUtf8}
 use Rattle.clap.specs.Walk.{Row as Kept, Text, Waiting, option as awaits, used, used_by_id, Rule}
 use Rattle.clap.specs.Faults.{use_fault, walk_fault}
 use Rattle.std.specs.Option.{option_map_or}
 use Rattle.command_words.specs.declared.table.OptionName.{OptionName}
-use Rattle.command_words.specs.Table.{Row, option_word, takes_argument}
-use Rattle.command_words.specs.command.Line.{Item, Operand, Flag, Joined, Apart, Line, is_operand, item_words, line_words, long, rest_texts, texts_of}
+use Rattle.command_words.specs.Table.{Row, option_word}
+use Rattle.command_words.specs.command.Line.{Item, Operand, Flag, Joined, Apart, Line, IsItem, item_words, line_words, long, rest_texts, texts_of}
 use Rattle.command_words.proofs.command.Rules.{option_by}
 use Rattle.command_words.proofs.command.Steps.{Pending, at, free, owed, settle, awaited-turn, delimiter-turn, flag-turn, joined-turn, operand-turn, option-turn, short-refused, unknown-refused, valued-refused}
 use Rattle.command_words.proofs.command.Words.{Form, Plain, Delimiter, Long, Short, form_of}
@@ -17,22 +17,15 @@ use Rattle.command_words.proofs.command.Uses.{Given, Holds, holds-same, with_ite
 use Rattle.command_words.proofs.command.Lines.{put, texts-empty, texts-put, words-put}
 use Rattle.command_words.proofs.command.Walks.{both-pass, end_rows, end_rows-more, passes, refused-fails, total, trailing-holds, trailing-owed, unvalued-fails}
 
--- an item of a line, where an option's value may be `-`
-abbrev pub IsLoose : Row → Item → Type 0
-IsLoose row (Operand word) = is_operand word ≡ true
-IsLoose row (Flag name) = Contains row.options name × (takes_argument name ≡ false)
-IsLoose row (Joined name text) = Contains row.options name × (takes_argument name ≡ true)
-IsLoose row (Apart name text) = Contains row.options name × (takes_argument name ≡ true) × (is_operand text ≡ true)
-
 -- words that are a line, of which rows keep the texts behind those that were given before
 pub record Lined (row : Row) (words : List Text) (given : Given) (rows : List Kept) : Type 0 where
   pub line : Line
   pub words_are : words ≡ line_words line
-  pub are : AllByRecursion (IsLoose row) line.items
+  pub are : AllByRecursion (IsItem row) line.items
   pub holds : Holds rows (λ sought. given sought ++ texts_of sought line)
 
 -- an item before a line
-put-first : (row : Row) (words : List Text) (given : Given) (rows : List Kept) (item : Item) → IsLoose row item → Lined row words (with_item item given) rows → Lined row (item_words item ++ words) given rows
+put-first : (row : Row) (words : List Text) (given : Given) (rows : List Kept) (item : Item) → IsItem row item → Lined row words (with_item item given) rows → Lined row (item_words item ++ words) given rows
 put-first row words given rows item is lined = record {
   line = put item lined.line;
   words_are = ap (λ (later : List Text). item_words item ++ later) lined.words_are ∙ sym (words-put item lined.line);

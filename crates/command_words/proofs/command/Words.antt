@@ -122,6 +122,7 @@ option_word-whole options.Idle = refl
 option_word-whole options.Limit = refl
 option_word-whole options.Dump = refl
 option_word-whole options.Script = refl
+option_word-whole options.Changes = refl
 
 pub option_word-parts : (name : OptionName) (value : Text) → name_and_value (option_word name ++ 61 ∷ value) ≡ (option_word name, Some value)
 option_word-parts options.Sessions value = refl
@@ -131,6 +132,7 @@ option_word-parts options.Idle value = refl
 option_word-parts options.Limit value = refl
 option_word-parts options.Dump value = refl
 option_word-parts options.Script value = refl
+option_word-parts options.Changes value = refl
 
 -- and a first character
 pub record Begins (text : Text) : Type 0 where
@@ -146,3 +148,4 @@ option_word-begins options.Idle = record { first = _; more = _; is = refl }
 option_word-begins options.Limit = record { first = _; more = _; is = refl }
 option_word-begins options.Dump = record { first = _; more = _; is = refl }
 option_word-begins options.Script = record { first = _; more = _; is = refl }
+option_word-begins options.Changes = record { first = _; more = _; is = refl }

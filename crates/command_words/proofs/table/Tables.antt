@@ -1,6 +1,5 @@
 -- What is found in the tables of commands and options, and that each name is found.
-use Rattle.std.proofs.Common.{◌≡◌, ◌∙◌, ◌<◌, ◌||◌, ℕ, zero, suc, Bool, true, false, cond, List, [], ◌∷◌, get_or, length, Some, refl, sym, ap, subst, arith}
-use Rattle.std.specs.List.{list_any}
+use Rattle.std.proofs.Common.{◌≡◌, ◌∙◌, ◌<◌, ℕ, zero, suc, Bool, true, false, cond, List, [], ◌∷◌, get_or, length, Some, refl, sym, ap, subst, arith}
 use Rattle.std.specs.Prelude.{Contains, find, bytes_eq}
 use Rattle.std.proofs.lemmas.Option.{same_Some}
 use Rattle.std.proofs.lemmas.Slice.Eq.{bytes_eq-Decides}
@@ -47,60 +46,6 @@ none-contained x contained = omega (arith, contained.1)
 pub same_option : (name : OptionName) → is_same_option name name ≡ true
 same_option name = (bytes_eq-Decides (option_word name) (option_word name)).1 refl
 
--- nor is another option of a list
-pub not_contained : (names : List OptionName) (name : OptionName) → list_any (is_same_option name) names ≡ false → Contains names name → ⊥
-not_contained [] name lacks contained = none-contained name contained
-not_contained (other ∷ names) name lacks contained = by (is_same_option name other) refl (not_contained names name) contained.0 contained.1 contained.2
-  where
-    by : (b : Bool) → is_same_option name other ≡ b → (list_any (is_same_option name) names ≡ false → Contains names name → ⊥) → (at : ℕ) → at < suc (length names) → get_or (other ∷ names) at name ≡ name → ⊥
-    by true same later at below is = (let clash : true ≡ false = sym (ap (λ (c : Bool). c || list_any (is_same_option name) names) same) ∙ lacks in cc)
-    by false differs later zero below is = (let clash : true ≡ false = sym (same_option name) ∙ ap (is_same_option name) (sym is) ∙ differs in cc)
-    by false differs later (suc at) below is =
-        later (sym (ap (λ (c : Bool). c || list_any (is_same_option name) names) differs) ∙ lacks) (at, omega (arith, below), is)
-
--- a replay has no option of serving but its turns
-pub not_of_replay : (name : OptionName) → list_any (is_same_option name) (row_of commands.Replay).options ≡ false → Contains (row_of commands.Replay).options name → ⊥
-not_of_replay = not_contained (row_of commands.Replay).options
-
--- what a list of one has
-one-contained : {X : Type 0} (x y : X) → Contains (x ∷ []) y → x ≡ y
-one-contained {X} x y contained = by contained.0 contained.1 contained.2
-  where
-    by : (at : ℕ) → at < 1 → get_or (x ∷ []) at y ≡ y → x ≡ y
-    by zero below is = is
-    by (suc at) below is = absurd (omega (arith, below))
-
--- asking has one option
-pub option-of_ask : (name : OptionName) → Contains (row_of commands.Ask).options name → options.Script ≡ name
-option-of_ask name of_row = one-contained options.Script name of_row
-
--- each option of a command is found by its name
-pub option_named-complete : (command : CommandName) (name : OptionName) → Contains (row_of command).options name → option_named (row_of command) (option_word name) ≡ Some name
-option_named-complete commands.Serve options.Sessions of_row = refl
-option_named-complete commands.Serve options.Turns of_row = refl
-option_named-complete commands.Serve options.Queues of_row = refl
-option_named-complete commands.Serve options.Idle of_row = refl
-option_named-complete commands.Serve options.Limit of_row = refl
-option_named-complete commands.Serve options.Dump of_row = absurd (not_contained (row_of commands.Serve).options options.Dump refl of_row)
-option_named-complete commands.Serve options.Script of_row = absurd (not_contained (row_of commands.Serve).options options.Script refl of_row)
-option_named-complete commands.Replay options.Sessions of_row = absurd (not_of_replay options.Sessions refl of_row)
-option_named-complete commands.Replay options.Queues of_row = absurd (not_of_replay options.Queues refl of_row)
-option_named-complete commands.Replay options.Idle of_row = absurd (not_of_replay options.Idle refl of_row)
-option_named-complete commands.Replay options.Limit of_row = absurd (not_of_replay options.Limit refl of_row)
-option_named-complete commands.Replay options.Script of_row = absurd (not_of_replay options.Script refl of_row)
-option_named-complete commands.Replay options.Turns of_row = refl
-option_named-complete commands.Replay options.Dump of_row = refl
-option_named-complete commands.Check name of_row = absurd (none-contained name of_row)
-option_named-complete commands.Dump name of_row = absurd (none-contained name of_row)
-option_named-complete commands.Explain name of_row = absurd (none-contained name of_row)
-option_named-complete commands.Sample name of_row = absurd (none-contained name of_row)
-option_named-complete commands.Ask name of_row = subst (λ (own : OptionName). option_named (row_of commands.Ask) (option_word own) ≡ Some own) (option-of_ask name of_row) refl
-option_named-complete commands.Prove name of_row = absurd (none-contained name of_row)
-option_named-complete commands.Verify name of_row = absurd (none-contained name of_row)
-option_named-complete commands.Rights name of_row = absurd (none-contained name of_row)
-option_named-complete commands.Help name of_row = absurd (none-contained name of_row)
-option_named-complete commands.Version name of_row = absurd (none-contained name of_row)
-
 pub command_named-complete : (name : CommandName) → command_named (row_of name).name ≡ Some name
 command_named-complete commands.Serve = refl
 command_named-complete commands.Replay = refl
@@ -117,7 +62,7 @@ command_named-complete commands.Version = refl
 
 -- all options
 abbrev all_options : List OptionName
-all_options = options.Sessions ∷ options.Turns ∷ options.Queues ∷ options.Idle ∷ options.Limit ∷ options.Dump ∷ options.Script ∷ []
+all_options = options.Sessions ∷ options.Turns ∷ options.Queues ∷ options.Idle ∷ options.Limit ∷ options.Dump ∷ options.Script ∷ options.Changes ∷ []
 
 -- each is found by its word, so that options of one word are one
 word-found : (name : OptionName) → find (λ other. bytes_eq (option_word name) (option_word other)) all_options ≡ Some name
@@ -128,7 +73,24 @@ word-found options.Idle = refl
 word-found options.Limit = refl
 word-found options.Dump = refl
 word-found options.Script = refl
+word-found options.Changes = refl
 
 pub option_word-once : (one other : OptionName) → option_word one ≡ option_word other → one ≡ other
 option_word-once one other is =
     same_Some one other (sym (word-found one) ∙ ap (λ word. find (λ name. bytes_eq word (option_word name)) all_options) is ∙ word-found other)
+
+-- what passes alone is found where it is contained
+find-some : {X : Type 0} (test : X → Bool) (xs : List X) (x : X) → Contains xs x → test x ≡ true → ((y : X) → test y ≡ true → x ≡ y) → find test xs ≡ Some x
+find-some {X} test [] x contained passes alone = absurd (none-contained x contained)
+find-some {X} test (y ∷ ys) x contained passes alone = by (test y) refl contained.0 contained.1 contained.2 (λ later. find-some test ys x later passes alone)
+  where
+    by : (b : Bool) → test y ≡ b → (at : ℕ) → at < suc (length ys) → get_or (y ∷ ys) at x ≡ x → (Contains ys x → find test ys ≡ Some x) → cond b (Some y) (find test ys) ≡ Some x
+    by true here at below is later = ap Some (sym (alone y here))
+    by false differs zero below is later = (let clash : true ≡ false = sym passes ∙ ap test (sym is) ∙ differs in cc)
+    by false differs (suc at) below is later = later (at, omega (arith, below), is)
+
+-- each option of a command is found by its name
+pub option_named-complete : (row : Row) (name : OptionName) → Contains row.options name → option_named row (option_word name) ≡ Some name
+option_named-complete row name of_row =
+    find-some (λ (other : OptionName). bytes_eq (option_word name) (option_word other)) row.options name of_row (same_option name)
+    (λ other same. option_word-once name other ((bytes_eq-Decides (option_word name) (option_word other)).0 same))

@@ -1,5 +1,5 @@
 -- What the words ask for: the commands, and the words that write each.
-use Rattle.std.specs.Prelude.{◌≡◌, ℕ, Bool, List, [], ◌∷◌, length, ◌==◌}
+use Rattle.std.specs.Prelude.{◌≡◌, ℕ, Bool, List, [], ◌∷◌, length, ◌==◌, Option, Some, None, option_copied}
 use Rattle.command_words.specs.declared.command.Command.{Command}
 use Rattle.command_words.specs.declared.command.Command.TheVariants as command
 use Rattle.command_words.specs.declared.command.Serving.{Serving}
@@ -29,8 +29,8 @@ pub record ServingView : Type 0 where
 pub data CommandView : Type 0 where
   Serve : (serving : ServingView) → CommandView
   Replay : (data_file script : List ℕ) (turns : ℕ) (dump : Bool) → CommandView
-  Check : (data_file : List ℕ) → CommandView
-  Dump : (data_file : List ℕ) → CommandView
+  Check : (data_file : List ℕ) (changes : Option (List ℕ)) → CommandView
+  Dump : (data_file : List ℕ) (changes : Option (List ℕ)) → CommandView
   Explain : (data_file who target item permission : List ℕ) → CommandView
   Sample : (count : ℕ) → CommandView
   Ask : (data_file requests : List ℕ) (script : Bool) → CommandView
@@ -56,8 +56,8 @@ serving_view serving = record {
 abbrev pub view : Command → CommandView
 view (command.Serve serving) = Serve (serving_view serving)
 view (command.Replay data_file script turns dump) = Replay data_file.now script.now turns dump
-view (command.Check data_file) = Check data_file.now
-view (command.Dump data_file) = Dump data_file.now
+view (command.Check data_file changes) = Check data_file.now (option_copied changes)
+view (command.Dump data_file changes) = Dump data_file.now (option_copied changes)
 view (command.Explain data_file who target item permission) = Explain data_file.now who.now target.now item.now permission.now
 view (command.Sample count) = Sample count
 view (command.Ask data_file requests script) = Ask data_file.now requests.now script
@@ -91,6 +91,12 @@ limit_range = record { absent = 0; least = 1; greatest = 2147483647 }
 abbrev pub IsCount : List ℕ → ℕ → Type 0
 IsCount text count = IsNumberWithin 20 1 20000 text count
 
+-- the arguments of an option say this text, which is kept as it is: none, where the option isn't given
+abbrev pub SaysText : List (List ℕ) → Option (List ℕ) → Type 0
+SaysText [] said = said ≡ None
+SaysText (text ∷ []) said = said ≡ Some text
+SaysText (text ∷ again ∷ texts) said = ⊥
+
 -- what a line of `serve` says: its operands, and a number for each option
 pub record SaysServing (line : Line) (serving : ServingView) : Type 0 where
   pub operands : texts_of Operands line ≡ serving.data_file ∷ serving.address ∷ []
@@ -101,15 +107,17 @@ pub record SaysServing (line : Line) (serving : ServingView) : Type 0 where
   pub idle : SaysNumber idle_range (texts_of (Arguments options.Idle) line) serving.idle
   pub limit : SaysNumber limit_range (texts_of (Arguments options.Limit) line) serving.limit
 
--- the command that a command's line says: its operands, its numbers, and whether it has a flag
+-- the command that a command's line says: its operands, its numbers and texts, and whether it has a flag
 abbrev pub Says : CommandName → Line → CommandView → Type 0
 Says commands.Serve line (Serve serving) = SaysServing line serving
 Says commands.Replay line (Replay data_file script turns dump) =
     (texts_of Operands line ≡ data_file ∷ script ∷ [])
     × SaysNumber turns_range (texts_of (Arguments options.Turns) line) turns
     × (dump ≡ (length (texts_of (Arguments options.Dump) line) == 1))
-Says commands.Check line (Check data_file) = texts_of Operands line ≡ data_file ∷ []
-Says commands.Dump line (Dump data_file) = texts_of Operands line ≡ data_file ∷ []
+Says commands.Check line (Check data_file changes) =
+    (texts_of Operands line ≡ data_file ∷ []) × SaysText (texts_of (Arguments options.Changes) line) changes
+Says commands.Dump line (Dump data_file changes) =
+    (texts_of Operands line ≡ data_file ∷ []) × SaysText (texts_of (Arguments options.Changes) line) changes
 Says commands.Explain line (Explain data_file who target item permission) =
     texts_of Operands line ≡ data_file ∷ who ∷ target ∷ item ∷ permission ∷ []
 Says commands.Sample line (Sample count) = (text : List ℕ) × (texts_of Operands line ≡ text ∷ []) × IsCount text count

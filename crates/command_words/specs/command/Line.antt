@@ -19,7 +19,7 @@ abbrev pub begins_with_dash : List ℕ → Bool
 begins_with_dash [] = false
 begins_with_dash (octet ∷ octets) = octet == 45
 
--- before the delimiter an operand doesn't begin with `-`, or is `-` alone
+-- before the delimiter an operand, and an argument that stands apart, doesn't begin with `-`, or is `-` alone
 abbrev pub is_operand : List ℕ → Bool
 is_operand word = not (begins_with_dash word) || bytes_eq word (codes "-")
 
@@ -34,12 +34,13 @@ item_words (Flag name) = long name ∷ []
 item_words (Joined name text) = (long name ++ (codes "=" ++ text)) ∷ []
 item_words (Apart name text) = long name ∷ text ∷ []
 
--- the items that a command may have: a flag has no argument, and one that stands apart doesn't begin with `-`
+-- the items that a command may have: a flag has no argument, and one that stands apart doesn't begin with `-`, or is `-`
+-- alone
 abbrev pub IsItem : Row → Item → Type 0
 IsItem row (Operand word) = IsTrue (is_operand word)
 IsItem row (Flag name) = Contains row.options name × (takes_argument name ≡ false)
 IsItem row (Joined name text) = Contains row.options name × (takes_argument name ≡ true)
-IsItem row (Apart name text) = Contains row.options name × (takes_argument name ≡ true) × (begins_with_dash text ≡ false)
+IsItem row (Apart name text) = Contains row.options name × (takes_argument name ≡ true) × IsTrue (is_operand text)
 
 -- the items, and the words after `--` where it stands
 pub record Line : Type 0 where

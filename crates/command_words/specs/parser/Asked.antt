@@ -1,5 +1,5 @@
 -- What the kept texts of a command say, and what a reading of words has to give.
-use Rattle.std.specs.Prelude.{◌≡◌, ℕ, Bool, List, length, Option, Some, None, option_map, ◌==◌, if◌then◌else◌}
+use Rattle.std.specs.Prelude.{◌≡◌, ℕ, Bool, List, length, Option, Some, None, ◌==◌, if◌then◌else◌}
 pub use Rattle.plain_values.specs.Options.{◌>>=◌}
 use Rattle.clap.specs.declared.parser.matches.ArgMatches.{ArgMatches}
 use Rattle.command_words.specs.declared.table.CommandName.{CommandName}
@@ -40,8 +40,12 @@ command_said commands.Replay text has = do
   script ← text Operands 1
   turns ← number_said turns_range (text (Arguments options.Turns) 0)
   Some (Replay data_file script turns (has options.Dump))
-command_said commands.Check text has = option_map Check (text Operands 0)
-command_said commands.Dump text has = option_map Dump (text Operands 0)
+command_said commands.Check text has = do
+  data_file ← text Operands 0
+  Some (Check data_file (text (Arguments options.Changes) 0))
+command_said commands.Dump text has = do
+  data_file ← text Operands 0
+  Some (Dump data_file (text (Arguments options.Changes) 0))
 command_said commands.Explain text has = do
   data_file ← text Operands 0
   who ← text Operands 1

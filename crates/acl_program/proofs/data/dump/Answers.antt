@@ -1,18 +1,19 @@
+use Rattle.std.proofs.Common.{refl, option_copied}
 use Rattle.command_words.specs.command.Command.{Dump}
-use Rattle.std.proofs.Common.{refl}
 use Rattle.acl_program.specs.program.Outside.{outside}
-use Rattle.acl_program.proofs.program.RunLemmas.{LoadsData-good}
-use Rattle.acl_program.proofs.program.PerformLemmas.{Performs-dumped, Performs-refused}
+use Rattle.acl_program.proofs.program.RunLemmas.{LoadsTree-good}
+use Rattle.acl_program.proofs.program.PerformLemmas.{Performs-dumped, Performs-tree_refused}
 use Rattle.acl_program.proofs.data.dump.Goals as goal
 
 -- the tree is good
 pub print_tree-requires : goal.print_tree-requires
-print_tree-requires g c = LoadsData-good _ _ _ _ _ c.in-Ok.ensures.exact
+print_tree-requires g c = LoadsTree-good _ _ _ _ _ _ c.in-Ok.ensures.exact
 
--- the data file was loaded
+-- the files were loaded
 pub returns-in-Ok-clause-performs : goal.returns-in-Ok-clause-performs
-returns-in-Ok-clause-performs g c = λ link. Performs-dumped _ (outside _ _ _ _ link) (outside _ _ _ _ link) _ _ c.in-Ok.ensures.exact c.print_tree.ensures.ends refl
+returns-in-Ok-clause-performs g c = λ link. Performs-dumped _ _ (outside _ _ _ _ link) (outside _ _ _ _ link) _ _ c.in-Ok.ensures.exact c.print_tree.ensures.ends refl
 
--- it wasn't
+-- they weren't
 pub returns-in-Err-clause-performs : goal.returns-in-Err-clause-performs
-returns-in-Err-clause-performs g c = λ link. Performs-refused (Dump c.args.name.now) c.args.name.now (outside _ _ _ _ link) (outside _ _ _ _ link) _ _ refl c.in-Err.ensures.exact c.print_trouble.ensures.ends refl
+returns-in-Err-clause-performs g c = λ link.
+    Performs-tree_refused (Dump c.args.name.now (option_copied c.args.changes)) c.args.name.now (outside _ _ _ _ link) (outside _ _ _ _ link) _ _ refl c.in-Err.ensures.exact c.print_trouble.ensures.ends refl

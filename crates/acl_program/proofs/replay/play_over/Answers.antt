@@ -3,7 +3,7 @@ use Rattle.command_files.specs.dir_tree.tree.Numbered.{entries_of}
 use Rattle.command_files.specs.aci_item.Rules.{IsGoodTree}
 use Rattle.command_files.specs.Outside.{written}
 use Rattle.acl_program.specs.Outcomes.{dump_text}
-use Rattle.acl_program.proofs.program.RunLemmas.{Played-stopped, Played-spent, Played-nothing, no_fault}
+use Rattle.acl_program.proofs.program.RunLemmas.{Played-stopped, Played-spent, Played-nothing, no_fault, no_store_fault}
 use Rattle.acl_program.proofs.replay.play_over.Goals as goal
 
 -- Stop was heard
@@ -25,6 +25,10 @@ returns-in-TurnsSpent g c =
 -- the link never fails
 pub returns-in-LinkFault : goal.returns-in-LinkFault
 returns-in-LinkFault g c = absurd (no_fault _ _ _ _ _ c.in-LinkFault.ensures.plays)
+
+-- nor its store
+pub returns-in-StoreFault : goal.returns-in-StoreFault
+returns-in-StoreFault g c = absurd (no_store_fault _ _ _ _ _ c.in-StoreFault.ensures.plays)
 
 -- nothing was put
 pub returns : goal.returns

@@ -1,4 +1,5 @@
 use Rattle.std.proofs.Common.{refl}
+use Rattle.session_hub.specs.Terms.{no_terms}
 use Rattle.acl_program.proofs.replay.PlayLemmas.{Plays-link, Good-link}
 use Rattle.acl_program.proofs.replay.serve.Goals as goal
 
@@ -8,4 +9,4 @@ returns-clause-plays c = Plays-link _ _ c.args.turns c.serve_loop.result c.args.
 
 -- and the entries that it leaves of good ones
 pub returns-clause-good : goal.returns-clause-good
-returns-clause-good c = Good-link (c.sessions_keep_a_directory_good.ensures.good 0) _ _ c.args.turns c.serve_loop.result _ c.args.link.now.journal c.serve_loop.new.link.journal refl c.requires.good c.serve_loop.ensures.served
+returns-clause-good c = Good-link (c.sessions_keep_a_directory_good.ensures.good no_terms) _ _ c.args.turns c.serve_loop.result _ c.args.link.now.journal c.serve_loop.new.link.journal refl c.requires.good c.serve_loop.ensures.served
