@@ -26,7 +26,8 @@ step_of_item (item.Gone number) = Gone number ∷ []
 step_of_item (item.Held number) = []
 step_of_item (item.Released number) = []
 step_of_item (item.HungUp number) = HungUp number ∷ []
-step_of_item (item.StoreOpened name length ok) = []
+step_of_item (item.StoreOpened name ok) = []
+step_of_item (item.StoreCut length) = []
 step_of_item (item.Stored octets) = []
 
 -- the steps of a journal, in order

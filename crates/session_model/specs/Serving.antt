@@ -69,7 +69,7 @@ module _ {T W : Type 0} (rules : Rules T W) (tree : T) where
   IsSettled steps journal = (number : ℕ) → let session = (run rules tree steps).of number in Stands session.state journal number session
 
   -- an event is heard where all is settled, octets are taken where all changes are stored, a connection is written to and held
-  -- where it has a place and hung up where it may be, what is stored is the next of the changes, and nothing is opened
+  -- where it has a place and hung up where it may be, what is stored is the next of the changes, and nothing is opened or cut
   unfoldable pub Rightly : List Step → List Item → Item → Type 0
   Rightly steps journal (item.Heard event) = IsSettled steps journal
   Rightly steps journal (item.HungUp number) = let session = (run rules tree steps).of number in MayHangUp session.state journal number session
@@ -79,7 +79,8 @@ module _ {T W : Type 0} (rules : Rules T W) (tree : T) where
   Rightly steps journal (item.Gone number) = IsServed (run rules tree steps) number
   Rightly steps journal (item.Held number) = IsServed (run rules tree steps) number
   Rightly steps journal (item.Released number) = Unit {0}
-  Rightly steps journal (item.StoreOpened name length ok) = ⊥
+  Rightly steps journal (item.StoreOpened name ok) = ⊥
+  Rightly steps journal (item.StoreCut length) = ⊥
   Rightly steps journal (item.Stored octets) = MayBeStored (run rules tree steps) journal octets
 
   -- the journal serves by these steps, but that its last block may be unfinished

@@ -52,7 +52,7 @@ unfoldable pub stored_at : Item → List ℕ
 stored_at (Stored octets) = octets
 stored_at _ = []
 
--- all octets that are in the store, in order
+-- all octets that were stored, in order
 unfoldable pub stored_of : List Item → List ℕ
 stored_of [] = []
 stored_of (item ∷ journal) = stored_at item ++ stored_of journal

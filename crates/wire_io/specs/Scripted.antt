@@ -9,12 +9,12 @@ use Rattle.wire_io.specs.declared.answers.NextFault.TheVariants.{Failed, NoMemor
 use Rattle.wire_io.specs.declared.answers.Took.{Took}
 use Rattle.wire_io.specs.declared.answers.Took.TheVariants as took
 use Rattle.wire_io.specs.declared.journal.Item.{Item}
-use Rattle.wire_io.specs.declared.journal.Item.TheVariants.{OpenedAt, Taken, Later, Gone, StoreOpened, Stored}
+use Rattle.wire_io.specs.declared.journal.Item.TheVariants.{OpenedAt, Taken, Later, Gone, StoreOpened, StoreCut, Stored}
 use Rattle.wire_io.specs.Journal.{was_opened, was_stopped}
 use Rattle.wire_io.specs.MemoryForms.{is_listed}
 use Rattle.wire_io.specs.link.Plan.{Plan}
 
--- the journal and the plan, how many calls of `open`, `next`, `open_store` and `store` and of `write` there were, and
+-- the journal and the plan, how many calls of `open`, `next` and of the store there were, and how many of `write`, and
 -- the counts of faults and of lost connections
 pub record LinkState : Type 0 where
   pub journal : List Item
@@ -54,20 +54,27 @@ LinkOpens old address sessions (Err Failed) new = (is_listed old.calls old.plan.
 LinkOpens old address sessions (Err NoMemory) new = new ≡ record old { calls = next_count old.calls }
 
 -- so does `open_store`
-unfoldable pub LinkOpensStore : LinkState → List ℕ → ℕ → Result (Unit {0}) NextFault → LinkState → Type 0
-LinkOpensStore old name length (Ok answer) new = (is_listed old.calls old.plan.failing ≡ false)
-    × (new ≡ record (with_item old (StoreOpened name length true)) { calls = next_count old.calls })
-LinkOpensStore old name length (Err Failed) new = (is_listed old.calls old.plan.failing ≡ true)
-    × (new ≡ record (with_item old (StoreOpened name length false)) { calls = next_count old.calls; faults = next_count old.faults })
-LinkOpensStore old name length (Err NoMemory) new = new ≡ record old { calls = next_count old.calls }
+unfoldable pub LinkOpensStore : LinkState → List ℕ → Result (Unit {0}) NextFault → LinkState → Type 0
+LinkOpensStore old name (Ok answer) new = (is_listed old.calls old.plan.failing ≡ false)
+    × (new ≡ record (with_item old (StoreOpened name true)) { calls = next_count old.calls })
+LinkOpensStore old name (Err Failed) new = (is_listed old.calls old.plan.failing ≡ true)
+    × (new ≡ record (with_item old (StoreOpened name false)) { calls = next_count old.calls; faults = next_count old.faults })
+LinkOpensStore old name (Err NoMemory) new = new ≡ record old { calls = next_count old.calls }
 
--- `store` fails exactly at a listed call, and then appends nothing; nor after want of memory
-unfoldable pub LinkStores : LinkState → List ℕ → Result (Unit {0}) NextFault → LinkState → Type 0
-LinkStores old octets (Ok answer) new = (is_listed old.calls old.plan.failing ≡ false)
-    × (new ≡ record (with_item old (Stored octets)) { calls = next_count old.calls })
-LinkStores old octets (Err Failed) new = (is_listed old.calls old.plan.failing ≡ true)
+-- a call of the open store fails exactly at a listed call, and then notes nothing; nor after want of memory
+unfoldable pub LinkStores : LinkState → Item → Result (Unit {0}) NextFault → LinkState → Type 0
+LinkStores old item (Ok answer) new = (is_listed old.calls old.plan.failing ≡ false)
+    × (new ≡ record (with_item old item) { calls = next_count old.calls })
+LinkStores old item (Err Failed) new = (is_listed old.calls old.plan.failing ≡ true)
     × (new ≡ record old { calls = next_count old.calls; faults = next_count old.faults })
-LinkStores old octets (Err NoMemory) new = (is_listed old.calls old.plan.failing ≡ false) × (new ≡ record old { calls = next_count old.calls })
+LinkStores old item (Err NoMemory) new = (is_listed old.calls old.plan.failing ≡ false) × (new ≡ record old { calls = next_count old.calls })
+
+-- so does `sync_store`, which notes nothing, and wants no memory
+unfoldable pub LinkSyncs : LinkState → Result (Unit {0}) NextFault → LinkState → Type 0
+LinkSyncs old (Ok answer) new = (is_listed old.calls old.plan.failing ≡ false) × (new ≡ record old { calls = next_count old.calls })
+LinkSyncs old (Err Failed) new = (is_listed old.calls old.plan.failing ≡ true)
+    × (new ≡ record old { calls = next_count old.calls; faults = next_count old.faults })
+LinkSyncs old (Err NoMemory) new = ⊥
 
 -- `next` fails exactly at a listed call, and then nothing else changes; nor after want of memory
 unfoldable pub LinkHears : {T : Type 0} → LinkState → Result T NextFault → LinkState → Type 0

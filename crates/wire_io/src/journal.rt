@@ -38,8 +38,10 @@ pub enum Item {
     Released(u32),
     /// The connection was hung up.
     HungUp(u32),
-    /// The store of this name was to be opened and cut to so many octets, and was (true) or failed.
-    StoreOpened(Text, u64, bool),
-    /// The octets were appended to the store, and are on the disk.
+    /// The store of this name was to be opened, and was (true) or failed.
+    StoreOpened(Text, bool),
+    /// The store was cut to so many octets.
+    StoreCut(u64),
+    /// The octets were appended to the store.
     Stored(Octets),
 }

@@ -44,20 +44,39 @@ pub trait Link {
         ensures plan { plan self.new ≡ plan self.old }
         ensures lost { NeverFalls (lost self.old) (lost self.new) };
 
-    /// From now on `store` appends to the file of this name, which is cut to so many octets; a file that
+    /// From now on `store` appends to the file of this name, to which nobody else may then append; a file that
     /// isn't there is made. `Failed` is a fault, and is counted; after `NoMemory` nothing was done.
-    fn open_store(&mut self, name: &str, length: u64) -> Result<(), NextFault>
-        ensures tells { StoreOpenTells (journal self.old) name.now length result (journal self.new) }
+    fn open_store(&mut self, name: &str) -> Result<(), NextFault>
+        ensures tells { StoreOpenTells (journal self.old) name.now result (journal self.new) }
         ensures cause { LinkCause (plan self.old) (faults self.old) (faults self.new) result }
         // what stays
         ensures plan { plan self.new ≡ plan self.old }
         ensures lost { NeverFalls (lost self.old) (lost self.new) };
 
-    /// Appends the octets to the store; with Ok all of them are on the disk before the call returns.
+    /// Cuts the store to so many octets, which it has. `Failed` is a fault, and is counted; after
+    /// `NoMemory` nothing was done.
+    fn cut_store(&mut self, length: u64) -> Result<(), NextFault>
+        ensures tells { NoteTells (journal self.old) (Item.StoreCut length) result (journal self.new) }
+        ensures cause { LinkCause (plan self.old) (faults self.old) (faults self.new) result }
+        // what stays
+        ensures plan { plan self.new ≡ plan self.old }
+        ensures lost { NeverFalls (lost self.old) (lost self.new) };
+
+    /// Appends the octets to the store. Until they are on the disk no octets are taken for any connection.
     /// After `Failed`, a fault, which is counted, a front of them may be there; after `NoMemory` nothing
     /// was done.
     fn store(&mut self, octets: &[u8]) -> Result<(), NextFault>
         ensures tells { NoteTells (journal self.old) (Item.Stored octets.now) result (journal self.new) }
+        ensures cause { LinkCause (plan self.old) (faults self.old) (faults self.new) result }
+        // what stays
+        ensures plan { plan self.new ≡ plan self.old }
+        ensures lost { NeverFalls (lost self.old) (lost self.new) };
+
+    /// Has on the disk what was stored, called before `next`. It may be put off to a later call where `next`
+    /// gives an event without waiting, so that what is stored meanwhile shares the wait for the disk. After
+    /// `Failed`, a fault, which is counted, a front of what was stored may be there.
+    fn sync_store(&mut self) -> Result<(), NextFault>
+        ensures tells { journal self.new ≡ journal self.old }
         ensures cause { LinkCause (plan self.old) (faults self.old) (faults self.new) result }
         // what stays
         ensures plan { plan self.new ≡ plan self.old }

@@ -10,7 +10,7 @@ ghost use Rattle.wire_io.specs.Journal.{is_hung_up, opened_by, taken_of};
 ghost use Rattle.wire_io.specs.MemoryForms.{is_listed};
 ghost use Rattle.wire_io.specs.Playing.{NextPlays};
 ghost use Rattle.wire_io.specs.Rising.{rising};
-ghost use Rattle.wire_io.specs.Scripted.{fresh_link, AreApart, LinkOpens, LinkOpensStore, LinkStores, LinkHears, LinkWrites, LinkNotes};
+ghost use Rattle.wire_io.specs.Scripted.{fresh_link, AreApart, LinkOpens, LinkOpensStore, LinkStores, LinkSyncs, LinkHears, LinkWrites, LinkNotes};
 ghost use Rattle.wire_io.specs.link.Telling.{OpenTells, StoreOpenTells, NextTells, TookTells, NoteTells};
 
 use crate::listed::is_listed;
@@ -51,9 +51,9 @@ impl Model for ScriptLink {
 
 impl ScriptLink {
     /// A link with these events, which open no number twice and have no empty octets. It counts from 0
-    /// the calls of `open`, `next`, `open_store` and `store` together, and those of `write` alone. Of the
-    /// former those in `failing` fail; of the latter those in `later` take nothing now, and those in `gone` find the
-    /// connection lost; no number is in both of these. Takes no memory.
+    /// the calls of `open`, `next`, `open_store`, `cut_store`, `store` and `sync_store` together, and those of
+    /// `write` alone. Of the former those in `failing` fail; of the latter those in `later` take nothing now, and
+    /// those in `gone` find the connection lost; no number is in both of these. Takes no memory.
     pub fn new(
         alloc: Global,
         events: Vec<ScriptEvent>,
@@ -140,7 +140,7 @@ impl ScriptLink {
         self.journal.numbers()
     }
 
-    /// Counts a call of `open`, `next`, `open_store` or `store`, and says whether it fails.
+    /// Counts a call of `open`, `next` or the store, and says whether it fails.
     fn fails(&mut self) -> bool
         ensures exact { result ≡ is_listed self.old.calls self.old.plan.failing }
         ensures kept { self.new ≡ record self.old { calls = next_count self.old.calls } }
@@ -211,21 +211,40 @@ impl Link for ScriptLink {
 
     #[tactic(auto, unfolding(crate::specs::link::Telling::StoreOpenTells, crate::specs::Answers::LinkCause, crate::specs::Answers::IsPlanned, crate::specs::Scripted::LinkOpensStore))]
     /// Notes the store as opened, or fails at the chosen calls. Nothing is written to any file.
-    fn open_store(&mut self, name: &str, length: u64) -> Result<(), NextFault>
-        ensures tells { StoreOpenTells (Some self.old.journal) name.now length result (Some self.new.journal) }
+    fn open_store(&mut self, name: &str) -> Result<(), NextFault>
+        ensures tells { StoreOpenTells (Some self.old.journal) name.now result (Some self.new.journal) }
         ensures cause { LinkCause (Some self.old.plan) self.old.faults self.new.faults result }
         ensures plan { Some self.new.plan ≡ Some self.old.plan }
         ensures lost { NeverFalls self.old.lost self.new.lost }
-        ensures exact { LinkOpensStore self.old name.now length result self.new }
+        ensures exact { LinkOpensStore self.old name.now result self.new }
     {
         if self.fails() {
-            if self.journal.open_store(name, length, false).is_err() {
+            if self.journal.open_store(name, false).is_err() {
                 return Err(NextFault::NoMemory);
             }
             self.faults = raised(self.faults);
             return Err(NextFault::Failed);
         }
-        if self.journal.open_store(name, length, true).is_err() {
+        if self.journal.open_store(name, true).is_err() {
+            return Err(NextFault::NoMemory);
+        }
+        Ok(())
+    }
+
+    #[tactic(auto, unfolding(crate::specs::link::Telling::NoteTells, crate::specs::Answers::LinkCause, crate::specs::Answers::IsPlanned, crate::specs::Scripted::LinkStores))]
+    /// Notes the store as cut, or fails at the chosen calls. No file is cut.
+    fn cut_store(&mut self, length: u64) -> Result<(), NextFault>
+        ensures tells { NoteTells (Some self.old.journal) (Item.StoreCut length) result (Some self.new.journal) }
+        ensures cause { LinkCause (Some self.old.plan) self.old.faults self.new.faults result }
+        ensures plan { Some self.new.plan ≡ Some self.old.plan }
+        ensures lost { NeverFalls self.old.lost self.new.lost }
+        ensures exact { LinkStores self.old (Item.StoreCut length) result self.new }
+    {
+        if self.fails() {
+            self.faults = raised(self.faults);
+            return Err(NextFault::Failed);
+        }
+        if self.journal.cut_store(length).is_err() {
             return Err(NextFault::NoMemory);
         }
         Ok(())
@@ -238,7 +257,7 @@ impl Link for ScriptLink {
         ensures cause { LinkCause (Some self.old.plan) self.old.faults self.new.faults result }
         ensures plan { Some self.new.plan ≡ Some self.old.plan }
         ensures lost { NeverFalls self.old.lost self.new.lost }
-        ensures exact { LinkStores self.old octets.now result self.new }
+        ensures exact { LinkStores self.old (Item.Stored octets.now) result self.new }
     {
         if self.fails() {
             self.faults = raised(self.faults);
@@ -246,6 +265,22 @@ impl Link for ScriptLink {
         }
         if self.journal.note(Note::Stored, 0, octets).is_err() {
             return Err(NextFault::NoMemory);
+        }
+        Ok(())
+    }
+
+    #[tactic(auto, unfolding(crate::specs::Answers::LinkCause, crate::specs::Answers::IsPlanned, crate::specs::Scripted::LinkSyncs))]
+    /// Does nothing, or fails at the chosen calls.
+    fn sync_store(&mut self) -> Result<(), NextFault>
+        ensures tells { Some self.new.journal ≡ Some self.old.journal }
+        ensures cause { LinkCause (Some self.old.plan) self.old.faults self.new.faults result }
+        ensures plan { Some self.new.plan ≡ Some self.old.plan }
+        ensures lost { NeverFalls self.old.lost self.new.lost }
+        ensures exact { LinkSyncs self.old result self.new }
+    {
+        if self.fails() {
+            self.faults = raised(self.faults);
+            return Err(NextFault::Failed);
         }
         Ok(())
     }

@@ -197,17 +197,20 @@ impl TrackedJournal {
     }
 
     /// The store was to be opened.
-    pub(crate) fn open_store(
-        &mut self,
-        name: &str,
-        length: u64,
-        done: bool,
-    ) -> Result<(), AllocError>
-        ensures ok { OnOk result (self.new ≡ self.old ++ Item.StoreOpened name.now length done ∷ []) }
+    pub(crate) fn open_store(&mut self, name: &str, done: bool) -> Result<(), AllocError>
+        ensures ok { OnOk result (self.new ≡ self.old ++ Item.StoreOpened name.now done ∷ []) }
         ensures err { OnErr result (self.new ≡ self.old) }
     {
         let name = Text::from_string(String::from_str(self.alloc, name)?);
-        self.note_apart(Item::StoreOpened(name, length, done))
+        self.note_apart(Item::StoreOpened(name, done))
+    }
+
+    /// The store was cut.
+    pub(crate) fn cut_store(&mut self, length: u64) -> Result<(), AllocError>
+        ensures ok { OnOk result (self.new ≡ self.old ++ Item.StoreCut length ∷ []) }
+        ensures err { OnErr result (self.new ≡ self.old) }
+    {
+        self.note_apart(Item::StoreCut(length))
     }
 
     #[tactic(auto, unfolding(crate::specs::link::Telling::event_of))]

@@ -60,7 +60,8 @@ opened_by-steps (item.Gone c ∷ journal) = opened_by-steps journal
 opened_by-steps (item.Held c ∷ journal) = opened_by-steps journal
 opened_by-steps (item.Released c ∷ journal) = opened_by-steps journal
 opened_by-steps (item.HungUp c ∷ journal) = opened_by-steps journal
-opened_by-steps (item.StoreOpened name length done ∷ journal) = opened_by-steps journal
+opened_by-steps (item.StoreOpened name done ∷ journal) = opened_by-steps journal
+opened_by-steps (item.StoreCut length ∷ journal) = opened_by-steps journal
 opened_by-steps (item.Stored octets ∷ journal) = opened_by-steps journal
 
 -- the numbers opened in the sessions of a journal
@@ -127,5 +128,6 @@ length-stopped (item.Gone c ∷ journal) is = length-stopped journal is
 length-stopped (item.Held c ∷ journal) is = length-stopped journal is
 length-stopped (item.Released c ∷ journal) is = length-stopped journal is
 length-stopped (item.HungUp c ∷ journal) is = length-stopped journal is
-length-stopped (item.StoreOpened name count done ∷ journal) is = length-stopped journal is
+length-stopped (item.StoreOpened name done ∷ journal) is = length-stopped journal is
+length-stopped (item.StoreCut count ∷ journal) is = length-stopped journal is
 length-stopped (item.Stored octets ∷ journal) is = length-stopped journal is

@@ -42,7 +42,8 @@ events_of (item.Gone c ∷ j) = events_of j
 events_of (item.Held c ∷ j) = events_of j
 events_of (item.Released c ∷ j) = events_of j
 events_of (item.HungUp c ∷ j) = events_of j
-events_of (item.StoreOpened n l ok ∷ j) = events_of j
+events_of (item.StoreOpened n ok ∷ j) = events_of j
+events_of (item.StoreCut l ∷ j) = events_of j
 events_of (item.Stored x ∷ j) = events_of j
 
 module _ {T W : Type 0} (r : Rules T W) (t : T) where

@@ -52,7 +52,8 @@ module _ {T W : Type 0} (r : Rules T W) (one other : T) where
   rightly-alike early front (item.Heard event) same right = settled-alike early front same right
   rightly-alike early front (item.HungUp number) same right = subst (λ (s : Session W). MayHangUp s.state front number s) (same.each number) right
   rightly-alike early front (item.OpenedAt address count ok) same right = absurd right
-  rightly-alike early front (item.StoreOpened name length ok) same right = absurd right
+  rightly-alike early front (item.StoreOpened name ok) same right = absurd right
+  rightly-alike early front (item.StoreCut length) same right = absurd right
   rightly-alike early front (item.Taken number octets) same right = record { stored = right.stored ∙ same.changes; served = served-place early number same right.served }
   rightly-alike early front (item.Later number) same right = served-place early number same right
   rightly-alike early front (item.Gone number) same right = served-place early number same right

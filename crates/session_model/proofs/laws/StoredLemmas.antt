@@ -46,7 +46,8 @@ stores_or_not (item.Gone number) = inl refl
 stores_or_not (item.Held number) = inl refl
 stores_or_not (item.Released number) = inl refl
 stores_or_not (item.HungUp number) = inl refl
-stores_or_not (item.StoreOpened name length ok) = inl refl
+stores_or_not (item.StoreOpened name ok) = inl refl
+stores_or_not (item.StoreCut length) = inl refl
 stores_or_not (item.Stored octets) = inr (octets, refl)
 
 module _ {T W : Type 0} (r : Rules T W) where

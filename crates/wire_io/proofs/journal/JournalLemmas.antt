@@ -2,7 +2,7 @@
 use Rattle.std.proofs.Common.{◌≡◌, ℕ, Bool, true, false, List, [], ◌∷◌, ◌++◌, ◌||◌, refl, ap, sym, ◌∙◌, append_assoc, append-nil}
 use Rattle.wire_io.specs.declared.journal.Event.TheVariants.{Opened, Bytes, Ended, Ready, Idle, Stop}
 use Rattle.wire_io.specs.declared.journal.Item.{Item}
-use Rattle.wire_io.specs.declared.journal.Item.TheVariants.{Heard, OpenedAt, Taken, Later, Gone, Held, Released, HungUp, StoreOpened, Stored}
+use Rattle.wire_io.specs.declared.journal.Item.TheVariants.{Heard, OpenedAt, Taken, Later, Gone, Held, Released, HungUp, StoreOpened, StoreCut, Stored}
 use Rattle.wire_io.specs.Journal.{opened_by, opens, was_opened, stops, was_stopped, taken_at, taken_of, stored_at, stored_of, hangs_up, is_hung_up, hold_after, hold_after_all, is_held}
 
 -- a test of either of two, and then a third
@@ -82,7 +82,8 @@ opened_by-opened (Gone number ∷ journal) conn = opened_by-opened journal conn
 opened_by-opened (Held number ∷ journal) conn = opened_by-opened journal conn
 opened_by-opened (Released number ∷ journal) conn = opened_by-opened journal conn
 opened_by-opened (HungUp number ∷ journal) conn = opened_by-opened journal conn
-opened_by-opened (StoreOpened name length done ∷ journal) conn = opened_by-opened journal conn
+opened_by-opened (StoreOpened name done ∷ journal) conn = opened_by-opened journal conn
+opened_by-opened (StoreCut length ∷ journal) conn = opened_by-opened journal conn
 opened_by-opened (Stored octets ∷ journal) conn = opened_by-opened journal conn
 
 -- the item opens no connection
@@ -102,5 +103,6 @@ opened_by-other (Gone number ∷ journal) item none = opened_by-other journal it
 opened_by-other (Held number ∷ journal) item none = opened_by-other journal item none
 opened_by-other (Released number ∷ journal) item none = opened_by-other journal item none
 opened_by-other (HungUp number ∷ journal) item none = opened_by-other journal item none
-opened_by-other (StoreOpened name length done ∷ journal) item none = opened_by-other journal item none
+opened_by-other (StoreOpened name done ∷ journal) item none = opened_by-other journal item none
+opened_by-other (StoreCut length ∷ journal) item none = opened_by-other journal item none
 opened_by-other (Stored octets ∷ journal) item none = opened_by-other journal item none

@@ -11,7 +11,7 @@ use Rattle.wire_io.specs.declared.answers.Took.TheVariants as took
 use Rattle.wire_io.specs.declared.journal.Event.{Event}
 use Rattle.wire_io.specs.declared.journal.Event.TheVariants.{Opened, Bytes, Ended, Ready, Idle, Stop}
 use Rattle.wire_io.specs.declared.journal.Item.{Item}
-use Rattle.wire_io.specs.declared.journal.Item.TheVariants.{Heard, OpenedAt, Taken, Later, Gone, Held, Released, HungUp, StoreOpened, Stored}
+use Rattle.wire_io.specs.declared.journal.Item.TheVariants.{Heard, OpenedAt, Taken, Later, Gone, Held, Released, HungUp, StoreOpened, StoreCut, Stored}
 use Rattle.wire_io.specs.Answers.{IsPlanned, LinkCause, WriteCause}
 use Rattle.wire_io.specs.Journal.{heard}
 use Rattle.wire_io.specs.Pieces.{Plays}
@@ -32,7 +32,8 @@ heard-append (Gone conn ∷ front) back = heard-append front back
 heard-append (Held conn ∷ front) back = heard-append front back
 heard-append (Released conn ∷ front) back = heard-append front back
 heard-append (HungUp conn ∷ front) back = heard-append front back
-heard-append (StoreOpened name length done ∷ front) back = heard-append front back
+heard-append (StoreOpened name done ∷ front) back = heard-append front back
+heard-append (StoreCut length ∷ front) back = heard-append front back
 heard-append (Stored octets ∷ front) back = heard-append front back
 
 -- the answer is the next event of the plan, and the plan goes on

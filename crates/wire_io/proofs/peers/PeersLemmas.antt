@@ -2,7 +2,7 @@
 use Rattle.std.proofs.Common.{◌≡◌, ℕ, Bool, true, false, List, [], ◌∷◌, ◌++◌, ◌||◌, nat_eq, ap, sym, ◌∙◌, subst, append-nil, if◌then◌else◌}
 use Rattle.wire_io.specs.declared.journal.Event.{Event}
 use Rattle.wire_io.specs.declared.journal.Item.{Item}
-use Rattle.wire_io.specs.declared.journal.Item.TheVariants.{Heard, OpenedAt, Taken, Later, Gone, Held, Released, HungUp, StoreOpened, Stored}
+use Rattle.wire_io.specs.declared.journal.Item.TheVariants.{Heard, OpenedAt, Taken, Later, Gone, Held, Released, HungUp, StoreOpened, StoreCut, Stored}
 use Rattle.wire_io.specs.Journal.{taken_at, taken_of, hangs_up, is_hung_up, hold_after, is_held}
 use Rattle.wire_io.specs.Peers.{PeerState, state_in, state_after, IsQuiet}
 use Rattle.wire_io.proofs.journal.JournalLemmas.{taken_of-push, is_hung_up-push, is_held-push, or-false, or-true}
@@ -72,7 +72,8 @@ state_in-of journal (Heard event) conn other is = absurd is
 state_in-of journal (OpenedAt address sessions done) conn other is = absurd is
 state_in-of journal (Later number) conn other is = absurd is
 state_in-of journal (Gone number) conn other is = absurd is
-state_in-of journal (StoreOpened name length done) conn other is = absurd is
+state_in-of journal (StoreOpened name done) conn other is = absurd is
+state_in-of journal (StoreCut length) conn other is = absurd is
 state_in-of journal (Stored octets) conn other is = absurd is
 
 -- an item that is of no connection
@@ -90,7 +91,8 @@ state_in-quiet journal (Heard event) other quiet = state_in-heard journal event 
 state_in-quiet journal (OpenedAt address sessions done) other quiet = state_in-push journal (OpenedAt address sessions done) other ∙ state_quiet journal other
 state_in-quiet journal (Later conn) other quiet = state_in-push journal (Later conn) other ∙ state_quiet journal other
 state_in-quiet journal (Gone conn) other quiet = state_in-push journal (Gone conn) other ∙ state_quiet journal other
-state_in-quiet journal (StoreOpened name length done) other quiet = state_in-push journal (StoreOpened name length done) other ∙ state_quiet journal other
+state_in-quiet journal (StoreOpened name done) other quiet = state_in-push journal (StoreOpened name done) other ∙ state_quiet journal other
+state_in-quiet journal (StoreCut length) other quiet = state_in-push journal (StoreCut length) other ∙ state_quiet journal other
 state_in-quiet journal (Stored octets) other quiet = state_in-push journal (Stored octets) other ∙ state_quiet journal other
 state_in-quiet journal (Taken conn octets) other quiet = absurd quiet
 state_in-quiet journal (Held conn) other quiet = absurd quiet

@@ -3,7 +3,7 @@ use Rattle.std.proofs.Common.{◌≡◌, ℕ, false, ◌||◌, List, [], ◌∷�
 use Rattle.script_text.specs.declared.event.ScriptEvent.{ScriptEvent}
 use Rattle.script_text.specs.script.Script.{OpensOnce, AreFilled}
 use Rattle.wire_io.specs.declared.journal.Item.{Item}
-use Rattle.wire_io.specs.declared.journal.Item.TheVariants.{Heard, OpenedAt, Taken, Later, Gone, Held, Released, HungUp, StoreOpened, Stored}
+use Rattle.wire_io.specs.declared.journal.Item.TheVariants.{Heard, OpenedAt, Taken, Later, Gone, Held, Released, HungUp, StoreOpened, StoreCut, Stored}
 use Rattle.wire_io.specs.Journal.{opens, was_opened, stops, was_stopped}
 use Rattle.wire_io.specs.Scripted.{IsPlayable}
 use Rattle.wire_io.proofs.journal.JournalLemmas.{was_opened-push, was_stopped-push, or-false}
@@ -23,7 +23,8 @@ opens-note conn (Gone other) note = refl
 opens-note conn (Held other) note = refl
 opens-note conn (Released other) note = refl
 opens-note conn (HungUp other) note = refl
-opens-note conn (StoreOpened name length done) note = refl
+opens-note conn (StoreOpened name done) note = refl
+opens-note conn (StoreCut length) note = refl
 opens-note conn (Stored octets) note = refl
 
 stops-note : (item : Item) → IsNote item → stops item ≡ false
@@ -36,7 +37,8 @@ stops-note (Gone other) note = refl
 stops-note (Held other) note = refl
 stops-note (Released other) note = refl
 stops-note (HungUp other) note = refl
-stops-note (StoreOpened name length done) note = refl
+stops-note (StoreOpened name done) note = refl
+stops-note (StoreCut length) note = refl
 stops-note (Stored octets) note = refl
 
 -- a journal with an item that opens and stops nothing

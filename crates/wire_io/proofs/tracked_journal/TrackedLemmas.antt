@@ -6,7 +6,7 @@ use Rattle.script_text.specs.declared.recording.EventKind.TheVariants as kind
 use Rattle.wire_io.specs.declared.journal.Event.{Event}
 use Rattle.wire_io.specs.declared.journal.Event.TheVariants.{Opened, Bytes, Ended, Ready, Idle, Stop}
 use Rattle.wire_io.specs.declared.journal.Item.{Item}
-use Rattle.wire_io.specs.declared.journal.Item.TheVariants.{Heard, OpenedAt, Taken, Later, Gone, Held, Released, HungUp, StoreOpened, Stored}
+use Rattle.wire_io.specs.declared.journal.Item.TheVariants.{Heard, OpenedAt, Taken, Later, Gone, Held, Released, HungUp, StoreOpened, StoreCut, Stored}
 use Rattle.wire_io.specs.declared.peers.Peer.{Peer}
 use Rattle.wire_io.specs.Journal.{opened_by, taken_of, is_held, hold_after, hold_after_all, is_hung_up}
 use Rattle.wire_io.specs.declared.log.Note.{Note}
@@ -59,7 +59,8 @@ frees-quiet (Heard event) quiet other = refl
 frees-quiet (OpenedAt address sessions done) quiet other = refl
 frees-quiet (Later conn) quiet other = refl
 frees-quiet (Gone conn) quiet other = refl
-frees-quiet (StoreOpened name length done) quiet other = refl
+frees-quiet (StoreOpened name done) quiet other = refl
+frees-quiet (StoreCut length) quiet other = refl
 frees-quiet (Stored octets) quiet other = refl
 frees-quiet (Taken conn octets) quiet other = absurd quiet
 frees-quiet (Held conn) quiet other = absurd quiet
@@ -81,7 +82,8 @@ opened_by-of conn (Heard event) is = absurd is
 opened_by-of conn (OpenedAt address sessions done) is = absurd is
 opened_by-of conn (Later other) is = absurd is
 opened_by-of conn (Gone other) is = absurd is
-opened_by-of conn (StoreOpened name length done) is = absurd is
+opened_by-of conn (StoreOpened name done) is = absurd is
+opened_by-of conn (StoreCut length) is = absurd is
 opened_by-of conn (Stored octets) is = absurd is
 
 opened_by-quiet : (item : Item) → IsQuiet item → opened_by (item ∷ []) ≡ []
@@ -95,7 +97,8 @@ opened_by-quiet (Heard Stop) quiet = refl
 opened_by-quiet (OpenedAt address sessions done) quiet = refl
 opened_by-quiet (Later conn) quiet = refl
 opened_by-quiet (Gone conn) quiet = refl
-opened_by-quiet (StoreOpened name length done) quiet = refl
+opened_by-quiet (StoreOpened name done) quiet = refl
+opened_by-quiet (StoreCut length) quiet = refl
 opened_by-quiet (Stored octets) quiet = refl
 opened_by-quiet (Taken conn octets) quiet = absurd quiet
 opened_by-quiet (Held conn) quiet = absurd quiet

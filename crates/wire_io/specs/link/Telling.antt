@@ -33,10 +33,10 @@ OpenTells old address sessions (Err Failed) new = new ≡ noted old (OpenedAt ad
 OpenTells old address sessions (Err NoMemory) new = new ≡ old
 
 -- so is `open_store`
-unfoldable pub StoreOpenTells : {T : Type 0} → Option (List Item) → List ℕ → ℕ → Result T NextFault → Option (List Item) → Type 0
-StoreOpenTells old name length (Ok answer) new = new ≡ noted old (StoreOpened name length true)
-StoreOpenTells old name length (Err Failed) new = new ≡ noted old (StoreOpened name length false)
-StoreOpenTells old name length (Err NoMemory) new = new ≡ old
+unfoldable pub StoreOpenTells : {T : Type 0} → Option (List Item) → List ℕ → Result T NextFault → Option (List Item) → Type 0
+StoreOpenTells old name (Ok answer) new = new ≡ noted old (StoreOpened name true)
+StoreOpenTells old name (Err Failed) new = new ≡ noted old (StoreOpened name false)
+StoreOpenTells old name (Err NoMemory) new = new ≡ old
 
 -- the event may come after what was done: a number is opened once, no octets come on hold
 unfoldable pub MayCome : List Item → Event → Type 0

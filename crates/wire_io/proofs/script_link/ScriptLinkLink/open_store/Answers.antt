@@ -7,10 +7,10 @@ use Rattle.wire_io.proofs.script_link.ScriptLinkLink.open_store.Goals as goal
 pub invariant_of-self-then-fails : goal.invariant_of-self-then-fails
 unfolding IsNote
 invariant_of-self-then-fails c =
-    IsPlayable-noted c.open_store.result (StoreOpened c.args.name.now c.args.length false) tt c.open_store.ensures.ok c.open_store.ensures.err c.self.invariant
+    IsPlayable-noted c.open_store.result (StoreOpened c.args.name.now false) tt c.open_store.ensures.ok c.open_store.ensures.err c.self.invariant
 
 -- the opening was noted
 pub invariant_of-self-2 : goal.invariant_of-self-2
 unfolding IsNote
 invariant_of-self-2 c =
-    IsPlayable-noted c.open_store-2.result (StoreOpened c.args.name.now c.args.length true) tt c.open_store-2.ensures.ok c.open_store-2.ensures.err c.self.invariant
+    IsPlayable-noted c.open_store-2.result (StoreOpened c.args.name.now true) tt c.open_store-2.ensures.ok c.open_store-2.ensures.err c.self.invariant
