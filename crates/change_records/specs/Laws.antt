@@ -26,9 +26,10 @@ SaysWhatWasWritten =
     (digest : List ℕ) (changes : List Request) → IsDigest digest → AllByRecursion IsWritable changes
     → Says digest changes (file_text digest changes)
 
--- the whole part of a text says the first changes, these and a number of the others
+-- the whole part of a text is a file of the first changes, these and a number of the others, and says them
 pub record SaysFront (digest : List ℕ) (done more : List Request) (text : List ℕ) : Type 0 where
   pub kept : ℕ
+  pub front : whole_part text ≡ file_text digest (done ++ take kept more)
   pub says : Says digest (done ++ take kept more) (whole_part text)
 
 -- a file that is cut behind some of its changes says these, and of the others a front

@@ -115,4 +115,4 @@ file-cut digest done more count is these others within =
     ∙ ap (λ blocks. blocks_text (head_block digest ∷ (map lines_of done ++ blocks))) (take-map front.kept more)
     ∙ ap (λ blocks. blocks_text (head_block digest ∷ blocks)) (sym (map-both done (take front.kept more)))
     ∙ sym (file-text digest kept are) in
-    record { kept = front.kept; says = ap file_of left ∙ file-read digest kept is are }
+    record { kept = front.kept; front = left; says = ap file_of left ∙ file-read digest kept is are }
