@@ -1,6 +1,6 @@
 -- What an answered message, and an answered stream, leave.
 use Rattle.std.specs.Prelude.{◌≡◌, ◌≤◌, ◌<◌, ◌+◌, ◌⊎◌, ℕ, Bool, true, false, List, [], ◌++◌, length, drop, Option, Some, None}
-use Rattle.session_model.specs.ldap_msg.Streams.{rest_of}
+use Rattle.session_model.specs.ldap_msg.Streams.{whole, rest_of}
 use Rattle.session_model.specs.ldap_msg.Replies.{notice_octets}
 use Rattle.session_model.specs.Rules.{Answered, after_octets}
 use Rattle.session_model.specs.Kept.{speech}
@@ -49,8 +49,8 @@ cut_at IsFull answered = Some answered
 
 -- a stream is answered: what was sent is what is said to it, up to where it was cut; where the connection stays open, so
 -- many octets were read, and a cut behind all of its messages would leave the same and close; where it ends since the queue
--- is full, the queue is longer than the room, and it never was before a message that was answered, but for the first; behind
--- the answers to so many messages there is nothing but, it may be, a notice
+-- is full, the queue is longer than the room, and it never was before a message that was answered, but for the first; the
+-- messages that were answered are among those of the stream, and behind their answers there is nothing but, it may be, a notice
 pub record Speaks (terms : Terms) (room : ℕ) (before : DirectoryEntries) (asks : Requester) (stream : List ℕ) (old new : Put) (entries : DirectoryEntries) (who : Requester) (spoken : Spoken) : Type 0 where
   pub gives : Gives (said_to terms (cut_at spoken.end spoken.answered) before asks stream) old new entries who (closes_at spoken.end)
   pub within : spoken.read ≤ length stream
@@ -58,6 +58,7 @@ pub record Speaks (terms : Terms) (room : ℕ) (before : DirectoryEntries) (asks
   pub cuts : spoken.end ≡ StaysOpen → Gives (said_to terms (Some spoken.answered) before asks stream) old new entries who true
   pub full : spoken.end ≡ IsFull → room < length new.replies
   pub spare : HasRoom terms room before asks stream old.replies spoken.answered
+  pub complete : spoken.answered ≤ length (whole stream)
   pub ending : List ℕ
   pub queued : new.replies ≡ queued_after terms before asks stream old.replies spoken.answered ++ ending
   pub notice : (ending ≡ []) ⊎ (ending ≡ notice_octets)
@@ -75,6 +76,7 @@ pub record SaysSoFar (terms : Terms) (room : ℕ) (before : DirectoryEntries) (a
   pub recorded_more : now.changes ≡ old.changes ++ more.changes
   pub within : read ≤ length stream
   pub counts : answered ≤ read
+  pub complete : length (whole stream) ≡ answered + length (whole (drop read stream))
   pub rest : rest_of (drop read stream) ≡ rest_of stream
   pub said : (cut : Option ℕ) → said_to terms (behind answered cut) before asks stream ≡ after_octets more.replies more.changes (said_to terms cut entries who (drop read stream))
   pub spare : HasRoom terms room before asks stream old.replies answered

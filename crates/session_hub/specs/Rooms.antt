@@ -1,6 +1,7 @@
 -- How many octets may wait for a connection before a further message of it is answered.
-use Rattle.std.specs.Prelude.{◌≡◌, ◌≤◌, ◌<◌, ◌⊎◌, ℕ, ◌==◌, ◌-◌, max, false, cond, List, [], ◌++◌, length, sum_by, Some}
+use Rattle.std.specs.Prelude.{◌≡◌, ◌≤◌, ◌<◌, ◌⊎◌, ℕ, ◌==◌, ◌-◌, max, false, cond, List, [], ◌++◌, length, sum_by, Option, Some, None}
 use Rattle.session_model.specs.ldap_msg.Replies.{notice_octets}
+use Rattle.session_model.specs.ldap_msg.Streams.{whole}
 use Rattle.session_model.specs.Kept.{Kept, kept_of, speech}
 use Rattle.session_hub.specs.declared.bounds.Bounds.{Bounds}
 use Rattle.session_hub.specs.declared.event.Event.{Event}
@@ -34,12 +35,20 @@ abbrev pub HasRoom : Terms → ℕ → DirectoryEntries → Requester → List �
 HasRoom terms room entries who stream queue answered =
     (count : ℕ) → 0 < count → count < answered → length (queued_after terms entries who stream queue count) ≤ room
 
+-- where a connection was cut, it was so behind so many messages
+abbrev pub IsCutBehind : ℕ → Option ℕ → Type 0
+IsCutBehind answered None = Unit {0}
+IsCutBehind answered (Some count) = count ≡ answered
+
 -- a piece is answered within the room: so many messages of its stream were answered, before each of which but the first no
--- more waited than there is room for, and behind their answers nothing waits but, it may be, a notice of disconnection
+-- more waited than there is room for; where the connection was cut, it was so behind them; and behind their answers nothing
+-- waits but, it may be, a notice of disconnection
 pub record StaysWithin (terms : Terms) (room : ℕ) (piece : List ℕ) (entries : DirectoryEntries) (old new : Kept Requester) : Type 0 where
   pub answered : ℕ
   pub ending : List ℕ
   pub spare : HasRoom terms room entries old.who (old.rest ++ piece) old.queue answered
+  pub complete : answered ≤ length (whole (old.rest ++ piece))
+  pub cut : IsCutBehind answered new.cut
   pub queued : new.queue ≡ queued_after terms entries old.who (old.rest ++ piece) old.queue answered ++ ending
   pub notice : (ending ≡ []) ⊎ (ending ≡ notice_octets)
 

@@ -133,6 +133,13 @@ impl Hub {
         &self.unstored
     }
 
+    /// Whether each accepted change is to be stored.
+    pub(crate) fn keeps(&self) -> bool
+        ensures { result ≡ self.now.bounds.terms.keeps }
+    {
+        self.bounds.terms.keeps
+    }
+
     /// All changes were stored. No memory is taken.
     pub fn stored(&mut self)
         ensures { self.new ≡ record self.old { unstored = [] } }

@@ -1,10 +1,10 @@
 //! The loop over a link.
 
-ghost use Rattle.std.specs.Prelude.{◌≡◌, [], IfOk, IfNone, IfSome, length, vec_len};
+ghost use Rattle.std.specs.Prelude.{◌≡◌, [], true, IfOk, IfNone, IfSome, length, vec_len};
 ghost use Rattle.dir_tree.specs.tree.Numbered.{entries_of};
 ghost use Rattle.dir_tree.specs.plain_values.Counts.{NeverFalls};
 ghost use Rattle.session_hub.specs.hub.Hubs.{held, no_hub};
-ghost use Rattle.session_hub.specs.Adding.{stops_with};
+ghost use Rattle.session_hub.specs.Adding.{StoreCause, stops_with};
 ghost use Rattle.session_hub.specs.serve.Loops.{buffer_length, Serves, ServesTwins, PlaysOut, EndsFor, ends_with};
 ghost use Rattle.session_hub.specs.serve.Turns.{GoesOn, EndsWith};
 
@@ -42,8 +42,55 @@ fn end_of(hub: &Hub, ended: Ended) -> Ended
     }
 }
 
-/// Takes one turn of the loop: the next event is heard and served, and the loop may end with it.
+/// Has the link see to it that what was stored is on the disk, where changes are kept.
+fn sync_changes<L: Link>(hub: &Hub, link: &mut L) -> Result<(), NextFault>
+    ensures tells { L.journal link.new ≡ L.journal link.old }
+    ensures cause { StoreCause (hub.now.bounds.terms.keeps ≡ true) (L.plan link.old) (L.faults link.old) (L.faults link.new) result }
+    ensures plan { L.plan link.new ≡ L.plan link.old }
+    ensures lost { NeverFalls (L.lost link.old) (L.lost link.new) }
+{
+    if hub.keeps() {
+        link.sync_store()
+    } else {
+        Ok(())
+    }
+}
+
+/// Takes one turn of the loop: the next event is heard and served, once what was stored is on the disk or waits
+/// for more, and the loop may end with it.
 fn take_turn<D: Dir, L: Link>(
+    hub: &mut Hub,
+    dir: &mut D,
+    waiting: &mut Waiting,
+    link: &mut L,
+    buffer: &mut [u8],
+) -> Option<Ended>
+    requires stored { hub.old.unstored ≡ [] }
+    requires long { length buffer.old ≡ buffer_length }
+    ensures none { IfNone result (GoesOn hub.old.bounds.terms
+        (L.journal link.old) (L.plan link.old)
+        (held (entries_of (D.rows dir.old)) hub.old) waiting.old.on_hold.items
+        (L.journal link.new) (L.plan link.new)
+        (held (entries_of (D.rows dir.new)) hub.new) waiting.new.on_hold.items) }
+    ensures some { IfSome result (λ ended. EndsWith hub.old.bounds.terms
+        (L.journal link.old) (L.plan link.old)
+        (held (entries_of (D.rows dir.old)) hub.old) waiting.old.on_hold.items
+        ended (entries_of (D.rows dir.new)) (L.journal link.new) (L.plan link.new)) }
+    ensures faults { IfNone result (L.faults link.new ≡ L.faults link.old) }
+    ensures stored { IfNone result (hub.new.unstored ≡ []) }
+    ensures cause { IfSome result (λ ended. EndsFor hub.old.bounds.terms.keeps (L.plan link.old) (L.faults link.old) (L.faults link.new) ended) }
+    ensures lost { NeverFalls (L.lost link.old) (L.lost link.new) }
+    ensures bounds { hub.new.bounds ≡ hub.old.bounds }
+{
+    match sync_changes(hub, link) {
+        Ok(()) => hear_next(hub, dir, waiting, link, buffer),
+        Err(NextFault::Failed) => Some(Ended::StoreFault),
+        Err(NextFault::NoMemory) => Some(Ended::NoMemory),
+    }
+}
+
+/// Hears and serves the next event.
+fn hear_next<D: Dir, L: Link>(
     hub: &mut Hub,
     dir: &mut D,
     waiting: &mut Waiting,
@@ -118,12 +165,13 @@ fn serve_in<D: Dir, L: Link>(
 /// them: nothing is sent but replies, nothing is left unsent but to connections that take no more
 /// now and are on hold, and each connection is hung up in its own block; the directory's entries are
 /// those that the journal's steps leave. A search is answered within the bounds' limit. Where the bounds'
-/// terms say so, the record of each accepted change is stored before any reply is taken that may show it.
+/// terms say so, the record of each accepted change is stored before any reply is taken that may show it, and
+/// before each event the link is asked to have what was stored on the disk.
 /// With `NoMemory` connections may have been cut, for want of memory or since more waited for them than the
 /// bounds have room for, each once, and the last block may be unfinished. `LinkFault` says that the link
-/// failed to give an event, and `StoreFault` that it failed to store changes, which its count of faults
-/// shows; the last block is then unfinished. Where nothing was cut the journal serves twins of the
-/// directory too.
+/// failed to give an event, and `StoreFault` that it failed to store changes or to have them on the disk,
+/// which its count of faults shows; the last block may then be unfinished. Where nothing was cut the journal
+/// serves twins of the directory too.
 pub fn serve_loop<D: Dir, L: Link>(
     alloc: Global,
     dir: &mut D,

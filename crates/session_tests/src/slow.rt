@@ -129,12 +129,22 @@ impl Link for HalfSlow {
     }
 
     #[tactic(auto, unfolding(wire_io::specs::link::Telling::StoreOpenTells, wire_io::specs::Answers::LinkCause, wire_io::specs::Answers::IsPlanned))]
-    fn open_store(&mut self, _name: &str, _length: u64) -> Result<(), NextFault> {
+    fn open_store(&mut self, _name: &str) -> Result<(), NextFault> {
+        Ok(())
+    }
+
+    #[tactic(auto, unfolding(wire_io::specs::link::Telling::NoteTells, wire_io::specs::Answers::LinkCause, wire_io::specs::Answers::IsPlanned))]
+    fn cut_store(&mut self, _length: u64) -> Result<(), NextFault> {
         Ok(())
     }
 
     #[tactic(auto, unfolding(wire_io::specs::link::Telling::NoteTells, wire_io::specs::Answers::LinkCause, wire_io::specs::Answers::IsPlanned))]
     fn store(&mut self, _octets: &[u8]) -> Result<(), NextFault> {
+        Ok(())
+    }
+
+    #[tactic(auto, unfolding(wire_io::specs::Answers::LinkCause, wire_io::specs::Answers::IsPlanned))]
+    fn sync_store(&mut self) -> Result<(), NextFault> {
         Ok(())
     }
 

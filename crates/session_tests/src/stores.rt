@@ -1,5 +1,9 @@
 //! The loop over a link that stores changes.
 
+ghost use Rattle.std.specs.Prelude.{◌≡◌, true, false, length};
+ghost use Rattle.wire_io.specs.Answers.{HeardFits};
+ghost use Rattle.wire_io.specs.plain_values.Counts.{Rose};
+
 use crate::messages::BIND;
 use crate::updates::{ADD, DELETE, site};
 use session_hub::{Bounds, Ended, Terms, serve_loop};
@@ -14,31 +18,55 @@ enum Call {
     Took,
 }
 
+// What a link refuses, once.
+#[derive(Clone, Copy, Debug, PartialEq, Eq)]
+enum Refused {
+    Nothing,
+    Store,
+    Sync,
+}
+
 // A link of one connection that opens and sends these messages, each by itself. It notes the calls that store and that take,
-// and the octets stored; where it refuses to store, it does so once. It tells nothing of what it did.
+// and the octets stored. It tells nothing of what it did.
 #[derive(Drop)]
 struct Keeper {
     messages: &'static [&'static [u8]],
     given: usize,
-    refuses: bool,
+    refuses: Refused,
+    faults: u64,
     calls: Vec<Call>,
     stored: Vec<u8>,
 }
 
 impl Keeper {
-    fn new(alloc: Global, messages: &'static [&'static [u8]], refuses: bool) -> Keeper {
+    fn new(alloc: Global, messages: &'static [&'static [u8]], refuses: Refused) -> Keeper {
         Keeper {
             messages,
             given: 0,
             refuses,
+            faults: 0,
             calls: Vec::new(alloc),
             stored: Vec::new(alloc),
         }
     }
+
+    // Whether the call is to be refused, which is a fault.
+    fn refuses(&mut self, call: Refused) -> bool
+        ensures refused { result ≡ true → Rose self.old.faults self.new.faults }
+        ensures kept { result ≡ false → self.new.faults ≡ self.old.faults }
+    {
+        let is_refused = self.refuses == call && self.faults == 0;
+        if is_refused {
+            self.faults = 1;
+        }
+        is_refused
+    }
 }
 
 // The event of a message, whose octets are put at the front of the buffer.
-fn came(buf: &mut [u8], message: &[u8]) -> Heard {
+fn came(buf: &mut [u8], message: &[u8]) -> Heard
+    ensures { HeardFits (length buf.new) result }
+{
     if message.is_empty() || message.len() > buf.len() {
         return Heard::Idle;
     }
@@ -47,13 +75,13 @@ fn came(buf: &mut [u8], message: &[u8]) -> Heard {
 }
 
 impl Link for Keeper {
-    ghost use Rattle.std.specs.Prelude.{None, if◌then◌else◌};
+    ghost use Rattle.std.specs.Prelude.{None};
 
     ghost journal = { λ _. None };
 
     ghost plan = { λ _. None };
 
-    ghost faults = { λ keeper. (if keeper.refuses then 0 else 1) };
+    ghost faults = { λ keeper. keeper.faults };
 
     ghost lost = { λ _. 0 };
 
@@ -65,20 +93,32 @@ impl Link for Keeper {
     }
 
     #[tactic(auto, unfolding(wire_io::specs::link::Telling::StoreOpenTells, wire_io::specs::Answers::LinkCause, wire_io::specs::Answers::IsPlanned))]
-    fn open_store(&mut self, _name: &str, _length: u64) -> Result<(), NextFault> {
+    fn open_store(&mut self, _name: &str) -> Result<(), NextFault> {
+        Ok(())
+    }
+
+    #[tactic(auto, unfolding(wire_io::specs::link::Telling::NoteTells, wire_io::specs::Answers::LinkCause, wire_io::specs::Answers::IsPlanned))]
+    fn cut_store(&mut self, _length: u64) -> Result<(), NextFault> {
         Ok(())
     }
 
     #[tactic(auto, unfolding(wire_io::specs::link::Telling::NoteTells, wire_io::specs::Answers::LinkCause, wire_io::specs::Answers::IsPlanned))]
     fn store(&mut self, octets: &[u8]) -> Result<(), NextFault> {
-        if self.refuses {
-            self.refuses = false;
+        if self.refuses(Refused::Store) {
             return Err(NextFault::Failed);
         }
         if self.calls.push(Call::Stored).is_err()
             || self.stored.extend_from_slice(octets).is_err()
         {
             return Err(NextFault::NoMemory);
+        }
+        Ok(())
+    }
+
+    #[tactic(auto, unfolding(wire_io::specs::Answers::LinkCause, wire_io::specs::Answers::IsPlanned))]
+    fn sync_store(&mut self) -> Result<(), NextFault> {
+        if self.given == 2 && self.refuses(Refused::Sync) {
+            return Err(NextFault::Failed);
         }
         Ok(())
     }
@@ -158,7 +198,7 @@ static STORED: [(&str, &[&[u8]], &[Call]); 4] = [
 #[test]
 fn a_change_is_stored_before_its_reply_is_taken(rt: HostRuntime) -> Result<(), Fail> {
     for (words, messages, calls) in STORED.iter() {
-        let mut link = Keeper::new(rt.alloc(), messages, false);
+        let mut link = Keeper::new(rt.alloc(), messages, Refused::Nothing);
         assert_eq!(rt;
             serve(rt.alloc(), &mut link, true)?,
             Ended::Stopped,
@@ -171,7 +211,7 @@ fn a_change_is_stored_before_its_reply_is_taken(rt: HostRuntime) -> Result<(), F
 
 #[test]
 fn changes_are_stored_as_records(rt: HostRuntime) -> Result<(), Fail> {
-    let mut link = Keeper::new(rt.alloc(), &[ADD, DELETE], false);
+    let mut link = Keeper::new(rt.alloc(), &[ADD, DELETE], Refused::Nothing);
     serve(rt.alloc(), &mut link, true)?;
     let records: &[u8] =
         b"dn: cn=e,dc=w\nchangetype: add\nobjectClass: device\n\ndn: cn=e,dc=w\nchangetype: delete\n\n";
@@ -181,16 +221,28 @@ fn changes_are_stored_as_records(rt: HostRuntime) -> Result<(), Fail> {
 
 #[test]
 fn nothing_is_stored_where_no_changes_are_kept(rt: HostRuntime) -> Result<(), Fail> {
-    let mut link = Keeper::new(rt.alloc(), &[ADD, DELETE], true);
+    let mut link = Keeper::new(rt.alloc(), &[ADD, DELETE], Refused::Store);
     assert_eq!(rt; serve(rt.alloc(), &mut link, false)?, Ended::Stopped);
     assert_eq!(rt; link.calls.as_slice(), [Call::Took, Call::Took].as_slice());
     Ok(())
 }
 
+// What the link refuses, and the calls before the loop ends with that: of the sync, the one behind the first message.
+static REFUSED: [(Refused, &[Call]); 2] = [
+    (Refused::Store, &[]),
+    (Refused::Sync, &[Call::Stored, Call::Took]),
+];
+
 #[test]
-fn no_reply_is_taken_where_its_change_can_not_be_stored(rt: HostRuntime) -> Result<(), Fail> {
-    let mut link = Keeper::new(rt.alloc(), &[ADD, DELETE], true);
-    assert_eq!(rt; serve(rt.alloc(), &mut link, true)?, Ended::StoreFault);
-    assert_eq!(rt; link.calls.len(), 0);
+fn the_loop_ends_where_a_change_can_not_be_stored(rt: HostRuntime) -> Result<(), Fail> {
+    for (refused, calls) in REFUSED.iter() {
+        let mut link = Keeper::new(rt.alloc(), &[ADD, DELETE], *refused);
+        assert_eq!(rt;
+            serve(rt.alloc(), &mut link, true)?,
+            Ended::StoreFault,
+            "{refused:?}"
+        );
+        assert_eq!(rt; link.calls.as_slice(), *calls, "{refused:?}");
+    }
     Ok(())
 }

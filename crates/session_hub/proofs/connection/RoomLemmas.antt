@@ -1,6 +1,7 @@
 -- What waits for a connection that hears a piece, by the room that it has.
 use Rattle.std.proofs.Common.{◌≡◌, ◌≤◌, ◌+◌, ℕ, Bool, true, List, [], ◌++◌, length, drop, set, get_or, Option, Some, None, refl, ap, sym, ◌∙◌, subst, inl, append_assoc, append-nil, length-append, length-drop, arith, true≢false}
 use Rattle.std.proofs.lemmas.List.{drop-append-le}
+use Rattle.session_model.specs.ldap_msg.Streams.{whole}
 use Rattle.session_model.specs.Rules.{Answered}
 use Rattle.session_model.specs.Kept.{Kept, kept_of}
 use Rattle.session_model.proofs.Theorems.{speech-cut}
@@ -9,8 +10,10 @@ use Rattle.session_hub.specs.Terms.{Terms}
 use Rattle.session_hub.specs.declared.spoken.Spoken.{Spoken}
 use Rattle.session_hub.specs.Outgoing.{Put}
 use Rattle.session_hub.specs.Answering.{rules}
-use Rattle.session_hub.specs.Answers.{Speaks, said_to}
-use Rattle.session_hub.specs.Rooms.{HasRoom, StaysWithin, AnswersWithin, queued_after}
+use Rattle.session_hub.specs.declared.spoken.SpeechEnd.{SpeechEnd}
+use Rattle.session_hub.specs.declared.spoken.SpeechEnd.TheVariants.{StaysOpen, Closes, IsCut, IsFull}
+use Rattle.session_hub.specs.Answers.{Speaks, cut_at, said_to}
+use Rattle.session_hub.specs.Rooms.{HasRoom, IsCutBehind, StaysWithin, AnswersWithin, queued_after}
 use Rattle.session_hub.specs.hub.Hubs.{IsAt}
 use Rattle.session_hub.proofs.places.PlaceLemmas.{kept_at_is, changed_at, kept_changed}
 
@@ -29,17 +32,26 @@ queued_inside : (taken : ℕ) (old said ending new : List ℕ) → taken ≤ len
 queued_inside taken old said ending new fits is =
     ap (drop taken) (is ∙ append_assoc old said ending) ∙ drop-append-le taken old (said ++ ending) fits ∙ sym (append_assoc (drop taken old) said ending)
 
+-- where a stream was cut, it was so behind the messages that were answered
+cut_behind : (end : SpeechEnd) (answered : ℕ) → IsCutBehind answered (cut_at end answered)
+cut_behind StaysOpen answered = tt
+cut_behind Closes answered = tt
+cut_behind IsCut answered = refl
+cut_behind IsFull answered = refl
+
 -- a stream that was answered stays within the room
-pub stays_within : (terms : Terms) (inside room : ℕ) (piece stream : List ℕ) (t u : DirectoryEntries) (k now : Kept Requester) (old new : Put) (rest : List ℕ) (taken : ℕ) (y : Requester) (spoken : Spoken) (closing : Bool) (cut : Option ℕ) →
-    k ≡ now → stream ≡ k.rest ++ piece → Speaks terms inside t k.who stream old new u y spoken → k.queue ≡ drop taken old.replies → taken ≤ length old.replies → inside ≤ room + taken →
+pub stays_within : (terms : Terms) (inside room : ℕ) (piece stream : List ℕ) (t u : DirectoryEntries) (k now : Kept Requester) (old new : Put) (rest : List ℕ) (taken : ℕ) (y : Requester) (spoken : Spoken) (closing : Bool) (end : SpeechEnd) (cut : Option ℕ) →
+    k ≡ now → cut ≡ cut_at end spoken.answered → stream ≡ k.rest ++ piece → Speaks terms inside t k.who stream old new u y spoken → k.queue ≡ drop taken old.replies → taken ≤ length old.replies → inside ≤ room + taken →
     StaysWithin terms room piece t now (record { number = k.number; rest = rest; who = y; queue = drop taken new.replies; closing = closing; cut = cut })
-stays_within terms inside room piece stream t u k now old new rest taken y spoken closing cut same is speaks queued fits within =
+stays_within terms inside room piece stream t u k now old new rest taken y spoken closing end cut same cuts is speaks queued fits within =
     subst (λ x. StaysWithin terms room piece t x (record { number = k.number; rest = rest; who = y; queue = drop taken new.replies; closing = closing; cut = cut })) same
     (record {
       answered = spoken.answered;
       ending = speaks.ending;
       spare = subst (λ xs. HasRoom terms room t k.who (k.rest ++ piece) xs spoken.answered) (sym queued)
           (subst (λ s. HasRoom terms room t k.who s (drop taken old.replies) spoken.answered) is (room_inside terms inside room taken t k.who stream old.replies spoken.answered fits within speaks.spare));
+      complete = subst (λ s. spoken.answered ≤ length (whole s)) is speaks.complete;
+      cut = subst (IsCutBehind spoken.answered) (sym cuts) (cut_behind end spoken.answered);
       queued = subst (λ xs. drop taken new.replies ≡ queued_after terms t k.who (k.rest ++ piece) xs spoken.answered ++ speaks.ending) (sym queued)
           (subst (λ s. drop taken new.replies ≡ queued_after terms t k.who s (drop taken old.replies) spoken.answered ++ speaks.ending) is
           (queued_inside taken old.replies (said_to terms (Some spoken.answered) t k.who stream).replies speaks.ending new.replies fits speaks.queued));
@@ -54,6 +66,8 @@ stays_starved terms room piece t k now rest same =
       answered = 0;
       ending = [];
       spare = λ count some below. absurd (omega arith);
+      complete = omega arith;
+      cut = refl;
       queued = sym (append-nil k.queue) ∙ ap (λ (x : Answered DirectoryEntries Requester). k.queue ++ x.replies) (sym (speech-cut (rules terms) t k.who (k.rest ++ piece)))
           ∙ sym (append-nil (queued_after terms t k.who (k.rest ++ piece) k.queue 0));
       notice = inl refl;

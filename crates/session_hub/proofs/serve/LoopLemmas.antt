@@ -205,6 +205,14 @@ unfinished_starved terms entries left turns = record { serves = λ added fits le
 pub unfinished_unstored : (terms : Terms) (entries left : DirectoryEntries) (turns : ℕ) → IsUnfinished terms entries left turns ended.StoreFault
 unfinished_unstored terms entries left turns = record { serves = λ added fits leads. record { ends = fits; served = leads; replayed = λ _. tt }; spends = λ h. cc; stops = λ h. cc }
 
+-- what was stored could not be had on the disk
+pub running_unfinished : (terms : Terms) (entries : DirectoryEntries) (n turns : ℕ) (end : Ended) (before a now : Option (List Item)) (hub : Held DirectoryEntries Requester) (on_hold : List ℕ) →
+    IsUnfinished terms entries hub.tree turns end → Running terms entries n before a hub on_hold → now ≡ a → n < turns → Serves terms entries hub.tree turns before end now
+unfolding Running Serves
+running_unfinished terms entries n turns end before a now hub on_hold unfinished running same below begun is =
+    let so = running begun is in
+    (so.0, same ∙ so.1, unfinished.serves so.0 (let m : length (heard so.0) ≡ n = so.2.counts in omega arith) (works_leads (rules terms) entries [] hub on_hold so.0 so.2.works))
+
 -- there was no memory within a block, or what changed could not be stored
 pub running_cut : (terms : Terms) (entries left : DirectoryEntries) (n turns : ℕ) (end : Ended) (plan : Option Plan) (before a b after : Option (List Item)) (hub : Held DirectoryEntries Requester) (on_hold : List ℕ) (buf : List ℕ) (given : Answer) →
     IsUnfinished terms entries left turns end →

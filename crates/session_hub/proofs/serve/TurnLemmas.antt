@@ -1,4 +1,5 @@
 -- One turn of a loop, and what a loop is after it.
+use Rattle.std.specs.Prelude.{IfNone, IfSome}
 use Rattle.std.proofs.Common.{◌≡◌, ◌<◌, ℕ, Bool, true, false, List, [], length, Option, Ok, Err, refl, ap, sym, ◌∙◌, subst, arith}
 use Rattle.session_model.specs.wire_io.declared.answers.Heard.{Heard as Answer}
 use Rattle.session_model.specs.wire_io.declared.answers.NextFault.{NextFault}
@@ -18,7 +19,7 @@ use Rattle.session_hub.specs.hub.Hubs.{HubState, held, no_hub}
 use Rattle.session_hub.specs.serve.Loops.{buffer_length, Serves, PlaysOut, ends_with}
 use Rattle.session_hub.specs.Adding.{Adds, IsServing, IsHeard, stops_with}
 use Rattle.session_hub.specs.serve.Turns.{IsUnderWay, GoesOn, EndsWith, failing_of}
-use Rattle.session_hub.proofs.serve.LoopLemmas.{IsUnfinished, is_stop, running_start, running_on, running_spent, running_failed, running_starved, running_cut, running_stopped, next_fails, goes_on_with, stops_is, failing_kept}
+use Rattle.session_hub.proofs.serve.LoopLemmas.{IsUnfinished, is_stop, running_start, running_on, running_spent, running_failed, running_starved, running_cut, running_unfinished, running_stopped, next_fails, goes_on_with, stops_is, failing_kept}
 use Rattle.session_hub.proofs.serve.PlayLemmas.{playing_start, playing_on, playing_kept, plays_ended, plays_spent, plays_stopped, plays_kept}
 
 -- an event that the link gave, with what it told and played
@@ -118,6 +119,30 @@ turn_starved terms now after plan_now plan_after hub on_hold buf f tells plays e
       plays_ended turns before after plan_before plan_after ended.NoMemory
           (playing_kept before now after plan_before plan_now plan_after under_way.playing same (plays_kept NextFault now plan_now plan_after buf f plays)) (λ h. cc) (λ h. cc),
     )
+
+-- it ends where what was stored could not be had on the disk, or there was no memory for that
+pub turn_unsynced : (terms : Terms) (end : Ended) (now after : Option (List Item)) (plan_now plan_after : Option Plan) (hub : Held DirectoryEntries Requester) (on_hold : List ℕ) →
+    ((entries : DirectoryEntries) (turns : ℕ) → IsUnfinished terms entries hub.tree turns end) → after ≡ now → plan_after ≡ plan_now → EndsWith terms now plan_now hub on_hold end hub.tree after plan_after
+turn_unsynced terms end now after plan_now plan_after hub on_hold unfinished same planned entries n turns before plan_before below under_way = (
+  running_unfinished terms entries n turns end before now after hub on_hold (unfinished entries turns) under_way.running same below,
+  plays_ended turns before after plan_before plan_after end (playing_kept before now after plan_before plan_now plan_after under_way.playing same planned)
+      (unfinished entries turns).stops (unfinished entries turns).spends,
+)
+
+-- a turn that begins once what was stored is on the disk is one from where the loop stood before
+pub synced_goes_on : (terms : Terms) (result : Option Ended) (old now after : Option (List Item)) (plan_old plan_now plan_after : Option Plan) (hub hub_after : Held DirectoryEntries Requester) (on_hold on_hold_after : List ℕ) →
+    now ≡ old → plan_now ≡ plan_old → IfNone result (GoesOn terms now plan_now hub on_hold after plan_after hub_after on_hold_after) →
+    IfNone result (GoesOn terms old plan_old hub on_hold after plan_after hub_after on_hold_after)
+synced_goes_on terms result old now after plan_old plan_now plan_after hub hub_after on_hold on_hold_after same planned goes =
+    subst (λ journal. IfNone result (GoesOn terms journal plan_old hub on_hold after plan_after hub_after on_hold_after)) same
+    (subst (λ plan. IfNone result (GoesOn terms now plan hub on_hold after plan_after hub_after on_hold_after)) planned goes)
+
+pub synced_ends_with : (terms : Terms) (result : Option Ended) (old now after : Option (List Item)) (plan_old plan_now plan_after : Option Plan) (hub : Held DirectoryEntries Requester) (on_hold : List ℕ) (left : DirectoryEntries) →
+    now ≡ old → plan_now ≡ plan_old → IfSome result (λ end. EndsWith terms now plan_now hub on_hold end left after plan_after) →
+    IfSome result (λ end. EndsWith terms old plan_old hub on_hold end left after plan_after)
+synced_ends_with terms result old now after plan_old plan_now plan_after hub on_hold left same planned ends =
+    subst (λ journal. IfSome result (λ end. EndsWith terms journal plan_old hub on_hold end left after plan_after)) same
+    (subst (λ plan. IfSome result (λ end. EndsWith terms now plan hub on_hold end left after plan_after)) planned ends)
 
 -- a loop that begins
 pub under_way_start : (terms : Terms) (bounds : Bounds) (entries : DirectoryEntries) (journal : Option (List Item)) (plan : Option Plan) (hub : HubState) (on_hold : List ℕ) → hub ≡ no_hub bounds → on_hold ≡ [] →

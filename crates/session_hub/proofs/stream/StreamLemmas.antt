@@ -1,10 +1,10 @@
 -- A stream answered message by message from its front.
-use Rattle.std.proofs.Common.{◌≡◌, ◌≤◌, ◌+◌, ◌<◌, ℕ, Bool, true, false, cond, List, [], ◌++◌, length, take, drop, Option, Some, None, refl, inl, inr, ap, ap₂, sym, ◌∙◌, subst, append_assoc, append-nil, drop-drop, length-drop, arith}
+use Rattle.std.proofs.Common.{◌≡◌, ◌≤◌, ◌+◌, ◌<◌, ℕ, Bool, true, false, cond, List, [], ◌++◌, length, take, drop, suc, Option, Some, None, refl, inl, inr, ap, ap₂, sym, ◌∙◌, subst, append_assoc, append-nil, drop-drop, length-drop, arith}
 use borrow.Author.Count.{below_more}
 use Rattle.session_model.specs.ldap_msg.declared.kinds.Frame.TheVariants.{Whole, More, Bad}
-use Rattle.session_model.specs.ldap_msg.Streams.{frame_at, rest_of}
+use Rattle.session_model.specs.ldap_msg.Streams.{frame_at, whole, rest_of}
 use Rattle.session_model.specs.ldap_msg.Replies.{notice_octets}
-use Rattle.session_model.proofs.ldap_msg_proofs.Theorems.{frame_bound, rest_step, rest_more}
+use Rattle.session_model.proofs.ldap_msg_proofs.Theorems.{frame_bound, whole_step, rest_step, rest_more}
 use Rattle.session_model.specs.Rules.{Answered, after_octets}
 use Rattle.session_model.proofs.Theorems.{one_later, speech-whole, speech-more, speech-bad, speech-cut}
 use Rattle.session_hub.specs.Parties.{DirectoryEntries, Requester}
@@ -27,6 +27,20 @@ message_some s n is = omega (arith, (frame_bound s n is).0)
 rest_fits : (stream : List ℕ) (read n : ℕ) → rest_of (drop read stream) ≡ rest_of stream → frame_at (drop read stream) ≡ Whole n →
     rest_of (drop (read + n) stream) ≡ rest_of stream
 rest_fits stream read n rest is = ap rest_of (sym (drop-drop n read stream)) ∙ sym (rest_step (drop read stream) n is) ∙ rest
+
+-- one message more was answered of those of the stream
+messages_fit : (stream : List ℕ) (read n answered : ℕ) → length (whole stream) ≡ answered + length (whole (drop read stream)) → frame_at (drop read stream) ≡ Whole n →
+    length (whole stream) ≡ (answered + 1) + length (whole (drop (read + n) stream))
+messages_fit stream read n answered so is =
+    let rest = drop read stream in
+    let one : length (whole rest) ≡ suc (length (whole (drop n rest))) = ap length (whole_step rest n is) in
+    let same : length (whole (drop n rest)) ≡ length (whole (drop (read + n) stream)) = ap (λ xs. length (whole xs)) (drop-drop n read stream) in
+    omega (arith, so, one, same)
+
+-- those that were answered are of the stream
+answered_within : (terms : Terms) (room : ℕ) (t : DirectoryEntries) (w : Requester) (stream : List ℕ) (old now : Put) (u : DirectoryEntries) (x : Requester) (read answered : ℕ) →
+    SaysSoFar terms room t w stream old now u x read answered → answered ≤ length (whole stream)
+answered_within terms room t w stream old now u x read answered so = let is : length (whole stream) ≡ answered + length (whole (drop read stream)) = so.complete in omega arith
 
 -- a cut one message later
 behind_one : (answered : ℕ) (cut : Option ℕ) → behind (answered + 1) cut ≡ behind answered (one_later cut)
@@ -51,6 +65,7 @@ so_far_start terms room t w stream old =
       recorded_more = sym (append-nil old.changes);
       within = omega arith;
       counts = omega arith;
+      complete = omega arith;
       rest = refl;
       spare = λ count some below. absurd (omega arith);
       said = λ cut. ap (λ x. said_to terms x t w stream) (same cut);
@@ -107,6 +122,7 @@ so_far_whole terms room t w stream old now new u v x y read answered n so is giv
       recorded_more = gives.recorded ∙ ap (λ octets. octets ++ a.changes) so.recorded_more ∙ append_assoc old.changes so.more.changes a.changes;
       within = message_fits stream read n so.within is;
       counts = (let counts : answered ≤ read = so.counts in omega arith);
+      complete = messages_fit stream read n answered so.complete is;
       rest = rest_fits stream read n so.rest is;
       spare = spare_more terms room t w stream old now u x read answered so fits;
       said = λ cut. (
@@ -135,6 +151,7 @@ so_far_closed terms room t w stream old now new u v x y read answered n so is gi
       cuts = λ h. absurd (cc);
       full = λ h. absurd (cc);
       spare = so.spare;
+      complete = answered_within terms room t w stream old now u x read answered so;
       ending = a.replies;
       queued = gives.said ∙ ap (λ octets. octets ++ a.replies) (cut_here terms room t w stream old now u x read answered so).said;
       notice = closes_says terms u x (take n rest) (sym gives.closed);
@@ -151,6 +168,7 @@ so_far_more terms room t w stream old now u x read answered so is =
       cuts = λ _. cut_here terms room t w stream old now u x read answered so;
       full = λ h. absurd (cc);
       spare = so.spare;
+      complete = answered_within terms room t w stream old now u x read answered so;
       ending = [];
       queued = (cut_here terms room t w stream old now u x read answered so).said ∙ sym (append-nil (queued_after terms t w stream old.replies answered));
       notice = inl refl;
@@ -169,6 +187,7 @@ so_far_bad terms room t w stream old now new u x read answered so is notice unch
       cuts = λ h. absurd (cc);
       full = λ h. absurd (cc);
       spare = so.spare;
+      complete = answered_within terms room t w stream old now u x read answered so;
       ending = notice_octets;
       queued = notice ∙ ap (λ octets. octets ++ notice_octets) (cut_here terms room t w stream old now u x read answered so).said;
       notice = inr refl;
@@ -181,10 +200,10 @@ so_far_cut terms room t w stream old now new u v x y read answered so same left 
     subst (λ z. Speaks terms room t w stream old z v y (record { read = read; answered = answered; end = IsCut })) (sym same)
     (subst (λ z. Speaks terms room t w stream old now z y (record { read = read; answered = answered; end = IsCut })) (sym left)
     (subst (λ z. Speaks terms room t w stream old now u z (record { read = read; answered = answered; end = IsCut })) (sym asker)
-    (record { gives = cut_here terms room t w stream old now u x read answered so; within = so.within; unread = λ h. absurd (cc); cuts = λ h. absurd (cc); full = λ h. absurd (cc); spare = so.spare; ending = []; queued = (cut_here terms room t w stream old now u x read answered so).said ∙ sym (append-nil (queued_after terms t w stream old.replies answered)); notice = inl refl })))
+    (record { gives = cut_here terms room t w stream old now u x read answered so; within = so.within; unread = λ h. absurd (cc); cuts = λ h. absurd (cc); full = λ h. absurd (cc); spare = so.spare; complete = answered_within terms room t w stream old now u x read answered so; ending = []; queued = (cut_here terms room t w stream old now u x read answered so).said ∙ sym (append-nil (queued_after terms t w stream old.replies answered)); notice = inl refl })))
 
 -- more is queued than there is room for
 pub so_far_full : (terms : Terms) (room : ℕ) (t : DirectoryEntries) (w : Requester) (stream : List ℕ) (old now : Put) (u : DirectoryEntries) (x : Requester) (read answered : ℕ) →
     SaysSoFar terms room t w stream old now u x read answered → room < length now.replies → Speaks terms room t w stream old now u x (record { read = read; answered = answered; end = IsFull })
 so_far_full terms room t w stream old now u x read answered so full =
-    record { gives = cut_here terms room t w stream old now u x read answered so; within = so.within; unread = λ h. absurd (cc); cuts = λ h. absurd (cc); full = λ _. full; spare = so.spare; ending = []; queued = (cut_here terms room t w stream old now u x read answered so).said ∙ sym (append-nil (queued_after terms t w stream old.replies answered)); notice = inl refl }
+    record { gives = cut_here terms room t w stream old now u x read answered so; within = so.within; unread = λ h. absurd (cc); cuts = λ h. absurd (cc); full = λ _. full; spare = so.spare; complete = answered_within terms room t w stream old now u x read answered so; ending = []; queued = (cut_here terms room t w stream old now u x read answered so).said ∙ sym (append-nil (queued_after terms t w stream old.replies answered)); notice = inl refl }

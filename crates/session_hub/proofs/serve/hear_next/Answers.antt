@@ -5,7 +5,7 @@ use Rattle.session_hub.specs.declared.ended.Ended.TheVariants as ended
 use Rattle.session_hub.proofs.serve.CauseLemmas.{ends_failed, ends_stopped, ends_starved, ends_unstored, ends_as, EndsFor-came}
 use Rattle.session_hub.proofs.serve.LoopLemmas.{unfinished_starved, unfinished_unstored, failing_kept}
 use Rattle.session_hub.proofs.serve.TurnLemmas.{turn_served, turn_cut, turn_stopped, turn_failed, turn_starved}
-use Rattle.session_hub.proofs.serve.take_turn.Goals as goal
+use Rattle.session_hub.proofs.serve.hear_next.Goals as goal
 
 -- the link failed
 pub returns-in-Err-Failed-clause-some : goal.returns-in-Err-Failed-clause-some

@@ -22,4 +22,4 @@ returns-clause-room g c =
     let none : c.self.inside.rest.items ≡ [] = ap (λ (k : Kept Requester). k.rest) c.self.view_is ∙ c.requires in
     let stream : c.args.piece.now ≡ c.self.inside.rest.items ++ c.args.piece.now = sym (ap (λ xs. xs ++ c.args.piece.now) none) in
     stays_within c.args.allowed.terms c.room_behind.result c.args.allowed.room c.args.piece.now c.args.piece.now _ _ _ c.args.self.now _ _ c.keep_unread-end.new.rest.items c.self.inside.taken _
-    c.speak_and_fit-spoken.result _ _ c.self.view_is stream c.speak_and_fit-spoken.ensures refl c.self.invariant c.room_behind.ensures
+    c.speak_and_fit-spoken.result _ c.keep_unread-end.result _ c.self.view_is c.cut_behind-self-inside.ensures stream c.speak_and_fit-spoken.ensures refl c.self.invariant c.room_behind.ensures

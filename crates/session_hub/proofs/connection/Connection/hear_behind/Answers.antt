@@ -28,4 +28,4 @@ returns-in-Err-clause-room g c = stays_starved c.args.allowed.terms c.args.allow
 pub returns-in-Ok-clause-room : goal.returns-in-Ok-clause-room
 returns-in-Ok-clause-room g c =
     stays_within c.args.allowed.terms c.room_behind.result c.args.allowed.room c.args.piece.now c.deref.result.now _ _ _ c.args.self.now _ _ c.leave_unread-end.new.rest.items c.self.inside.taken _
-    c.speak_and_fit-spoken.result _ _ c.self.view_is (c.deref.ensures.value ∙ c.in-Ok.ensures.items) c.speak_and_fit-spoken.ensures refl c.self.invariant c.room_behind.ensures
+    c.speak_and_fit-spoken.result _ c.leave_unread-end.result _ c.self.view_is c.cut_behind-self-inside.ensures (c.deref.ensures.value ∙ c.in-Ok.ensures.items) c.speak_and_fit-spoken.ensures refl c.self.invariant c.room_behind.ensures
