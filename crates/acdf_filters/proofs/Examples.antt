@@ -13,6 +13,7 @@ use Rattle.aci_item.specs.declared.permission.Permission.TheVariants.{Add, Read,
 use Rattle.aci_item.specs.item.Items.{UserClasses, ProtectedItems}
 use Rattle.aci_item.specs.AciTuples.{AciTuple}
 use Rattle.acdf_filters.specs.Asking.{Entry, Kind, Value, Asked, asked_on}
+use Rattle.acdf_filters.specs.users.Choices.{highest, lowest}
 use Rattle.acdf_filters.specs.users.Users.{is_in_group, ranks_of, listed_ranks}
 use Rattle.acdf_filters.specs.Covering.{covers, is_explicit, has_names}
 use Rattle.acdf_filters.specs.Limits.{exceeds, is_barred}
@@ -163,6 +164,16 @@ the_specific_class_decides = refl
 a_denial_wins : decided ada_reads (at (tuple everyone whole true 10) (3 ∷ []) ∷ at (tuple everyone whole false 10) (3 ∷ []) ∷ []) ≡ false
 unfolding decided covers is_explicit
 a_denial_wins = refl
+
+-- keys choose whatever their bound: of 5 and 7 the one with 5 is the lowest
+abbrev itself : ℕ → ℕ
+itself key = key
+
+the_lowest_keys_stay : lowest itself (7 ∷ 5 ∷ 6 ∷ 5 ∷ []) ≡ 5 ∷ 5 ∷ []
+the_lowest_keys_stay = refl
+
+the_highest_keys_stay : highest itself (5 ∷ 7 ∷ 6 ∷ 7 ∷ []) ≡ 7 ∷ 7 ∷ []
+the_highest_keys_stay = refl
 
 -- filter 6: a type that is named is above one that all user attributes name
 abbrev ada_reads_type : Asked

@@ -1,4 +1,5 @@
 pub mod ListLemmas
+pub mod KeyLemmas
 pub mod ChoiceLemmas
 pub mod StandingLaw
 pub mod DecisionLaw

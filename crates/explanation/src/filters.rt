@@ -1,8 +1,8 @@
 //! The six filters.
 
-ghost use Rattle.std.specs.Prelude.{◌≡◌, ◌==◌, filter, map, length};
-ghost use Rattle.std.specs.List.{list_any};
-ghost use Rattle.acdf_filters.specs.users.Choices.{greatest, least, highest, lowest, passing_or_all};
+ghost use Rattle.std.specs.Prelude.{◌≡◌, ◌==◌, filter, map, length, min};
+ghost use Rattle.std.specs.List.{list_any, reduce};
+ghost use Rattle.acdf_filters.specs.users.Choices.{greatest, highest, lowest, passing_or_all};
 ghost use Rattle.explanation.specs.Candidates.{AreCounted, deciding};
 
 use crate::candidates::Candidate;
@@ -52,27 +52,24 @@ fn keep_foremost(candidates: &mut Vec<Candidate>)
     );
 }
 
-// The rank of the most specific class; 3 of none.
-fn lowest_rank(candidates: &[Candidate]) -> u8
-    ensures exact { result ≡ least (map (λ one. one.facts.rank) candidates.now) }
+// The rank of the most specific class, where there is one.
+fn lowest_rank(candidates: &[Candidate]) -> Option<u8>
+    ensures exact { result ≡ reduce min (map (λ one. one.facts.rank) candidates.now) }
 {
-    let mut rank = 3;
-    for one in candidates {
-        rank = one.facts.rank.min(rank);
-    }
-    rank
+    candidates.iter().map(|one| one.facts.rank).min()
 }
 
 // Leaves those of the most specific class.
 fn keep_most_specific(candidates: &mut Vec<Candidate>)
     ensures exact { candidates.new.items ≡ lowest (λ one. one.facts.rank) candidates.old.items }
 {
-    let rank = lowest_rank(candidates);
-    candidates.retain(
-        |one: &Candidate| -> bool
-            ensures { result ≡ (one.now.facts.rank == rank) }
-        { one.facts.rank == rank },
-    );
+    if let Some(rank) = lowest_rank(candidates) {
+        candidates.retain(
+            |one: &Candidate| -> bool
+                ensures { result ≡ (one.now.facts.rank == rank) }
+            { one.facts.rank == rank },
+        );
+    }
 }
 
 // Whether one names the item explicitly.

@@ -1,5 +1,5 @@
 -- What one more element makes of the elements that a key or a test chooses.
-use Rattle.std.proofs.Common.{◌≡◌, ◌≢◌, inl, inr, ℕ, ◌<◌, ◌==◌, Bool, true, false, ◌||◌, List, [], ◌∷◌, ◌++◌, map, filter, refl, sym, ap, ◌∙◌, arith}
+use Rattle.std.proofs.Common.{◌≡◌, ◌≢◌, inl, inr, ℕ, ◌<◌, ◌≤◌, ◌==◌, Bool, true, false, ◌||◌, List, [], ◌∷◌, ◌++◌, map, filter, refl, sym, ap, ◌∙◌, arith}
 use Rattle.std.specs.Prelude.{max, min}
 use Rattle.std.specs.List.{list_any}
 use Rattle.std.proofs.Math.Bool.{or-false}
@@ -7,7 +7,9 @@ use Rattle.std.proofs.lemmas.Bool.{cases_Bool, cond-true, cond-false, eq-eqb, ne
 use Rattle.std.proofs.lemmas.List.{append-nil}
 use Rattle.std.proofs.lemmas.List.Elements.{filter-append}
 use Rattle.std.proofs.lemmas.List.Folds.{list_any-append}
+use Rattle.dir_tree.proofs.base_laws_proofs.Theorems.{all_true}
 use Rattle.acdf_filters.specs.users.Choices.{greatest, least, highest, lowest, passing_or_all, is_filled}
+use Rattle.acdf_filters.proofs.laws.KeyLemmas.{highest-greatest, lowest-least}
 
 -- those of a given key
 abbrev at_key : {A : Type 0} → (A → ℕ) → ℕ → List A → List A
@@ -48,32 +50,54 @@ least-append key (y ∷ xs) x = let later = least-append key xs x in omega arith
 pub highest-above : {A : Type 0} (key : A → ℕ) (xs : List A) (x : A) → greatest (map key xs) < key x → highest key (xs ++ x ∷ []) ≡ x ∷ []
 highest-above key xs x h =
     let top : greatest (map key (xs ++ x ∷ [])) ≡ key x = omega (arith, greatest-append key xs x) in
-    ap (λ n. at_key key n (xs ++ x ∷ [])) top ∙ at_key-same key (key x) x xs refl ∙ ap (λ ys. ys ++ x ∷ []) (none_above key (key x) xs h)
+    highest-greatest key (xs ++ x ∷ [])
+    ∙ ap (λ n. at_key key n (xs ++ x ∷ [])) top
+    ∙ at_key-same key (key x) x xs refl
+    ∙ ap (λ ys. ys ++ x ∷ []) (none_above key (key x) xs h)
 
 pub highest-below : {A : Type 0} (key : A → ℕ) (xs : List A) (x : A) → key x < greatest (map key xs) → highest key (xs ++ x ∷ []) ≡ highest key xs
 highest-below key xs x h =
     let top : greatest (map key (xs ++ x ∷ [])) ≡ greatest (map key xs) = omega (arith, greatest-append key xs x) in
-    ap (λ n. at_key key n (xs ++ x ∷ [])) top ∙ at_key-other key (greatest (map key xs)) x xs (λ e. omega arith)
+    highest-greatest key (xs ++ x ∷ [])
+    ∙ ap (λ n. at_key key n (xs ++ x ∷ [])) top
+    ∙ at_key-other key (greatest (map key xs)) x xs (λ e. omega arith)
+    ∙ sym (highest-greatest key xs)
 
 pub highest-same : {A : Type 0} (key : A → ℕ) (xs : List A) (x : A) → key x ≡ greatest (map key xs) → highest key (xs ++ x ∷ []) ≡ highest key xs ++ x ∷ []
 highest-same key xs x e =
     let top : greatest (map key (xs ++ x ∷ [])) ≡ greatest (map key xs) = omega (arith, greatest-append key xs x) in
-    ap (λ n. at_key key n (xs ++ x ∷ [])) top ∙ at_key-same key (greatest (map key xs)) x xs e
+    highest-greatest key (xs ++ x ∷ [])
+    ∙ ap (λ n. at_key key n (xs ++ x ∷ [])) top
+    ∙ at_key-same key (greatest (map key xs)) x xs e
+    ∙ ap (λ ys. ys ++ x ∷ []) (sym (highest-greatest key xs))
 
-pub lowest-below : {A : Type 0} (key : A → ℕ) (xs : List A) (x : A) → key x < least (map key xs) → lowest key (xs ++ x ∷ []) ≡ x ∷ []
-lowest-below key xs x h =
-    let top : least (map key (xs ++ x ∷ [])) ≡ key x = omega (arith, least-append key xs x) in
-    ap (λ n. at_key key n (xs ++ x ∷ [])) top ∙ at_key-same key (key x) x xs refl ∙ ap (λ ys. ys ++ x ∷ []) (none_below key (key x) xs h)
+-- the same of ranks, from the least up
+lowest-ranks : {A : Type 0} (key : A → ℕ) → ((x : A) → key x ≤ 3) → (xs : List A) → lowest key xs ≡ at_key key (least (map key xs)) xs
+lowest-ranks key ranks xs = lowest-least key xs (all_true (λ x. key x ≤ 3) ranks xs)
 
-pub lowest-above : {A : Type 0} (key : A → ℕ) (xs : List A) (x : A) → least (map key xs) < key x → lowest key (xs ++ x ∷ []) ≡ lowest key xs
-lowest-above key xs x h =
-    let top : least (map key (xs ++ x ∷ [])) ≡ least (map key xs) = omega (arith, least-append key xs x) in
-    ap (λ n. at_key key n (xs ++ x ∷ [])) top ∙ at_key-other key (least (map key xs)) x xs (λ e. omega arith)
+pub lowest-below : {A : Type 0} (key : A → ℕ) → ((x : A) → key x ≤ 3) → (xs : List A) (x : A) → key x < least (map key xs) → lowest key (xs ++ x ∷ []) ≡ x ∷ []
+lowest-below key ranks xs x h =
+    let low : least (map key (xs ++ x ∷ [])) ≡ key x = omega (arith, least-append key xs x) in
+    lowest-ranks key ranks (xs ++ x ∷ [])
+    ∙ ap (λ n. at_key key n (xs ++ x ∷ [])) low
+    ∙ at_key-same key (key x) x xs refl
+    ∙ ap (λ ys. ys ++ x ∷ []) (none_below key (key x) xs h)
 
-pub lowest-same : {A : Type 0} (key : A → ℕ) (xs : List A) (x : A) → key x ≡ least (map key xs) → lowest key (xs ++ x ∷ []) ≡ lowest key xs ++ x ∷ []
-lowest-same key xs x e =
-    let top : least (map key (xs ++ x ∷ [])) ≡ least (map key xs) = omega (arith, least-append key xs x) in
-    ap (λ n. at_key key n (xs ++ x ∷ [])) top ∙ at_key-same key (least (map key xs)) x xs e
+pub lowest-above : {A : Type 0} (key : A → ℕ) → ((x : A) → key x ≤ 3) → (xs : List A) (x : A) → least (map key xs) < key x → lowest key (xs ++ x ∷ []) ≡ lowest key xs
+lowest-above key ranks xs x h =
+    let low : least (map key (xs ++ x ∷ [])) ≡ least (map key xs) = omega (arith, least-append key xs x) in
+    lowest-ranks key ranks (xs ++ x ∷ [])
+    ∙ ap (λ n. at_key key n (xs ++ x ∷ [])) low
+    ∙ at_key-other key (least (map key xs)) x xs (λ e. omega arith)
+    ∙ sym (lowest-ranks key ranks xs)
+
+pub lowest-same : {A : Type 0} (key : A → ℕ) → ((x : A) → key x ≤ 3) → (xs : List A) (x : A) → key x ≡ least (map key xs) → lowest key (xs ++ x ∷ []) ≡ lowest key xs ++ x ∷ []
+lowest-same key ranks xs x e =
+    let low : least (map key (xs ++ x ∷ [])) ≡ least (map key xs) = omega (arith, least-append key xs x) in
+    lowest-ranks key ranks (xs ++ x ∷ [])
+    ∙ ap (λ n. at_key key n (xs ++ x ∷ [])) low
+    ∙ at_key-same key (least (map key xs)) x xs e
+    ∙ ap (λ ys. ys ++ x ∷ []) (sym (lowest-ranks key ranks xs))
 
 -- a list with one more element has one
 pub is_filled-append : {A : Type 0} (xs : List A) (x : A) → is_filled (xs ++ x ∷ []) ≡ true

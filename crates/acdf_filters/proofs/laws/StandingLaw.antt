@@ -104,9 +104,9 @@ item-one keys x p r zs e f =
     (subst (λ (n : ℕ). with_item (alone keys x) (at_item keys (keys.precedence x) n zs) ≡ at_item keys (keys.precedence x) n (zs ++ x ∷ [])) f (item-like keys x zs))
 
 -- the filter before it
-class-one : {A : Type 0} (keys : Keys A) (x : A) (p : ℕ) (ys : List A) → keys.precedence x ≡ p
+class-one : {A : Type 0} (keys : Keys A) → ((y : A) → keys.rank y ≤ 3) → (x : A) (p : ℕ) (ys : List A) → keys.precedence x ≡ p
     → with_class (alone keys x) (at_class keys p ys) ≡ at_class keys p (ys ++ x ∷ [])
-class-one keys x p ys e = by (cases_order (keys.rank x) (least (map keys.rank ys)))
+class-one keys ranks x p ys e = by (cases_order (keys.rank x) (least (map keys.rank ys)))
   where
     by : ((keys.rank x ≡ least (map keys.rank ys)) ⊎ ((keys.rank x < least (map keys.rank ys)) ⊎ (least (map keys.rank ys) < keys.rank x)))
         → with_class (alone keys x) (at_class keys p ys) ≡ at_class keys p (ys ++ x ∷ [])
@@ -117,7 +117,7 @@ class-one keys x p ys e = by (cases_order (keys.rank x) (least (map keys.rank ys
         cond-false (nat_lt (keys.rank x) (least (map keys.rank ys))) one (cond (nat_lt (least (map keys.rank ys)) (keys.rank x)) seen (with_item one seen)) (le-ltb (keys.rank x) (least (map keys.rank ys)) (omega arith))
         ∙ cond-false (nat_lt (least (map keys.rank ys)) (keys.rank x)) seen (with_item one seen) (le-ltb (least (map keys.rank ys)) (keys.rank x) (omega arith))
         ∙ item-one keys x p (least (map keys.rank ys)) (lowest keys.rank ys) e same
-        ∙ same_item keys p (least (map keys.rank ys)) (least (map keys.rank (ys ++ x ∷ []))) (lowest keys.rank ys ++ x ∷ []) (lowest keys.rank (ys ++ x ∷ [])) left (sym (lowest-same keys.rank ys x same))
+        ∙ same_item keys p (least (map keys.rank ys)) (least (map keys.rank (ys ++ x ∷ []))) (lowest keys.rank ys ++ x ∷ []) (lowest keys.rank (ys ++ x ∷ [])) left (sym (lowest-same keys.rank ranks ys x same))
     by (inr (inl below)) =
         let one = alone keys x in
         let seen = at_class keys p ys in
@@ -125,30 +125,31 @@ class-one keys x p ys e = by (cases_order (keys.rank x) (least (map keys.rank ys
         cond-true (nat_lt (keys.rank x) (least (map keys.rank ys))) one (cond (nat_lt (least (map keys.rank ys)) (keys.rank x)) seen (with_item one seen)) (lt-ltb (keys.rank x) (least (map keys.rank ys)) below)
         ∙ alone-item keys x
         ∙ ap (λ n. at_item keys n (keys.rank x) (x ∷ [])) e
-        ∙ same_item keys p (keys.rank x) (least (map keys.rank (ys ++ x ∷ []))) (x ∷ []) (lowest keys.rank (ys ++ x ∷ [])) left (sym (lowest-below keys.rank ys x below))
+        ∙ same_item keys p (keys.rank x) (least (map keys.rank (ys ++ x ∷ []))) (x ∷ []) (lowest keys.rank (ys ++ x ∷ [])) left (sym (lowest-below keys.rank ranks ys x below))
     by (inr (inr above)) =
         let one = alone keys x in
         let seen = at_class keys p ys in
         let left : least (map keys.rank ys) ≡ least (map keys.rank (ys ++ x ∷ [])) = omega (arith, least-append keys.rank ys x) in
         cond-false (nat_lt (keys.rank x) (least (map keys.rank ys))) one (cond (nat_lt (least (map keys.rank ys)) (keys.rank x)) seen (with_item one seen)) (le-ltb (keys.rank x) (least (map keys.rank ys)) (omega arith))
         ∙ cond-true (nat_lt (least (map keys.rank ys)) (keys.rank x)) seen (with_item one seen) (lt-ltb (least (map keys.rank ys)) (keys.rank x) above)
-        ∙ same_item keys p (least (map keys.rank ys)) (least (map keys.rank (ys ++ x ∷ []))) (lowest keys.rank ys) (lowest keys.rank (ys ++ x ∷ [])) left (sym (lowest-above keys.rank ys x above))
+        ∙ same_item keys p (least (map keys.rank ys)) (least (map keys.rank (ys ++ x ∷ []))) (lowest keys.rank ys) (lowest keys.rank (ys ++ x ∷ [])) left (sym (lowest-above keys.rank ranks ys x above))
 
 -- one tuple, by the last two filters
-alone-class : {A : Type 0} (keys : Keys A) (x : A) → keys.rank x ≤ 3 → alone keys x ≡ at_class keys (keys.precedence x) (x ∷ [])
-alone-class keys x within =
+alone-class : {A : Type 0} (keys : Keys A) → ((y : A) → keys.rank y ≤ 3) → (x : A) → alone keys x ≡ at_class keys (keys.precedence x) (x ∷ [])
+alone-class keys ranks x =
+    let within = ranks x in
     let left : keys.rank x ≡ least (map keys.rank (x ∷ [])) = omega arith in
     let whole : lowest keys.rank (x ∷ []) ≡ x ∷ [] = elim (cases_order (keys.rank x) 3) [
-      | inl same ↦ lowest-same keys.rank [] x same
-      | inr (inl below) ↦ lowest-below keys.rank [] x below
+      | inl same ↦ lowest-same keys.rank ranks [] x same
+      | inr (inl below) ↦ lowest-below keys.rank ranks [] x below
       | inr (inr above) ↦ absurd (omega arith)
     ] in
     alone-item keys x ∙ same_item keys (keys.precedence x) (keys.rank x) (least (map keys.rank (x ∷ []))) (x ∷ []) (lowest keys.rank (x ∷ [])) left (sym whole)
 
 -- all three
-pub with_one-standing : {A : Type 0} (keys : Keys A) (x : A) (xs : List A) → keys.rank x ≤ 3
+pub with_one-standing : {A : Type 0} (keys : Keys A) → ((y : A) → keys.rank y ≤ 3) → (x : A) (xs : List A)
     → with_one (alone keys x) (standing keys xs) ≡ standing keys (xs ++ x ∷ [])
-with_one-standing keys x xs within = by (cases_order (keys.precedence x) (greatest (map keys.precedence xs)))
+with_one-standing keys ranks x xs = by (cases_order (keys.precedence x) (greatest (map keys.precedence xs)))
   where
     by : ((keys.precedence x ≡ greatest (map keys.precedence xs)) ⊎ ((keys.precedence x < greatest (map keys.precedence xs)) ⊎ (greatest (map keys.precedence xs) < keys.precedence x)))
         → with_one (alone keys x) (standing keys xs) ≡ standing keys (xs ++ x ∷ [])
@@ -159,7 +160,7 @@ with_one-standing keys x xs within = by (cases_order (keys.precedence x) (greate
         let left : greatest (map keys.precedence xs) ≡ greatest (map keys.precedence (xs ++ x ∷ [])) = omega (arith, greatest-append keys.precedence xs x) in
         cond-false (nat_lt top (keys.precedence x)) one (cond (nat_lt (keys.precedence x) top) seen (with_class one seen)) (le-ltb top (keys.precedence x) (omega arith))
         ∙ cond-false (nat_lt (keys.precedence x) top) seen (with_class one seen) (le-ltb (keys.precedence x) top (omega arith))
-        ∙ class-one keys x top (highest keys.precedence xs) same
+        ∙ class-one keys ranks x top (highest keys.precedence xs) same
         ∙ same_class keys top (greatest (map keys.precedence (xs ++ x ∷ []))) (highest keys.precedence xs ++ x ∷ []) (highest keys.precedence (xs ++ x ∷ [])) left (sym (highest-same keys.precedence xs x same))
     by (inr (inl below)) =
         let one = alone keys x in
@@ -175,16 +176,16 @@ with_one-standing keys x xs within = by (cases_order (keys.precedence x) (greate
         let top = greatest (map keys.precedence xs) in
         let left : keys.precedence x ≡ greatest (map keys.precedence (xs ++ x ∷ [])) = omega (arith, greatest-append keys.precedence xs x) in
         cond-true (nat_lt top (keys.precedence x)) one (cond (nat_lt (keys.precedence x) top) seen (with_class one seen)) (lt-ltb top (keys.precedence x) above)
-        ∙ alone-class keys x within
+        ∙ alone-class keys ranks x
         ∙ same_class keys (keys.precedence x) (greatest (map keys.precedence (xs ++ x ∷ []))) (x ∷ []) (highest keys.precedence (xs ++ x ∷ [])) left (sym (highest-above keys.precedence xs x above))
 
 -- one tuple weighed after others
-weighed-one : {A : Type 0} (keys : Keys A) (passes : A → Bool) (front : List A) (x : A) → keys.rank x ≤ 3
+weighed-one : {A : Type 0} (keys : Keys A) (passes : A → Bool) → ((y : A) → keys.rank y ≤ 3) → (front : List A) (x : A)
     → weighed keys passes (standing keys (filter passes front)) x ≡ standing keys (filter passes (front ++ x ∷ []))
-weighed-one keys passes front x within = elim (cases_Bool (passes x)) [
+weighed-one keys passes ranks front x = elim (cases_Bool (passes x)) [
   | inl e ↦
       cond-true (passes x) (with_one (alone keys x) (standing keys (filter passes front))) (standing keys (filter passes front)) e
-      ∙ with_one-standing keys x (filter passes front) within
+      ∙ with_one-standing keys ranks x (filter passes front)
       ∙ ap (standing keys) (sym (filter-append passes front (x ∷ []) ∙ ap (λ ys. filter passes front ++ ys) (cond-true (passes x) (x ∷ []) [] e)))
   | inr e ↦
       cond-false (passes x) (with_one (alone keys x) (standing keys (filter passes front))) (standing keys (filter passes front)) e
@@ -192,14 +193,14 @@ weighed-one keys passes front x within = elim (cases_Bool (passes x)) [
 ]
 
 -- all of them
-pub fold-weighed-from : {A : Type 0} (keys : Keys A) (passes : A → Bool) → ((x : A) → keys.rank x ≤ 3) → (front xs : List A)
+pub fold-weighed-from : {A : Type 0} (keys : Keys A) (passes : A → Bool) → ((y : A) → keys.rank y ≤ 3) → (front xs : List A)
     → fold (weighed keys passes) (standing keys (filter passes front)) xs ≡ standing keys (filter passes (front ++ xs))
-fold-weighed-from keys passes within front [] = ap (λ ys. standing keys (filter passes ys)) (sym (append-nil front))
-fold-weighed-from keys passes within front (x ∷ xs) =
-    ap (λ seen. fold (weighed keys passes) seen xs) (weighed-one keys passes front x (within x))
-    ∙ fold-weighed-from keys passes within (front ++ x ∷ []) xs
+fold-weighed-from keys passes ranks front [] = ap (λ ys. standing keys (filter passes ys)) (sym (append-nil front))
+fold-weighed-from keys passes ranks front (x ∷ xs) =
+    ap (λ seen. fold (weighed keys passes) seen xs) (weighed-one keys passes ranks front x)
+    ∙ fold-weighed-from keys passes ranks (front ++ x ∷ []) xs
     ∙ ap (λ ys. standing keys (filter passes ys)) (append_assoc front (x ∷ []) xs)
 
-pub fold-weighed : {A : Type 0} (keys : Keys A) (passes : A → Bool) → ((x : A) → keys.rank x ≤ 3) → (xs : List A)
+pub fold-weighed : {A : Type 0} (keys : Keys A) (passes : A → Bool) → ((y : A) → keys.rank y ≤ 3) → (xs : List A)
     → fold (weighed keys passes) initial xs ≡ standing keys (filter passes xs)
-fold-weighed keys passes within xs = fold-weighed-from keys passes within [] xs
+fold-weighed keys passes ranks xs = fold-weighed-from keys passes ranks [] xs

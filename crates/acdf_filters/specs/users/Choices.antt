@@ -1,6 +1,6 @@
 -- Which elements of a list are chosen by a key: those of its greatest or of its least value, and those that pass a test
 -- if any does.
-use Rattle.std.specs.Prelude.{ℕ, ◌==◌, max, min, Bool, true, false, List, [], ◌∷◌, map, filter, if◌then◌else◌}
+use Rattle.std.specs.Prelude.{ℕ, nat_lt, max, min, Bool, true, false, not, List, [], ◌∷◌, filter, if◌then◌else◌}
 use Rattle.std.specs.List.{list_any}
 
 -- the greatest of numbers; 0 of none
@@ -13,13 +13,13 @@ abbrev pub least : List ℕ → ℕ
 least [] = 3
 least (n ∷ ns) = min n (least ns)
 
--- those of the greatest key
+-- those than which none has a greater key
 abbrev pub highest : {A : Type 0} → (A → ℕ) → List A → List A
-highest key xs = filter (λ x. key x == greatest (map key xs)) xs
+highest key xs = filter (λ x. not (list_any (λ y. nat_lt (key x) (key y)) xs)) xs
 
--- those of the least key
+-- those than which none has a smaller key
 abbrev pub lowest : {A : Type 0} → (A → ℕ) → List A → List A
-lowest key xs = filter (λ x. key x == least (map key xs)) xs
+lowest key xs = filter (λ x. not (list_any (λ y. nat_lt (key y) (key x)) xs)) xs
 
 -- those that pass the test, if any does; otherwise all
 abbrev pub passing_or_all : {A : Type 0} → (A → Bool) → List A → List A

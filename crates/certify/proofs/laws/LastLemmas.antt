@@ -7,6 +7,7 @@ use Rattle.acdf_filters.specs.Asking.{Asked}
 use Rattle.acdf_filters.specs.users.Choices.{greatest, least, is_filled}
 use Rattle.acdf_filters.specs.Covering.{covers, is_explicit}
 use Rattle.acdf_filters.specs.Filters.{Placed, stays, rank, permits, left_by_users, left_by_item, left_by_permission, left_by_precedence, left_by_class, left_by_explicit, decided}
+use Rattle.acdf_filters.proofs.Theorems.{left_by_precedence-greatest, left_by_class-least}
 use Rattle.certify.specs.LastFilter.{last_filter_by, last_filter, decisive_tuples}
 use Rattle.certify.proofs.ListLemmas.{filter-agree}
 use Rattle.certify.proofs.laws.NumberTests.{at_least_1, at_least_2, at_least_3, at_least_4, at_least_5, at_least_6, at_least_all, is_greatest}
@@ -91,6 +92,17 @@ low asked xs = least (map (λ y. rank y.listed.tuple y.ranks) (left_by_precedenc
 abbrev any_explicit : Asked → List Placed → Bool
 any_explicit asked xs = list_any (sixth asked) (left_by_class asked xs)
 
+-- by these the fourth filter leaves what it leaves, and so does the fifth
+left-precedence : (asked : Asked) (xs : List Placed) → at_least 4 asked (top asked xs) (low asked xs) (any_explicit asked xs) xs ≡ left_by_precedence asked xs
+left-precedence asked xs =
+    precedence-by asked (top asked xs) (low asked xs) (any_explicit asked xs) xs ∙ sym (left_by_precedence-greatest asked xs)
+
+left-class : (asked : Asked) (xs : List Placed) → at_least 5 asked (top asked xs) (low asked xs) (any_explicit asked xs) xs ≡ left_by_class asked xs
+left-class asked xs =
+    class-by asked (top asked xs) (low asked xs) (any_explicit asked xs) xs
+    ∙ ap (filter (fifth (low asked xs))) (sym (left_by_precedence-greatest asked xs))
+    ∙ sym (left_by_class-least asked xs)
+
 -- those of each number or more
 pub numbered-users : (asked : Asked) (xs : List Placed) → filter (λ x. nat_le 1 (last_filter asked xs x)) xs ≡ left_by_users asked xs
 unfolding last_filter
@@ -106,17 +118,16 @@ numbered-permission asked xs = permission-by asked (top asked xs) (low asked xs)
 
 pub numbered-precedence : (asked : Asked) (xs : List Placed) → filter (λ x. nat_le 4 (last_filter asked xs x)) xs ≡ left_by_precedence asked xs
 unfolding last_filter
-numbered-precedence asked xs = precedence-by asked (top asked xs) (low asked xs) (any_explicit asked xs) xs
+numbered-precedence asked xs = left-precedence asked xs
 
 pub numbered-class : (asked : Asked) (xs : List Placed) → filter (λ x. nat_le 5 (last_filter asked xs x)) xs ≡ left_by_class asked xs
 unfolding last_filter
-numbered-class asked xs = class-by asked (top asked xs) (low asked xs) (any_explicit asked xs) xs
+numbered-class asked xs = left-class asked xs
 
 pub numbered-explicit : (asked : Asked) (xs : List Placed) → filter (λ x. nat_le 6 (last_filter asked xs x)) xs ≡ left_by_explicit asked xs
 unfolding last_filter
 numbered-explicit asked xs =
-    explicit-by asked (top asked xs) (low asked xs) (any_explicit asked xs) xs (left_by_class asked xs)
-    (class-by asked (top asked xs) (low asked xs) (any_explicit asked xs) xs)
+    explicit-by asked (top asked xs) (low asked xs) (any_explicit asked xs) xs (left_by_class asked xs) (left-class asked xs)
 
 -- those of the last number decide
 decisive : (asked : Asked) (precedence class : ℕ) (any : Bool) (xs : List Placed)

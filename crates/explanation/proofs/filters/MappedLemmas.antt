@@ -1,8 +1,9 @@
 -- Filters of a list, and of what is said of each of its elements.
-use Rattle.std.proofs.Common.{◌≡◌, ℕ, suc, ◌≤◌, ◌==◌, Bool, true, false, ◌&&◌, ◌||◌, List, [], ◌∷◌, length, map, filter, refl, sym, ap, ◌∙◌, arith}
-use Rattle.std.specs.Prelude.{min, if◌then◌else◌}
+use Rattle.std.proofs.Common.{◌≡◌, ℕ, suc, Bool, true, false, not, ◌&&◌, ◌||◌, List, [], ◌∷◌, length, map, filter, refl, sym, ap, ◌∙◌}
+use Rattle.std.specs.Prelude.{nat_lt, if◌then◌else◌}
 use Rattle.std.specs.List.{list_any, list_all}
-use Rattle.acdf_filters.specs.users.Choices.{greatest, least, highest, lowest, passing_or_all, is_filled}
+use Rattle.std.proofs.lemmas.List.Elements.{filter_agree}
+use Rattle.acdf_filters.specs.users.Choices.{highest, lowest, passing_or_all, is_filled}
 use Rattle.explanation.specs.declared.facts.Facts.{Facts}
 use Rattle.explanation.specs.Candidates.{staying, covering, permitted, foremost, most_specific, deciding}
 use Rattle.dir_tree.proofs.base_laws_proofs.Theorems.{filter-map}
@@ -19,19 +20,21 @@ same_length f g xs ys e = sym (counted f xs) ∙ ap length e ∙ counted g ys
     counted h [] = refl
     counted h (z ∷ zs) = ap suc (counted h zs)
 
-highest-mapped : {A B : Type 0} (f : A → B) (key : B → ℕ) (xs : List A) → map f (highest (λ x. key (f x)) xs) ≡ highest key (map f xs)
-highest-mapped f key xs =
-    filter-map f (λ y. key y == greatest (map (λ x. key (f x)) xs)) xs
-    ∙ ap (λ keys. filter (λ y. key y == greatest keys) (map f xs)) (map-both f key xs)
-
-lowest-mapped : {A B : Type 0} (f : A → B) (key : B → ℕ) (xs : List A) → map f (lowest (λ x. key (f x)) xs) ≡ lowest key (map f xs)
-lowest-mapped f key xs =
-    filter-map f (λ y. key y == least (map (λ x. key (f x)) xs)) xs
-    ∙ ap (λ keys. filter (λ y. key y == least keys) (map f xs)) (map-both f key xs)
-
 any-mapped : {A B : Type 0} (f : A → B) (p : B → Bool) (xs : List A) → list_any (λ x. p (f x)) xs ≡ list_any p (map f xs)
 any-mapped f p [] = refl
 any-mapped f p (x ∷ xs) = ap (λ b. p (f x) || b) (any-mapped f p xs)
+
+highest-mapped : {A B : Type 0} (f : A → B) (key : B → ℕ) (xs : List A) → map f (highest (λ x. key (f x)) xs) ≡ highest key (map f xs)
+highest-mapped f key xs =
+    filter-map f (λ y. not (list_any (λ z. nat_lt (key y) (key (f z))) xs)) xs
+    ∙ filter_agree (λ y. not (list_any (λ z. nat_lt (key y) (key (f z))) xs)) (λ y. not (list_any (λ z. nat_lt (key y) (key z)) (map f xs)))
+    (λ y. ap not (any-mapped f (λ z. nat_lt (key y) (key z)) xs)) (map f xs)
+
+lowest-mapped : {A B : Type 0} (f : A → B) (key : B → ℕ) (xs : List A) → map f (lowest (λ x. key (f x)) xs) ≡ lowest key (map f xs)
+lowest-mapped f key xs =
+    filter-map f (λ y. not (list_any (λ z. nat_lt (key (f z)) (key y)) xs)) xs
+    ∙ filter_agree (λ y. not (list_any (λ z. nat_lt (key (f z)) (key y)) xs)) (λ y. not (list_any (λ z. nat_lt (key z) (key y)) (map f xs)))
+    (λ y. ap not (any-mapped f (λ z. nat_lt (key z) (key y)) xs)) (map f xs)
 
 passing-mapped : {A B : Type 0} (f : A → B) (p : B → Bool) (xs : List A) → map f (passing_or_all (λ x. p (f x)) xs) ≡ passing_or_all p (map f xs)
 passing-mapped f p xs =
@@ -79,11 +82,3 @@ all-mapped f g (x ∷ xs) = ap (λ b. g (f x) && b) (all-mapped f g xs)
 pub granting-mapped : {A B : Type 0} (f : A → B) (g : B → Bool) (xs : List A) → (is_filled (map f xs) && list_all g (map f xs)) ≡ (is_filled xs && list_all (λ x. g (f x)) xs)
 granting-mapped f g [] = refl
 granting-mapped f g (x ∷ xs) = ap (λ b. g (f x) && b) (all-mapped f g xs)
-
--- the least of ranks is at most 3
-pub least-most : (ns : List ℕ) → least ns ≤ 3
-least-most [] = omega arith
-least-most (n ∷ ns) = let later = least-most ns in omega arith
-
-pub min_of_most : (ns : List ℕ) → min 3 (least ns) ≡ least ns
-min_of_most ns = let most = least-most ns in omega arith
