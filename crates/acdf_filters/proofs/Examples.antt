@@ -165,7 +165,7 @@ a_denial_wins : decided ada_reads (at (tuple everyone whole true 10) (3 ∷ []) 
 unfolding decided covers is_explicit
 a_denial_wins = refl
 
--- keys choose whatever their bound: of 5 and 7 the one with 5 is the lowest
+-- of keys that are all above 3 the least and the greatest choose too
 abbrev itself : ℕ → ℕ
 itself key = key
 

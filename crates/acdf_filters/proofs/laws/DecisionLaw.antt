@@ -23,7 +23,7 @@ least-within : (ns : List ℕ) → least ns ≤ 3
 least-within [] = omega arith
 least-within (n ∷ ns) = let later = least-within ns in omega arith
 
--- of a tuple too
+-- the rank of a tuple is at most 3
 rank-within : (x : Placed) → rank x.listed.tuple x.ranks ≤ 3
 rank-within x = least-within (if is_filled x.ranks then x.ranks else listed_ranks x.listed.tuple.classes)
 
