@@ -34,6 +34,8 @@ pub(crate) struct Connection {
     // it was heard that the connection ended
     is_ended: bool,
     is_on_hold: bool,
+    // octets were offered that wait for the disk
+    is_put_off: bool,
     is_lost: bool,
 }
 
@@ -53,6 +55,7 @@ impl Connection {
             is_idle: false,
             is_ended: false,
             is_on_hold: false,
+            is_put_off: false,
             is_lost: false,
         }
     }
@@ -131,7 +134,16 @@ impl Connection {
             None
         } else if !self.is_on_hold {
             self.listen(now, buf)
-        } else if self.may_write {
+        } else {
+            self.hear_ready()
+        }
+    }
+
+    /// On hold, that it may take octets again, unless it waits for the disk.
+    pub(crate) fn hear_ready(&self) -> Option<Heard>
+        ensures fits { (len : ℕ) → IfSome result (HeardFits len) }
+    {
+        if self.is_on_hold && self.may_write && !self.is_put_off {
             Some(Heard::Ready(self.number))
         } else {
             None
@@ -221,6 +233,23 @@ impl Connection {
                 Heard::Ended(self.number)
             }
         }
+    }
+
+    /// Notes that octets were offered that wait for the disk: until it is let go it isn't heard that it may
+    /// take some.
+    pub(crate) fn put_off(&mut self) {
+        self.is_put_off = true;
+    }
+
+    /// Lets it go, and says whether it waited for the disk: then it is offered octets again, whatever the
+    /// system took of it before.
+    pub(crate) fn let_go(&mut self) -> bool {
+        if !self.is_put_off {
+            return false;
+        }
+        self.is_put_off = false;
+        self.may_write = true;
+        true
     }
 
     /// Offers octets. Where the system took none before, it isn't asked again until it reports that it

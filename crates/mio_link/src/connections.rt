@@ -160,6 +160,24 @@ impl Connections {
         }
     }
 
+    /// Notes that octets for the connection of the number wait for the disk.
+    pub(crate) fn put_off(&mut self, number: u32) {
+        if let Some(connection) = self.of(number) {
+            connection.put_off();
+        }
+    }
+
+    /// Lets the connections go that wait for the disk, and adds their places.
+    pub(crate) fn let_go(&mut self, places: &mut Ready) {
+        for place in 0..PLACES {
+            if let Some(connection) = self.at(place) {
+                if connection.let_go() {
+                    places.add(place);
+                }
+            }
+        }
+    }
+
     /// Notes what the system reports of the place.
     pub(crate) fn note(&mut self, place: usize, event: &Event) {
         if let Some(connection) = self.at(place) {
@@ -174,6 +192,16 @@ impl Connections {
     {
         match self.at(place) {
             Some(connection) => connection.hear(now, buf),
+            None => None,
+        }
+    }
+
+    /// Whether it is to be heard of the place that its connection, on hold, may take octets again.
+    pub(crate) fn hear_ready(&mut self, place: usize) -> Option<Heard>
+        ensures fits { (len : ℕ) → IfSome result (HeardFits len) }
+    {
+        match self.at(place) {
+            Some(connection) => connection.hear_ready(),
             None => None,
         }
     }

@@ -1,6 +1,8 @@
 //! The link over the system's sockets, and a file of the system.
 
-ghost use Rattle.std.specs.Prelude.{◌≡◌, IfOk};
+ghost use Rattle.std.specs.Prelude.{◌≡◌, ◌<◌, length, true, IfOk};
+ghost use Rattle.wire_io.specs.Answers.{TookFits};
+ghost use Rattle.mio_link.specs.Store.{awaits_disk};
 ghost use Rattle.mio_link.specs.SystemLink.{link_faults, lost_connections};
 
 use crate::sockets::Sockets;
@@ -44,6 +46,24 @@ impl<R: Net + Drop> MioLink<R> {
     }
 }
 
+impl<R> MioLink<R> {
+    /// Offers octets for the connection, but none before the disk has all that was stored.
+    fn offer(&mut self, conn: u32, bytes: &[u8]) -> Took
+        requires { 0 < length bytes.now }
+        ensures later { awaits_disk self.old.store ≡ true → result ≡ Took.Later }
+        ensures fits { TookFits (length bytes.now) result }
+        // what stays
+        ensures counts { (self.new.faults ≡ self.old.faults) × (self.new.lost ≡ self.old.lost) }
+        ensures store { self.new.store ≡ self.old.store }
+    {
+        if self.store.awaits_disk() {
+            self.sockets.put_off(conn)
+        } else {
+            self.sockets.write(conn, bytes)
+        }
+    }
+}
+
 impl<R: Net + Clock + Files<File = File>> Link for MioLink<R> {
     ghost use Rattle.std.specs.Prelude.{None};
 
@@ -74,12 +94,12 @@ impl<R: Net + Clock + Files<File = File>> Link for MioLink<R> {
     }
 
     /// Opens the file of the name, which keeps its mode, or makes one that its owner alone may read and write
-    /// (mode 0600), and locks it until the link is dropped. `Failed` comes besides where another process has it
-    /// locked, where it has fewer octets than that, where a store was opened before, and always after a fault of
-    /// the store.
+    /// (mode 0600), locks it until the link is dropped, and has it and its folder on the disk. `Failed` comes
+    /// besides where another process has it locked, where a store was opened before, and always after a fault
+    /// of the store.
     #[tactic(auto, unfolding(wire_io::specs::link::Telling::StoreOpenTells, wire_io::specs::Answers::LinkCause, wire_io::specs::Answers::IsPlanned))]
-    fn open_store(&mut self, name: &str, length: u64) -> Result<(), NextFault> {
-        match self.store.open(&self.rt, name, length) {
+    fn open_store(&mut self, name: &str) -> Result<(), NextFault> {
+        match self.store.open(&self.rt, name) {
             Ok(()) => Ok(()),
             Err(error) if error.kind() == ErrorKind::OutOfMemory => Err(NextFault::NoMemory),
             Err(_) => {
@@ -89,9 +109,21 @@ impl<R: Net + Clock + Files<File = File>> Link for MioLink<R> {
         }
     }
 
-    /// Appends the octets, and waits until the disk has them. Want of memory of the system is `Failed` too,
-    /// since a front of the octets may be there. After a fault nothing is written any more, and every later
-    /// call is a fault.
+    /// Cuts the file, and waits until the disk has it. `Failed` comes besides where it has fewer octets than
+    /// that, and where no store is open. After a fault nothing is written any more, and every later call of
+    /// the store is a fault.
+    #[tactic(auto, unfolding(wire_io::specs::link::Telling::NoteTells, wire_io::specs::Answers::LinkCause, wire_io::specs::Answers::IsPlanned))]
+    fn cut_store(&mut self, length: u64) -> Result<(), NextFault> {
+        if self.store.cut(length).is_ok() {
+            return Ok(());
+        }
+        self.faults = raised(self.faults);
+        Err(NextFault::Failed)
+    }
+
+    /// Appends the octets to the file; the disk has them once `sync_store` has waited for it. Want of memory
+    /// of the system is `Failed` too, since a front of the octets may be there. After a fault nothing is
+    /// written any more, and every later call of the store is a fault.
     #[tactic(auto, unfolding(wire_io::specs::link::Telling::NoteTells, wire_io::specs::Answers::LinkCause, wire_io::specs::Answers::IsPlanned))]
     fn store(&mut self, octets: &[u8]) -> Result<(), NextFault> {
         if self.store.append(octets).is_ok() {
@@ -101,13 +133,31 @@ impl<R: Net + Clock + Files<File = File>> Link for MioLink<R> {
         Err(NextFault::Failed)
     }
 
-    /// Waits for the next event; Stop once as many connections ended as there were to be sessions.
+    /// Where octets were stored since the last wait for the disk, waits until it has them, and then lets the
+    /// connections go for which octets were put off. The wait is put off while `next` may give an event at
+    /// once, up to 256 times.
+    #[tactic(auto, unfolding(wire_io::specs::Answers::LinkCause, wire_io::specs::Answers::IsPlanned))]
+    fn sync_store(&mut self) -> Result<(), NextFault> {
+        if !self.store.awaits_disk() || (self.sockets.have_some() && self.store.put_off()) {
+            return Ok(());
+        }
+        if self.store.sync().is_ok() {
+            self.sockets.let_go();
+            return Ok(());
+        }
+        self.faults = raised(self.faults);
+        Err(NextFault::Failed)
+    }
+
+    /// Waits for the next event; Stop once as many connections ended as there were to be sessions. While the
+    /// disk is waited for, Idle comes at once where there is no event.
     #[tactic(auto, unfolding(wire_io::specs::link::Telling::NextTells, wire_io::specs::Playing::NextPlays, wire_io::specs::Answers::LinkCause, wire_io::specs::Answers::IsPlanned))]
     fn next(&mut self, buf: &mut [u8]) -> Result<Heard, NextFault> {
         if self.sockets.are_done() {
             return Ok(Heard::Stop);
         }
-        match self.sockets.next(&self.rt, buf) {
+        let may_wait = !self.store.awaits_disk();
+        match self.sockets.next(&self.rt, may_wait, buf) {
             Ok(heard) => Ok(heard),
             Err(error) if error.kind() == ErrorKind::OutOfMemory => Err(NextFault::NoMemory),
             Err(_) => {
@@ -117,10 +167,12 @@ impl<R: Net + Clock + Files<File = File>> Link for MioLink<R> {
         }
     }
 
-    /// Offers octets; a connection that was reset, or whose peer takes no more, is lost.
+    /// Offers octets; a connection that was reset, or whose peer takes no more, is lost. Until the disk has
+    /// all that was stored none are taken, and after a fault of the store none any more: Later then, and once
+    /// the disk has it Ready, where the connection is on hold.
     #[tactic(auto, unfolding(wire_io::specs::link::Telling::TookTells, wire_io::specs::Answers::WriteCause, wire_io::specs::Answers::IsPlanned))]
     fn write(&mut self, conn: u32, bytes: &[u8]) -> Took {
-        let took = self.sockets.write(conn, bytes);
+        let took = self.offer(conn, bytes);
         if took == Took::Gone {
             self.lost = raised(self.lost);
         }

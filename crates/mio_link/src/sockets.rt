@@ -1,7 +1,7 @@
 //! All sockets of a link: events are found by going around the places of which something may be heard,
 //! the listening socket being one place beside those of connections.
 
-ghost use Rattle.std.specs.Prelude.{ℕ, ◌<◌, length, IfOk, IfSome};
+ghost use Rattle.std.specs.Prelude.{◌≡◌, ℕ, ◌<◌, length, IfOk, IfSome};
 ghost use Rattle.wire_io.specs.Answers.{HeardFits, TookFits};
 
 use crate::connection::Connection;
@@ -32,6 +32,8 @@ pub(crate) struct Sockets {
     events: Events,
     // the places that were reported or changed, and not asked in vain since
     ready: Ready,
+    // the places of connections that were let go, and weren't told so yet
+    untold: Ready,
     // the place behind the one that was asked last
     cursor: usize,
     // how many events were heard since the system was asked
@@ -61,6 +63,7 @@ impl Sockets {
             connections: Connections::new(alloc)?,
             events: Events::with_capacity(alloc, PLACES + 1)?,
             ready: Ready::new(),
+            untold: Ready::new(),
             cursor: 0,
             heard: 0,
             number: Some(1),
@@ -97,9 +100,20 @@ impl Sockets {
         self.sessions > 0 && self.sessions <= self.ended
     }
 
-    /// The next event: one that can be had now, or one that the system reports next; Idle where its
-    /// reports bring none.
-    pub(crate) fn next<R: Clock>(&mut self, rt: &R, buf: &mut [u8]) -> io::Result<Heard>
+    /// Whether an event may be had now without asking the system.
+    pub(crate) fn have_some(&self) -> bool {
+        let may_hear = self.ready.next(0).is_some() || self.untold.next(0).is_some();
+        may_hear && !self.are_done()
+    }
+
+    /// The next event: one that can be had now, or one that the system has reported by now; where none can,
+    /// and it may be waited for, one that the system reports next. Idle where its reports bring none.
+    pub(crate) fn next<R: Clock>(
+        &mut self,
+        rt: &R,
+        may_wait: bool,
+        buf: &mut [u8],
+    ) -> io::Result<Heard>
         requires room { 0 < length buf.old }
         ensures fits { IfOk result (HeardFits (length buf.new)) }
     {
@@ -109,7 +123,11 @@ impl Sockets {
         if let Some(heard) = self.hear(buf) {
             return Ok(heard);
         }
-        self.wait(rt)?;
+        if may_wait {
+            self.wait(rt)?;
+        } else {
+            self.look(rt)?;
+        }
         match self.hear(buf) {
             Some(heard) => Ok(heard),
             None => Ok(Heard::Idle),
@@ -128,14 +146,18 @@ impl Sockets {
         }
     }
 
-    /// An event that can be had now: the places are asked in turn, from the one behind the last. One of
-    /// which nothing is to be heard isn't asked again before it is reported or changed.
+    /// An event that can be had now: first that connections which were let go may take octets, so that none
+    /// is put off again before; then the places are asked in turn, from the one behind the last. One of which
+    /// nothing is to be heard isn't asked again before it is reported or changed.
     fn hear(&mut self, buf: &mut [u8]) -> Option<Heard>
         requires room { 0 < length buf.old }
         ensures fits { IfSome result (HeardFits (length buf.new)) }
     {
         self.heard = self.heard.saturating_add(1);
         self.now.turn = self.now.turn.saturating_add(1);
+        if let Some(heard) = self.hear_let_go() {
+            return Some(heard);
+        }
         for _ in 0..PLACES + 1 {
             let place = self.ready.next(self.cursor)?;
             self.cursor = place.saturating_add(1);
@@ -143,6 +165,21 @@ impl Sockets {
                 return Some(heard);
             }
             self.ready.remove(place);
+        }
+        None
+    }
+
+    /// Of the connections that were let go, the next that is still on hold may take octets.
+    fn hear_let_go(&mut self) -> Option<Heard>
+        ensures fits { (len : ℕ) → IfSome result (HeardFits len) }
+    {
+        for _ in 0..PLACES {
+            let place = self.untold.next(0)?;
+            self.untold.remove(place);
+            if let Some(ready) = self.connections.hear_ready(place) {
+                self.ready.add(place);
+                return Some(ready);
+            }
         }
         None
     }
@@ -275,6 +312,20 @@ impl Sockets {
         ensures fits { TookFits (length bytes.now) result }
     {
         self.connections.write(number, self.now, bytes)
+    }
+
+    /// Takes no octets for the connection now, since the disk is waited for.
+    pub(crate) fn put_off(&mut self, number: u32) -> Took
+        ensures later { result ≡ Took.Later }
+    {
+        self.connections.put_off(number);
+        Took::Later
+    }
+
+    /// Lets the connections go for which octets were put off: those on hold are told first that they may take
+    /// some.
+    pub(crate) fn let_go(&mut self) {
+        self.connections.let_go(&mut self.untold);
     }
 
     /// Puts the connection on hold, or releases it.

@@ -1,10 +1,11 @@
 //! The file to which octets are appended that have to last.
 
-ghost use Rattle.std.specs.Prelude.{◌≡◌, true, OnErr, OnOk};
-ghost use Rattle.mio_link.specs.Store.{is_open};
+ghost use Rattle.std.specs.Prelude.{◌≡◌, true, false, IfSome, OnErr, OnOk};
+ghost use Rattle.mio_link.specs.Store.{is_open, awaits_disk};
 
 use std::fs::{File, OpenOptions};
 use std::io::{ErrorKind, Write};
+use std::mem::replace;
 use std::os::fd::AsRawFd;
 use std::os::unix::fs::OpenOptionsExt;
 use std::path::Path;
@@ -17,29 +18,29 @@ const OWNER_ALONE: u32 = 0o600;
 /// The last of the numbers of the standard streams.
 const LAST_STANDARD: i32 = 2;
 
+/// How often the wait for the disk is put off at most.
+const MOST_PUT_OFF: u32 = 256;
+
 /// A store. After a call of it failed none does anything, since the system may have dropped what it could
 /// not write, and say so once.
 #[derive(Drop)]
 pub(crate) enum Store {
     /// No file was named.
     Unopened,
-    /// Octets are appended to the file, which nobody else has locked.
+    /// Octets are appended to the file, which nobody else has locked, and the disk has all of them.
     Open(File),
+    /// Octets were appended to it that the disk may not have yet, and so often the wait for it was put off.
+    Pending { file: File, put_off: u32 },
     /// A call failed.
     Failed,
 }
 
 impl Store {
-    /// Opens the file of the name, or makes one that its owner alone may read and write; locks it, cuts it to
-    /// so many octets, and has it and its folder on the disk. A store opens once. Want of memory is told only
-    /// where no file was open yet, and then nothing was done; after every other error the store has failed. A
-    /// file with fewer octets is an error, and so is one that another process has locked.
-    pub(crate) fn open<R: Files<File = File>>(
-        &mut self,
-        rt: &R,
-        name: &str,
-        length: u64,
-    ) -> io::Result<()>
+    /// Opens the file of the name, or makes one that its owner alone may read and write; locks it, and has it
+    /// and its folder on the disk. A store opens once. Want of memory is told only where no file was open yet,
+    /// and then nothing was done; after every other error the store has failed. A file that another process
+    /// has locked is an error.
+    pub(crate) fn open<R: Files<File = File>>(&mut self, rt: &R, name: &str) -> io::Result<()>
         ensures once { OnOk result (self.old ≡ Store.Unopened) }
         ensures ok { OnOk result (is_open self.new ≡ true) }
         ensures failed { self.old ≡ Store.Failed → self.new ≡ Store.Failed }
@@ -48,43 +49,111 @@ impl Store {
             return Err(self.fail());
         };
         match opened(rt, name) {
-            Ok(file) => self.hold(rt, file, name, length),
+            Ok(file) => self.hold(rt, file, name),
             Err(error) if error.kind() == ErrorKind::OutOfMemory => Err(error),
             Err(_) => Err(self.fail()),
         }
     }
 
-    /// Appends to this file from now on, once it is locked and cut.
-    fn hold<R: Files<File = File>>(
-        &mut self,
-        rt: &R,
-        file: File,
-        name: &str,
-        length: u64,
-    ) -> io::Result<()>
+    /// Appends to this file from now on, once it is locked.
+    fn hold<R: Files<File = File>>(&mut self, rt: &R, file: File, name: &str) -> io::Result<()>
         ensures ok { OnOk result (is_open self.new ≡ true) }
         ensures err { OnErr result (self.new ≡ Store.Failed) }
     {
-        if cut(&file, length).is_err() || sync_folder(rt, name).is_err() {
+        if lock(&file).is_err() || sync_folder(rt, name).is_err() {
             return Err(self.fail());
         }
         *self = Store::Open(file);
         Ok(())
     }
 
-    /// Appends the octets; with Ok all of them are on the disk. A store that isn't open takes none. After an
-    /// error a front of them may be in the file, and the store has failed.
+    /// Cuts the file to so many octets, and has it on the disk. One with fewer is an error, and so is a store
+    /// that isn't open; after an error the store has failed.
+    pub(crate) fn cut(&mut self, length: u64) -> io::Result<()>
+        ensures ok { OnOk result (is_open self.old ≡ true) }
+        ensures kept { OnOk result (self.new ≡ self.old) }
+        ensures err { OnErr result (self.new ≡ Store.Failed) }
+    {
+        let is_cut = match self.file() {
+            Some(file) => cut(file, length).is_ok(),
+            None => false,
+        };
+        if is_cut { Ok(()) } else { Err(self.fail()) }
+    }
+
+    /// The file, where it is open.
+    fn file(&self) -> Option<&File>
+        ensures { IfSome result (λ file. is_open self.now ≡ true) }
+    {
+        match self {
+            Store::Open(file) | Store::Pending { file, .. } => Some(file),
+            Store::Unopened | Store::Failed => None,
+        }
+    }
+
+    /// Appends the octets, which the disk may not have before `sync`. A store that isn't open takes none.
+    /// After an error a front of them may be in the file, and the store has failed.
     pub(crate) fn append(&mut self, octets: &[u8]) -> io::Result<()>
         ensures ok { OnOk result (is_open self.old ≡ true) }
         ensures kept { OnOk result (is_open self.new ≡ true) }
+        ensures waits { OnOk result (awaits_disk self.new ≡ true) }
         ensures err { OnErr result (self.new ≡ Store.Failed) }
     {
-        if let Store::Open(file) = self {
-            if write(file, octets).is_ok() {
-                return Ok(());
+        let (mut file, put_off) = match replace(self, Store::Failed) {
+            Store::Open(file) => (file, 0),
+            Store::Pending { file, put_off } => (file, put_off),
+            Store::Unopened | Store::Failed => return Err(self.fail()),
+        };
+        file.write_all(octets)?;
+        *self = Store::Pending { file, put_off };
+        Ok(())
+    }
+
+    /// Whether octets were appended that the disk may not have, or that can't be known any more since a call
+    /// failed.
+    pub(crate) fn awaits_disk(&self) -> bool
+        ensures { result ≡ awaits_disk self.now }
+    {
+        match self {
+            Store::Unopened | Store::Open(_) => false,
+            Store::Pending { .. } | Store::Failed => true,
+        }
+    }
+
+    /// Puts the wait for the disk off, and says whether it did: it is put off so often at most.
+    pub(crate) fn put_off(&mut self) -> bool
+        ensures open { is_open self.new ≡ is_open self.old }
+        ensures kept { awaits_disk self.new ≡ awaits_disk self.old }
+        ensures awaited { result ≡ true → awaits_disk self.new ≡ true }
+    {
+        if let Store::Pending { put_off, .. } = self {
+            if *put_off < MOST_PUT_OFF {
+                *put_off += 1;
+                return true;
             }
         }
-        Err(self.fail())
+        false
+    }
+
+    /// Waits until the disk has all octets that were appended; it doesn't wait where it has them. A store that
+    /// failed is an error again, and after an error the store has failed.
+    pub(crate) fn sync(&mut self) -> io::Result<()>
+        ensures ok { OnOk result (awaits_disk self.new ≡ false) }
+        ensures kept { OnOk result (is_open self.new ≡ is_open self.old) }
+        ensures err { OnErr result (self.new ≡ Store.Failed) }
+    {
+        match replace(self, Store::Failed) {
+            Store::Pending { file, .. } => {
+                file.sync_data()?;
+                *self = Store::Open(file);
+                Ok(())
+            }
+            Store::Failed => Err(self.fail()),
+            synced => {
+                *self = synced;
+                Ok(())
+            }
+        }
     }
 
     /// The store has failed.
@@ -111,9 +180,14 @@ fn opened<R: Files<File = File>>(rt: &R, name: &str) -> io::Result<File> {
     }
 }
 
-/// Locks the file, cuts it to so many octets, and has it on the disk.
-fn cut(file: &File, length: u64) -> io::Result<()> {
+/// Locks the file, and has it on the disk.
+fn lock(file: &File) -> io::Result<()> {
     file.try_lock()?;
+    file.sync_all()
+}
+
+/// Cuts the file to so many octets, and has it on the disk.
+fn cut(file: &File, length: u64) -> io::Result<()> {
     let found = file.metadata()?.len();
     if found < length {
         return Err(io::Error::from(ErrorKind::UnexpectedEof));
@@ -131,10 +205,4 @@ fn sync_folder<R: Files<File = File>>(rt: &R, name: &str) -> io::Result<()> {
         _ => ".",
     };
     fs::open(rt, folder)?.sync_all()
-}
-
-/// Appends the octets, and has the file on the disk.
-fn write(file: &mut File, octets: &[u8]) -> io::Result<()> {
-    file.write_all(octets)?;
-    file.sync_data()
 }

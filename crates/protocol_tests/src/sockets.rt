@@ -3,11 +3,11 @@
 ghost use Rattle.std.specs.Prelude.{◌<◌, length};
 
 use mio_link::MioLink;
-use std::io;
 use std::io::{Read, Write};
 use std::net::{Ipv4Addr, Shutdown, SocketAddr, TcpListener, TcpStream};
 use std::test::Fail;
-use wire_io::{Heard, Link, NextFault, Took};
+use std::{fs, io};
+use wire_io::{Heard, Link, NextFault, NoMemory, Took};
 
 /// An address of the loopback at which nobody listens.
 fn free_address(rt: &HostRuntime) -> io::Result<SocketAddr> {
@@ -217,5 +217,119 @@ fn a_peer_that_is_idle_is_ended(rt: HostRuntime) -> Result<(), Fail> {
     assert_eq!(rt; next(&mut link, &mut buf), Ok(Heard::Bytes(1, 3)));
     assert_eq!(rt; next(&mut link, &mut buf), Ok(Heard::Ended(1)));
     assert!(rt; link.hang_up(1).is_ok());
+    Ok(())
+}
+
+/// A link of which a store of this name is open, with the connections 1 and 2 of two peers.
+fn link_of_two(
+    rt: &HostRuntime,
+    store: &str,
+    sessions: u64,
+) -> Result<(MioLink<HostRuntime>, TcpStream, TcpStream), Fail> {
+    let _ = fs::remove_file(rt, store);
+    let address = free_address(rt)?;
+    let name = format!(in rt.alloc(); "{address}")?;
+    let mut link = MioLink::new(rt.clone()?, rt.alloc())?;
+    let mut buf = [0u8; 4];
+    link.open_store(store)?;
+    link.open(&name, sessions)?;
+    let first = TcpStream::connect(rt, address)?;
+    next(&mut link, &mut buf)?;
+    let second = TcpStream::connect(rt, address)?;
+    next(&mut link, &mut buf)?;
+    Ok((link, first, second))
+}
+
+/// What is taken of an octet for the connection, which is then put on hold.
+fn write_and_hold<L: Link>(link: &mut L, conn: u32) -> Result<Took, NoMemory> {
+    let took = link.write(conn, b"x");
+    link.hold(conn)?;
+    Ok(took)
+}
+
+/// What is taken of an octet for the connection, which is then released.
+fn write_and_release<L: Link>(link: &mut L, conn: u32) -> Result<Took, NoMemory> {
+    let took = link.write(conn, b"x");
+    link.release(conn)?;
+    Ok(took)
+}
+
+#[test]
+fn no_octets_are_taken_before_the_disk_has_what_was_stored(rt: HostRuntime) -> Result<(), Fail> {
+    let (mut link, mut first, mut second) = link_of_two(&rt, "group", 0)?;
+    let mut buf = [0u8; 4];
+    first.write_all(b"abc")?;
+    assert_eq!(rt; next(&mut link, &mut buf), Ok(Heard::Bytes(1, 3)));
+    assert_eq!(rt; link.store(b"abc\n"), Ok(()));
+    assert_eq!(rt; write_and_hold(&mut link, 1)?, Took::Later);
+    assert_eq!(rt; link.sync_store(), Ok(()), "put off");
+
+    // another is heard before the disk is waited for
+    second.write_all(b"de")?;
+    assert_eq!(rt; next(&mut link, &mut buf), Ok(Heard::Bytes(2, 2)));
+    assert_eq!(rt; write_and_hold(&mut link, 2)?, Took::Later);
+    assert_eq!(rt; link.sync_store(), Ok(()), "put off again");
+    // nobody is told that it may be written to, and nothing is waited for
+    assert_eq!(rt; link.next(&mut buf), Ok(Heard::Idle));
+    assert_eq!(rt; link.write(2, b"x"), Took::Later, "before the disk has it");
+    assert_eq!(rt; link.sync_store(), Ok(()), "waits for the disk");
+
+    assert_eq!(rt; link.next(&mut buf), Ok(Heard::Ready(1)));
+    assert_eq!(rt; write_and_release(&mut link, 1)?, Took::Took(1));
+    assert_eq!(rt; link.next(&mut buf), Ok(Heard::Ready(2)));
+    assert_eq!(rt; write_and_release(&mut link, 2)?, Took::Took(1));
+    assert_eq!(rt; (first.read(&mut buf)?, second.read(&mut buf)?), (1, 1));
+    assert_eq!(rt; fs::read_to_string(&rt, "group")?.as_str(), "abc\n");
+    Ok(())
+}
+
+#[test]
+fn a_connection_that_is_hung_up_waits_for_the_disk_no_more(rt: HostRuntime) -> Result<(), Fail> {
+    let (mut link, _first, mut second) = link_of_two(&rt, "hung_up", 0)?;
+    let mut buf = [0u8; 4];
+    assert_eq!(rt; link.store(b"abc\n"), Ok(()));
+    assert_eq!(rt; write_and_hold(&mut link, 1)?, Took::Later);
+    assert!(rt; link.hang_up(1).is_ok());
+    // neither does another that is opened at its place
+    let address = second.peer_addr()?;
+    let _third = TcpStream::connect(&rt, address)?;
+    assert_eq!(rt; next(&mut link, &mut buf), Ok(Heard::Opened(3)));
+    assert_eq!(rt; link.sync_store(), Ok(()), "put off");
+    assert_eq!(rt; link.next(&mut buf), Ok(Heard::Idle));
+    assert_eq!(rt; link.sync_store(), Ok(()), "waits for the disk");
+    second.write_all(b"g")?;
+    assert_eq!(rt; next(&mut link, &mut buf), Ok(Heard::Bytes(2, 1)));
+    Ok(())
+}
+
+#[test]
+fn the_disk_is_waited_for_after_at_most_256_events(rt: HostRuntime) -> Result<(), Fail> {
+    let (mut link, _first, _second) = link_of_two(&rt, "late", 0)?;
+    let mut buf = [0u8; 4];
+    // the second may take octets all the time
+    assert!(rt; link.hold(2).is_ok());
+    assert_eq!(rt; link.store(b"abc\n"), Ok(()));
+    assert_eq!(rt; write_and_hold(&mut link, 1)?, Took::Later);
+    for event in 0..256 {
+        assert_eq!(rt; link.sync_store(), Ok(()));
+        assert_eq!(rt; link.next(&mut buf), Ok(Heard::Ready(2)), "event {event}");
+        assert_eq!(rt; link.write(1, b"x"), Took::Later, "event {event}");
+    }
+    assert_eq!(rt; link.sync_store(), Ok(()));
+    assert_eq!(rt; link.next(&mut buf), Ok(Heard::Ready(1)), "first");
+    assert_eq!(rt; write_and_release(&mut link, 1)?, Took::Took(1));
+    Ok(())
+}
+
+#[test]
+fn the_disk_is_waited_for_before_the_end(rt: HostRuntime) -> Result<(), Fail> {
+    let (mut link, _first, _second) = link_of_two(&rt, "end", 1)?;
+    let mut buf = [0u8; 4];
+    assert_eq!(rt; link.store(b"abc\n"), Ok(()));
+    assert_eq!(rt; write_and_hold(&mut link, 1)?, Took::Later);
+    assert!(rt; link.hang_up(2).is_ok());
+    assert_eq!(rt; link.sync_store(), Ok(()), "one session ended");
+    assert_eq!(rt; write_and_release(&mut link, 1)?, Took::Took(1));
+    assert_eq!(rt; link.next(&mut buf), Ok(Heard::Stop));
     Ok(())
 }
