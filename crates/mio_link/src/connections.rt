@@ -6,6 +6,7 @@ ghost use Rattle.wire_io.specs.Answers.{HeardFits, TookFits};
 use crate::connection::Connection;
 use crate::moment::Moment;
 use crate::ready::Ready;
+use crate::turns::Turns;
 use mio::event::Event;
 use std::alloc::{AllocError, Global};
 use wire_io::{Heard, Took};
@@ -150,11 +151,11 @@ impl Connections {
 
     /// Adds the places of which it is to be heard that nothing happened there for more than so many
     /// seconds.
-    pub(crate) fn look_over(&mut self, second: u64, limit: u64, ready: &mut Ready) {
+    pub(crate) fn look_over(&mut self, second: u64, limit: u64, turns: &mut Turns) {
         for place in 0..PLACES {
             if let Some(connection) = self.at(place) {
                 if connection.look(second, limit) {
-                    ready.add(place);
+                    turns.add(place);
                 }
             }
         }

@@ -2,13 +2,16 @@
 //! as its store. It tells nothing of what it did: what a socket delivers and a disk keeps is the system's.
 #![tactic(auto)]
 
+mod bits;
 mod connection;
 mod connections;
+pub mod laws;
 mod link;
 mod moment;
 mod ready;
 mod server;
 mod sockets;
 mod store;
+mod turns;
 
 pub use link::MioLink;

@@ -9,6 +9,7 @@ use crate::connections::{Connections, PLACES};
 use crate::moment::Moment;
 use crate::ready::Ready;
 use crate::server::{LISTENER, Server};
+use crate::turns::Turns;
 use mio::Events;
 use std::alloc::{AllocError, Global};
 use std::io;
@@ -31,11 +32,9 @@ pub(crate) struct Sockets {
     connections: Connections,
     events: Events,
     // the places that were reported or changed, and not asked in vain since
-    ready: Ready,
+    turns: Turns,
     // the places of connections that were let go, and weren't told so yet
     untold: Ready,
-    // the place behind the one that was asked last
-    cursor: usize,
     // how many events were heard since the system was asked
     heard: u32,
     // the number of the next connection, as long as there is one
@@ -62,9 +61,8 @@ impl Sockets {
             server: None,
             connections: Connections::new(alloc)?,
             events: Events::with_capacity(alloc, PLACES + 1)?,
-            ready: Ready::new(),
+            turns: Turns::new(),
             untold: Ready::new(),
-            cursor: 0,
             heard: 0,
             number: Some(1),
             newcomer: None,
@@ -102,7 +100,7 @@ impl Sockets {
 
     /// Whether an event may be had now without asking the system.
     pub(crate) fn have_some(&self) -> bool {
-        let may_hear = self.ready.next(0).is_some() || self.untold.next(0).is_some();
+        let may_hear = !self.turns.is_empty() || self.untold.next(0).is_some();
         may_hear && !self.are_done()
     }
 
@@ -159,12 +157,11 @@ impl Sockets {
             return Some(heard);
         }
         for _ in 0..PLACES + 1 {
-            let place = self.ready.next(self.cursor)?;
-            self.cursor = place.saturating_add(1);
+            let place = self.turns.take()?;
             if let Some(heard) = self.ask(place, buf) {
                 return Some(heard);
             }
-            self.ready.remove(place);
+            self.turns.remove(place);
         }
         None
     }
@@ -177,7 +174,7 @@ impl Sockets {
             let place = self.untold.next(0)?;
             self.untold.remove(place);
             if let Some(ready) = self.connections.hear_ready(place) {
-                self.ready.add(place);
+                self.turns.add(place);
                 return Some(ready);
             }
         }
@@ -225,7 +222,7 @@ impl Sockets {
     {
         self.connections.free()?;
         self.newcomer = None;
-        self.ready.add(place);
+        self.turns.add(place);
         self.open_at(place)
     }
 
@@ -266,7 +263,7 @@ impl Sockets {
         self.heard = 0;
         for event in self.events.iter() {
             let place = event.token().0;
-            self.ready.add(place);
+            self.turns.add(place);
             if place < PLACES {
                 self.connections.note(place, event);
             } else if let Some(server) = &mut self.server {
@@ -291,7 +288,7 @@ impl Sockets {
         if second != self.now.second {
             self.now.second = second;
             self.connections
-                .look_over(second, self.idle, &mut self.ready);
+                .look_over(second, self.idle, &mut self.turns);
         }
     }
 
@@ -302,7 +299,7 @@ impl Sockets {
             None => false,
         };
         if may_accept || self.newcomer.is_some() {
-            self.ready.add(LISTENER);
+            self.turns.add(LISTENER);
         }
     }
 
@@ -331,7 +328,7 @@ impl Sockets {
     /// Puts the connection on hold, or releases it.
     pub(crate) fn set_on_hold(&mut self, number: u32, is_on_hold: bool) {
         if let Some(place) = self.connections.set_on_hold(number, is_on_hold, self.now) {
-            self.ready.add(place);
+            self.turns.add(place);
         }
     }
 
