@@ -33,6 +33,8 @@ use Rattle.ldap_msg.specs.declared.kinds.Reply.TheVariants as reply
 use Rattle.read_model.specs.Views.{Row, matched_name, result_of, result_with}
 use Rattle.read_model.specs.Selecting.{is_selected, selected}
 use Rattle.read_model.specs.SearchReplies.{found_replies, replies_at}
+use Rattle.ldap_msg.specs.declared.kinds.Request.TheVariants as request
+use Rattle.answer_laws.specs.Asked.{AsksFor}
 use Rattle.answer_laws.specs.Complete.{HasKnownBase, IsComparable, is_entry, EndsWith}
 
 -- the name of one RDN
@@ -154,3 +156,7 @@ one_entry = record { sent = reply.Entry [] [] ∷ []; entries = (refl, tt); ends
 -- another reply is none
 a_reply_to_a_compare_is_no_entry : is_entry (reply.Compare (result_of code.Success)) ≡ false
 a_reply_to_a_compare_is_no_entry = refl
+
+-- a message without controls asks for its request
+a_delete : AsksFor (record { id = 3; request = request.Delete (record { name = codes "dc=t" }); controls = [] }) (request.Delete (record { name = codes "dc=t" }))
+a_delete = record { asks = refl; accepted = refl }

@@ -2,3 +2,4 @@ pub mod AnswerLemmas
 pub mod FoundLemmas
 pub mod SearchLemmas
 pub mod CompareLemmas
+pub mod ChangeLemmas

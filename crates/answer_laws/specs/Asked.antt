@@ -1,9 +1,10 @@
--- Messages with searches and compares that no control refuses, and the octets that answer them (RFC 4511 4.1.1, 4.1.11,
+-- Messages with requests that no control refuses, and the octets that answer searches and compares (RFC 4511 4.1.1, 4.1.11,
 -- 4.5 and 4.10).
 use Rattle.std.specs.Prelude.{◌≡◌, ℕ, Bool, false, List, [], ◌∷◌, Option, Some, None}
 use Rattle.ldap_msg.specs.declared.operations.ResultCode.{ResultCode}
 use Rattle.ldap_msg.specs.declared.kinds.SearchRequest.{SearchRequest}
 use Rattle.ldap_msg.specs.declared.kinds.CompareRequest.{CompareRequest}
+use Rattle.ldap_msg.specs.declared.kinds.Request.{Request}
 use Rattle.ldap_msg.specs.declared.kinds.Request.TheVariants as request
 use Rattle.ldap_msg.specs.declared.kinds.Message.{Message}
 use Rattle.ldap_msg.specs.declared.kinds.Reply.{Reply}
@@ -25,6 +26,11 @@ pub record AsksSearch (message : Message) (search : SearchRequest) : Type 0 wher
 -- the message asks for the compare: no control of it is refused
 pub record AsksCompare (message : Message) (compare : CompareRequest) : Type 0 where
   pub asks : message.request ≡ request.Compare compare
+  pub accepted : is_refused message.request message.controls ≡ false
+
+-- the message asks for this: no control of it is refused
+pub record AsksFor (message : Message) (asked : Request) : Type 0 where
+  pub asks : message.request ≡ asked
   pub accepted : is_refused message.request message.controls ≡ false
 
 -- the octets are those of replies to the message of this number that send entries, or none, and end the search with the
