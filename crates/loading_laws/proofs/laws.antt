@@ -1,0 +1,7 @@
+pub mod OctetLemmas
+pub mod ValueLemmas
+pub mod EffectLemmas
+pub mod ReadLemmas
+pub mod ChangeLemmas
+pub mod LayoutLemmas
+pub mod SessionLemmas
