@@ -17,6 +17,7 @@ use Rattle.session_model.specs.Journaled.{uncut, step_of_event}
 use Rattle.session_model.specs.Serving.{IsFront, AreFronts, unsent, MayHangUp, Rightly}
 use Rattle.progress_laws.specs.Taking.{WasLost}
 use Rattle.progress_laws.proofs.laws.MomentLemmas.{KeptBy, no_steps}
+use Rattle.progress_laws.proofs.laws.StepLemmas.{one_step, opened_step, bytes_step, ended_step, gone_step, hung_up_step}
 
 -- what was said to one that isn't served
 abbrev pub Has : {W : Type 0} → State → List Item → ℕ → Session W → Type 0
@@ -78,47 +79,6 @@ module _ {W : Type 0} where
   has_ended Unopened j c s has = has
   has_ended TurnedAway j c s has = has
   has_ended Away j c s has = has
-
--- one step, but for its cut
-one_step : (x : Step) (more : List Step) → map uncut more ≡ x ∷ [] → (y : Step) × (more ≡ y ∷ []) × (uncut y ≡ x)
-one_step x [] is = absurd (cc)
-one_step x (y ∷ []) is = (y, refl, cc)
-one_step x (y ∷ z ∷ more) is = absurd (cc)
-
-opened_step : (d : ℕ) (y : Step) → uncut y ≡ Opened d → y ≡ Opened d
-opened_step d (Opened e) is = is
-opened_step d (Bytes e piece cut) is = absurd (cc)
-opened_step d (Ended e) is = absurd (cc)
-opened_step d (Gone e) is = absurd (cc)
-opened_step d (HungUp e) is = absurd (cc)
-
-bytes_step : (d : ℕ) (piece : List ℕ) (y : Step) → uncut y ≡ Bytes d piece None → (cut : Option ℕ) × (y ≡ Bytes d piece cut)
-bytes_step d piece (Opened e) is = absurd (cc)
-bytes_step d piece (Bytes e other cut) is = (cut, cc)
-bytes_step d piece (Ended e) is = absurd (cc)
-bytes_step d piece (Gone e) is = absurd (cc)
-bytes_step d piece (HungUp e) is = absurd (cc)
-
-ended_step : (d : ℕ) (y : Step) → uncut y ≡ Ended d → y ≡ Ended d
-ended_step d (Opened e) is = absurd (cc)
-ended_step d (Bytes e piece cut) is = absurd (cc)
-ended_step d (Ended e) is = is
-ended_step d (Gone e) is = absurd (cc)
-ended_step d (HungUp e) is = absurd (cc)
-
-gone_step : (d : ℕ) (y : Step) → uncut y ≡ Gone d → y ≡ Gone d
-gone_step d (Opened e) is = absurd (cc)
-gone_step d (Bytes e piece cut) is = absurd (cc)
-gone_step d (Ended e) is = absurd (cc)
-gone_step d (Gone e) is = is
-gone_step d (HungUp e) is = absurd (cc)
-
-hung_up_step : (d : ℕ) (y : Step) → uncut y ≡ HungUp d → y ≡ HungUp d
-hung_up_step d (Opened e) is = absurd (cc)
-hung_up_step d (Bytes e piece cut) is = absurd (cc)
-hung_up_step d (Ended e) is = absurd (cc)
-hung_up_step d (Gone e) is = absurd (cc)
-hung_up_step d (HungUp e) is = is
 
 -- where nothing is unsent, all was taken; so it is where there is no reply
 all_sent : {W : Type 0} (j : List Item) (c : ℕ) (s : Session W) → IsFront j c s → unsent j c s ≡ [] → taken_of c j ≡ s.reply
