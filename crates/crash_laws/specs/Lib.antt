@@ -1,0 +1,5 @@
+-- what public clauses cite
+pub mod Asking
+pub mod Written
+pub mod Going
+pub mod Crashes
