@@ -164,14 +164,19 @@ unfolding clap_on_literals command_said said_by
 dump_turned = refl
 
 -- `serve d 127.0.0.1:389 --sessions=3`
-served : read commands.Serve (codes "d" ∷ codes "127.0.0.1:389" ∷ codes "--sessions=3" ∷ []) ≡ Some (Serve (record { data_file = codes "d"; address = codes "127.0.0.1:389"; sessions = 3; turns = 1000000000000; queues = 256; idle = 0; limit = 0 }))
+served : read commands.Serve (codes "d" ∷ codes "127.0.0.1:389" ∷ codes "--sessions=3" ∷ []) ≡ Some (Serve (record { data_file = codes "d"; address = codes "127.0.0.1:389"; sessions = 3; turns = 1000000000000; queues = 256; idle = 0; limit = 0; changes = None }))
 unfolding clap_on_literals command_said said_by number_of number_within is_address address_of
 served = refl
 
 -- `serve d 127.0.0.1:389 --queues=1 --idle 60 --limit=2`
-served_bounded : read commands.Serve (codes "d" ∷ codes "127.0.0.1:389" ∷ codes "--queues=1" ∷ codes "--idle" ∷ codes "60" ∷ codes "--limit=2" ∷ []) ≡ Some (Serve (record { data_file = codes "d"; address = codes "127.0.0.1:389"; sessions = 0; turns = 1000000000000; queues = 1; idle = 60; limit = 2 }))
+served_bounded : read commands.Serve (codes "d" ∷ codes "127.0.0.1:389" ∷ codes "--queues=1" ∷ codes "--idle" ∷ codes "60" ∷ codes "--limit=2" ∷ []) ≡ Some (Serve (record { data_file = codes "d"; address = codes "127.0.0.1:389"; sessions = 0; turns = 1000000000000; queues = 1; idle = 60; limit = 2; changes = None }))
 unfolding clap_on_literals command_said said_by number_of number_within is_address address_of
 served_bounded = refl
+
+-- `serve d 127.0.0.1:389 --changes c`
+served_with_changes : read commands.Serve (codes "d" ∷ codes "127.0.0.1:389" ∷ codes "--changes" ∷ codes "c" ∷ []) ≡ Some (Serve (record { data_file = codes "d"; address = codes "127.0.0.1:389"; sessions = 0; turns = 1000000000000; queues = 256; idle = 0; limit = 0; changes = Some (codes "c") }))
+unfolding clap_on_literals command_said said_by number_of number_within is_address address_of
+served_with_changes = refl
 
 -- `serve d 127.0.0.1:389 --queues=0` and `--limit=2147483648`, out of their ranges
 served_without_queues : read commands.Serve (codes "d" ∷ codes "127.0.0.1:389" ∷ codes "--queues=0" ∷ []) ≡ None

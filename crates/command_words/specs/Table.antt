@@ -14,7 +14,7 @@ pub record Row : Type 0 where
 
 -- the table of commands
 abbrev pub row_of : CommandName → Row
-row_of commands.Serve = record { name = codes "serve"; operands = 2; options = options.Sessions ∷ options.Turns ∷ options.Queues ∷ options.Idle ∷ options.Limit ∷ [] }
+row_of commands.Serve = record { name = codes "serve"; operands = 2; options = options.Sessions ∷ options.Turns ∷ options.Queues ∷ options.Idle ∷ options.Limit ∷ options.Changes ∷ [] }
 row_of commands.Replay = record { name = codes "replay"; operands = 2; options = options.Dump ∷ options.Turns ∷ [] }
 row_of commands.Check = record { name = codes "check"; operands = 1; options = options.Changes ∷ [] }
 row_of commands.Dump = record { name = codes "dump"; operands = 1; options = options.Changes ∷ [] }

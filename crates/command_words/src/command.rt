@@ -65,12 +65,14 @@ pub struct Serving<'a> {
     pub idle: u64,
     /// How many entries one search is given at most, at most 2,147,483,647; 0: all.
     pub limit: u32,
+    /// The name of the file of changes, where there is one.
+    pub changes: Option<&'a str>,
 }
 
 /// What the words of the program ask for. Its texts are parts of the words.
 #[derive(Clone, Copy, Debug, Drop)]
 pub enum Command<'a> {
-    /// `serve DATA ADDRESS [--sessions N] [--turns N] [--queues MIB] [--idle SECONDS] [--limit N]`.
+    /// `serve DATA ADDRESS [--sessions N] [--turns N] [--queues MIB] [--idle SECONDS] [--limit N] [--changes FILE]`.
     Serve(Serving<'a>),
     /// `replay DATA SCRIPT [--dump] [--turns N]`: the names of the two files, how many events are heard at
     /// most, and whether the tree that is left is asked for.
@@ -253,6 +255,7 @@ fn read_serve<'a>(matches: &ArgMatches<'a>) -> Option<Command<'a>>
         queues: read_number(matches, OptionName::Queues, QUEUES)?,
         idle: read_number(matches, OptionName::Idle, IDLE)?,
         limit: read_limit(matches)?,
+        changes: kept_text(matches, Sought::Arguments(OptionName::Changes), 0),
     }))
 }
 

@@ -118,6 +118,7 @@ impl CommandName {
                 OptionName::Queues,
                 OptionName::Idle,
                 OptionName::Limit,
+                OptionName::Changes,
             ],
             CommandName::Replay => &[OptionName::Dump, OptionName::Turns],
             CommandName::Check => &[OptionName::Changes],

@@ -13,8 +13,8 @@ fn words_of(alloc: Global, line: &str) -> Result<Vec<String>, AllocError> {
     Ok(words)
 }
 
-// What serving is asked for: its texts, the numbers of connections and turns, and those of the other options where they
-// are not as they are without these.
+// What serving is asked for: its texts, the numbers of connections and turns, those of the other options where they are not
+// as they are without these, and the file of changes, if it has one.
 fn serving_text(alloc: Global, serving: Serving<'_>) -> Result<String, AllocError> {
     let Serving {
         data,
@@ -24,11 +24,18 @@ fn serving_text(alloc: Global, serving: Serving<'_>) -> Result<String, AllocErro
         queues,
         idle,
         limit,
+        changes,
     } = serving;
+    let changes = match changes {
+        Some(changes) => format!(in alloc; " [{changes}]")?,
+        None => String::new(alloc),
+    };
     if queues == 256 && idle == 0 && limit == 0 {
-        format!(in alloc; "serve [{data}] [{address}] {sessions} {turns}")
+        format!(in alloc; "serve [{data}] [{address}] {sessions} {turns}{changes}")
     } else {
-        format!(in alloc; "serve [{data}] [{address}] {sessions} {turns} {queues} {idle} {limit}")
+        format!(in alloc;
+            "serve [{data}] [{address}] {sessions} {turns} {queues} {idle} {limit}{changes}",
+        )
     }
 }
 
@@ -109,7 +116,7 @@ fn asked(alloc: Global, line: &str) -> Result<String, AllocError> {
     answer(alloc, words.as_slice())
 }
 
-static READ: [(&str, &str); 99] = [
+static READ: [(&str, &str); 102] = [
     // a replay
     ("replay d s", "[d] [s] 1000000000000"),
     ("replay d s --turns 5", "[d] [s] 5"),
@@ -266,6 +273,19 @@ static READ: [(&str, &str); 99] = [
         "serve --limit 3 --idle 4 --queues 5 --turns 6 --sessions 7 d 127.0.0.1:389",
         "serve [d] [127.0.0.1:389] 7 6 5 4 3",
     ),
+    // with a file of changes
+    (
+        "serve d 127.0.0.1:389 --changes c",
+        "serve [d] [127.0.0.1:389] 0 1000000000000 [c]",
+    ),
+    (
+        "serve --changes=-c d --idle=60 127.0.0.1:389",
+        "serve [d] [127.0.0.1:389] 0 1000000000000 256 60 0 [-c]",
+    ),
+    (
+        "serve d 127.0.0.1:389 --changes=",
+        "serve [d] [127.0.0.1:389] 0 1000000000000 []",
+    ),
     // one decision, with its texts as they stand
     (
         "explain d anonymous dc=example entry Read",
@@ -313,12 +333,16 @@ fn each_way_of_writing_a_command_is_read(rt: HostRuntime) -> Result<(), Fail> {
     Ok(())
 }
 
-static REFUSED: [&str; 223] = [
+static REFUSED: [&str; 227] = [
     // a file of changes
     "check d --changes",
     "check d --changes -c",
     "check d --changes --why",
     "check d --changes c --changes c",
+    "serve d 127.0.0.1:389 --changes",
+    "serve d --changes 127.0.0.1:389",
+    "serve d 127.0.0.1:389 --changes --idle=60",
+    "serve d 127.0.0.1:389 --changes c --changes=c",
     "check d --why",
     "check d --why --why",
     "check d --why=yes",

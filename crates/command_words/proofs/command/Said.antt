@@ -47,7 +47,7 @@ pub said-same : (name : CommandName) (rows : List Kept) (line : Line) → Holds 
 unfolding command_said
 said-same commands.Serve rows line holds =
     let own : (sought : Sought) (index : ℕ) → IsWritten sought → kept_text (kept_at_end (row_of commands.Serve) rows sought) index ≡ slice_get (texts_of sought line) index = λ sought index written. text-same (row_of commands.Serve) rows line sought index holds written in
-    rw (own Operands 0 refl, own Operands 1 refl, own (Arguments options.Sessions) 0 refl, own (Arguments options.Turns) 0 refl, own (Arguments options.Queues) 0 refl, own (Arguments options.Idle) 0 refl, own (Arguments options.Limit) 0 refl) refl
+    rw (own Operands 0 refl, own Operands 1 refl, own (Arguments options.Sessions) 0 refl, own (Arguments options.Turns) 0 refl, own (Arguments options.Queues) 0 refl, own (Arguments options.Idle) 0 refl, own (Arguments options.Limit) 0 refl, own (Arguments options.Changes) 0 refl) refl
 said-same commands.Replay rows line holds =
     let own : (sought : Sought) (index : ℕ) → IsWritten sought → kept_text (kept_at_end (row_of commands.Replay) rows sought) index ≡ slice_get (texts_of sought line) index = λ sought index written. text-same (row_of commands.Replay) rows line sought index holds written in
     rw (own Operands 0 refl, own Operands 1 refl, own (Arguments options.Turns) 0 refl, dump-same rows line holds) refl

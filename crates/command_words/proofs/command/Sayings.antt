@@ -87,6 +87,7 @@ serve_said line = do
     queues = queues;
     idle = idle;
     limit = limit;
+    changes = slice_get (texts_of (Arguments options.Changes) line) 0;
   }))
 
 abbrev replay_said : List (List ℕ) → List (List ℕ) → Bool → Option CommandView
@@ -149,6 +150,17 @@ sample_said operands = do
   count ← number_within 20 1 20000 said
   Some (Sample count)
 
+-- a file of changes at most: where it is given once, it is the first argument
+text-sound : (texts : List (List ℕ)) → length texts ≤ 1 → SaysText texts (slice_get texts 0)
+text-sound [] once = refl
+text-sound (text ∷ []) once = refl
+text-sound (text ∷ again ∷ more) once = absurd (omega (arith, once))
+
+text-complete : (texts : List (List ℕ)) (said : Option (List ℕ)) → SaysText texts said → slice_get texts 0 ≡ said
+text-complete [] said says = sym says
+text-complete (text ∷ []) said says = sym says
+text-complete (text ∷ again ∷ more) said says = absurd says
+
 serve-sound : (line : Line) (asked : CommandView) → Taken (row_of commands.Serve) line → serve_said line ≡ Some asked → Says commands.Serve line asked
 serve-sound line asked is given =
     let own = pair (texts_of Operands line) is.operands in
@@ -169,6 +181,7 @@ serve-sound line asked is given =
       queues = number_said-sound queues_range _ queues.0 is.once.1.1.0 queues.1;
       idle = number_said-sound idle_range _ idle.0 is.once.1.1.1.0 idle.1;
       limit = number_said-sound limit_range _ limit.0 is.once.1.1.1.1.0 limit.1;
+      changes = text-sound (texts_of (Arguments options.Changes) line) is.once.1.1.1.1.1.0;
     })
 
 serve-complete : (line : Line) (serving : ServingView) → Says commands.Serve line (Serve serving) → serve_said line ≡ Some (Serve serving)
@@ -181,6 +194,7 @@ serve-complete line serving says =
       number_said-complete queues_range _ serving.queues says.queues,
       number_said-complete idle_range _ serving.idle says.idle,
       number_said-complete limit_range _ serving.limit says.limit,
+      text-complete (texts_of (Arguments options.Changes) line) serving.changes says.changes,
     ) refl
 
 replay-sound : (line : Line) (asked : CommandView) → Taken (row_of commands.Replay) line → replay_said (texts_of Operands line) (texts_of (Arguments options.Turns) line) (is_some (slice_get (texts_of (Arguments options.Dump) line) 0)) ≡ Some asked → Says commands.Replay line asked
@@ -246,17 +260,6 @@ sample-sound line asked is given =
 sample-complete : (line : Line) (count : ℕ) → Says commands.Sample line (Sample count) → sample_said (texts_of Operands line) ≡ Some (Sample count)
 sample-complete line count says =
     ap sample_said says.1 ∙ ap (λ (found : Option ℕ). found >>= (λ (own : ℕ). Some (Sample own))) (number_within-complete 20 1 20000 says.0 count says.2)
-
--- a file of changes at most: where it is given once, it is the first argument
-text-sound : (texts : List (List ℕ)) → length texts ≤ 1 → SaysText texts (slice_get texts 0)
-text-sound [] once = refl
-text-sound (text ∷ []) once = refl
-text-sound (text ∷ again ∷ more) once = absurd (omega (arith, once))
-
-text-complete : (texts : List (List ℕ)) (said : Option (List ℕ)) → SaysText texts said → slice_get texts 0 ≡ said
-text-complete [] said says = sym says
-text-complete (text ∷ []) said says = sym says
-text-complete (text ∷ again ∷ more) said says = absurd says
 
 check-sound : (line : Line) (asked : CommandView) → Taken (row_of commands.Check) line → check_said (texts_of Operands line) (slice_get (texts_of (Arguments options.Changes) line) 0) ≡ Some asked → Says commands.Check line asked
 check-sound line asked is given =

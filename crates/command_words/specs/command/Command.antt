@@ -14,8 +14,8 @@ use Rattle.command_words.specs.Number.{SaysNumber, IsNumberWithin}
 use Rattle.command_words.specs.Address.{IsAddress}
 
 -- what serving is asked for: the data file, the address, after how many connections it ends, how many events are heard,
--- how many MiB all queues may have, after how many seconds of silence a connection ends, and how many entries one search
--- is given
+-- how many MiB all queues may have, after how many seconds of silence a connection ends, how many entries one search is
+-- given, and the file of changes where there is one
 pub record ServingView : Type 0 where
   pub data_file : List ℕ
   pub address : List ℕ
@@ -24,6 +24,7 @@ pub record ServingView : Type 0 where
   pub queues : ℕ
   pub idle : ℕ
   pub limit : ℕ
+  pub changes : Option (List ℕ)
 
 -- what words may ask for, with texts as octets
 pub data CommandView : Type 0 where
@@ -50,6 +51,7 @@ serving_view serving = record {
   queues = serving.queues;
   idle = serving.idle;
   limit = serving.limit;
+  changes = option_copied serving.changes;
 }
 
 -- a command as it is read, with its texts as octets
@@ -97,7 +99,7 @@ SaysText [] said = said ≡ None
 SaysText (text ∷ []) said = said ≡ Some text
 SaysText (text ∷ again ∷ texts) said = ⊥
 
--- what a line of `serve` says: its operands, and a number for each option
+-- what a line of `serve` says: its operands, a number for each option but the last, and the file of changes
 pub record SaysServing (line : Line) (serving : ServingView) : Type 0 where
   pub operands : texts_of Operands line ≡ serving.data_file ∷ serving.address ∷ []
   pub address : IsAddress serving.address
@@ -106,6 +108,7 @@ pub record SaysServing (line : Line) (serving : ServingView) : Type 0 where
   pub queues : SaysNumber queues_range (texts_of (Arguments options.Queues) line) serving.queues
   pub idle : SaysNumber idle_range (texts_of (Arguments options.Idle) line) serving.idle
   pub limit : SaysNumber limit_range (texts_of (Arguments options.Limit) line) serving.limit
+  pub changes : SaysText (texts_of (Arguments options.Changes) line) serving.changes
 
 -- the command that a command's line says: its operands, its numbers and texts, and whether it has a flag
 abbrev pub Says : CommandName → Line → CommandView → Type 0

@@ -34,6 +34,7 @@ command_said commands.Serve text has = do
     queues = queues;
     idle = idle;
     limit = limit;
+    changes = text (Arguments options.Changes) 0;
   }))
 command_said commands.Replay text has = do
   data_file ← text Operands 0
